@@ -1,0 +1,4 @@
+pub mod Ints
+pub mod Floors
+pub mod Order
+pub mod Sides

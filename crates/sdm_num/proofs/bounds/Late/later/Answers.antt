@@ -1,0 +1,23 @@
+use Rattle.std.proofs.Common.{subst, sym, ◌∙◌}
+use Rattle.sdm_num.specs.Fractions.{greater}
+use Rattle.sdm_num.specs.Bounds.{Bound, IsLateFor}
+use Rattle.sdm_num.proofs.Sides.{bound, IsLateFor_greater, later_is, later_swap}
+use Rattle.sdm_num.proofs.bounds.Late.later.Goals as goal
+
+pub returns-then-grains-clause-value : goal.returns-then-grains-clause-value
+returns-then-grains-clause-value c =
+    let e = bound c.other.inside.at c.other.inside.slack in
+    let d = bound c.self.inside.at c.self.inside.slack in
+    rw (← c.self.view_is, ← c.other.view_is) (later_is e d _ _ c.way_to.ensures c.slack_of_both.ensures ∙ later_swap e d)
+
+pub returns-then-grains-clause-stands : goal.returns-then-grains-clause-stands
+returns-then-grains-clause-stands c = λ x y h k. subst (λ (b : Bound). IsLateFor b (greater x y)) (sym (returns-then-grains-clause-value c)) (IsLateFor_greater c.args.self c.args.other x y h k)
+
+pub returns-else-grains-clause-value : goal.returns-else-grains-clause-value
+returns-else-grains-clause-value c =
+    let e = bound c.self.inside.at c.self.inside.slack in
+    let d = bound c.other.inside.at c.other.inside.slack in
+    rw (← c.self.view_is, ← c.other.view_is) (later_is e d _ _ c.way_to-else-grains.ensures c.slack_of_both-else-grains.ensures)
+
+pub returns-else-grains-clause-stands : goal.returns-else-grains-clause-stands
+returns-else-grains-clause-stands c = λ x y h k. subst (λ (b : Bound). IsLateFor b (greater x y)) (sym (returns-else-grains-clause-value c)) (IsLateFor_greater c.args.self c.args.other x y h k)

@@ -1,0 +1,4 @@
+pub mod Units
+pub mod Fractions
+pub mod Bounds
+pub mod Readings

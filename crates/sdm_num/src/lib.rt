@@ -1,0 +1,18 @@
+//! The quantities that every other crate speaks of: places, speeds, places that are known up to rounding, and odometer
+//! readings. Each keeps its range in its type, so that no caller tests it again.
+#![tactic(auto)]
+
+pub mod bounds;
+pub mod memory;
+pub mod places;
+pub mod readings;
+pub mod speeds;
+
+pub use bounds::{Early, Late};
+pub use memory::NoMemory;
+pub use places::Place;
+pub use readings::Reading;
+pub use speeds::Speed;
+
+#[cfg(test)]
+mod tests;

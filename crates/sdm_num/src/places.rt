@@ -1,0 +1,103 @@
+//! Places on the track, in one absolute coordinate.
+
+ghost use Rattle.std.specs.Prelude.{◌≡◌, ℤ, pos, negsuc, neg_ℤ, ◌+ℤ◌, ◌*ℤ◌, ◌≤ℤ◌};
+ghost use Rattle.sdm_num.specs.Units.{IsPlace, centimetre, place_of_mm};
+ghost use Rattle.sdm_num.specs.Bounds.{mm_above, mm_below};
+
+use std::marker::Model;
+
+/// A place in grains, of which 540,000,000 make a millimetre; within 4·10¹⁸ of the origin. (own)
+#[derive(Clone, Copy, Debug, PartialEq, Eq, PartialOrd, Ord)]
+pub struct Place {
+    grains: i64,
+}
+
+impl Model for Place {
+    ghost Value = { ℤ };
+
+    ghost view = { λ p. p.grains };
+
+    ghost invariant = { λ p. IsPlace p.grains };
+
+    ghost inverse = { λ z. record { grains = z } };
+}
+
+impl Place {
+    /// The place of so many grains.
+    pub fn new(grains: i64) -> Place
+        requires { IsPlace grains }
+        ensures { result ≡ grains }
+    {
+        Place { grains }
+    }
+
+    /// The place of a whole centimetre.
+    pub fn of_cm(cm: i32) -> Place
+        requires low { negsuc 699_999_999 ≤ℤ cm }
+        requires high { cm ≤ℤ pos 700_000_000 }
+        ensures { result ≡ cm *ℤ pos centimetre }
+    {
+        Place {
+            grains: i64::from(cm) * 5_400_000_000,
+        }
+    }
+
+    /// The place of a whole millimetre.
+    pub fn of_mm(mm: i32) -> Place
+        ensures { result ≡ place_of_mm mm }
+    {
+        Place {
+            grains: i64::from(mm) * 540_000_000,
+        }
+    }
+
+    /// The number of grains.
+    pub fn grains(self) -> i64
+        ensures value { result ≡ self }
+        ensures range { IsPlace self }
+    {
+        self.grains
+    }
+
+    /// The place so many grains before this one.
+    pub fn less(self, grains: u64) -> Place
+        requires { IsPlace (self +ℤ neg_ℤ (pos grains)) }
+        ensures { result ≡ self +ℤ neg_ℤ (pos grains) }
+    {
+        Place {
+            grains: (i128::from(self.grains) - i128::from(grains)) as i64,
+        }
+    }
+
+    /// The place so many grains past this one.
+    pub fn more(self, grains: u64) -> Place
+        requires { IsPlace (self +ℤ pos grains) }
+        ensures { result ≡ self +ℤ pos grains }
+    {
+        Place {
+            grains: (i128::from(self.grains) + i128::from(grains)) as i64,
+        }
+    }
+
+    /// The way in grains to a place that is not before this one.
+    pub fn way_to(self, later: Place) -> u64
+        requires { self ≤ℤ later }
+        ensures { later ≡ self +ℤ pos result }
+    {
+        later.grains.abs_diff(self.grains)
+    }
+
+    /// The place in millimetres, rounded down.
+    pub fn mm_below(self) -> i64
+        ensures { result ≡ mm_below self }
+    {
+        self.grains.div_euclid(540_000_000)
+    }
+
+    /// The place in millimetres, rounded up.
+    pub fn mm_above(self) -> i64
+        ensures { result ≡ mm_above self }
+    {
+        -((-self.grains).div_euclid(540_000_000))
+    }
+}

@@ -1,0 +1,131 @@
+//! Odometer readings.
+
+ghost use Rattle.std.specs.Prelude.{◌≡◌, ◌≤◌, ◌≤ℤ◌, ◌↔◌, IsTrue, pos, negsuc};
+ghost use Rattle.std.specs.Option.{SomeIff};
+ghost use Rattle.sdm_num.specs.Readings.{IsReading, OdometerReading, reading_of};
+
+use crate::places::Place;
+use crate::speeds::Speed;
+use std::marker::Model;
+
+/// An odometer reading, within its ranges: time 0 to 100,000,000 ds; the front ends from −10 km to 110 km with
+/// min ≤ est ≤ max; speed up to 138,888 mm/s; acceleration −300 to 300 cm/s²; under-reading up to 10,000 mm/s.
+/// (SUBSET-026-3 3.6.4, 3.13.2.2; ranges own)
+#[derive(Clone, Copy, Debug, PartialEq, Eq)]
+pub struct Reading {
+    time: u32,
+    est: Place,
+    min: Place,
+    max: Place,
+    speed: Speed,
+    accel: i16,
+    under: Speed,
+}
+
+impl Model for Reading {
+    ghost Value = { OdometerReading };
+
+    ghost view = { λ r. record { time = r.time; est = r.est; min = r.min; max = r.max; speed = r.speed; accel = r.accel; under = r.under } };
+
+    ghost invariant = { λ r. IsReading (record { time = r.time; est = r.est; min = r.min; max = r.max; speed = r.speed; accel = r.accel; under = r.under }) };
+
+    ghost inverse = { λ r. record { time = r.time; est = r.est; min = r.min; max = r.max; speed = r.speed; accel = r.accel; under = r.under } };
+}
+
+// The front ends are in order and on the track or near it.
+fn are_front_ends(min_mm: i32, est_mm: i32, max_mm: i32) -> bool
+    ensures { IsTrue result ↔ (negsuc 9_999_999 ≤ℤ min_mm) × (min_mm ≤ℤ est_mm) × (est_mm ≤ℤ max_mm) × (max_mm ≤ℤ pos 110_000_000) }
+{
+    -10_000_000 <= min_mm && min_mm <= est_mm && est_mm <= max_mm && max_mm <= 110_000_000
+}
+
+fn is_acceleration(accel: i16) -> bool
+    ensures { IsTrue result ↔ (negsuc 299 ≤ℤ accel) × (accel ≤ℤ pos 300) }
+{
+    -300 <= accel && accel <= 300
+}
+
+impl Reading {
+    /// The reading of these numbers; None exactly where one of them is out of its range.
+    pub fn new(
+        time: u32,
+        est_mm: i32,
+        min_mm: i32,
+        max_mm: i32,
+        speed_mm_s: u32,
+        accel: i16,
+        under_mm_s: u32,
+    ) -> Option<Reading>
+        ensures { let reading = reading_of time est_mm min_mm max_mm speed_mm_s accel under_mm_s in
+            SomeIff result (IsReading reading) reading }
+    {
+        if time > 100_000_000 || speed_mm_s > 138_888 || under_mm_s > 10_000 {
+            return None;
+        }
+        if !are_front_ends(min_mm, est_mm, max_mm) {
+            return None;
+        }
+        if !is_acceleration(accel) {
+            return None;
+        }
+        Some(Reading {
+            time,
+            est: Place::of_mm(est_mm),
+            min: Place::of_mm(min_mm),
+            max: Place::of_mm(max_mm),
+            speed: Speed::of_mm_s(speed_mm_s),
+            accel,
+            under: Speed::of_mm_s(under_mm_s),
+        })
+    }
+
+    /// The time, in ds.
+    pub fn time(self) -> u32
+        ensures value { result ≡ self.time }
+        ensures range { IsReading self }
+    {
+        self.time
+    }
+
+    /// The estimated front end.
+    pub fn est_mm(self) -> Place
+        ensures { result ≡ self.est }
+    {
+        self.est
+    }
+
+    /// The min safe front end.
+    pub fn min_mm(self) -> Place
+        ensures { result ≡ self.min }
+    {
+        self.min
+    }
+
+    /// The max safe front end.
+    pub fn max_mm(self) -> Place
+        ensures { result ≡ self.max }
+    {
+        self.max
+    }
+
+    /// The estimated speed.
+    pub fn speed_mm_s(self) -> Speed
+        ensures { result ≡ self.speed }
+    {
+        self.speed
+    }
+
+    /// The estimated acceleration, in cm/s².
+    pub fn accel(self) -> i16
+        ensures { result ≡ self.accel }
+    {
+        self.accel
+    }
+
+    /// How far the true speed may be above the estimated one.
+    pub fn under_mm_s(self) -> Speed
+        ensures { result ≡ self.under }
+    {
+        self.under
+    }
+}
