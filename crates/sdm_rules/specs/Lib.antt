@@ -1,0 +1,4 @@
+pub mod Cells
+pub mod Slopes
+pub mod Curves
+pub mod Motion

@@ -1,0 +1,116 @@
+-- Motions of a train: what kinematics asks of them, and nothing of brake curves (own). For a scale `s`, times are in 1/s
+-- ds, speeds in 1/s notch, places, lengths and squares of speeds in 1/s² of a grain and of a squared notch.
+use Rattle.std.specs.Prelude.{◌≡◌, ℕ, zero, suc, ℤ, pos, List, [], ◌∷◌, ◌++◌, ◌+◌, ◌-◌, ◌*◌, ◌<◌, ◌≤◌, ◌+ℤ◌, ◌*ℤ◌, ◌≤ℤ◌, ◌<ℤ◌, All, ⊤, length}
+use Rattle.sdm_num.specs.Units.{centimetre}
+use Rattle.sdm_rules.specs.declared.motions.Phase.{Phase}
+use Rattle.sdm_rules.specs.declared.motions.Phase.TheVariants.{Traction, Build}
+use Rattle.sdm_rules.specs.declared.motions.Slice.{Slice}
+use Rattle.sdm_rules.specs.declared.motions.Point.{Point}
+use Rattle.sdm_rules.specs.declared.motions.Start.{Start}
+use Rattle.sdm_rules.specs.Slopes.{Slopes}
+use Rattle.sdm_rules.specs.Curves.{cell_start, grain_energy, upper_square}
+
+-- ---- braking, with places in 1/m grain and squares in 1/m squared notch
+
+-- the square at the lower speed of a band (own)
+abbrev pub lower_square : Slopes → ℕ → ℕ → ℕ
+lower_square on m zero = 0
+lower_square on m (suc band) = upper_square on m band
+
+-- the square `u` lies in the band, its borders included (own)
+pub record IsInBand (on : Slopes) (m band u : ℕ) : Type 0 where
+  pub known : band ≤ length on.uppers
+  pub above : lower_square on m band ≤ u
+  pub below : band < length on.uppers → u ≤ upper_square on m band
+
+-- the cell has a part strictly between the places (own)
+pub record HasPart (m : ℕ) (cell p p' : ℤ) : Type 0 where
+  pub apart : p <ℤ p'
+  pub begins : cell_start m cell <ℤ p'
+  pub ends : p <ℤ (cell_start m cell +ℤ pos (m * centimetre))
+
+-- the train brakes at least with the slope `a` from a place and square to later ones (own)
+pub record BrakesAtLeast (on : Slopes) (a : ℕ) (p : ℤ) (u : ℕ) (p' : ℤ) (u' : ℕ) : Type 0 where
+  pub forward : p ≤ℤ p'
+  pub slower : u' ≤ u
+  pub enough : (pos (27 * a) *ℤ p') ≤ℤ (pos (27 * a) *ℤ p +ℤ pos (grain_energy on (u - u')))
+
+-- one step: some band holds both squares, and all cells on the way have one slope in it (own)
+pub record IsStep (on : Slopes) (m : ℕ) (x y : Point) : Type 0 where
+  pub band : ℕ
+  pub slope : ℕ
+  pub from_band : IsInBand on m band x.square
+  pub to_band : IsInBand on m band y.square
+  pub one_slope : (cell : ℤ) → HasPart m cell x.place y.place → on.slope band cell ≡ slope
+  pub brakes : BrakesAtLeast on slope x.place x.square y.place y.square
+
+-- from the point on, step by step to a square of 0 (own)
+abbrev pub IsBraking : Slopes → ℕ → Point → List Point → Type 0
+IsBraking on m x [] = x.square ≡ 0
+IsBraking on m x (y ∷ ys) = IsStep on m x y × IsBraking on m y ys
+
+-- ---- before the brakes work
+
+-- the greatest acceleration of a phase, in cm/s² (SUBSET-026-3 3.13.9.3.2; own form)
+abbrev pub accel_in : Start → Phase → ℕ
+accel_in start Traction = start.accel1
+accel_in start Build = start.accel2
+
+-- from the speed `v` a slice gains and moves no more than its acceleration, `a` cm/s², allows (own)
+pub record IsSlice (a v : ℕ) (x : Slice) : Type 0 where
+  pub gains : x.to ≤ v + 54 * a * x.time
+  pub moves : 2 * x.length ≤ 1_000_000 * (v + x.to) * x.time
+
+-- one slice after the other (own)
+abbrev pub AreSlices : Start → ℕ → List Slice → Type 0
+AreSlices start v [] = ⊤
+AreSlices start v (x ∷ xs) = IsSlice (accel_in start x.phase) v x × AreSlices start x.to xs
+
+-- the times of slices together (own)
+abbrev pub time_of : List Slice → ℕ
+time_of [] = 0
+time_of (x ∷ xs) = x.time + time_of xs
+
+-- all slices are of the phase (own)
+abbrev pub IsIn : Phase → List Slice → Type 0
+IsIn phase xs = All (λ x. x.phase ≡ phase) xs
+
+-- where the train is at the end of each slice, from a place and a speed on (own)
+abbrev pub slice_ends : ℤ → ℕ → List Slice → List Point
+slice_ends p v [] = []
+slice_ends p v (x ∷ xs) = record { place = p +ℤ pos x.length; square = x.to * x.to } ∷ slice_ends (p +ℤ pos x.length) x.to xs
+
+-- the last of points, of which there is one (own)
+abbrev pub last_point : Point → List Point → Point
+last_point x [] = x
+last_point x (y ∷ ys) = last_point y ys
+
+-- ---- a whole motion
+
+-- A motion that begins at the place `p` with the speed `v`: traction slices, build-up slices, and then braking from the
+-- point `first` on (own)
+pub record IsMotion (s : ℕ) (start : Start) (on : Slopes) (p : ℤ) (v : ℕ) (xs : List Slice) (first : Point) (more : List Point) : Type 0 where
+  pub traction : List Slice
+  pub build : List Slice
+  pub split : xs ≡ traction ++ build
+  pub in_traction : IsIn Traction traction
+  pub in_build : IsIn Build build
+  pub traction_time : time_of traction ≡ s * start.traction
+  pub build_time : time_of build ≡ s * start.berem
+  pub slices : AreSlices start v xs
+  pub begins : first ≡ last_point (record { place = p; square = v * v }) (slice_ends p v xs)
+  pub braking : IsBraking on (s * s) first more
+
+-- it begins at most at the front end and with at most the speed of the start (own)
+pub record IsMotionFrom (s : ℕ) (start : Start) (on : Slopes) (p : ℤ) (v : ℕ) (xs : List Slice) (first : Point) (more : List Point) : Type 0 where
+  pub place : p ≤ℤ (pos (s * s) *ℤ start.front)
+  pub speed : v ≤ s * start.speed
+  pub motion : IsMotion s start on p v xs first more
+
+-- the point lies at or before a place in grains (own)
+abbrev pub IsBy : ℕ → ℤ → Point → Type 0
+IsBy s place x = x.place ≤ℤ (pos (s * s) *ℤ place)
+
+-- at or past a place in grains the speed is at most `w` notches (own)
+abbrev pub KeepsTo : ℕ → ℤ → ℕ → Point → Type 0
+KeepsTo s place w x = (pos (s * s) *ℤ place) ≤ℤ x.place → x.square ≤ s * s * (w * w)

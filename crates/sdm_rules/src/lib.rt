@@ -1,0 +1,29 @@
+//! The profile of SUBSET-026-3 section 3.13 and appendix A.3 that this program keeps: every definition that a contract
+//! cites, in `specs/`, and the plain types that they speak of. There is no code here. An assessor who believes this crate
+//! and the contracts above it has nothing else to read.
+#![tactic(auto)]
+
+pub mod authorities;
+pub mod commands;
+pub mod data;
+pub mod faults;
+pub mod motions;
+pub mod records;
+pub mod restrictions;
+pub mod rows;
+pub mod targets;
+
+pub use authorities::Authority;
+pub use commands::{Held, State, Status, Triggers};
+pub use data::{
+    Area, Band, Gradient, MOST_BANDS, NationalFields, SlopeKind, SpeedStep, Times, TrainFields,
+};
+pub use faults::{
+    At, AuthorityFault, CycleFault, DataFault, EventCause, EventFault, FieldFault, NationalFault,
+    OpenFault, RestrictFault, RevokeFault, Section, TrackFault, TrainFault,
+};
+pub use motions::{Phase, Point, Slice, Start};
+pub use records::Event;
+pub use restrictions::Restriction;
+pub use rows::{FlatRow, Row};
+pub use targets::{Fall, Target, TargetKind};

@@ -1,0 +1,36 @@
+//! What is told of a reading.
+
+use crate::commands::{Held, State};
+
+/// The row of a reading. Each place is the least computed limit of its name over the targets whose speed is at most the
+/// train's, in mm rounded down; none where there is no such target. (own)
+#[derive(Clone, Copy, Debug, PartialEq, Eq)]
+pub struct Row {
+    /// Time of the reading in ds.
+    pub time: u32,
+    pub state: State,
+    /// The commands after the reading, with the status.
+    pub held: Held,
+    /// Whether an emergency brake at this reading stops the train in time.
+    pub covered: bool,
+    /// The ceiling in km/h.
+    pub ceiling: u16,
+    pub ebi: Option<i64>,
+    pub sbi: Option<i64>,
+    pub warning: Option<i64>,
+    pub permitted: Option<i64>,
+    pub indication: Option<i64>,
+}
+
+/// The row of a line of the flat supervisor. (own)
+#[derive(Clone, Copy, Debug, PartialEq, Eq)]
+pub struct FlatRow {
+    /// Time in ds.
+    pub time: u32,
+    /// The exact place of the curve at the line's speed, in mm rounded down.
+    pub ebi: i64,
+    /// Whether the front end is at or before the computed place.
+    pub covered: bool,
+    /// The emergency brake command after the line.
+    pub eb: bool,
+}
