@@ -1,0 +1,5 @@
+use Rattle.sdm_laws.proofs.CurveOrder.{exact_before}
+use Rattle.sdm_laws.proofs.curves.law_of_order.Goals as goal
+
+pub returns : goal.returns
+returns c = exact_before

@@ -1,0 +1,5 @@
+use Rattle.sdm_laws.proofs.Slack.{rounding}
+use Rattle.sdm_laws.proofs.curves.law_of_rounding.Goals as goal
+
+pub returns : goal.returns
+returns c = rounding
