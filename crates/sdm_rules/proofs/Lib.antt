@@ -1,0 +1,11 @@
+pub mod Journeys
+mod ReactionCases
+mod DecelerationCases
+mod ProfileCases
+pub mod LimitCases
+mod TriggerCases
+mod RowCases
+mod TextCases
+mod InputCases
+mod FlatCases
+mod TrialCases

@@ -1,0 +1,33 @@
+-- Numbers in records and words: an optional minus sign and 1 to 18 decimal digits (own).
+use Rattle.std.specs.Prelude.{ℕ, ℤ, pos, neg_ℤ, Bool, ◌&&◌, List, [], ◌∷◌, Option, Some, None, Result, Ok, Err, ◌==◌, nat_le, int_le, length, if◌then◌else◌}
+use Rattle.std.specs.Char.{is_ascii_digit}
+use Rattle.std.specs.List.{list_all}
+use Rattle.std.specs.Str.Parse.{digits_value}
+use Rattle.sdm_rules.specs.declared.faults.FieldFault.{FieldFault}
+use Rattle.sdm_rules.specs.declared.faults.FieldFault.TheVariants.{NotNumber, OutOfRange}
+
+-- the most digits of a number (own)
+abbrev pub most_digits : ℕ
+most_digits = 18
+
+-- 1 to 18 digits; leading zeros are accepted (own)
+abbrev pub is_digits : List ℕ → Bool
+is_digits ds = nat_le 1 (length ds) && nat_le (length ds) most_digits && list_all is_ascii_digit ds
+
+-- the number of digits after a minus sign (own)
+abbrev pub negated : List ℕ → Option ℤ
+negated ds = if is_digits ds then Some (neg_ℤ (pos (digits_value 10 ds))) else None
+
+-- the number that a field writes, if it is of this form (own)
+abbrev pub number_of : List ℕ → Option ℤ
+number_of [] = None
+number_of (c ∷ ds) = if c == 45 then negated ds else if is_digits (c ∷ ds) then Some (pos (digits_value 10 (c ∷ ds))) else None
+
+-- a number from `least` to `greatest`, both included (own)
+abbrev pub in_range : ℤ → ℤ → Option ℤ → Result ℤ FieldFault
+in_range least greatest None = Err NotNumber
+in_range least greatest (Some n) = if int_le least n && int_le n greatest then Ok n else Err OutOfRange
+
+-- the number of a field within a range, or why it is refused (own)
+unfoldable pub read_int : List ℕ → ℤ → ℤ → Result ℤ FieldFault
+read_int field least greatest = in_range least greatest (number_of field)

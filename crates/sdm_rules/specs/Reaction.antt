@@ -1,0 +1,110 @@
+-- The times of reaction, and what the train may do until its emergency brake works (SUBSET-026-3 3.13.9.3). Times are in
+-- ds, speeds in notches, accelerations in cm/s²; 1 cm/s² gains 54 notches in a ds.
+use Rattle.std.specs.Prelude.{ℕ, ℤ, pos, negsuc, Bool, ◌&&◌, ◌+◌, ◌-◌, ◌*◌, ◌/◌, min, max, unsigned_abs, if◌then◌else◌}
+use Rattle.sdm_num.specs.Readings.{OdometerReading}
+use Rattle.sdm_rules.specs.declared.data.Times.{Times}
+use Rattle.sdm_rules.specs.declared.motions.Start.{Start}
+use Rattle.sdm_rules.specs.Data.{LineData}
+
+-- ---- times
+
+-- T_warning, in ds (SUBSET-026-3 A.3.1; own value)
+abbrev pub warning_time : ℕ
+warning_time = 20
+
+-- T_driver, in ds (SUBSET-026-3 A.3.1; own value)
+abbrev pub driver_time : ℕ
+driver_time = 40
+
+-- the least of T_indication before the driver's time, in ds (SUBSET-026-3 3.13.9.3; own value)
+abbrev pub indication_least : ℕ
+indication_least = 50
+
+-- T_bs: the service brake's build-up time where the service brake is in use, else 0 (SUBSET-026-3 3.13.9.3.3; own)
+abbrev pub t_bs : ℕ → Bool → ℕ
+t_bs service in_use = if in_use then service else 0
+
+-- T_traction: with an interface the traction is cut off from the warning on, without one it is not (SUBSET-026-3 3.13.9.3.2)
+abbrev pub t_traction : ℕ → Bool → ℕ → ℕ
+t_traction cut_off interface bs = if interface then cut_off - (warning_time + bs) else cut_off
+
+-- T_traction; T_berem = max(T_be - T_traction, 0); T_bs; T_indication = max(0.8 * T_bs, 5 s) + T_driver
+-- (SUBSET-026-3 3.13.9.3.2, 3.13.9.3.5)
+abbrev pub times_of : ℕ → Bool → ℕ → ℕ → Bool → Times
+times_of cut_off interface emergency service in_use =
+    let bs_time = t_bs service in_use in
+    let traction = t_traction cut_off interface bs_time in
+    record { traction = traction; berem = emergency - traction; bs = bs_time; indication = max (4 * bs_time / 5) indication_least + driver_time }
+
+-- the service brake is in use: the train has one, and the national values permit it (SUBSET-026-3 3.13.9.3; own: one
+-- permission for ceiling and target speed monitoring together)
+abbrev pub service_in_use : LineData → Bool
+service_in_use d = d.train.service_brake && d.national.service_in_target
+
+-- the times of the data (SUBSET-026-3 3.13.9.3)
+unfoldable pub line_times : LineData → Times
+line_times d = times_of (unsigned_abs d.train.cut_off_time) d.train.cut_off_interface (unsigned_abs d.train.emergency_time) (unsigned_abs d.train.service_time) (service_in_use d)
+
+-- ---- until the emergency brake works
+
+-- The train from the moment on that the emergency brake is commanded: its speed, how much it may gain until the traction
+-- is cut off and after that until the brake has built up, and both times (SUBSET-026-3 3.13.9.3.2)
+pub record BuildUp : Type 0 where
+  pub speed : ℕ  -- V_est + V_delta0
+  pub accel1 : ℕ  -- A_est1
+  pub accel2 : ℕ  -- A_est2
+  pub traction : ℕ  -- T_traction
+  pub berem : ℕ  -- T_berem
+
+-- the greatest speed at the end of T_traction, and at least that of the target: max(V_est + V_delta0 + V_delta1, V_target),
+-- with V_delta1 = A_est1 * T_traction (SUBSET-026-3 3.13.9.3.2)
+abbrev pub v_cut_off : BuildUp → ℕ → ℕ
+v_cut_off b target = max (b.speed + 54 * b.accel1 * b.traction) target
+
+-- V_bec = max(V_est + V_delta0 + V_delta1, V_target) + V_delta2, with V_delta2 = A_est2 * T_berem (SUBSET-026-3 3.13.9.3.2)
+abbrev pub v_bec : BuildUp → ℕ → ℕ
+v_bec b target = v_cut_off b target + 54 * b.accel2 * b.berem
+
+-- D_bec = max(V_est + V_delta0 + V_delta1 / 2, V_target) * T_traction
+--     + (max(V_est + V_delta0 + V_delta1, V_target) + V_delta2 / 2) * T_berem, in grains (SUBSET-026-3 3.13.9.3.2)
+abbrev pub d_bec : BuildUp → ℕ → ℕ
+d_bec b target =
+    1_000_000 * (max (b.speed + 27 * b.accel1 * b.traction) target * b.traction
+    + (v_cut_off b target + 27 * b.accel2 * b.berem) * b.berem)
+
+-- the same of the start of motions (own)
+abbrev pub build_up_of : Start → BuildUp
+build_up_of start = record { speed = start.speed; accel1 = start.accel1; accel2 = start.accel2; traction = start.traction; berem = start.berem }
+
+-- ---- from a reading
+
+-- A_est1: the reading's acceleration, 0 if it is negative (SUBSET-026-3 3.13.9.3.2)
+abbrev pub a_est1 : ℤ → ℕ
+a_est1 (pos a) = a
+a_est1 (negsuc a) = 0
+
+-- A_est2: the lower of A_est1 and 0.4 m/s² (SUBSET-026-3 3.13.9.3.2; own value)
+abbrev pub a_est2 : ℤ → ℕ
+a_est2 a = min (a_est1 a) 40
+
+-- V_delta0: the under-reading amount, 0 where the national values inhibit the compensation (SUBSET-026-3 3.13.9.3.2)
+abbrev pub v_delta0 : LineData → ℕ → ℕ
+v_delta0 d under = if d.national.inhibit_under_reading then 0 else under
+
+-- V_est + V_delta0
+abbrev pub greatest_speed : LineData → OdometerReading → ℕ
+greatest_speed d r = r.speed + v_delta0 d r.under
+
+-- what the train may do from times, a speed V_est + V_delta0 and an acceleration on (SUBSET-026-3 3.13.9.3.2)
+abbrev pub build_up : Times → ℕ → ℤ → BuildUp
+build_up times v0 accel = record { speed = v0; accel1 = a_est1 accel; accel2 = a_est2 accel; traction = times.traction; berem = times.berem }
+
+-- so from a reading on
+abbrev pub build_up_from : LineData → OdometerReading → BuildUp
+build_up_from d r = build_up (line_times d) (greatest_speed d r) r.accel
+
+-- the start of motions from a reading: the true front end and speed are at most these (own)
+abbrev pub start_of : LineData → OdometerReading → Start
+start_of d r =
+    let b = build_up_from d r in
+    record { front = r.max; speed = b.speed; accel1 = b.accel1; accel2 = b.accel2; traction = b.traction; berem = b.berem }

@@ -1,0 +1,121 @@
+-- What each record makes of the supervision state, or why it is refused (own).
+use Rattle.std.specs.Prelude.{ℕ, suc, ℤ, pos, List, [], ◌∷◌, Option, Some, None, Result, Ok, Err, ◌||◌, nat_lt, nat_le, ◌==◌, int_lt, if◌then◌else◌}
+use Rattle.std.specs.Ordering.{nat_cmp}
+use Rattle.std.specs.FinMap as finite
+use Rattle.sdm_rules.specs.declared.authorities.Authority.{Authority}
+use Rattle.sdm_rules.specs.declared.authorities.Authority.TheVariants.{Stop, Limit}
+use Rattle.sdm_rules.specs.declared.restrictions.Restriction.{Restriction}
+use Rattle.sdm_rules.specs.declared.records.Event.{Event}
+use Rattle.sdm_rules.specs.declared.records.Event.TheVariants as record_kinds
+use Rattle.sdm_rules.specs.declared.faults.EventFault.{EventFault}
+use Rattle.sdm_rules.specs.declared.faults.EventFault.TheVariants.{TooMany}
+use Rattle.sdm_rules.specs.declared.faults.AuthorityFault.{AuthorityFault}
+use Rattle.sdm_rules.specs.declared.faults.AuthorityFault.TheVariants.{SvlBeforeEoa, BeyondTrack, BadSpeed}
+use Rattle.sdm_rules.specs.declared.faults.RestrictFault.{RestrictFault}
+use Rattle.sdm_rules.specs.declared.faults.RestrictFault.TheVariants.{Full, IdInUse, Value}
+use Rattle.sdm_rules.specs.declared.faults.RevokeFault.{RevokeFault}
+use Rattle.sdm_rules.specs.declared.faults.RevokeFault.TheVariants.{Unknown}
+use Rattle.sdm_rules.specs.declared.faults.CycleFault.{CycleFault}
+use Rattle.sdm_rules.specs.declared.faults.CycleFault.TheVariants.{TimeBack}
+use Rattle.sdm_rules.specs.declared.faults.EventCause.{EventCause}
+use Rattle.sdm_rules.specs.declared.faults.EventCause.TheVariants as causes
+use Rattle.sdm_rules.specs.declared.rows.Row.{Row}
+use Rattle.sdm_rules.specs.Supervision.{Supervision, row_of, after_reading, after_authority, after_restriction, after_revocation}
+
+-- ---- refusals
+
+-- the first fault of an authority, for a track of a length in cm (own)
+abbrev pub authority_fault : ℤ → Authority → Option AuthorityFault
+authority_fault length_cm (Stop eoa svl release) =
+    if nat_lt svl eoa then Some SvlBeforeEoa
+    else if int_lt length_cm (pos svl) then Some BeyondTrack
+    else if nat_lt 500 release then Some BadSpeed
+    else None
+authority_fault length_cm (Limit loa speed) =
+    if int_lt length_cm (pos loa) then Some BeyondTrack
+    else if (speed == 0) || nat_lt 500 speed then Some BadSpeed
+    else None
+
+-- the most restrictions that are held (own)
+abbrev pub most_restrictions : ℕ
+most_restrictions = 32
+
+-- the first fault of a restriction beside those that are held (own)
+abbrev pub restrict_fault : ℤ → finite.FinMap nat_cmp Restriction → Restriction → Option RestrictFault
+restrict_fault length_cm restrictions r =
+    if nat_le most_restrictions (finite.len restrictions) then Some Full
+    else if finite.contains_key restrictions r.id then Some (IdInUse r.id)
+    else if nat_le r.end r.start || int_lt length_cm (pos r.end) then Some Value
+    else None
+
+-- a revocation names a restriction that is held (own)
+abbrev pub revoke_fault : finite.FinMap nat_cmp Restriction → ℕ → Option RevokeFault
+revoke_fault restrictions id = if finite.contains_key restrictions id then None else Some (Unknown id)
+
+-- a time before that of the last reading (own)
+abbrev pub time_fault : Option ℕ → ℕ → Option CycleFault
+time_fault None time = None
+time_fault (Some last) time = if nat_lt time last then Some (TimeBack last time) else None
+
+-- the cause that such a time gives (own)
+abbrev pub time_cause : CycleFault → EventCause
+time_cause (TimeBack last time) = causes.TimeBack last time
+
+-- ---- one record
+
+-- the state after a record, and a row where it is a reading (own)
+pub record Step : Type 0 where
+  pub after : Supervision
+  pub row : Option Row
+
+-- the fault, or else the step (own)
+abbrev pub unless : {F : Type 0} → (F → EventCause) → Option F → Step → Result Step EventCause
+unless cause None step = Ok step
+unless cause (Some fault) step = Err (cause fault)
+
+-- a step without a row (own)
+abbrev pub quiet : Supervision → Step
+quiet s = record { after = s; row = None }
+
+-- one record (own)
+unfoldable pub step : Supervision → Event → Result Step EventCause
+step s (record_kinds.Read r) = unless time_cause (time_fault s.last_time r.time) (record { after = after_reading s r; row = Some (row_of s r) })
+step s (record_kinds.Authority a) = unless causes.Authority (authority_fault s.line.track.length_cm a) (quiet (after_authority s a))
+step s (record_kinds.Restrict r) = unless causes.Restrict (restrict_fault s.line.track.length_cm s.restrictions r) (quiet (after_restriction s r))
+step s (record_kinds.Revoke id) = unless causes.Revoke (revoke_fault s.restrictions id) (quiet (after_revocation s id))
+
+-- ---- a list of records
+
+-- the most records of a journey (own)
+abbrev pub most_records : ℕ
+most_records = 100_000
+
+-- the rows of a journey, and the number of the first record that is refused, from 1, with its cause; an accepted journey has
+-- none (own)
+pub record Journey : Type 0 where
+  pub rows : List Row
+  pub refused : Option (ℕ × EventCause)
+
+-- the event of a record, by its form; past the greatest count none is read (own)
+abbrev pub event_at : {A : Type 0} → (A → Result Event EventFault) → ℕ → A → Result Event EventFault
+event_at form n x = if nat_lt most_records n then Err TooMany else form x
+
+-- one record as it is written: its form is tested first (own)
+abbrev pub step_of : Supervision → Result Event EventFault → Result Step EventCause
+step_of s (Ok e) = step s e
+step_of s (Err fault) = Err (causes.Form fault)
+
+-- the row, if there is one, before those of the rest (own)
+abbrev pub with_row : Option Row → Journey → Journey
+with_row None rest = rest
+with_row (Some row) rest = record rest { rows = row ∷ rest.rows }
+
+-- the rest counts only after an accepted record (own)
+abbrev pub go_on : ℕ → Result Step EventCause → (Supervision → Journey) → Journey
+go_on n (Ok x) rest = with_row x.row (rest x.after)
+go_on n (Err cause) rest = record { rows = []; refused = Some (n, cause) }
+
+-- the journey of records, of which the first has the number `n`; `form` is the form of a record (own)
+abbrev pub journey_from : {A : Type 0} → (A → Result Event EventFault) → ℕ → Supervision → List A → Journey
+journey_from form n s [] = record { rows = []; refused = None }
+journey_from form n s (x ∷ xs) = go_on n (step_of s (event_at form n x)) (λ t. journey_from form (suc n) t xs)

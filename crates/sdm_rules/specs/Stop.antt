@@ -1,0 +1,59 @@
+-- What a covered row promises of every motion from its reading, and why a row is not covered (own).
+use Rattle.std.specs.Prelude.{◌≡◌, ℕ, ℤ, pos, List, ◌∷◌, ◌++◌, ◌<◌, ◌≤◌, ◌≢◌, All, Contains}
+use Rattle.sdm_num.specs.Readings.{OdometerReading}
+use Rattle.sdm_rules.specs.declared.motions.Slice.{Slice}
+use Rattle.sdm_rules.specs.declared.motions.Point.{Point}
+use Rattle.sdm_rules.specs.declared.motions.Start.{Start}
+use Rattle.sdm_rules.specs.declared.data.SlopeKind.TheVariants.{Safe}
+use Rattle.sdm_rules.specs.declared.authorities.Authority.TheVariants.{Stop}
+use Rattle.sdm_rules.specs.declared.targets.Target.{Target}
+use Rattle.sdm_rules.specs.declared.targets.TargetKind.TheVariants.{Eoa, Svl}
+use Rattle.sdm_rules.specs.Cells.{border_of}
+use Rattle.sdm_rules.specs.Slopes.{Slopes}
+use Rattle.sdm_rules.specs.Motion.{IsMotionFrom, IsBy, KeepsTo, slice_ends}
+use Rattle.sdm_rules.specs.Data.{LineData}
+use Rattle.sdm_rules.specs.Decelerations.{slopes_of}
+use Rattle.sdm_rules.specs.Targets.{foot_speed_of}
+use Rattle.sdm_rules.specs.Reaction.{start_of}
+use Rattle.sdm_rules.specs.Limits.{v_bec_for}
+use Rattle.sdm_rules.specs.Supervision.{Supervision, situation_of}
+
+-- a motion from a start, of some scale, which then brakes at least as the slopes ask (own)
+abbrev pub IsMotionOn : Slopes → Start → ℕ → ℤ → ℕ → List Slice → Point → List Point → Type 0
+IsMotionOn on start s p v xs first more = (0 < s) × IsMotionFrom s start on p v xs first more
+
+-- every braking point of every motion lies at or before the place, in grains (own)
+abbrev pub StopsBy : Slopes → Start → ℤ → Type 0
+StopsBy on start place =
+    (s : ℕ) (p : ℤ) (v : ℕ) (xs : List Slice) (first : Point) (more : List Point) →
+    IsMotionOn on start s p v xs first more → All (IsBy s place) (first ∷ more)
+
+-- at or past the place, at slice ends and braking points of every motion, the speed is at most `w` notches (own)
+abbrev pub SlowsTo : Slopes → Start → ℤ → ℕ → Type 0
+SlowsTo on start place w =
+    (s : ℕ) (p : ℤ) (v : ℕ) (xs : List Slice) (first : Point) (more : List Point) →
+    IsMotionOn on start s p v xs first more → All (KeepsTo s place w) (slice_ends p v xs ++ first ∷ more)
+
+-- within the bounds of a reading the train stops by the supervised location, in cm (own)
+abbrev pub StopsBySvl : LineData → OdometerReading → ℕ → Type 0
+StopsBySvl d r svl = StopsBy (slopes_of Safe d) (start_of d r) (border_of (pos svl))
+
+-- and at or past the target its speed is at most the target's with its EBI margin (own)
+abbrev pub MeetsTarget : LineData → OdometerReading → Target → Type 0
+MeetsTarget d r t = SlowsTo (slopes_of Safe d) (start_of d r) t.place (foot_speed_of t)
+
+-- the target limits the speed: it is a fall of the MRSP or an LOA (own)
+abbrev pub IsSpeedTarget : Target → Type 0
+IsSpeedTarget t = (t.kind ≢ Eoa) × (t.kind ≢ Svl)
+
+-- the promise of a covered reading (own)
+pub record IsSafe (s : Supervision) (r : OdometerReading) : Type 0 where
+  pub stops : (eoa svl release : ℕ) → s.authority ≡ Stop eoa svl release → StopsBySvl s.line r svl
+  pub meets : (t : Target) → Contains (situation_of s r).targets t → IsSpeedTarget t → MeetsTarget s.line r t
+
+-- why a target keeps a row from being covered where no emergency brake is commanded: it is a speed target that the train is
+-- slow enough for, yet whose speed it may pass in the reaction times (own)
+pub record IsGap (s : Supervision) (r : OdometerReading) (t : Target) : Type 0 where
+  pub is_speed : IsSpeedTarget t
+  pub slow : r.speed ≤ foot_speed_of t
+  pub may_gain : foot_speed_of t < v_bec_for s.line r t

@@ -1,0 +1,51 @@
+-- The text of rows (own).
+use Rattle.std.specs.Prelude.{ℕ, ℤ, Bool, List, [], ◌∷◌, ◌++◌, Option, Some, None, codes, decimal, if◌then◌else◌}
+use Rattle.std.specs.Fmt.{signed_decimal}
+use Rattle.std.specs.List.{join_with_byte}
+use Rattle.sdm_rules.specs.declared.commands.State.{State}
+use Rattle.sdm_rules.specs.declared.commands.State.TheVariants.{C, T, R}
+use Rattle.sdm_rules.specs.declared.commands.Status.{Status}
+use Rattle.sdm_rules.specs.declared.commands.Status.TheVariants.{N, I, O, W, X}
+use Rattle.sdm_rules.specs.declared.rows.Row.{Row}
+
+-- the letter of a type of supervision (own)
+abbrev pub state_text : State → List ℕ
+state_text C = codes "C"
+state_text T = codes "T"
+state_text R = codes "R"
+
+-- the letter of a status (own)
+abbrev pub status_text : Status → List ℕ
+status_text N = codes "N"
+status_text I = codes "I"
+status_text O = codes "O"
+status_text W = codes "W"
+status_text X = codes "X"
+
+-- 1 or 0 (own)
+abbrev pub flag_text : Bool → List ℕ
+flag_text b = if b then codes "1" else codes "0"
+
+-- a place in mm; `-` where there is none (own)
+abbrev pub place_text : Option ℤ → List ℕ
+place_text None = codes "-"
+place_text (Some z) = signed_decimal z
+
+-- the fields of a row in order: time in ds, the ceiling in km/h, places in mm (own)
+abbrev pub fields_of : Row → List (List ℕ)
+fields_of r =
+    decimal r.time ∷ state_text r.state ∷ status_text r.held.status ∷ flag_text r.held.tco ∷ flag_text r.held.sb ∷ flag_text r.held.eb ∷ flag_text r.covered
+    ∷ decimal r.ceiling ∷ place_text r.ebi ∷ place_text r.sbi ∷ place_text r.warning ∷ place_text r.permitted ∷ place_text r.indication ∷ []
+
+-- fields with commas between them, and a line feed (own)
+abbrev pub line_of : List (List ℕ) → List ℕ
+line_of fields = join_with_byte 44 fields ++ codes "\n"
+
+-- the text of a row (own)
+unfoldable pub row_text : Row → List ℕ
+row_text r = line_of (fields_of r)
+
+-- the text of rows, one after the other (own)
+abbrev pub run_text : List Row → List ℕ
+run_text [] = []
+run_text (r ∷ rs) = row_text r ++ run_text rs
