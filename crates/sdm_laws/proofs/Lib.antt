@@ -12,5 +12,10 @@ pub mod Chains
 pub mod CurveChains
 pub mod CurveOrder
 pub mod CurveScales
+pub mod Stretch
+pub mod Braking
+pub mod SliceBounds
+pub mod Reaction
 pub mod Segments
 mod CurveCases
+mod MotionCases

@@ -1,2 +1,3 @@
 pub mod Energy
 pub mod CurveLaws
+pub mod MotionLaws
