@@ -15,3 +15,17 @@ pub mod Braking
 pub mod CurveScales
 mod CurveCases
 pub mod Segments
+pub mod SlicesLaws
+pub mod MotionLaws
+pub mod TriggerOrder
+pub mod Nearness
+pub mod CurveNearness
+pub mod MachineOrder
+pub mod JourneyOrder
+pub mod Gaps
+pub mod ReleaseStart
+pub mod AcceptedSlopes
+pub mod StopFacts
+pub mod Stops
+pub mod Headline
+pub mod FlatFacts

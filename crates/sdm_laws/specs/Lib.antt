@@ -1,2 +1,4 @@
 pub mod Energy
 pub mod CurveLaws
+pub mod SupervisionLaws
+pub mod FlatLaws

@@ -3,3 +3,5 @@
 #![tactic(auto)]
 
 pub mod curves;
+pub mod flat;
+pub mod supervision;
