@@ -104,9 +104,9 @@ within_held on m f w x usable m_pos within =
 
 -- ---- all points
 
-held : (on : Slopes) (m : ℕ) (f : ℤ) (w : ℕ) (x : Point) (ys : List Point) → IsUsable on → 0 < m → IsBraking on m x ys → IsWithin on m f w x → AllByRecursion (IsHeld on m f w) (x ∷ ys)
-held on m f w x [] usable m_pos b within = (within_held on m f w x usable m_pos within, tt)
-held on m f w x (y ∷ ys) usable m_pos b within = (within_held on m f w x usable m_pos within, held on m f w y ys usable m_pos b.1 (step_within on m f w x y usable m_pos b.0 within))
+pub each_held : (on : Slopes) (m : ℕ) (f : ℤ) (w : ℕ) (x : Point) (ys : List Point) → IsUsable on → 0 < m → IsBraking on m x ys → IsWithin on m f w x → AllByRecursion (IsHeld on m f w) (x ∷ ys)
+each_held on m f w x [] usable m_pos b within = (within_held on m f w x usable m_pos within, tt)
+each_held on m f w x (y ∷ ys) usable m_pos b within = (within_held on m f w x usable m_pos within, each_held on m f w y ys usable m_pos b.1 (step_within on m f w x y usable m_pos b.0 within))
 
 pub braking : (on : Slopes) (m : ℕ) (f : ℤ) (w : ℕ) (x : Point) (ys : List Point) → IsUsable on → 0 < m → IsBraking on m x ys → IsWithin on m f w x → All (IsHeld on m f w) (x ∷ ys)
-braking on m f w x ys usable m_pos b within = All-from_recursion (IsHeld on m f w) (x ∷ ys) (held on m f w x ys usable m_pos b within)
+braking on m f w x ys usable m_pos b within = All-from_recursion (IsHeld on m f w) (x ∷ ys) (each_held on m f w x ys usable m_pos b within)

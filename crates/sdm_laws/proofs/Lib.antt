@@ -12,10 +12,22 @@ pub mod Chains
 pub mod CurveChains
 pub mod CurveOrder
 pub mod CurveScales
+mod CurveCases
 pub mod Stretch
 pub mod Braking
 pub mod SliceBounds
 pub mod Reaction
-pub mod Segments
-mod CurveCases
 mod MotionCases
+pub mod Segments
+pub mod TriggerOrder
+pub mod Nearness
+pub mod CurveNearness
+pub mod MachineOrder
+pub mod JourneyOrder
+pub mod Gaps
+pub mod ReleaseStart
+pub mod AcceptedSlopes
+pub mod StopFacts
+pub mod Stops
+pub mod Headline
+pub mod FlatFacts

@@ -2,8 +2,9 @@
 -- scale 1, and both together are V_bec and D_bec. A target speed only makes these greater.
 use Rattle.std.proofs.Common.{◌≡◌, ℕ, ℤ, pos, List, [], ◌∷◌, ◌++◌, ◌+◌, ◌*◌, ◌≤◌, ◌+ℤ◌, max, subst, arith}
 use Rattle.std.specs.Prelude.{All}
+use Rattle.std.specs.List.{AllByRecursion}
 use Rattle.std.proofs.lemmas.Int.{ints}
-use Rattle.std.proofs.lemmas.List.Elements.{All-from_recursion, All-append}
+use Rattle.std.proofs.lemmas.List.Elements.{All-from_recursion, recursion_from_All, All-append}
 use Rattle.std.proofs.lemmas.Nat.{mul-le}
 use Rattle.std.proofs.Math.Nat.{mul-le-mul_left}
 use Rattle.sdm_rules.specs.declared.motions.Phase.TheVariants.{Traction, Build}
@@ -92,3 +93,9 @@ reaction s start on target p v xs first more m slow =
     let ends : All (IsBounded q b) (slice_ends p v xs) = rw m.split (ends_within s start target p v m.traction m.build m.in_traction m.in_build m.traction_time m.build_time slices slow) in
     let last : IsBounded q b first = rw (m.begins, m.split) (last_within s start target p v m.traction m.build m.in_traction m.in_build m.traction_time m.build_time slices slow) in
     All-append (IsBounded q b) _ _ ends (All-from_recursion (IsBounded q b) (first ∷ []) (last, tt))
+
+-- the same, point by point
+pub each_bounded : (s : ℕ) (start : Start) (on : Slopes) (target : ℕ) (p : ℤ) (v : ℕ) (xs : List Slice) (first : Point) (more : List Point) →
+    IsMotion s start on p v xs first more → v ≤ s * start.speed →
+    AllByRecursion (IsBounded (p +ℤ pos (s * s * d_bec (build_up_of start) target)) (s * v_bec (build_up_of start) target)) (slice_ends p v xs ++ first ∷ [])
+each_bounded s start on target p v xs first more m slow = recursion_from_All (IsBounded (p +ℤ pos (s * s * d_bec (build_up_of start) target)) (s * v_bec (build_up_of start) target)) _ (reaction s start on target p v xs first more m slow)

@@ -1,3 +1,5 @@
 pub mod Energy
 pub mod CurveLaws
 pub mod MotionLaws
+pub mod SupervisionLaws
+pub mod FlatLaws

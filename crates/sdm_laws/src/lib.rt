@@ -3,4 +3,6 @@
 #![tactic(auto)]
 
 pub mod curves;
+pub mod flat;
 pub mod motions;
+pub mod supervision;

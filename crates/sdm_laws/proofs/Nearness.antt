@@ -1,0 +1,99 @@
+-- When a computed place lies just before an exact one: at most a millimetre before it and never past it. A front end is then
+-- past the exact place only where it is past the computed one, and past the computed one only where it is past the exact
+-- place less a millimetre. The operations of limits keep it.
+use Rattle.std.proofs.Common.{◌≡◌, ℕ, ℤ, pos, Bool, true, false, ◌<◌, ◌*◌, ◌+ℤ◌, ◌*ℤ◌, ◌≤ℤ◌, ◌<ℤ◌, int_lt, arith, refl, sym, subst, T, ◌∙◌, ap}
+use Rattle.std.proofs.lemmas.Int.{ints}
+use Rattle.sdm_num.specs.Units.{millimetre}
+use Rattle.sdm_num.specs.Fractions.{Fraction, IsAtMost, less, lesser, more}
+use Rattle.sdm_num.proofs.Ints.{scales, scale-+ℤ, scale-scale}
+use Rattle.sdm_num.proofs.Floors.{scale-<_cancel}
+use Rattle.sdm_num.proofs.Order.{scale-<, at_most_refl, at_most_trans, lesser_cases}
+use Rattle.sdm_laws.proofs.TriggerOrder.{IsSooner}
+
+-- `low` is at most `x`, and at most a millimetre before it
+pub record IsJustBefore (low x : Fraction) : Type 0 where
+  pub low_positive : 0 < low.m
+  pub positive : 0 < x.m
+  pub not_past : IsAtMost low x
+  pub near : IsAtMost x (more low millimetre)
+
+-- ---- tests of fractions
+
+true_of_T : (b : Bool) → T b → b ≡ true
+true_of_T true t = refl
+true_of_T false t = absurd t
+
+T_of_true : (b : Bool) → b ≡ true → T b
+T_of_true true e = tt
+T_of_true false e = subst T (sym e) tt
+
+int_lt_out : (a b : ℤ) → int_lt a b ≡ true → a <ℤ b
+int_lt_out a b e = record { lt = T_of_true _ e }
+
+pub int_lt_in : (a b : ℤ) → a <ℤ b → int_lt a b ≡ true
+int_lt_in a b h = true_of_T _ h.lt
+
+pub scale-swap : (m k : ℕ) (a : ℤ) → pos m *ℤ (pos k *ℤ a) ≡ pos k *ℤ (pos m *ℤ a)
+scale-swap m k a = scale-scale m k a ∙ (ap (λ (t : ℕ). pos t *ℤ a) (omega arith) ∙ sym (scale-scale k m a))
+
+-- `x < f` gives `low < f`, where `low = a / m` is at most `x = b / k`
+below_low : (m k : ℕ) (a b f : ℤ) → 0 < m → (pos k *ℤ a) ≤ℤ (pos m *ℤ b) → b <ℤ (pos k *ℤ f) → a <ℤ (pos m *ℤ f)
+below_low m k a b f p h lt =
+    let one = scale-< m b (pos k *ℤ f) p lt in
+    let e = scale-swap m k f in
+    scale-<_cancel k a (pos m *ℤ f) (omega (arith, ints))
+
+-- `low < f` gives `x < f + d`, where `x = b / k` is at most `d` past `low = a / m`
+below_more : (m k d : ℕ) (a b f : ℤ) → 0 < k → (pos m *ℤ b) ≤ℤ (pos k *ℤ (a +ℤ pos (d * m))) → a <ℤ (pos m *ℤ f) → b <ℤ (pos k *ℤ (f +ℤ pos d))
+below_more m k d a b f p h lt =
+    let one = scale-< k a (pos m *ℤ f) p lt in
+    let e = scale-swap k m f in
+    let h' = rw scale-+ℤ at h in
+    scale-<_cancel m b (pos k *ℤ (f +ℤ pos d)) (simp scale-+ℤ (omega (arith, ints)))
+
+plus_0 : (f : ℤ) → f +ℤ pos 0 ≡ f
+plus_0 f = omega (arith, ints)
+
+pub exact_sooner : (low x : Fraction) → IsJustBefore low x → IsSooner 0 x 0 low
+exact_sooner low x h = record {
+  passed = λ front e.
+      let lt = int_lt_out x.n (pos x.m *ℤ (front +ℤ pos 0)) e in
+      int_lt_in low.n (pos low.m *ℤ (front +ℤ pos 0)) (below_low low.m x.m low.n x.n (front +ℤ pos 0) h.low_positive h.not_past.crossed lt);
+}
+
+pub low_sooner : (low x : Fraction) → IsJustBefore low x → IsSooner 0 low millimetre x
+low_sooner low x h = record {
+  passed = λ front e.
+      let lt = int_lt_out low.n (pos low.m *ℤ (front +ℤ pos 0)) e in
+      let lt' : low.n <ℤ (pos low.m *ℤ front) = rw (← plus_0 front) lt in
+      int_lt_in x.n (pos x.m *ℤ (front +ℤ pos millimetre)) (below_more low.m x.m millimetre low.n x.n front h.positive h.near.crossed lt');
+}
+
+-- ---- the same under the operations of limits
+
+pub less_near : (low x : Fraction) (k : ℕ) → IsJustBefore low x → IsJustBefore (less low k) (less x k)
+less_near low x k h = record {
+  low_positive = h.low_positive;
+  positive = h.positive;
+  not_past = record { crossed = simp scales (let p = h.not_past.crossed in omega (arith, ints)) };
+  near = record { crossed = simp scales (let p = simp scales at h.near.crossed in omega (arith, ints)) };
+}
+
+lesser_left : (x y : Fraction) → IsAtMost (lesser x y) x
+lesser_left x y = lesser_cases (λ z. IsAtMost z x) x y (λ _. at_most_refl x) (λ le. le)
+
+lesser_right : (x y : Fraction) → IsAtMost (lesser x y) y
+lesser_right x y = lesser_cases (λ z. IsAtMost z y) x y (λ le. le) (λ _. at_most_refl y)
+
+-- the lesser of two lies just before the lesser of two
+pub lesser_near : (low x low' x' : Fraction) → IsJustBefore low x → IsJustBefore low' x' → IsJustBefore (lesser low low') (lesser x x')
+lesser_near low x low' x' h h' = record {
+  low_positive = lesser_cases (λ z. 0 < z.m) low low' (λ _. h.low_positive) (λ _. h'.low_positive);
+  positive = lesser_cases (λ z. 0 < z.m) x x' (λ _. h.positive) (λ _. h'.positive);
+  not_past = lesser_cases (λ z. IsAtMost (lesser low low') z) x x'
+      (λ _. at_most_trans (lesser low low') low x h.low_positive (lesser_left low low') h.not_past)
+      (λ _. at_most_trans (lesser low low') low' x' h'.low_positive (lesser_right low low') h'.not_past);
+  near = lesser_cases (λ z. IsAtMost (lesser x x') (more z millimetre)) low low'
+      (λ _. at_most_trans (lesser x x') x (more low millimetre) h.positive (lesser_left x x') h.near)
+      (λ _. at_most_trans (lesser x x') x' (more low' millimetre) h'.positive (lesser_right x x') h'.near);
+}

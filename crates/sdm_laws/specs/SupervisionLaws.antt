@@ -1,0 +1,60 @@
+-- The laws of supervision, as statements over an accepted supervision state alone (own).
+use Rattle.std.specs.Prelude.{◌≡◌, ℕ, ℤ, Bool, false, IsTrue, IfOk, List, Contains, ◌<◌}
+use Rattle.sdm_num.specs.Bounds.{IsEarlyFor}
+use Rattle.sdm_num.specs.Readings.{OdometerReading}
+use Rattle.sdm_rules.specs.declared.authorities.Authority.{Authority}
+use Rattle.sdm_rules.specs.declared.authorities.Authority.TheVariants.{Stop}
+use Rattle.sdm_rules.specs.declared.data.SlopeKind.{SlopeKind}
+use Rattle.sdm_rules.specs.declared.records.Event.{Event}
+use Rattle.sdm_rules.specs.declared.targets.Target.{Target}
+use Rattle.sdm_rules.specs.Slopes.{IsUsable}
+use Rattle.sdm_rules.specs.Curves.{exact, stepped, most_slack}
+use Rattle.sdm_rules.specs.Data.{LineData, HasBands}
+use Rattle.sdm_rules.specs.Decelerations.{slopes_of}
+use Rattle.sdm_rules.specs.Supervision.{Supervision, opening, situation_of, row_of, is_covered_for}
+use Rattle.sdm_rules.specs.Machines.{KeepsOrder, InOrder, IsReleasedAt, held_after}
+use Rattle.sdm_rules.specs.Records.{step}
+use Rattle.sdm_rules.specs.Stop.{IsSafe, IsGap}
+use Rattle.sdm_rules.specs.Opening.{IsAccepted, IsAcceptedKind, IsOpen}
+use Rattle.sdm_rules.specs.Headline.{IsSupervised, IsSupervisedOver}
+
+-- the slopes of accepted data are usable
+abbrev pub LawOfAcceptedSlopes : Type 0
+LawOfAcceptedSlopes = (kind : SlopeKind) (d : LineData) → HasBands d.train.bands → IsAcceptedKind kind d → IsUsable (slopes_of kind d)
+
+-- an accepted opening is open, and a state stays open over each record: no record changes the data
+pub record IsKeptOpen : Type 0 where
+  pub opens : (d : LineData) (a : Authority) → HasBands d.train.bands → IsAccepted d a → IsOpen (opening d a)
+  pub stays : (s : Supervision) (e : Event) → IsOpen s → IfOk (step s e) (λ t. IsOpen t.after)
+
+-- on accepted slopes each computed place of a curve lies at most `most_slack` grains before the exact one, never past it
+abbrev pub LawOfNearness : Type 0
+LawOfNearness = (kind : SlopeKind) (d : LineData) → HasBands d.train.bands → IsAcceptedKind kind d →
+    (f : ℤ) (w v : ℕ) → IsEarlyFor (record { at = stepped (slopes_of kind d) f w v; slack = most_slack }) (exact (slopes_of kind d) f w v)
+
+-- where the exact machine commands the emergency brake, so does the supervisor; where the supervisor does, so does the
+-- machine with every limit one millimetre earlier
+abbrev pub LawOfMachines : Type 0
+LawOfMachines = (s : Supervision) (r : OdometerReading) → IsOpen s → KeepsOrder s r (held_after s r)
+
+-- from every covered row each motion stops by the supervised location and meets each speed target
+abbrev pub LawOfStop : Type 0
+LawOfStop = (s : Supervision) (r : OdometerReading) → IsOpen s → IsTrue (row_of s r).covered → IsSafe s r
+
+-- gaps are all that keeps a row from being covered where no emergency brake is commanded and the train moves
+abbrev pub LawOfGaps : Type 0
+LawOfGaps = (s : Supervision) (r : OdometerReading) → let row = row_of s r in
+    row.held.eb ≡ false → 0 < r.speed →
+    (t : Target) → Contains (situation_of s r).targets t → is_covered_for s.line r t ≡ false → IsGap s r t
+
+-- release speed monitoring begins at its exact start or less than a millimetre before it
+abbrev pub LawOfReleaseStart : Type 0
+LawOfReleaseStart = (s : Supervision) (r : OdometerReading) (eoa svl release : ℕ) → IsOpen s → s.authority ≡ Stop eoa svl release → 0 < release → IsReleasedAt s r eoa svl release
+
+-- THE HEADLINE of one reading
+abbrev pub LawOfSupervision : Type 0
+LawOfSupervision = (s : Supervision) (r : OdometerReading) → IsOpen s → IsSupervised s r
+
+-- THE HEADLINE over every list of records
+abbrev pub LawOfJourneys : Type 0
+LawOfJourneys = (s : Supervision) (must may : Bool) (es : List Event) → IsOpen s → InOrder must s.commands.eb may → IsSupervisedOver s must may es

@@ -1,0 +1,56 @@
+//! The laws of supervision: of every accepted supervision state and reading, and of every list of records. Each function
+//! makes no call and only states its clause.
+
+ghost use Rattle.sdm_laws.specs.SupervisionLaws.{IsKeptOpen, LawOfAcceptedSlopes, LawOfGaps, LawOfJourneys, LawOfMachines, LawOfNearness, LawOfReleaseStart, LawOfStop, LawOfSupervision};
+
+/// The slopes of accepted data are usable: brake curves on them have their laws.
+#[tactic(auto, using(crate::proofs::AcceptedSlopes::accepted_usable))]
+pub fn law_of_accepted_slopes()
+    ensures { LawOfAcceptedSlopes }
+{}
+
+/// What the opening accepts stays so over every record.
+#[tactic(auto, using(crate::proofs::Headline::kept_open))]
+pub fn law_of_openings()
+    ensures { IsKeptOpen }
+{}
+
+/// On accepted slopes each computed place of a curve lies less than a millimetre before the exact one, and never past it.
+#[tactic(auto, using(crate::proofs::Headline::nearness))]
+pub fn law_of_nearness()
+    ensures { LawOfNearness }
+{}
+
+/// Over each reading the commands of the exact machine, the supervisor and the early machine stay in order.
+#[tactic(auto, using(crate::proofs::Headline::machines))]
+pub fn law_of_machines()
+    ensures { LawOfMachines }
+{}
+
+/// From every covered row each motion stops by the supervised location and meets each speed target.
+#[tactic(auto, using(crate::proofs::Headline::stop))]
+pub fn law_of_stop()
+    ensures { LawOfStop }
+{}
+
+/// Why a row is not covered where no emergency brake is commanded.
+#[tactic(auto, using(crate::proofs::Gaps::gaps))]
+pub fn law_of_gaps()
+    ensures { LawOfGaps }
+{}
+
+/// When release speed monitoring begins.
+#[tactic(auto, using(crate::proofs::Headline::release))]
+pub fn law_of_release_start()
+    ensures { LawOfReleaseStart }
+{}
+
+/// The headline of one reading: the commands stay in order, and a covered row is safe.
+pub fn law_of_supervision()
+    ensures { LawOfSupervision }
+{}
+
+/// The headline over every list of records, from an accepted supervision state on.
+pub fn law_of_journeys()
+    ensures { LawOfJourneys }
+{}
