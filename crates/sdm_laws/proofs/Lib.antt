@@ -29,3 +29,8 @@ pub mod StopFacts
 pub mod Stops
 pub mod Headline
 pub mod FlatFacts
+pub mod Settled
+pub mod Search
+pub mod Decided
+pub mod OneFault
+pub mod OneRun

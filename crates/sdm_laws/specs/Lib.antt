@@ -2,3 +2,4 @@ pub mod Energy
 pub mod CurveLaws
 pub mod SupervisionLaws
 pub mod FlatLaws
+pub mod RunLaws

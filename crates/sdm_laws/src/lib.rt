@@ -4,4 +4,5 @@
 
 pub mod curves;
 pub mod flat;
+pub mod runs;
 pub mod supervision;
