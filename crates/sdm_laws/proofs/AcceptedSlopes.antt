@@ -1,9 +1,8 @@
 -- The slopes of accepted data are usable: each band but the last has an upper speed and these rise; each slope is above 0,
 -- since it is at least 0.05 m/s²; and in one band they differ no more than they may, over all pairs of cells.
-use Rattle.std.proofs.Common.{◌≡◌, ℕ, ℤ, zero, suc, pos, negsuc, Option, Some, None, List, [], ◌∷◌, unsigned_abs, length, slice_index, ◌*◌, ◌<◌, ◌≤◌, ◌*ℤ◌, ◌≤ℤ◌, ◌<ℤ◌, arith, refl, ap, sym, subst, inl, inr}
+use Rattle.std.proofs.Common.{◌≡◌, ℕ, ℤ, zero, suc, pos, negsuc, Option, Some, None, List, [], ◌∷◌, unsigned_abs, length, slice_index, ◌*◌, ◌<◌, ◌≤◌, ◌*ℤ◌, ◌≤ℤ◌, arith, refl, ap, sym, subst}
 use Rattle.std.proofs.lemmas.Int.{ints}
-use Rattle.std.proofs.lemmas.Bool.{cases_lt}
-use Rattle.std.specs.Prelude.{filter_map, option_map}
+use Rattle.std.specs.Prelude.{option_map}
 use Rattle.sdm_num.specs.Units.{notches}
 use Rattle.sdm_rules.specs.declared.data.Band.{Band}
 use Rattle.sdm_rules.specs.declared.data.SlopeKind.{SlopeKind}

@@ -1,114 +1,112 @@
--- The law of braking: a train that brakes at least as the slopes of its way does not pass the curve.
+-- The law of braking: each step is one stretch, since two bands with more than a border in common are one, so an
+-- induction over the points keeps the train within the curve. What that means at the foot follows from the order of exact
+-- places.
 use Rattle.std.proofs.Common.{◌≡◌, ℕ, ℤ, zero, suc, pos, List, [], ◌∷◌, length, slice_index, ◌*◌, ◌<◌, ◌≤◌, ◌*ℤ◌, ◌≤ℤ◌, ◌<ℤ◌, arith, inl, inr}
+use Rattle.std.specs.Prelude.{All}
 use Rattle.std.specs.List.{AllByRecursion}
 use Rattle.std.specs.Int.Signed.{clash_ℤ}
 use Rattle.std.proofs.lemmas.Int.{ints, by_lt_z}
 use Rattle.std.proofs.lemmas.Bool.{cases_lt}
+use Rattle.std.proofs.lemmas.List.Elements.{All-from_recursion}
 use Rattle.std.proofs.lemmas.Nat.{mul-le}
 use Rattle.std.proofs.Math.Nat.{mul-le-mul_left}
-use Rattle.sdm_num.specs.Fractions.{Fraction, whole, IsAtMost, IsBefore}
-use Rattle.sdm_num.proofs.Ints.{scale-+ℤ, scale-≤}
-use Rattle.sdm_num.proofs.Floors.{floor_low, floor_high}
-use Rattle.sdm_num.proofs.Order.{at_most_out, at_most_in, at_most_trans}
-use Rattle.sdm_num.specs.Units.{centimetre}
-use Rattle.sdm_rules.specs.Slopes.{Slopes, IsUsable}
-use Rattle.sdm_rules.specs.Curves.{cell_at, upper_square, exact_at}
+use Rattle.sdm_num.specs.Fractions.{whole, IsAtMost, IsBefore}
+use Rattle.sdm_num.proofs.Order.{at_most_before, at_most_trans, not_both, whole_at_most}
 use Rattle.sdm_rules.specs.declared.motions.Point.{Point}
+use Rattle.sdm_rules.specs.Slopes.{Slopes, IsUsable}
+use Rattle.sdm_rules.specs.Curves.{cell_at, exact_at, upper_square}
 use Rattle.sdm_rules.specs.Motion.{IsInBand, HasPart, BrakesAtLeast, IsStep, IsBraking}
-use Rattle.sdm_laws.specs.CurveLaws.{IsHeld}
-use Rattle.sdm_laws.proofs.CurvePieces.{curve_left}
-use Rattle.sdm_laws.proofs.CurveChains.{exact_chain, exact_foot}
-use Rattle.sdm_laws.proofs.Stretch.{stretch, IsSteepest}
-use Rattle.sdm_laws.proofs.CurveOrder.{exact_pos, exact_falls, exact_before}
+use Rattle.sdm_laws.specs.MotionLaws.{HasBandPart, IsSteepest, IsWithin, IsHeld}
+use Rattle.sdm_laws.proofs.Cells.{cell_low, cell_high}
+use Rattle.sdm_laws.proofs.CurveOrder.{exact_positive, exact_falls, exact_before, exact_foot}
+use Rattle.sdm_laws.proofs.Stretch.{stretch}
 
--- the uppers rise
-abbrev pub AreRising : List ℕ → Type 0
+-- ---- bands
+
+-- the upper speeds rise
+abbrev AreRising : List ℕ → Type 0
 AreRising uppers = (i j : ℕ) → i ≤ j → j < length uppers → slice_index uppers i ≤ slice_index uppers j
 
-square_le : (s a b : ℕ) → a ≤ b → s * (a * a) ≤ s * (b * b)
-square_le s a b h = mul-le-mul_left s (mul-le a a b b h h)
+square_rises : (m a b : ℕ) → a ≤ b → m * (a * a) ≤ m * (b * b)
+square_rises m a b h = mul-le-mul_left m (mul-le a a b b h h)
 
--- a square of a lower band is not above one of a higher band
-apart_bands : (on : Slopes) (s b b' u v : ℕ) → AreRising on.uppers → IsInBand on s b u → IsInBand on s b' v → v < u → b < b' → ⊥
-apart_bands on s b zero u v rising in_u in_v l lt = omega arith
-apart_bands on s b (suc k) u v rising in_u in_v l lt =
+-- no square of a band is above one of a higher band
+bands_rise : (on : Slopes) (m b b' u v : ℕ) → AreRising on.uppers → IsInBand on m b u → IsInBand on m b' v → b < b' → u ≤ v
+bands_rise on m b zero u v rising in_u in_v lt = absurd (omega arith)
+bands_rise on m b (suc k) u v rising in_u in_v lt =
     let known = in_v.known in
     let below = in_u.below (omega arith) in
-    let low = in_v.above in
-    let step : upper_square on s b ≤ upper_square on s k = square_le s _ _ (rising b k (omega arith) (omega arith)) in
+    let above = in_v.above in
+    let step : upper_square on m b ≤ upper_square on m k = square_rises m _ _ (rising b k (omega arith) (omega arith)) in
     omega arith
 
--- two bands with more than a border in common are one
-same_band : (on : Slopes) (s b b' v v' u u' : ℕ) → AreRising on.uppers → IsInBand on s b u → IsInBand on s b u' → IsInBand on s b' v → IsInBand on s b' v' → u' ≤ v → v < v' → v' ≤ u → b' ≡ b
-same_band on s b b' v v' u u' rising in_u in_u' in_v in_v' l1 l2 l3 =
+-- a band that holds both squares is the one with a part between them
+same_band : (on : Slopes) (m b b' u u' : ℕ) → AreRising on.uppers → IsInBand on m b u → IsInBand on m b u' → HasBandPart on m b' u' u → b' ≡ b
+same_band on m b b' u u' rising in_u in_u' part =
+    let from = part.from in
+    let apart = part.apart in
+    let to = part.to in
     elim (cases_lt b b') [
-      | inl lt ↦ absurd (apart_bands on s b b' u v rising in_u in_v (omega arith) lt)
+      | inl lt ↦ absurd (omega (arith, bands_rise on m b b' u part.low rising in_u part.in_low lt))
       | inr ge ↦ elim (cases_lt b' b) [
-        | inl lt ↦ absurd (apart_bands on s b' b v' u' rising in_v' in_u' (omega arith) lt)
+        | inl lt ↦ absurd (omega (arith, bands_rise on m b' b part.high u' rising part.in_high in_u' lt))
         | inr le ↦ omega arith
       ]
     ]
 
-part_of : (s : ℕ) (p p' : ℤ) → 0 < s → p <ℤ p' → HasPart s (cell_at s p) p p'
-part_of s p p' s_pos lt =
-    let low : (pos (s * centimetre) *ℤ cell_at s p) ≤ℤ p = floor_low (s * centimetre) p (omega arith) in
-    let high0 = floor_high (s * centimetre) p (omega arith) in
-    let high = rw scale-+ℤ at high0 in
-    record { apart = lt; begins = omega (arith, ints, low); ends = omega (arith, ints, high) }
+-- ---- one step
 
-steepest : (on : Slopes) (band band' : ℕ) (c : ℤ) (a : ℕ) → band ≡ band' → on.slope band' c ≡ a → on.slope band c ≤ a
-steepest on band band' c a e h = rw (e, h) (omega arith)
+part_at : (m : ℕ) (p p' : ℤ) → 0 < m → p <ℤ p' → HasPart m (cell_at m p) p p'
+part_at m p p' m_pos lt = record { apart = lt; begins = omega (arith, ints, cell_low m p m_pos); ends = cell_high m p m_pos }
 
--- a place at most the exact one of its square
-abbrev pub IsWithin : Slopes → ℕ → ℤ → ℕ → Point → Type 0
-IsWithin on s f w x = IsAtMost (whole x.place) (exact_at on s f w x.square)
+same_slope : (on : Slopes) (band band' : ℕ) (c : ℤ) (a : ℕ) → band ≡ band' → on.slope band' c ≡ a → on.slope band c ≤ a
+same_slope on band band' c a e h = rw (e, h) (omega arith)
 
--- one step keeps within the curve
-pub step_within : (on : Slopes) (s : ℕ) (f : ℤ) (w : ℕ) (x y : Point) → IsUsable on → 0 < s → IsStep on s x y → IsWithin on s f w x → IsWithin on s f w y
-step_within on s f w x y usable s_pos step within =
-    let some = usable.positive in
-    let rising = usable.rising in
-    let chain = exact_chain on s f w y.square x.square some s_pos step.brakes.slower in
-    let m_pos = curve_left on s _ _ _ _ chain in
-    let start = at_most_out x.place (exact_at on s f w x.square) within in
+step_within : (on : Slopes) (m : ℕ) (f : ℤ) (w : ℕ) (x y : Point) → IsUsable on → 0 < m → IsStep on m x y → IsWithin on m f w x → IsWithin on m f w y
+step_within on m f w x y usable m_pos step within =
     by_lt_z x.place y.place
     (λ (lt : x.place <ℤ y.place).
-    let cell = cell_at s x.place in
-    let part = part_of s x.place y.place s_pos lt in
-    let a_pos : 0 < step.slope = rw (← step.one_slope cell part) (some step.band step.from_band.known cell) in
-    let steep : IsSteepest on s step.slope x.place x.square y.place y.square =
-    λ band c v v' in_v in_v' l1 l2 l3 h. steepest on band step.band c step.slope (same_band on s step.band band v v' x.square y.square rising step.from_band step.to_band in_v in_v' l1 l2 l3) (step.one_slope c h) in
-    at_most_in y.place (exact_at on s f w y.square) (stretch on s step.slope _ _ x.square y.square x.place y.place s_pos a_pos m_pos steep step.brakes chain start))
+    let cell = cell_at m x.place in
+    let a_pos : 0 < step.slope = rw (← step.one_slope cell (part_at m x.place y.place m_pos lt)) (usable.positive step.band step.from_band.known cell) in
+    let steep : IsSteepest on m step.slope x y = λ band cell in_band part. same_slope on band step.band cell step.slope (same_band on m step.band band x.square y.square usable.rising step.from_band step.to_band in_band) (step.one_slope cell part) in
+    stretch on m f w step.slope x y usable m_pos a_pos steep step.brakes within)
     (λ (le : y.place ≤ℤ x.place).
-    let steep : IsSteepest on s 1 x.place x.square y.place y.square = λ band c v v' in_v in_v' l1 l2 l3 h. absurd (clash_ℤ h.apart le) in
+    -- with no way any slope does
+    let steep : IsSteepest on m 1 x y = λ band cell in_band part. absurd (clash_ℤ part.apart le) in
     let brakes : BrakesAtLeast on 1 x.place x.square y.place y.square = record { forward = step.brakes.forward; slower = step.brakes.slower; enough = omega (arith, ints) } in
-    at_most_in y.place (exact_at on s f w y.square) (stretch on s 1 _ _ x.square y.square x.place y.place s_pos (omega arith) m_pos steep brakes chain start))
+    stretch on m f w 1 x y usable m_pos (omega arith) steep brakes within)
 
-before_past : (z z' : ℤ) (x : Fraction) → z' ≤ℤ z → IsAtMost (whole z) x → IsBefore x (whole z') → ⊥
-before_past z z' x le h k =
-    let one = at_most_out z x h in
-    omega (arith, ints, k.crossed, scale-≤ x.m _ _ le)
+-- ---- at the foot
 
-whole_at_most : (z z' : ℤ) → IsAtMost (whole z) (whole z') → z ≤ℤ z'
-whole_at_most z z' h = omega (arith, ints, h.crossed)
+at_most_whole : (a b : ℤ) → IsAtMost (whole a) (whole b) → a ≤ℤ b
+at_most_whole a b h = omega (arith, ints, h.crossed)
 
--- what a place within the curve means at the foot
-pub within_held : (on : Slopes) (s : ℕ) (f : ℤ) (w : ℕ) (x : Point) → IsUsable on → 0 < s → IsWithin on s f w x → IsHeld on s f w x
-within_held on s f w x usable s_pos within =
-    let foot = exact_foot on s f w in
+-- what a point within the curve means at the foot
+pub within_held : (on : Slopes) (m : ℕ) (f : ℤ) (w : ℕ) (x : Point) → IsUsable on → 0 < m → IsWithin on m f w x → IsHeld on m f w x
+within_held on m f w x usable m_pos within =
+    let foot_square = m * (w * w) in
+    let foot = exact_foot on m f w in
+    let exact_pos = exact_positive on m f w x.square usable m_pos in
     record {
       within = within;
-      past = λ past. elim (cases_lt (s * (w * w)) x.square) [
-        | inl lt ↦ absurd (before_past x.place (pos s *ℤ f) (exact_at on s f w x.square) past within (rw foot at (exact_before on s f w (s * (w * w)) x.square usable s_pos lt)))
+      past = λ past. elim (cases_lt foot_square x.square) [
+        | inl faster ↦ absurd (
+            let before : IsBefore (exact_at on m f w x.square) (whole (pos m *ℤ f)) = rw foot at (exact_before on m f w foot_square x.square usable m_pos faster) in
+            let here : IsBefore (whole x.place) (whole (pos m *ℤ f)) = at_most_before (whole x.place) (exact_at on m f w x.square) (whole (pos m *ℤ f)) (omega arith) exact_pos within before in
+            not_both (whole x.place) (whole (pos m *ℤ f)) here (whole_at_most (pos m *ℤ f) x.place past))
         | inr le ↦ le
       ];
       standing = λ none. (
-          let low : s * (w * w) ≤ x.square = rw none (omega arith) in
-          let falls = rw foot at (exact_falls on s f w (s * (w * w)) x.square usable s_pos low) in
-          whole_at_most x.place (pos s *ℤ f) (at_most_trans (whole x.place) (exact_at on s f w x.square) (whole (pos s *ℤ f)) (exact_pos on s f w x.square usable s_pos) within falls));
+          let slow : foot_square ≤ x.square = rw none (omega arith) in
+          let falls = rw foot at (exact_falls on m f w foot_square x.square usable m_pos slow) in
+          at_most_whole x.place (pos m *ℤ f) (at_most_trans (whole x.place) (exact_at on m f w x.square) (whole (pos m *ℤ f)) exact_pos within falls));
     }
 
-pub braking : (on : Slopes) (s : ℕ) (f : ℤ) (w : ℕ) (x : Point) (ys : List Point) → IsUsable on → 0 < s → IsBraking on s x ys → IsWithin on s f w x → AllByRecursion (IsHeld on s f w) (x ∷ ys)
-braking on s f w x [] usable s_pos b within = (within_held on s f w x usable s_pos within, tt)
-braking on s f w x (y ∷ ys) usable s_pos b within =
-    (within_held on s f w x usable s_pos within, braking on s f w y ys usable s_pos b.1 (step_within on s f w x y usable s_pos b.0 within))
+-- ---- all points
+
+pub each_held : (on : Slopes) (m : ℕ) (f : ℤ) (w : ℕ) (x : Point) (ys : List Point) → IsUsable on → 0 < m → IsBraking on m x ys → IsWithin on m f w x → AllByRecursion (IsHeld on m f w) (x ∷ ys)
+each_held on m f w x [] usable m_pos b within = (within_held on m f w x usable m_pos within, tt)
+each_held on m f w x (y ∷ ys) usable m_pos b within = (within_held on m f w x usable m_pos within, each_held on m f w y ys usable m_pos b.1 (step_within on m f w x y usable m_pos b.0 within))
+
+pub braking : (on : Slopes) (m : ℕ) (f : ℤ) (w : ℕ) (x : Point) (ys : List Point) → IsUsable on → 0 < m → IsBraking on m x ys → IsWithin on m f w x → All (IsHeld on m f w) (x ∷ ys)
+braking on m f w x ys usable m_pos b within = All-from_recursion (IsHeld on m f w) (x ∷ ys) (each_held on m f w x ys usable m_pos b within)

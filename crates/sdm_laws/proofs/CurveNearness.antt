@@ -10,13 +10,13 @@ use Rattle.sdm_rules.specs.Slopes.{Slopes, IsUsable}
 use Rattle.sdm_rules.specs.Curves.{exact_at, exact, stepped, most_slack}
 use Rattle.sdm_rules.specs.Limits.{computed, exact_places}
 use Rattle.sdm_laws.proofs.Slack.{rounding}
-use Rattle.sdm_laws.proofs.CurveOrder.{exact_pos}
-use Rattle.sdm_laws.proofs.CurveScales.{scaled}
+use Rattle.sdm_laws.proofs.CurveOrder.{exact_positive}
+use Rattle.sdm_laws.proofs.CurveScales.{exact_scaled}
 use Rattle.sdm_laws.proofs.Nearness.{IsJustBefore}
 
 pub near_on : (on : Slopes) → IsUsable on → (f : ℤ) (w v : ℕ) → IsJustBefore (computed on f w v) (exact_places on f w v)
 near_on on usable f w v =
-    let e = (rounding on f w v usable).at_most in
+    let e = (rounding on f w v usable).early_at_most in
     let x = exact on f w v in
     let low = stepped on f w v in
     let more = scale-≤ x.m (low +ℤ pos most_slack) (low +ℤ pos (millimetre * 1)) (omega (arith, ints)) in
@@ -39,5 +39,5 @@ scaled_within on usable m f w z p m_pos h =
     let y = exact_at on 1 f w z in
     let big = exact_at on m f w (m * z) in
     let once : m * 1 ≡ m = omega arith in
-    let same : IsSame big (times m y) = subst (λ (k : ℕ). IsSame (exact_at on k f w (m * z)) (times m y)) once (scaled on 1 m f w z usable (omega arith) m_pos) in
-    at_most_in (pos m *ℤ p) big (finer m p y.n big.n y.m big.m (exact_pos on 1 f w z usable (omega arith)) (at_most_out p y h) same.crossed)
+    let same : IsSame big (times m y) = subst (λ (k : ℕ). IsSame (exact_at on k f w (m * z)) (times m y)) once (exact_scaled on 1 m f w z usable (omega arith) m_pos) in
+    at_most_in (pos m *ℤ p) big (finer m p y.n big.n y.m big.m (exact_positive on 1 f w z usable (omega arith)) (at_most_out p y h) same.crossed)

@@ -1,18 +1,15 @@
 -- The headline: an accepted state has usable slopes, from which the order of the machines and the stop follow; no record
 -- changes the data, so a state stays accepted, and the headline goes on from record to record.
-use Rattle.std.proofs.Common.{◌≡◌, ℕ, ℤ, List, [], ◌∷◌, refl}
+use Rattle.std.proofs.Common.{List, [], ◌∷◌}
 use Rattle.std.specs.Prelude.{IfOk}
-use Rattle.sdm_rules.specs.declared.data.SlopeKind.{SlopeKind}
-use Rattle.sdm_rules.specs.declared.data.SlopeKind.TheVariants.{Safe}
 use Rattle.sdm_rules.specs.declared.records.Event.{Event}
 use Rattle.sdm_rules.specs.declared.records.Event.TheVariants as record_kinds
-use Rattle.sdm_rules.specs.Slopes.{IsUsable}
 use Rattle.sdm_rules.specs.Decelerations.{slopes_of}
 use Rattle.sdm_rules.specs.Supervision.{Supervision, after_reading}
 use Rattle.sdm_rules.specs.Records.{step}
 use Rattle.sdm_rules.specs.Opening.{IsOpen}
 use Rattle.sdm_rules.specs.Headline.{IsSafeAt, AreSafe}
-use Rattle.sdm_laws.specs.SupervisionLaws.{IsKeptOpen, LawOfAcceptedSlopes, LawOfNearness, LawOfMachines, LawOfStop, LawOfReleaseStart, LawOfSupervision, LawOfJourneys}
+use Rattle.sdm_laws.specs.SupervisionLaws.{IsKeptOpen, LawOfNearness, LawOfMachines, LawOfStop, LawOfReleaseStart, LawOfSupervision, LawOfJourneys}
 use Rattle.sdm_laws.proofs.AcceptedSlopes.{accepted_usable}
 use Rattle.sdm_laws.proofs.Slack.{rounding}
 use Rattle.sdm_laws.proofs.MachineOrder.{AreUsable, keeps_order}
@@ -24,7 +21,7 @@ open_usable : (s : Supervision) → IsOpen s → AreUsable s.line
 open_usable s o = λ kind. accepted_usable kind s.line o.bands (o.usable kind)
 
 pub nearness : LawOfNearness
-nearness kind d bands accepted f w v = (rounding (slopes_of kind d) f w v (accepted_usable kind d bands accepted)).at_most
+nearness kind d bands accepted f w v = (rounding (slopes_of kind d) f w v (accepted_usable kind d bands accepted)).early_at_most
 
 pub machines : LawOfMachines
 machines s r o = keeps_order s r (open_usable s o)

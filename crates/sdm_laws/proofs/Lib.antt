@@ -1,22 +1,24 @@
 pub mod Totals
+pub mod Cells
 pub mod Energy
-pub mod BackWalk
-pub mod ForwardWalk
 pub mod Ways
+pub mod Walks
+pub mod CommonSteps
 pub mod Arcs
-pub mod Knots
 pub mod BandSteps
+pub mod Knots
 pub mod Slack
-pub mod CurvePieces
-pub mod Stretch
+pub mod Chains
 pub mod CurveChains
 pub mod CurveOrder
-pub mod Braking
 pub mod CurveScales
 mod CurveCases
+pub mod Stretch
+pub mod Braking
+pub mod SliceBounds
+pub mod Reaction
+mod MotionCases
 pub mod Segments
-pub mod SlicesLaws
-pub mod MotionLaws
 pub mod TriggerOrder
 pub mod Nearness
 pub mod CurveNearness

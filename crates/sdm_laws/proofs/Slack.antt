@@ -1,133 +1,131 @@
--- The slack of the rounding: over each band `e` grows to `k * e + 1`.
-use Rattle.std.proofs.Common.{◌≡◌, ℕ, ℤ, zero, suc, pos, ◌+◌, ◌-◌, ◌*◌, ◌<◌, ◌≤◌, ◌+ℤ◌, ◌*ℤ◌, ◌≤ℤ◌, length, max, arith, refl, sym, inl, inr}
+-- The slack of rounding: over each band a place that is `e` early gets at most `k * e` early by the law of one band, and
+-- rounding down adds less than one grain. An induction over the bands, back and forward alike.
+use Rattle.std.proofs.Common.{◌≡◌, ℕ, ℤ, zero, suc, pos, ◌+◌, ◌-◌, ◌*◌, ◌<◌, ◌≤◌, ◌+ℤ◌, ◌*ℤ◌, ◌≤ℤ◌, ◌<ℤ◌, length, max, arith, refl, sym, inl, inr}
 use Rattle.std.proofs.lemmas.Int.{ints}
 use Rattle.std.proofs.lemmas.Bool.{cases_lt}
 use Rattle.std.proofs.Math.Nat.{mul-le-mul_left}
-use Rattle.sdm_num.specs.Fractions.{Fraction, whole, floor}
+use Rattle.sdm_num.specs.Fractions.{Fraction, whole, floor, more}
 use Rattle.sdm_num.specs.Bounds.{IsEarlyFor}
-use Rattle.sdm_num.proofs.Ints.{scales, scale-≤, scale-+ℤ, scale-≤_cancel}
+use Rattle.sdm_num.proofs.Ints.{scale-+ℤ, scale-≤}
 use Rattle.sdm_num.proofs.Floors.{floor_low, floor_high}
+use Rattle.sdm_num.proofs.Order.{at_most_refl, at_most_trans, at_most_in}
 use Rattle.sdm_rules.specs.Slopes.{Slopes, IsUsable, bands_of, most_bands, variation}
 use Rattle.sdm_rules.specs.Curves.{arc_back, arc_forward, upper_square, climb, descend, as_is, to_grain, place_at, exact_at, exact, stepped, slack_after, most_slack}
 use Rattle.sdm_laws.specs.CurveLaws.{slack_of, IsRounded}
-use Rattle.sdm_laws.proofs.Ways.{IsPositive, IsEven}
-use Rattle.sdm_laws.proofs.Arcs.{IsPastBy, past_more, past_back, past_forward, arc_back-is, arc_forward-is}
+use Rattle.sdm_laws.proofs.Energy.{IsPositive, IsEven}
+use Rattle.sdm_laws.proofs.CommonSteps.{IsPastBy, past_more}
+use Rattle.sdm_laws.proofs.Arcs.{past_back, past_forward, arc_back-is, arc_forward-is}
 use Rattle.sdm_laws.proofs.BandSteps.{climb_skip, climb_stop, climb_on, descend_skip, descend_stop, descend_on, place_up, place_down}
 
--- rounding down adds less than one step
+-- the slopes of every band are above 0, and none is above `k` times another of its band
+pub record AreFair (on : Slopes) (k : ℕ) : Type 0 where
+  pub positive : (band : ℕ) → band ≤ length on.uppers → IsPositive on band
+  pub even : (band : ℕ) → band ≤ length on.uppers → IsEven on band k
+  pub some : 0 < k
+
+-- usable slopes are even, and so their variation is above 0
+pub usable_fair : (on : Slopes) → IsUsable on → AreFair on (variation (bands_of on.uppers))
+usable_fair on h = record { positive = h.positive; even = h.even; some = first_factor _ _ _ (h.positive 0 (omega arith) (pos 0)) (h.even 0 (omega arith) (pos 0) (pos 0)) }
+  where
+    first_factor : (a k b : ℕ) → 0 < a → a ≤ k * b → 0 < k
+    first_factor a zero b p le = absurd (omega arith)
+    first_factor a (suc k) b p le = omega arith
+
+-- rounding down adds less than a grain
 pub past_floor : (y y' : Fraction) (e : ℕ) → IsPastBy y y' e → IsPastBy y (whole (floor y')) (e + 1)
 past_floor y y' e p =
-    let fl = floor y' in
-    let low : (pos y'.m *ℤ fl) ≤ℤ y'.n = floor_low y'.m y'.n p.right in
-    let high0 = floor_high y'.m y'.n p.right in
-    let high1 = rw scale-+ℤ at high0 in
-    let high : y'.n ≤ℤ (pos y'.m *ℤ fl +ℤ pos y'.m) = omega (arith, ints) in
-    let low_m = simp scales at (scale-≤ y.m _ _ low) in
-    let high_m = simp scales at (scale-≤ y.m _ _ high) in
+    let low : (pos y'.m *ℤ floor y') ≤ℤ y'.n = floor_low y'.m y'.n p.right in
+    let high = rw scale-+ℤ at (floor_high y'.m y'.n p.right) in
     record {
       left = p.left;
       right = omega arith;
-      not_past = scale-≤_cancel y'.m _ _ p.right (simp scales (omega (arith, ints, p.not_past)));
-      near = scale-≤_cancel y'.m _ _ p.right (simp scales (omega (arith, ints, p.near)));
+      not_before = at_most_trans (whole (floor y')) y' y p.right (at_most_in (floor y') y' low) p.not_before;
+      near = at_most_trans y (more y' e) _ p.right p.near (record { crossed = next_grain y'.m y'.n (floor y') e high });
     }
+  where
+    next_grain : (m : ℕ) (n z : ℤ) (e : ℕ) → n <ℤ (pos m *ℤ z +ℤ pos m *ℤ pos 1) → (pos 1 *ℤ (n +ℤ pos (e * m))) ≤ℤ (pos m *ℤ (z +ℤ pos ((e + 1) * 1)))
+    next_grain m n z e lt = rw (scale-+ℤ m z (pos ((e + 1) * 1))) (omega (arith, ints, lt))
 
-pub slack_rises : (k n e e' : ℕ) → e ≤ e' → slack_after k n e ≤ slack_after k n e'
+-- ---- the slack after some bands
+
+slack_rises : (k n e e' : ℕ) → e ≤ e' → slack_after k n e ≤ slack_after k n e'
 slack_rises k zero e e' h = h
 slack_rises k (suc n) e e' h = slack_rises k n (k * e + 1) (k * e' + 1) (omega (arith, mul-le-mul_left k h))
 
-pub slack_above : (k n e : ℕ) → 0 < k → e ≤ slack_after k n e
+slack_above : (k n e : ℕ) → 0 < k → e ≤ slack_after k n e
 slack_above k zero e p = omega arith
 slack_above k (suc n) e p = omega (arith, slack_above k n (k * e + 1) p, mul-le-mul_left e p)
 
-pub slack_longer : (k n n' e : ℕ) → 0 < k → n ≤ n' → slack_after k n e ≤ slack_after k n' e
-slack_longer k zero n' e p le = slack_above k n' e p
-slack_longer k (suc n) zero e p le = absurd (omega arith)
-slack_longer k (suc n) (suc n') e p le = slack_longer k n n' (k * e + 1) p (omega arith)
+-- one band more
+slack_more : (k n e : ℕ) → 0 < k → slack_after k n e ≤ slack_after k n (k * e + 1)
+slack_more k n e p = slack_rises k n e (k * e + 1) (omega (arith, mul-le-mul_left e p))
 
--- the bands up to `top`
-pub record AreFair (on : Slopes) (top k : ℕ) : Type 0 where
-  pub positive : (band : ℕ) → band ≤ top → IsPositive on band
-  pub even : (band : ℕ) → band ≤ top → IsEven on band k
-  pub some : 0 < k
+-- ---- over the bands
 
-back_past : (on : Slopes) (s band top k change : ℕ) (x x' : Fraction) (e : ℕ) → 0 < s → AreFair on top k → band ≤ top → IsPastBy x x' e →
-    IsPastBy (arc_back on s band x change) (arc_back on s band x' change) (k * e)
-back_past on s band top k change x x' e s_pos fair le past =
-    let some = fair.positive band le in
-    past_back on s band k x x' _ _ _ e s_pos some (fair.even band le) past (arc_back-is on s band change x some s_pos past.left) (arc_back-is on s band change x' some s_pos past.right)
+module _ (on : Slopes) (s k : ℕ) (s_pos : 0 < s) (fair : AreFair on k) where
+  pub back_past : (band change : ℕ) (x x' : Fraction) (e : ℕ) → band ≤ length on.uppers → IsPastBy x x' e → IsPastBy (arc_back on s band x change) (arc_back on s band x' change) (k * e)
+  back_past band change x x' e known past =
+      let some = fair.positive band known in
+      past_back on s band k x x' _ _ _ e s_pos some (fair.even band known) past (arc_back-is on s band change x some s_pos past.left) (arc_back-is on s band change x' some s_pos past.right)
 
-forward_past : (on : Slopes) (s band top k change : ℕ) (x x' : Fraction) (e : ℕ) → 0 < s → AreFair on top k → band ≤ top → IsPastBy x x' e →
-    IsPastBy (arc_forward on s band x change) (arc_forward on s band x' change) (k * e)
-forward_past on s band top k change x x' e s_pos fair le past =
-    let some = fair.positive band le in
-    past_forward on s band k x x' _ _ _ e s_pos some (fair.even band le) past (arc_forward-is on s band change x some s_pos past.left) (arc_forward-is on s band change x' some s_pos past.right)
+  pub forward_past : (band change : ℕ) (x x' : Fraction) (e : ℕ) → band ≤ length on.uppers → IsPastBy x x' e → IsPastBy (arc_forward on s band x change) (arc_forward on s band x' change) (k * e)
+  forward_past band change x x' e known past =
+      let some = fair.positive band known in
+      past_forward on s band k x x' _ _ _ e s_pos some (fair.even band known) past (arc_forward-is on s band change x some s_pos past.left) (arc_forward-is on s band change x' some s_pos past.right)
 
--- the stepped places lie before the exact ones by the slack, above the foot
-pub climb_past : (on : Slopes) (s left band top k : ℕ) (x x' : Fraction) (u z e : ℕ) → 0 < s → AreFair on top k → band + left ≤ top → IsPastBy x x' e →
-    IsPastBy (climb as_is on s left band x u z) (whole (floor (climb to_grain on s left band x' u z))) (slack_after k (suc left) e)
-climb_past on s zero band top k x x' u z e s_pos fair le past =
-    past_floor _ _ (k * e) (back_past on s band top k (z - u) x x' e s_pos fair (omega arith) past)
-climb_past on s (suc left) band top k x x' u z e s_pos fair le past =
-    let here : band ≤ top = omega arith in
-    let next : (band + 1) + left ≤ top = omega arith in
-    let some = fair.some in
-    elim (cases_lt u (upper_square on s band)) [
-      | inr ge ↦ rw (climb_skip as_is on s left band x u z ge, climb_skip to_grain on s left band x' u z ge)
-          (past_more _ _ _ _ (climb_past on s left (band + 1) top k x x' u z e s_pos fair next past) (slack_rises k (suc left) e (k * e + 1) (omega (arith, mul-le-mul_left e some))))
-      | inl lt ↦ elim (cases_lt (upper_square on s band) z) [
-        | inr below ↦ rw (climb_stop as_is on s left band x u z lt below, climb_stop to_grain on s left band x' u z lt below)
-            (past_more _ _ _ _ (past_floor _ _ (k * e) (back_past on s band top k (z - u) x x' e s_pos fair here past)) (slack_above k (suc left) (k * e + 1) some))
-        | inl further ↦ rw (climb_on as_is on s left band x u z lt further, climb_on to_grain on s left band x' u z lt further)
-            (climb_past on s left (band + 1) top k _ _ (upper_square on s band) z (k * e + 1) s_pos fair next
-            (past_floor _ _ (k * e) (back_past on s band top k (upper_square on s band - u) x x' e s_pos fair here past)))
+  -- back through the bands
+  climb_past : (left band : ℕ) (x x' : Fraction) (u z e : ℕ) → band + left ≤ length on.uppers → IsPastBy x x' e →
+      IsPastBy (climb as_is on s left band x u z) (whole (floor (climb to_grain on s left band x' u z))) (slack_after k (suc left) e)
+  climb_past zero band x x' u z e known past = past_floor _ _ (k * e) (back_past band (z - u) x x' e (omega arith) past)
+  climb_past (suc left) band x x' u z e known past =
+      let border = upper_square on s band in
+      let here : band ≤ length on.uppers = omega arith in
+      let next : (band + 1) + left ≤ length on.uppers = omega arith in
+      elim (cases_lt u border) [
+        | inr ge ↦ rw (climb_skip as_is on s left band x u z ge, climb_skip to_grain on s left band x' u z ge)
+            (past_more _ _ _ _ (climb_past left (band + 1) x x' u z e next past) (slack_more k (suc left) e fair.some))
+        | inl lt ↦ elim (cases_lt border z) [
+          | inr below ↦ rw (climb_stop as_is on s left band x u z lt below, climb_stop to_grain on s left band x' u z lt below)
+              (past_more _ _ _ _ (past_floor _ _ (k * e) (back_past band (z - u) x x' e here past)) (slack_above k (suc left) (k * e + 1) fair.some))
+          | inl further ↦ rw (climb_on as_is on s left band x u z lt further, climb_on to_grain on s left band x' u z lt further)
+              (climb_past left (band + 1) _ _ border z (k * e + 1) next (past_floor _ _ (k * e) (back_past band (border - u) x x' e here past)))
+        ]
       ]
-    ]
 
--- and below it
-pub descend_past : (on : Slopes) (s band top k : ℕ) (x x' : Fraction) (u z e : ℕ) → 0 < s → AreFair on top k → band ≤ top → IsPastBy x x' e →
-    IsPastBy (descend as_is on s band x u z) (whole (floor (descend to_grain on s band x' u z))) (slack_after k (suc band) e)
-descend_past on s zero top k x x' u z e s_pos fair le past =
-    past_floor _ _ (k * e) (forward_past on s zero top k (u - z) x x' e s_pos fair le past)
-descend_past on s (suc band) top k x x' u z e s_pos fair le past =
-    let next : band ≤ top = omega arith in
-    let some = fair.some in
-    elim (cases_lt (upper_square on s band) u) [
-      | inr ge ↦ rw (descend_skip as_is on s band x u z ge, descend_skip to_grain on s band x' u z ge)
-          (past_more _ _ _ _ (descend_past on s band top k x x' u z e s_pos fair next past) (slack_rises k (suc band) e (k * e + 1) (omega (arith, mul-le-mul_left e some))))
-      | inl lt ↦ elim (cases_lt z (upper_square on s band)) [
-        | inr above ↦ rw (descend_stop as_is on s band x u z lt above, descend_stop to_grain on s band x' u z lt above)
-            (past_more _ _ _ _ (past_floor _ _ (k * e) (forward_past on s (suc band) top k (u - z) x x' e s_pos fair le past)) (slack_above k (suc band) (k * e + 1) some))
-        | inl further ↦ rw (descend_on as_is on s band x u z lt further, descend_on to_grain on s band x' u z lt further)
-            (descend_past on s band top k _ _ (upper_square on s band) z (k * e + 1) s_pos fair next
-            (past_floor _ _ (k * e) (forward_past on s (suc band) top k (u - upper_square on s band) x x' e s_pos fair le past)))
+  -- and forward
+  descend_past : (band : ℕ) (x x' : Fraction) (u z e : ℕ) → band ≤ length on.uppers → IsPastBy x x' e →
+      IsPastBy (descend as_is on s band x u z) (whole (floor (descend to_grain on s band x' u z))) (slack_after k (suc band) e)
+  descend_past zero x x' u z e known past = past_floor _ _ (k * e) (forward_past zero (u - z) x x' e known past)
+  descend_past (suc band) x x' u z e known past =
+      let border = upper_square on s band in
+      let next : band ≤ length on.uppers = omega arith in
+      elim (cases_lt border u) [
+        | inr ge ↦ rw (descend_skip as_is on s band x u z ge, descend_skip to_grain on s band x' u z ge)
+            (past_more _ _ _ _ (descend_past band x x' u z e next past) (slack_more k (suc band) e fair.some))
+        | inl lt ↦ elim (cases_lt z border) [
+          | inr above ↦ rw (descend_stop as_is on s band x u z lt above, descend_stop to_grain on s band x' u z lt above)
+              (past_more _ _ _ _ (past_floor _ _ (k * e) (forward_past (suc band) (u - z) x x' e known past)) (slack_above k (suc band) (k * e + 1) fair.some))
+          | inl further ↦ rw (descend_on as_is on s band x u z lt further, descend_on to_grain on s band x' u z lt further)
+              (descend_past band _ _ border z (k * e + 1) next (past_floor _ _ (k * e) (forward_past (suc band) (u - border) x x' e known past)))
+        ]
       ]
-    ]
 
-itself : (z : ℤ) → IsPastBy (whole z) (whole z) 0
-itself z = record { left = omega arith; right = omega arith; not_past = omega (arith, ints); near = omega (arith, ints) }
+  -- from the foot
+  itself : (x : Fraction) → 0 < x.m → IsPastBy x x 0
+  itself x x_pos = record { left = x_pos; right = x_pos; not_before = at_most_refl x; near = record { crossed = no_more x.m x.n } }
+    where
+      no_more : (m : ℕ) (n : ℤ) → (pos m *ℤ n) ≤ℤ (pos m *ℤ (n +ℤ pos (0 * m)))
+      no_more m n = scale-≤ m n (n +ℤ pos (0 * m)) (omega (arith, ints))
 
--- usable slopes are even only where the variation is above 0
-pub fair : (on : Slopes) → IsUsable on → AreFair on (length on.uppers) (variation (bands_of on.uppers))
-fair on h = record { positive = h.positive; even = h.even; some = factor_above _ _ _ (h.positive 0 (omega arith) (pos 0)) (h.even 0 (omega arith) (pos 0) (pos 0)) }
-  where
-    factor_above : (a k b : ℕ) → 0 < a → a ≤ k * b → 0 < k
-    factor_above a zero b p le = absurd (omega arith)
-    factor_above a (suc k) b p le = omega arith
-
-place_past : (on : Slopes) (f : ℤ) (w z : ℕ) → IsUsable on →
-    IsPastBy (place_at as_is on 1 f w z) (whole (floor (place_at to_grain on 1 f w z))) (slack_of (bands_of on.uppers))
-place_past on f w z h =
-    let n = length on.uppers in
-    let k = variation (bands_of on.uppers) in
-    elim (cases_lt z (1 * (w * w))) [
-      | inr le ↦ rw (place_up as_is on 1 f w z le, place_up to_grain on 1 f w z le) (climb_past on 1 n 0 n k _ _ (1 * (w * w)) z 0 (omega arith) (fair on h) (omega arith) (itself (pos 1 *ℤ f)))
-      | inl lt ↦ rw (place_down as_is on 1 f w z lt, place_down to_grain on 1 f w z lt) (descend_past on 1 n n k _ _ (1 * (w * w)) z 0 (omega arith) (fair on h) (omega arith) (itself (pos 1 *ℤ f)))
-    ]
-
-past_early : (z : ℤ) (x : Fraction) (e e' : ℕ) → IsPastBy x (whole z) e → e ≤ e' → IsEarlyFor (record { at = z; slack = e' }) x
-past_early z x e e' past le =
-    let p = past_more x (whole z) e e' past le in
-    record { positive = p.left; not_past = record { crossed = p.not_past }; near = record { crossed = rw scale-+ℤ (let n = p.near in omega (arith, ints)) } }
+  place_past : (f : ℤ) (w z : ℕ) → IsPastBy (place_at as_is on s f w z) (whole (floor (place_at to_grain on s f w z))) (slack_after k (bands_of on.uppers) 0)
+  place_past f w z =
+      let n = length on.uppers in
+      let foot = whole (pos s *ℤ f) in
+      let u = s * (w * w) in
+      elim (cases_lt z u) [
+        | inr le ↦ rw (place_up as_is on s f w z le, place_up to_grain on s f w z le) (climb_past n 0 foot foot u z 0 (omega arith) (itself foot (omega arith)))
+        | inl lt ↦ rw (place_down as_is on s f w z lt, place_down to_grain on s f w z lt) (descend_past n foot foot u z 0 (omega arith) (itself foot (omega arith)))
+      ]
 
 -- ---- the numbers
 
@@ -145,17 +143,23 @@ at_most_greatest f k (suc n) le =
       | inr ge ↦ (let h = at_most_greatest f k n ge in omega arith)
     ]
 
--- over all numbers of bands `most_slack` is the most; here alone the numbers matter
+-- over all numbers of bands `most_slack` is the most: here alone the numbers matter
 greatest_slack : greatest slack_of most_bands ≡ most_slack
 unfolding greatest
 greatest_slack = refl
 
 pub slack_at_most : (bands : ℕ) → bands ≤ most_bands → slack_of bands ≤ most_slack
-slack_at_most bands le = let h = at_most_greatest slack_of bands most_bands le in rw (sym greatest_slack) h
+slack_at_most bands le = rw (sym greatest_slack) (at_most_greatest slack_of bands most_bands le)
+
+early_of_past : (z : ℤ) (x : Fraction) (e e' : ℕ) → IsPastBy x (whole z) e → e ≤ e' → IsEarlyFor (record { at = z; slack = e' }) x
+early_of_past z x e e' past le =
+    let p = past_more x (whole z) e e' past le in
+    let one : e' * 1 ≡ e' = omega arith in
+    record { positive = p.left; not_past = p.not_before; near = rw one at p.near }
 
 pub rounding : (on : Slopes) (f : ℤ) (w v : ℕ) → IsUsable on → IsRounded on f w v
 unfolding exact exact_at stepped
 rounding on f w v h =
-    let past = place_past on f w (v * v) h in
+    let past = place_past on 1 (variation (bands_of on.uppers)) (omega arith) (usable_fair on h) f w (v * v) in
     let few = slack_at_most (bands_of on.uppers) h.few in
-    record { by_bands = past_early _ _ _ _ past (omega arith); bounded = few; at_most = past_early _ _ _ most_slack past few; small = omega arith }
+    record { early = early_of_past _ _ _ _ past (omega arith); bounded = few; early_at_most = early_of_past _ _ _ most_slack past few; fine = omega arith }

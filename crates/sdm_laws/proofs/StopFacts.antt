@@ -10,13 +10,12 @@ use Rattle.sdm_rules.specs.declared.motions.Point.{Point}
 use Rattle.sdm_rules.specs.Slopes.{Slopes, IsUsable}
 use Rattle.sdm_rules.specs.Curves.{exact_at}
 use Rattle.sdm_rules.specs.Motion.{IsBraking}
-use Rattle.sdm_laws.proofs.Braking.{IsWithin}
-use Rattle.sdm_laws.proofs.CurveOrder.{exact_pos, exact_falls}
+use Rattle.sdm_laws.specs.MotionLaws.{IsBounded, IsWithin}
+use Rattle.sdm_laws.proofs.CurveOrder.{exact_positive, exact_falls}
 use Rattle.sdm_laws.proofs.CurveNearness.{scaled_within}
-use Rattle.sdm_laws.proofs.SlicesLaws.{IsWithinBounds}
 
 pub within_first : (on : Slopes) → IsUsable on → (s : ℕ) (f : ℤ) (w v d : ℕ) (front p : ℤ) (x : Point) → 0 < s * s →
-    IsAtMost (whole (front +ℤ pos d)) (exact_at on 1 f w (v * v)) → p ≤ℤ (pos (s * s) *ℤ front) → IsWithinBounds (p +ℤ pos (s * s * d)) (s * v) x → IsWithin on (s * s) f w x
+    IsAtMost (whole (front +ℤ pos d)) (exact_at on 1 f w (v * v)) → p ≤ℤ (pos (s * s) *ℤ front) → IsBounded (p +ℤ pos (s * s * d)) (s * v) x → IsWithin on (s * s) f w x
 within_first on usable s f w v d front p x pos_m h begins b =
     let m = s * s in
     let y = exact_at on m f w (m * (v * v)) in
@@ -26,7 +25,7 @@ within_first on usable s f w v d front p x pos_m h begins b =
     let two : IsAtMost (whole (pos m *ℤ (front +ℤ pos d))) y = scaled_within on usable m f w (v * v) (front +ℤ pos d) pos_m h in
     let square : x.square ≤ m * (v * v) = (let k = b.square in omega arith) in
     let three : IsAtMost y (exact_at on m f w x.square) = exact_falls on m f w x.square (m * (v * v)) usable pos_m square in
-    at_most_trans (whole x.place) y (exact_at on m f w x.square) (exact_pos on m f w (m * (v * v)) usable pos_m)
+    at_most_trans (whole x.place) y (exact_at on m f w x.square) (exact_positive on m f w (m * (v * v)) usable pos_m)
     (at_most_trans (whole x.place) (whole (pos m *ℤ (front +ℤ pos d))) y (omega arith) one two) three
 
 pub slower : (on : Slopes) (m b : ℕ) (x : Point) (ys : List Point) → IsBraking on m x ys → x.square ≤ b → AllByRecursion (λ y. y.square ≤ b) ys

@@ -4,7 +4,8 @@
 use Rattle.std.proofs.Common.{◌≡◌, ℕ, ℤ, pos, neg_ℤ, Bool, true, false, ◌||◌, ◌&&◌, not, nat_le, List, [], ◌∷◌, ◌++◌, ◌<◌, ◌≤◌, ◌*◌, ◌+ℤ◌, ◌*ℤ◌, ◌≤ℤ◌, suc, zero, refl, sym, subst, arith, ◌∙◌, inl, inr}
 use Rattle.std.proofs.lemmas.Int.{ints, by_lt_z}
 use Rattle.std.proofs.lemmas.Bool.{true≢false, false≢true, and_parts, not-true, leb-true}
-use Rattle.std.proofs.lemmas.List.Elements.{All-from_recursion, recursion_from_All, All-append}
+use Rattle.std.proofs.lemmas.List.Elements.{All-from_recursion}
+use Rattle.std.proofs.lemmas.Nat.{mul-le}
 use Rattle.std.proofs.Math.Nat.{mul-le-mul_left}
 use Rattle.std.specs.Prelude.{IsTrue, Contains, is_some, ◌⊎◌, ◌≢◌}
 use Rattle.std.specs.List.{AllByRecursion, list_all}
@@ -31,14 +32,13 @@ use Rattle.sdm_rules.specs.Reaction.{start_of}
 use Rattle.sdm_rules.specs.Limits.{computed, limits_of, limits_of_kind, v_bec_for, d_bec_for}
 use Rattle.sdm_rules.specs.Triggers.{is_past}
 use Rattle.sdm_rules.specs.Supervision.{Supervision, situation_of, profile_of, row_of, row_in, is_covered_in, is_covered_for, is_met_by_speed}
-use Rattle.sdm_rules.specs.Stop.{IsMotionOn, StopsBy, SlowsTo, StopsBySvl, MeetsTarget, IsSpeedTarget, IsSafe}
-use Rattle.sdm_laws.specs.CurveLaws.{IsHeld}
+use Rattle.sdm_rules.specs.Stop.{IsMotionOn, StopsBySvl, MeetsTarget, IsSpeedTarget, IsSafe}
+use Rattle.sdm_laws.specs.MotionLaws.{IsBounded, IsHeld}
 use Rattle.sdm_laws.proofs.Nearness.{int_lt_in}
 use Rattle.sdm_laws.proofs.CurveNearness.{near_on}
-use Rattle.sdm_laws.proofs.Braking.{within_held, braking}
+use Rattle.sdm_laws.proofs.Braking.{within_held, each_held}
 use Rattle.sdm_laws.proofs.MachineOrder.{AreUsable}
-use Rattle.sdm_laws.proofs.SlicesLaws.{IsWithinBounds, square-≤}
-use Rattle.sdm_laws.proofs.MotionLaws.{motion_within}
+use Rattle.sdm_laws.proofs.Reaction.{each_bounded}
 use Rattle.sdm_laws.proofs.StopFacts.{within_first, slower}
 
 -- ---- lists
@@ -91,8 +91,8 @@ module _ (d : LineData) (usable : IsUsable (slopes_of Safe d)) (r : OdometerRead
   pos_m = let h = m.0 in omega (arith, mul-le-mul_left s h)
 
   -- the ends of slices and the first braking point are within D_bec and V_bec
-  bounds : AllByRecursion (IsWithinBounds (p +ℤ pos (s * s * d_bec_for d r t)) (s * v_bec_for d r t)) (slice_ends p v xs ++ first ∷ [])
-  bounds = motion_within s (start_of d r) (slopes_of Safe d) (target_speed t) p v xs first more m.1.motion m.1.speed
+  bounds : AllByRecursion (IsBounded (p +ℤ pos (s * s * d_bec_for d r t)) (s * v_bec_for d r t)) (slice_ends p v xs ++ first ∷ [])
+  bounds = each_bounded s (start_of d r) (slopes_of Safe d) (target_speed t) p v xs first more m.1.motion m.1.speed
 
   -- where the front end is at or before the EBI on a curve from the target, the whole motion is held by that curve
   held_by_curve : is_past 0 r.max (less (computed (slopes_of Safe d) t.place (foot_speed_of t) (v_bec_for d r t)) (d_bec_for d r t)) ≡ false →
@@ -101,12 +101,12 @@ module _ (d : LineData) (usable : IsUsable (slopes_of Safe d)) (r : OdometerRead
       let on = slopes_of Safe d in
       let w = foot_speed_of t in
       let H : Point → Type 0 = IsHeld on (s * s) t.place w in
-      let B : Point → Type 0 = IsWithinBounds (p +ℤ pos (s * s * d_bec_for d r t)) (s * v_bec_for d r t) in
+      let B : Point → Type 0 = IsBounded (p +ℤ pos (s * s * d_bec_for d r t)) (s * v_bec_for d r t) in
       let h = not_past on usable t.place w (v_bec_for d r t) (d_bec_for d r t) r.max e in
       let held : (y : Point) → B y → H y = λ y b. within_held on (s * s) t.place w y usable pos_m (within_first on usable s t.place w (v_bec_for d r t) (d_bec_for d r t) r.max p y pos_m h m.1.place b) in
       let split = all_split B (slice_ends p v xs) (first ∷ []) bounds in
       let begins = held first split.1.0 in
-      all_join H (slice_ends p v xs) (first ∷ more) (each B H held _ split.0) (braking on (s * s) t.place w first more usable pos_m m.1.motion.braking begins.within)
+      all_join H (slice_ends p v xs) (first ∷ more) (each B H held _ split.0) (each_held on (s * s) t.place w first more usable pos_m m.1.motion.braking begins.within)
 
   -- where V_bec is at most the foot speed, the train is never faster
   never_faster : v_bec_for d r t ≤ foot_speed_of t → AllByRecursion (KeepsTo s t.place (foot_speed_of t)) (slice_ends p v xs ++ first ∷ more)
@@ -114,9 +114,9 @@ module _ (d : LineData) (usable : IsUsable (slopes_of Safe d)) (r : OdometerRead
       let bec = v_bec_for d r t in
       let w = foot_speed_of t in
       let K : Point → Type 0 = KeepsTo s t.place w in
-      let B : Point → Type 0 = IsWithinBounds (p +ℤ pos (s * s * d_bec_for d r t)) (s * bec) in
+      let B : Point → Type 0 = IsBounded (p +ℤ pos (s * s * d_bec_for d r t)) (s * bec) in
       let split = all_split B (slice_ends p v xs) (first ∷ []) bounds in
-      let top : s * bec * (s * bec) ≤ s * s * (w * w) = (let k = square-≤ bec w le in omega (arith, mul-le-mul_left (s * s) k)) in
+      let top : s * bec * (s * bec) ≤ s * s * (w * w) = (let k = mul-le bec bec w w le le in omega (arith, mul-le-mul_left (s * s) k)) in
       let slow : (y : Point) → B y → K y = λ y b past. (let h = b.square in omega arith) in
       let b1 = split.1.0.square in
       let rest = each (λ y. y.square ≤ s * s * (w * w)) K (λ y k past. k) more (slower (slopes_of Safe d) (s * s) (s * s * (w * w)) first more m.1.motion.braking (omega arith)) in

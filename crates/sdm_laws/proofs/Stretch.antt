@@ -1,25 +1,34 @@
--- The law of one stretch: what brakes at least as the slopes of its way does not pass the curve.
-use Rattle.std.proofs.Common.{◌≡◌, ℕ, ℤ, pos, ◌+◌, ◌-◌, ◌*◌, ◌<◌, ◌≤◌, ◌+ℤ◌, ◌*ℤ◌, ◌≤ℤ◌, ◌<ℤ◌, ap, arith, refl, sym, ◌∙◌, inl, inr}
+-- The law of one stretch. Were the train past the curve's place at the end, the curve would lie between its two places on
+-- the whole way, where no slope is above its own. So the curve would need at least as long a way for the same change of
+-- the square, and the train could not be past it.
+use Rattle.std.proofs.Common.{◌≡◌, ℕ, ℤ, pos, ◌+◌, ◌-◌, ◌*◌, ◌<◌, ◌≤◌, ◌+ℤ◌, ◌*ℤ◌, ◌≤ℤ◌, ap, arith, ◌∙◌, inl, inr}
 use Rattle.std.proofs.lemmas.Int.{ints, by_lt_z}
 use Rattle.std.proofs.lemmas.Bool.{cases_lt}
-use Rattle.std.proofs.Math.Nat.{mul-le-mul_left}
-use Rattle.sdm_num.specs.Fractions.{Fraction}
-use Rattle.sdm_num.proofs.Ints.{scales, scale-≤, scale-+ℤ, scale-≤_cancel}
-use Rattle.sdm_num.proofs.Floors.{floor_low, floor_high, scale-<_cancel}
-use Rattle.sdm_num.proofs.Order.{scale-<}
+use Rattle.std.proofs.Math.Nat.{mul-le-mul_left, mul-pos}
 use Rattle.sdm_num.specs.Units.{centimetre}
-use Rattle.sdm_rules.specs.Slopes.{Slopes}
-use Rattle.sdm_rules.specs.Curves.{cell_at, cell_start, grain_energy}
-use Rattle.sdm_rules.specs.Motion.{IsInBand, HasPart, BrakesAtLeast}
+use Rattle.sdm_num.specs.Fractions.{Fraction, IsAtMost, IsBefore, whole}
+use Rattle.sdm_num.proofs.Ints.{scales, scale-≤, scale-+ℤ, scale-≤_cancel}
+use Rattle.sdm_num.proofs.Floors.{scale-<_cancel}
+use Rattle.sdm_num.proofs.Order.{at_most_trans, at_most_before, at_most_in, at_most_out}
+use Rattle.sdm_rules.specs.declared.motions.Point.{Point}
+use Rattle.sdm_rules.specs.Slopes.{Slopes, IsUsable}
+use Rattle.sdm_rules.specs.Curves.{cell_at, cell_start, grain_energy, exact_at}
+use Rattle.sdm_rules.specs.Motion.{HasPart, BrakesAtLeast}
 use Rattle.sdm_laws.specs.Energy.{energy}
+use Rattle.sdm_laws.specs.MotionLaws.{IsSteepest, IsWithin}
 use Rattle.sdm_laws.proofs.Totals.{total_at_most}
-use Rattle.sdm_laws.proofs.Energy.{start_finer, energy_at_least}
-use Rattle.sdm_laws.proofs.Arcs.{Arc, above, factor_left, arc_right}
-use Rattle.sdm_laws.proofs.CurvePieces.{Curve, arrived, along}
+use Rattle.sdm_laws.proofs.Cells.{cell_low, cell_high, start_finer}
+use Rattle.sdm_laws.proofs.Energy.{energy_at_least}
+use Rattle.sdm_laws.proofs.CommonSteps.{factor_left, steps_of_at_most, steps_of_before}
+use Rattle.sdm_laws.proofs.Arcs.{Arc, arc_to}
+use Rattle.sdm_laws.proofs.Chains.{Chain, arrived, along, arc_at_most, chain_falls, chain_from, chain_to, chain_at_most}
+use Rattle.sdm_laws.proofs.CurveChains.{ArePositive, exact_chain}
 
--- `x` is at least `c / (27 * a)` past `y`
-pub record IsApart (a c : ℕ) (y x : Fraction) : Type 0 where
-  pub apart : (pos ((27 * a) * x.m) *ℤ y.n +ℤ pos (c * (y.m * x.m))) ≤ℤ (pos ((27 * a) * y.m) *ℤ x.n)
+-- ---- how long a curve's way is at least
+
+-- `x` is at least `c / (27 * a)` past `y`: the way that the slope `a` needs for the energy `c`
+record IsApart (a c : ℕ) (y x : Fraction) : Type 0 where
+  apart : (pos ((27 * a) * x.m) *ℤ y.n +ℤ pos (c * (y.m * x.m))) ≤ℤ (pos ((27 * a) * y.m) *ℤ x.n)
 
 apart_trans : (a c c' : ℕ) (y x z : Fraction) → 0 < x.m → IsApart a c y x → IsApart a c' x z → IsApart a (c + c') y z
 apart_trans a c c' y x z p h k =
@@ -27,123 +36,100 @@ apart_trans a c c' y x z p h k =
     let two = simp scales at (scale-≤ y.m _ _ k.apart) in
     record { apart = scale-≤_cancel x.m _ _ p (simp scales (omega (arith, ints, one, two))) }
 
-nn : (t t' c y x n : ℕ) → n ≡ t' * y → n ≡ t * x → (t * t') * (c * (y * x)) ≡ c * (n * n)
-nn t t' c y x n p q = let e : n * n ≡ (t * x) * (t' * y) = ap (λ (z : ℕ). z * n) q ∙ ap (λ (z : ℕ). (t * x) * z) p in omega (arith, ap (λ (z : ℕ). c * z) e)
+apart_none : (a c : ℕ) (x : Fraction) → c ≡ 0 → IsApart a c x x
+apart_none a c x e = record { apart = rw e (omega (arith, ints)) }
 
--- an arc whose slopes are at most `a`
+-- an arc in whose cells no slope is above `a`
 arc_apart : (on : Slopes) (s band a c : ℕ) (y x : Fraction) → (h : Arc on s band y x c) →
-    ((k : ℕ) → k < h.d → on.slope band (cell_at (s * h.n) (pos h.t' *ℤ y.n +ℤ pos k)) ≤ a) → IsApart a c y x
+    ((k : ℕ) → k < h.is.d → on.slope band (cell_at (s * h.n) (pos h.is.from *ℤ y.n +ℤ pos k)) ≤ a) → IsApart a c y x
 arc_apart on s band a c y x h low =
-    let most : energy on band (s * h.n) (pos h.t' *ℤ y.n) h.d ≤ a * h.d = total_at_most (λ k. on.slope band (cell_at (s * h.n) (pos h.t' *ℤ y.n +ℤ pos k))) a h.d low in
-    let used = h.is.used in
-    let most' : h.n * c ≤ 27 * (a * h.d) = omega arith in
     let n = h.n in
-    let t = h.t in
-    let t' = h.t' in
-    let e1 : (t * t') * ((27 * a) * x.m) ≡ ((27 * a) * n) * t' = rw h.right (omega arith) in
-    let e2 : (t * t') * (c * (y.m * x.m)) ≡ c * (n * n) = nn t t' c y.m x.m n h.left h.right in
-    let e3 : (t * t') * ((27 * a) * y.m) ≡ ((27 * a) * n) * t = rw h.left (omega arith) in
-    let fine = simp scales at (ap (λ (z : ℤ). pos ((27 * a) * n) *ℤ z) h.is.way) in
-    let enough : c * (n * n) ≤ ((27 * a) * n) * h.d = omega (arith, mul-le-mul_left n most') in
-    record { apart = scale-≤_cancel (t * t') _ _ (above t t' (t * t') (factor_left n t x.m h.positive h.right) (factor_left n t' y.m h.positive h.left) (omega arith)) (simp scales (rw (e1, e2, e3) (omega (arith, ints, fine, enough)))) }
+    let from = h.is.from in
+    let to = h.is.to in
+    let d = h.is.d in
+    let most : energy on band (s * n) (pos from *ℤ y.n) d ≤ a * d = total_at_most (λ k. on.slope band (cell_at (s * n) (pos from *ℤ y.n +ℤ pos k))) a d low in
+    let used = h.is.is.used in
+    let enough : c * (n * n) ≤ ((27 * a) * n) * d = let e : n * c ≤ 27 * (a * d) = omega arith in omega (arith, mul-le-mul_left n e) in
+    let way = simp scales at (ap (λ (z : ℤ). pos ((27 * a) * n) *ℤ z) h.is.is.way) in
+    let both_pos : 0 < to * from = mul-pos (factor_left n to x.m h.is.positive h.is.to_is) (factor_left n from y.m h.is.positive h.is.from_is) in
+    let y_side : (to * from) * ((27 * a) * x.m) ≡ ((27 * a) * n) * from = rw h.is.to_is (omega arith) in
+    let x_side : (to * from) * ((27 * a) * y.m) ≡ ((27 * a) * n) * to = rw h.is.from_is (omega arith) in
+    let between : (to * from) * (c * (y.m * x.m)) ≡ c * (n * n) = squared n from to c y.m x.m h.is.from_is h.is.to_is in
+    record { apart = scale-≤_cancel (to * from) _ _ both_pos (simp scales (rw (y_side, between, x_side) (omega (arith, ints, way, enough)))) }
+  where
+    squared : (n from to c y x : ℕ) → n ≡ from * y → n ≡ to * x → (to * from) * (c * (y * x)) ≡ c * (n * n)
+    squared n from to c y x p q =
+        let e : n * n ≡ (to * x) * (from * y) = ap (λ (z : ℕ). z * n) q ∙ ap (λ (z : ℕ). (to * x) * z) p in
+        omega (arith, ap (λ (z : ℕ). c * z) e)
 
--- the last step: `p'` is not past `y'`
-stretch_end : (a c : ℕ) (y y' : Fraction) (p p' : ℤ) → 0 < a → 0 < y.m → IsApart a c y y' → (pos y.m *ℤ p) ≤ℤ y.n → (pos (27 * a) *ℤ p') ≤ℤ (pos (27 * a) *ℤ p +ℤ pos c) → (pos y'.m *ℤ p') ≤ℤ y'.n
-stretch_end a c y y' p p' a_pos m_pos h start brakes =
-    let one = simp scales at (scale-≤ ((27 * a) * y'.m) _ _ start) in
-    let two = simp scales at (scale-≤ (y.m * y'.m) _ _ brakes) in
-    let three = h.apart in
-    let f_pos : 0 < (27 * a) * y.m = omega (arith, mul-le-mul_left (27 * a) m_pos) in
-    scale-≤_cancel ((27 * a) * y.m) _ _ f_pos (simp scales (omega (arith, ints, one, two, three)))
-
-arc_before : (on : Slopes) (s band c : ℕ) (y x : Fraction) (p : ℤ) → Arc on s band y x c → x.n <ℤ (pos x.m *ℤ p) → y.n <ℤ (pos y.m *ℤ p)
-arc_before on s band c y x p h lt =
-    let one = simp scales at (scale-< h.t _ _ (factor_left h.n h.t x.m h.positive h.right) lt) in
-    let way = h.is.way in
-    let e : h.t * x.m ≡ h.t' * y.m = sym h.right ∙ h.left in
-    let two = rw e at one in
-    scale-<_cancel h.t' _ _ (simp scales (omega (arith, ints, two, way)))
-
-arc_past : (on : Slopes) (s band c : ℕ) (y x : Fraction) (p : ℤ) → Arc on s band y x c → (pos y.m *ℤ p) ≤ℤ y.n → (pos x.m *ℤ p) ≤ℤ x.n
-arc_past on s band c y x p h le =
-    let one = simp scales at (scale-≤ h.t' _ _ le) in
-    let way = h.is.way in
-    let e : h.t' * y.m ≡ h.t * x.m = sym h.left ∙ h.right in
-    let two = rw e at one in
-    scale-≤_cancel h.t _ _ (factor_left h.n h.t x.m h.positive h.right) (simp scales (omega (arith, ints, two, way)))
-
-same_before : (y x : Fraction) (p : ℤ) → 0 < x.m → 0 < y.m → (pos x.m *ℤ y.n) ≡ (pos y.m *ℤ x.n) → x.n <ℤ (pos x.m *ℤ p) → y.n <ℤ (pos y.m *ℤ p)
-same_before y x p x_pos y_pos e lt =
-    let one = simp scales at (scale-< y.m _ _ y_pos lt) in
-    scale-<_cancel x.m _ _ (simp scales (omega (arith, ints, one, e)))
-
-same_apart : (a c : ℕ) (y x : Fraction) → (pos x.m *ℤ y.n) ≡ (pos y.m *ℤ x.n) → c ≡ 0 → IsApart a c y x
-same_apart a c y x e z =
-    let one = simp scales at (ap (λ (w : ℤ). pos (27 * a) *ℤ w) e) in
-    record { apart = rw z (omega (arith, ints, one)) }
-
-curve_before : (on : Slopes) (s : ℕ) (y x : Fraction) (u w : ℕ) (p : ℤ) → Curve on s y u x w → x.n <ℤ (pos x.m *ℤ p) → y.n <ℤ (pos y.m *ℤ p)
-curve_before on s _ _ _ _ p (arrived y u y_pos) lt = lt
-curve_before on s _ _ _ _ p (along band y x z u v w some in_u in_v w_le v_le arc rest) lt = arc_before on s band _ y x p arc (curve_before on s x z v w p rest lt)
-
--- the slopes in the bands between the squares and in the cells between the places are at most `a`
-abbrev pub IsSteepest : Slopes → ℕ → ℕ → ℤ → ℕ → ℤ → ℕ → Type 0
-IsSteepest on s a p u p' u' = (band : ℕ) (cell : ℤ) (v v' : ℕ) → IsInBand on s band v → IsInBand on s band v' → u' ≤ v → v < v' → v' ≤ u → HasPart s cell p p' → on.slope band cell ≤ a
+-- ---- the cells of a curve between two places
 
 -- each step of an arc between `p` and `p'` is in a cell that has a part there
-arc_part : (on : Slopes) (s band c : ℕ) (y x : Fraction) (p p' : ℤ) → (h : Arc on s band y x c) → (k : ℕ) → 0 < s → k < h.d → (pos y.m *ℤ p) ≤ℤ y.n → x.n <ℤ (pos x.m *ℤ p') →
-    HasPart s (cell_at (s * h.n) (pos h.t' *ℤ y.n +ℤ pos k)) p p'
-arc_part on s band c y x p p' h k s_pos l le lt =
+arc_part : (on : Slopes) (s band c : ℕ) (y x : Fraction) (p p' : ℤ) (h : Arc on s band y x c) (k : ℕ) → 0 < s → k < h.is.d → IsAtMost (whole p) y → IsBefore x (whole p') →
+    HasPart s (cell_at (s * h.n) (pos h.is.from *ℤ y.n +ℤ pos k)) p p'
+arc_part on s band c y x p p' h k s_pos lt low high =
     let n = h.n in
-    let at = pos h.t' *ℤ y.n +ℤ pos k in
+    let at = pos h.is.from *ℤ y.n +ℤ pos k in
     let cell = cell_at (s * n) at in
-    let sn_pos : 0 < s * n = omega (arith, mul-le-mul_left s h.positive) in
-    let low : (pos ((s * n) * centimetre) *ℤ cell) ≤ℤ at = floor_low ((s * n) * centimetre) at (omega arith) in
-    let high0 = floor_high ((s * n) * centimetre) at (omega arith) in
-    let high = rw scale-+ℤ at high0 in
+    let begins = cell_low (s * n) at (mul-pos s_pos h.is.positive) in
+    let ends = cell_high (s * n) at (mul-pos s_pos h.is.positive) in
     let start : cell_start (s * n) cell ≡ pos n *ℤ cell_start s cell = start_finer n s cell (s * n) (omega arith) in
-    let one = simp scales at (scale-< h.t _ _ (factor_left n h.t x.m h.positive h.right) lt) in
-    let one' = rw (sym h.right) at one in
-    let two = simp scales at (scale-≤ h.t' _ _ le) in
-    let two' = rw (sym h.left) at two in
-    let way = h.is.way in
-    let long : (s * n) * centimetre ≡ n * (s * centimetre) = omega arith in
+    let width : (s * n) * centimetre ≡ n * (s * centimetre) = omega arith in
+    let way = h.is.is.way in
+    let from : (pos n *ℤ p) ≤ℤ (pos h.is.from *ℤ y.n) = steps_of_at_most n h.is.from n y (whole p) h.is.positive h.is.from_is (omega arith) low in
+    let to = steps_of_before n n h.is.to (whole p') x h.is.positive (omega arith) h.is.to_is high in
     record {
-      apart = scale-<_cancel n _ _ (omega (arith, ints, one', two', way));
-      begins = scale-<_cancel n _ _ (rw (← start) (omega (arith, ints, low, one', way)));
-      ends = scale-<_cancel n _ _ (rw scale-+ℤ (rw (← start) (omega (arith, ints, high, two', long))));
+      apart = scale-<_cancel n _ _ (omega (arith, ints, from, to, way));
+      begins = scale-<_cancel n _ _ (rw (← start) (omega (arith, ints, begins, to, way)));
+      ends = scale-<_cancel n _ _ (rw scale-+ℤ (rw (← start) (omega (arith, ints, ends, from, width))));
     }
 
 -- an arc with a step in it changes the square
-arc_moves : (on : Slopes) (s band : ℕ) (y x : Fraction) (u v k : ℕ) → ((c : ℤ) → 0 < on.slope band c) → (h : Arc on s band y x (grain_energy on (u - v))) → v ≤ u → k < h.d → v < u
-arc_moves on s band y x u v k some h le l =
+arc_moves : (on : Slopes) (s band : ℕ) (y x : Fraction) (u v k : ℕ) → ((c : ℤ) → 0 < on.slope band c) → (h : Arc on s band y x (grain_energy on (u - v))) → v ≤ u → k < h.is.d → v < u
+arc_moves on s band y x u v k some h le lt =
     elim (cases_lt v u) [
-      | inl lt ↦ lt
+      | inl less ↦ less
       | inr ge ↦ absurd (
-          let more = energy_at_least on band (s * h.n) 1 h.d (pos h.t' *ℤ y.n) some in
-          let used = h.is.used in
-          let zero_change : u - v ≡ 0 = omega arith in
-          let zero_energy = rw zero_change at used in
+          let more = energy_at_least on band (s * h.n) 1 h.is.d (pos h.is.from *ℤ y.n) some in
+          let none : u - v ≡ 0 = omega arith in
+          let used = rw none at h.is.is.used in
           omega arith)
     ]
 
-curve_apart : (on : Slopes) (s a : ℕ) (y x : Fraction) (u w : ℕ) (p p' : ℤ) → 0 < s → IsSteepest on s a p u p' w → Curve on s y u x w → (pos y.m *ℤ p) ≤ℤ y.n → x.n <ℤ (pos x.m *ℤ p') → IsApart a (grain_energy on (u - w)) y x
-curve_apart on s a _ _ _ _ p p' s_pos steep (arrived y u y_pos) le lt = same_apart a _ y y refl (let d : u - u ≡ 0 = omega arith in rw d (omega arith))
-curve_apart on s a _ _ _ _ p p' s_pos steep (along band y x z u v w some in_u in_v w_le v_le arc rest) le lt =
-    let x_before : x.n <ℤ (pos x.m *ℤ p') = curve_before on s x z v w p' rest lt in
-    let low : (k : ℕ) → k < arc.d → on.slope band (cell_at (s * arc.n) (pos arc.t' *ℤ y.n +ℤ pos k)) ≤ a =
-    λ k l. steep band (cell_at (s * arc.n) (pos arc.t' *ℤ y.n +ℤ pos k)) v u in_v in_u w_le (arc_moves on s band y x u v k some arc v_le l) (omega arith) (arc_part on s band _ y x p p' arc k s_pos l le x_before) in
-    let one = arc_apart on s band a _ y x arc low in
-    let x_pos = arc_right on s band y x _ arc in
-    let two = curve_apart on s a x z v w p p' s_pos (λ b c v1 v2 i1 i2 l1 l2 l3 h. steep b c v1 v2 i1 i2 l1 l2 (omega arith) h) rest (arc_past on s band _ y x p arc le) lt in
-    let sum : grain_energy on (u - v) + grain_energy on (v - w) ≡ grain_energy on (u - w) =
-    let d : (u - v) + (v - w) ≡ u - w = omega arith in omega (arith, ap (λ (e : ℕ). on.q * e) d) in
-    rw (← sum) (apart_trans a _ _ y x z x_pos one two)
+module _ (on : Slopes) (s a : ℕ) (from to : Point) (s_pos : 0 < s) (positive : ArePositive on) (steep : IsSteepest on s a from to) where
+  -- a curve between both places, for squares between both squares, needs a way at least as long as the slope `a` does
+  chain_apart : (y x : Fraction) (u w : ℕ) → u ≤ from.square → to.square ≤ w → Chain on s y u x w → IsAtMost (whole from.place) y → IsBefore x (whole to.place) → IsApart a (grain_energy on (u - w)) y x
+  chain_apart _ _ _ _ u_le w_ge (arrived y u y_pos) low high = apart_none a _ y (let none : u - u ≡ 0 = omega arith in rw none (omega arith))
+  chain_apart _ _ _ _ u_le w_ge (along band y x z u v w in_u in_v le arc rest) low high =
+      let x_pos = arc_to on s band y x _ arc in
+      let w_le = chain_falls on s x z v w rest in
+      let y_at_most = arc_at_most on s band _ y x arc in
+      let x_before : IsBefore x (whole to.place) = at_most_before x z (whole to.place) x_pos (chain_to on s x z v w rest) (chain_at_most on s x z v w rest) high in
+      let gentle = λ (k : ℕ) (lt : k < arc.is.d).
+      steep band _ (record { low = v; high = u; in_low = in_v; in_high = in_u; from = omega arith; apart = arc_moves on s band y x u v k (positive band in_u.known) arc le lt; to = u_le })
+      (arc_part on s band _ y x from.place to.place arc k s_pos lt low x_before) in
+      let here = arc_apart on s band a _ y x arc gentle in
+      let further = chain_apart x z v w (omega arith) w_ge rest (at_most_trans (whole from.place) y x (chain_from on s y z u w (along band y x z u v w in_u in_v le arc rest)) low y_at_most) high in
+      let sum : grain_energy on (u - v) + grain_energy on (v - w) ≡ grain_energy on (u - w) = let d : (u - v) + (v - w) ≡ u - w = omega arith in omega (arith, ap (λ (e : ℕ). on.q * e) d) in
+      rw (← sum) (apart_trans a _ _ y x z x_pos here further)
 
--- the law of one stretch, for the places `y` and `y'` where the curve has the squares `u` and `u'`
-pub stretch : (on : Slopes) (s a : ℕ) (y y' : Fraction) (u u' : ℕ) (p p' : ℤ) → 0 < s → 0 < a → 0 < y.m → IsSteepest on s a p u p' u' → BrakesAtLeast on a p u p' u' →
-    Curve on s y u y' u' → (pos y.m *ℤ p) ≤ℤ y.n → (pos y'.m *ℤ p') ≤ℤ y'.n
-stretch on s a y y' u u' p p' s_pos a_pos m_pos steep brakes curve start =
-    by_lt_z y'.n (pos y'.m *ℤ p')
-    (λ (lt : y'.n <ℤ (pos y'.m *ℤ p')). stretch_end a (grain_energy on (u - u')) y y' p p' a_pos m_pos (curve_apart on s a y y' u u' p p' s_pos steep curve start lt) start brakes.enough)
-    (λ le. le)
+-- a way that is no longer than the curve's does not pass it
+not_past : (a c : ℕ) (y y' : Fraction) (p p' : ℤ) → 0 < a → 0 < y.m → IsApart a c y y' → IsAtMost (whole p) y → (pos (27 * a) *ℤ p') ≤ℤ (pos (27 * a) *ℤ p +ℤ pos c) → IsAtMost (whole p') y'
+not_past a c y y' p p' a_pos y_pos h low brakes =
+    let one = simp scales at (scale-≤ ((27 * a) * y'.m) _ _ (at_most_out p y low)) in
+    let two = simp scales at (scale-≤ (y.m * y'.m) _ _ brakes) in
+    let three = h.apart in
+    at_most_in p' y' (scale-≤_cancel ((27 * a) * y.m) _ _ (mul-pos (mul-pos (omega arith) a_pos) y_pos) (simp scales (omega (arith, ints, one, two, three))))
+
+pub stretch : (on : Slopes) (m : ℕ) (f : ℤ) (w a : ℕ) (x y : Point) → IsUsable on → 0 < m → 0 < a →
+    IsSteepest on m a x y → BrakesAtLeast on a x.place x.square y.place y.square → IsWithin on m f w x → IsWithin on m f w y
+stretch on m f w a x y usable m_pos a_pos steep brakes within =
+    let from = exact_at on m f w x.square in
+    let to = exact_at on m f w y.square in
+    let chain = exact_chain on m usable.positive m_pos f w y.square x.square brakes.slower in
+    by_lt_z to.n (pos to.m *ℤ y.place)
+    (λ lt.
+    let before : IsBefore to (whole y.place) = record { crossed = omega (arith, ints, lt) } in
+    let apart = chain_apart on m a x y m_pos usable.positive steep from to x.square y.square (omega arith) (omega arith) chain within before in
+    not_past a _ from to x.place y.place a_pos (chain_from on m from to x.square y.square chain) apart within brakes.enough)
+    (λ le. at_most_in y.place to le)

@@ -1,42 +1,67 @@
--- The laws of the curve, as statements.
-use Rattle.std.specs.Prelude.{◌≡◌, ℕ, ℤ, pos, List, ◌∷◌, ◌*◌, ◌<◌, ◌≤◌, ◌*ℤ◌, ◌≤ℤ◌}
-use Rattle.std.specs.List.{AllByRecursion}
+-- The laws of brake curves: what is true of exact and stepped places for any usable slopes, every foot `f` in grains, every
+-- foot speed `w` in notches and every scale `s` (own).
+use Rattle.std.specs.Prelude.{◌≡◌, ℕ, suc, ℤ, pos, neg_ℤ, ◌+◌, ◌-◌, ◌*◌, ◌<◌, ◌≤◌, ◌+ℤ◌, ◌*ℤ◌, length}
 use Rattle.sdm_num.specs.Units.{millimetre}
-use Rattle.sdm_num.specs.Fractions.{IsAtMost, IsBefore, IsSame, times, whole}
+use Rattle.sdm_num.specs.Fractions.{IsBefore, IsSame, floor, times, whole}
 use Rattle.sdm_num.specs.Bounds.{IsEarlyFor}
 use Rattle.sdm_rules.specs.Slopes.{Slopes, IsUsable, bands_of, variation}
-use Rattle.sdm_rules.specs.Curves.{exact_at, exact, stepped, most_slack, slack_after}
-use Rattle.sdm_rules.specs.declared.motions.Point.{Point}
-use Rattle.sdm_rules.specs.Motion.{IsBraking}
+use Rattle.sdm_rules.specs.Curves.{arc_back, arc_forward, grain_energy, upper_square, to_grain, climb, descend, exact_at, exact, stepped, most_slack, slack_after}
+use Rattle.sdm_laws.specs.Energy.{IsKnot, IsKnotPast}
 
--- how early in grains a stepped place is at most, by the number of bands
+-- ---- rounding
+
+-- how many grains a stepped place may lie before the exact one, by the number of bands (own)
 abbrev pub slack_of : ℕ → ℕ
 slack_of bands = slack_after (variation bands) bands 0
 
+-- the stepped place of the speed `v` stands for the exact one, within the slack of the number of bands and within a
+-- millimetre (own)
 pub record IsRounded (on : Slopes) (f : ℤ) (w v : ℕ) : Type 0 where
-  pub by_bands : IsEarlyFor (record { at = stepped on f w v; slack = slack_of (bands_of on.uppers) }) (exact on f w v)
+  pub early : IsEarlyFor (record { at = stepped on f w v; slack = slack_of (bands_of on.uppers) }) (exact on f w v)
   pub bounded : slack_of (bands_of on.uppers) ≤ most_slack
-  pub at_most : IsEarlyFor (record { at = stepped on f w v; slack = most_slack }) (exact on f w v)
-  pub small : most_slack < millimetre
+  pub early_at_most : IsEarlyFor (record { at = stepped on f w v; slack = most_slack }) (exact on f w v)
+  pub fine : most_slack < millimetre
 
--- the stepped place is at most the exact one, and less than a millimetre before it
+-- On usable slopes, for every foot and every speed, the stepped place is at most the exact one, and less than a millimetre
+-- before it (own).
 abbrev pub LawOfRounding : Type 0
 LawOfRounding = (on : Slopes) (f : ℤ) (w v : ℕ) → IsUsable on → IsRounded on f w v
 
--- where the square is greater the place is earlier
+-- ---- exact places
+
+-- On usable slopes every exact place is a fraction (own).
+abbrev pub LawOfFractions : Type 0
+LawOfFractions = (on : Slopes) (s : ℕ) (f : ℤ) (w u : ℕ) → IsUsable on → 0 < s → 0 < (exact_at on s f w u).m
+
+-- On usable slopes the place of a greater square is before that of a less one (own).
 abbrev pub LawOfOrder : Type 0
 LawOfOrder = (on : Slopes) (s : ℕ) (f : ℤ) (w u' u : ℕ) → IsUsable on → 0 < s → u' < u → IsBefore (exact_at on s f w u) (exact_at on s f w u')
 
--- at `k` times the scale, the place of `k` times the square is `k` times the place
+-- On usable slopes, at `k` times the scale, the place of `k` times the square is `k` times the place (own).
 abbrev pub LawOfScale : Type 0
 LawOfScale = (on : Slopes) (s k : ℕ) (f : ℤ) (w u : ℕ) → IsUsable on → 0 < s → 0 < k → IsSame (exact_at on (k * s) f w (k * u)) (times k (exact_at on s f w u))
 
--- at most the exact place of its square; at or past the foot not faster than the foot speed; before a standing foot
-pub record IsHeld (on : Slopes) (s : ℕ) (f : ℤ) (w : ℕ) (x : Point) : Type 0 where
-  pub within : IsAtMost (whole x.place) (exact_at on s f w x.square)
-  pub past : (pos s *ℤ f) ≤ℤ x.place → x.square ≤ s * (w * w)
-  pub standing : w ≡ 0 → x.place ≤ℤ (pos s *ℤ f)
+-- the curve is at its foot at its foot speed (own)
+pub record IsAtFoot (on : Slopes) (f : ℤ) (w : ℕ) : Type 0 where
+  pub exact_foot : (s : ℕ) → exact_at on s f w (s * (w * w)) ≡ whole (pos s *ℤ f)
+  pub stepped_foot : stepped on f w w ≡ f
 
--- what begins within the curve and brakes at least as the slopes of its way stays within it
-abbrev pub LawOfBraking : Type 0
-LawOfBraking = (on : Slopes) (s : ℕ) (f : ℤ) (w : ℕ) (x : Point) (ys : List Point) → IsUsable on → 0 < s → IsBraking on s x ys → IsAtMost (whole x.place) (exact_at on s f w x.square) → AllByRecursion (IsHeld on s f w) (x ∷ ys)
+-- At its foot speed every curve is at its foot, exact and stepped (own).
+abbrev pub LawOfFoot : Type 0
+LawOfFoot = (on : Slopes) (f : ℤ) (w : ℕ) → IsAtFoot on f w
+
+-- ---- knots
+
+-- What the two facts of a knot give: the stepped end of an arc from a whole grain, back and forward; and so the stepped
+-- place goes back from a border of the band to the next, and forward to the one below (own).
+pub record HasKnots (on : Slopes) (band : ℕ) : Type 0 where
+  pub back : (at : ℤ) (d change : ℕ) → IsKnot on band at d (grain_energy on change) → floor (arc_back on 1 band (whole at) change) ≡ at +ℤ neg_ℤ (pos d)
+  pub ahead : (at : ℤ) (d change : ℕ) → IsKnotPast on band at d (grain_energy on change) → floor (arc_forward on 1 band (whole at) change) ≡ at +ℤ pos d
+  pub climbs : (left : ℕ) (at : ℤ) (d u z : ℕ) → u < upper_square on 1 band → upper_square on 1 band < z → IsKnot on band at d (grain_energy on (upper_square on 1 band - u)) →
+      climb to_grain on 1 (suc left) band (whole at) u z ≡ climb to_grain on 1 left (band + 1) (whole (at +ℤ neg_ℤ (pos d))) (upper_square on 1 band) z
+  pub descends : (below : ℕ) (at : ℤ) (d u z : ℕ) → band ≡ suc below → upper_square on 1 below < u → z < upper_square on 1 below → IsKnotPast on band at d (grain_energy on (u - upper_square on 1 below)) →
+      descend to_grain on 1 band (whole at) u z ≡ descend to_grain on 1 below (whole (at +ℤ pos d)) (upper_square on 1 below) z
+
+-- In each band of usable slopes the facts of knots give stepped places (own).
+abbrev pub LawOfKnots : Type 0
+LawOfKnots = (on : Slopes) (band : ℕ) → IsUsable on → band ≤ length on.uppers → HasKnots on band

@@ -1,5 +1,6 @@
 pub mod Energy
 pub mod CurveLaws
+pub mod MotionLaws
 pub mod SupervisionLaws
 pub mod FlatLaws
 pub mod RunLaws

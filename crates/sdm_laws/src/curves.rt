@@ -1,23 +1,35 @@
-//! The laws of brake curves. Each function makes no call and only states its clause.
+//! The laws of brake curves, for any usable slopes, every foot, every foot speed and every scale. Each function makes no
+//! call and only states its law.
 
-ghost use Rattle.sdm_laws.specs.CurveLaws.{LawOfRounding, LawOfOrder, LawOfScale, LawOfBraking};
+ghost use Rattle.sdm_laws.specs.CurveLaws.{LawOfFoot, LawOfFractions, LawOfKnots, LawOfOrder, LawOfRounding, LawOfScale};
 
-/// The stepped place is at most the exact one and less than a millimetre before it.
+/// The stepped place of a speed is never past the exact one, and at most as far before it as the number of bands allows:
+/// less than a millimetre.
 pub fn law_of_rounding()
     ensures { LawOfRounding }
 {}
 
-/// Where the square of the speed is greater the exact place is earlier.
+/// Exact places are fractions: their denominators are above 0.
+pub fn law_of_fractions()
+    ensures { LawOfFractions }
+{}
+
+/// The greater the square of the speed, the earlier the exact place.
 pub fn law_of_order()
     ensures { LawOfOrder }
 {}
 
-/// Exact places at two scales are the same.
+/// At another scale the exact places are the same.
 pub fn law_of_scale()
     ensures { LawOfScale }
 {}
 
-/// What begins within the curve and brakes at least as the slopes of its way stays within it.
-pub fn law_of_braking()
-    ensures { LawOfBraking }
+/// At its foot speed a curve is at its foot.
+pub fn law_of_foot()
+    ensures { LawOfFoot }
+{}
+
+/// The two facts of a knot fix the stepped end of an arc from a whole grain, and so the stepped place from border to border.
+pub fn law_of_knots()
+    ensures { LawOfKnots }
 {}

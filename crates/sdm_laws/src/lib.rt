@@ -1,8 +1,9 @@
 //! The laws of the profile: proofs about its definitions alone. Each main law is the contract of a public function with an
-//! empty body.
+//! empty body. Code crates cite the lemmas below them, in `proofs/`.
 #![tactic(auto)]
 
 pub mod curves;
 pub mod flat;
+pub mod motions;
 pub mod runs;
 pub mod supervision;

@@ -1,5 +1,5 @@
-use Rattle.sdm_laws.proofs.CurveScales.{scaled}
+use Rattle.sdm_laws.proofs.CurveScales.{exact_scaled}
 use Rattle.sdm_laws.proofs.curves.law_of_scale.Goals as goal
 
 pub returns : goal.returns
-returns c = scaled
+returns c = exact_scaled

@@ -1,5 +1,5 @@
 use Rattle.sdm_laws.proofs.Braking.{braking}
-use Rattle.sdm_laws.proofs.curves.law_of_braking.Goals as goal
+use Rattle.sdm_laws.proofs.motions.law_of_braking.Goals as goal
 
 pub returns : goal.returns
 returns c = braking

@@ -1,0 +1,5 @@
+use Rattle.sdm_laws.proofs.CurveOrder.{exact_positive}
+use Rattle.sdm_laws.proofs.curves.law_of_fractions.Goals as goal
+
+pub returns : goal.returns
+returns c = exact_positive

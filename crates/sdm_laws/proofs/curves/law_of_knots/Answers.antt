@@ -1,0 +1,5 @@
+use Rattle.sdm_laws.proofs.Knots.{band_knots}
+use Rattle.sdm_laws.proofs.curves.law_of_knots.Goals as goal
+
+pub returns : goal.returns
+returns c = band_knots

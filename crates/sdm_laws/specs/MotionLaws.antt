@@ -1,0 +1,68 @@
+-- The laws of motions: how far and how fast a train comes at most while it brakes, and before its brakes work. A motion is
+-- a list of inequalities that know nothing of curves (own).
+use Rattle.std.specs.Prelude.{◌≡◌, ℕ, ℤ, pos, List, [], ◌∷◌, ◌++◌, ◌*◌, ◌<◌, ◌≤◌, ◌+ℤ◌, ◌*ℤ◌, ◌≤ℤ◌, All}
+use Rattle.sdm_num.specs.Fractions.{IsAtMost, whole}
+use Rattle.sdm_rules.specs.declared.motions.Point.{Point}
+use Rattle.sdm_rules.specs.declared.motions.Slice.{Slice}
+use Rattle.sdm_rules.specs.declared.motions.Start.{Start}
+use Rattle.sdm_rules.specs.Slopes.{Slopes, IsUsable}
+use Rattle.sdm_rules.specs.Curves.{exact_at}
+use Rattle.sdm_rules.specs.Motion.{IsInBand, HasPart, BrakesAtLeast, IsBraking, IsMotion, slice_ends}
+use Rattle.sdm_rules.specs.Reaction.{build_up_of, v_bec, d_bec}
+
+-- ---- braking, with places in 1/m grain and squares in 1/m squared notch
+
+-- the point is within the curve of the foot `f` and the foot speed `w`: at most at the exact place of its square (own)
+abbrev pub IsWithin : Slopes → ℕ → ℤ → ℕ → Point → Type 0
+IsWithin on m f w x = IsAtMost (whole x.place) (exact_at on m f w x.square)
+
+-- the band has a part strictly between the squares: two of its squares that differ are not outside (own)
+pub record HasBandPart (on : Slopes) (m band u' u : ℕ) : Type 0 where
+  pub low : ℕ
+  pub high : ℕ
+  pub in_low : IsInBand on m band low
+  pub in_high : IsInBand on m band high
+  pub from : u' ≤ low
+  pub apart : low < high
+  pub to : high ≤ u
+
+-- the slope `a` is at least that of every cell with a part between the places, in every band with a part between the
+-- squares (own)
+abbrev pub IsSteepest : Slopes → ℕ → ℕ → Point → Point → Type 0
+IsSteepest on m a x y = (band : ℕ) (cell : ℤ) → HasBandPart on m band y.square x.square → HasPart m cell x.place y.place → on.slope band cell ≤ a
+
+-- Of one stretch: a train within the curve that brakes at least with the slope `a`, the steepest of its way, is within the
+-- curve after it (own).
+abbrev pub LawOfStretch : Type 0
+LawOfStretch =
+    (on : Slopes) (m : ℕ) (f : ℤ) (w a : ℕ) (x y : Point) → IsUsable on → 0 < m → 0 < a →
+    IsSteepest on m a x y → BrakesAtLeast on a x.place x.square y.place y.square → IsWithin on m f w x → IsWithin on m f w y
+
+-- the point is within the curve; at or past the foot the speed is at most the foot speed; and a foot of speed 0 is not
+-- passed (own)
+pub record IsHeld (on : Slopes) (m : ℕ) (f : ℤ) (w : ℕ) (x : Point) : Type 0 where
+  pub within : IsWithin on m f w x
+  pub past : (pos m *ℤ f) ≤ℤ x.place → x.square ≤ m * (w * w)
+  pub standing : w ≡ 0 → x.place ≤ℤ (pos m *ℤ f)
+
+-- Of braking: a train that begins within the curve and brakes step by step, at least as the slopes of its way, is held by
+-- the curve at every point (own).
+abbrev pub LawOfBraking : Type 0
+LawOfBraking =
+    (on : Slopes) (m : ℕ) (f : ℤ) (w : ℕ) (x : Point) (ys : List Point) → IsUsable on → 0 < m →
+    IsBraking on m x ys → IsWithin on m f w x → All (IsHeld on m f w) (x ∷ ys)
+
+-- ---- before the brakes work, at the scale `s`
+
+-- the point lies at or before the place `q`, with a speed of at most `b` (own)
+pub record IsBounded (q : ℤ) (b : ℕ) (x : Point) : Type 0 where
+  pub place : x.place ≤ℤ q
+  pub square : x.square ≤ b * b
+
+-- Of the reaction: in every motion that begins with at most the speed of its start, the ends of the slices and the first
+-- braking point lie at most D_bec past the beginning, with a speed of at most V_bec, for any target speed (own).
+abbrev pub LawOfReaction : Type 0
+LawOfReaction =
+    (s : ℕ) (start : Start) (on : Slopes) (target : ℕ) (p : ℤ) (v : ℕ) (xs : List Slice) (first : Point) (more : List Point) →
+    IsMotion s start on p v xs first more → v ≤ s * start.speed →
+    All (IsBounded (p +ℤ pos (s * s * d_bec (build_up_of start) target)) (s * v_bec (build_up_of start) target)) (slice_ends p v xs ++ first ∷ [])
