@@ -1,0 +1,1 @@
+//! Tables of what sources, sinks and the loops over them do at short moves and at faults.
