@@ -31,11 +31,7 @@ const CHUNK: usize = 4096;
 
 /// Reads the input to its end, which comes after at most `most` bytes. Errors: Fault, only where the source failed; TooLong,
 /// exactly where one byte more came; Memory. Each turn but the last takes at least one byte.
-pub fn read_to_end<I: Source>(
-    alloc: Global,
-    input: &mut I,
-    most: usize,
-) -> Result<Vec<u8>, Unread>
+pub fn read_to_end<I: Source>(alloc: Global, input: &mut I, most: usize) -> Result<Vec<u8>, Unread>
     ensures whole { IfOk result (λ v. Told (I.left input.old) (λ bytes. v.items ≡ bytes)) }
     ensures end { OnOk result (IsAtEnd (I.left input.new)) }
     ensures short { IfOk result (λ v. length v.items ≤ most) }

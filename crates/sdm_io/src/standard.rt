@@ -27,7 +27,7 @@ impl<R> Model for StdSource<R> {
 impl<R: Read> StdSource<R> {
     /// No fault so far.
     pub fn new(inner: R) -> StdSource<R>
-        ensures { result ≡ 0 }
+        ensures no_fault { result ≡ 0 }
     {
         StdSource { inner, faults: 0 }
     }
@@ -69,7 +69,7 @@ impl<W> Model for StdSink<W> {
 impl<W: Write> StdSink<W> {
     /// No fault so far.
     pub fn new(inner: W) -> StdSink<W>
-        ensures { result ≡ 0 }
+        ensures no_fault { result ≡ 0 }
     {
         StdSink { inner, faults: 0 }
     }
