@@ -1,5 +1,5 @@
 -- What contracts see of the source and the sink over memory, which fail by a plan (own).
-use Rattle.std.specs.Prelude.{◌≡◌, ◌⊎◌, ℕ, ◌+◌, ◌-◌, ◌<◌, min, Bool, if◌then◌else◌, List, length, Contains}
+use Rattle.std.specs.Prelude.{◌≡◌, ℕ, ◌+◌, ◌-◌, ◌<◌, min, Bool, if◌then◌else◌, List, length, Contains}
 use Rattle.sdm_io.specs.Causes.{next_count}
 
 -- how much is moved at once, which calls fail, and what was counted so far
