@@ -1,7 +1,7 @@
 //! A source of borrowed bytes and a sink that keeps nothing. Neither ever fails, so over them a program's own faults are
 //! the only ones that are left.
 
-ghost use Rattle.std.specs.Prelude.{◌≡◌, ℕ, List, Some, None, Ok, IsOk, IfOk, drop, length, min};
+ghost use Rattle.std.specs.Prelude.{◌≡◌, ℕ, List, Some, None, Ok, length, min};
 ghost use Rattle.std.specs.Io.{ReadsAtMost};
 ghost use Rattle.std.specs.Io.KnownBytes.{ReadConsumes};
 ghost use Rattle.sdm_io.specs.Causes.{HasCause};
@@ -42,8 +42,7 @@ impl<'a> Source for FixedSource<'a> {
         ensures bytes { ReadConsumes (Some self.old) (Some self.new) result buf.new }
         ensures cause { HasCause 0 0 result }
 
-        ensures never_fails { IsOk result }
-        ensures count { IfOk result (λ n. n ≡ min (length buf.old) (length self.old)) }
+        ensures never_fails { result ≡ Ok (min (length buf.old) (length self.old)) }
     {
         let rest = self.rest;
         let n = buf.len().min(rest.len());

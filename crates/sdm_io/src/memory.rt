@@ -1,7 +1,7 @@
 //! A source and a sink over memory that fail at chosen calls. They are for tests of programs: the bytes are told, and every
 //! fault, short read and short write can be brought about.
 
-ghost use Rattle.std.specs.Prelude.{◌≡◌, ◌↔◌, ◌⊎◌, ◌<◌, ◌≤◌, ◌+◌, ◌++◌, Some, [], take, drop, length, min, vec_len, vec_capacity, is_err, IfOk, IsErr, IsTrue};
+ghost use Rattle.std.specs.Prelude.{◌≡◌, ◌↔◌, ◌⊎◌, ◌<◌, ◌≤◌, ◌++◌, Some, [], take, drop, length, min, vec_len, vec_capacity, is_err, IfOk, IsErr, IsTrue};
 ghost use Rattle.std.specs.Io.{ReadsAtMost, WritesAtMost};
 ghost use Rattle.std.specs.Io.KnownBytes.{ReadConsumes, WriteAppends};
 ghost use Rattle.sdm_io.specs.Causes.{HasCause};
@@ -129,7 +129,7 @@ impl MemSink {
 }
 
 fn meets_no_room(piece: &[u8], free: usize) -> bool
-    ensures { IsTrue result ↔ (0 < length piece.now) × (free ≡ 0) }
+    ensures { IsTrue result ↔ ((0 < length piece.now) × (free ≡ 0)) }
 {
     !piece.is_empty() && free == 0
 }
@@ -145,7 +145,7 @@ impl Sink for MemSink {
         ensures bytes { WriteAppends (Some self.old.taken) (Some self.new.taken) result piece.now }
         ensures cause { HasCause self.old.plan.faults self.new.plan.faults result }
 
-        ensures fails { IsErr result ↔ FailsNext self.old.plan ⊎ MeetsNoRoom self.old piece.now }
+        ensures fails { IsErr result ↔ (FailsNext self.old.plan ⊎ MeetsNoRoom self.old piece.now) }
         ensures count { IfOk result (λ n. n ≡ writable self.old piece.now) }
         ensures plan { self.new.plan ≡ after_call self.old.plan (is_err result) }
         ensures room { self.new.room ≡ self.old.room }

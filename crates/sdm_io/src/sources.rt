@@ -19,7 +19,7 @@ pub trait Source {
     /// A call that failed gave nothing.
     fn read(&mut self, buf: &mut [u8]) -> Result<usize, Failed>
         ensures bound { ReadsAtMost result buf.new }
-        // also: 0 into a buffer that is not empty comes only where nothing is left
+        // 0 into a buffer that is not empty comes only where nothing is left
         ensures bytes { ReadConsumes (left self.old) (left self.new) result buf.new }
         ensures cause { HasCause (faults self.old) (faults self.new) result };
 }

@@ -1,4 +1,4 @@
-use Rattle.std.proofs.Common.{length, ◌-◌, ◌≡◌, ◌≤◌, vec_len}
+use Rattle.std.proofs.Common.{length, ◌-◌, ◌≤◌, vec_len}
 use Rattle.std.specs.Io.KnownBytes.{Consumes}
 use Rattle.sdm_io.proofs.reading.read_to_end.Given as goal
 
@@ -8,7 +8,6 @@ invariant-chunks g l = record {
   short : length l.bytes.items ≤ l.most;
   consumed : Consumes (g.I.Source.left l.fn.input) (g.I.Source.left l.input) l.bytes.items;
   later : g.I.Source.faults l.fn.input ≤ g.I.Source.faults l.input;
-  chunk : length l.chunk ≡ 4096;
 }
 
 -- each turn but the last takes a byte
