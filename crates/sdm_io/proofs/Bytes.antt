@@ -12,7 +12,7 @@ front-more n m xs h = grind (arith, common_steps, take-add n m xs)
 
 module _ (old mid new : Option (List ℕ)) (kept buf : List ℕ) (n : ℕ) (before : Consumes old mid kept) (last : Consumes mid new (take n buf)) (fits : n ≤ length buf) where
   -- the bytes kept, and then n that were read into the front of a buffer
-  pub reads_more : ReadsExactly old new (length kept + n)
+  reads_more : ReadsExactly old new (length kept + n)
   reads_more = (kept ++ take n buf, Consumes-trans old mid new kept (take n buf) before last, grind (arith, common_steps))
 
   pub reads_more_exactly : (count : ℕ) → length kept + n ≡ count → ReadsExactly old new count

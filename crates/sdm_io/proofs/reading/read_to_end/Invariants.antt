@@ -1,8 +1,8 @@
+-- So far the bytes kept are those that the input lost, none above the limit, and its count has not fallen.
 use Rattle.std.proofs.Common.{length, ◌-◌, ◌≤◌, vec_len}
 use Rattle.std.specs.Io.KnownBytes.{Consumes}
 use Rattle.sdm_io.proofs.reading.read_to_end.Given as goal
 
--- so far the bytes kept are those that the input lost, none above the limit, and its count has not fallen
 abbrev pub invariant-chunks : goal.invariant-chunks
 invariant-chunks g l = record {
   short : length l.bytes.items ≤ l.most;
