@@ -48,10 +48,18 @@ pub record AreAreas (length_cm : ℤ) (areas : List Area) : Type 0 where
   pub each : All (IsArea length_cm) areas
   pub apart : (i j : ℕ) (d : Area) → i < j → j < length areas → (slice_index_or areas i d).end ≤ℤ (slice_index_or areas j d).start
 
+-- the longest track, in cm
+abbrev pub longest_track : ℤ
+longest_track = pos 10_000_000
+
+-- the longest train, in cm
+abbrev pub longest_train : ℤ
+longest_train = pos 150_000
+
 -- a track within its ranges
 pub record IsTrack (t : TrackData) : Type 0 where
   pub shortest : pos 1 ≤ℤ t.length_cm
-  pub longest : t.length_cm ≤ℤ pos 10_000_000
+  pub longest : t.length_cm ≤ℤ longest_track
   pub gradients : AreGradients t.length_cm t.gradients
   pub speeds : AreSpeeds t.length_cm t.speeds
   pub areas : AreAreas t.length_cm t.areas

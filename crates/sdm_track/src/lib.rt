@@ -4,6 +4,9 @@
 
 mod entries;
 mod tracks;
+mod under_train;
+mod window;
 
 pub use sdm_rules::{Area, Gradient, Section, SpeedStep, TrackFault};
 pub use tracks::Track;
+pub use under_train::Segments;

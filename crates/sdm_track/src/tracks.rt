@@ -1,12 +1,16 @@
 //! A track, whose lists keep their order and their ranges in its type, so that no reader tests them again.
 
-ghost use Rattle.std.specs.Prelude.{◌≡◌, pos, ◌<◌, length, slice_get, Some, None, IfOk, IfErr};
+ghost use Rattle.std.specs.Prelude.{◌≡◌, ℤ, pos, ◌<◌, ◌≤◌, length, slice_get, Some, None, IfOk, IfErr};
 ghost use Rattle.sdm_rules.specs.Ranges.{track_fault};
 ghost use Rattle.sdm_rules.specs.Decelerations.{is_in_force, under_train};
 ghost use Rattle.sdm_track.specs.Ranges.{IsTrack, IsGradient, IsSpeedStep, IsArea, track_data};
+ghost use Rattle.sdm_track.specs.Segments.{gradient_in};
 
 use crate::entries::{areas_fault, gradients_fault, speeds_fault};
+use crate::under_train::{self, Segments};
+use sdm_num::NoMemory;
 use sdm_rules::{Area, Gradient, Section, SpeedStep, TrackFault};
+use std::alloc::Global;
 use std::marker::Model;
 
 /// The longest track, in cm. (own)
@@ -143,6 +147,25 @@ impl Track {
         &self.speeds[i]
     }
 
+    /// The area at a place in the list, counted from 0.
+    pub fn area(&self, i: usize) -> &Area
+        requires { i < length self.now.areas }
+        ensures value { slice_get self.now.areas i ≡ Some result.now }
+        ensures in_range { IsArea self.now.length_cm result.now }
+    {
+        &self.areas[i]
+    }
+
+    /// The gradients under a train of a length of 1 to 150,000 cm: for each cell of the front end the lowest gradient of the cells
+    /// from the rear end to the front end. (SUBSET-026-3 3.13.4.2; own cell form)
+    pub fn compensated(&self, alloc: Global, length_cm: u32) -> Result<Segments, NoMemory>
+        requires shortest { 1 ≤ length_cm }
+        requires longest { length_cm ≤ 150_000 }
+        ensures { IfOk result (λ segments. (c : ℤ) → gradient_in segments c ≡ (under_train self.now (pos length_cm) c).grad) }
+    {
+        under_train::compensated(alloc, &self.gradients, length_cm)
+    }
+
     /// Whether reduced adhesion is in force for a front end in the cell, with a train of this length in cm: from the start of
     /// an area until the rear end has left it, past the track's end too. (SUBSET-026-3 3.13.6.2; areas own)
     pub fn reduced(&self, cell: i32, length_cm: u32) -> bool
@@ -151,14 +174,5 @@ impl Track {
         self.areas
             .iter()
             .any(|area| is_in_force(area, cell, length_cm))
-    }
-
-    /// The area at a place in the list, counted from 0.
-    pub fn area(&self, i: usize) -> &Area
-        requires { i < length self.now.areas }
-        ensures value { slice_get self.now.areas i ≡ Some result.now }
-        ensures in_range { IsArea self.now.length_cm result.now }
-    {
-        &self.areas[i]
     }
 }
