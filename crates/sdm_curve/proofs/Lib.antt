@@ -2,3 +2,5 @@ pub mod Ranges
 pub mod Rows
 pub mod Meanings
 pub mod Copies
+pub mod Stretches
+pub mod Walks

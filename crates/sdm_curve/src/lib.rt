@@ -6,6 +6,7 @@ pub mod faults;
 pub mod map;
 
 mod checks;
+mod walk;
 
 pub use faults::CurveFault;
 pub use map::BandMap;

@@ -3,7 +3,7 @@
 ghost use Rattle.std.specs.Prelude.{◌≡◌, ℕ, pos, ◌+◌, ◌*◌, ◌^◌, ◌<◌, ◌≤◌, ◌≤ℤ◌, length, map, unsigned_abs, slice_index, slice_index_or, IfOk, IfErr};
 ghost use Rattle.sdm_rules.specs.Slopes.{SlopeMap, meaning_of, bands_of, IsUsable};
 ghost use Rattle.sdm_rules.specs.Curves.{cell_start};
-ghost use Rattle.sdm_curve.specs.Maps.{map_data, data_of, IsMapData, IsAccepted, IsKept};
+ghost use Rattle.sdm_curve.specs.Maps.{map_data, data_of, AreStarts, IsMapData, IsAccepted, IsKept};
 ghost use Rattle.sdm_curve.specs.Faults.{IsFaultOf};
 
 use crate::checks::fault_of;
@@ -112,6 +112,7 @@ impl BandMap {
     pub fn segments(&self) -> usize
         ensures value { result ≡ length self.now.starts }
         ensures some { 0 < result }
+        ensures rising { AreStarts self.now.starts }
     {
         self.starts.len()
     }
