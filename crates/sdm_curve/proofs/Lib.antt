@@ -4,3 +4,5 @@ pub mod Meanings
 pub mod Copies
 pub mod Stretches
 pub mod Walks
+pub mod Reach
+pub mod Climbs

@@ -1,3 +1,4 @@
 pub mod Maps
 pub mod Faults
 pub mod Checks
+pub mod Made

@@ -96,6 +96,7 @@ impl BandMap {
     /// The number of bands.
     pub fn bands(&self) -> usize
         ensures value { result ≡ bands_of self.now.uppers }
+        ensures usable { IsUsable (meaning_of self.now) }
     {
         self.uppers.len() + 1
     }

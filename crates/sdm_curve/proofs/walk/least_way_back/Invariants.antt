@@ -1,6 +1,6 @@
 use Rattle.std.proofs.Common.{◌^◌, ◌<◌, negsuc, ◌≤ℤ◌}
 use Rattle.sdm_curve.proofs.Walks.{IsWalkBack}
-use Rattle.sdm_curve.proofs.walk.way_back.Given as goal
+use Rattle.sdm_curve.proofs.walk.least_way_back.Given as goal
 
 abbrev pub invariant-loop-i : goal.invariant-loop-i
 invariant-loop-i l = record {

@@ -1,6 +1,6 @@
 use Rattle.std.proofs.Common.{◌≤ℤ◌, pos, negsuc, ◌^◌}
 use Rattle.sdm_curve.proofs.Walks.{IsWalkOn}
-use Rattle.sdm_curve.proofs.walk.way_on.Given as goal
+use Rattle.sdm_curve.proofs.walk.greatest_way_on.Given as goal
 
 abbrev pub invariant-loop-i : goal.invariant-loop-i
 invariant-loop-i l = record {
