@@ -31,3 +31,9 @@ pub mod StopFacts
 pub mod Stops
 pub mod Headline
 pub mod FlatFacts
+pub mod Settled
+pub mod Search
+pub mod Decided
+pub mod OneFault
+pub mod OneRun
+mod OpenCases

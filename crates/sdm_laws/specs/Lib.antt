@@ -3,3 +3,4 @@ pub mod CurveLaws
 pub mod MotionLaws
 pub mod SupervisionLaws
 pub mod FlatLaws
+pub mod RunLaws

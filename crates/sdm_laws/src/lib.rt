@@ -5,4 +5,5 @@
 pub mod curves;
 pub mod flat;
 pub mod motions;
+pub mod runs;
 pub mod supervision;

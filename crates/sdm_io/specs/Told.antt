@@ -1,0 +1,19 @@
+-- Bytes that a source has left or a sink took, which some of them tell and others do not (own).
+use Rattle.std.specs.Prelude.{◌≡◌, ℕ, ◌≤◌, List, length, take, Option, IfSome}
+use Rattle.std.specs.Io.KnownBytes.{Appends, Consumes}
+
+-- a fact of the bytes, where they are told
+abbrev pub Told : Option (List ℕ) → (List ℕ → Type 0) → Type 0
+Told known P = IfSome known P
+
+-- the bytes taken grew by a front of the piece, which may be nothing or all of it
+abbrev pub AppendsPart : Option (List ℕ) → Option (List ℕ) → List ℕ → Type 0
+AppendsPart old new piece = (n : ℕ) × (n ≤ length piece) × Appends old new (take n piece)
+
+-- exactly this many bytes were read
+abbrev pub ReadsExactly : Option (List ℕ) → Option (List ℕ) → ℕ → Type 0
+ReadsExactly old new count = (bytes : List ℕ) × Consumes old new bytes × (length bytes ≡ count)
+
+-- at most this many bytes were read
+abbrev pub ReadsWithin : Option (List ℕ) → Option (List ℕ) → ℕ → Type 0
+ReadsWithin old new most = (bytes : List ℕ) × Consumes old new bytes × (length bytes ≤ most)

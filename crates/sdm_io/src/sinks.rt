@@ -1,0 +1,25 @@
+//! Where bytes go to.
+
+ghost use Rattle.std.specs.Prelude.{ℕ, ◌<◌, List, Option, length, IfOk};
+ghost use Rattle.std.specs.Io.{WritesAtMost};
+ghost use Rattle.std.specs.Io.KnownBytes.{WriteAppends};
+ghost use Rattle.sdm_io.specs.Causes.{HasCause};
+
+use crate::faults::Failed;
+
+/// Bytes that go out. (own)
+pub trait Sink {
+    /// The bytes that were taken, where the sink tells them.
+    ghost taken: { Self → Option (List ℕ) };
+
+    /// How often the sink has failed: a count from 0 to 2⁶⁴ − 1, where it stands.
+    ghost faults: { Self → ℕ };
+
+    /// Takes the front of a piece and says how many bytes that were. A call that failed took nothing.
+    fn write(&mut self, piece: &[u8]) -> Result<usize, Failed>
+        ensures bound { WritesAtMost result piece.now }
+        // a piece that is not empty gives at least one byte
+        ensures some { IfOk result (λ n. 0 < length piece.now → 0 < n) }
+        ensures bytes { WriteAppends (taken self.old) (taken self.new) result piece.now }
+        ensures cause { HasCause (faults self.old) (faults self.new) result };
+}

@@ -1,0 +1,293 @@
+//! What each call moves at short steps, at chosen failures and at want of room, as tables; and what no clause says: how the
+//! adapters answer a stream that fails. `F` stands for a failure, `.` for the end of a source, `-` for nothing.
+
+use crate::{
+    Failed, FixedSource, MemSink, MemSource, NullSink, Sink, Source, StdSink, StdSource, Unread,
+    read_to_end, write_piece,
+};
+use std::alloc::Global;
+use std::io;
+use std::test::Fail;
+
+// The fields of a line.
+fn fields_of<'a>(alloc: Global, line: &'a str) -> Result<Vec<&'a str>, Fail> {
+    let mut fields = Vec::new(alloc);
+    for field in line.split('|') {
+        fields.push(field.trim())?;
+    }
+    Ok(fields)
+}
+
+fn numbers_of(alloc: Global, field: &str) -> Result<Vec<u32>, Fail> {
+    let mut numbers = Vec::new(alloc);
+    for word in field.split_whitespace() {
+        if word != "-" {
+            numbers.push(word.parse::<u32>()?)?;
+        }
+    }
+    Ok(numbers)
+}
+
+fn bytes_of(word: &str) -> &[u8] {
+    if word == "-" { b"" } else { word.as_bytes() }
+}
+
+fn source_of(alloc: Global, bytes: &str, step: &str, failing: &str) -> Result<MemSource, Fail> {
+    let failing = numbers_of(alloc, failing)?;
+    let step = step.parse::<usize>()?.max(1);
+    Ok(MemSource::new(alloc, bytes_of(bytes), step, &failing)?)
+}
+
+fn sink_of(alloc: Global, room: &str, step: &str, failing: &str) -> Result<MemSink, Fail> {
+    let failing = numbers_of(alloc, failing)?;
+    let step = step.parse::<usize>()?.max(1);
+    Ok(MemSink::new(alloc, room.parse::<usize>()?, step, &failing)?)
+}
+
+// What one read into a buffer of so many bytes answers.
+fn read_answer<'a, S: Source>(source: &mut S, buf: &'a mut [u8]) -> &'a [u8] {
+    match source.read(buf) {
+        Ok(0) => b".",
+        Ok(n) => &buf[..n],
+        Err(Failed) => b"F",
+    }
+}
+
+// step | failing | buffer | answers
+const READS: &str = "\
+    8 | - | 8 | abcdefg . .
+    3 | - | 8 | abc def g . .
+    8 | - | 2 | ab cd ef g .
+    1 | - | 8 | a b c d e f g .
+    3 | 1 3 | 8 | F abc F def g . .
+    3 | 3 1 3 | 8 | F abc F def g . .
+    3 | 4 5 | 8 | abc def g F F .
+    3 | 0 | 8 | abc def g .
+    3 | 2 | 0 | . F . .";
+
+#[test]
+fn a_source_over_memory_gives_its_bytes_by_its_plan(rt: HostRuntime) -> Result<(), Fail> {
+    let alloc = rt.alloc();
+    for line in READS.lines() {
+        let fields = fields_of(alloc, line)?;
+        let [step, failing, buffer, answers] = fields.as_slice() else {
+            return Err("no row".into());
+        };
+        let mut source = source_of(alloc, "abcdefg", step, failing)?;
+        let size = buffer.parse::<usize>()?.min(8);
+        for answer in answers.split_whitespace() {
+            let mut buf = [0u8; 8];
+            let got = read_answer(&mut source, &mut buf[..size]);
+            assert!(rt; got == answer.as_bytes(), "{answer} of {line}");
+        }
+    }
+    Ok(())
+}
+
+// room | step | failing | pieces | answers | taken
+const WRITES: &str = "\
+    9 | 9 | - | abc de | 3 2 | abcde
+    9 | 2 | - | abc c de | 2 1 2 | abcde
+    4 | 9 | - | abc def ef | 3 1 F | abcd
+    4 | 2 | - | abc cdef ef - | 2 2 F 0 | abcd
+    9 | 9 | 1 3 | abc abc de de | F 3 F 2 | abcde
+    9 | 9 | 2 | abc - de | 3 F 2 | abcde
+    0 | 1 | - | a - | F 0 | -";
+
+#[test]
+fn a_sink_over_memory_takes_by_its_plan_and_its_room(rt: HostRuntime) -> Result<(), Fail> {
+    let alloc = rt.alloc();
+    for line in WRITES.lines() {
+        let fields = fields_of(alloc, line)?;
+        let [room, step, failing, pieces, answers, taken] = fields.as_slice() else {
+            return Err("no row".into());
+        };
+        let mut sink = sink_of(alloc, room, step, failing)?;
+        for (piece, answer) in pieces.split_whitespace().zip(answers.split_whitespace()) {
+            match sink.write(bytes_of(piece)) {
+                Ok(n) => assert_eq!(rt; n, answer.parse::<usize>()?, "{piece} of {line}"),
+                Err(Failed) => assert_eq!(rt; answer, "F", "{piece} of {line}"),
+            }
+        }
+        assert!(rt; sink.bytes() == bytes_of(taken), "{line}");
+    }
+    Ok(())
+}
+
+#[test]
+fn a_fixed_source_and_a_null_sink_never_fail(rt: HostRuntime) {
+    let mut source = FixedSource::new(b"abc");
+    let mut buf = [0u8; 2];
+    assert!(rt; read_answer(&mut source, &mut buf) == b"ab".as_slice());
+    assert!(rt; read_answer(&mut source, &mut buf) == b"c".as_slice());
+    assert!(rt; read_answer(&mut source, &mut buf) == b".".as_slice());
+    assert_eq!(rt; NullSink::new().write(b"abc"), Ok(3));
+}
+
+// room | step | failing | piece | answer | taken
+const PIECES: &str = "\
+    9 | 9 | - | abcde | ok | abcde
+    9 | 1 | - | abcde | ok | abcde
+    5 | 2 | - | abcde | ok | abcde
+    9 | 1 | 4 | abcde | F | abc
+    9 | 2 | 3 | abcde | F | abcd
+    9 | 2 | 1 | abcde | F | -
+    3 | 2 | - | abcde | F | abc
+    9 | 1 | 6 | abcde | ok | abcde
+    0 | 1 | 1 | - | ok | -";
+
+#[test]
+fn a_piece_is_taken_whole_or_a_front_of_it(rt: HostRuntime) -> Result<(), Fail> {
+    let alloc = rt.alloc();
+    for line in PIECES.lines() {
+        let fields = fields_of(alloc, line)?;
+        let [room, step, failing, piece, answer, taken] = fields.as_slice() else {
+            return Err("no row".into());
+        };
+        let mut sink = sink_of(alloc, room, step, failing)?;
+        let is_whole = write_piece(&mut sink, bytes_of(piece)).is_ok();
+        assert_eq!(rt; is_whole, *answer == "ok", "{line}");
+        assert!(rt; sink.bytes() == bytes_of(taken), "{line}");
+    }
+    Ok(())
+}
+
+// bytes | step | failing | limit | answer | what the next read gives
+const INPUTS: &str = "\
+    abc | 9 | - | 3 | ok | .
+    abc | 1 | - | 3 | ok | .
+    abc | 2 | - | 9 | ok | .
+    - | 1 | - | 0 | ok | .
+    abcd | 9 | - | 3 | too long | .
+    abcdef | 9 | - | 3 | too long | ef
+    abcdef | 1 | - | 3 | too long | e
+    abcdef | 1 | 5 | 3 | too long | F
+    a | 1 | - | 0 | too long | .
+    abc | 1 | 1 | 3 | read fault | a
+    abc | 1 | 2 | 3 | read fault | b
+    abc | 1 | 4 | 3 | read fault | .
+    abcd | 1 | 4 | 3 | read fault | d";
+
+#[test]
+fn an_input_is_read_to_its_end_or_to_one_byte_above_the_limit(rt: HostRuntime) -> Result<(), Fail> {
+    let alloc = rt.alloc();
+    for line in INPUTS.lines() {
+        let fields = fields_of(alloc, line)?;
+        let [bytes, step, failing, most, answer, next] = fields.as_slice() else {
+            return Err("no row".into());
+        };
+        let mut source = source_of(alloc, bytes, step, failing)?;
+        match read_to_end(alloc, &mut source, most.parse::<usize>()?) {
+            Ok(read) => {
+                assert_eq!(rt; *answer, "ok", "{line}");
+                assert!(rt; read.as_slice() == bytes_of(bytes), "{line}");
+            }
+            Err(unread) => {
+                let text = format!(in alloc; "{unread}")?;
+                assert_eq!(rt; text.as_str(), *answer, "{line}");
+            }
+        }
+        let mut buf = [0u8; 8];
+        assert!(rt;
+            read_answer(&mut source, &mut buf) == next.as_bytes(),
+            "{line}"
+        );
+    }
+    Ok(())
+}
+
+#[test]
+fn an_input_of_several_chunks_is_read_whole(rt: HostRuntime) -> Result<(), Fail> {
+    let alloc = rt.alloc();
+    let mut bytes = Vec::new(alloc);
+    for i in 0..9000u32 {
+        bytes.push((i % 251) as u8)?;
+    }
+    let read = read_to_end(alloc, &mut FixedSource::new(&bytes), 9000)?;
+    assert!(rt; read == bytes);
+    let read = read_to_end(alloc, &mut FixedSource::new(&bytes), usize::MAX)?;
+    assert!(rt; read == bytes);
+    let too_long = read_to_end(alloc, &mut FixedSource::new(&bytes), 8999);
+    assert!(rt; matches!(too_long, Err(Unread::TooLong)));
+    Ok(())
+}
+
+// A stream that fails at each call of an odd number, and moves one byte at the others. As a writer it takes nothing at its
+// fourth call.
+#[derive(Drop)]
+struct Unsteady<'a> {
+    bytes: &'a [u8],
+    calls: u8,
+}
+
+impl<'a> Unsteady<'a> {
+    fn call(&mut self) -> io::Result<u8> {
+        self.calls = self.calls.saturating_add(1);
+        if self.calls % 2 == 1 {
+            return Err(io::Error::from(io::ErrorKind::TimedOut));
+        }
+        Ok(self.calls)
+    }
+}
+
+impl<'a> io::Read for Unsteady<'a> {
+    fn read(&mut self, buf: &mut [u8]) -> io::Result<usize> {
+        self.call()?;
+        let n = buf.len().min(self.bytes.len()).min(1);
+        buf[..n].copy_from_slice(&self.bytes[..n]);
+        self.bytes = &self.bytes[n..];
+        Ok(n)
+    }
+}
+
+impl<'a> io::Write for Unsteady<'a> {
+    fn write(&mut self, piece: &[u8]) -> io::Result<usize> {
+        if self.call()? == 4 {
+            return Ok(0);
+        }
+        Ok(piece.len().min(1))
+    }
+
+    fn flush(&mut self) -> io::Result<()> {
+        Ok(())
+    }
+}
+
+#[test]
+fn a_reader_that_fails_is_a_fault_and_never_an_end(rt: HostRuntime) {
+    let mut source = StdSource::new(Unsteady {
+        bytes: b"ab",
+        calls: 0,
+    });
+    let mut buf = [0u8; 8];
+    for answer in ["F", "a", "F", "b", "F", ".", "F"] {
+        assert!(rt; read_answer(&mut source, &mut buf) == answer.as_bytes());
+    }
+}
+
+#[test]
+fn a_writer_that_fails_or_takes_nothing_is_a_fault(rt: HostRuntime) {
+    let mut sink = StdSink::new(Unsteady {
+        bytes: b"",
+        calls: 0,
+    });
+    assert_eq!(rt; sink.write(b"ab"), Err(Failed));
+    assert_eq!(rt; sink.write(b"ab"), Ok(1));
+    assert_eq!(rt; sink.write(b"ab"), Err(Failed));
+    assert_eq!(rt; sink.write(b"ab"), Err(Failed));
+    assert_eq!(rt; sink.write(b"ab"), Err(Failed));
+    assert_eq!(rt; sink.write(b""), Ok(0));
+}
+
+#[test]
+fn the_answers_have_texts(rt: HostRuntime) -> Result<(), Fail> {
+    let alloc = rt.alloc();
+    let text = format!(in alloc;
+        "{Failed}, {}, {}, {}",
+        Unread::Fault,
+        Unread::TooLong,
+        Unread::Memory
+    )?;
+    assert_eq!(rt; text.as_str(), "failed, read fault, too long, no memory");
+    Ok(())
+}
