@@ -27,12 +27,6 @@ energy-add on band m p a b =
     total_same (λ k. f (a + k)) g b (λ k l. let e : p +ℤ pos (a + k) ≡ (p +ℤ pos a) +ℤ pos k = omega (arith, ints) in ap (λ (z : ℤ). on.slope band (cell_at m z)) e) in
     total-add f a b ∙ omega arith
 
--- with the same slopes
-pub energy_same : (on on' : Slopes) (band band' m : ℕ) (p : ℤ) (d : ℕ) → ((c : ℤ) → on.slope band c ≡ on'.slope band' c) →
-    energy on band m p d ≡ energy on' band' m p d
-energy_same on on' band band' m p d same =
-    total_same (λ k. on.slope band (cell_at m (p +ℤ pos k))) (λ k. on'.slope band' (cell_at m (p +ℤ pos k))) d (λ k l. same (cell_at m (p +ℤ pos k)))
-
 -- in one cell the energy goes with the way
 pub energy_in_cell : (on : Slopes) (band m : ℕ) (p p' : ℤ) (d : ℕ) (c : ℤ) → 0 < m → p' ≡ p +ℤ pos d → IsInCell m c p → IsInCell m c p' →
     energy on band m p d ≡ on.slope band c * d

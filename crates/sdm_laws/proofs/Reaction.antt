@@ -64,7 +64,7 @@ module _ (s : ℕ) (start : Start) (target : ℕ) (p : ℤ) (v : ℕ) (traction 
       let build_way = way_at_scale s top start.accel2 start.berem (last_speed v traction) (way_of build) cut_off_last two in
       rw way_of-append (both_ways s mean (max mean target) start.traction _ (way_of traction) (way_of build) (omega arith) traction_way build_way)
 
-  pub ends_in_reach : All (IsInReach s start target p) (slice_ends p v (traction ++ build))
+  ends_in_reach : All (IsInReach s start target p) (slice_ends p v (traction ++ build))
   ends_in_reach =
       let q = p +ℤ pos (s * s * d_bec (build_up_of start) target) in
       let b = s * v_bec (build_up_of start) target in
@@ -77,7 +77,7 @@ module _ (s : ℕ) (start : Start) (target : ℕ) (p : ℤ) (v : ℕ) (traction 
       let two = ends_bounded start Build middle q (last_speed v traction) b build parts.1 in_build braking_speed (omega (arith, ints)) in
       rw slice_ends-append (All-append (IsBounded q b) _ _ (All-from_recursion (IsBounded q b) _ one) (All-from_recursion (IsBounded q b) _ two))
 
-  pub last_in_reach : IsInReach s start target p (last_point (record { place = p; square = v * v }) (slice_ends p v (traction ++ build)))
+  last_in_reach : IsInReach s start target p (last_point (record { place = p; square = v * v }) (slice_ends p v (traction ++ build)))
   last_in_reach =
       let far = whole_way in
       let speed = phase_speed start Build (last_speed v traction) build parts.1 in_build in

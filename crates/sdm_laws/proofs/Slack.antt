@@ -32,7 +32,7 @@ usable_fair on h = record { positive = h.positive; even = h.even; some = first_f
     first_factor a (suc k) b p le = omega arith
 
 -- rounding down adds less than a grain
-pub past_floor : (y y' : Fraction) (e : ℕ) → IsPastBy y y' e → IsPastBy y (whole (floor y')) (e + 1)
+past_floor : (y y' : Fraction) (e : ℕ) → IsPastBy y y' e → IsPastBy y (whole (floor y')) (e + 1)
 past_floor y y' e p =
     let low : (pos y'.m *ℤ floor y') ≤ℤ y'.n = floor_low y'.m y'.n p.right in
     let high = rw scale-+ℤ at (floor_high y'.m y'.n p.right) in
@@ -64,13 +64,13 @@ slack_more k n e p = slack_rises k n e (k * e + 1) (omega (arith, mul-le-mul_lef
 -- ---- over the bands
 
 module _ (on : Slopes) (s k : ℕ) (s_pos : 0 < s) (fair : AreFair on k) where
-  pub back_past : (band change : ℕ) (x x' : Fraction) (e : ℕ) → band ≤ length on.uppers → IsPastBy x x' e →
+  back_past : (band change : ℕ) (x x' : Fraction) (e : ℕ) → band ≤ length on.uppers → IsPastBy x x' e →
       IsPastBy (arc_back on s band x change) (arc_back on s band x' change) (k * e)
   back_past band change x x' e known past =
       let some = fair.positive band known in
       past_back on s band k x x' _ _ _ e s_pos some (fair.even band known) past (arc_back-is on s band change x some s_pos past.left) (arc_back-is on s band change x' some s_pos past.right)
 
-  pub forward_past : (band change : ℕ) (x x' : Fraction) (e : ℕ) → band ≤ length on.uppers → IsPastBy x x' e →
+  forward_past : (band change : ℕ) (x x' : Fraction) (e : ℕ) → band ≤ length on.uppers → IsPastBy x x' e →
       IsPastBy (arc_forward on s band x change) (arc_forward on s band x' change) (k * e)
   forward_past band change x x' e known past =
       let some = fair.positive band known in
@@ -152,7 +152,7 @@ greatest_slack : greatest slack_of most_bands ≡ most_slack
 unfolding greatest
 greatest_slack = refl
 
-pub slack_at_most : (bands : ℕ) → bands ≤ most_bands → slack_of bands ≤ most_slack
+slack_at_most : (bands : ℕ) → bands ≤ most_bands → slack_of bands ≤ most_slack
 slack_at_most bands le = rw (sym greatest_slack) (at_most_greatest slack_of bands most_bands le)
 
 early_of_past : (z : ℤ) (x : Fraction) (e e' : ℕ) → IsPastBy x (whole z) e → e ≤ e' → IsEarlyFor (record { at = z; slack = e' }) x
