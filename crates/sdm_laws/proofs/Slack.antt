@@ -43,7 +43,8 @@ past_floor y y' e p =
       near = at_most_trans y (more y' e) _ p.right p.near (record { crossed = next_grain y'.m y'.n (floor y') e high });
     }
   where
-    next_grain : (m : ℕ) (n z : ℤ) (e : ℕ) → n <ℤ (pos m *ℤ z +ℤ pos m *ℤ pos 1) → (pos 1 *ℤ (n +ℤ pos (e * m))) ≤ℤ (pos m *ℤ (z +ℤ pos ((e + 1) * 1)))
+    next_grain : (m : ℕ) (n z : ℤ) (e : ℕ) → n <ℤ (pos m *ℤ z +ℤ pos m *ℤ pos 1) →
+        (pos 1 *ℤ (n +ℤ pos (e * m))) ≤ℤ (pos m *ℤ (z +ℤ pos ((e + 1) * 1)))
     next_grain m n z e lt = rw (scale-+ℤ m z (pos ((e + 1) * 1))) (omega (arith, ints, lt))
 
 -- ---- the slack after some bands
@@ -63,12 +64,14 @@ slack_more k n e p = slack_rises k n e (k * e + 1) (omega (arith, mul-le-mul_lef
 -- ---- over the bands
 
 module _ (on : Slopes) (s k : ℕ) (s_pos : 0 < s) (fair : AreFair on k) where
-  pub back_past : (band change : ℕ) (x x' : Fraction) (e : ℕ) → band ≤ length on.uppers → IsPastBy x x' e → IsPastBy (arc_back on s band x change) (arc_back on s band x' change) (k * e)
+  pub back_past : (band change : ℕ) (x x' : Fraction) (e : ℕ) → band ≤ length on.uppers → IsPastBy x x' e →
+      IsPastBy (arc_back on s band x change) (arc_back on s band x' change) (k * e)
   back_past band change x x' e known past =
       let some = fair.positive band known in
       past_back on s band k x x' _ _ _ e s_pos some (fair.even band known) past (arc_back-is on s band change x some s_pos past.left) (arc_back-is on s band change x' some s_pos past.right)
 
-  pub forward_past : (band change : ℕ) (x x' : Fraction) (e : ℕ) → band ≤ length on.uppers → IsPastBy x x' e → IsPastBy (arc_forward on s band x change) (arc_forward on s band x' change) (k * e)
+  pub forward_past : (band change : ℕ) (x x' : Fraction) (e : ℕ) → band ≤ length on.uppers → IsPastBy x x' e →
+      IsPastBy (arc_forward on s band x change) (arc_forward on s band x' change) (k * e)
   forward_past band change x x' e known past =
       let some = fair.positive band known in
       past_forward on s band k x x' _ _ _ e s_pos some (fair.even band known) past (arc_forward-is on s band change x some s_pos past.left) (arc_forward-is on s band change x' some s_pos past.right)
@@ -117,7 +120,8 @@ module _ (on : Slopes) (s k : ℕ) (s_pos : 0 < s) (fair : AreFair on k) where
       no_more : (m : ℕ) (n : ℤ) → (pos m *ℤ n) ≤ℤ (pos m *ℤ (n +ℤ pos (0 * m)))
       no_more m n = scale-≤ m n (n +ℤ pos (0 * m)) (omega (arith, ints))
 
-  place_past : (f : ℤ) (w z : ℕ) → IsPastBy (place_at as_is on s f w z) (whole (floor (place_at to_grain on s f w z))) (slack_after k (bands_of on.uppers) 0)
+  place_past : (f : ℤ) (w z : ℕ) →
+      IsPastBy (place_at as_is on s f w z) (whole (floor (place_at to_grain on s f w z))) (slack_after k (bands_of on.uppers) 0)
   place_past f w z =
       let n = length on.uppers in
       let foot = whole (pos s *ℤ f) in
