@@ -6,3 +6,4 @@ pub mod Stretches
 pub mod Walks
 pub mod Reach
 pub mod Climbs
+pub mod Cells

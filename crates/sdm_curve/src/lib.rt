@@ -2,14 +2,16 @@
 //! How the place of a curve is found is known here alone: contracts speak of what a map stands for.
 #![tactic(auto)]
 
+mod bands;
+mod checks;
 pub mod curve;
 pub mod faults;
 pub mod map;
-
-mod bands;
-mod checks;
 mod walk;
 
 pub use curve::Curve;
 pub use faults::CurveFault;
 pub use map::BandMap;
+
+#[cfg(test)]
+mod tests;

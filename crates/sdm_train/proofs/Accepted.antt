@@ -99,6 +99,7 @@ IsTrain_of t h =
       emergency_time = grind (arith, ints, own);
       service_time = grind (arith, ints, own);
       half_seconds = grind (arith, ints, own);
+      not_empty = rules.few.0;
       bands = record { few = rules.few.1; in_order = in_order 1 (pos 0) t.bands rules.few.0 rules.band_order };
       each_band = each_band 1 t.bands rules.band_numbers;
       no_fault = h;
