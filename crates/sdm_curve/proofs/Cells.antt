@@ -1,11 +1,11 @@
 -- What is said of the segments of a map, said of the cells of the track: each cell has the slope of its segment, and each
 -- segment holds its own first cell.
 use Rattle.std.proofs.Common.{◌≡◌, ℕ, ℤ, zero, suc, pos, List, ◌*◌, ◌<◌, ◌≤ℤ◌, ◌*ℤ◌, ◌<ℤ◌, length, get_or, unsigned_abs, ap, arith, sym, ◌∙◌, inl, inr}
-use Rattle.std.proofs.lemmas.Int.{ints, by_lt_z}
+use Rattle.std.proofs.lemmas.Int.{ints}
 use Rattle.std.proofs.lemmas.Bool.{cases_lt}
 use Rattle.sdm_rules.specs.Slopes.{segment_of, bands_of, variation}
 use Rattle.sdm_laws.proofs.Segments.{in_segment, segment_is}
-use Rattle.sdm_curve.specs.Maps.{MapData, IsMapData, AreStarts, slope_in, slope_on, start_in, IsStrong, IsStrongBand, AreStrong, IsEvenBand}
+use Rattle.sdm_curve.specs.Maps.{MapData, AreStarts, slope_in, slope_on, start_in, IsStrong, IsStrongBand, IsEvenBand}
 use Rattle.sdm_curve.specs.Faults.{IsFirstWeak, IsRange}
 use Rattle.sdm_curve.proofs.Meanings.{rising_of, segment_known, start_least}
 

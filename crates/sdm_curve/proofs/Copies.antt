@@ -1,9 +1,7 @@
 -- What a map keeps is what was handed in: slopes that are not below 0 are naturals.
-use Rattle.std.proofs.Common.{◌≡◌, ℕ, ℤ, zero, suc, pos, List, [], ◌∷◌, map, ◌+◌, ◌*◌, ◌/◌, ◌%◌, ◌<◌, ◌≤◌, ◌≤ℤ◌, length, get_or, unsigned_abs, ap, arith, refl, sym, ◌∙◌}
+use Rattle.std.proofs.Common.{◌≡◌, ℕ, ℤ, suc, pos, List, [], ◌∷◌, map, ◌/◌, ◌%◌, ◌<◌, ◌≤ℤ◌, length, get_or, unsigned_abs, ap, arith, refl, ◌∙◌}
 use Rattle.std.proofs.lemmas.Int.{ints}
-use Rattle.std.proofs.lemmas.Nat.{div-add-mod'}
-use Rattle.sdm_rules.specs.Slopes.{SlopeMap, bands_of}
-use Rattle.sdm_curve.specs.Maps.{MapData, map_data, data_of, slope_in, IsStrong, IsKept}
+use Rattle.sdm_curve.specs.Maps.{MapData, data_of, IsKept}
 use Rattle.sdm_curve.proofs.Rows.{slope_at_index, index_known}
 
 naturals_back : (zs : List ℤ) → ((k : ℕ) → k < length zs → pos 0 ≤ℤ get_or zs k (pos 0)) → map pos (map unsigned_abs zs) ≡ zs

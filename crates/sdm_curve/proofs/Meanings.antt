@@ -1,10 +1,10 @@
 -- What a kept map stands for, cell by cell: the slope of the segment that holds the cell.
-use Rattle.std.proofs.Common.{◌^◌, ◌≡◌, ℕ, ℤ, zero, suc, pos, List, map, ◌+◌, ◌*◌, ◌<◌, ◌≤◌, ◌*ℤ◌, ◌≤ℤ◌, ◌<ℤ◌, length, get_or, unsigned_abs, ap, arith, refl, inl, inr, ◌∙◌}
+use Rattle.std.proofs.Common.{◌^◌, ◌≡◌, ℕ, ℤ, pos, List, ◌+◌, ◌*◌, ◌<◌, ◌≤◌, ◌≤ℤ◌, length, get_or, arith, inl, inr, ◌∙◌}
 use Rattle.std.proofs.lemmas.Int.{ints}
 use Rattle.std.proofs.lemmas.Bool.{cases_lt}
 use Rattle.std.proofs.lemmas.List.{get_or_default}
 use Rattle.std.proofs.Math.ListN.{get_or-map, length-map}
-use Rattle.sdm_rules.specs.Slopes.{SlopeMap, meaning_of, segment_of, bands_of, variation, IsUsable}
+use Rattle.sdm_rules.specs.Slopes.{SlopeMap, meaning_of, segment_of, bands_of, IsUsable}
 use Rattle.sdm_laws.proofs.Segments.{IsRising, in_segment}
 use Rattle.sdm_curve.specs.Maps.{data_of, slope_in, AreStarts, IsKept}
 use Rattle.sdm_curve.proofs.Rows.{row_known}

@@ -1,13 +1,13 @@
 -- The slopes of a band stand side by side in the list of all slopes: the row of the band.
-use Rattle.std.proofs.Common.{◌≡◌, ℕ, ℤ, pos, List, ◌+◌, ◌-◌, ◌*◌, ◌/◌, ◌%◌, ◌<◌, ◌≤◌, ◌*ℤ◌, ◌≤ℤ◌, ◌<ℤ◌, length, get_or, take, drop, ap, sym, subst, ◌∙◌, arith, length-drop, inl, inr}
+use Rattle.std.proofs.Common.{◌≡◌, ℕ, ℤ, pos, List, ◌+◌, ◌-◌, ◌*◌, ◌/◌, ◌%◌, ◌<◌, ◌≤◌, ◌*ℤ◌, ◌≤ℤ◌, length, get_or, drop, ap, sym, subst, ◌∙◌, arith, length-drop, inl, inr}
 use Rattle.std.specs.List.{slice_range}
 use Rattle.std.proofs.lemmas.Int.{ints}
 use Rattle.std.proofs.lemmas.List.{get_or-take, get_or-drop, length-take}
 use Rattle.std.proofs.lemmas.Nat.{div-add-mod'}
 use Rattle.std.proofs.lemmas.Bool.{cases_lt}
-use Rattle.std.proofs.Math.Nat.{mul-le-mul_left, mul-le-mul_right}
+use Rattle.std.proofs.Math.Nat.{mul-le-mul_right}
 use Rattle.sdm_rules.specs.Slopes.{bands_of, variation}
-use Rattle.sdm_curve.specs.Maps.{MapData, IsMapData, slope_in, start_in, IsStrong, IsStrongBand, AreStrong, IsEvenBand}
+use Rattle.sdm_curve.specs.Maps.{MapData, IsMapData, slope_in, IsStrong, AreStrong, IsEvenBand}
 use Rattle.sdm_curve.specs.Checks.{IsWeakIndex, IsRangeOf}
 use Rattle.sdm_curve.specs.Faults.{IsFirstWeak, IsRange}
 

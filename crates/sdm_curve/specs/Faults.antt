@@ -1,5 +1,5 @@
 -- The first fault of slopes that are not accepted (own).
-use Rattle.std.specs.Prelude.{◌≡◌, ℕ, ℤ, pos, ◌*◌, ◌<◌, ◌≤◌, ◌*ℤ◌, ◌≤ℤ◌, ◌<ℤ◌, length}
+use Rattle.std.specs.Prelude.{◌≡◌, ℕ, ℤ, pos, ◌*◌, ◌<◌, ◌*ℤ◌, ◌≤ℤ◌, ◌<ℤ◌, length}
 use Rattle.sdm_rules.specs.Slopes.{bands_of, variation}
 use Rattle.sdm_rules.specs.Opening.{IsNthFrom1}
 use Rattle.sdm_curve.specs.declared.faults.CurveFault.{CurveFault}

@@ -1,4 +1,4 @@
-use Rattle.std.proofs.Common.{arith, ◌≡◌, ℕ, ◌*◌, ◌+◌, ◌≤◌, ◌^◌, ◌<◌, length, get_or, ap, subst}
+use Rattle.std.proofs.Common.{arith, ℕ, ◌*◌, ap, subst}
 use Rattle.sdm_rules.specs.Slopes.{SlopeMap}
 use Rattle.sdm_curve.specs.Maps.{data_of, IsKept}
 use Rattle.sdm_curve.proofs.Meanings.{slope_some, slope_most, kept_known, read_is}
