@@ -1,0 +1,2 @@
+pub mod ZoneLaws
+pub mod StartLaws
