@@ -1,2 +1,3 @@
 pub mod ZoneLaws
 pub mod StartLaws
+pub mod HeldLaws
