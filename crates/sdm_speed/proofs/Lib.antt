@@ -1,3 +1,4 @@
 pub mod ZoneLaws
 pub mod StartLaws
 pub mod HeldLaws
+pub mod StaticLaws

@@ -9,9 +9,7 @@ ghost use Rattle.sdm_rules.specs.Cells.{lowest};
 ghost use Rattle.sdm_rules.specs.Profile.{zones_of_track, zone_of, end_for};
 ghost use Rattle.sdm_rules.specs.Records.{restrict_fault, revoke_fault, most_restrictions};
 ghost use Rattle.sdm_rules.specs.Targets.{IsNextFall, HasNoFall};
-ghost use Rattle.sdm_rules.specs.Ranges.{most_speeds};
-ghost use Rattle.sdm_track.specs.Steps.{IsRising};
-ghost use Rattle.sdm_track.specs.Ranges.{IsSpeedStep, longest_track};
+ghost use Rattle.sdm_track.specs.Ranges.{AreSpeeds, longest_track};
 ghost use Rattle.sdm_speed.specs.Zones.{IsLimit, IsZone};
 ghost use Rattle.sdm_speed.specs.Held.{has_id};
 ghost use Rattle.sdm_speed.specs.Profiles.{mrsp_of, IsProfile};
@@ -63,59 +61,49 @@ fn speeds_of(alloc: Global, track: &Track) -> Result<Vec<SpeedStep>, NoMemory>
     Ok(speeds)
 }
 
-/// Where a restriction ends for the front end, with a train of this length in cm.
-fn end_for(length_cm: u32, delayed: bool, end: u32) -> i32
+/// Where a speed limit ends for the front end, with a train of this length in cm.
+fn end_for(length_cm: u32, delayed: bool, end: i64) -> i32
     requires train { length_cm ≤ 150_000 }
-    requires track { end ≤ 10_000_000 }
-    ensures { result ≡ end_for (pos length_cm) delayed (pos end) }
+    requires not_before { pos 0 ≤ℤ end }
+    requires on_track { end ≤ℤ longest_track }
+    ensures { result ≡ end_for (pos length_cm) delayed end }
 {
     if delayed {
-        (end + length_cm) as i32
+        (end + i64::from(length_cm)) as i32
     } else {
         end as i32
     }
 }
 
-/// The zone of an entry of the static speed profile, counted from 0: the first has no beginning, the last no end.
-fn static_zone(speeds: &[SpeedStep], i: usize, length_cm: u32) -> Zone
-    requires each { All (IsSpeedStep longest_track) speeds.now }
-    requires rise { IsRising (λ e. e.start) speeds.now }
-    requires train { length_cm ≤ 150_000 }
-    requires known { i < length speeds.now }
-    ensures value { slice_get (zones_of_track (pos length_cm) speeds.now) i ≡ Some result }
-    ensures in_range { IsZone result }
-{
-    let step = speeds[i];
-    let first = if i == 0 { None } else { Some(step.start as i32) };
-    let past = match speeds.get(i + 1) {
-        None => None,
-        Some(next) => Some(end_for(length_cm, step.delayed, next.start as u32)),
-    };
-    Zone {
-        first,
-        past,
-        limit: step.speed as u16,
-    }
-}
-
-/// The zones of the static speed profile, with room for those of the restrictions.
+/// The zones of the static speed profile, with room for those of the restrictions. Each border closes a zone and opens the next.
 fn static_zones(
     alloc: Global,
     speeds: &[SpeedStep],
     length_cm: u32,
 ) -> Result<Vec<Zone>, NoMemory>
-    requires few { length speeds.now ≤ most_speeds }
-    requires each { All (IsSpeedStep longest_track) speeds.now }
-    requires rise { IsRising (λ e. e.start) speeds.now }
+    requires speeds { AreSpeeds longest_track speeds.now }
     requires train { length_cm ≤ 150_000 }
     ensures value { IfOk result (λ zones. zones.items ≡ zones_of_track (pos length_cm) speeds.now) }
     ensures in_range { IfOk result (λ zones. All IsZone zones.items) }
     ensures room { IfOk result (λ zones. vec_len zones + most_restrictions ≤ vec_capacity zones) }
 {
     let mut zones = Vec::with_capacity(alloc, speeds.len() + MOST_RESTRICTIONS)?;
-    for i in 0..speeds.len() {
-        zones.push_reserved(static_zone(speeds, i, length_cm));
+    let mut first = None;
+    for i in 1..speeds.len() {
+        let step = speeds[i - 1];
+        let border = speeds[i].start;
+        zones.push_reserved(Zone {
+            first,
+            past: Some(end_for(length_cm, step.delayed, border)),
+            limit: step.speed as u16,
+        });
+        first = Some(border as i32);
     }
+    zones.push_reserved(Zone {
+        first,
+        past: None,
+        limit: speeds[speeds.len() - 1].speed as u16,
+    });
     Ok(zones)
 }
 
@@ -130,7 +118,7 @@ fn zone_of(r: Restriction, length_cm: u32) -> Zone
 {
     Zone {
         first: Some(r.start as i32),
-        past: Some(end_for(length_cm, r.delayed, r.end)),
+        past: Some(end_for(length_cm, r.delayed, i64::from(r.end))),
         limit: r.speed,
     }
 }
