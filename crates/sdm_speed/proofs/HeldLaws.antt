@@ -1,6 +1,6 @@
 -- A list of restrictions of distinct identities stands for a map by identity: one more at its end is an insertion, one less a
 -- removal, and the lowest limit of their zones is the same in the order of the list and in that of the map.
-use Rattle.std.proofs.Common.{◌≡◌, ◌≢◌, ℕ, zero, suc, ℤ, pos, List, [], ◌∷◌, ◌++◌, length, get_or, map, Option, Some, None, IsSome, is_some, Bool, true, false, cond, not, if◌then◌else◌, position, ◌==◌, ◌+◌, ◌-◌, ◌<◌, ◌≤◌, refl, sym, ap, subst, ◌∙◌, arith}
+use Rattle.std.proofs.Common.{◌≡◌, ◌≢◌, ℕ, zero, suc, ℤ, pos, List, [], ◌∷◌, ◌++◌, length, get_or, take, drop, All, map, Option, Some, None, IsSome, is_some, Bool, true, false, cond, not, if◌then◌else◌, position, ◌==◌, ◌+◌, ◌-◌, ◌<◌, ◌≤◌, refl, sym, ap, subst, ◌∙◌, arith}
 use Rattle.std.specs.List.{remove, position_from}
 use Rattle.std.specs.Ordering.{nat_cmp, eq_by_cmp, is_eq}
 use Rattle.std.specs.Cmp.{nat_cmp_total, eq_by_cmp_equiv}
@@ -11,6 +11,8 @@ use Rattle.std.specs.declared.cmp.Ordering.TheVariants.{Less, Equal, Greater}
 use Rattle.std.proofs.lemmas.Bool.Decides.{nat_tests}
 use Rattle.std.proofs.lemmas.Iterator.Adapters.{position_from-zero}
 use Rattle.std.proofs.lemmas.List.{map-append, nil_from_length}
+use Rattle.std.proofs.lemmas.List.Edits.{remove-append_right}
+use Rattle.std.proofs.lemmas.List.Elements.{All-append, All-take, All-drop}
 use Rattle.std.proofs.lemmas.List.Quantifiers.{position-Some}
 use Rattle.sdm_rules.specs.declared.restrictions.Restriction.{Restriction}
 use Rattle.sdm_rules.specs.Profile.{Zone, covers, capped, lowest_limit, zone_of}
@@ -72,6 +74,13 @@ found_from id (x ∷ xs) i =
 pub contains_is : (rs : List Restriction) (id : ℕ) → finite.contains_key (by_identity rs) id ≡ is_some (position (has_id id) rs)
 contains_is rs id = rw (get_is rs id) (found_from id rs 0 ∙ ap is_some (sym (position_from-zero (has_id id) rs)))
 
+no_value : (o : Option Restriction) → is_some o ≡ false → o ≡ None
+no_value None e = refl
+no_value (Some r) e = absurd cc
+
+pub missing_of : (rs : List Restriction) (id : ℕ) → finite.contains_key (by_identity rs) id ≡ false → finite.find nat_cmp id (map keyed rs) ≡ None
+missing_of rs id new = sym (get_is rs id) ∙ no_value (finite.get (by_identity rs) id) new
+
 -- one restriction more at the end
 missing_more : (q : ℕ) (rs : List Restriction) (r : Restriction) → finite.find nat_cmp r.id (map keyed rs) ≡ None → eq_by_cmp nat_cmp q r.id ≡ false → finite.find nat_cmp q (map keyed rs) ≡ None → finite.find nat_cmp q (map keyed (rs ++ r ∷ [])) ≡ None
 missing_more q rs r rest apart missing = rw (map-append keyed rs (r ∷ []), find-append nat_cmp nat_cmp_total (map keyed rs) r.id r q rest, apart) missing
@@ -121,6 +130,21 @@ distinct_less [] zero h = tt
 distinct_less [] (suc i) h = tt
 distinct_less (x ∷ xs) zero h = h.1
 distinct_less (x ∷ xs) (suc i) h = (none_less xs x.id i h.0, distinct_less xs i h.1)
+
+-- and one zone less
+map-remove : {A B : Type 0} (f : A → B) (xs : List A) (i : ℕ) → remove (map f xs) i ≡ map f (remove xs i)
+map-remove f [] zero = refl
+map-remove f [] (suc i) = refl
+map-remove f (x ∷ xs) zero = refl
+map-remove {B = B} f (x ∷ xs) (suc i) = ap (λ (ys : List B). f x ∷ ys) (map-remove f xs i)
+
+pub zone_less : (statics : List Zone) (length_cm : ℤ) (rs : List Restriction) (at i : ℕ) → at ≡ length statics + i → remove (statics ++ map (zone_of length_cm) rs) at ≡ statics ++ map (zone_of length_cm) (remove rs i)
+zone_less statics length_cm rs at i e =
+    let after : at - length statics ≡ i = omega arith in
+    remove-append_right statics (map (zone_of length_cm) rs) (length statics) at refl (omega arith) ∙ ap (λ (zs : List Zone). statics ++ zs) (rw after (map-remove (zone_of length_cm) rs i))
+
+pub All-remove : {A : Type 0} (P : A → Type 0) (xs : List A) (i : ℕ) → All P xs → All P (remove xs i)
+All-remove P xs i each = All-append P (take i xs) (drop (suc i) xs) (All-take P i xs each) (All-drop P (suc i) xs each)
 
 -- ---- the lowest limit
 

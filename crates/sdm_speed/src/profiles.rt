@@ -76,11 +76,7 @@ fn end_for(length_cm: u32, delayed: bool, end: i64) -> i32
 }
 
 /// The zones of the static speed profile, with room for those of the restrictions. Each border closes a zone and opens the next.
-fn static_zones(
-    alloc: Global,
-    speeds: &[SpeedStep],
-    length_cm: u32,
-) -> Result<Vec<Zone>, NoMemory>
+fn static_zones(alloc: Global, speeds: &[SpeedStep], length_cm: u32) -> Result<Vec<Zone>, NoMemory>
     requires speeds { AreSpeeds longest_track speeds.now }
     requires train { length_cm ≤ 150_000 }
     ensures value { IfOk result (λ zones. zones.items ≡ zones_of_track (pos length_cm) speeds.now) }
