@@ -1,4 +1,4 @@
--- What the parts of the check find.
+-- What the parts of the check find (own).
 use Rattle.std.specs.Prelude.{◌≡◌, ℕ, ℤ, pos, List, ◌*◌, ◌<◌, ◌*ℤ◌, ◌≤ℤ◌, ◌<ℤ◌, length, slice_index_or}
 use Rattle.sdm_curve.specs.Maps.{IsStrong}
 

@@ -9,6 +9,7 @@ pub record MapData : Type 0 where
   pub starts : List ℤ
   pub slopes : List ℤ
 
+-- its parts, one by one
 abbrev pub map_data : ℕ → List ℕ → List ℤ → List ℤ → MapData
 map_data q uppers starts slopes = record { q = q; uppers = uppers; starts = starts; slopes = slopes }
 
@@ -78,6 +79,7 @@ AreStrong d = (band : ℕ) → band < bands_of d.uppers → IsStrongBand d band
 abbrev pub AreEven : MapData → Type 0
 AreEven d = (band : ℕ) → band < bands_of d.uppers → IsEvenBand d band
 
+-- the slopes that a map is made of: none too weak, in no band too uneven
 pub record IsAccepted (d : MapData) : Type 0 where
   pub strong : AreStrong d
   pub even : AreEven d
