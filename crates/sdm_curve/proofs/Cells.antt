@@ -5,8 +5,8 @@ use Rattle.std.proofs.lemmas.Int.{ints}
 use Rattle.std.proofs.lemmas.Bool.{cases_lt}
 use Rattle.sdm_rules.specs.Slopes.{segment_of, bands_of, variation}
 use Rattle.sdm_laws.proofs.Segments.{in_segment, segment_is}
-use Rattle.sdm_curve.specs.Maps.{MapData, AreStarts, slope_in, slope_on, start_in, IsStrong, IsStrongBand, IsEvenBand}
-use Rattle.sdm_curve.specs.Faults.{IsFirstWeak, IsRange}
+use Rattle.sdm_curve.specs.Maps.{MapData, AreStarts, slope_in, slope_on, start_in, IsStrongSlope, IsStrongBand, IsEvenBand}
+use Rattle.sdm_curve.specs.Faults.{IsFirstWeakSlope, IsBandRange}
 use Rattle.sdm_curve.proofs.Meanings.{rising_of, segment_known, start_least}
 
 pub segment_start : (starts : List ℤ) (i : ℕ) → AreStarts starts → i < length starts → segment_of starts (get_or starts i (pos 0)) ≡ i
@@ -34,10 +34,10 @@ start_cell d i h known = let least = start_least d.starts i h known in omega (ar
 
 -- ---- strong and even bands
 
-pub strong_cells : (d : MapData) (band : ℕ) → AreStarts d.starts → IsStrongBand d band → (c : ℤ) → IsStrong d.q (slope_on d band c)
+pub strong_cells : (d : MapData) (band : ℕ) → AreStarts d.starts → IsStrongBand d band → (c : ℤ) → IsStrongSlope d.q (slope_on d band c)
 strong_cells d band h strong c = strong (segment_of d.starts c) (segment_known d.starts c h)
 
-pub strong_segments : (d : MapData) (band : ℕ) → AreStarts d.starts → ((c : ℕ) → IsStrong d.q (slope_on d band (pos c))) → IsStrongBand d band
+pub strong_segments : (d : MapData) (band : ℕ) → AreStarts d.starts → ((c : ℕ) → IsStrongSlope d.q (slope_on d band (pos c))) → IsStrongBand d band
 strong_segments d band h strong i known =
     omega (arith, ints, strong (unsigned_abs (start_in d i)), slope_on_start d band i h known, ap (slope_on d band) (start_cell d i h known))
 
@@ -64,10 +64,10 @@ pub record IsFirstWeakCell (d : MapData) (band : ℕ) (cell slope : ℤ) : Type 
   pub from_0 : pos 0 ≤ℤ cell
   pub value : slope ≡ slope_on d band cell
   pub weak : (pos 20 *ℤ slope) <ℤ pos (2_000_000_000 * d.q)
-  pub lower_bands : (b : ℕ) (c : ℤ) → b < band → IsStrong d.q (slope_on d b c)
-  pub earlier : (c : ℤ) → pos 0 ≤ℤ c → c <ℤ cell → IsStrong d.q (slope_on d band c)
+  pub lower_bands : (b : ℕ) (c : ℤ) → b < band → IsStrongSlope d.q (slope_on d b c)
+  pub earlier : (c : ℤ) → pos 0 ≤ℤ c → c <ℤ cell → IsStrongSlope d.q (slope_on d band c)
 
-pub weak_cell : (d : MapData) (band i : ℕ) → AreStarts d.starts → IsFirstWeak d band i → IsFirstWeakCell d band (start_in d i) (slope_in d band i)
+pub weak_cell : (d : MapData) (band i : ℕ) → AreStarts d.starts → IsFirstWeakSlope d band i → IsFirstWeakCell d band (start_in d i) (slope_in d band i)
 weak_cell d band i h w = record {
   known = w.known_band;
   from_0 = start_least d.starts i h w.known;
@@ -88,7 +88,7 @@ pub record IsCellRange (d : MapData) (band : ℕ) (least greatest : ℤ) : Type 
   pub above : (c : ℤ) → least ≤ℤ slope_on d band c
   pub below : (c : ℤ) → slope_on d band c ≤ℤ greatest
 
-pub range_cells : (d : MapData) (band : ℕ) (least greatest : ℤ) → AreStarts d.starts → IsRange d band least greatest → IsCellRange d band least greatest
+pub range_cells : (d : MapData) (band : ℕ) (least greatest : ℤ) → AreStarts d.starts → IsBandRange d band least greatest → IsCellRange d band least greatest
 range_cells d band least greatest h r = record {
   low = (unsigned_abs (start_in d r.low.0), at r.low.0 r.low.1 ∙ r.low.2);
   high = (unsigned_abs (start_in d r.high.0), at r.high.0 r.high.1 ∙ r.high.2);

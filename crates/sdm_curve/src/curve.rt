@@ -40,7 +40,6 @@ impl Curve {
         ensures speed { result.speed ≡ speed }
         ensures made { IsMadeFrom map.now result }
     {
-        let _map = map;
         Curve { foot, speed }
     }
 
