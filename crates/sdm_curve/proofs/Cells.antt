@@ -1,11 +1,14 @@
 -- What is said of the segments of a map, said of the cells of the track: each cell has the slope of its segment, and each
 -- segment holds its own first cell.
-use Rattle.std.proofs.Common.{◌≡◌, ℕ, ℤ, zero, suc, pos, List, ◌*◌, ◌<◌, ◌≤ℤ◌, ◌*ℤ◌, ◌<ℤ◌, length, get_or, unsigned_abs, ap, arith, sym, ◌∙◌, inl, inr}
+use Rattle.std.proofs.Common.{◌≡◌, ℕ, ℤ, zero, suc, pos, List, ◌*◌, ◌<◌, ◌≤◌, ◌≤ℤ◌, ◌*ℤ◌, ◌<ℤ◌, length, get_or, unsigned_abs, ap, arith, sym, ◌∙◌, inl, inr}
 use Rattle.std.proofs.lemmas.Int.{ints}
 use Rattle.std.proofs.lemmas.Bool.{cases_lt}
-use Rattle.sdm_rules.specs.Slopes.{segment_of, bands_of, variation}
+use Rattle.std.proofs.Math.Nat.{mul-le-mul_right}
+use Rattle.std.proofs.Math.Path.{fun_ext}
+use Rattle.std.proofs.Math.ListN.{get_or-eq_default, length-map}
+use Rattle.sdm_rules.specs.Slopes.{SlopeMap, Slopes, meaning_of, segment_of, bands_of, variation}
 use Rattle.sdm_laws.proofs.Segments.{in_segment, segment_is}
-use Rattle.sdm_curve.specs.Maps.{MapData, AreStarts, slope_in, slope_on, start_in, IsStrongSlope, IsStrongBand, IsEvenBand}
+use Rattle.sdm_curve.specs.Maps.{IsKept, handed_in, MapData, AreStarts, slope_in, slope_on, start_in, IsStrongSlope, IsStrongBand, IsEvenBand}
 use Rattle.sdm_curve.specs.Faults.{IsFirstWeakSlope, IsBandRange}
 use Rattle.sdm_curve.proofs.Meanings.{rising_of, segment_known, start_least}
 
@@ -98,3 +101,17 @@ range_cells d band least greatest h r = record {
   where
     at : (i : ℕ) → i < length d.starts → slope_on d band (pos (unsigned_abs (start_in d i))) ≡ slope_in d band i
     at i known = ap (slope_on d band) (sym (start_cell d i h known)) ∙ slope_on_start d band i h known
+
+-- ---- what a kept map stands for
+
+-- past the last band there is no slope
+pub slope_past : (m : SlopeMap) (band : ℕ) (c : ℤ) → IsKept (handed_in m) → bands_of m.uppers ≤ band → (meaning_of m).slope band c ≡ 0
+slope_past m band c h past =
+    let all : length m.slopes ≡ bands_of m.uppers * length m.starts = rw length-map at h.well_formed.lengths in
+    get_or-eq_default m.slopes 0 (omega (arith, mul-le-mul_right (length m.starts) past))
+
+-- a map stands for what has its q, its upper speeds and its slope in each band and cell
+pub meaning_is : (m : SlopeMap) (on : Slopes) → m.q ≡ on.q → m.uppers ≡ on.uppers → ((band : ℕ) (c : ℤ) → (meaning_of m).slope band c ≡ on.slope band c) → meaning_of m ≡ on
+meaning_is m on same_q same_uppers same =
+    let slopes : (meaning_of m).slope ≡ on.slope = fun_ext (λ band. fun_ext (λ c. same band c)) in
+    rw (same_q, same_uppers, slopes)

@@ -12,6 +12,9 @@ use sdm_num::Speed;
 use std::alloc::{AllocError, Global};
 use std::marker::Model;
 
+/// 5,400,000,000 grains: a cell, which is one centimetre.
+const CELL: i128 = 5_400_000_000;
+
 /// A slope for each speed band and each segment of the track, in 1/Q m/s² with Q = 2·10⁹·q, in a form that every law of
 /// curves can stand on: at least 0.05 m/s², and in one band not too uneven. (own)
 #[derive(Drop)]
@@ -166,6 +169,6 @@ impl BandMap {
         ensures value { result ≡ cell_start 1 (slice_index_or self.now.starts i (pos 0)) }
         ensures within { (pos 0 ≤ℤ result) × (result ≤ℤ pos (2 ^ 64)) }
     {
-        5_400_000_000 * i128::from(self.start(i))
+        CELL * i128::from(self.start(i))
     }
 }

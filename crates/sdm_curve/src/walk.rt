@@ -1,5 +1,5 @@
-//! The walk through one speed band, segment by segment. It finds the least whole way back that takes up an energy, and
-//! the greatest whole way on that an energy allows; on a way back, rounding so makes the place earlier, as on a way on.
+//! The walk through one speed band, segment by segment: the least whole way back that takes up an energy, and the greatest
+//! whole way on that an energy allows. Both so end at a whole grain that is not past the exact place.
 
 ghost use Rattle.std.specs.Prelude.{◌≡◌, ℕ, pos, ◌+◌, ◌*◌, ◌^◌, ◌<◌, ◌≤◌, ◌≤ℤ◌, length, slice_index, slice_index_or};
 ghost use Rattle.sdm_num.specs.Units.{top_speed};
