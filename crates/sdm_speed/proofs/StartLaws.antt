@@ -45,6 +45,14 @@ or_second : (a b : Bool) → (a || b) ≡ false → b ≡ false
 or_second true b h = cc
 or_second false b h = h
 
+or_true : (b : Bool) → (b || true) ≡ true
+or_true true = refl
+or_true false = refl
+
+or_nothing : (b : Bool) → (b || false) ≡ b
+or_nothing true = refl
+or_nothing false = refl
+
 -- ---- no fall where no zone begins
 
 begun_before : (first : Option ℤ) (c : ℤ) → option_map_or (int_eq c) first false ≡ false → option_map_or (λ f. int_le f c) first true ≡ true → option_map_or (λ f. int_le f (c -ℤ pos 1)) first true ≡ true
@@ -101,10 +109,6 @@ next_with holds after None (Some d) h =
       first = λ c a m. rw (h.none c a) (apart c d (λ e. let no : d <ℤ d = rw e at m in omega (arith, ints)));
     }))
     (λ (g : d ≤ℤ after). rw (not_lt_is after d g) (record { none = λ c a. rw (h.none c a) (apart c d (λ e. let no : after <ℤ d = rw e at a in omega (arith, ints))) }))
-  where
-    or_true : (b : Bool) → (b || true) ≡ true
-    or_true true = refl
-    or_true false = refl
 next_with holds after (Some b) (Some d) h =
     by_lt_z after d
     (λ (l : after <ℤ d). by_lt_z d b
@@ -123,14 +127,6 @@ next_with holds after (Some b) (Some d) h =
       here = rw h.here refl;
       first = λ c a k. rw (h.first c a k) (apart c d (λ e. let no : after <ℤ d = rw e at a in omega (arith, ints)));
     }))
-  where
-    or_true : (b : Bool) → (b || true) ≡ true
-    or_true true = refl
-    or_true false = refl
-
-or_nothing : (b : Bool) → (b || false) ≡ b
-or_nothing true = refl
-or_nothing false = refl
 
 has_start-push : (zs : List Zone) (z : Zone) (c : ℤ) → has_start (zs ++ z ∷ []) c ≡ (has_start zs c || starts_at c z)
 has_start-push zs z c = list_any-append (starts_at c) zs (z ∷ []) ∙ ap (λ b. has_start zs c || b) (or_nothing (starts_at c z))

@@ -8,3 +8,6 @@ mod zones;
 
 pub use profiles::Profile;
 pub use sdm_rules::{Fall, RestrictFault, Restriction, RevokeFault};
+
+#[cfg(test)]
+mod tests;
