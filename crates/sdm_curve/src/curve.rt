@@ -50,6 +50,7 @@ impl Curve {
         ensures at { result.at ≡ stepped (meaning_of map.now) self.now.place self.now.speed v }
         ensures stands { IsEarlyFor result (exact (meaning_of map.now) self.now.place self.now.speed v) }
         ensures slack { result.slack ≤ most_slack }
+        ensures foot { IsFootPlace self.now.place }
         ensures not_before { (self.now.place +ℤ neg_ℤ (pos most_way)) ≤ℤ result.at }
         ensures not_past { result.at ≤ℤ (self.now.place +ℤ pos most_way) }
         ensures range { (neg_ℤ (pos (10 ^ 18)) ≤ℤ result.at) × (result.at ≤ℤ pos (10 ^ 18)) }
