@@ -36,3 +36,4 @@ pub mod Search
 pub mod Decided
 pub mod OneFault
 pub mod OneRun
+mod OpenCases

@@ -13,6 +13,7 @@ pub record IsDecided (d : LineData) (a : Authority) : Type 0 where
   pub not_both : (fault : OpenFault) → IsAccepted d a → IsOpenFault d a fault → ⊥
   pub one_fault : (fault fault' : OpenFault) → IsOpenFault d a fault → IsOpenFault d a fault' → fault ≡ fault'
 
+-- so of all data and authorities
 abbrev pub LawOfOpening : Type 0
 LawOfOpening = (d : LineData) (a : Authority) → IsDecided d a
 

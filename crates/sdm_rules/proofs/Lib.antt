@@ -4,7 +4,7 @@ mod DecelerationCases
 mod ProfileCases
 pub mod LimitCases
 mod TriggerCases
-mod RowCases
+pub mod RowCases
 mod TextCases
 mod InputCases
 mod FlatCases

@@ -78,7 +78,8 @@ descend round on s (suc band) x u z =
     let within = if nat_le border z then here else past in
     if nat_le u border then below else within
 
--- the place where the curve from the foot `f`, in grains, with the foot speed `w`, in notches, has the square `z` (own)
+-- the place where the curve from the foot `f`, in grains, with the foot speed `w`, in notches, has the square `z`
+-- (SUBSET-026-3 3.13.8.3 to 3.13.8.5; own form)
 unfoldable pub place_at : (Fraction → Fraction) → Slopes → ℕ → ℤ → ℕ → ℕ → Fraction
 place_at round on s f w z =
     let u = s * (w * w) in
@@ -99,7 +100,7 @@ to_grain x = whole (floor x)
 unfoldable pub exact_at : Slopes → ℕ → ℤ → ℕ → ℕ → Fraction
 exact_at on s f w z = place_at as_is on s f w z
 
--- the exact place of the speed `v`: grains, notches (own)
+-- the exact place of the speed `v`: grains, notches (SUBSET-026-3 3.13.8.3 to 3.13.8.5; own form)
 unfoldable pub exact : Slopes → ℤ → ℕ → ℕ → Fraction
 exact on f w v = exact_at on 1 f w (v * v)
 

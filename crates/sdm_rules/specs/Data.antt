@@ -53,6 +53,7 @@ pub record TrackData : Type 0 where
   pub speeds : List SpeedStep
   pub areas : List Area
 
+-- what the data part of a journey gives, but for the authority (SUBSET-026-3 3.13.2)
 pub record LineData : Type 0 where
   pub train : TrainData
   pub national : NationalFields  -- the national values (SUBSET-026-3 3.13.2.3, A.3.2)

@@ -31,6 +31,7 @@ pub record UnderTrain : Type 0 where
   pub grad : ℤ  -- the least gradient of the cells from the rear end to the front end, per mille (SUBSET-026-3 3.13.4.2; own cell form)
   pub reduced : Bool  -- reduced adhesion is in force (SUBSET-026-3 3.13.6.2; own areas)
 
+-- the track under a train of a length in cm with its front end in a cell (SUBSET-026-3 3.13.4.2; own cell form)
 abbrev pub under_train : TrackData → ℤ → ℤ → UnderTrain
 under_train track length_cm cell = record {
   grad = lowest int_min (track_gradient track.gradients) (cell -ℤ length_cm) (unsigned_abs length_cm);

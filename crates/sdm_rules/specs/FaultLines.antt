@@ -101,6 +101,7 @@ key_path sections.Speed index key = below (section_path sections.Speed index) (k
 key_path sections.Adhesion index key = below (section_path sections.Adhesion index) (key_name sections.Adhesion key)
 key_path sections.Authority index key = below (section_path sections.Authority index) (key_name sections.Authority key)
 
+-- the path of a key that a fault names (own)
 abbrev pub at_path : At → List ℕ
 at_path at = key_path at.section at.index at.key
 
@@ -111,14 +112,17 @@ abbrev pub train_path : ℕ → ℕ → List ℕ
 train_path zero key = key_path sections.Train 0 key
 train_path (suc i) key = key_path sections.Band (suc i) key
 
+-- a fault of the train (own)
 unfoldable pub train_text : TrainFault → List ℕ
 train_text train_faults.BandCount = codes "band count"
 train_text (train_faults.BandOrder band) = codes "band order " ++ entry_path sections.Band band
 train_text (train_faults.Value band key) = codes "value " ++ train_path band key
 
+-- a fault of the national values (own)
 unfoldable pub national_text : NationalFault → List ℕ
 national_text (national_faults.Value key) = codes "value " ++ key_path sections.National 0 key
 
+-- a fault of the track (own)
 unfoldable pub track_text : TrackFault → List ℕ
 track_text (track_faults.Count list) = codes "count " ++ list_path list
 track_text (track_faults.Order list index) = codes "order " ++ entry_path list index
@@ -129,6 +133,7 @@ track_text (track_faults.Gap list) = codes "gap " ++ list_path list
 unfoldable pub memory_text : List ℕ
 memory_text = codes "no memory"
 
+-- the first rule that the data part breaks (own)
 unfoldable pub data_text : DataFault → List ℕ
 data_text (data_faults.Missing at) = codes "bad data: missing " ++ at_path at
 data_text (data_faults.UnknownKey section index) = codes "bad data: unknown key in " ++ section_path section index
@@ -141,40 +146,48 @@ data_text data_faults.Memory = memory_text
 
 -- ---- refusals of the opening and of records
 
+-- why an authority is refused (own)
 unfoldable pub authority_text : AuthorityFault → List ℕ
 authority_text SvlBeforeEoa = codes "supervised location before end"
 authority_text BeyondTrack = codes "beyond track"
 authority_text BadSpeed = codes "bad speed"
 
+-- a kind of slope (own)
 unfoldable pub kind_text : SlopeKind → List ℕ
 kind_text Safe = codes "safe"
 kind_text Expected = codes "expected"
 kind_text Normal = codes "normal"
 
+-- why an opening is refused (own)
 unfoldable pub open_text : OpenFault → List ℕ
 open_text (open_faults.TooWeak kind band cell slope) = codes "refused: too weak: " ++ kind_text kind ++ codes " band " ++ decimal band ++ codes " cell " ++ signed_decimal cell
 open_text (open_faults.TooVaried kind band least greatest) = codes "refused: too varied: " ++ kind_text kind ++ codes " band " ++ decimal band
 open_text (open_faults.BadAuthority fault) = codes "refused: " ++ authority_text fault
 open_text open_faults.Memory = memory_text
 
+-- why a field is refused (own)
 unfoldable pub field_text : FieldFault → List ℕ
 field_text NotNumber = codes "not a number"
 field_text OutOfRange = codes "out of range"
 
+-- why the form of a record is refused (own)
 unfoldable pub form_text : EventFault → List ℕ
 form_text event_faults.UnknownKind = codes "unknown kind"
 form_text event_faults.FieldCount = codes "field count"
 form_text (event_faults.Field column fault) = codes "field " ++ decimal column ++ codes ": " ++ field_text fault
 form_text event_faults.TooMany = codes "too many events"
 
+-- why a restriction is refused (own)
 unfoldable pub restrict_text : RestrictFault → List ℕ
 restrict_text restrict_faults.Full = codes "too many restrictions"
 restrict_text (restrict_faults.IdInUse id) = codes "identity in use"
 restrict_text restrict_faults.Value = codes "restriction value"
 
+-- why a revocation is refused (own)
 unfoldable pub revoke_text : RevokeFault → List ℕ
 revoke_text (revoke_faults.Unknown id) = codes "identity unknown"
 
+-- why a record is refused (own)
 unfoldable pub cause_text : EventCause → List ℕ
 cause_text (causes.Form fault) = form_text fault
 cause_text (causes.Authority fault) = authority_text fault

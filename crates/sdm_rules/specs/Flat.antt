@@ -103,6 +103,7 @@ abbrev pub comma_fields : List ℕ → List (List ℕ)
 comma_fields [] = [] ∷ []
 comma_fields (c ∷ cs) = if c == 44 then [] ∷ comma_fields cs else before_all c (comma_fields cs)
 
+-- the rest with the number of a field, if it is accepted (own)
 abbrev pub with_field : Result ℤ FieldFault → (ℤ → Option FlatLine) → Option FlatLine
 with_field (Err fault) rest = None
 with_field (Ok n) rest = rest n
@@ -116,6 +117,7 @@ flat_line_of (time ∷ front ∷ speed ∷ []) =
     Some (record { time = unsigned_abs time; front = place_of_mm front; speed = notches_of_mm_s (unsigned_abs speed) }))))
 flat_line_of _ = None
 
+-- a line of the input, if it is of the form due (own)
 unfoldable pub flat_line : List ℕ → Option FlatLine
 flat_line bytes = flat_line_of (comma_fields bytes)
 
@@ -137,6 +139,7 @@ flat_go_on n s l None rest =
     let later = rest (after_flat_line s l) in
     record later { text = flat_text (flat_row s l) ++ later.text }
 
+-- the output from a line on (own)
 abbrev pub flat_step : ℕ → FlatSupervision → Option FlatLine → (FlatSupervision → Output) → Output
 flat_step n s None rest = record { text = []; end = BadEvent n Line }
 flat_step n s (Some l) rest = flat_go_on n s l (time_fault s.last_time l.time) rest

@@ -18,7 +18,7 @@ use Rattle.sdm_rules.specs.Records.{authority_fault}
 abbrev pub IsStrongAt : SlopeKind → LineData → ℕ → ℕ → Type 0
 IsStrongAt kind d band cell = pos (2_000_000_000 * q_of d.train.rotating_mass) ≤ℤ (pos 20 *ℤ slope_at kind d band (pos cell))
 
--- how many bands the train has
+-- how many bands the train has (own)
 abbrev pub band_count_of : LineData → ℕ
 band_count_of d = length d.train.bands
 

@@ -30,6 +30,7 @@ static_zones length_cm first e (next ∷ es) =
     record { first = first; past = Some (end_for length_cm e.delayed next.start); limit = unsigned_abs e.speed }
     ∷ static_zones length_cm (Some next.start) next es
 
+-- the restrictions of the static speed profile (SUBSET-026-3 3.11.3; own cell form)
 abbrev pub zones_of_track : ℤ → List SpeedStep → List Zone
 zones_of_track length_cm [] = []
 zones_of_track length_cm (e ∷ es) = static_zones length_cm None e es

@@ -122,9 +122,11 @@ steepest = pos 80
 abbrev pub gradient_refused : ℤ → Gradient → Option ℕ
 gradient_refused length_cm g = first_refused (refused 1 (is_within (pos 0) (length_cm -ℤ pos 1) g.start) ∷ refused 2 (is_within (neg_ℤ steepest) steepest g.grad) ∷ [])
 
+-- the first number of an entry of the static speed profile that is refused (own)
 abbrev pub speed_refused : ℤ → SpeedStep → Option ℕ
 speed_refused length_cm s = first_refused (refused 1 (is_within (pos 0) (length_cm -ℤ pos 1) s.start) ∷ refused 2 (is_within (pos 1) (pos 500) s.speed) ∷ [])
 
+-- the first number of an area that is refused: it ends past its start (own)
 abbrev pub area_refused : ℤ → Area → Option ℕ
 area_refused length_cm a = first_refused (refused 1 (is_within (pos 0) (length_cm -ℤ pos 1) a.start) ∷ refused 2 (is_within (a.start +ℤ pos 1) length_cm a.end) ∷ [])
 
@@ -152,9 +154,11 @@ order_fault list start past i (e ∷ next ∷ more) = if int_lt (start next) (pa
 abbrev pub gradient_order : List Gradient → Option TrackFault
 gradient_order es = order_fault sections.Gradient (λ e. e.start) (λ e. e.start +ℤ pos 1) 1 es
 
+-- starts of the static speed profile rise (own)
 abbrev pub speed_order : List SpeedStep → Option TrackFault
 speed_order es = order_fault sections.Speed (λ e. e.start) (λ e. e.start +ℤ pos 1) 1 es
 
+-- areas do not overlap (own)
 abbrev pub area_order : List Area → Option TrackFault
 area_order es = order_fault sections.Adhesion (λ e. e.start) (λ e. e.end) 1 es
 
@@ -162,22 +166,27 @@ area_order es = order_fault sections.Adhesion (λ e. e.start) (λ e. e.end) 1 es
 abbrev pub most_gradients : ℕ
 most_gradients = 512
 
+-- the most entries of the static speed profile (own)
 abbrev pub most_speeds : ℕ
 most_speeds = 128
 
+-- the most areas of reduced adhesion (own)
 abbrev pub most_areas : ℕ
 most_areas = 64
 
+-- the first rule that the gradients break; there may be none (own)
 unfoldable pub gradients_fault : ℤ → List Gradient → Option TrackFault
 gradients_fault length_cm es =
     or_else (count_fault sections.Gradient 0 most_gradients es)
     (or_else (value_fault sections.Gradient (gradient_refused length_cm) 1 es) (or_else (gap_fault sections.Gradient (λ e. e.start) es) (gradient_order es)))
 
+-- the first rule that the static speed profile breaks; it has an entry (own)
 unfoldable pub speeds_fault : ℤ → List SpeedStep → Option TrackFault
 speeds_fault length_cm es =
     or_else (count_fault sections.Speed 1 most_speeds es)
     (or_else (value_fault sections.Speed (speed_refused length_cm) 1 es) (or_else (gap_fault sections.Speed (λ e. e.start) es) (speed_order es)))
 
+-- the first rule that the areas break; there may be none (own)
 unfoldable pub areas_fault : ℤ → List Area → Option TrackFault
 areas_fault length_cm es = or_else (count_fault sections.Adhesion 0 most_areas es) (or_else (value_fault sections.Adhesion (area_refused length_cm) 1 es) (area_order es))
 

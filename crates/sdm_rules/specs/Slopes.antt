@@ -32,7 +32,7 @@ most_bands = 8
 abbrev pub variation : ℕ → ℕ
 variation bands = 16
 
--- how many bands there are
+-- how many bands there are: one more than there are upper speeds (own)
 abbrev pub bands_of : List ℕ → ℕ
 bands_of uppers = suc (length uppers)
 

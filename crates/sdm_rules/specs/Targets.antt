@@ -35,6 +35,7 @@ abbrev pub end_of : Authority → ℕ
 end_of (Stop eoa svl release) = eoa
 end_of (Limit loa speed) = loa
 
+-- the target at a fall: its speed is that of the cell that begins there (SUBSET-026-3 3.13.8.2; own cell form)
 abbrev pub fall_at : (ℤ → ℕ) → ℤ → Target
 fall_at profile cell = record { kind = Mrsp; place = border_of cell; speed = profile cell }
 

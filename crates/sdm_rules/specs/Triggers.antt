@@ -55,6 +55,7 @@ above_ceiling s margin = nat_lt (notches s.ceiling_kmh + margin s.ceiling_kmh) s
 abbrev pub above_release : Situation → Bool
 above_release s = option_map_or (λ kmh. nat_lt (notches kmh) s.speed) s.release false
 
+-- no margin: the permitted speed itself (own)
 abbrev pub no_margin : ℕ → ℕ
 no_margin kmh = 0
 

@@ -1,0 +1,184 @@
+-- A track that breaks no rule is within its ranges: where each entry, and each pair of neighbours, was tested in turn with no
+-- fault, all of them keep the rule.
+use Rattle.std.proofs.Common.{◌≡◌, ℕ, zero, suc, ℤ, pos, neg_ℤ, ◌<◌, ◌≤◌, ◌+ℤ◌, ◌-ℤ◌, ◌≤ℤ◌, Bool, true, false, int_le, int_lt, nat_le, ◌&&◌, if◌then◌else◌, List, [], ◌∷◌, length, get_or, Option, Some, None, inl, inr, refl, arith}
+use Rattle.std.proofs.lemmas.Int.{ints}
+use Rattle.std.proofs.lemmas.Bool.{cases_lt}
+use Rattle.std.proofs.lemmas.Bool.Decides.{nat_tests}
+use Rattle.sdm_rules.specs.declared.data.Gradient.{Gradient}
+use Rattle.sdm_rules.specs.declared.data.SpeedStep.{SpeedStep}
+use Rattle.sdm_rules.specs.declared.data.Area.{Area}
+use Rattle.sdm_rules.specs.declared.faults.TrackFault.TheVariants.{Count, Value}
+use Rattle.sdm_rules.specs.declared.faults.Section.{Section}
+use Rattle.sdm_rules.specs.declared.faults.Section.TheVariants as sections
+use Rattle.sdm_rules.specs.Data.{TrackData}
+use Rattle.sdm_rules.specs.Ranges.{or_else, refused, first_refused, fault_at, is_within, count_fault, value_fault, gap_fault, order_fault, length_fault, gradients_fault, speeds_fault, areas_fault, track_fault, gradient_refused, speed_refused, area_refused, steepest, most_gradients, most_speeds, most_areas}
+use Rattle.sdm_track.specs.Steps.{IsFromZero, IsRising}
+use Rattle.sdm_track.specs.Ranges.{IsGradient, IsSpeedStep, IsArea, AreGradients, AreSpeeds, AreAreas, IsTrack}
+
+-- ---- tests that found no fault
+
+neither : {A : Type 0} (x y : Option A) → or_else x y ≡ None → (x ≡ None) × (y ≡ None)
+neither None y e = (refl, e)
+neither (Some x) y e = cc
+
+passed : {F : Type 0} (test : Bool) (fault : F) → (if test then None else Some fault) ≡ None → test ≡ true
+passed true fault e = refl
+passed false fault e = cc
+
+not_found : {F : Type 0} (test : Bool) (fault : F) (later : Option F) → (if test then Some fault else later) ≡ None → (test ≡ false) × (later ≡ None)
+not_found true fault later e = cc
+not_found false fault later e = (refl, e)
+
+not_refused : {F : Type 0} (fault : ℕ → F) (key : Option ℕ) → fault_at fault key ≡ None → key ≡ None
+not_refused fault None e = refl
+not_refused fault (Some key) e = cc
+
+both_true : (a b : Bool) → (a && b) ≡ true → (a ≡ true) × (b ≡ true)
+both_true true b e = (refl, e)
+both_true false b e = cc
+
+le_of : (a b : ℤ) → int_le a b ≡ true → a ≤ℤ b
+le_of a b e = grind (arith, ints)
+
+not_lt_of : (a b : ℤ) → int_lt a b ≡ false → b ≤ℤ a
+not_lt_of a b e = grind (arith, ints)
+
+within : (least greatest n : ℤ) → is_within least greatest n ≡ true → (least ≤ℤ n) × (n ≤ℤ greatest)
+within least greatest n e = (le_of _ _ (both_true _ _ e).0, le_of _ _ (both_true _ _ e).1)
+
+accepted : (key : ℕ) (test : Bool) → refused key test ≡ None → test ≡ true
+accepted key true e = refl
+accepted key false e = cc
+
+-- the first two keys, of which there are no more
+keys_within : (least greatest n least' greatest' n' : ℤ) → first_refused (refused 1 (is_within least greatest n) ∷ refused 2 (is_within least' greatest' n') ∷ []) ≡ None →
+    (least ≤ℤ n) × (n ≤ℤ greatest) × (least' ≤ℤ n') × (n' ≤ℤ greatest')
+keys_within least greatest n least' greatest' n' e =
+    let both = neither (refused 1 (is_within least greatest n)) (or_else (refused 2 (is_within least' greatest' n')) None) e in
+    let first = within least greatest n (accepted 1 _ both.0) in
+    let second = within least' greatest' n' (accepted 2 _ (neither (refused 2 (is_within least' greatest' n')) None both.1).0) in
+    (first.0, first.1, second.0, second.1)
+
+-- ---- each entry, and each pair of neighbours
+
+each_accepted : {E : Type 0} (list : Section) (key_refused : E → Option ℕ) (i : ℕ) (es : List E) → value_fault list key_refused i es ≡ None → (k : ℕ) (d : E) → k < length es → key_refused (get_or es k d) ≡ None
+each_accepted list key_refused i [] e k d l = absurd (omega arith)
+each_accepted list key_refused i (x ∷ xs) e zero d l = not_refused _ (key_refused x) (neither _ (value_fault list key_refused (suc i) xs) e).0
+each_accepted list key_refused i (x ∷ xs) e (suc k) d l = each_accepted list key_refused (suc i) xs (neither _ (value_fault list key_refused (suc i) xs) e).1 k d (omega arith)
+
+each_in_order : {E : Type 0} (list : Section) (start past : E → ℤ) (i : ℕ) (es : List E) → order_fault list start past i es ≡ None → (k : ℕ) (d : E) → suc k < length es → past (get_or es k d) ≤ℤ start (get_or es (suc k) d)
+each_in_order list start past i [] e k d l = absurd (omega arith)
+each_in_order list start past i (x ∷ []) e k d l = absurd (omega arith)
+each_in_order list start past i (x ∷ next ∷ more) e zero d l = not_lt_of (start next) (past x) (not_found _ _ (order_fault list start past (suc i) (next ∷ more)) e).0
+each_in_order list start past i (x ∷ next ∷ more) e (suc k) d l = each_in_order list start past (suc i) (next ∷ more) (not_found _ _ (order_fault list start past (suc i) (next ∷ more)) e).1 k d (omega arith)
+
+-- where each entry ends past its start and its neighbour starts no earlier, all later ones do
+all_in_order : {E : Type 0} (start past : E → ℤ) (es : List E) → ((k : ℕ) (d : E) → k < length es → start (get_or es k d) ≤ℤ past (get_or es k d)) →
+    ((k : ℕ) (d : E) → suc k < length es → past (get_or es k d) ≤ℤ start (get_or es (suc k) d)) → (i j : ℕ) (d : E) → i < j → j < length es → past (get_or es i d) ≤ℤ start (get_or es j d)
+all_in_order start past es long next i zero d lt known = absurd (omega arith)
+all_in_order start past es long next i (suc j) d lt known = elim (cases_lt i j) [
+  | inl before ↦ (
+      let here = all_in_order start past es long next i j d before (omega arith) in
+      let over = long j d (omega arith) in
+      let on = next j d known in
+      omega (arith, ints))
+  | inr ge ↦ (let e : i ≡ j = omega arith in rw e (next j d known))
+]
+
+starts_rise : {E : Type 0} (list : Section) (start : E → ℤ) (i : ℕ) (es : List E) → order_fault list start (λ e. start e +ℤ pos 1) i es ≡ None → IsRising start es
+starts_rise list start i es e = record {
+  rises = λ i j d lt known.
+      let apart = all_in_order start (λ e. start e +ℤ pos 1) es (λ k d l. omega (arith, ints)) (each_in_order list start (λ e. start e +ℤ pos 1) _ es e) i j d lt known in
+      omega (arith, ints);
+}
+
+from_zero : {E : Type 0} (list : Section) (start : E → ℤ) (es : List E) → gap_fault list start es ≡ None → ((k : ℕ) (d : E) → k < length es → pos 0 ≤ℤ start (get_or es k d)) → IsFromZero start es
+from_zero list start [] e low = record { first = λ d some. absurd (omega arith) }
+from_zero list start (x ∷ xs) e low = record {
+  first = λ d some.
+      let above = low 0 d (omega arith) in
+      let below = not_lt_of (pos 0) (start x) (not_found _ _ _ e).0 in
+      omega (arith, ints);
+}
+
+count_within : {E : Type 0} (list : Section) (least most : ℕ) (es : List E) → count_fault list least most es ≡ None → (least ≤ length es) × (length es ≤ most)
+count_within list least most es e =
+    let counted = both_true (nat_le least (length es)) (nat_le (length es) most) (passed _ (Count list) e) in
+    let low : nat_le least (length es) ≡ true = counted.0 in
+    let high : nat_le (length es) most ≡ true = counted.1 in
+    (grind (arith, nat_tests), grind (arith, nat_tests))
+
+-- ---- the entries of each list
+
+is_gradient : (length_cm : ℤ) (e : Gradient) → gradient_refused length_cm e ≡ None → IsGradient length_cm e
+is_gradient length_cm e accepted =
+    let within = keys_within (pos 0) (length_cm -ℤ pos 1) e.start (neg_ℤ steepest) steepest e.grad accepted in
+    record { not_before = within.0; on_track = omega (arith, ints); downhill = within.2; uphill = within.3 }
+
+is_speed_step : (length_cm : ℤ) (e : SpeedStep) → speed_refused length_cm e ≡ None → IsSpeedStep length_cm e
+is_speed_step length_cm e accepted =
+    let within = keys_within (pos 0) (length_cm -ℤ pos 1) e.start (pos 1) (pos 500) e.speed accepted in
+    record { not_before = within.0; on_track = omega (arith, ints); least = within.2; greatest = within.3 }
+
+is_area : (length_cm : ℤ) (a : Area) → area_refused length_cm a ≡ None → IsArea length_cm a
+is_area length_cm a accepted =
+    let within = keys_within (pos 0) (length_cm -ℤ pos 1) a.start (a.start +ℤ pos 1) length_cm a.end accepted in
+    record { not_before = within.0; some_cell = omega (arith, ints); on_track = within.3 }
+
+-- ---- the track
+
+are_gradients : (length_cm : ℤ) (es : List Gradient) → gradients_fault length_cm es ≡ None → AreGradients length_cm es
+unfolding gradients_fault
+are_gradients length_cm es e =
+    let count = neither (count_fault sections.Gradient 0 most_gradients es) _ e in
+    let values = neither (value_fault sections.Gradient (gradient_refused length_cm) 1 es) _ count.1 in
+    let gap = neither (gap_fault sections.Gradient (λ e. e.start) es) _ values.1 in
+    let each = λ (k : ℕ) (d : Gradient) (l : k < length es). is_gradient length_cm (get_or es k d) (each_accepted sections.Gradient (gradient_refused length_cm) 1 es values.0 k d l) in
+    record {
+      few = (count_within sections.Gradient 0 most_gradients es count.0).1;
+      each = each;
+      from_zero = from_zero sections.Gradient (λ e. e.start) es gap.0 (λ k d l. (each k d l).not_before);
+      rise = starts_rise sections.Gradient (λ e. e.start) 1 es gap.1;
+    }
+
+are_speeds : (length_cm : ℤ) (es : List SpeedStep) → speeds_fault length_cm es ≡ None → AreSpeeds length_cm es
+unfolding speeds_fault
+are_speeds length_cm es e =
+    let count = neither (count_fault sections.Speed 1 most_speeds es) _ e in
+    let values = neither (value_fault sections.Speed (speed_refused length_cm) 1 es) _ count.1 in
+    let gap = neither (gap_fault sections.Speed (λ e. e.start) es) _ values.1 in
+    let each = λ (k : ℕ) (d : SpeedStep) (l : k < length es). is_speed_step length_cm (get_or es k d) (each_accepted sections.Speed (speed_refused length_cm) 1 es values.0 k d l) in
+    record {
+      some = (count_within sections.Speed 1 most_speeds es count.0).0;
+      few = (count_within sections.Speed 1 most_speeds es count.0).1;
+      each = each;
+      from_zero = from_zero sections.Speed (λ e. e.start) es gap.0 (λ k d l. (each k d l).not_before);
+      rise = starts_rise sections.Speed (λ e. e.start) 1 es gap.1;
+    }
+
+are_areas : (length_cm : ℤ) (es : List Area) → areas_fault length_cm es ≡ None → AreAreas length_cm es
+unfolding areas_fault
+are_areas length_cm es e =
+    let count = neither (count_fault sections.Adhesion 0 most_areas es) _ e in
+    let values = neither (value_fault sections.Adhesion (area_refused length_cm) 1 es) _ count.1 in
+    let each = λ (k : ℕ) (d : Area) (l : k < length es). is_area length_cm (get_or es k d) (each_accepted sections.Adhesion (area_refused length_cm) 1 es values.0 k d l) in
+    record {
+      few = (count_within sections.Adhesion 0 most_areas es count.0).1;
+      each = each;
+      apart = all_in_order (λ a. a.start) (λ a. a.end) es (λ k d l. (let some = (each k d l).some_cell in omega (arith, ints))) (each_in_order sections.Adhesion (λ a. a.start) (λ a. a.end) 1 es values.1);
+    }
+
+pub track_accepted : (t : TrackData) → track_fault t ≡ None → IsTrack t
+unfolding track_fault
+track_accepted t e =
+    let long = neither (length_fault t.length_cm) _ e in
+    let gradients = neither (gradients_fault t.length_cm t.gradients) _ long.1 in
+    let speeds = neither (speeds_fault t.length_cm t.speeds) (areas_fault t.length_cm t.areas) gradients.1 in
+    let length = within (pos 1) (pos 10_000_000) t.length_cm (passed _ (Value sections.Track 0 1) long.0) in
+    record {
+      shortest = length.0;
+      longest = length.1;
+      gradients = are_gradients t.length_cm t.gradients gradients.0;
+      speeds = are_speeds t.length_cm t.speeds speeds.0;
+      areas = are_areas t.length_cm t.areas speeds.1;
+    }

@@ -1,0 +1,5 @@
+pub mod Accepted
+pub mod StepLaws
+pub mod LowestLaws
+pub mod WindowLaws
+pub mod SegmentLaws

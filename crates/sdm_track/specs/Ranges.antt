@@ -1,0 +1,69 @@
+-- What an accepted track keeps (ranges own).
+use Rattle.std.specs.Prelude.{ℕ, ℤ, pos, neg_ℤ, List, All, length, slice_index_or, ◌<◌, ◌≤◌, ◌≤ℤ◌, ◌<ℤ◌}
+use Rattle.sdm_rules.specs.declared.data.Gradient.{Gradient}
+use Rattle.sdm_rules.specs.declared.data.SpeedStep.{SpeedStep}
+use Rattle.sdm_rules.specs.declared.data.Area.{Area}
+use Rattle.sdm_rules.specs.Data.{TrackData}
+use Rattle.sdm_rules.specs.Ranges.{steepest, most_gradients, most_speeds, most_areas}
+use Rattle.sdm_track.specs.Steps.{IsFromZero, IsRising}
+
+-- an entry of the gradients starts on a track of this length, in cm; the gradient is in per mille
+pub record IsGradient (length_cm : ℤ) (e : Gradient) : Type 0 where
+  pub not_before : pos 0 ≤ℤ e.start
+  pub on_track : e.start <ℤ length_cm
+  pub downhill : neg_ℤ steepest ≤ℤ e.grad
+  pub uphill : e.grad ≤ℤ steepest
+
+-- an entry of the static speed profile starts on the track; the speed is in km/h
+pub record IsSpeedStep (length_cm : ℤ) (e : SpeedStep) : Type 0 where
+  pub not_before : pos 0 ≤ℤ e.start
+  pub on_track : e.start <ℤ length_cm
+  pub least : pos 1 ≤ℤ e.speed
+  pub greatest : e.speed ≤ℤ pos 500
+
+-- an area lies on the track and has a cell
+pub record IsArea (length_cm : ℤ) (a : Area) : Type 0 where
+  pub not_before : pos 0 ≤ℤ a.start
+  pub some_cell : a.start <ℤ a.end
+  pub on_track : a.end ≤ℤ length_cm
+
+-- the gradients of a track: none mean a level track
+pub record AreGradients (length_cm : ℤ) (entries : List Gradient) : Type 0 where
+  pub few : length entries ≤ most_gradients
+  pub each : All (IsGradient length_cm) entries
+  pub from_zero : IsFromZero (λ e. e.start) entries
+  pub rise : IsRising (λ e. e.start) entries
+
+-- the static speed profile of a track
+pub record AreSpeeds (length_cm : ℤ) (entries : List SpeedStep) : Type 0 where
+  pub some : 1 ≤ length entries
+  pub few : length entries ≤ most_speeds
+  pub each : All (IsSpeedStep length_cm) entries
+  pub from_zero : IsFromZero (λ e. e.start) entries
+  pub rise : IsRising (λ e. e.start) entries
+
+-- the areas of reduced adhesion of a track: each ends before a later one starts, or where it starts
+pub record AreAreas (length_cm : ℤ) (areas : List Area) : Type 0 where
+  pub few : length areas ≤ most_areas
+  pub each : All (IsArea length_cm) areas
+  pub apart : (i j : ℕ) (d : Area) → i < j → j < length areas → (slice_index_or areas i d).end ≤ℤ (slice_index_or areas j d).start
+
+-- the longest track, in cm
+abbrev pub longest_track : ℤ
+longest_track = pos 10_000_000
+
+-- the longest train, in cm
+abbrev pub longest_train : ℤ
+longest_train = pos 150_000
+
+-- a track within its ranges
+pub record IsTrack (t : TrackData) : Type 0 where
+  pub shortest : pos 1 ≤ℤ t.length_cm
+  pub longest : t.length_cm ≤ℤ longest_track
+  pub gradients : AreGradients t.length_cm t.gradients
+  pub speeds : AreSpeeds t.length_cm t.speeds
+  pub areas : AreAreas t.length_cm t.areas
+
+-- the data of a track as they are handed in
+abbrev pub track_data : ℕ → List Gradient → List SpeedStep → List Area → TrackData
+track_data length_cm gradients speeds areas = record { length_cm = pos length_cm; gradients = gradients; speeds = speeds; areas = areas }

@@ -1,0 +1,229 @@
+//! The rules that the lists of a track keep. They are tested list by list, each rule over the whole list before the next:
+//! count, values, start of the first entry, order; the first that is broken is answered.
+
+ghost use Rattle.std.specs.Prelude.{◌≡◌, ℕ, ℤ, pos, neg_ℤ, ◌+◌, ◌^◌, ◌+ℤ◌, ◌-ℤ◌, ◌<◌, ◌≤◌, Option, Bool, int_lt, length};
+ghost use Rattle.sdm_rules.specs.Ranges.{is_within, gradient_refused, speed_refused, area_refused, count_fault, value_fault, gap_fault, order_fault, gradients_fault, speeds_fault, areas_fault};
+
+use sdm_rules::{Area, Gradient, Section, SpeedStep, TrackFault};
+
+/// The most gradients of a track. (own)
+const MOST_GRADIENTS: usize = 512;
+/// The most entries of a static speed profile. (own)
+const MOST_SPEEDS: usize = 128;
+/// The most areas of reduced adhesion. (own)
+const MOST_AREAS: usize = 64;
+
+/// The steepest gradient in per mille. (own)
+const STEEPEST: i64 = 80;
+
+/// An entry of one of the lists.
+trait Entry {
+    ghost start: { Self → ℤ };
+
+    // the first cell in which the next entry may start
+    ghost past: { Self → ℤ };
+
+    ghost refused_key: { ℤ → Self → Option ℕ };
+
+    /// Where the entry starts, in cm.
+    fn start(&self) -> i64
+        ensures { result ≡ start self.now };
+
+    /// The number of the first key whose value is refused, on a track of this length.
+    fn refused_key(&self, length_cm: u32) -> Option<u8>
+        ensures { result ≡ refused_key (pos length_cm) self.now };
+
+    /// Whether the next entry starts too early.
+    fn overlaps(&self, next: &Self) -> bool
+        ensures { result ≡ int_lt (start next.now) (past self.now) };
+}
+
+fn is_within(least: i64, greatest: i64, n: i64) -> bool
+    ensures { result ≡ is_within least greatest n }
+{
+    least <= n && n <= greatest
+}
+
+impl Entry for Gradient {
+    ghost start = { λ e. e.start };
+
+    ghost past = { λ e. e.start +ℤ pos 1 };
+
+    ghost refused_key = { gradient_refused };
+
+    fn start(&self) -> i64 {
+        self.start
+    }
+
+    fn refused_key(&self, length_cm: u32) -> Option<u8> {
+        if !is_within(0, i64::from(length_cm) - 1, self.start) {
+            return Some(1);
+        }
+        if !is_within(-STEEPEST, STEEPEST, self.grad) {
+            return Some(2);
+        }
+        None
+    }
+
+    fn overlaps(&self, next: &Gradient) -> bool {
+        next.start <= self.start
+    }
+}
+
+impl Entry for SpeedStep {
+    ghost start = { λ e. e.start };
+
+    ghost past = { λ e. e.start +ℤ pos 1 };
+
+    ghost refused_key = { speed_refused };
+
+    fn start(&self) -> i64 {
+        self.start
+    }
+
+    fn refused_key(&self, length_cm: u32) -> Option<u8> {
+        if !is_within(0, i64::from(length_cm) - 1, self.start) {
+            return Some(1);
+        }
+        if !is_within(1, 500, self.speed) {
+            return Some(2);
+        }
+        None
+    }
+
+    fn overlaps(&self, next: &SpeedStep) -> bool {
+        next.start <= self.start
+    }
+}
+
+impl Entry for Area {
+    ghost start = { λ e. e.start };
+
+    ghost past = { λ e. e.end };
+
+    ghost refused_key = { area_refused };
+
+    fn start(&self) -> i64 {
+        self.start
+    }
+
+    fn refused_key(&self, length_cm: u32) -> Option<u8> {
+        let length = i64::from(length_cm);
+        if !is_within(0, length - 1, self.start) {
+            return Some(1);
+        }
+        if !is_within(self.start + 1, length, self.end) {
+            return Some(2);
+        }
+        None
+    }
+
+    fn overlaps(&self, next: &Area) -> bool {
+        next.start < self.end
+    }
+}
+
+/// The fault of a list that has fewer than `least` or more than `most` entries.
+fn count_fault<E>(list: Section, least: usize, most: usize, entries: &[E]) -> Option<TrackFault>
+    ensures { result ≡ count_fault list least most entries.now }
+{
+    let count = entries.len();
+    if count < least || most < count {
+        return Some(TrackFault::Count { list });
+    }
+    None
+}
+
+/// The first value that is refused.
+fn value_fault<E: Entry>(list: Section, length_cm: u32, entries: &[E]) -> Option<TrackFault>
+    requires { length entries.now < 2 ^ 32 }
+    ensures { result ≡ value_fault list (E.refused_key (pos length_cm)) 1 entries.now }
+{
+    for (i, entry) in entries.iter().enumerate() {
+        if let Some(key) = entry.refused_key(length_cm) {
+            return Some(TrackFault::Value {
+                list,
+                index: i as u32 + 1,
+                key,
+            });
+        }
+    }
+    None
+}
+
+/// The fault of a list whose first entry starts past 0.
+fn gap_fault<E: Entry>(list: Section, entries: &[E]) -> Option<TrackFault>
+    ensures { result ≡ gap_fault list E.start entries.now }
+{
+    match entries.first() {
+        Some(first) if 0 < first.start() => Some(TrackFault::Gap { list }),
+        _ => None,
+    }
+}
+
+/// The first entry that starts too early after the one before it.
+fn order_fault<E: Entry>(list: Section, entries: &[E]) -> Option<TrackFault>
+    requires { length entries.now < 2 ^ 32 }
+    ensures { result ≡ order_fault list E.start E.past 1 entries.now }
+{
+    for i in 1..entries.len() {
+        if entries[i - 1].overlaps(&entries[i]) {
+            return Some(TrackFault::Order {
+                list,
+                index: i as u32 + 1,
+            });
+        }
+    }
+    None
+}
+
+/// The first rule that the gradients break.
+#[tactic(auto, unfolding(sdm_rules::specs::Ranges::gradients_fault))]
+pub fn gradients_fault(length_cm: u32, entries: &[Gradient]) -> Option<TrackFault>
+    ensures { result ≡ gradients_fault (pos length_cm) entries.now }
+{
+    let list = Section::Gradient;
+    if let Some(fault) = count_fault(list, 0, MOST_GRADIENTS, entries) {
+        return Some(fault);
+    }
+    if let Some(fault) = value_fault(list, length_cm, entries) {
+        return Some(fault);
+    }
+    if let Some(fault) = gap_fault(list, entries) {
+        return Some(fault);
+    }
+    order_fault(list, entries)
+}
+
+/// The first rule that the static speed profile breaks.
+#[tactic(auto, unfolding(sdm_rules::specs::Ranges::speeds_fault))]
+pub fn speeds_fault(length_cm: u32, entries: &[SpeedStep]) -> Option<TrackFault>
+    ensures { result ≡ speeds_fault (pos length_cm) entries.now }
+{
+    let list = Section::Speed;
+    if let Some(fault) = count_fault(list, 1, MOST_SPEEDS, entries) {
+        return Some(fault);
+    }
+    if let Some(fault) = value_fault(list, length_cm, entries) {
+        return Some(fault);
+    }
+    if let Some(fault) = gap_fault(list, entries) {
+        return Some(fault);
+    }
+    order_fault(list, entries)
+}
+
+/// The first rule that the areas of reduced adhesion break.
+#[tactic(auto, unfolding(sdm_rules::specs::Ranges::areas_fault))]
+pub fn areas_fault(length_cm: u32, entries: &[Area]) -> Option<TrackFault>
+    ensures { result ≡ areas_fault (pos length_cm) entries.now }
+{
+    let list = Section::Adhesion;
+    if let Some(fault) = count_fault(list, 0, MOST_AREAS, entries) {
+        return Some(fault);
+    }
+    if let Some(fault) = value_fault(list, length_cm, entries) {
+        return Some(fault);
+    }
+    order_fault(list, entries)
+}

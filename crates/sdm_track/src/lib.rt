@@ -1,0 +1,12 @@
+//! The track of a journey: its length, its gradients, its static speed profile and its areas of reduced adhesion, kept
+//! within their ranges; and what of them lies under a train.
+#![tactic(auto)]
+
+mod entries;
+mod tracks;
+mod under_train;
+mod window;
+
+pub use sdm_rules::{Area, Gradient, Section, SpeedStep, TrackFault};
+pub use tracks::Track;
+pub use under_train::Segments;

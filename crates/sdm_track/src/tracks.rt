@@ -1,0 +1,178 @@
+//! A track, whose lists keep their order and their ranges in its type, so that no reader tests them again.
+
+ghost use Rattle.std.specs.Prelude.{◌≡◌, ℤ, pos, ◌<◌, ◌≤◌, length, slice_get, Some, None, IfOk, IfErr};
+ghost use Rattle.sdm_rules.specs.Ranges.{track_fault};
+ghost use Rattle.sdm_rules.specs.Decelerations.{is_in_force, under_train};
+ghost use Rattle.sdm_track.specs.Ranges.{IsTrack, IsGradient, IsSpeedStep, IsArea, track_data};
+ghost use Rattle.sdm_track.specs.Segments.{gradient_in};
+
+use crate::entries::{areas_fault, gradients_fault, speeds_fault};
+use crate::under_train::{self, Segments};
+use sdm_num::NoMemory;
+use sdm_rules::{Area, Gradient, Section, SpeedStep, TrackFault};
+use std::alloc::Global;
+use std::marker::Model;
+
+/// The longest track, in cm. (own)
+const LONGEST_CM: u32 = 10_000_000;
+
+/// A track from 0 to its length, 1 to 10,000,000 cm: its gradients (SUBSET-026-3 3.13.4), its static speed profile (3.11.3) and
+/// its areas of reduced adhesion (3.12). Each list is in the order of its starts; before the track its first entry goes on,
+/// past the track its last. (ranges own)
+#[derive(Debug, Drop)]
+pub struct Track {
+    length_cm: u32,
+    gradients: Vec<Gradient>,
+    speeds: Vec<SpeedStep>,
+    areas: Vec<Area>,
+}
+
+impl Model for Track {
+    ghost use Rattle.sdm_rules.specs.Data.{TrackData};
+    ghost use Rattle.sdm_track.specs.Ranges.{IsTrack, track_data};
+
+    ghost Value = { TrackData };
+
+    ghost view = { λ t. track_data t.length_cm t.gradients.items t.speeds.items t.areas.items };
+
+    ghost invariant = { λ t. IsTrack (track_data t.length_cm t.gradients.items t.speeds.items t.areas.items) };
+}
+
+// The first rule that a track of these data breaks.
+#[tactic(auto, unfolding(sdm_rules::specs::Ranges::track_fault))]
+fn fault_of(
+    length_cm: u32,
+    gradients: &[Gradient],
+    speeds: &[SpeedStep],
+    areas: &[Area],
+) -> Option<TrackFault>
+    ensures { result ≡ track_fault (track_data length_cm gradients.now speeds.now areas.now) }
+{
+    if length_cm < 1 || LONGEST_CM < length_cm {
+        return Some(TrackFault::Value {
+            list: Section::Track,
+            index: 0,
+            key: 1,
+        });
+    }
+    if let Some(fault) = gradients_fault(length_cm, gradients) {
+        return Some(fault);
+    }
+    if let Some(fault) = speeds_fault(length_cm, speeds) {
+        return Some(fault);
+    }
+    areas_fault(length_cm, areas)
+}
+
+// Whether the area is in force for a front end in the cell.
+fn is_in_force(area: &Area, cell: i32, length_cm: u32) -> bool
+    ensures { result ≡ is_in_force (pos length_cm) cell area.now }
+{
+    let front = i64::from(cell);
+    let rear = front - i64::from(length_cm);
+    area.start <= front && rear < area.end
+}
+
+impl Track {
+    /// The track of these data; else the first rule that they break: of the length, then list by list in the order of the
+    /// parameters.
+    pub fn new(
+        length_cm: u32,
+        gradients: Vec<Gradient>,
+        speeds: Vec<SpeedStep>,
+        areas: Vec<Area>,
+    ) -> Result<Track, TrackFault>
+        ensures accepted { IfOk result (λ track. track_fault track ≡ None) }
+        ensures kept { IfOk result (λ track. track ≡ track_data length_cm gradients.items speeds.items areas.items) }
+        ensures refused { IfErr result (λ fault. track_fault (track_data length_cm gradients.items speeds.items areas.items) ≡ Some fault) }
+    {
+        if let Some(fault) = fault_of(length_cm, &gradients, &speeds, &areas) {
+            return Err(fault);
+        }
+        Ok(Track {
+            length_cm,
+            gradients,
+            speeds,
+            areas,
+        })
+    }
+
+    /// The length in cm.
+    pub fn length_cm(&self) -> u32
+        ensures value { pos result ≡ self.now.length_cm }
+        ensures in_range { IsTrack self.now }
+    {
+        self.length_cm
+    }
+
+    /// How many gradients there are: at most 512; with none the track is level.
+    pub fn gradient_count(&self) -> usize
+        ensures value { result ≡ length self.now.gradients }
+        ensures in_range { IsTrack self.now }
+    {
+        self.gradients.len()
+    }
+
+    /// How many entries the static speed profile has: 1 to 128.
+    pub fn speed_count(&self) -> usize
+        ensures value { result ≡ length self.now.speeds }
+        ensures in_range { IsTrack self.now }
+    {
+        self.speeds.len()
+    }
+
+    /// How many areas of reduced adhesion there are: at most 64.
+    pub fn area_count(&self) -> usize
+        ensures value { result ≡ length self.now.areas }
+        ensures in_range { IsTrack self.now }
+    {
+        self.areas.len()
+    }
+
+    /// The gradient at a place in the list, counted from 0.
+    pub fn gradient(&self, i: usize) -> &Gradient
+        requires { i < length self.now.gradients }
+        ensures value { slice_get self.now.gradients i ≡ Some result.now }
+        ensures in_range { IsGradient self.now.length_cm result.now }
+    {
+        &self.gradients[i]
+    }
+
+    /// The entry of the static speed profile at a place in the list, counted from 0.
+    pub fn speed(&self, i: usize) -> &SpeedStep
+        requires { i < length self.now.speeds }
+        ensures value { slice_get self.now.speeds i ≡ Some result.now }
+        ensures in_range { IsSpeedStep self.now.length_cm result.now }
+    {
+        &self.speeds[i]
+    }
+
+    /// The area at a place in the list, counted from 0.
+    pub fn area(&self, i: usize) -> &Area
+        requires { i < length self.now.areas }
+        ensures value { slice_get self.now.areas i ≡ Some result.now }
+        ensures in_range { IsArea self.now.length_cm result.now }
+    {
+        &self.areas[i]
+    }
+
+    /// The gradients under a train of a length of 1 to 150,000 cm: for each cell of the front end the lowest gradient of the cells
+    /// from the rear end to the front end. (SUBSET-026-3 3.13.4.2; own cell form)
+    pub fn compensated(&self, alloc: Global, length_cm: u32) -> Result<Segments, NoMemory>
+        requires shortest { 1 ≤ length_cm }
+        requires longest { length_cm ≤ 150_000 }
+        ensures { IfOk result (λ segments. (c : ℤ) → gradient_in segments c ≡ (under_train self.now (pos length_cm) c).grad) }
+    {
+        under_train::compensated(alloc, &self.gradients, length_cm)
+    }
+
+    /// Whether reduced adhesion is in force for a front end in the cell, with a train of this length in cm: from the start of
+    /// an area until the rear end has left it, past the track's end too. (SUBSET-026-3 3.13.6.2; areas own)
+    pub fn reduced(&self, cell: i32, length_cm: u32) -> bool
+        ensures { result ≡ (under_train self.now (pos length_cm) cell).reduced }
+    {
+        self.areas
+            .iter()
+            .any(|area| is_in_force(area, cell, length_cm))
+    }
+}

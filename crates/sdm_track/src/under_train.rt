@@ -1,0 +1,134 @@
+//! The gradients under a train. The cells of the front end in which the lowest gradient from the rear end to the front end stays
+//! the same make a segment, so that a curve meets few changes.
+
+ghost use Rattle.std.specs.Prelude.{◌≡◌, ℕ, ℤ, pos, ◌+◌, ◌-◌, ◌*◌, ◌<◌, ◌≤◌, ◌-ℤ◌, length, slice_get, slice_index_or, Some, IfOk};
+ghost use Rattle.std.specs.Int.{int_min};
+ghost use Rattle.std.specs.Option.{option_map};
+ghost use Rattle.sdm_rules.specs.Cells.{lowest};
+ghost use Rattle.sdm_rules.specs.Decelerations.{track_gradient};
+ghost use Rattle.sdm_track.specs.Steps.{LiesIn};
+ghost use Rattle.sdm_track.specs.Ranges.{AreGradients, longest_track};
+ghost use Rattle.sdm_track.specs.Windows.{level};
+ghost use Rattle.sdm_track.specs.Segments.{IsSegment, AreSegments, gradient_in};
+
+use crate::window::Window;
+use sdm_num::NoMemory;
+use sdm_rules::Gradient;
+use std::alloc::Global;
+use std::marker::Model;
+
+/// A segment, to the next segment's start.
+#[derive(Clone, Copy, Debug, PartialEq, Eq)]
+pub struct Segment {
+    /// The first cell of the front end.
+    pub start: i32,
+    /// The gradient in per mille, uphill positive.
+    pub value: i16,
+}
+
+impl Segment {
+    fn new(start: i64, value: i64) -> Segment
+        requires { IsSegment (record { start = start; value = value }) }
+        ensures value { result ≡ record { start = start; value = value } }
+        ensures in_range { IsSegment result }
+    {
+        Segment {
+            start: start as i32,
+            value: value as i16,
+        }
+    }
+}
+
+/// The gradients under a train of one length, by the cell of its front end: 1 to 1,023 segments whose starts rise from 0, each
+/// with another gradient than the one before. (own)
+#[derive(Debug, Drop)]
+pub struct Segments {
+    list: Vec<Segment>,
+}
+
+impl Model for Segments {
+    ghost use Rattle.std.specs.Prelude.{List};
+    ghost use Rattle.sdm_track.specs.declared.under_train.Segment.{Segment};
+    ghost use Rattle.sdm_track.specs.Segments.{AreSegments};
+
+    ghost Value = { List Segment };
+
+    ghost view = { λ s. s.list.items };
+
+    ghost invariant = { λ s. AreSegments s.list.items };
+}
+
+impl Segments {
+    /// How many segments there are.
+    pub fn count(&self) -> usize
+        ensures value { result ≡ length self.now }
+        ensures in_range { AreSegments self.now }
+    {
+        self.list.len()
+    }
+
+    /// The first cell of the segment at a place in the list, counted from 0.
+    pub fn start(&self, i: usize) -> i32
+        requires { i < length self.now }
+        ensures { option_map (λ s. s.start) (slice_get self.now i) ≡ Some result }
+    {
+        self.list[i].start
+    }
+
+    /// The gradient of the segment at a place in the list, counted from 0: that of every cell which lies in it.
+    pub fn value(&self, i: usize) -> i16
+        requires { i < length self.now }
+        ensures value { option_map (λ s. s.value) (slice_get self.now i) ≡ Some result }
+        ensures in_its_cells { (c : ℤ) → LiesIn (λ s. s.start) self.now i c → gradient_in self.now c ≡ result }
+    {
+        self.list[i].value
+    }
+
+    /// The gradient for a front end in the cell; before cell 0 that of the first segment.
+    pub fn at(&self, cell: i32) -> i16
+        ensures { result ≡ gradient_in self.now cell }
+    {
+        let begun = self.list.partition_point(|segment| segment.start <= cell);
+        self.list[begun.saturating_sub(1)].value
+    }
+}
+
+// The gradient of the first entry; level without entries.
+fn first_gradient(entries: &[Gradient]) -> i64
+    ensures { result ≡ (slice_index_or entries.now 0 level).grad }
+{
+    match entries.first() {
+        Some(first) => first.grad,
+        None => 0,
+    }
+}
+
+/// The lowest gradients of the cells from the rear end to the front end of a train of this length in cm.
+pub fn compensated(
+    alloc: Global,
+    entries: &[Gradient],
+    length_cm: u32,
+) -> Result<Segments, NoMemory>
+    requires gradients { AreGradients longest_track entries.now }
+    requires long { 1 ≤ length_cm }
+    requires short { length_cm ≤ 150_000 }
+    ensures { IfOk result (λ segments. (c : ℤ) → gradient_in segments c ≡ lowest int_min (track_gradient entries.now) (c -ℤ pos length_cm) length_cm) }
+{
+    let mut list = Vec::new(alloc);
+    let mut window = Window {
+        rear: 0,
+        front: 0,
+        at: 0,
+    };
+    let mut value = first_gradient(entries);
+    list.push(Segment::new(window.at, value))?;
+    while window.rear + 1 < entries.len() {
+        window = window.next(entries, length_cm);
+        let lowest = window.lowest(entries);
+        if lowest != value {
+            list.push(Segment::new(window.at, lowest))?;
+            value = lowest;
+        }
+    }
+    Ok(Segments { list })
+}

@@ -1,0 +1,73 @@
+//! The rules of a train's speed bands: each number in its range, and upper speeds that rise from band to band, with none
+//! for the last.
+
+ghost use Rattle.std.specs.Prelude.{◌≡◌, ◌≤◌, length, pos};
+ghost use Rattle.sdm_rules.specs.Slopes.{most_bands};
+ghost use Rattle.sdm_rules.specs.Ranges.{band_order_fault, band_refused, band_value_fault, order_of_last};
+
+use crate::ranges::{first_refused, outside, outside_if_any};
+use sdm_rules::{Band, TrainFault};
+
+/// The first number of the bands that is refused.
+pub fn band_value_fault(bands: &[Band]) -> Option<TrainFault>
+    requires { length bands.now ≤ most_bands }
+    ensures { result ≡ band_value_fault 1 bands.now }
+{
+    let mut place = 1;
+    for band in bands {
+        if let Some(key) = band_refused(band) {
+            return Some(TrainFault::Value { band: place, key });
+        }
+        place += 1;
+    }
+    None
+}
+
+// The key of the first number of a band that is refused.
+fn band_refused(band: &Band) -> Option<u8>
+    ensures { result ≡ band_refused band.now }
+{
+    first_refused(&[
+        outside_if_any(1, band.upper, 1, 500),
+        outside(2, band.emergency, 1, 400),
+        outside(3, band.service, 1, 400),
+        outside(4, band.normal, 1, 400),
+        outside(5, band.kdry, 1, 1000),
+        outside(6, band.kwet, 1, 1000),
+        outside(7, band.kn_up, 0, 1000),
+        outside(8, band.kn_down, 0, 1000),
+    ])
+}
+
+/// The first band that is out of order.
+pub fn band_order_fault(bands: &[Band]) -> Option<TrainFault>
+    requires { length bands.now ≤ most_bands }
+    ensures { result ≡ band_order_fault 1 (pos 0) bands.now }
+{
+    let mut above = 0;
+    let mut place = 1;
+    for band in bands {
+        if place as usize == bands.len() {
+            return order_of_last(place, band.upper);
+        }
+        let Some(upper) = band.upper else {
+            return Some(TrainFault::BandOrder { band: place });
+        };
+        if upper <= above {
+            return Some(TrainFault::BandOrder { band: place });
+        }
+        above = upper;
+        place += 1;
+    }
+    None
+}
+
+// The last band, at this place, has no upper speed.
+fn order_of_last(place: u32, upper: Option<i64>) -> Option<TrainFault>
+    ensures { result ≡ order_of_last place upper }
+{
+    match upper {
+        None => None,
+        Some(_) => Some(TrainFault::BandOrder { band: place }),
+    }
+}

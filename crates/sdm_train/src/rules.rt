@@ -1,0 +1,60 @@
+//! The rules of a train, in their order: its own numbers, the count of its bands, and the rules of the bands. Keys have
+//! the numbers that docs/FORMATS.md gives them.
+
+ghost use Rattle.std.specs.Prelude.{◌≡◌, ◌==◌, ◌%◌, ◌&&◌, pos, unsigned_abs};
+ghost use Rattle.sdm_rules.specs.Data.{train_of};
+ghost use Rattle.sdm_rules.specs.Ranges.{band_count_fault, is_within, train_fault, train_refused};
+
+use crate::bands::{band_order_fault, band_value_fault};
+use crate::ranges::{first_refused, is_within, outside, outside_if_any, refused};
+use sdm_rules::{MOST_BANDS, TrainFault, TrainFields};
+
+/// The first rule that the train breaks.
+#[tactic(auto, unfolding(sdm_rules::specs::Ranges::train_fault))]
+pub fn train_fault(fields: &TrainFields) -> Option<TrainFault>
+    ensures { result ≡ train_fault fields.now.band_count (train_of fields.now) }
+{
+    if let Some(key) = train_refused(fields) {
+        return Some(TrainFault::Value { band: 0, key });
+    }
+    if let Some(fault) = band_count_fault(fields.band_count) {
+        return Some(fault);
+    }
+    let bands = &fields.bands[..fields.band_count as usize];
+    if let Some(fault) = band_value_fault(bands) {
+        return Some(fault);
+    }
+    band_order_fault(bands)
+}
+
+// The key of the first of the train's own numbers that is refused.
+fn train_refused(fields: &TrainFields) -> Option<u8>
+    ensures { result ≡ train_refused (train_of fields.now) }
+{
+    first_refused(&[
+        outside(1, fields.length, 1, 150_000),
+        outside(2, fields.max_speed, 1, 500),
+        outside_if_any(3, fields.rotating_mass, 0, 50),
+        outside(4, fields.traction_cutoff_time, 0, 300),
+        outside(6, fields.emergency_time, 0, 300),
+        refused(7, is_service_time(fields.service_time)),
+    ])
+}
+
+// The service brake's build-up time is given in steps of half a second.
+fn is_service_time(time: i64) -> bool
+    ensures { result ≡ is_within (pos 0) (pos 300) time && ((unsigned_abs time % 5) == 0) }
+{
+    is_within(time, 0, 300) && time.unsigned_abs() % 5 == 0
+}
+
+// There is a band, and there are not too many.
+fn band_count_fault(count: u32) -> Option<TrainFault>
+    ensures { result ≡ band_count_fault count }
+{
+    if 0 < count && count as usize <= MOST_BANDS {
+        None
+    } else {
+        Some(TrainFault::BandCount)
+    }
+}
