@@ -1,0 +1,7 @@
+pub mod Cutting
+pub mod Digits
+pub mod FlatCurves
+pub mod FlatTexts
+pub mod FlatOrder
+pub mod CommandFacts
+pub mod ReadBounds
