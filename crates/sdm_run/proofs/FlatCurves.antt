@@ -8,6 +8,7 @@ use Rattle.sdm_rules.specs.Cells.{border_of}
 use Rattle.sdm_rules.specs.Slopes.{Slopes, SlopeMap, meaning_of}
 use Rattle.sdm_rules.specs.Curves.{cell_at, cell_start, back, arc_back, exact_at, exact, stepped, as_is, to_grain}
 use Rattle.sdm_laws.proofs.BandSteps.{place_up}
+use Rattle.sdm_rules.specs.Supervision.{whole_mm}
 use Rattle.sdm_rules.specs.Flat.{FlatSupervision, FlatLine, flat_slopes, flat_row, flat_after}
 use Rattle.sdm_rules.specs.declared.rows.FlatRow.{FlatRow}
 use Rattle.sdm_curve.specs.Maps.{map_data, data_of, MapData}
@@ -82,3 +83,8 @@ unfolding flat_row flat_after
 row_by_place s l at is =
     let no_shift : pos 1 *ℤ (l.front +ℤ pos 0) ≡ l.front = omega (arith, ints) in
     rw (no_shift, is, stepped_floor s.decel (border_of (pos s.end)) l.speed)
+
+-- what it shows is the exact place, in whole millimetres
+pub shown_place : (s : FlatSupervision) (l : FlatLine) → (flat_row s l).ebi ≡ whole_mm (exact (flat_slopes s.decel) (border_of (pos s.end)) 0 l.speed)
+unfolding flat_row
+shown_place s l = refl

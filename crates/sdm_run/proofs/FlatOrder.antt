@@ -1,13 +1,19 @@
 -- Turn by turn: the text of the output is that of the turns, and the laws of flat carry order and stop over each of them.
-use Rattle.std.proofs.Common.{◌≡◌, ℕ, suc, Bool, false, List, [], ◌∷◌, ◌++◌, ◌<◌, Option, Some, None, refl, ap}
-use Rattle.sdm_num.specs.Units.{millimetre}
+use Rattle.std.proofs.Common.{◌≡◌, ℕ, suc, Bool, false, List, [], ◌∷◌, ◌++◌, ◌<◌, Option, Some, None, pos, ◌∙◌, refl, ap}
+use Rattle.sdm_num.specs.Units.{millimetre, notches_of_mm_s}
 use Rattle.sdm_rules.specs.declared.faults.CycleFault.{CycleFault}
 use Rattle.sdm_rules.specs.Limits.{exact_places}
 use Rattle.sdm_rules.specs.Machines.{InOrder}
 use Rattle.sdm_rules.specs.Records.{time_fault}
-use Rattle.sdm_rules.specs.Flat.{FlatSupervision, FlatLine, Output, flat_opening, flat_line, flat_row, flat_text, flat_output, flat_output_from, flat_go_on, flat_step, after_flat_line, lines_of}
+use Rattle.sdm_rules.specs.Flat.{FlatSupervision, FlatLine, Output, flat_opening, flat_line, flat_row, flat_text, flat_output, flat_output_from, flat_go_on, flat_step, after_flat_line, flat_slopes, lines_of}
+use Rattle.sdm_rules.specs.Cells.{border_of}
+use Rattle.sdm_rules.specs.Curves.{exact}
+use Rattle.sdm_rules.specs.Supervision.{whole_mm}
+use Rattle.sdm_run.specs.Flats.{ebi_mm}
+use Rattle.sdm_run.proofs.FlatCurves.{shown_place}
+use Rattle.sdm_run.proofs.FlatFormula.{ebi_is}
 use Rattle.sdm_laws.proofs.FlatFacts.{flat_machines, flat_stop}
-use Rattle.sdm_run.specs.FlatRun.{FlatTurn, turn_and, turns_of_line, turns_from, turns_of, text_of_turns, AreTurnsInOrder, AreFlatRowsSafe}
+use Rattle.sdm_run.specs.FlatRun.{FlatTurn, turn_and, turns_of_line, turns_from, turns_of, text_of_turns, AreTurnsSafe, AreFlatRowsSafe}
 
 -- ---- text
 
@@ -27,23 +33,26 @@ text_from n s (bytes ∷ more) = line_text n s (flat_line bytes) _ _ (λ t. text
 
 -- ---- order
 
--- whatever state and commands are in order, the turns from there on are
-abbrev AreAllInOrder : (FlatSupervision → List FlatTurn) → Type 0
-AreAllInOrder turns = (t : FlatSupervision) (must may : Bool) → 0 < t.decel → InOrder must t.eb may → AreTurnsInOrder must may (turns t)
+-- from whatever state and commands in order, the turns are safe
+abbrev AreAllSafe : (FlatSupervision → List FlatTurn) → Type 0
+AreAllSafe turns = (t : FlatSupervision) (must may : Bool) → 0 < t.decel → InOrder must t.eb may → AreTurnsSafe must may (turns t)
 
-turn_order : (s : FlatSupervision) (l : FlatLine) (o : Option CycleFault) (must may : Bool) (turns : FlatSupervision → List FlatTurn) → AreAllInOrder turns → 0 < s.decel → InOrder must s.eb may →
-    AreTurnsInOrder must may (turn_and s l o turns)
+shown : (s : FlatSupervision) (l : FlatLine) → 0 < s.decel → (v : ℕ) → l.speed ≡ notches_of_mm_s v → (flat_row s l).ebi ≡ ebi_mm s.decel s.end v
+shown s l some v is = shown_place s l ∙ (ap (λ (n : ℕ). whole_mm (exact (flat_slopes s.decel) (border_of (pos s.end)) 0 n)) is ∙ ebi_is s.decel s.end v some)
+
+turn_order : (s : FlatSupervision) (l : FlatLine) (o : Option CycleFault) (must may : Bool) (turns : FlatSupervision → List FlatTurn) → AreAllSafe turns → 0 < s.decel → InOrder must s.eb may →
+    AreTurnsSafe must may (turn_and s l o turns)
 turn_order s l (Some fault) must may turns h some order = tt
 turn_order s l None must may turns h some order =
     let next = flat_machines s l some must may order in
-    (next, flat_stop s l some, h (after_flat_line s l) _ _ some next)
+    (record { order = next; stop = flat_stop s l some; ebi = shown s l some }, h (after_flat_line s l) _ _ some next)
 
-line_order : (s : FlatSupervision) (o : Option FlatLine) (must may : Bool) (turns : FlatSupervision → List FlatTurn) → AreAllInOrder turns → 0 < s.decel → InOrder must s.eb may →
-    AreTurnsInOrder must may (turns_of_line s o turns)
+line_order : (s : FlatSupervision) (o : Option FlatLine) (must may : Bool) (turns : FlatSupervision → List FlatTurn) → AreAllSafe turns → 0 < s.decel → InOrder must s.eb may →
+    AreTurnsSafe must may (turns_of_line s o turns)
 line_order s None must may turns h some order = tt
 line_order s (Some l) must may turns h some order = turn_order s l (time_fault s.last_time l.time) must may turns h some order
 
-order_from : (lines : List (List ℕ)) → AreAllInOrder (λ t. turns_from t lines)
+order_from : (lines : List (List ℕ)) → AreAllSafe (λ t. turns_from t lines)
 order_from [] t must may some order = tt
 order_from (bytes ∷ more) t must may some order = line_order t (flat_line bytes) must may (λ u. turns_from u more) (order_from more) some order
 
@@ -51,5 +60,5 @@ pub flat_rows_safe : (decel end : ℕ) (bytes : List ℕ) → 0 < decel → AreF
 unfolding flat_output turns_of
 flat_rows_safe decel end bytes some = record {
   text = text_from 1 (flat_opening decel end) (lines_of bytes);
-  in_order = order_from (lines_of bytes) (flat_opening decel end) false false some (record { needed = λ t. t; allowed = λ t. t });
+  safe = order_from (lines_of bytes) (flat_opening decel end) false false some (record { needed = λ t. t; allowed = λ t. t });
 }

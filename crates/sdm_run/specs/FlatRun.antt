@@ -1,12 +1,13 @@
 -- What is promised of all rows of `flat`, over the whole list of its lines (own).
 use Rattle.std.specs.Prelude.{◌≡◌, ℕ, Bool, false, IsTrue, List, [], ◌∷◌, ◌++◌, Option, Some, None}
-use Rattle.sdm_num.specs.Units.{millimetre}
+use Rattle.sdm_num.specs.Units.{millimetre, notches_of_mm_s}
 use Rattle.sdm_rules.specs.declared.faults.CycleFault.{CycleFault}
 use Rattle.sdm_rules.specs.declared.rows.FlatRow.{FlatRow}
 use Rattle.sdm_rules.specs.Limits.{exact_places}
 use Rattle.sdm_rules.specs.Machines.{InOrder}
 use Rattle.sdm_rules.specs.Records.{time_fault}
 use Rattle.sdm_rules.specs.Flat.{FlatSupervision, FlatLine, flat_opening, flat_line, flat_row, flat_after, after_flat_line, flat_text, flat_output, lines_of, StopsByFlatEnd}
+use Rattle.sdm_run.specs.Flats.{ebi_mm}
 
 -- an accepted line and the state that it meets (own)
 pub record FlatTurn : Type 0 where
@@ -49,20 +50,27 @@ must_after_turn t held = flat_after exact_places 0 t.before held t.line
 abbrev pub may_after_turn : FlatTurn → Bool → Bool
 may_after_turn t held = flat_after exact_places millimetre t.before held t.line
 
--- From each covered row every motion stops by the end (own).
+-- for a whole speed in mm/s the row shows END - v² / (2A), rounded down to a millimetre (own)
+abbrev pub IsEbiShown : FlatTurn → Type 0
+IsEbiShown t = (v : ℕ) → t.line.speed ≡ notches_of_mm_s v → (row_of_turn t).ebi ≡ ebi_mm t.before.decel t.before.end v
+
+-- from a covered row every motion stops by the end (own)
 abbrev pub IsStopCovered : FlatTurn → Type 0
 IsStopCovered t = IsTrue (row_of_turn t).covered → StopsByFlatEnd t.before t.line
 
--- At each row the three emergency commands stand in order, where the exact machine holds `must` and the early one `may`
--- before the first; and from each covered row every motion stops by the end (own).
-abbrev pub AreTurnsInOrder : Bool → Bool → List FlatTurn → Type 0
-AreTurnsInOrder must may [] = Unit {0}
-AreTurnsInOrder must may (t ∷ ts) =
-    InOrder (must_after_turn t must) (row_of_turn t).eb (may_after_turn t may)
-    × IsStopCovered t
-    × AreTurnsInOrder (must_after_turn t must) (may_after_turn t may) ts
+-- what is promised of a turn before which the exact machine holds `must` and the early one `may`: after it the three
+-- emergency commands stand in order (own)
+pub record IsTurnSafe (must may : Bool) (t : FlatTurn) : Type 0 where
+  pub order : InOrder (must_after_turn t must) (row_of_turn t).eb (may_after_turn t may)
+  pub stop : IsStopCovered t
+  pub ebi : IsEbiShown t
 
--- the written rows are those of the accepted lines; from no command held, all are in order, and covered ones stop (own)
+-- so of each turn, one after the other (own)
+abbrev pub AreTurnsSafe : Bool → Bool → List FlatTurn → Type 0
+AreTurnsSafe must may [] = Unit {0}
+AreTurnsSafe must may (t ∷ ts) = IsTurnSafe must may t × AreTurnsSafe (must_after_turn t must) (may_after_turn t may) ts
+
+-- the rows that are written are those of the turns, each of which is safe, from no command held on (own)
 pub record AreFlatRowsSafe (decel end : ℕ) (bytes : List ℕ) : Type 0 where
   pub text : (flat_output decel end bytes).text ≡ text_of_turns (turns_of decel end bytes)
-  pub in_order : AreTurnsInOrder false false (turns_of decel end bytes)
+  pub safe : AreTurnsSafe false false (turns_of decel end bytes)

@@ -1,10 +1,11 @@
 //! The supervisor of one brake curve on a level track. All its memory is taken by `begin`; a cycle takes none.
 
-ghost use Rattle.std.specs.Prelude.{◌≡◌, ◌≤◌, ◌*◌, ◌↔◌, ◌<ℤ◌, pos, [], ◌∷◌, None, Some, Bool, ◌||◌, ◌&&◌, nat_lt, int_lt, IsTrue, IfOk, IfErr, OnErr};
+ghost use Rattle.std.specs.Prelude.{◌≡◌, ◌≤◌, ℕ, None, Some, ◌||◌, ◌&&◌, nat_lt, int_lt, IsTrue, IfOk, IfErr, OnErr};
+ghost use Rattle.sdm_num.specs.Units.{notches_of_mm_s};
 ghost use Rattle.sdm_rules.specs.Records.{time_fault};
 ghost use Rattle.sdm_rules.specs.Cells.{border_of};
 ghost use Rattle.sdm_rules.specs.Flat.{KeepsFlatOrder, StopsByFlatEnd, after_flat_line, flat_opening, flat_row};
-ghost use Rattle.sdm_run.specs.Flats.{flat_map};
+ghost use Rattle.sdm_run.specs.Flats.{ebi_mm, flat_map};
 ghost use Rattle.sdm_run.specs.FlatTurns.{IsFlatLine, line_at};
 
 use sdm_curve::{BandMap, Curve, CurveFault};
@@ -90,6 +91,7 @@ impl Flat {
         requires { IsFlatLine (line_at time front speed) }
         ensures row { IfOk result (λ row. row ≡ flat_row self.old (line_at time front speed)) }
         ensures after { IfOk result (λ _. self.new ≡ after_flat_line self.old (line_at time front speed)) }
+        ensures ebi { IfOk result (λ row. (v : ℕ) → speed ≡ notches_of_mm_s v → row.ebi ≡ ebi_mm self.old.decel self.old.end v) }
         ensures order { IfOk result (λ row. KeepsFlatOrder self.old (line_at time front speed) row.eb) }
         ensures stop { IfOk result (λ row. IsTrue row.covered → StopsByFlatEnd self.old (line_at time front speed)) }
 

@@ -17,3 +17,6 @@ pub use flat::Flat;
 pub use outcome::Outcome;
 pub use sdm_rules::{CycleFault, EventCause, FlatRow};
 pub use words::Command;
+
+#[cfg(test)]
+mod tests;

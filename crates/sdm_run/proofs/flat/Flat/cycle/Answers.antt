@@ -5,12 +5,14 @@ use Rattle.std.proofs.Math.Facts.{to_z_pos}
 use Rattle.sdm_num.specs.Units.{centimetre}
 use Rattle.sdm_num.specs.Bounds.{mm_below}
 use Rattle.sdm_rules.specs.Cells.{border_of}
-use Rattle.sdm_rules.specs.Curves.{stepped}
+use Rattle.sdm_rules.specs.Curves.{exact, stepped}
+use Rattle.sdm_rules.specs.Supervision.{whole_mm}
 use Rattle.sdm_rules.specs.declared.rows.FlatRow.{FlatRow}
 use Rattle.sdm_rules.specs.Flat.{FlatLine, FlatSupervision, KeepsFlatOrder, StopsByFlatEnd, after_flat_line, flat_slopes, flat_row}
 use Rattle.sdm_laws.proofs.FlatFacts.{flat_machines, flat_stop}
 use Rattle.sdm_run.specs.FlatTurns.{line_at}
-use Rattle.sdm_run.proofs.FlatCurves.{row_by_place, same_stepped}
+use Rattle.sdm_run.proofs.FlatCurves.{row_by_place, same_stepped, shown_place}
+use Rattle.sdm_run.proofs.FlatFormula.{ebi_is}
 use Rattle.sdm_run.proofs.flat.Flat.cycle.Goals as goal
 
 -- the state after a line, by its parts
@@ -65,3 +67,7 @@ returns-clause-order c = subst (λ (r : FlatRow). KeepsFlatOrder c.args.self.now
 
 pub returns-clause-stop : goal.returns-clause-stop
 returns-clause-stop c covered = flat_stop c.args.self.now (line c) (some c) (subst (λ (r : FlatRow). IsTrue r.covered) (row_is c) covered)
+
+pub returns-clause-ebi : goal.returns-clause-ebi
+returns-clause-ebi c v is =
+    ap (λ (r : FlatRow). r.ebi) (row_is c) ∙ shown_place c.args.self.now (line c) ∙ ap (λ (n : ℕ). whole_mm (exact (flat_slopes c.args.self.now.decel) (border_of (pos c.args.self.now.end)) 0 n)) is ∙ ebi_is c.args.self.now.decel c.args.self.now.end v (some c)
