@@ -17,8 +17,8 @@ whole_less at z k is =
     ap whole same
 
 -- the earlier of two bounds lies at the lesser of both places
-pub place_of-earlier_of : (e d : Bound) → place_of (earlier_of e d) ≡ lesser (place_of e) (place_of d)
-place_of-earlier_of e d =
+pub earlier_place : (e d : Bound) → place_of (earlier_of e d) ≡ lesser (place_of e) (place_of d)
+earlier_place e d =
     lesser_cases (λ z. whole (int_min e.at d.at) ≡ z) (whole e.at) (whole d.at)
     (λ le. let least : int_min e.at d.at ≡ e.at = omega (arith, ints, clamps, le.crossed) in ap whole least)
     (λ le. let least : int_min e.at d.at ≡ d.at = omega (arith, ints, clamps, le.crossed) in ap whole least)

@@ -10,3 +10,6 @@ pub use limits::{Limits, ebd_limits, sbd_limits};
 pub use reaction::{Reaction, reaction_of};
 pub use sdm_rules::Times;
 pub use times::OfTrain;
+
+#[cfg(test)]
+mod tests;

@@ -92,23 +92,22 @@ fn limits_from_sbi(
     ensures stands { (g e : Option Fraction) (s : Fraction) → IsEarlyWhere guide g → IsEarlyWhere ebi e → IsEarlyFor sbi s → StandFor result (limits_before times.now v g e s) }
 {
     let v = v.notches();
-    // d_W = d_SBI - V_est * T_warning (SUBSET-026-3 3.13.9.3.4)
-    let warning = sbi.less(way(v, T_WARNING));
     // d_P = d_SBI - V_est * T_driver, or the guidance curve's place where that is earlier (SUBSET-026-3 3.13.9.3.5)
     let driver = sbi.less(way(v, T_DRIVER));
     let permitted = guided(guide, driver);
-    // d_I = d_P - V_est * T_indication (SUBSET-026-3 3.13.9.3.6)
-    let indication = permitted.less(way(v, times.indication));
     Limits {
         ebi,
         sbi,
-        warning,
+        // d_W = d_SBI - V_est * T_warning (SUBSET-026-3 3.13.9.3.4)
+        warning: sbi.less(way(v, T_WARNING)),
         permitted,
-        indication,
+        // d_I = d_P - V_est * T_indication (SUBSET-026-3 3.13.9.3.6)
+        indication: permitted.less(way(v, times.indication)),
     }
 }
 
 // The permitted limit by the driver's time, or the guide where that is earlier.
+#[tactic(auto, using(crate::proofs::Places::earlier_place))]
 fn guided(guide: Option<Early>, driver: Early) -> Early
     requires guide { IsGuide guide }
     requires near { IsWithin (2 * reach) driver.at }
