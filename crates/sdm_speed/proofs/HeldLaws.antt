@@ -1,9 +1,9 @@
 -- A list of restrictions of distinct identities stands for a map by identity: one more at its end is an insertion, one less a
 -- removal, and the lowest limit of their zones is the same in the order of the list and in that of the map.
-use Rattle.std.proofs.Common.{◌≡◌, ◌≢◌, ℕ, zero, suc, ℤ, pos, List, [], ◌∷◌, ◌++◌, length, get_or, take, drop, All, map, Option, Some, None, IsSome, is_some, Bool, true, false, cond, not, if◌then◌else◌, position, ◌==◌, ◌+◌, ◌-◌, ◌<◌, ◌≤◌, refl, sym, ap, subst, ◌∙◌, arith}
+use Rattle.std.proofs.Common.{◌≡◌, ◌≢◌, ℕ, zero, suc, ℤ, List, [], ◌∷◌, ◌++◌, length, get_or, take, drop, All, map, Option, Some, None, is_some, Bool, true, false, cond, position, ◌==◌, ◌+◌, ◌-◌, ◌<◌, refl, sym, ap, ◌∙◌, arith}
 use Rattle.std.specs.List.{remove, position_from}
 use Rattle.std.specs.Ordering.{nat_cmp, eq_by_cmp, is_eq}
-use Rattle.std.specs.Cmp.{nat_cmp_total, eq_by_cmp_equiv}
+use Rattle.std.specs.Cmp.{nat_cmp_total}
 use Rattle.std.specs.FinMap as finite
 use Rattle.std.specs.FinMap.Entries.{by_order, put, find-append}
 use Rattle.std.specs.declared.cmp.Ordering.{Ordering}
@@ -15,7 +15,7 @@ use Rattle.std.proofs.lemmas.List.Edits.{remove-append_right}
 use Rattle.std.proofs.lemmas.List.Elements.{All-append, All-take, All-drop}
 use Rattle.std.proofs.lemmas.List.Quantifiers.{position-Some}
 use Rattle.sdm_rules.specs.declared.restrictions.Restriction.{Restriction}
-use Rattle.sdm_rules.specs.Profile.{Zone, covers, capped, lowest_limit, zone_of}
+use Rattle.sdm_rules.specs.Profile.{Zone, capped, lowest_limit, zone_of}
 use Rattle.sdm_speed.specs.Held.{has_id, keyed, by_identity, AreDistinct}
 use Rattle.sdm_speed.proofs.ZoneLaws.{capped_in_any_order}
 

@@ -1,14 +1,15 @@
 -- What the fields of a profile say of its value: how many restrictions there are, and that the zones give the MRSP.
-use Rattle.std.proofs.Common.{◌≡◌, ℕ, ℤ, pos, length, map, Option, MatchOption, sym, ap, subst, ◌∙◌}
+use Rattle.std.proofs.Common.{◌≡◌, ℕ, ℤ, pos, length, map, Option, Some, None, MatchOption, IfSome, sym, ap, subst, ◌∙◌}
 use Rattle.std.specs.FinMap as finite
 use Rattle.sdm_rules.specs.declared.targets.Fall.{Fall}
 use Rattle.sdm_rules.specs.Profile.{lowest_limit, zones_of_track, zone_of}
 use Rattle.sdm_rules.specs.Targets.{IsNextFall, HasNoFall}
 use Rattle.sdm_speed.specs.declared.profiles.Profile.TheInside.{Inside}
-use Rattle.sdm_speed.specs.Zones.{IsLimit}
+use Rattle.sdm_speed.specs.Zones.{IsLimit, IsFallInRange}
 use Rattle.sdm_speed.specs.Profiles.{ProfileData, mrsp_of}
 use Rattle.sdm_speed.specs.ProfileFields.{data_of, IsKept}
 use Rattle.sdm_speed.proofs.ZoneLaws.{lowest_limit-append}
+use Rattle.sdm_speed.proofs.StartLaws.{starts_at_fall, start_on_track}
 use Rattle.sdm_speed.proofs.HeldLaws.{len_is, lowest_by_identity}
 use Rattle.sdm_speed.proofs.MrspLaws.{limit_in_range}
 
@@ -35,3 +36,10 @@ module _ (f : Inside) (kept : IsKept f) where
 
   pub mrsp_in_range : (cell : ℤ) → IsLimit (mrsp_of (data_of f) cell)
   mrsp_in_range cell = subst IsLimit (kept_at cell) (limit_in_range f.max_speed cell f.zones.items kept.in_range.top kept.each)
+
+  -- a fall lies on the track, and its speed is a limit
+  pub fall_in_range : (after : ℤ) (next : Option Fall) → MatchOption next (HasNoFall (λ (cell : ℤ). lowest_limit f.max_speed cell f.zones.items) after) (IsNextFall (λ (cell : ℤ). lowest_limit f.max_speed cell f.zones.items) after) → IfSome next IsFallInRange
+  fall_in_range after None h = tt
+  fall_in_range after (Some fall) h =
+      let begins = start_on_track f.zones.items fall.cell kept.each (starts_at_fall f.max_speed f.zones.items fall.cell h.falls) in
+      record { not_before = begins.0; on_track = begins.1; limited = rw h.lower (limit_in_range f.max_speed fall.cell f.zones.items kept.in_range.top kept.each) }

@@ -1,12 +1,10 @@
 -- The MRSP of a profile is that of the definition, and limits within their range give an MRSP within it.
-use Rattle.std.proofs.Common.{◌≡◌, ℕ, zero, suc, ℤ, pos, List, [], ◌∷◌, ◌++◌, map, Bool, true, false, Option, Some, None, MatchOption, IfSome, if◌then◌else◌, All, min, ◌≤◌, ◌+ℤ◌, refl, arith}
+use Rattle.std.proofs.Common.{◌≡◌, ℕ, zero, suc, ℤ, pos, List, [], ◌∷◌, ◌++◌, map, Bool, true, false, if◌then◌else◌, All, min, ◌+ℤ◌, arith}
 use Rattle.std.specs.Prelude.{unsigned_abs}
 use Rattle.std.specs.FinMap as finite
-use Rattle.sdm_rules.specs.declared.targets.Fall.{Fall}
 use Rattle.sdm_rules.specs.Cells.{lowest}
 use Rattle.sdm_rules.specs.Data.{TrainData, TrackData}
 use Rattle.sdm_rules.specs.Profile.{Zone, covers, lowest_limit, zones_of_track, zone_of, mrsp}
-use Rattle.sdm_rules.specs.Targets.{IsNextFall, HasNoFall}
 use Rattle.sdm_speed.specs.Zones.{IsLimit, IsZone}
 use Rattle.sdm_speed.specs.Profiles.{ProfileData, mrsp_of}
 
@@ -29,7 +27,3 @@ limit_in_range top cell (z ∷ zs) h each =
 pub lowest_in_range : (f : ℤ → ℕ) (from : ℤ) (n : ℕ) → ((cell : ℤ) → IsLimit (f cell)) → IsLimit (lowest min f from n)
 lowest_in_range f from zero each = each from
 lowest_in_range f from (suc n) each = capped_in_range true (f from) (lowest min f (from +ℤ pos 1) n) (each from) (lowest_in_range f (from +ℤ pos 1) n each)
-
-pub fall_in_range : (profile : ℤ → ℕ) (after : ℤ) (next : Option Fall) → ((cell : ℤ) → IsLimit (profile cell)) → MatchOption next (HasNoFall profile after) (IsNextFall profile after) → IfSome next (λ fall. IsLimit fall.speed)
-fall_in_range profile after None each h = tt
-fall_in_range profile after (Some fall) each h = rw h.lower (each fall.cell)

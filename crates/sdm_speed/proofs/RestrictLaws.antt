@@ -1,12 +1,11 @@
 -- When a restriction is refused: each cause by what is held, and what holds where there is none.
-use Rattle.std.proofs.Common.{◌≡◌, ℕ, ℤ, pos, Option, Some, None, Bool, true, false, ◌||◌, nat_le, nat_lt, int_lt, if◌then◌else◌, ◌⊎◌, inl, inr, ◌<◌, ◌≤◌, ◌≤ℤ◌, ◌<ℤ◌, refl, sym, arith, rules}
+use Rattle.std.proofs.Common.{◌≡◌, ℕ, ℤ, pos, Some, None, Bool, true, false, ◌||◌, nat_le, int_lt, if◌then◌else◌, inl, inr, ◌<◌, ◌≤◌, ◌≤ℤ◌, ◌<ℤ◌, refl, arith}
 use Rattle.std.specs.Ordering.{nat_cmp}
 use Rattle.std.specs.FinMap as finite
-use Rattle.std.proofs.lemmas.Int.{ints, by_lt_z}
+use Rattle.std.proofs.lemmas.Int.{by_lt_z}
 use Rattle.std.proofs.lemmas.Bool.{cases_lt}
 use Rattle.std.proofs.lemmas.Bool.Decides.{nat_tests}
 use Rattle.sdm_rules.specs.declared.restrictions.Restriction.{Restriction}
-use Rattle.sdm_rules.specs.declared.faults.RestrictFault.{RestrictFault}
 use Rattle.sdm_rules.specs.declared.faults.RestrictFault.TheVariants.{Full, IdInUse, Value}
 use Rattle.sdm_rules.specs.Records.{restrict_fault, most_restrictions}
 use Rattle.sdm_speed.proofs.ZoneLaws.{lt_is, not_lt_is}

@@ -1,6 +1,5 @@
 -- A profile falls only where a zone begins: a zone that covers a cell and does not begin there covers the cell before it too.
-use Rattle.std.proofs.Common.{◌≡◌, ℕ, ℤ, pos, negsuc, List, [], ◌∷◌, ◌++◌, length, get_or, take, Option, Some, None, Bool, true, false, ◌&&◌, ◌||◌, nat_lt, int_le, int_lt, if◌then◌else◌, min, ◌+◌, ◌<◌, ◌≤◌, ◌+ℤ◌, ◌-ℤ◌, ◌≤ℤ◌, ◌<ℤ◌, refl, sym, ap, subst, ◌∙◌, arith, rules}
-use Rattle.std.specs.List.{list_any}
+use Rattle.std.proofs.Common.{◌≡◌, ℕ, suc, ℤ, pos, List, [], ◌∷◌, ◌++◌, length, get_or, take, Option, Some, None, Bool, true, false, ◌&&◌, ◌||◌, nat_lt, int_le, int_lt, if◌then◌else◌, min, ◌+◌, ◌<◌, ◌≤◌, ◌-ℤ◌, ◌≤ℤ◌, ◌<ℤ◌, refl, sym, ap, subst, ◌∙◌, arith, All}
 use Rattle.std.specs.Option.{option_map_or}
 use Rattle.std.specs.Ordering.{int_eq}
 use Rattle.std.proofs.lemmas.Int.{ints, by_lt_z}
@@ -8,8 +7,9 @@ use Rattle.std.proofs.lemmas.Bool.Decides.{Decides-int_eq, nat_tests}
 use Rattle.std.proofs.lemmas.List.{take_more}
 use Rattle.std.proofs.lemmas.List.Folds.{list_any-append}
 use Rattle.sdm_rules.specs.Profile.{Zone, covers, lowest_limit}
-use Rattle.sdm_rules.specs.Targets.{is_fall, IsNextFall, HasNoFall}
-use Rattle.sdm_speed.specs.Zones.{starts_at, has_start, IsNext, HasNone, IsNextOf, nearer}
+use Rattle.sdm_rules.specs.Targets.{is_fall, HasNoFall}
+use Rattle.sdm_track.specs.Ranges.{longest_track}
+use Rattle.sdm_speed.specs.Zones.{IsZone, starts_at, has_start, IsNext, HasNone, IsNextOf, nearer}
 use Rattle.sdm_speed.proofs.ZoneLaws.{le_is, not_le_is, lt_is, not_lt_is}
 
 -- ---- tests
@@ -94,6 +94,27 @@ lower m n lt = grind (arith, nat_tests)
 
 pub no_fall : (top : ℕ) (zs : List Zone) (c : ℤ) → has_start zs c ≡ false → is_fall (λ d. lowest_limit top d zs) c ≡ false
 no_fall top zs c off = not_lower _ _ (no_lower top zs c off)
+
+-- so a fall lies where a zone begins
+pub starts_at_fall : (top : ℕ) (zs : List Zone) (c : ℤ) → is_fall (λ d. lowest_limit top d zs) c ≡ true → has_start zs c ≡ true
+starts_at_fall top zs c falls = by_start (has_start zs c) refl
+  where
+    by_start : (b : Bool) → has_start zs c ≡ b → b ≡ true
+    by_start true e = refl
+    by_start false e = absurd (not_both _ falls (no_fall top zs c e))
+
+start_is : (first : Option ℤ) (c : ℤ) → option_map_or (int_eq c) first false ≡ true → first ≡ Some c
+start_is None c here = absurd cc
+start_is (Some f) c here = ap Some (sym (eq_of c f here))
+
+on_track_by : (z : Zone) (zs : List Zone) (c : ℤ) (b : Bool) → starts_at c z ≡ b → (b || has_start zs c) ≡ true → IsZone z → (has_start zs c ≡ true → (pos 0 ≤ℤ c) × (c <ℤ longest_track)) → (pos 0 ≤ℤ c) × (c <ℤ longest_track)
+on_track_by z zs c true here either zone rest = let first = start_is z.first c here in (zone.not_before c first, zone.on_track c first)
+on_track_by z zs c false here either zone rest = rest either
+
+-- on the longest track
+pub start_on_track : (zs : List Zone) (c : ℤ) → All IsZone zs → has_start zs c ≡ true → (pos 0 ≤ℤ c) × (c <ℤ longest_track)
+start_on_track [] c each here = absurd cc
+start_on_track (z ∷ zs) c each here = on_track_by z zs c (starts_at c z) refl here (each 0 z (omega arith)) (start_on_track zs c (λ k d l. each (suc k) d (omega arith)))
 
 -- ---- the next cell of which a test holds, or a zone's first
 

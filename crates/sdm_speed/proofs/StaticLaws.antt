@@ -1,12 +1,11 @@
 -- The zones of the static speed profile, border by border: the zones that are closed and those of the rest are the zones of all.
-use Rattle.std.proofs.Common.{◌≡◌, ℕ, suc, ℤ, pos, List, [], ◌∷◌, ◌++◌, length, get_or, drop, Option, Some, None, Bool, true, false, All, ◌+◌, ◌-◌, ◌<◌, ◌≤◌, ◌+ℤ◌, ◌≤ℤ◌, ◌<ℤ◌, refl, sym, ap, ◌∙◌, arith, append_assoc}
+use Rattle.std.proofs.Common.{◌≡◌, ℕ, ℤ, pos, List, [], ◌∷◌, length, get_or, drop, Option, Some, None, Bool, true, false, ◌+◌, ◌-◌, ◌<◌, ◌≤◌, ◌≤ℤ◌, ◌<ℤ◌, refl, arith}
 use Rattle.std.specs.Prelude.{unsigned_abs}
 use Rattle.std.proofs.lemmas.Int.{ints}
-use Rattle.std.proofs.lemmas.List.{drop_more, drop_all, get_or_default}
+use Rattle.std.proofs.lemmas.List.{drop_more, drop_all}
 use Rattle.sdm_rules.specs.declared.data.SpeedStep.{SpeedStep}
 use Rattle.sdm_rules.specs.Profile.{Zone, end_for, static_zones, zones_of_track}
-use Rattle.sdm_track.specs.Steps.{IsRising}
-use Rattle.sdm_track.specs.Ranges.{IsSpeedStep, AreSpeeds}
+use Rattle.sdm_track.specs.Ranges.{IsSpeedStep, AreSpeeds, longest_track}
 use Rattle.sdm_speed.specs.Zones.{IsZone, IsLimit}
 
 -- stands for an entry that there is not
@@ -42,20 +41,31 @@ pub end_not_before : (length_cm : ℤ) (delayed : Bool) (end : ℤ) → pos 0 �
 end_not_before length_cm true end le = omega (arith, ints)
 end_not_before length_cm false end le = omega (arith, ints)
 
--- a zone that is closed at the border of the entry `i`
-pub closed_zone : (track_cm length_cm : ℤ) (es : List SpeedStep) (i : ℕ) (first : Option ℤ) (e next : SpeedStep) → AreSpeeds track_cm es → pos 0 ≤ℤ length_cm → 1 ≤ i → i < length es → e ≡ get_or es (i - 1) none → next ≡ get_or es i none → ((f : ℤ) → first ≡ Some f → f ≡ e.start) →
-    IsZone (record { first = first; past = Some (end_for length_cm e.delayed next.start); limit = unsigned_abs e.speed })
-closed_zone track_cm length_cm es i first e next speeds length one known e_is next_is opened =
-    let rises : e.start <ℤ next.start = rw (e_is, next_is) (speeds.rise.rises (i - 1) i none (omega arith) known) in
-    let later = end_not_before length_cm e.delayed next.start length in
-    record {
-      some_cell = λ f p a b. let here = opened f a in let same : end_for length_cm e.delayed next.start ≡ p = cc in rw (here, ← same) (omega (arith, ints));
-      limited = step_limit track_cm e (rw e_is (speeds.each (i - 1) none (omega arith)));
-    }
+-- a zone that opens where the entry `i` starts, or has no beginning
+module _ (es : List SpeedStep) (i : ℕ) (first : Option ℤ) (e : SpeedStep) (speeds : AreSpeeds longest_track es) (known : i < length es) (e_is : e ≡ get_or es i none) (opened : (f : ℤ) → first ≡ Some f → f ≡ e.start) where
+  in_range : IsSpeedStep longest_track e
+  in_range = rw e_is (speeds.each i none known)
 
--- the zone of the last entry
-pub open_zone : (track_cm : ℤ) (es : List SpeedStep) (i : ℕ) (first : Option ℤ) (e : SpeedStep) → AreSpeeds track_cm es → i < length es → e ≡ get_or es i none → IsZone (record { first = first; past = None; limit = unsigned_abs e.speed })
-open_zone track_cm es i first e speeds known e_is = record { some_cell = λ f p a b. absurd cc; limited = step_limit track_cm e (rw e_is (speeds.each i none known)) }
+  -- closed at the next border
+  pub closed_zone : (length_cm : ℤ) (j : ℕ) (next : SpeedStep) → pos 0 ≤ℤ length_cm → i < j → j < length es → next ≡ get_or es j none → IsZone (record { first = first; past = Some (end_for length_cm e.delayed next.start); limit = unsigned_abs e.speed })
+  closed_zone length_cm j next length later known' next_is =
+      let rises : e.start <ℤ next.start = rw (e_is, next_is) (speeds.rise.rises i j none later known') in
+      let past = end_not_before length_cm e.delayed next.start length in
+      record {
+        not_before = λ f a. rw (opened f a) in_range.not_before;
+        on_track = λ f a. rw (opened f a) in_range.on_track;
+        some_cell = λ f p a b. let here = opened f a in let same : end_for length_cm e.delayed next.start ≡ p = cc in rw (here, ← same) (omega (arith, ints));
+        limited = step_limit longest_track e in_range;
+      }
+
+  -- the last one is not closed
+  pub open_zone : IsZone (record { first = first; past = None; limit = unsigned_abs e.speed })
+  open_zone = record {
+    not_before = λ f a. rw (opened f a) in_range.not_before;
+    on_track = λ f a. rw (opened f a) in_range.on_track;
+    some_cell = λ f p a b. absurd cc;
+    limited = step_limit longest_track e in_range;
+  }
 
 -- ---- the ranges of a longer track
 

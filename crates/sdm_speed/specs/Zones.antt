@@ -1,19 +1,29 @@
 -- Zones of a speed limit as a profile keeps them, and which of them count for a cell (own).
-use Rattle.std.specs.Prelude.{◌≡◌, ℕ, ℤ, Bool, true, false, ◌&&◌, List, Option, Some, None, MatchOption, int_le, int_lt, if◌then◌else◌, ◌≤◌, ◌<ℤ◌}
+use Rattle.std.specs.Prelude.{◌≡◌, ℕ, ℤ, pos, Bool, true, false, ◌&&◌, List, Option, Some, None, MatchOption, int_le, int_lt, if◌then◌else◌, ◌≤◌, ◌≤ℤ◌, ◌<ℤ◌}
 use Rattle.std.specs.List.{list_any}
 use Rattle.std.specs.Option.{option_map_or}
 use Rattle.std.specs.Ordering.{int_eq}
+use Rattle.sdm_rules.specs.declared.targets.Fall.{Fall}
 use Rattle.sdm_rules.specs.Profile.{Zone}
+use Rattle.sdm_track.specs.Ranges.{longest_track}
 
 -- a speed limit that a profile accepts, in km/h (own)
 pub record IsLimit (limit : ℕ) : Type 0 where
   pub least : 1 ≤ limit
   pub greatest : limit ≤ 500
 
--- a zone of a profile covers at least one cell (own)
+-- a zone of a profile begins on the longest track, if it has a beginning, and covers at least one cell (own)
 pub record IsZone (z : Zone) : Type 0 where
+  pub not_before : (first : ℤ) → z.first ≡ Some first → pos 0 ≤ℤ first
+  pub on_track : (first : ℤ) → z.first ≡ Some first → first <ℤ longest_track
   pub some_cell : (first past : ℤ) → z.first ≡ Some first → z.past ≡ Some past → first <ℤ past
   pub limited : IsLimit z.limit
+
+-- a fall of a profile lies on the longest track (own)
+pub record IsFallInRange (fall : Fall) : Type 0 where
+  pub not_before : pos 0 ≤ℤ fall.cell
+  pub on_track : fall.cell <ℤ longest_track
+  pub limited : IsLimit fall.speed
 
 -- the zone covers one of the cells from `from` to `to` (own)
 abbrev pub meets : ℤ → ℤ → Zone → Bool

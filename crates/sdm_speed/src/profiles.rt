@@ -10,7 +10,7 @@ ghost use Rattle.sdm_rules.specs.Profile.{zones_of_track, zone_of, end_for};
 ghost use Rattle.sdm_rules.specs.Records.{restrict_fault, revoke_fault, most_restrictions};
 ghost use Rattle.sdm_rules.specs.Targets.{IsNextFall, HasNoFall};
 ghost use Rattle.sdm_track.specs.Ranges.{AreSpeeds, longest_track};
-ghost use Rattle.sdm_speed.specs.Zones.{IsLimit, IsZone};
+ghost use Rattle.sdm_speed.specs.Zones.{IsLimit, IsZone, IsFallInRange};
 ghost use Rattle.sdm_speed.specs.Held.{has_id};
 ghost use Rattle.sdm_speed.specs.Profiles.{mrsp_of, IsProfile};
 
@@ -234,7 +234,8 @@ impl Profile {
     /// (SUBSET-026-3 3.13.8.2; own cell form)
     pub fn next_fall(&self, after: i32) -> Option<Fall>
         ensures value { MatchOption result (HasNoFall (mrsp_of self.now) after) (IsNextFall (mrsp_of self.now) after) }
-        ensures in_range { IfSome result (λ fall. IsLimit fall.speed) }
+        ensures in_range { IfSome result IsFallInRange }
+        ensures profile_in_range { IsProfile self.now }
     {
         falls::next_fall(&self.zones, self.max_speed, after)
     }

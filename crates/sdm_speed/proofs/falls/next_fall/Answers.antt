@@ -1,8 +1,7 @@
 -- From start to start: where the speed falls is the next fall; else the search goes on.
-use Rattle.std.proofs.Common.{◌≡◌, ◌≤◌, ◌<◌, ◌-ℤ◌, ℤ, pos, true, false, w32, to_z, of_z, arith, rules}
+use Rattle.std.proofs.Common.{◌≡◌, ◌≤◌, ◌<◌, ◌-ℤ◌, ℤ, pos, w32, to_z, of_z, arith, rules}
 use Rattle.std.proofs.lemmas.Int.{ints, to_z-of_z}
 use Rattle.sdm_rules.specs.Profile.{lowest_limit}
-use Rattle.sdm_rules.specs.Targets.{is_fall}
 use Rattle.sdm_speed.proofs.StartLaws.{quiet_before, quiet_up_to, quiet_from_here, lower, not_lower}
 use Rattle.sdm_speed.proofs.falls.next_fall.Goals as goal
 

@@ -1,5 +1,5 @@
 -- One zone more.
-use Rattle.std.proofs.Common.{◌≡◌, ap, sym, ◌∙◌}
+use Rattle.std.proofs.Common.{ap, ◌∙◌}
 use Rattle.sdm_rules.specs.Profile.{Zone}
 use Rattle.sdm_speed.proofs.StartLaws.{next_start_more}
 use Rattle.sdm_speed.proofs.falls.next_start.Goals as goal

@@ -1,5 +1,5 @@
 -- One entry more.
-use Rattle.std.proofs.Common.{◌≡◌, ◌<◌, length, get_or, refl, arith}
+use Rattle.std.proofs.Common.{◌<◌, length, refl, arith}
 use Rattle.std.proofs.lemmas.List.{take_more}
 use Rattle.std.proofs.lemmas.Option.{get_or_from_slice_get}
 use Rattle.sdm_speed.proofs.profiles.speeds_of.Goals as goal

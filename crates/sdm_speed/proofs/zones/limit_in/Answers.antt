@@ -1,6 +1,5 @@
 -- The lowest of one cell.
-use Rattle.std.proofs.Common.{◌≡◌, ◌≤ℤ◌, ap, w32, to_z, of_z, ◌∙◌, min}
-use Rattle.std.specs.Int.{int_gap}
+use Rattle.std.proofs.Common.{◌≡◌, ap, w32, to_z, of_z, ◌∙◌, min}
 use Rattle.std.proofs.lemmas.Int.{to_z-of_z}
 use Rattle.sdm_rules.specs.Cells.{lowest}
 use Rattle.sdm_rules.specs.Profile.{lowest_limit}

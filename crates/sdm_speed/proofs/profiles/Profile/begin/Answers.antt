@@ -1,5 +1,5 @@
 -- The zones are those of the static speed profile; no restriction is held.
-use Rattle.std.proofs.Common.{◌≡◌, ◌≤◌, [], refl, sym, arith}
+use Rattle.std.proofs.Common.{[], sym, arith}
 use Rattle.std.proofs.lemmas.Int.{ints}
 use Rattle.std.proofs.lemmas.List.{append-nil}
 use Rattle.sdm_speed.proofs.HeldLaws.{len_is}

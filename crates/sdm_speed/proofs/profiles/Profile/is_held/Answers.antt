@@ -1,6 +1,5 @@
 -- An identity is in the map where it has a place in the list.
-use Rattle.std.proofs.Common.{◌≡◌, sym, refl, is_some}
-use Rattle.std.specs.FinMap as finite
+use Rattle.std.proofs.Common.{sym}
 use Rattle.sdm_speed.proofs.HeldLaws.{contains_is}
 use Rattle.sdm_speed.proofs.profiles.Profile.is_held.Goals as goal
 

@@ -1,10 +1,7 @@
 -- The zones that are kept give the MRSP.
 use Rattle.std.proofs.Common.{◌≡◌, w32, to_z, of_z}
 use Rattle.std.proofs.lemmas.Int.{to_z-of_z}
-use Rattle.sdm_speed.specs.Profiles.{mrsp_of}
-use Rattle.sdm_speed.specs.ProfileFields.{data_of}
-use Rattle.sdm_speed.proofs.MrspLaws.{fall_in_range}
-use Rattle.sdm_speed.proofs.KeptLaws.{kept_fall, mrsp_in_range}
+use Rattle.sdm_speed.proofs.KeptLaws.{kept_fall, fall_in_range}
 use Rattle.sdm_speed.proofs.profiles.Profile.next_fall.Goals as goal
 
 pub returns-clause-value : goal.returns-clause-value
@@ -13,5 +10,4 @@ returns-clause-value c =
     rw (← c.self.view_is) (kept_fall c.self.inside c.self.invariant _ _ (rw (c.deref.ensures.value, after_is) at c.next_fall.ensures))
 
 pub returns-clause-in_range : goal.returns-clause-in_range
-returns-clause-in_range c =
-    fall_in_range (mrsp_of (data_of c.self.inside)) _ _ (mrsp_in_range c.self.inside c.self.invariant) (kept_fall c.self.inside c.self.invariant _ _ (rw c.deref.ensures.value at c.next_fall.ensures))
+returns-clause-in_range c = fall_in_range c.self.inside c.self.invariant _ _ (rw c.deref.ensures.value at c.next_fall.ensures)

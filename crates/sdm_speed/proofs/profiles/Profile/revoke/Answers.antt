@@ -1,9 +1,7 @@
 -- The restriction and its zone are taken from the same place.
-use Rattle.std.proofs.Common.{◌≡◌, ◌+◌, ◌<◌, ◌≤◌, pos, true, false, Some, None, length, position, is_some, refl, sym, ap, ◌∙◌, arith, length-append}
-use Rattle.std.specs.FinMap as finite
+use Rattle.std.proofs.Common.{pos, length, refl, sym, ap, arith, length-append}
 use Rattle.std.proofs.lemmas.List.{length-map}
-use Rattle.sdm_rules.specs.Profile.{zone_of, zones_of_track}
-use Rattle.sdm_rules.specs.Records.{revoke_fault, most_restrictions}
+use Rattle.sdm_rules.specs.Profile.{zones_of_track}
 use Rattle.sdm_speed.specs.Held.{AreDistinct}
 use Rattle.sdm_speed.specs.Zones.{IsZone}
 use Rattle.sdm_speed.proofs.HeldLaws.{len_is, contains_is, distinct_less, removed, zone_less, All-remove}

@@ -1,10 +1,8 @@
 -- What is not refused is new and has room: the restriction and its zone stand at the ends.
-use Rattle.std.proofs.Common.{◌≡◌, ◌<◌, ◌≤◌, pos, length, [], ◌∷◌, refl, sym, ap, ◌∙◌, arith, append_assoc, length-append}
+use Rattle.std.proofs.Common.{pos, [], ◌∷◌, refl, sym, arith, append_assoc, length-append}
 use Rattle.std.proofs.lemmas.List.{map-append}
-use Rattle.std.proofs.lemmas.Int.{ints}
 use Rattle.std.proofs.lemmas.List.Elements.{All-push}
 use Rattle.sdm_rules.specs.Profile.{zone_of}
-use Rattle.sdm_rules.specs.Records.{most_restrictions}
 use Rattle.sdm_speed.specs.Zones.{IsZone}
 use Rattle.sdm_speed.specs.ProfileFields.{data_of}
 use Rattle.sdm_speed.proofs.HeldLaws.{len_is, missing_of, distinct_more, inserted}
