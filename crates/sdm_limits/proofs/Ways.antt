@@ -1,5 +1,5 @@
 -- The way of the reaction is the way until the traction is cut off and the way after that, each at a mean speed.
-use Rattle.std.proofs.Common.{◌≡◌, ℕ, ◌+◌, ◌*◌, ◌/◌, max, arith, subst, sym}
+use Rattle.std.proofs.Common.{◌≡◌, ℕ, ◌+◌, ◌*◌, ◌/◌, max, arith, subst}
 use Rattle.sdm_num.specs.Units.{way_in}
 use Rattle.sdm_rules.specs.Reaction.{BuildUp, v_cut_off, d_bec}
 
