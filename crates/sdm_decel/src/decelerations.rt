@@ -36,13 +36,8 @@ fn mass_factor(rotating_mass: Option<i64>, grad: i64) -> i64
 {
     match rotating_mass {
         Some(_) => 1,
-        None => {
-            if grad < 0 {
-                115
-            } else {
-                102
-            }
-        }
+        None if grad < 0 => 115,
+        None => 102,
     }
 }
 
@@ -55,8 +50,8 @@ fn a_gradient(rotating_mass: Option<i64>, grad: i64) -> i64
     GRAVITY * mass_factor(rotating_mass, grad) * grad
 }
 
-// Kwet_rst + M_NVAVADH · (1 − Kwet_rst), in 1/20,000. (SUBSET-026-3 3.13.6.2.1)
-fn wet(avadh: i64, band: &Band) -> i64
+// Kwet_rst weighted by M_NVAVADH: Kwet_rst + M_NVAVADH · (1 − Kwet_rst), in 1/20,000. (SUBSET-026-3 3.13.6.2.1)
+fn weighted_kwet(avadh: i64, band: &Band) -> i64
     requires avadh { unsigned_abs avadh ≤ 20 }
     requires band { IsBand band.now }
     ensures value { result ≡ pos 20 *ℤ band.now.kwet +ℤ avadh *ℤ (pos 1000 -ℤ band.now.kwet) }
@@ -72,7 +67,7 @@ fn brake_safe(avadh: i64, band: &Band) -> i64
     ensures value { result ≡ brake_safe avadh band.now }
     ensures size { unsigned_abs result ≤ 16_000_000_000 }
 {
-    band.kdry * wet(avadh, band) * band.emergency
+    band.kdry * weighted_kwet(avadh, band) * band.emergency
 }
 
 // A_brake_safe: on reduced adhesion at most the national maximum A_NVMAXREDADH. (SUBSET-026-3 3.13.6.2.1)
@@ -95,11 +90,7 @@ fn kn_of(band: &Band, grad: i64) -> i64
     ensures value { result ≡ kn_of band.now grad }
     ensures size { unsigned_abs result ≤ 1000 }
 {
-    if grad < 0 {
-        band.kn_down
-    } else {
-        band.kn_up
-    }
+    if grad < 0 { band.kn_down } else { band.kn_up }
 }
 
 // Kn · grad / 1000, in 1/(2·10⁹) m/s². (SUBSET-026-3 3.13.6.4; own form)

@@ -11,7 +11,7 @@ ghost use Rattle.sdm_decel.specs.Slopes.{line_of, slopes_of_bands, IsFaultOfKind
 
 use crate::borders::stretches;
 use crate::decelerations::{q_of, slope};
-use crate::under::{Under, unders};
+use crate::under::Under;
 use sdm_curve::{BandMap, CurveFault};
 use sdm_national::National;
 use sdm_num::{NoMemory, Speed};
@@ -78,6 +78,7 @@ fn gradients_under(alloc: Global, track: &Track, length_cm: u32) -> Result<Segme
     ensures { IfOk result (λ segments. AreGradientsUnder track.now length_cm segments) }
 {
     let segments = track.compensated(alloc, length_cm)?;
+    // that they are in their ranges
     let _count = segments.count();
     Ok(segments)
 }
@@ -105,7 +106,7 @@ fn map_of(
     let Ok(starts) = stretches(alloc, track, &segments, length_cm) else {
         return Err(CurveFault::Memory);
     };
-    let Ok(unders) = unders(alloc, track, &segments, length_cm, &starts) else {
+    let Ok(unders) = Under::at_each(alloc, track, &segments, length_cm, &starts) else {
         return Err(CurveFault::Memory);
     };
     let Ok(slopes) = slopes(alloc, kind, train, national, &unders) else {

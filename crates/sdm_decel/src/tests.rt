@@ -64,7 +64,7 @@ fn set(case: &mut Case, key: &str, number: i64) -> Result<(), &'static str> {
         "no_mass" => case.train.rotating_mass = None,
         "avadh" => case.national.avadh = number,
         "adhesion_max" => case.national.adhesion_max = number,
-        "bands" => case.train.band_count = number.unsigned_abs() as u32,
+        "bands" => case.train.band_count = u32::try_from(number).map_err(|_| "no count")?,
         _ => return set_in_band(&mut case.train.bands[0], key, number),
     }
     Ok(())
@@ -259,15 +259,13 @@ fn slopes_and_faults_are_those_worked_by_hand(rt: HostRuntime) {
 fn greatest_lists(alloc: Global) -> Result<Case, AllocError> {
     let mut case = base(alloc);
     case.train.length = 1;
-    for i in 0..512 {
+    for i in 0..512u32 {
+        let start = i64::from(300 * i);
         let grad = if i % 2 == 0 { 0 } else { -5 };
-        case.gradients.push(Gradient {
-            start: 300 * i,
-            grad,
-        })?;
+        case.gradients.push(Gradient { start, grad })?;
     }
-    for i in 0..64 {
-        let start = 2000 * i + 37;
+    for i in 0..64u32 {
+        let start = i64::from(2000 * i + 37);
         case.areas.push(Area {
             start,
             end: start + 500,

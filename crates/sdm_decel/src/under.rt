@@ -43,6 +43,24 @@ impl Under {
         }
     }
 
+    /// The track under the train with its front end in each of the cells.
+    pub fn at_each(
+        alloc: Global,
+        track: &Track,
+        segments: &Segments,
+        length_cm: u32,
+        cells: &[i32],
+    ) -> Result<Vec<Under>, NoMemory>
+        requires { AreGradientsUnder track.now length_cm segments.now }
+        ensures { IfOk result (λ v. v.items ≡ map (under_train track.now (pos length_cm)) cells.now) }
+    {
+        let mut unders = Vec::new(alloc);
+        for cell in cells {
+            unders.push(Under::at(track, segments, length_cm, *cell))?;
+        }
+        Ok(unders)
+    }
+
     /// The gradient in per mille, uphill positive.
     pub fn grad(self) -> i64
         ensures value { result ≡ self.grad }
@@ -57,22 +75,4 @@ impl Under {
     {
         self.reduced
     }
-}
-
-/// The track under the train with its front end in each of the cells.
-pub fn unders(
-    alloc: Global,
-    track: &Track,
-    segments: &Segments,
-    length_cm: u32,
-    cells: &[i32],
-) -> Result<Vec<Under>, NoMemory>
-    requires { AreGradientsUnder track.now length_cm segments.now }
-    ensures { IfOk result (λ v. v.items ≡ map (under_train track.now (pos length_cm)) cells.now) }
-{
-    let mut unders = Vec::new(alloc);
-    for cell in cells {
-        unders.push(Under::at(track, segments, length_cm, *cell))?;
-    }
-    Ok(unders)
 }

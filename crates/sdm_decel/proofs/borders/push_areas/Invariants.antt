@@ -1,3 +1,4 @@
+-- The borders of the areas so far were added.
 use Rattle.std.proofs.Common.{◌≡◌, ◌++◌, take}
 use Rattle.sdm_decel.specs.Borders.{area_borders}
 use Rattle.sdm_decel.proofs.borders.push_areas.Given as goal

@@ -1,3 +1,4 @@
+-- The starts of the segments so far were added.
 use Rattle.std.proofs.Common.{◌≡◌, ◌++◌, take}
 use Rattle.sdm_decel.specs.Borders.{gradient_borders}
 use Rattle.sdm_decel.proofs.borders.push_gradients.Given as goal

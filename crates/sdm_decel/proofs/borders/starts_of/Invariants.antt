@@ -1,3 +1,4 @@
+-- The cells so far stand as starts.
 use Rattle.std.proofs.Common.{◌≡◌, pos, map, take}
 use Rattle.sdm_decel.proofs.borders.starts_of.Given as goal
 

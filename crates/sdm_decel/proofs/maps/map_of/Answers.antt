@@ -11,7 +11,7 @@ long_is : (given length_cm : ℤ) → (pos 1 ≤ℤ given) × (given ≤ℤ pos 
 long_is given length_cm range is = ap (λ (z : ℤ). pos (unsigned_abs z)) (stays given 150_000 (size_within given 1 150_000 range) (omega arith)) ∙ nat_is given (omega (arith, ints)) ∙ is
 
 pub new-requires : goal.new-requires
-new-requires c = rw (c.deref-3.ensures.value, c.deref-4.ensures.value, c.deref-5.ensures.value) (map_data_is c.args.kind c.args.train.now c.args.national.now c.args.track.now _ _ _ _ c.in-Ok-unders.unders.items _ (record {
+new-requires c = rw (c.deref-3.ensures.value, c.deref-4.ensures.value, c.deref-5.ensures.value) (map_data_is c.args.kind c.args.train.now c.args.national.now c.args.track.now _ _ _ _ c.in-Ok-at_each.unders.items _ (record {
   accepted = c.in-Ok-uppers.ensures.accepted;
   long = long_is _ _ c.length-length_cm.ensures.range c.length-length_cm.ensures.value;
   q_is = c.q_of.ensures.value;
@@ -19,7 +19,7 @@ new-requires c = rw (c.deref-3.ensures.value, c.deref-4.ensures.value, c.deref-5
   high_q = c.q_of.ensures.greatest;
   uppers_is = c.in-Ok-uppers.ensures.value;
   stretches = c.in-Ok-stretches.ensures;
-  unders_is = rw c.deref.ensures.value at c.in-Ok-unders.ensures;
+  unders_is = rw c.deref.ensures.value at c.in-Ok-at_each.ensures;
   slopes_is = rw c.deref-2.ensures.value at c.in-Ok-slopes.ensures.value;
   small = c.in-Ok-slopes.ensures.small;
 }))
@@ -34,7 +34,7 @@ returns c =
     let q = c.q_of.result in
     let uppers = c.in-Ok-uppers.uppers.items in
     let starts = c.in-Ok-stretches.starts.items in
-    let unders = c.in-Ok-unders.unders.items in
+    let unders = c.in-Ok-at_each.unders.items in
     let slopes = c.in-Ok-slopes.slopes.items in
     let made : IsMade kind train national track length_cm q uppers starts unders slopes = record {
       accepted = c.in-Ok-uppers.ensures.accepted;
@@ -44,7 +44,7 @@ returns c =
       high_q = c.q_of.ensures.greatest;
       uppers_is = c.in-Ok-uppers.ensures.value;
       stretches = c.in-Ok-stretches.ensures;
-      unders_is = rw c.deref.ensures.value at c.in-Ok-unders.ensures;
+      unders_is = rw c.deref.ensures.value at c.in-Ok-at_each.ensures;
       slopes_is = rw c.deref-2.ensures.value at c.in-Ok-slopes.ensures.value;
       small = c.in-Ok-slopes.ensures.small;
     } in

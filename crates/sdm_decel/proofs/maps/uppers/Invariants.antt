@@ -1,3 +1,4 @@
+-- The upper speeds of the bands so far.
 use Rattle.std.proofs.Common.{◌≡◌, take}
 use Rattle.sdm_rules.specs.Decelerations.{uppers_of}
 use Rattle.sdm_decel.proofs.maps.uppers.Given as goal

@@ -2,7 +2,7 @@
 use Rattle.std.proofs.Common.{◌≡◌, ℤ, pos, ◌≤◌, ◌+ℤ◌, ◌-ℤ◌, ◌*ℤ◌, ◌≤ℤ◌, unsigned_abs, w64, to_z, of_z, refl, arith}
 use Rattle.std.proofs.lemmas.Int.{ints, fits_signed_mul}
 use Rattle.sdm_decel.proofs.Sizes.{fits, stays, size_within, product_size, sum_size}
-use Rattle.sdm_decel.proofs.decelerations.wet.Goals as goal
+use Rattle.sdm_decel.proofs.decelerations.weighted_kwet.Goals as goal
 
 module _ (a k : ℤ) (a_small : unsigned_abs a ≤ 20) (k_in : (pos 1 ≤ℤ k) × (k ≤ℤ pos 1000)) where
   k_small : unsigned_abs k ≤ 1000
