@@ -1,5 +1,5 @@
 -- A profile has no more falls than entries and restrictions: each lies where a zone begins that none of the earlier ones has.
-use Rattle.std.proofs.Common.{◌≡◌, ℕ, ℤ, pos, List, [], ◌∷◌, ◌++◌, length, map, Option, Some, None, Bool, true, false, ◌||◌, if◌then◌else◌, int_le, ◌+◌, ◌<◌, ◌≤◌, ◌+ℤ◌, ◌≤ℤ◌, ◌<ℤ◌, refl, sym, ap, ◌∙◌, arith, length-append}
+use Rattle.std.proofs.Common.{◌≡◌, ℕ, suc, ℤ, pos, List, [], ◌∷◌, ◌++◌, length, map, Option, Some, None, Bool, true, false, ◌||◌, if◌then◌else◌, int_le, ◌+◌, ◌<◌, ◌≤◌, ◌+ℤ◌, ◌≤ℤ◌, ◌<ℤ◌, refl, sym, ap, ◌∙◌, arith, length-append}
 use Rattle.std.specs.Option.{option_map_or}
 use Rattle.std.specs.Ordering.{int_eq}
 use Rattle.std.specs.FinMap as finite
@@ -72,7 +72,7 @@ zones_of p = zones_of_track p.length_cm p.speeds ++ map (zone_of p.length_cm) (f
 
 static_count : (length_cm : ℤ) (first : Option ℤ) (e : SpeedStep) (es : List SpeedStep) → length (static_zones length_cm first e es) ≡ length (e ∷ es)
 static_count length_cm first e [] = refl
-static_count length_cm first e (next ∷ es) = ap (λ n. n + 1) (static_count length_cm (Some next.start) next es)
+static_count length_cm first e (next ∷ es) = ap suc (static_count length_cm (Some next.start) next es)
 
 track_count : (length_cm : ℤ) (es : List SpeedStep) → length (zones_of_track length_cm es) ≡ length es
 track_count length_cm [] = refl

@@ -1,8 +1,9 @@
 -- The falls past a cell, one at a time: cells where the profile does not fall are left out, so the next fall comes first.
-use Rattle.std.proofs.Common.{◌≡◌, ℕ, zero, suc, ℤ, pos, negsuc, List, [], ◌∷◌, Bool, true, false, map, ◌+◌, ◌-◌, ◌<◌, ◌≤◌, ◌+ℤ◌, ◌≤ℤ◌, ◌<ℤ◌, refl, sym, ap, ◌∙◌, arith}
+use Rattle.std.proofs.Common.{◌≡◌, ℕ, zero, suc, ℤ, pos, negsuc, List, [], ◌∷◌, ◌++◌, Bool, true, false, map, ◌+◌, ◌-◌, ◌<◌, ◌≤◌, ◌+ℤ◌, ◌≤ℤ◌, ◌<ℤ◌, refl, sym, ap, ◌∙◌, arith, append_assoc}
 use Rattle.std.specs.Prelude.{filter}
 use Rattle.std.specs.Int.{int_gap}
 use Rattle.std.proofs.lemmas.Int.{ints, by_lt_z}
+use Rattle.std.proofs.lemmas.List.{append-nil}
 use Rattle.sdm_rules.specs.declared.targets.Fall.{Fall}
 use Rattle.sdm_rules.specs.declared.targets.Target.{Target}
 use Rattle.sdm_rules.specs.declared.targets.TargetKind.TheVariants.{Mrsp}
@@ -47,3 +48,14 @@ next_first profile after end fall next on =
     let there : (after +ℤ pos 1) +ℤ pos m ≡ fall.cell = omega (arith, ints) in
     let skipped = skip (is_fall profile) (after +ℤ pos 1) m (suc n) (int_gap after end) (omega (arith, ints)) (λ k a b. next.first k (omega (arith, ints)) (omega (arith, ints))) in
     rw (next.lower, skipped, there, next.falls) refl
+
+-- ---- the falls that are in a list, and those that are left
+
+-- all are in it
+pub all_in : (profile : ℤ → ℕ) (after end : ℤ) (found all : List Target) → found ++ falls_past profile after end ≡ all → ((c : ℤ) → after <ℤ c → c ≤ℤ end → is_fall profile c ≡ false) → found ≡ all
+all_in profile after end found all both none = sym (append-nil found) ∙ ap (λ (left : List Target). found ++ left) (sym (none_left profile after end none)) ∙ both
+
+-- one more is in it
+pub one_more_in : (profile : ℤ → ℕ) (after end : ℤ) (fall : Fall) (found all : List Target) → found ++ falls_past profile after end ≡ all → IsNextFall profile after fall → fall.cell ≤ℤ end →
+    (found ++ record { kind = Mrsp; place = border_of fall.cell; speed = fall.speed } ∷ []) ++ falls_past profile fall.cell end ≡ all
+one_more_in profile after end fall found all both next on = rw append_assoc (ap (λ (left : List Target). found ++ left) (sym (next_first profile after end fall next on)) ∙ both)

@@ -10,3 +10,6 @@ pub use authorities::check_authority;
 pub use foot_speeds::foot_speed;
 pub use lists::{TargetList, targets_of};
 pub use sdm_rules::{Authority, AuthorityFault, Target, TargetKind};
+
+#[cfg(test)]
+mod tests;
