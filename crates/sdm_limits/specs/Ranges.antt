@@ -19,10 +19,10 @@ pub record AreTimes (t : Times) : Type 0 where
 abbrev pub IsWithin : ℕ → ℤ → Type 0
 IsWithin grains z = (neg_ℤ (pos grains) ≤ℤ z) × (z ≤ℤ pos grains)
 
--- no limit's place that is handed in is further from the origin, in grains: about 1.85 million km
+-- no place that limits are found from is further from the origin, in grains: about 1,850 km
 abbrev pub reach : ℕ
 reach = 10 ^ 18
 
--- the place of a guidance curve, where there is one
+-- a place of a guidance curve, if there is one, is not too far
 abbrev pub IsGuide : Option Bound → Type 0
 IsGuide guide = ForSome guide (λ g. IsWithin reach g.at)

@@ -15,19 +15,19 @@ abbrev pub ebd_limits_by : CurvePlaces → SlopeMap → Foot → Option Fraction
 ebd_limits_by P map ebd guide times v reaction =
     ebd_limits_at times v guide reaction.d_bec (P (meaning_of map) ebd.place ebd.speed reaction.v_bec)
 
--- so on an SBD (SUBSET-026-3 3.13.9.3)
+-- the same on an SBD, which gives no EBI (SUBSET-026-3 3.13.9.3)
 abbrev pub sbd_limits_by : CurvePlaces → SlopeMap → Foot → Option Fraction → Times → ℕ → SupervisionLimits
 sbd_limits_by P map sbd guide times v = sbd_limits_at times v guide (P (meaning_of map) sbd.place sbd.speed v)
 
--- where a bound lies
+-- the place of a bound, as a fraction
 abbrev pub place_of : Bound → Fraction
 place_of e = whole e.at
 
--- where a bound lies, where there is one
+-- the place of a bound, if there is one
 abbrev pub place_where : Option Bound → Option Fraction
 place_where e = option_map place_of e
 
--- where the limits lie that were found
+-- the places of the limits that were found
 abbrev pub places_of : Limits → SupervisionLimits
 places_of l = record {
   ebi = place_where l.ebi;

@@ -1,7 +1,7 @@
 //! What the train may do from the moment on that its emergency brake is commanded until it works.
 
 ghost use Rattle.std.specs.Prelude.{◌≡◌, ◌+◌, ◌*◌, ◌^◌, ◌<◌, ◌≤◌, ◌≤ℤ◌, pos, negsuc};
-ghost use Rattle.sdm_num.specs.Units.{notches, notches_of_mm_s, way_in};
+ghost use Rattle.sdm_num.specs.Units.{notches, notches_of_mm_s, top_speed, way_in};
 ghost use Rattle.sdm_rules.specs.Reaction.{a_est1, a_est2, build_up, d_bec, v_bec};
 ghost use Rattle.sdm_limits.specs.Ranges.{AreTimes, most_time};
 
@@ -11,16 +11,18 @@ use sdm_rules::Times;
 /// The most of A_est2, in cm/s². (SUBSET-026-3 3.13.9.3.2; own value)
 const A_EST2_MOST: u32 = 40;
 
-/// The speed and the way at which the emergency brake works: V_bec, and D_bec in grains. (SUBSET-026-3 3.13.9.3.2)
+/// What the train may do from the emergency brake command on until the brake works. (SUBSET-026-3 3.13.9.3.2)
 #[derive(Clone, Copy, Debug, PartialEq, Eq)]
 pub struct Reaction {
+    /// V_bec: the greatest speed when the emergency brake works, and at least that of the target.
     pub v_bec: Speed,
+    /// D_bec: the greatest way in grains until then.
     pub d_bec: u64,
 }
 
 /// V_bec and D_bec from the estimated speed `v` on, for a target with a speed; `under` is V_delta0, the under-reading
-/// amount where it is compensated, else 0. Speeds are at most 500 km/h, `under` at most 10,000 mm/s, and the estimated
-/// acceleration is from −300 to 300 cm/s². (SUBSET-026-3 3.13.9.3.2; ranges own)
+/// amount where it is compensated, else 0. Each time is at most 300 ds, `v` and the target's speed at most 500 km/h, `under`
+/// at most 10,000 mm/s, and the estimated acceleration from −300 to 300 cm/s². (SUBSET-026-3 3.13.9.3.2; ranges own)
 pub fn reaction_of(times: &Times, v: Speed, under: Speed, accel: i16, target: Speed) -> Reaction
     requires times { AreTimes times.now }
     requires speed { v ≤ notches 500 }
@@ -75,7 +77,7 @@ fn gain(accel: u32, time: u32) -> u32
 
 /// The way in grains at a speed in notches within a time in ds.
 pub(crate) fn way(notches: u32, time: u32) -> u64
-    requires notches { notches ≤ 20_000_000 }
+    requires notches { notches ≤ top_speed }
     requires time { time ≤ most_time }
     ensures value { result ≡ way_in notches time }
     ensures small { result ≤ 300_000_000 * notches }

@@ -143,6 +143,16 @@ fn the_train_gains_speed_until_its_brake_works(rt: HostRuntime) -> Result<(), Fa
     Ok(())
 }
 
+#[test]
+fn times_of_a_train_are_times_of_its_reaction(rt: HostRuntime) {
+    // a cut-off of 1 s, an emergency brake of 3 s, 20 m/s and 0.5 m/s²: 21.3 m/s after 62.05 m
+    let times = Times::of(10, false, 30, 0, true);
+    let none = Speed::of_mm_s(0);
+    let reaction = reaction_of(&times, Speed::of_mm_s(20_000), none, 50, none);
+    assert_eq!(rt; reaction.v_bec.notches(), 1_150_200);
+    assert_eq!(rt; reaction.d_bec, 33_507_000_000_000);
+}
+
 // ---- limits
 
 /// For a train at 20 m/s and curves at 1 m/s² with their feet at 1000 m: times in ds, acceleration in cm/s², target in km/h,

@@ -1,6 +1,6 @@
 //! The times of reaction, from the times of the train's brakes and of its traction cut-off.
 
-ghost use Rattle.std.specs.Prelude.{◌≡◌, ◌%◌, ◌≤◌};
+ghost use Rattle.std.specs.Prelude.{◌≡◌, ◌%◌, ◌≤◌, ℕ, Bool};
 ghost use Rattle.sdm_rules.specs.Reaction.{t_traction, times_of};
 ghost use Rattle.sdm_limits.specs.Ranges.{AreTimes, most_time};
 
@@ -17,6 +17,8 @@ const INDICATION_LEAST: u32 = 50;
 
 /// What is found from the times of a train. A trait, since `Times` stands among the definitions, which have no code.
 pub trait OfTrain {
+    ghost of_gives: { ℕ → Bool → ℕ → ℕ → Bool → Self };
+
     /// The times of a train, all in ds and at most 300: of its traction cut-off, with whether it has an interface for that,
     /// and the build-up times of its emergency brake and its service brake, with whether the service brake is in use. The
     /// service brake's is in steps of 5 ds, so that 0.8 of it is whole. (ranges own)
@@ -24,10 +26,13 @@ pub trait OfTrain {
         requires cut_off { cut_off ≤ most_time }
         requires emergency { emergency ≤ most_time }
         requires service { service ≤ most_time }
-        requires steps { service % 5 ≡ 0 };
+        requires steps { service % 5 ≡ 0 }
+        ensures value { result ≡ of_gives cut_off interface emergency service service_used };
 }
 
 impl OfTrain for Times {
+    ghost of_gives = { times_of };
+
     fn of(cut_off: u32, interface: bool, emergency: u32, service: u32, service_used: bool) -> Times
         requires cut_off { cut_off ≤ most_time }
         requires emergency { emergency ≤ most_time }
