@@ -176,7 +176,8 @@ impl Profile {
     fn restrict_fault(&self, r: Restriction) -> Option<RestrictFault>
         ensures { result ≡ restrict_fault self.now.track_cm self.now.restrictions r }
     {
-        if self.held.len() >= MOST_RESTRICTIONS {
+        let full = self.held.len() >= MOST_RESTRICTIONS;
+        if full {
             return Some(RestrictFault::Full);
         }
         if self.is_held(r.id) {

@@ -9,22 +9,22 @@ use Rattle.sdm_speed.proofs.RestrictLaws.{refused_as_full, refused_as_in_use, re
 use Rattle.sdm_speed.proofs.profiles.Profile.restrict_fault.Goals as goal
 use Rattle.sdm_speed.proofs.profiles.Profile.restrict_fault.Goals.{then-r-via-then-r, then-r-via-else-r+then-self-r}
 
-pub returns-then-len-ge-MOST_RESTRICTIONS : goal.returns-then-len-ge-MOST_RESTRICTIONS
-returns-then-len-ge-MOST_RESTRICTIONS c =
+pub returns-then-full : goal.returns-then-full
+returns-then-full c =
     let p = c.args.self.now in
-    let full : most_restrictions ≤ finite.len p.restrictions = omega (arith, held_count _ c.self.invariant p c.self.view_is, c.len.ensures) in
+    let full : most_restrictions ≤ finite.len p.restrictions = omega (arith, held_count _ c.self.invariant p c.self.view_is, c.len-full.ensures) in
     sym (refused_as_full p.track_cm p.restrictions c.args.r full)
 
 pub returns-then-is_held : goal.returns-then-is_held
 returns-then-is_held c =
     let p = c.args.self.now in
-    let room : finite.len p.restrictions < most_restrictions = omega (arith, held_count _ c.self.invariant p c.self.view_is, c.len.ensures) in
+    let room : finite.len p.restrictions < most_restrictions = omega (arith, held_count _ c.self.invariant p c.self.view_is, c.len-full.ensures) in
     sym (refused_as_in_use p.track_cm p.restrictions c.args.r room (sym c.is_held.ensures ∙ c.if-is_held.true))
 
 pub returns-then-r : goal.returns-then-r
 returns-then-r c =
     let p = c.args.self.now in
-    let room : finite.len p.restrictions < most_restrictions = omega (arith, held_count _ c.self.invariant p c.self.view_is, c.len.ensures) in
+    let room : finite.len p.restrictions < most_restrictions = omega (arith, held_count _ c.self.invariant p c.self.view_is, c.len-full.ensures) in
     let track_is = ap (λ (q : ProfileData). q.track_cm) c.self.view_is in
     let new = sym c.is_held.ensures ∙ c.if-is_held.false in
     elim c.then-r.branch [
@@ -37,7 +37,7 @@ returns-then-r c =
 pub returns : goal.returns
 returns c =
     let p = c.args.self.now in
-    let room : finite.len p.restrictions < most_restrictions = omega (arith, held_count _ c.self.invariant p c.self.view_is, c.len.ensures) in
+    let room : finite.len p.restrictions < most_restrictions = omega (arith, held_count _ c.self.invariant p c.self.view_is, c.len-full.ensures) in
     let track_is = ap (λ (q : ProfileData). q.track_cm) c.self.view_is in
     let new = sym c.is_held.ensures ∙ c.if-is_held.false in
     let on : pos c.args.r.end ≤ℤ p.track_cm = rw (← track_is) (omega (arith, ints)) in
