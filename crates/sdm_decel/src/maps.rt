@@ -7,7 +7,7 @@ ghost use Rattle.sdm_rules.specs.Slopes.{meaning_of};
 ghost use Rattle.sdm_rules.specs.Opening.{IsAcceptedKind};
 ghost use Rattle.sdm_train.specs.Trains.{IsTrain, IsBand};
 ghost use Rattle.sdm_decel.specs.Borders.{AreGradientsUnder, AreStretches};
-ghost use Rattle.sdm_decel.specs.Slopes.{line_of, slopes_of_bands, IsFaultOfKind};
+ghost use Rattle.sdm_decel.specs.Slopes.{line_of, slopes_of_bands, AreParts, IsFaultOfKind};
 
 use crate::borders::stretches;
 use crate::decelerations::{q_of, slope};
@@ -83,6 +83,37 @@ fn gradients_under(alloc: Global, track: &Track, length_cm: u32) -> Result<Segme
     Ok(segments)
 }
 
+// What a map is made of.
+#[derive(Drop)]
+struct Parts {
+    uppers: Vec<Speed>,
+    starts: Vec<i32>,
+    slopes: Vec<i64>,
+}
+
+// What the map of a kind is made of.
+fn parts_of(
+    alloc: Global,
+    kind: SlopeKind,
+    train: &Train,
+    national: &National,
+    track: &Track,
+) -> Result<Parts, NoMemory>
+    ensures { IfOk result (λ p. AreParts kind (line_of train.now national.now track.now) p.uppers.items p.starts.items p.slopes.items) }
+{
+    let length_cm = train.length() as u32;
+    let segments = gradients_under(alloc, track, length_cm)?;
+    let starts = stretches(alloc, track, &segments, length_cm)?;
+    let unders = Under::at_each(alloc, track, &segments, length_cm, &starts)?;
+    let uppers = uppers(alloc, train)?;
+    let slopes = slopes(alloc, kind, train, national, &unders)?;
+    Ok(Parts {
+        uppers,
+        starts,
+        slopes,
+    })
+}
+
 // The map of a kind.
 fn map_of(
     alloc: Global,
@@ -96,23 +127,16 @@ fn map_of(
     ensures accepted { IfOk result (λ _. IsAcceptedKind kind (line_of train.now national.now track.now)) }
     ensures fault { IfErr result (IsFaultOfKind kind (line_of train.now national.now track.now)) }
 {
-    let length_cm = train.length() as u32;
-    let Ok(segments) = gradients_under(alloc, track, length_cm) else {
+    let Ok(parts) = parts_of(alloc, kind, train, national, track) else {
         return Err(CurveFault::Memory);
     };
-    let Ok(uppers) = uppers(alloc, train) else {
-        return Err(CurveFault::Memory);
-    };
-    let Ok(starts) = stretches(alloc, track, &segments, length_cm) else {
-        return Err(CurveFault::Memory);
-    };
-    let Ok(unders) = Under::at_each(alloc, track, &segments, length_cm, &starts) else {
-        return Err(CurveFault::Memory);
-    };
-    let Ok(slopes) = slopes(alloc, kind, train, national, &unders) else {
-        return Err(CurveFault::Memory);
-    };
-    BandMap::new(alloc, q_of(train), &uppers, &starts, &slopes)
+    BandMap::new(
+        alloc,
+        q_of(train),
+        &parts.uppers,
+        &parts.starts,
+        &parts.slopes,
+    )
 }
 
 /// The map of A_safe, on which emergency brake deceleration curves stand (SUBSET-026-3 3.13.6.2, 3.13.8.3): a segment begins at
