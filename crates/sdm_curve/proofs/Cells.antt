@@ -1,12 +1,15 @@
 -- What is said of the segments of a map, said of the cells of the track: each cell has the slope of its segment, and each
 -- segment holds its own first cell.
-use Rattle.std.proofs.Common.{◌≡◌, ℕ, ℤ, zero, suc, pos, List, ◌*◌, ◌<◌, ◌≤ℤ◌, ◌*ℤ◌, ◌<ℤ◌, length, get_or, unsigned_abs, ap, arith, sym, ◌∙◌, inl, inr}
-use Rattle.std.proofs.lemmas.Int.{ints, by_lt_z}
+use Rattle.std.proofs.Common.{◌≡◌, ℕ, ℤ, zero, suc, pos, List, ◌*◌, ◌<◌, ◌≤◌, ◌≤ℤ◌, ◌*ℤ◌, ◌<ℤ◌, length, get_or, unsigned_abs, ap, arith, sym, ◌∙◌, inl, inr}
+use Rattle.std.proofs.lemmas.Int.{ints}
 use Rattle.std.proofs.lemmas.Bool.{cases_lt}
-use Rattle.sdm_rules.specs.Slopes.{segment_of, bands_of, variation}
+use Rattle.std.proofs.Math.Nat.{mul-le-mul_right}
+use Rattle.std.proofs.Math.Path.{fun_ext}
+use Rattle.std.proofs.Math.ListN.{get_or-eq_default, length-map}
+use Rattle.sdm_rules.specs.Slopes.{SlopeMap, Slopes, meaning_of, segment_of, bands_of, variation}
 use Rattle.sdm_laws.proofs.Segments.{in_segment, segment_is}
-use Rattle.sdm_curve.specs.Maps.{MapData, IsMapData, AreStarts, slope_in, slope_on, start_in, IsStrong, IsStrongBand, AreStrong, IsEvenBand}
-use Rattle.sdm_curve.specs.Faults.{IsFirstWeak, IsRange}
+use Rattle.sdm_curve.specs.Maps.{IsKept, handed_in, MapData, AreStarts, slope_in, slope_on, start_in, IsStrongSlope, IsStrongBand, IsEvenBand}
+use Rattle.sdm_curve.specs.Faults.{IsFirstWeakSlope, IsBandRange}
 use Rattle.sdm_curve.proofs.Meanings.{rising_of, segment_known, start_least}
 
 pub segment_start : (starts : List ℤ) (i : ℕ) → AreStarts starts → i < length starts → segment_of starts (get_or starts i (pos 0)) ≡ i
@@ -34,10 +37,10 @@ start_cell d i h known = let least = start_least d.starts i h known in omega (ar
 
 -- ---- strong and even bands
 
-pub strong_cells : (d : MapData) (band : ℕ) → AreStarts d.starts → IsStrongBand d band → (c : ℤ) → IsStrong d.q (slope_on d band c)
+pub strong_cells : (d : MapData) (band : ℕ) → AreStarts d.starts → IsStrongBand d band → (c : ℤ) → IsStrongSlope d.q (slope_on d band c)
 strong_cells d band h strong c = strong (segment_of d.starts c) (segment_known d.starts c h)
 
-pub strong_segments : (d : MapData) (band : ℕ) → AreStarts d.starts → ((c : ℕ) → IsStrong d.q (slope_on d band (pos c))) → IsStrongBand d band
+pub strong_segments : (d : MapData) (band : ℕ) → AreStarts d.starts → ((c : ℕ) → IsStrongSlope d.q (slope_on d band (pos c))) → IsStrongBand d band
 strong_segments d band h strong i known =
     omega (arith, ints, strong (unsigned_abs (start_in d i)), slope_on_start d band i h known, ap (slope_on d band) (start_cell d i h known))
 
@@ -64,10 +67,10 @@ pub record IsFirstWeakCell (d : MapData) (band : ℕ) (cell slope : ℤ) : Type 
   pub from_0 : pos 0 ≤ℤ cell
   pub value : slope ≡ slope_on d band cell
   pub weak : (pos 20 *ℤ slope) <ℤ pos (2_000_000_000 * d.q)
-  pub lower_bands : (b : ℕ) (c : ℤ) → b < band → IsStrong d.q (slope_on d b c)
-  pub earlier : (c : ℤ) → pos 0 ≤ℤ c → c <ℤ cell → IsStrong d.q (slope_on d band c)
+  pub lower_bands : (b : ℕ) (c : ℤ) → b < band → IsStrongSlope d.q (slope_on d b c)
+  pub earlier : (c : ℤ) → pos 0 ≤ℤ c → c <ℤ cell → IsStrongSlope d.q (slope_on d band c)
 
-pub weak_cell : (d : MapData) (band i : ℕ) → AreStarts d.starts → IsFirstWeak d band i → IsFirstWeakCell d band (start_in d i) (slope_in d band i)
+pub weak_cell : (d : MapData) (band i : ℕ) → AreStarts d.starts → IsFirstWeakSlope d band i → IsFirstWeakCell d band (start_in d i) (slope_in d band i)
 weak_cell d band i h w = record {
   known = w.known_band;
   from_0 = start_least d.starts i h w.known;
@@ -88,7 +91,7 @@ pub record IsCellRange (d : MapData) (band : ℕ) (least greatest : ℤ) : Type 
   pub above : (c : ℤ) → least ≤ℤ slope_on d band c
   pub below : (c : ℤ) → slope_on d band c ≤ℤ greatest
 
-pub range_cells : (d : MapData) (band : ℕ) (least greatest : ℤ) → AreStarts d.starts → IsRange d band least greatest → IsCellRange d band least greatest
+pub range_cells : (d : MapData) (band : ℕ) (least greatest : ℤ) → AreStarts d.starts → IsBandRange d band least greatest → IsCellRange d band least greatest
 range_cells d band least greatest h r = record {
   low = (unsigned_abs (start_in d r.low.0), at r.low.0 r.low.1 ∙ r.low.2);
   high = (unsigned_abs (start_in d r.high.0), at r.high.0 r.high.1 ∙ r.high.2);
@@ -98,3 +101,17 @@ range_cells d band least greatest h r = record {
   where
     at : (i : ℕ) → i < length d.starts → slope_on d band (pos (unsigned_abs (start_in d i))) ≡ slope_in d band i
     at i known = ap (slope_on d band) (sym (start_cell d i h known)) ∙ slope_on_start d band i h known
+
+-- ---- what a kept map stands for
+
+-- past the last band there is no slope
+pub slope_past : (m : SlopeMap) (band : ℕ) (c : ℤ) → IsKept (handed_in m) → bands_of m.uppers ≤ band → (meaning_of m).slope band c ≡ 0
+slope_past m band c h past =
+    let all : length m.slopes ≡ bands_of m.uppers * length m.starts = rw length-map at h.well_formed.lengths in
+    get_or-eq_default m.slopes 0 (omega (arith, mul-le-mul_right (length m.starts) past))
+
+-- a map stands for what has its q, its upper speeds and its slope in each band and cell
+pub meaning_is : (m : SlopeMap) (on : Slopes) → m.q ≡ on.q → m.uppers ≡ on.uppers → ((band : ℕ) (c : ℤ) → (meaning_of m).slope band c ≡ on.slope band c) → meaning_of m ≡ on
+meaning_is m on same_q same_uppers same =
+    let slopes : (meaning_of m).slope ≡ on.slope = fun_ext (λ band. fun_ext (λ c. same band c)) in
+    rw (same_q, same_uppers, slopes)

@@ -1,10 +1,10 @@
 -- The walk of the stepped place from band to band: at each of its places, what `climb` or `descend` gives from there is
 -- the place that is asked for. Each band adds the way of one knot.
-use Rattle.std.proofs.Common.{◌≡◌, ℕ, ℤ, zero, suc, pos, neg_ℤ, ◌+◌, ◌-◌, ◌*◌, ◌<◌, ◌≤◌, ◌+ℤ◌, ◌*ℤ◌, length, ap, arith, refl, sym, ◌∙◌}
+use Rattle.std.proofs.Common.{◌≡◌, ℕ, ℤ, suc, pos, neg_ℤ, ◌+◌, ◌-◌, ◌*◌, ◌<◌, ◌≤◌, ◌+ℤ◌, ◌*ℤ◌, length, ap, arith, sym, ◌∙◌}
 use Rattle.std.proofs.lemmas.Int.{ints}
-use Rattle.sdm_num.specs.Fractions.{Fraction, whole, floor}
+use Rattle.sdm_num.specs.Fractions.{whole, floor}
 use Rattle.sdm_rules.specs.Slopes.{Slopes, IsUsable}
-use Rattle.sdm_rules.specs.Curves.{climb, descend, place_at, stepped, to_grain, upper_square, grain_energy}
+use Rattle.sdm_rules.specs.Curves.{climb, descend, stepped, to_grain, upper_square, grain_energy}
 use Rattle.sdm_laws.specs.Energy.{IsKnot, IsKnotPast}
 use Rattle.sdm_laws.proofs.BandSteps.{climb_skip, climb_stop, descend_skip, descend_stop, place_up, place_down}
 use Rattle.sdm_laws.proofs.Knots.{knot_back, knot_forward, climb_knot, descend_knot}

@@ -1,9 +1,7 @@
 -- What a map keeps is what was handed in: slopes that are not below 0 are naturals.
-use Rattle.std.proofs.Common.{◌≡◌, ℕ, ℤ, zero, suc, pos, List, [], ◌∷◌, map, ◌+◌, ◌*◌, ◌/◌, ◌%◌, ◌<◌, ◌≤◌, ◌≤ℤ◌, length, get_or, unsigned_abs, ap, arith, refl, sym, ◌∙◌}
+use Rattle.std.proofs.Common.{◌≡◌, ℕ, ℤ, suc, pos, List, [], ◌∷◌, map, ◌/◌, ◌%◌, ◌<◌, ◌≤ℤ◌, length, get_or, unsigned_abs, ap, arith, refl, ◌∙◌}
 use Rattle.std.proofs.lemmas.Int.{ints}
-use Rattle.std.proofs.lemmas.Nat.{div-add-mod'}
-use Rattle.sdm_rules.specs.Slopes.{SlopeMap, bands_of}
-use Rattle.sdm_curve.specs.Maps.{MapData, map_data, data_of, slope_in, IsStrong, IsKept}
+use Rattle.sdm_curve.specs.Maps.{MapData, handed_in, IsKept}
 use Rattle.sdm_curve.proofs.Rows.{slope_at_index, index_known}
 
 naturals_back : (zs : List ℤ) → ((k : ℕ) → k < length zs → pos 0 ≤ℤ get_or zs k (pos 0)) → map pos (map unsigned_abs zs) ≡ zs
@@ -21,7 +19,7 @@ not_below_zero d h k lt =
     omega (arith, ints, at, h.accepted.strong (k / n) place.0 (k % n) place.1)
 
 pub copied : (d : MapData) (uppers : List ℕ) (starts : List ℤ) (slopes : List ℕ) → IsKept d → uppers ≡ d.uppers → starts ≡ d.starts → slopes ≡ map unsigned_abs d.slopes →
-    data_of (record { q = d.q; uppers = uppers; starts = starts; slopes = slopes }) ≡ d
+    handed_in (record { q = d.q; uppers = uppers; starts = starts; slopes = slopes }) ≡ d
 copied d uppers starts slopes h same_uppers same_starts same_slopes =
     let back : map pos slopes ≡ d.slopes = ap (map pos) same_slopes ∙ naturals_back d.slopes (not_below_zero d h) in
     rw (same_uppers, same_starts, back)

@@ -1,5 +1,5 @@
 -- The least and the greatest of the first slopes of a list; each further slope keeps or replaces them.
-use Rattle.std.proofs.Common.{◌≡◌, Bool, cond, ℕ, ℤ, pos, List, ◌+◌, ◌<◌, ◌≤◌, ◌≤ℤ◌, int_lt, length, get_or, sym, subst, inl, inr, refl, arith, below_more}
+use Rattle.std.proofs.Common.{◌≡◌, Bool, cond, ℕ, ℤ, pos, List, ◌+◌, ◌<◌, ◌≤ℤ◌, int_lt, length, get_or, sym, subst, inl, inr, arith, below_more}
 use Rattle.std.specs.Int.{int_min, int_max}
 use Rattle.std.proofs.lemmas.Int.{ints, clamps}
 use Rattle.std.proofs.lemmas.Bool.{cases_cond}

@@ -1,15 +1,15 @@
 -- The slopes of a band stand side by side in the list of all slopes: the row of the band.
-use Rattle.std.proofs.Common.{◌≡◌, ℕ, ℤ, pos, List, ◌+◌, ◌-◌, ◌*◌, ◌/◌, ◌%◌, ◌<◌, ◌≤◌, ◌*ℤ◌, ◌≤ℤ◌, ◌<ℤ◌, length, get_or, take, drop, ap, sym, subst, ◌∙◌, arith, length-drop, inl, inr}
+use Rattle.std.proofs.Common.{◌≡◌, ℕ, ℤ, pos, List, ◌+◌, ◌-◌, ◌*◌, ◌/◌, ◌%◌, ◌<◌, ◌≤◌, ◌*ℤ◌, ◌≤ℤ◌, length, get_or, drop, ap, sym, subst, ◌∙◌, arith, length-drop, inl, inr}
 use Rattle.std.specs.List.{slice_range}
 use Rattle.std.proofs.lemmas.Int.{ints}
 use Rattle.std.proofs.lemmas.List.{get_or-take, get_or-drop, length-take}
 use Rattle.std.proofs.lemmas.Nat.{div-add-mod'}
 use Rattle.std.proofs.lemmas.Bool.{cases_lt}
-use Rattle.std.proofs.Math.Nat.{mul-le-mul_left, mul-le-mul_right}
+use Rattle.std.proofs.Math.Nat.{mul-le-mul_right}
 use Rattle.sdm_rules.specs.Slopes.{bands_of, variation}
-use Rattle.sdm_curve.specs.Maps.{MapData, IsMapData, slope_in, start_in, IsStrong, IsStrongBand, AreStrong, IsEvenBand}
+use Rattle.sdm_curve.specs.Maps.{MapData, IsMapData, slope_in, IsStrongSlope, AreStrong, IsEvenBand}
 use Rattle.sdm_curve.specs.Checks.{IsWeakIndex, IsRangeOf}
-use Rattle.sdm_curve.specs.Faults.{IsFirstWeak, IsRange}
+use Rattle.sdm_curve.specs.Faults.{IsFirstWeakSlope, IsBandRange}
 
 -- the row of a band ends within the list, and its places come after those of the lower bands
 pub row_fits : (bands n band : ℕ) → band < bands → (band + 1) * n ≤ bands * n
@@ -33,7 +33,7 @@ length-row d band given known =
     simp (length-take, length-drop) (omega arith)
 
 -- the range of a row is that of its band
-pub range_row : (d : MapData) (band : ℕ) (least greatest : ℤ) → IsMapData d → band < bands_of d.uppers → IsRangeOf (row_of d band) least greatest → IsRange d band least greatest
+pub range_row : (d : MapData) (band : ℕ) (least greatest : ℤ) → IsMapData d → band < bands_of d.uppers → IsRangeOf (row_of d band) least greatest → IsBandRange d band least greatest
 range_row d band least greatest given known h =
     let n = length d.starts in
     let n_is = length-row d band given known in
@@ -46,7 +46,7 @@ range_row d band least greatest given known h =
     }
 
 -- a band whose range is narrow is even
-pub even_range : (d : MapData) (band : ℕ) (least greatest : ℤ) → IsRange d band least greatest → greatest ≤ℤ (pos (variation (bands_of d.uppers)) *ℤ least) → IsEvenBand d band
+pub even_range : (d : MapData) (band : ℕ) (least greatest : ℤ) → IsBandRange d band least greatest → greatest ≤ℤ (pos (variation (bands_of d.uppers)) *ℤ least) → IsEvenBand d band
 even_range d band least greatest h le i j l m = omega (arith, ints, h.below i l, h.above j m)
 
 -- a slope of the list, by band and segment
@@ -62,7 +62,7 @@ index_known d k given lt =
     band_below band bands n rest k all e lt is = elim (cases_lt band bands) [ inl below ↦ below | inr ge ↦ absurd (omega (arith, mul-le-mul_right n ge)) ]
 
 -- the first weak slope of the list, by band and segment
-pub first_weak_is : (d : MapData) (k : ℕ) → IsMapData d → IsWeakIndex d.q d.slopes k → IsFirstWeak d (k / length d.starts) (k % length d.starts)
+pub first_weak_is : (d : MapData) (k : ℕ) → IsMapData d → IsWeakIndex d.q d.slopes k → IsFirstWeakSlope d (k / length d.starts) (k % length d.starts)
 first_weak_is d k given h =
     let n = length d.starts in
     let parts = div-add-mod' k n in
@@ -76,5 +76,5 @@ first_weak_is d k given h =
     }
 
 -- where no slope of the list is weak, none of a band is
-pub strong_all : (d : MapData) → IsMapData d → ((k : ℕ) → k < length d.slopes → IsStrong d.q (get_or d.slopes k (pos 0))) → AreStrong d
+pub strong_all : (d : MapData) → IsMapData d → ((k : ℕ) → k < length d.slopes → IsStrongSlope d.q (get_or d.slopes k (pos 0))) → AreStrong d
 strong_all d given h band l i m = h (band * length d.starts + i) (omega (arith, given.lengths, row_known (bands_of d.uppers) (length d.starts) band i l m))

@@ -1,6 +1,6 @@
 -- The walk through one band from segment to segment: at each of its places, what a knot from there asks is what the knot
 -- from its beginning asks. So the knot of the last stretch is the knot of the whole way.
-use Rattle.std.proofs.Common.{◌≡◌, ℕ, ℤ, zero, suc, pos, neg_ℤ, List, Fits, ◌^◌, ◌+◌, ◌-◌, ◌*◌, ◌/◌, ◌<◌, ◌≤◌, ◌+ℤ◌, ◌*ℤ◌, ◌≤ℤ◌, ◌<ℤ◌, length, get_or, ap, arith, refl, sym, subst, inl, inr, add_assoc}
+use Rattle.std.proofs.Common.{◌≡◌, ℕ, ℤ, suc, pos, neg_ℤ, List, Fits, ◌^◌, ◌+◌, ◌-◌, ◌*◌, ◌/◌, ◌<◌, ◌≤◌, ◌+ℤ◌, ◌*ℤ◌, ◌≤ℤ◌, ◌<ℤ◌, length, get_or, ap, arith, sym, inl, inr}
 use Rattle.std.specs.Int.{div_ceil}
 use Rattle.std.proofs.lemmas.Int.{ints}
 use Rattle.std.proofs.lemmas.Bool.{cases_lt}
@@ -10,14 +10,14 @@ use Rattle.std.proofs.lemmas.Nat.{mul-le}
 use mir.Syntax.{w128}
 use Rattle.sdm_num.specs.Units.{centimetre}
 use Rattle.sdm_num.proofs.Floors.{floor_low, floor_high, scale-<_cancel}
-use Rattle.sdm_rules.specs.Slopes.{SlopeMap, Slopes, meaning_of, segment_of}
+use Rattle.sdm_rules.specs.Slopes.{SlopeMap, meaning_of}
 use Rattle.sdm_rules.specs.Curves.{cell_at, cell_start}
 use Rattle.sdm_laws.specs.Energy.{energy, IsKnot, IsKnotPast}
 use Rattle.sdm_laws.proofs.Totals.{total_const}
 use Rattle.sdm_laws.proofs.Segments.{segment_is}
 use Rattle.sdm_curve.specs.Maps.{AreStarts}
 use Rattle.sdm_curve.proofs.Meanings.{rising_of}
-use Rattle.sdm_curve.proofs.Stretches.{IsFlatBack, IsFlatOn, knot_within, knot_through, knot_within_on, knot_through_on}
+use Rattle.sdm_curve.proofs.Stretches.{knot_within, knot_through, knot_within_on, knot_through_on}
 
 -- where a segment begins
 abbrev pub border_at : List ℤ → ℕ → ℤ

@@ -3,41 +3,40 @@
 
 ghost use Rattle.std.specs.Prelude.{◌≡◌, ℕ, pos, ◌+◌, ◌*◌, ◌<◌, ◌≤◌, ◌*ℤ◌, ◌<ℤ◌, length, slice_index_or, IfSome, IfNone, IsTrue, ◌↔◌};
 ghost use Rattle.sdm_rules.specs.Slopes.{variation};
-ghost use Rattle.sdm_curve.specs.Maps.{map_data, IsMapData, IsBounded, IsStrong, AreStrong, AreEven, IsAccepted};
+ghost use Rattle.sdm_curve.specs.Maps.{map_data, IsMapData, IsBounded, IsStrongSlope, AreStrong, AreEven, AreAccepted};
 ghost use Rattle.sdm_curve.specs.Checks.{IsWeakIndex, IsRangeOf};
-ghost use Rattle.sdm_curve.specs.Faults.{IsFirstVaried, IsFaultOf};
+ghost use Rattle.sdm_curve.specs.Faults.{IsFirstVariedBand, IsFaultOf};
 
 use crate::faults::CurveFault;
 use sdm_num::Speed;
 
-/// The least and the greatest of some slopes.
+// The least and the greatest of some slopes.
 #[derive(Clone, Copy)]
-pub struct SlopeRange {
-    pub least: i64,
-    pub greatest: i64,
+struct SlopeRange {
+    least: i64,
+    greatest: i64,
 }
 
-/// How many times the least slope of a band the greatest may be.
-fn variation_of(bands: usize) -> i128
-    ensures { result ≡ pos (variation bands) }
+// How many times the least slope of a band the greatest may be.
+fn variation_of(_bands: usize) -> i128
+    ensures { result ≡ pos (variation _bands) }
 {
-    let _bands = bands;
     16
 }
 
-/// True exactly where the slopes of one of so many bands differ too much.
+// True exactly where the slopes of one of so many bands differ too much.
 fn is_too_wide(bands: usize, range: SlopeRange) -> bool
     ensures { IsTrue result ↔ ((pos (variation bands) *ℤ range.least) <ℤ range.greatest) }
 {
     variation_of(bands) * i128::from(range.least) < i128::from(range.greatest)
 }
 
-/// The index of the first slope that is too weak.
-pub fn first_weak(q: u32, slopes: &[i64]) -> Option<usize>
+// The index of the first slope that is too weak.
+fn first_weak(q: u32, slopes: &[i64]) -> Option<usize>
     requires high_q { q ≤ 11_730 }
     requires bounded { (k : ℕ) → k < length slopes.now → IsBounded (slice_index_or slopes.now k (pos 0)) }
     ensures found { IfSome result (IsWeakIndex q slopes.now) }
-    ensures none { IfNone result ((k : ℕ) → k < length slopes.now → IsStrong q (slice_index_or slopes.now k (pos 0))) }
+    ensures none { IfNone result ((k : ℕ) → k < length slopes.now → IsStrongSlope q (slice_index_or slopes.now k (pos 0))) }
 {
     let least = 2_000_000_000 * i64::from(q);
     for (k, slope) in slopes.iter().enumerate() {
@@ -48,8 +47,8 @@ pub fn first_weak(q: u32, slopes: &[i64]) -> Option<usize>
     None
 }
 
-/// The range of one slope or more.
-pub fn range_of(slopes: &[i64]) -> SlopeRange
+// The range of one slope or more.
+fn range_of(slopes: &[i64]) -> SlopeRange
     requires { 0 < length slopes.now }
     ensures { IsRangeOf slopes.now result.least result.greatest }
 {
@@ -62,17 +61,17 @@ pub fn range_of(slopes: &[i64]) -> SlopeRange
     SlopeRange { least, greatest }
 }
 
-/// A band and the range of its slopes.
+// A band and the range of its slopes.
 #[derive(Clone, Copy)]
-pub struct BandRange {
-    pub band: usize,
-    pub range: SlopeRange,
+struct BandRange {
+    band: usize,
+    range: SlopeRange,
 }
 
-/// The first band whose slopes differ too much.
-pub fn first_varied(q: u32, uppers: &[Speed], starts: &[i32], slopes: &[i64]) -> Option<BandRange>
+// The first band whose slopes differ too much.
+fn first_varied(q: u32, uppers: &[Speed], starts: &[i32], slopes: &[i64]) -> Option<BandRange>
     requires { IsMapData (map_data q uppers.now starts.now slopes.now) }
-    ensures found { IfSome result (λ r. IsFirstVaried (map_data q uppers.now starts.now slopes.now) r.band r.range.least r.range.greatest) }
+    ensures found { IfSome result (λ r. IsFirstVariedBand (map_data q uppers.now starts.now slopes.now) r.band r.range.least r.range.greatest) }
     ensures none { IfNone result (AreEven (map_data q uppers.now starts.now slopes.now)) }
 {
     let bands = uppers.len() + 1;
@@ -91,7 +90,7 @@ pub fn first_varied(q: u32, uppers: &[Speed], starts: &[i32], slopes: &[i64]) ->
 pub fn fault_of(q: u32, uppers: &[Speed], starts: &[i32], slopes: &[i64]) -> Option<CurveFault>
     requires { IsMapData (map_data q uppers.now starts.now slopes.now) }
     ensures fault { IfSome result (IsFaultOf (map_data q uppers.now starts.now slopes.now)) }
-    ensures accepted { IfNone result (IsAccepted (map_data q uppers.now starts.now slopes.now)) }
+    ensures accepted { IfNone result (AreAccepted (map_data q uppers.now starts.now slopes.now)) }
 {
     if let Some(k) = first_weak(q, slopes) {
         return Some(CurveFault::TooWeak {

@@ -1,6 +1,6 @@
 //! Brake curves. One is a foot alone: a curve costs nothing to make, and its places are found when they are asked.
 
-ghost use Rattle.std.specs.Prelude.{◌≡◌, ℤ, pos, neg_ℤ, ◌≤◌, ◌+ℤ◌, ◌≤ℤ◌};
+ghost use Rattle.std.specs.Prelude.{◌≡◌, ℤ, pos, neg_ℤ, ◌^◌, ◌≤◌, ◌+ℤ◌, ◌≤ℤ◌};
 ghost use Rattle.sdm_num.specs.Bounds.{IsEarlyFor};
 ghost use Rattle.sdm_rules.specs.Slopes.{meaning_of};
 ghost use Rattle.sdm_rules.specs.Curves.{exact, stepped, most_slack};
@@ -40,7 +40,6 @@ impl Curve {
         ensures speed { result.speed ≡ speed }
         ensures made { IsMadeFrom map.now result }
     {
-        let _map = map;
         Curve { foot, speed }
     }
 
@@ -51,8 +50,10 @@ impl Curve {
         ensures at { result.at ≡ stepped (meaning_of map.now) self.now.place self.now.speed v }
         ensures stands { IsEarlyFor result (exact (meaning_of map.now) self.now.place self.now.speed v) }
         ensures slack { result.slack ≤ most_slack }
+        ensures foot { IsFootPlace self.now.place }
         ensures not_before { (self.now.place +ℤ neg_ℤ (pos most_way)) ≤ℤ result.at }
         ensures not_past { result.at ≤ℤ (self.now.place +ℤ pos most_way) }
+        ensures range { (neg_ℤ (pos (10 ^ 18)) ≤ℤ result.at) × (result.at ≤ℤ pos (10 ^ 18)) }
     {
         Early::new(stepped_place(map, self.foot, self.speed, v), MOST_SLACK)
     }

@@ -3,7 +3,7 @@
 ghost use Rattle.std.specs.Prelude.{◌≡◌, ℕ, pos, ◌+◌, ◌*◌, ◌^◌, ◌<◌, ◌≤◌, ◌≤ℤ◌, length, map, unsigned_abs, slice_index, slice_index_or, IfOk, IfErr};
 ghost use Rattle.sdm_rules.specs.Slopes.{SlopeMap, meaning_of, bands_of, IsUsable};
 ghost use Rattle.sdm_rules.specs.Curves.{cell_start};
-ghost use Rattle.sdm_curve.specs.Maps.{map_data, data_of, AreStarts, IsMapData, IsAccepted, IsKept};
+ghost use Rattle.sdm_curve.specs.Maps.{map_data, handed_in, AreStarts, IsMapData, AreAccepted, IsKept};
 ghost use Rattle.sdm_curve.specs.Faults.{IsFaultOf};
 
 use crate::checks::fault_of;
@@ -11,6 +11,9 @@ use crate::faults::CurveFault;
 use sdm_num::Speed;
 use std::alloc::{AllocError, Global};
 use std::marker::Model;
+
+/// 5,400,000,000 grains: a cell, which is one centimetre.
+const CELL: i128 = 5_400_000_000;
 
 /// A slope for each speed band and each segment of the track, in 1/Q m/s² with Q = 2·10⁹·q, in a form that every law of
 /// curves can stand on: at least 0.05 m/s², and in one band not too uneven. (own)
@@ -27,7 +30,7 @@ impl Model for BandMap {
 
     ghost view = { λ m. record { q = m.q; uppers = m.uppers.items; starts = m.starts.items; slopes = m.slopes.items } };
 
-    ghost invariant = { λ m. IsKept (data_of (record { q = m.q; uppers = m.uppers.items; starts = m.starts.items; slopes = m.slopes.items })) };
+    ghost invariant = { λ m. IsKept (handed_in (record { q = m.q; uppers = m.uppers.items; starts = m.starts.items; slopes = m.slopes.items })) };
 }
 
 // Slopes that are not below 0, as naturals.
@@ -49,7 +52,7 @@ fn kept(
     slopes: &[i64],
 ) -> Result<BandMap, AllocError>
     requires { IsKept (map_data q uppers.now starts.now slopes.now) }
-    ensures { IfOk result (λ m. data_of m ≡ map_data q uppers.now starts.now slopes.now) }
+    ensures { IfOk result (λ m. handed_in m ≡ map_data q uppers.now starts.now slopes.now) }
 {
     let uppers = uppers.to_vec(alloc)?;
     let starts = starts.to_vec(alloc)?;
@@ -63,8 +66,10 @@ fn kept(
 }
 
 impl BandMap {
-    /// The map of upper speeds of all bands but the last, first cells of segments, and slopes, all segments of the first
-    /// band first. TooWeak and TooVaried come exactly where the slopes have that fault, TooWeak first.
+    /// The map of the upper speeds of all bands but the last, the first cells of the segments, and a slope within ±10¹⁵
+    /// for each band and segment, all segments of the first band first. It is refused as TooWeak exactly where a slope is
+    /// below 0.05 m/s², as TooVaried exactly where none is and the slopes of a band differ too much, each time for the
+    /// first such slope or band; Memory comes where memory is refused.
     pub fn new(
         alloc: Global,
         q: u32,
@@ -73,8 +78,8 @@ impl BandMap {
         slopes: &[i64],
     ) -> Result<BandMap, CurveFault>
         requires { IsMapData (map_data q uppers.now starts.now slopes.now) }
-        ensures kept { IfOk result (λ m. data_of m ≡ map_data q uppers.now starts.now slopes.now) }
-        ensures accepted { IfOk result (λ _. IsAccepted (map_data q uppers.now starts.now slopes.now)) }
+        ensures kept { IfOk result (λ m. handed_in m ≡ map_data q uppers.now starts.now slopes.now) }
+        ensures accepted { IfOk result (λ _. AreAccepted (map_data q uppers.now starts.now slopes.now)) }
         ensures fault { IfErr result (IsFaultOf (map_data q uppers.now starts.now slopes.now)) }
     {
         if let Some(fault) = fault_of(q, uppers, starts, slopes) {
@@ -87,7 +92,7 @@ impl BandMap {
     pub fn q(&self) -> u32
         ensures value { result ≡ self.now.q }
         ensures range { (100 ≤ result) × (result ≤ 11_730) }
-        ensures kept { IsKept (data_of self.now) }
+        ensures kept { IsKept (handed_in self.now) }
         ensures usable { IsUsable (meaning_of self.now) }
     {
         self.q
@@ -164,6 +169,6 @@ impl BandMap {
         ensures value { result ≡ cell_start 1 (slice_index_or self.now.starts i (pos 0)) }
         ensures within { (pos 0 ≤ℤ result) × (result ≤ℤ pos (2 ^ 64)) }
     {
-        5_400_000_000 * i128::from(self.start(i))
+        CELL * i128::from(self.start(i))
     }
 }

@@ -231,7 +231,7 @@ fn places_are_rounded_down_at_each_border_and_at_the_end(
         place_of(&rt, &flat, Foot(1_000, 0), 20),
         421_318_681_318_681
     );
-    // exactly 860 m; the borders at 5 m/s and at 14 m/s both lie between two grains
+    // the exact place is 860 m; the stepped one is a grain earlier, since the place of 5 m/s is rounded down first
     let slopes = [140_000_000_000, 140_000_000_000];
     let bands = map_of(&rt, rt.alloc(), 100, &[Speed::of_kmh(18)], &[0], &slopes)?;
     assert_eq!(rt;

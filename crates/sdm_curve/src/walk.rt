@@ -1,12 +1,12 @@
-//! The walk through one speed band, segment by segment. It finds the least whole way back that takes up an energy, and
-//! the greatest whole way on that an energy allows; on a way back, rounding so makes the place earlier, as on a way on.
+//! The walk through one speed band, segment by segment: the least whole way back that takes up an energy, and the greatest
+//! whole way on that an energy allows. Both so end at a whole grain that is not past the exact place.
 
 ghost use Rattle.std.specs.Prelude.{◌≡◌, ℕ, pos, ◌+◌, ◌*◌, ◌^◌, ◌<◌, ◌≤◌, ◌≤ℤ◌, length, slice_index, slice_index_or};
 ghost use Rattle.sdm_num.specs.Units.{top_speed};
 ghost use Rattle.sdm_rules.specs.Slopes.{meaning_of, bands_of};
 ghost use Rattle.sdm_rules.specs.Curves.{grain_energy};
 ghost use Rattle.sdm_laws.specs.Energy.{IsKnot, IsKnotPast};
-ghost use Rattle.sdm_curve.specs.Maps.{data_of, IsKept};
+ghost use Rattle.sdm_curve.specs.Maps.{handed_in, IsKept};
 
 use crate::map::BandMap;
 use sdm_num::Place;
@@ -16,7 +16,7 @@ fn energy_of(map: &BandMap, change: u64) -> u128
     requires { change ≤ top_speed * top_speed }
     ensures value { result ≡ grain_energy (meaning_of map.now) change }
     ensures small { result < 2 ^ 120 }
-    ensures kept { IsKept (data_of map.now) }
+    ensures kept { IsKept (handed_in map.now) }
 {
     5_000_000_000_000 * u128::from(map.q()) * u128::from(change)
 }

@@ -19,6 +19,7 @@ abbrev pub turn_and : FlatSupervision → FlatLine → Option CycleFault → (Fl
 turn_and s l (Some fault) rest = []
 turn_and s l None rest = record { before = s; line = l } ∷ rest (after_flat_line s l)
 
+-- the turn of a line that could be read; none of the rest where it could not (own)
 abbrev pub turns_of_line : FlatSupervision → Option FlatLine → (FlatSupervision → List FlatTurn) → List FlatTurn
 turns_of_line s None rest = []
 turns_of_line s (Some l) rest = turn_and s l (time_fault s.last_time l.time) rest

@@ -1,4 +1,4 @@
-use Rattle.std.proofs.Common.{◌%◌, ◌/◌, ◌≡◌, pos, length, arith, get_or}
+use Rattle.std.proofs.Common.{◌%◌, ◌/◌, length, arith}
 use Rattle.std.proofs.lemmas.Int.{ints}
 use Rattle.sdm_curve.specs.Maps.{map_data}
 use Rattle.sdm_curve.proofs.Rows.{first_weak_is, slope_at_index}

@@ -1,4 +1,4 @@
-use Rattle.std.proofs.Common.{◌+◌, ◌<◌, arith, below_more}
+use Rattle.std.proofs.Common.{arith, below_more}
 use Rattle.std.proofs.lemmas.Int.{ints}
 use Rattle.sdm_curve.specs.Maps.{map_data}
 use Rattle.sdm_curve.proofs.Rows.{range_row, even_range}

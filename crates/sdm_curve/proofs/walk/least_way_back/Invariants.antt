@@ -1,4 +1,4 @@
-use Rattle.std.proofs.Common.{◌^◌, ◌<◌, negsuc, ◌≤ℤ◌}
+use Rattle.std.proofs.Common.{negsuc, ◌≤ℤ◌}
 use Rattle.sdm_curve.proofs.Walks.{IsWalkBack}
 use Rattle.sdm_curve.proofs.walk.least_way_back.Given as goal
 

@@ -1,4 +1,4 @@
-use Rattle.std.proofs.Common.{◌+◌, ◌*◌, ◌≤◌, arith}
+use Rattle.std.proofs.Common.{◌*◌, ◌≤◌, arith}
 use Rattle.sdm_curve.proofs.Reach.{knot_past_near}
 use Rattle.sdm_curve.proofs.walk.way_on.Goals as goal
 

@@ -1,0 +1,8 @@
+pub mod Sizes
+pub mod Gradients
+pub mod Sides
+pub mod Stretches
+pub mod Rows
+pub mod Pushes
+pub mod SlopeLaws
+pub mod Making

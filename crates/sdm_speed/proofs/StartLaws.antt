@@ -1,0 +1,179 @@
+-- A profile falls only where a zone begins: a zone that covers a cell and does not begin there covers the cell before it too.
+use Rattle.std.proofs.Common.{◌≡◌, ℕ, suc, ℤ, pos, List, [], ◌∷◌, ◌++◌, length, get_or, take, Option, Some, None, Bool, true, false, ◌&&◌, ◌||◌, nat_lt, int_le, int_lt, if◌then◌else◌, min, ◌+◌, ◌<◌, ◌≤◌, ◌-ℤ◌, ◌≤ℤ◌, ◌<ℤ◌, refl, sym, ap, subst, ◌∙◌, arith, All}
+use Rattle.std.specs.Option.{option_map_or}
+use Rattle.std.specs.Ordering.{int_eq}
+use Rattle.std.proofs.lemmas.Int.{ints, by_lt_z}
+use Rattle.std.proofs.lemmas.Bool.Decides.{Decides-int_eq, nat_tests}
+use Rattle.std.proofs.lemmas.List.{take_more}
+use Rattle.std.proofs.lemmas.List.Folds.{list_any-append}
+use Rattle.sdm_rules.specs.Profile.{Zone, covers, lowest_limit}
+use Rattle.sdm_rules.specs.Targets.{is_fall, HasNoFall}
+use Rattle.sdm_track.specs.Ranges.{longest_track}
+use Rattle.sdm_speed.specs.Zones.{IsZone, starts_at, has_start, IsNext, HasNone, IsNextOf, nearer}
+use Rattle.sdm_speed.proofs.ZoneLaws.{le_is, not_le_is, lt_is, not_lt_is}
+
+-- ---- tests
+
+eq_is : (a b : ℤ) → a ≡ b → int_eq a b ≡ true
+eq_is a b e = (Decides-int_eq a b).1 e
+
+eq_of : (a b : ℤ) → int_eq a b ≡ true → a ≡ b
+eq_of a b t = (Decides-int_eq a b).0 t
+
+apart : (a b : ℤ) → (a ≡ b → ⊥) → int_eq a b ≡ false
+apart a b ne = elim (int_eq a b) as (λ t. int_eq a b ≡ t → t ≡ false) [ true ↦ λ e. absurd (ne (eq_of a b e)) | false ↦ λ e. refl ] refl
+
+not_both : (b : Bool) → b ≡ true → b ≡ false → ⊥
+not_both b t f = cc
+
+and_first : (a b : Bool) → (a && b) ≡ true → a ≡ true
+and_first true b h = refl
+and_first false b h = h
+
+and_second : (a b : Bool) → (a && b) ≡ true → b ≡ true
+and_second true b h = h
+and_second false b h = cc
+
+and_both : (a b : Bool) → a ≡ true → b ≡ true → (a && b) ≡ true
+and_both a b h k = rw (h, k) refl
+
+or_first : (a b : Bool) → (a || b) ≡ false → a ≡ false
+or_first true b h = h
+or_first false b h = refl
+
+or_second : (a b : Bool) → (a || b) ≡ false → b ≡ false
+or_second true b h = cc
+or_second false b h = h
+
+or_true : (b : Bool) → (b || true) ≡ true
+or_true true = refl
+or_true false = refl
+
+or_nothing : (b : Bool) → (b || false) ≡ b
+or_nothing true = refl
+or_nothing false = refl
+
+-- ---- no fall where no zone begins
+
+begun_before : (first : Option ℤ) (c : ℤ) → option_map_or (int_eq c) first false ≡ false → option_map_or (λ f. int_le f c) first true ≡ true → option_map_or (λ f. int_le f (c -ℤ pos 1)) first true ≡ true
+begun_before None c off on = refl
+begun_before (Some f) c off on =
+    by_lt_z c f
+    (λ (l : c <ℤ f). absurd (not_both _ on (not_le_is f c l)))
+    (λ (g : f ≤ℤ c). by_lt_z f c
+    (λ (l : f <ℤ c). le_is f (c -ℤ pos 1) (omega (arith, ints)))
+    (λ (m : c ≤ℤ f). absurd (not_both _ (eq_is c f (omega (arith, ints))) off)))
+
+goes_on_before : (past : Option ℤ) (c : ℤ) → option_map_or (λ p. int_lt c p) past true ≡ true → option_map_or (λ p. int_lt (c -ℤ pos 1) p) past true ≡ true
+goes_on_before None c on = refl
+goes_on_before (Some p) c on =
+    by_lt_z c p
+    (λ (l : c <ℤ p). lt_is (c -ℤ pos 1) p (omega (arith, ints)))
+    (λ (g : p ≤ℤ c). absurd (not_both _ on (not_lt_is c p g)))
+
+-- a zone that covers the cell and does not begin there
+covers_before : (z : Zone) (c : ℤ) → starts_at c z ≡ false → covers c z ≡ true → covers (c -ℤ pos 1) z ≡ true
+covers_before z c off on = and_both _ _ (begun_before z.first c off (and_first _ _ on)) (goes_on_before z.past c (and_second _ _ on))
+
+capped_no_fall : (a b : Bool) (k m n : ℕ) → (b ≡ true → a ≡ true) → m ≤ n → (if a then min k m else m) ≤ (if b then min k n else n)
+capped_no_fall true true k m n both le = omega arith
+capped_no_fall true false k m n both le = omega arith
+capped_no_fall false true k m n both le = absurd (not_both false (both refl) refl)
+capped_no_fall false false k m n both le = le
+
+no_lower : (top : ℕ) (zs : List Zone) (c : ℤ) → has_start zs c ≡ false → lowest_limit top (c -ℤ pos 1) zs ≤ lowest_limit top c zs
+no_lower top [] c off = omega arith
+no_lower top (z ∷ zs) c off =
+    capped_no_fall (covers (c -ℤ pos 1) z) (covers c z) z.limit _ _ (covers_before z c (or_first _ _ off)) (no_lower top zs c (or_second _ _ off))
+
+pub not_lower : (m n : ℕ) → n ≤ m → nat_lt m n ≡ false
+not_lower m n le = grind (arith, nat_tests)
+
+pub lower : (m n : ℕ) → m < n → nat_lt m n ≡ true
+lower m n lt = grind (arith, nat_tests)
+
+pub no_fall : (top : ℕ) (zs : List Zone) (c : ℤ) → has_start zs c ≡ false → is_fall (λ d. lowest_limit top d zs) c ≡ false
+no_fall top zs c off = not_lower _ _ (no_lower top zs c off)
+
+-- so a fall lies where a zone begins
+pub starts_at_fall : (top : ℕ) (zs : List Zone) (c : ℤ) → is_fall (λ d. lowest_limit top d zs) c ≡ true → has_start zs c ≡ true
+starts_at_fall top zs c falls = by_start (has_start zs c) refl
+  where
+    by_start : (b : Bool) → has_start zs c ≡ b → b ≡ true
+    by_start true e = refl
+    by_start false e = absurd (not_both _ falls (no_fall top zs c e))
+
+start_is : (first : Option ℤ) (c : ℤ) → option_map_or (int_eq c) first false ≡ true → first ≡ Some c
+start_is None c here = absurd cc
+start_is (Some f) c here = ap Some (sym (eq_of c f here))
+
+on_track_by : (z : Zone) (zs : List Zone) (c : ℤ) (b : Bool) → starts_at c z ≡ b → (b || has_start zs c) ≡ true → IsZone z → (has_start zs c ≡ true → (pos 0 ≤ℤ c) × (c <ℤ longest_track)) → (pos 0 ≤ℤ c) × (c <ℤ longest_track)
+on_track_by z zs c true here either zone rest = let first = start_is z.first c here in (zone.not_before c first, zone.on_track c first)
+on_track_by z zs c false here either zone rest = rest either
+
+-- on the longest track
+pub start_on_track : (zs : List Zone) (c : ℤ) → All IsZone zs → has_start zs c ≡ true → (pos 0 ≤ℤ c) × (c <ℤ longest_track)
+start_on_track [] c each here = absurd cc
+start_on_track (z ∷ zs) c each here = on_track_by z zs c (starts_at c z) refl here (each 0 z (omega arith)) (start_on_track zs c (λ k d l. each (suc k) d (omega arith)))
+
+-- ---- the next cell of which a test holds, or a zone's first
+
+-- one zone more
+next_with : (holds : ℤ → Bool) (after : ℤ) (next start : Option ℤ) → IsNextOf holds after next → IsNextOf (λ c. holds c || option_map_or (int_eq c) start false) after (nearer next start after)
+next_with holds after None None h = record { none = λ c a. rw (h.none c a) refl }
+next_with holds after (Some b) None h = record { beyond = h.beyond; here = rw h.here refl; first = λ c a l. rw (h.first c a l) refl }
+next_with holds after None (Some d) h =
+    by_lt_z after d
+    (λ (l : after <ℤ d). rw (lt_is after d l) (record {
+      beyond = l;
+      here = rw (eq_is d d refl) (or_true (holds d));
+      first = λ c a m. rw (h.none c a) (apart c d (λ e. let no : d <ℤ d = rw e at m in omega (arith, ints)));
+    }))
+    (λ (g : d ≤ℤ after). rw (not_lt_is after d g) (record { none = λ c a. rw (h.none c a) (apart c d (λ e. let no : after <ℤ d = rw e at a in omega (arith, ints))) }))
+next_with holds after (Some b) (Some d) h =
+    by_lt_z after d
+    (λ (l : after <ℤ d). by_lt_z d b
+    (λ (m : d <ℤ b). rw (lt_is after d l, lt_is d b m) (record {
+      beyond = l;
+      here = rw (eq_is d d refl) (or_true (holds d));
+      first = λ c a k. let k' : c <ℤ b = omega (arith, ints) in rw (h.first c a k') (apart c d (λ e. let no : d <ℤ d = rw e at k in omega (arith, ints)));
+    }))
+    (λ (g : b ≤ℤ d). rw (lt_is after d l, not_lt_is d b g) (record {
+      beyond = h.beyond;
+      here = rw h.here refl;
+      first = λ c a k. rw (h.first c a k) (apart c d (λ e. let no : d <ℤ b = rw e at k in omega (arith, ints)));
+    })))
+    (λ (g : d ≤ℤ after). rw (not_lt_is after d g) (record {
+      beyond = h.beyond;
+      here = rw h.here refl;
+      first = λ c a k. rw (h.first c a k) (apart c d (λ e. let no : after <ℤ d = rw e at a in omega (arith, ints)));
+    }))
+
+has_start-push : (zs : List Zone) (z : Zone) (c : ℤ) → has_start (zs ++ z ∷ []) c ≡ (has_start zs c || starts_at c z)
+has_start-push zs z c = list_any-append (starts_at c) zs (z ∷ []) ∙ ap (λ b. has_start zs c || b) (or_nothing (starts_at c z))
+
+-- one zone more of a list
+pub next_start_more : (zs : List Zone) (i : ℕ) (d : Zone) (after : ℤ) (next : Option ℤ) → i < length zs → IsNextOf (has_start (take i zs)) after next → IsNextOf (has_start (take (i + 1) zs)) after (nearer next (get_or zs i d).first after)
+next_start_more zs i d after next known h =
+    rw (take_more zs i d known)
+    (let same : (λ c. has_start (take i zs) c || starts_at c (get_or zs i d)) ≡ has_start (take i zs ++ get_or zs i d ∷ []) = λ k c. sym (has_start-push (take i zs) (get_or zs i d) c) k in
+    subst (λ holds. IsNextOf holds after (nearer next (get_or zs i d).first after)) same (next_with (has_start (take i zs)) after next (get_or zs i d).first h))
+
+-- ---- from start to start
+
+-- no fall past `after` up to the cell `at`
+abbrev pub IsQuiet : (ℤ → Bool) → ℤ → ℤ → Type 0
+IsQuiet falls after at = (c : ℤ) → after <ℤ c → c ≤ℤ at → falls c ≡ false
+
+module _ (top : ℕ) (zs : List Zone) (after at : ℤ) (quiet : IsQuiet (is_fall (λ c. lowest_limit top c zs)) after at) where
+  -- nor before the next start
+  pub quiet_before : (cell : ℤ) → IsNext (has_start zs) at cell → (c : ℤ) → after <ℤ c → c <ℤ cell → is_fall (λ d. lowest_limit top d zs) c ≡ false
+  quiet_before cell next c a l = by_lt_z at c (λ (m : at <ℤ c). no_fall top zs c (next.first c m l)) (λ (g : c ≤ℤ at). quiet c a g)
+
+  -- nor up to it, where the speed doesn't fall there
+  pub quiet_up_to : (cell : ℤ) → IsNext (has_start zs) at cell → is_fall (λ c. lowest_limit top c zs) cell ≡ false → IsQuiet (is_fall (λ c. lowest_limit top c zs)) after cell
+  quiet_up_to cell next here c a l = by_lt_z c cell (λ (m : c <ℤ cell). quiet_before cell next c a m) (λ (g : cell ≤ℤ c). let e : c ≡ cell = omega (arith, ints) in rw e here)
+
+  -- nor ever, where no zone begins any more
+  pub quiet_from_here : HasNone (has_start zs) at → HasNoFall (λ c. lowest_limit top c zs) after
+  quiet_from_here nowhere c a = by_lt_z at c (λ (m : at <ℤ c). no_fall top zs c (nowhere.none c m)) (λ (g : c ≤ℤ at). quiet c a g)

@@ -1,0 +1,4 @@
+pub mod Zones
+pub mod Held
+pub mod Profiles
+pub mod ProfileFields

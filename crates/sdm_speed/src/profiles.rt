@@ -1,0 +1,242 @@
+//! The speed profile of a train on a track. The restrictions stand beside their zones in one order, so that a revocation finds the
+//! zone by the restriction's place.
+
+ghost use Rattle.std.specs.Prelude.{◌≡◌, ℕ, ℤ, pos, ◌+◌, ◌++◌, ◌∷◌, [], ◌<◌, ◌≤◌, ◌≤ℤ◌, All, Some, None, IfOk, MatchOption, MatchResult, OnOk, OnErr, length, min, slice_get, vec_len, vec_capacity, position, IsTrue, IfSome};
+ghost use Rattle.std.specs.FinMap as finite;
+ghost use Rattle.std.specs.Int.{int_gap};
+ghost use Rattle.std.specs.Ordering.{nat_cmp};
+ghost use Rattle.sdm_rules.specs.Cells.{lowest};
+ghost use Rattle.sdm_rules.specs.Profile.{zones_of_track, zone_of, end_for};
+ghost use Rattle.sdm_rules.specs.Records.{restrict_fault, revoke_fault, most_restrictions};
+ghost use Rattle.sdm_rules.specs.Targets.{IsNextFall, HasNoFall};
+ghost use Rattle.sdm_track.specs.Ranges.{AreSpeeds, longest_track};
+ghost use Rattle.sdm_speed.specs.Zones.{IsLimit, IsZone, IsFallInRange};
+ghost use Rattle.sdm_speed.specs.Held.{has_id};
+ghost use Rattle.sdm_speed.specs.Profiles.{mrsp_of, IsProfile};
+
+use crate::falls;
+use crate::zones::{self, Zone};
+use sdm_num::NoMemory;
+use sdm_rules::{Fall, RestrictFault, Restriction, RevokeFault, SpeedStep};
+use sdm_track::Track;
+use std::alloc::Global;
+use std::marker::Model;
+
+/// The most restrictions that are held. (own)
+const MOST_RESTRICTIONS: usize = 32;
+
+/// The MRSP of a train on a track, with at most 32 temporary restrictions by identity. (SUBSET-026-3 3.13.7)
+#[derive(Debug, Drop)]
+pub struct Profile {
+    max_speed: u16,
+    length_cm: u32,
+    track_cm: u32,
+    speeds: Vec<SpeedStep>,
+    held: Vec<Restriction>,
+    zones: Vec<Zone>,
+}
+
+impl Model for Profile {
+    ghost use Rattle.sdm_speed.specs.Profiles.{ProfileData, coded_profile};
+
+    ghost Value = { ProfileData };
+
+    ghost coded = { coded_profile };
+
+    ghost use Rattle.sdm_speed.specs.ProfileFields.{data_of, IsKept};
+
+    ghost view = { data_of };
+
+    ghost invariant = { IsKept };
+}
+
+/// The static speed profile of a track.
+fn speeds_of(alloc: Global, track: &Track) -> Result<Vec<SpeedStep>, NoMemory>
+    ensures { IfOk result (λ speeds. speeds.items ≡ track.now.speeds) }
+{
+    let mut speeds = Vec::new(alloc);
+    for i in 0..track.speed_count() {
+        speeds.push(*track.speed(i))?;
+    }
+    Ok(speeds)
+}
+
+/// Where a speed limit ends for the front end, with a train of this length in cm.
+fn end_for(length_cm: u32, delayed: bool, end: i64) -> i32
+    requires train { length_cm ≤ 150_000 }
+    requires not_before { pos 0 ≤ℤ end }
+    requires on_track { end ≤ℤ longest_track }
+    ensures { result ≡ end_for (pos length_cm) delayed end }
+{
+    if delayed {
+        (end + i64::from(length_cm)) as i32
+    } else {
+        end as i32
+    }
+}
+
+/// The zones of the static speed profile, with room for those of the restrictions. Each border closes a zone and opens the next.
+fn static_zones(alloc: Global, speeds: &[SpeedStep], length_cm: u32) -> Result<Vec<Zone>, NoMemory>
+    requires speeds { AreSpeeds longest_track speeds.now }
+    requires train { length_cm ≤ 150_000 }
+    ensures value { IfOk result (λ zones. zones.items ≡ zones_of_track (pos length_cm) speeds.now) }
+    ensures in_range { IfOk result (λ zones. All IsZone zones.items) }
+    ensures room { IfOk result (λ zones. vec_len zones + most_restrictions ≤ vec_capacity zones) }
+{
+    let mut zones = Vec::with_capacity(alloc, speeds.len() + MOST_RESTRICTIONS)?;
+    let mut first = None;
+    for i in 1..speeds.len() {
+        let step = speeds[i - 1];
+        let border = speeds[i].start;
+        zones.push_reserved(Zone {
+            first,
+            past: Some(end_for(length_cm, step.delayed, border)),
+            limit: step.speed as u16,
+        });
+        first = Some(border as i32);
+    }
+    zones.push_reserved(Zone {
+        first,
+        past: None,
+        limit: speeds[speeds.len() - 1].speed as u16,
+    });
+    Ok(zones)
+}
+
+/// The zone of a temporary restriction.
+fn zone_of(r: Restriction, length_cm: u32) -> Zone
+    requires some_cell { r.start < r.end }
+    requires track { r.end ≤ 10_000_000 }
+    requires train { length_cm ≤ 150_000 }
+    requires limited { IsLimit r.speed }
+    ensures value { result ≡ zone_of (pos length_cm) r }
+    ensures in_range { IsZone result }
+{
+    Zone {
+        first: Some(r.start as i32),
+        past: Some(end_for(length_cm, r.delayed, i64::from(r.end))),
+        limit: r.speed,
+    }
+}
+
+/// At which place the restriction with this identity stands.
+fn place_of(held: &[Restriction], id: u16) -> Option<usize>
+    ensures { result ≡ position (has_id id) held.now }
+{
+    held.iter().position(|held| held.id == id)
+}
+
+impl Profile {
+    ghost use Rattle.sdm_speed.specs.Profiles.{ProfileData};
+
+    /// The profile of a track for a train: maximum speed in km/h, 1 to 500, and length in cm, 1 to 150,000. No restriction is
+    /// held. Takes the room for 32.
+    pub fn begin(
+        alloc: Global,
+        track: &Track,
+        max_speed: u16,
+        length_cm: u32,
+    ) -> Result<Profile, NoMemory>
+        requires slowest { 1 ≤ max_speed }
+        requires fastest { max_speed ≤ 500 }
+        requires shortest { 1 ≤ length_cm }
+        requires longest { length_cm ≤ 150_000 }
+        ensures { IfOk result (λ profile. profile ≡ record { max_speed = max_speed; length_cm = pos length_cm; track_cm = track.now.length_cm; speeds = track.now.speeds; restrictions = finite.empty }) }
+    {
+        let track_cm = track.length_cm();
+        let speeds = speeds_of(alloc, track)?;
+        let zones = static_zones(alloc, &speeds, length_cm)?;
+        let held = Vec::with_capacity(alloc, MOST_RESTRICTIONS)?;
+        Ok(Profile {
+            max_speed,
+            length_cm,
+            track_cm,
+            speeds,
+            held,
+            zones,
+        })
+    }
+
+    /// The length of the track in cm.
+    pub fn track_cm(&self) -> u32
+        ensures value { pos result ≡ self.now.track_cm }
+        ensures in_range { IsProfile self.now }
+    {
+        self.track_cm
+    }
+
+    // Whether a restriction with this identity is held.
+    fn is_held(&self, id: u16) -> bool
+        ensures { result ≡ finite.contains_key self.now.restrictions id }
+    {
+        place_of(&self.held, id).is_some()
+    }
+
+    // The first fault of a restriction.
+    fn restrict_fault(&self, r: Restriction) -> Option<RestrictFault>
+        ensures { result ≡ restrict_fault self.now.track_cm self.now.restrictions r }
+    {
+        if self.held.len() >= MOST_RESTRICTIONS {
+            return Some(RestrictFault::Full);
+        }
+        if self.is_held(r.id) {
+            return Some(RestrictFault::IdInUse { id: r.id });
+        }
+        if r.end <= r.start || self.track_cm < r.end {
+            return Some(RestrictFault::Value);
+        }
+        None
+    }
+
+    /// Puts a restriction into force; its speed is 1 to 500 km/h. Refused where 32 are held, where one with its identity is held,
+    /// and where it ends at or before its start or past the track's end; the profile is then as it was. (SUBSET-026-3 3.11.5;
+    /// refusals own)
+    pub fn set(&mut self, r: Restriction) -> Result<(), RestrictFault>
+        requires slowest { 1 ≤ r.speed }
+        requires fastest { r.speed ≤ 500 }
+        ensures answer { MatchResult result (λ _. restrict_fault self.old.track_cm self.old.restrictions r ≡ None) (λ fault. restrict_fault self.old.track_cm self.old.restrictions r ≡ Some fault) }
+        ensures added { OnOk result (self.new ≡ record self.old { restrictions = finite.insert self.old.restrictions r.id r }) }
+        ensures unchanged { OnErr result (self.new ≡ self.old) }
+    {
+        if let Some(fault) = self.restrict_fault(r) {
+            return Err(fault);
+        }
+        self.held.push_reserved(r);
+        self.zones.push_reserved(zone_of(r, self.length_cm));
+        Ok(())
+    }
+
+    /// Takes a restriction out of force. Refused where none with this identity is held; the profile is then as it was. (own)
+    pub fn revoke(&mut self, id: u16) -> Result<(), RevokeFault>
+        ensures answer { MatchResult result (λ _. revoke_fault self.old.restrictions id ≡ None) (λ fault. revoke_fault self.old.restrictions id ≡ Some fault) }
+        ensures removed { OnOk result (self.new ≡ record self.old { restrictions = finite.remove self.old.restrictions id }) }
+        ensures unchanged { OnErr result (self.new ≡ self.old) }
+    {
+        let Some(place) = place_of(&self.held, id) else {
+            return Err(RevokeFault::Unknown { id });
+        };
+        let statics = self.zones.len() - self.held.len();
+        self.held.remove(place);
+        self.zones.remove(statics + place);
+        Ok(())
+    }
+
+    /// The lowest MRSP in km/h over the cells from `from` to `to`. (SUBSET-026-3 3.13.7; own cell form)
+    pub fn lowest(&self, from: i32, to: i32) -> u16
+        requires { from ≤ℤ to }
+        ensures value { result ≡ lowest min (mrsp_of self.now) from (int_gap from to) }
+        ensures in_range { IsLimit result }
+    {
+        zones::lowest(&self.zones, self.max_speed, from, to)
+    }
+
+    /// The first fall of the MRSP past the border where the cell `after` begins, with the lower speed in km/h.
+    /// (SUBSET-026-3 3.13.8.2; own cell form)
+    pub fn next_fall(&self, after: i32) -> Option<Fall>
+        ensures value { MatchOption result (HasNoFall (mrsp_of self.now) after) (IsNextFall (mrsp_of self.now) after) }
+        ensures in_range { IfSome result IsFallInRange }
+        ensures profile_in_range { IsProfile self.now }
+    {
+        falls::next_fall(&self.zones, self.max_speed, after)
+    }
+}

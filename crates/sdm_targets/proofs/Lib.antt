@@ -1,0 +1,2 @@
+pub mod FallLaws
+pub mod CountLaws

@@ -1,0 +1,29 @@
+-- The lists of targets (own).
+use Rattle.std.specs.Prelude.{ℕ, ℤ, pos, List, ◌≤◌, ◌+ℤ◌, ◌≤ℤ◌, map, filter, ◌+◌}
+use Rattle.std.specs.Int.{int_gap}
+use Rattle.sdm_rules.specs.declared.authorities.Authority.{Authority}
+use Rattle.sdm_rules.specs.declared.authorities.Authority.TheVariants.{Stop, Limit}
+use Rattle.sdm_rules.specs.declared.targets.Target.{Target}
+use Rattle.sdm_rules.specs.Cells.{cells}
+use Rattle.sdm_rules.specs.Ranges.{most_speeds}
+use Rattle.sdm_rules.specs.Records.{most_restrictions}
+use Rattle.sdm_rules.specs.Targets.{is_fall, fall_at}
+use Rattle.sdm_track.specs.Ranges.{longest_track}
+
+-- the room of a list (own)
+abbrev pub room : ℕ
+room = 170
+
+-- the most falls of a profile: each lies where an entry or a restriction begins (own)
+abbrev pub most_falls : ℕ
+most_falls = most_speeds + most_restrictions
+
+-- the targets at the falls past the border of a cell, up to and with that of the cell `end`, in order (SUBSET-026-3 3.13.8.2; own
+-- cell form)
+abbrev pub falls_past : (ℤ → ℕ) → ℤ → ℤ → List Target
+falls_past profile after end = map (fall_at profile) (filter (is_fall profile) (cells (after +ℤ pos 1) (int_gap after end)))
+
+-- the ends of the authority lie on the longest track (own)
+abbrev pub IsOnTrack : Authority → Type 0
+IsOnTrack (Stop eoa svl release) = (pos eoa ≤ℤ longest_track) × (pos svl ≤ℤ longest_track)
+IsOnTrack (Limit loa speed) = pos loa ≤ℤ longest_track

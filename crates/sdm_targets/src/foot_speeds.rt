@@ -1,0 +1,22 @@
+//! The speed at the foot of a target's brake curve.
+
+ghost use Rattle.std.specs.Prelude.{◌≡◌, ◌≤◌};
+ghost use Rattle.sdm_rules.specs.Targets.{foot_speed_of};
+
+use sdm_ceiling::dv_ebi;
+use sdm_num::Speed;
+use sdm_rules::{Target, TargetKind};
+
+/// The foot speed of a target's EBD: the target speed, at most 500 km/h, with its EBI margin; 0 at the EOA and the SvL.
+/// (SUBSET-026-3 3.13.8.3)
+pub fn foot_speed(t: &Target) -> Speed
+    requires { t.now.speed ≤ 500 }
+    ensures { result ≡ foot_speed_of t.now }
+{
+    match t.kind {
+        TargetKind::Mrsp | TargetKind::Loa => {
+            Speed::new(Speed::of_kmh(t.speed).notches() + dv_ebi(t.speed).notches())
+        }
+        TargetKind::Eoa | TargetKind::Svl => Speed::new(0),
+    }
+}
