@@ -1,6 +1,7 @@
 -- What the words after the program's name ask for (own).
-use Rattle.std.specs.Prelude.{ℕ, ℤ, pos, List, [], ◌∷◌, Option, Some, None, Result, Ok, Err, ◌≤◌, codes, unsigned_abs, if◌then◌else◌}
+use Rattle.std.specs.Prelude.{ℕ, ℤ, pos, List, [], ◌∷◌, Option, Some, None, Result, Ok, Err, ◌≤◌, String, string_bytes, map, codes, unsigned_abs, if◌then◌else◌}
 use Rattle.std.specs.Str.{bytes_eq}
+use Rattle.std.specs.declared.alloc.Global.{Global}
 use Rattle.sdm_rules.specs.declared.faults.FieldFault.{FieldFault}
 use Rattle.sdm_rules.specs.Numbers.{read_int}
 use Rattle.sdm_run.specs.declared.words.Command.{Command}
@@ -21,6 +22,10 @@ flat_command _ = None
 unfoldable pub command_of : List (List ℕ) → Option Command
 command_of [] = None
 command_of (name ∷ more) = if bytes_eq name (codes "flat") then flat_command more else None
+
+-- the command that the words ask for, if they ask for one (own)
+abbrev pub asked_by : List (String Global) → Option Command
+asked_by words = command_of (map string_bytes words)
 
 -- the numbers of a command are in their ranges (own)
 abbrev pub IsInRange : Command → Type 0

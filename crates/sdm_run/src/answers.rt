@@ -1,6 +1,6 @@
 //! The top call: from the words and the bytes of an input to the bytes of out and of the fault stream, and an outcome.
 
-ghost use Rattle.std.specs.Prelude.{◌≡◌, ◌⊎◌, ◌↔◌, ◌+◌, ◌≤◌, length, map, string_bytes, Some, IsNone, IfSome};
+ghost use Rattle.std.specs.Prelude.{◌≡◌, ◌⊎◌, ◌↔◌, ◌+◌, ◌≤◌, length, Some, IsNone, IfSome};
 ghost use Rattle.std.specs.Io.KnownBytes.{Appends, IsAtEnd, Keeps};
 ghost use Rattle.sdm_io.specs.Causes.{Rose};
 ghost use Rattle.sdm_io.specs.Told.{AppendsPart, ReadsExactly, ReadsWithin, Told};
@@ -8,7 +8,7 @@ ghost use Rattle.sdm_rules.specs.Input.{most_bytes};
 ghost use Rattle.sdm_run.specs.Answers.{ComesFirst, ComesLast, IsAnswer, IsPossible, told_end};
 ghost use Rattle.sdm_run.specs.Commands.{AreRowsSafe, TakesMemoryFirst, output_of};
 ghost use Rattle.sdm_run.specs.OutcomeLines.{outcome_line};
-ghost use Rattle.sdm_run.specs.Words.{IsInRange, command_of};
+ghost use Rattle.sdm_run.specs.Words.{IsInRange, asked_by};
 
 use crate::flat_run::run_flat;
 use crate::outcome::Outcome;
@@ -30,14 +30,14 @@ pub fn sdm_main<I: Source, O: Sink, E: Sink>(
     out: &mut O,
     err: &mut E,
 ) -> Outcome
-    ensures usage { (result ≡ Outcome.Usage) ↔ IsNone (command_of (map string_bytes words.now)) }
+    ensures usage { (result ≡ Outcome.Usage) ↔ IsNone (asked_by words.now) }
 
     // what the command defines for the bytes of the input, and what out took of it
-    ensures answer { IfSome (command_of (map string_bytes words.now)) (λ command. Told (I.left input.old) (λ bytes. IsAnswer (output_of command bytes) (O.taken out.old) (O.taken out.new) result)) }
-    ensures rows { IfSome (command_of (map string_bytes words.now)) (λ command. Told (I.left input.old) (AreRowsSafe command)) }
-    ensures possible { IfSome (command_of (map string_bytes words.now)) (λ command. IsPossible command result) }
+    ensures answer { IfSome (asked_by words.now) (λ command. Told (I.left input.old) (λ bytes. IsAnswer (output_of command bytes) (O.taken out.old) (O.taken out.new) result)) }
+    ensures rows { IfSome (asked_by words.now) (λ command. Told (I.left input.old) (AreRowsSafe command)) }
+    ensures possible { IfSome (asked_by words.now) (λ command. IsPossible command result) }
     ensures first { ComesFirst result → Keeps (O.taken out.old) (O.taken out.new) }
-    ensures memory { IfSome (command_of (map string_bytes words.now)) (λ command. TakesMemoryFirst command → result ≡ Outcome.Memory → Keeps (O.taken out.old) (O.taken out.new)) }
+    ensures memory { IfSome (asked_by words.now) (λ command. TakesMemoryFirst command → result ≡ Outcome.Memory → Keeps (O.taken out.old) (O.taken out.new)) }
 
     // how much of the input was read
     ensures within { ReadsWithin (I.left input.old) (I.left input.new) (most_bytes + 1) }
@@ -64,12 +64,12 @@ fn answer<I: Source, O: Sink>(
     input: &mut I,
     out: &mut O,
 ) -> Outcome
-    ensures usage { (result ≡ Outcome.Usage) ↔ IsNone (command_of (map string_bytes words.now)) }
-    ensures answer { IfSome (command_of (map string_bytes words.now)) (λ command. Told (I.left input.old) (λ bytes. IsAnswer (output_of command bytes) (O.taken out.old) (O.taken out.new) result)) }
-    ensures rows { IfSome (command_of (map string_bytes words.now)) (λ command. Told (I.left input.old) (AreRowsSafe command)) }
-    ensures possible { IfSome (command_of (map string_bytes words.now)) (λ command. IsPossible command result) }
+    ensures usage { (result ≡ Outcome.Usage) ↔ IsNone (asked_by words.now) }
+    ensures answer { IfSome (asked_by words.now) (λ command. Told (I.left input.old) (λ bytes. IsAnswer (output_of command bytes) (O.taken out.old) (O.taken out.new) result)) }
+    ensures rows { IfSome (asked_by words.now) (λ command. Told (I.left input.old) (AreRowsSafe command)) }
+    ensures possible { IfSome (asked_by words.now) (λ command. IsPossible command result) }
     ensures first { ComesFirst result → Keeps (O.taken out.old) (O.taken out.new) }
-    ensures memory { IfSome (command_of (map string_bytes words.now)) (λ command. TakesMemoryFirst command → result ≡ Outcome.Memory → Keeps (O.taken out.old) (O.taken out.new)) }
+    ensures memory { IfSome (asked_by words.now) (λ command. TakesMemoryFirst command → result ≡ Outcome.Memory → Keeps (O.taken out.old) (O.taken out.new)) }
     ensures within { ReadsWithin (I.left input.old) (I.left input.new) (most_bytes + 1) }
     ensures too_long { result ≡ Outcome.TooLong → ReadsExactly (I.left input.old) (I.left input.new) (most_bytes + 1) }
     ensures to_end { ComesLast result → IsAtEnd (I.left input.new) }
@@ -116,8 +116,8 @@ fn tell<E: Sink>(outcome: &Outcome, err: &mut E)
 
 /// The outcome over bytes and sinks that never fail: exactly that of the defined end, unless memory is wanting. (own)
 pub fn outcome_of(alloc: Global, words: &[String], bytes: &[u8]) -> Outcome
-    ensures usage { (result ≡ Outcome.Usage) ↔ IsNone (command_of (map string_bytes words.now)) }
-    ensures complete { IfSome (command_of (map string_bytes words.now)) (λ command. (told_end result ≡ Some (output_of command bytes.now).end) ⊎ (result ≡ Outcome.Memory)) }
+    ensures usage { (result ≡ Outcome.Usage) ↔ IsNone (asked_by words.now) }
+    ensures complete { IfSome (asked_by words.now) (λ command. (told_end result ≡ Some (output_of command bytes.now).end) ⊎ (result ≡ Outcome.Memory)) }
 {
     let mut input = FixedSource::new(bytes);
     sdm_main(

@@ -21,6 +21,7 @@ use std::alloc::Global;
 fn take_line(flat: &mut Flat, bytes: &[u8]) -> Option<FlatRow>
     ensures accepted { IfSome result (IsAccepted flat.old flat.new bytes.now) }
     ensures refused { IfNone result (IsRefused flat.old bytes.now) }
+    ensures unchanged { IfNone result (flat.new ≡ flat.old) }
 {
     let line = flat_line(bytes)?;
     match flat.cycle(line.time(), line.front(), line.speed()) {
@@ -45,7 +46,6 @@ pub fn run_flat<O: Sink>(
     ensures possible { IsFlatOutcome result }
     ensures not_first { ComesFirst result → ⊥ }
     ensures memory { result ≡ Outcome.Memory → Keeps (O.taken out.old) (O.taken out.new) }
-    ensures later { O.faults out.old ≤ O.faults out.new }
     ensures write { result ≡ Outcome.WriteFault → Rose (O.faults out.old) (O.faults out.new) }
 {
     let Ok(mut flat) = Flat::begin(alloc, decel, end_cm) else {

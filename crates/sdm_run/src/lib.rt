@@ -4,10 +4,10 @@
 
 pub mod answers;
 pub mod flat;
-pub mod flat_lines;
-pub mod flat_run;
-pub mod lines;
-pub mod numbers;
+mod flat_lines;
+mod flat_run;
+mod lines;
+mod numbers;
 pub mod outcome;
 pub mod outcome_lines;
 pub mod words;

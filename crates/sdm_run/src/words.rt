@@ -1,7 +1,7 @@
 //! The words after the program's name, and the commands that they ask for. A new command adds a variant and a shape.
 
 ghost use Rattle.std.specs.Prelude.{◌≡◌, map, string_bytes, IfSome};
-ghost use Rattle.sdm_run.specs.Words.{IsInRange, command_of, flat_command};
+ghost use Rattle.sdm_run.specs.Words.{IsInRange, asked_by, flat_command};
 
 use crate::numbers::natural_in;
 
@@ -15,7 +15,7 @@ pub enum Command {
 /// The command of words; none where they have none of the shapes. (own)
 #[tactic(auto, unfolding(crate::specs::Words::command_of))]
 pub fn command_of(words: &[String]) -> Option<Command>
-    ensures value { result ≡ command_of (map string_bytes words.now) }
+    ensures value { result ≡ asked_by words.now }
     ensures range { IfSome result IsInRange }
 {
     let (name, more) = words.split_first()?;
