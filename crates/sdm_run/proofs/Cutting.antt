@@ -1,9 +1,8 @@
 -- Lines and fields are what lies about the first mark, and then the lines and fields of the rest: by the bytes before it.
-use Rattle.std.proofs.Common.{◌≡◌, ◌≢◌, ℕ, ◌+◌, ◌-◌, ◌<◌, suc, List, [], ◌∷◌, ◌++◌, Bool, true, false, eqb, cond, ltb, length, get_or, take, drop, All, Option, Some, None, position, refl, ap, ◌∙◌, sym, add-one, arith}
+use Rattle.std.proofs.Common.{◌≡◌, ◌≢◌, ℕ, ◌+◌, ◌-◌, ◌<◌, suc, List, [], ◌∷◌, ◌++◌, Bool, true, false, eqb, cond, length, get_or, take, drop, refl, ap, ◌∙◌, sym, add-one, arith}
 use Rattle.std.proofs.lemmas.Bool.{ne_eqb}
 use Rattle.std.proofs.lemmas.List.{get_or_default, get_or-take, length-take, length-drop, take_all, take-append-drop}
 use Rattle.std.proofs.Math.Seq.{drop-cons}
-use Rattle.std.proofs.lemmas.Grind.{common_steps}
 use Rattle.sdm_rules.specs.Flat.{before_all, comma_fields, lines_of}
 use Rattle.sdm_run.specs.Cuts.{IsCut, IsUncut}
 

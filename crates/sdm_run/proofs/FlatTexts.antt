@@ -1,5 +1,5 @@
 -- The output of lines, line by line: what was written and the output of the lines that are left are the output of all.
-use Rattle.std.proofs.Common.{◌≡◌, ℕ, suc, ◌+◌, ◌≤◌, List, [], ◌∷◌, ◌++◌, length, take, Option, Some, None, inl, inr, refl, ap, ◌∙◌, sym, subst, append_assoc, append-nil, length-append, arith, ⊎_elim, ◌⊎◌}
+use Rattle.std.proofs.Common.{◌≡◌, ℕ, suc, ◌+◌, ◌≤◌, List, [], ◌∷◌, ◌++◌, length, take, Option, Some, inl, inr, refl, ap, ◌∙◌, sym, subst, append_assoc, append-nil, length-append, arith}
 use Rattle.std.proofs.Math.Seq.{take-append-add}
 use Rattle.std.proofs.lemmas.List.{take-append-le}
 use Rattle.std.specs.Io.KnownBytes.{Appends}
@@ -8,7 +8,7 @@ use Rattle.sdm_io.specs.Told.{AppendsPart}
 use Rattle.sdm_rules.specs.declared.rows.FlatRow.{FlatRow}
 use Rattle.sdm_rules.specs.declared.faults.EventCause.TheVariants.{Line}
 use Rattle.sdm_rules.specs.Input as ends
-use Rattle.sdm_rules.specs.Flat.{FlatSupervision, Output, flat_opening, flat_text, flat_row, flat_output, flat_output_from, lines_of}
+use Rattle.sdm_rules.specs.Flat.{FlatSupervision, Output, flat_opening, flat_text, flat_output, flat_output_from, lines_of}
 use Rattle.sdm_run.specs.declared.outcome.Outcome.TheVariants.{Done, WriteFault, BadEvent}
 use Rattle.sdm_run.specs.Answers.{IsAnswer}
 use Rattle.sdm_run.specs.FlatTurns.{IsAccepted, IsRefused}
