@@ -44,7 +44,7 @@ fields_at (c ∷ cs) after h =
     let rest = fields_at cs after (tail_uncut 44 c cs h) in
     rw (other, rest)
 
-pub fields_cut : (bytes before after : List ℕ) → IsCut 44 bytes before after → comma_fields bytes ≡ before ∷ comma_fields after
+fields_cut : (bytes before after : List ℕ) → IsCut 44 bytes before after → comma_fields bytes ≡ before ∷ comma_fields after
 fields_cut bytes before after h = rw h.parts (fields_at before after h.first)
 
 pub fields_uncut : (bytes : List ℕ) → IsUncut 44 bytes → comma_fields bytes ≡ bytes ∷ []

@@ -52,7 +52,7 @@ unfolding arc_back
 same_arc decel x change = back_same (meaning_of (flat_map decel)) (flat_slopes decel) 1 0 _ x _ (λ c. one_segment (2_000_000_000 * decel) _)
 
 -- with no border of bands a place is the end of one arc, which no border rounds
-pub stepped_arc : (decel : ℕ) (f : ℤ) (v : ℕ) → stepped (flat_slopes decel) f 0 v ≡ floor (arc_back (flat_slopes decel) 1 0 (whole (pos 1 *ℤ f)) (v * v - 0))
+stepped_arc : (decel : ℕ) (f : ℤ) (v : ℕ) → stepped (flat_slopes decel) f 0 v ≡ floor (arc_back (flat_slopes decel) 1 0 (whole (pos 1 *ℤ f)) (v * v - 0))
 unfolding stepped
 stepped_arc decel f v = ap floor (place_up to_grain (flat_slopes decel) 1 f 0 (v * v) (omega arith))
 
@@ -65,7 +65,7 @@ unfolding stepped
 same_stepped decel f v =
     ap floor (place_up to_grain (meaning_of (flat_map decel)) 1 f 0 (v * v) (omega arith) ∙ same_arc decel (whole (pos 1 *ℤ f)) (v * v - 0)) ∙ sym (stepped_arc decel f v)
 
-pub stepped_floor : (decel : ℕ) (f : ℤ) (v : ℕ) → stepped (flat_slopes decel) f 0 v ≡ floor (exact (flat_slopes decel) f 0 v)
+stepped_floor : (decel : ℕ) (f : ℤ) (v : ℕ) → stepped (flat_slopes decel) f 0 v ≡ floor (exact (flat_slopes decel) f 0 v)
 stepped_floor decel f v = stepped_arc decel f v ∙ ap floor (sym (exact_arc decel f v))
 
 -- ---- its rows
