@@ -1,9 +1,8 @@
 -- Lines and fields are what lies about the first mark, and then the lines and fields of the rest: by the bytes before it.
-use Rattle.std.proofs.Common.{◌≡◌, ◌≢◌, ℕ, ◌+◌, ◌-◌, ◌<◌, suc, List, [], ◌∷◌, ◌++◌, Bool, true, false, eqb, cond, ltb, length, get_or, take, drop, All, Option, Some, None, position, refl, ap, ◌∙◌, sym, add-one, arith}
+use Rattle.std.proofs.Common.{◌≡◌, ◌≢◌, ℕ, ◌+◌, ◌-◌, ◌<◌, suc, List, [], ◌∷◌, ◌++◌, Bool, true, false, eqb, cond, length, get_or, take, drop, refl, ap, ◌∙◌, sym, add-one, arith}
 use Rattle.std.proofs.lemmas.Bool.{ne_eqb}
 use Rattle.std.proofs.lemmas.List.{get_or_default, get_or-take, length-take, length-drop, take_all, take-append-drop}
 use Rattle.std.proofs.Math.Seq.{drop-cons}
-use Rattle.std.proofs.lemmas.Grind.{common_steps}
 use Rattle.sdm_rules.specs.Flat.{before_all, comma_fields, lines_of}
 use Rattle.sdm_run.specs.Cuts.{IsCut, IsUncut}
 
@@ -45,7 +44,7 @@ fields_at (c ∷ cs) after h =
     let rest = fields_at cs after (tail_uncut 44 c cs h) in
     rw (other, rest)
 
-pub fields_cut : (bytes before after : List ℕ) → IsCut 44 bytes before after → comma_fields bytes ≡ before ∷ comma_fields after
+fields_cut : (bytes before after : List ℕ) → IsCut 44 bytes before after → comma_fields bytes ≡ before ∷ comma_fields after
 fields_cut bytes before after h = rw h.parts (fields_at before after h.first)
 
 pub fields_uncut : (bytes : List ℕ) → IsUncut 44 bytes → comma_fields bytes ≡ bytes ∷ []

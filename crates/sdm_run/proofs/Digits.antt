@@ -1,5 +1,5 @@
 -- A number of 32 bits has at most ten digits, and one of 64 bits at most nineteen and a sign.
-use Rattle.std.proofs.Common.{ℕ, ℤ, ◌≤◌, ◌<◌, ◌^◌, ◌+◌, length, decimal, arith}
+use Rattle.std.proofs.Common.{ℕ, ℤ, ◌≤◌, ◌<◌, ◌^◌, length, decimal, arith}
 use Rattle.std.specs.Fmt.{signed_decimal}
 use lib.Signed.{mag}
 use Rattle.std.proofs.lemmas.Fmt.{length-decimal-le, length_signed_le}

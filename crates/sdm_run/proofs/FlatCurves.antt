@@ -1,6 +1,6 @@
 -- The one band of a flat map has the slope of the flat supervisor in each cell, and a curve from standstill stays in this
 -- band, so that both give the same places; and in one band the stepped place is the exact one rounded down to a grain.
-use Rattle.std.proofs.Common.{◌≡◌, ℕ, zero, suc, ℤ, pos, neg_ℤ, unsigned_abs, Bool, true, false, cond, get_or, List, [], ◌∷◌, map, ◌*◌, ◌+◌, ◌-◌, ◌+ℤ◌, ◌*ℤ◌, int_lt, not, ◌&&◌, ◌||◌, nat_lt, refl, ap, sym, subst, ◌∙◌, arith}
+use Rattle.std.proofs.Common.{◌≡◌, ℕ, zero, suc, ℤ, pos, neg_ℤ, unsigned_abs, Bool, true, false, cond, get_or, List, [], ◌∷◌, map, ◌*◌, ◌+◌, ◌-◌, ◌+ℤ◌, ◌*ℤ◌, int_lt, not, ◌&&◌, ◌||◌, nat_lt, refl, ap, sym, ◌∙◌, arith}
 use Rattle.std.proofs.lemmas.Int.{ints}
 use Rattle.sdm_num.specs.Fractions.{Fraction, floor, whole}
 use Rattle.sdm_num.specs.Bounds.{mm_below}
@@ -10,8 +10,7 @@ use Rattle.sdm_rules.specs.Curves.{cell_at, cell_start, back, arc_back, exact_at
 use Rattle.sdm_laws.proofs.BandSteps.{place_up}
 use Rattle.sdm_rules.specs.Supervision.{whole_mm}
 use Rattle.sdm_rules.specs.Flat.{FlatSupervision, FlatLine, flat_slopes, flat_row, flat_after}
-use Rattle.sdm_rules.specs.declared.rows.FlatRow.{FlatRow}
-use Rattle.sdm_curve.specs.Maps.{map_data, data_of, MapData}
+use Rattle.sdm_curve.specs.Maps.{map_data, handed_in, MapData}
 use Rattle.sdm_run.specs.Flats.{flat_map}
 
 -- ---- the map
@@ -25,7 +24,7 @@ map_of_parts : (m : SlopeMap) (q : ℕ) (uppers : List ℕ) (starts : List ℤ) 
     m ≡ record { q = q; uppers = uppers; starts = starts; slopes = slopes }
 map_of_parts m q uppers starts slopes a b c d = rw (← a, ← b, ← c, ← d)
 
-pub flat_map_from : (m : SlopeMap) (decel : ℕ) → data_of m ≡ map_data 100 [] (pos 0 ∷ []) (pos (2_000_000_000 * decel) ∷ []) → m ≡ flat_map decel
+pub flat_map_from : (m : SlopeMap) (decel : ℕ) → handed_in m ≡ map_data 100 [] (pos 0 ∷ []) (pos (2_000_000_000 * decel) ∷ []) → m ≡ flat_map decel
 flat_map_from m decel is = map_of_parts m 100 [] (pos 0 ∷ []) (2_000_000_000 * decel ∷ [])
     (ap (λ (d : MapData). d.q) is) (ap (λ (d : MapData). d.uppers) is) (ap (λ (d : MapData). d.starts) is) (one_slope m.slopes _ (ap (λ (d : MapData). d.slopes) is))
 
@@ -53,7 +52,7 @@ unfolding arc_back
 same_arc decel x change = back_same (meaning_of (flat_map decel)) (flat_slopes decel) 1 0 _ x _ (λ c. one_segment (2_000_000_000 * decel) _)
 
 -- with no border of bands a place is the end of one arc, which no border rounds
-pub stepped_arc : (decel : ℕ) (f : ℤ) (v : ℕ) → stepped (flat_slopes decel) f 0 v ≡ floor (arc_back (flat_slopes decel) 1 0 (whole (pos 1 *ℤ f)) (v * v - 0))
+stepped_arc : (decel : ℕ) (f : ℤ) (v : ℕ) → stepped (flat_slopes decel) f 0 v ≡ floor (arc_back (flat_slopes decel) 1 0 (whole (pos 1 *ℤ f)) (v * v - 0))
 unfolding stepped
 stepped_arc decel f v = ap floor (place_up to_grain (flat_slopes decel) 1 f 0 (v * v) (omega arith))
 
@@ -66,7 +65,7 @@ unfolding stepped
 same_stepped decel f v =
     ap floor (place_up to_grain (meaning_of (flat_map decel)) 1 f 0 (v * v) (omega arith) ∙ same_arc decel (whole (pos 1 *ℤ f)) (v * v - 0)) ∙ sym (stepped_arc decel f v)
 
-pub stepped_floor : (decel : ℕ) (f : ℤ) (v : ℕ) → stepped (flat_slopes decel) f 0 v ≡ floor (exact (flat_slopes decel) f 0 v)
+stepped_floor : (decel : ℕ) (f : ℤ) (v : ℕ) → stepped (flat_slopes decel) f 0 v ≡ floor (exact (flat_slopes decel) f 0 v)
 stepped_floor decel f v = stepped_arc decel f v ∙ ap floor (sym (exact_arc decel f v))
 
 -- ---- its rows

@@ -1,17 +1,16 @@
 -- With one slope the energy of a way is the slope for each of its grains; so the exact place is the foot less the square over
 -- twice the deceleration, and rounding it to a grain first and to a millimetre then is rounding it once.
-use Rattle.std.proofs.Common.{◌≡◌, ℕ, ℤ, pos, neg_ℤ, ◌+◌, ◌-◌, ◌*◌, ◌<◌, ◌≤◌, ◌+ℤ◌, ◌*ℤ◌, ◌≤ℤ◌, ◌<ℤ◌, ap, sym, subst, ◌∙◌, refl, arith}
+use Rattle.std.proofs.Common.{◌≡◌, ℕ, ℤ, pos, neg_ℤ, ◌-◌, ◌*◌, ◌<◌, ◌+ℤ◌, ◌*ℤ◌, ◌≤ℤ◌, ◌<ℤ◌, ap, sym, ◌∙◌, refl, arith}
 use Rattle.std.proofs.lemmas.Int.{ints}
 use Rattle.std.specs.Int.{int_div_euclid}
 use Rattle.sdm_num.specs.Units.{millimetre, centimetre, notches_of_mm_s}
-use Rattle.sdm_num.specs.Fractions.{Fraction, floor, whole}
+use Rattle.sdm_num.specs.Fractions.{Fraction, whole}
 use Rattle.sdm_num.specs.Bounds.{mm_below}
 use Rattle.sdm_num.proofs.Ints.{scales, scale-+ℤ, scale-neg, scale-scale, scale-≤, scale-≤_cancel}
 use Rattle.sdm_num.proofs.Floors.{floor_low, floor_high, floor_is, scale-<_cancel}
 use Rattle.sdm_rules.specs.Cells.{border_of}
-use Rattle.sdm_rules.specs.Slopes.{Slopes}
 use Rattle.sdm_rules.specs.Curves.{arc_back, back, grain_energy, exact}
-use Rattle.sdm_rules.specs.Flat.{FlatSupervision, FlatLine, flat_slopes, flat_row}
+use Rattle.sdm_rules.specs.Flat.{flat_slopes}
 use Rattle.sdm_rules.specs.Supervision.{whole_mm}
 use Rattle.sdm_laws.specs.Energy.{energy}
 use Rattle.sdm_laws.proofs.Energy.{energy_at_most, energy_at_least}

@@ -1,8 +1,7 @@
 -- Turn by turn: the text of the output is that of the turns, and the laws of flat carry order and stop over each of them.
 use Rattle.std.proofs.Common.{◌≡◌, ℕ, suc, Bool, false, List, [], ◌∷◌, ◌++◌, ◌<◌, Option, Some, None, pos, ◌∙◌, refl, ap}
-use Rattle.sdm_num.specs.Units.{millimetre, notches_of_mm_s}
+use Rattle.sdm_num.specs.Units.{notches_of_mm_s}
 use Rattle.sdm_rules.specs.declared.faults.CycleFault.{CycleFault}
-use Rattle.sdm_rules.specs.Limits.{exact_places}
 use Rattle.sdm_rules.specs.Machines.{InOrder}
 use Rattle.sdm_rules.specs.Records.{time_fault}
 use Rattle.sdm_rules.specs.Flat.{FlatSupervision, FlatLine, Output, flat_opening, flat_line, flat_row, flat_text, flat_output, flat_output_from, flat_go_on, flat_step, after_flat_line, flat_slopes, lines_of}

@@ -1,23 +1,15 @@
 -- The output of lines, line by line: what was written and the output of the lines that are left are the output of all.
-use Rattle.std.proofs.Common.{◌≡◌, ℕ, suc, ◌+◌, ◌≤◌, List, [], ◌∷◌, ◌++◌, length, take, Option, Some, None, inl, inr, refl, ap, ◌∙◌, sym, subst, append_assoc, append-nil, length-append, arith, ⊎_elim, ◌⊎◌}
+use Rattle.std.proofs.Common.{◌≡◌, ℕ, suc, ◌+◌, ◌≤◌, List, [], ◌∷◌, ◌++◌, length, take, Option, inl, inr, refl, ap, ◌∙◌, sym, subst, append_assoc, length-append, arith}
 use Rattle.std.proofs.Math.Seq.{take-append-add}
 use Rattle.std.proofs.lemmas.List.{take-append-le}
 use Rattle.std.specs.Io.KnownBytes.{Appends}
 use Rattle.std.proofs.KnownBytes.{Appends-nil, Appends-trans}
 use Rattle.sdm_io.specs.Told.{AppendsPart}
 use Rattle.sdm_rules.specs.declared.rows.FlatRow.{FlatRow}
-use Rattle.sdm_rules.specs.declared.faults.EventCause.TheVariants.{Line}
-use Rattle.sdm_rules.specs.Input as ends
-use Rattle.sdm_rules.specs.Flat.{FlatSupervision, Output, flat_opening, flat_text, flat_row, flat_output, flat_output_from, lines_of}
-use Rattle.sdm_run.specs.declared.outcome.Outcome.TheVariants.{Done, WriteFault, BadEvent}
+use Rattle.sdm_rules.specs.Flat.{FlatSupervision, Output, flat_opening, flat_text, flat_output, flat_output_from, lines_of}
+use Rattle.sdm_run.specs.declared.outcome.Outcome.TheVariants.{WriteFault}
 use Rattle.sdm_run.specs.Answers.{IsAnswer}
-use Rattle.sdm_run.specs.FlatTurns.{IsAccepted, IsRefused}
-
--- the output of a line that is refused, and of those after it
-refused_output : (n : ℕ) (s : FlatSupervision) (bytes : List ℕ) (more : List (List ℕ)) → IsRefused s bytes →
-    flat_output_from n s (bytes ∷ more) ≡ record { text = []; end = ends.BadEvent n Line }
-refused_output n s bytes more (inl none) = rw none
-refused_output n s bytes more (inr back) = rw (back.2, back.3)
+use Rattle.sdm_run.specs.FlatTurns.{IsAccepted}
 
 -- the output of an accepted line, and of those after it
 accepted_output : (n : ℕ) (s t : FlatSupervision) (bytes : List ℕ) (more : List (List ℕ)) (row : FlatRow) → IsAccepted s t bytes row →
@@ -39,15 +31,6 @@ unfolding flat_output
 all_left old decel end bytes s is = rw is (record { done = []; taken = Appends-nil old; text = refl; end = refl })
 
 module _ (old mid new : Option (List ℕ)) (whole : Output) (n : ℕ) (s : FlatSupervision) (lines more : List (List ℕ)) (bytes : List ℕ) (left : IsLeft old mid whole n s lines) (first : lines ≡ bytes ∷ more) where
-  -- a line that is refused ends the output
-  pub refused_answer : IsRefused s bytes → IsAnswer whole old mid (BadEvent n Line)
-  refused_answer h =
-      let out = ap (flat_output_from n s) first ∙ refused_output n s bytes more h in
-      record {
-        ended = inl (ap (λ (e : ends.End). Some e) (sym (left.end ∙ ap (λ (o : Output). o.end) out)));
-        taken = subst (Appends old mid) (sym (left.text ∙ ap (λ (o : Output). left.done ++ o.text) out ∙ append-nil left.done)) left.taken;
-      }
-
   module _ (t : FlatSupervision) (row : FlatRow) (accepted : IsAccepted s t bytes row) where
     out : flat_output_from n s lines ≡ record { text = flat_text row ++ (flat_output_from (suc n) t more).text; end = (flat_output_from (suc n) t more).end }
     out = ap (flat_output_from n s) first ∙ accepted_output n s t bytes more row accepted
@@ -79,12 +62,3 @@ module _ (old mid new : Option (List ℕ)) (whole : Output) (n : ℕ) (s : FlatS
 
         front : take (length left.done + h.0) whole.text ≡ left.done ++ take h.0 (flat_text row)
         front = rw parts (take-append-add left.done (flat_text row ++ rest) h.0 ∙ ap (λ (x : List ℕ). left.done ++ x) (take-append-le h.0 (flat_text row) rest h.1))
-
--- no line is left
-pub done_answer : (old new : Option (List ℕ)) (whole : Output) (n : ℕ) (s : FlatSupervision) (lines : List (List ℕ)) → lines ≡ [] → IsLeft old new whole n s lines → IsAnswer whole old new Done
-done_answer old new whole n s lines none left =
-    let out = ap (flat_output_from n s) none in
-    record {
-      ended = inl (ap (λ (e : ends.End). Some e) (sym (left.end ∙ ap (λ (o : Output). o.end) out)));
-      taken = subst (Appends old new) (sym (left.text ∙ ap (λ (o : Output). left.done ++ o.text) out ∙ append-nil left.done)) left.taken;
-    }

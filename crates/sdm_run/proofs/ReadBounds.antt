@@ -1,9 +1,7 @@
 -- A number that was read is in the range that was asked.
-use Rattle.std.proofs.Common.{◌≡◌, ℕ, ℤ, pos, negsuc, ◌≤ℤ◌, List, Option, Some, None, Ok, Bool, true, false, ◌&&◌, int_le, w32, arith, rules}
+use Rattle.std.proofs.Common.{◌≡◌, ℕ, ℤ, pos, negsuc, ◌≤ℤ◌, List, Option, Some, None, Ok, w32, arith}
 use Rattle.std.proofs.lemmas.Int.{ints}
 use mir.Val.{SFits}
-use Rattle.std.proofs.lemmas.Bool.Decides.{nat_tests}
-use Rattle.sdm_rules.specs.declared.faults.FieldFault.{FieldFault}
 use Rattle.sdm_rules.specs.Numbers.{read_int, in_range, number_of}
 
 in_range_bounds : (lo hi : ℤ) (o : Option ℤ) (n : ℤ) → in_range lo hi o ≡ Ok n → (lo ≤ℤ n) × (n ≤ℤ hi)

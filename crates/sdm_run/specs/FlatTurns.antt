@@ -1,5 +1,5 @@
 -- One line of `flat`: what is taken of it, or why it is refused (own).
-use Rattle.std.specs.Prelude.{◌≡◌, ◌⊎◌, ℕ, ℤ, pos, negsuc, List, Option, Some, None, ◌≤◌, ◌≤ℤ◌}
+use Rattle.std.specs.Prelude.{◌≡◌, ◌⊎◌, ℕ, ℤ, pos, negsuc, List, Some, None, ◌≤◌, ◌≤ℤ◌}
 use Rattle.sdm_num.specs.Units.{place_of_mm, notches_of_mm_s}
 use Rattle.sdm_rules.specs.declared.rows.FlatRow.{FlatRow}
 use Rattle.sdm_rules.specs.declared.faults.CycleFault.{CycleFault}

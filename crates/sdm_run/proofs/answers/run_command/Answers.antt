@@ -1,5 +1,5 @@
 -- The output of a command, within the limit of an input.
-use Rattle.std.proofs.Common.{arith, rules}
+use Rattle.std.proofs.Common.{rules}
 use Rattle.sdm_run.specs.Commands.{output_of}
 use Rattle.sdm_run.proofs.CommandFacts.{within_answer}
 use Rattle.sdm_run.proofs.answers.run_command.Goals as goal

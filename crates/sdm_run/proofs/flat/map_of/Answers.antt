@@ -1,7 +1,6 @@
 -- What was handed in is the flat map.
-use Rattle.std.proofs.Common.{◌≡◌, ℤ, pos, ◌*◌, ◌*ℤ◌, to_z, of_z, w64, [], ◌∷◌, ◌∙◌, arith, rules}
+use Rattle.std.proofs.Common.{◌≡◌, pos, ◌*◌, ◌*ℤ◌, to_z, of_z, w64, ◌∙◌, arith, rules}
 use Rattle.std.proofs.lemmas.Int.{ints, to_z-of_z}
-use Rattle.sdm_curve.specs.Maps.{data_of, map_data}
 use Rattle.sdm_run.proofs.FlatCurves.{flat_map_from}
 use Rattle.sdm_run.proofs.flat.map_of.Goals as goal
 

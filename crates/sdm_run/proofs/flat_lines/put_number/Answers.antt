@@ -1,6 +1,6 @@
 -- A number of 64 bits has at most nineteen digits and a sign.
-use Rattle.std.proofs.Common.{◌≡◌, to_z, of_z, w64, arith, rules, length-append}
-use Rattle.std.proofs.lemmas.Int.{ints, to_z-of_z}
+use Rattle.std.proofs.Common.{◌≡◌, to_z, of_z, w64, arith, length-append}
+use Rattle.std.proofs.lemmas.Int.{to_z-of_z}
 use Rattle.sdm_run.proofs.Digits.{twenty_bytes}
 use Rattle.sdm_run.proofs.flat_lines.put_number.Goals as goal
 

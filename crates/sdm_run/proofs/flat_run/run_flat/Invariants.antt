@@ -1,5 +1,5 @@
 -- So far out took the rows of the lines before, and what is left gives the rest of the output.
-use Rattle.std.proofs.Common.{ℕ, suc, ◌+◌, ◌≤◌, ◌≡◌, [], length}
+use Rattle.std.proofs.Common.{suc, ◌+◌, ◌≤◌, length}
 use Rattle.sdm_rules.specs.Input.{most_bytes}
 use Rattle.sdm_rules.specs.Flat.{flat_output, lines_of}
 use Rattle.sdm_run.proofs.FlatTexts.{IsLeft}

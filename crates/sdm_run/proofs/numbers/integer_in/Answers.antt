@@ -1,5 +1,5 @@
 -- The number that was read lies between two of 32 bits.
-use Rattle.std.proofs.Common.{ℤ, ◌≤ℤ◌, ◌≡◌, Ok, to_z, of_z, w32, w64, ◌∙◌, ap, sym, arith, rules}
+use Rattle.std.proofs.Common.{◌≤ℤ◌, ◌≡◌, Ok, to_z, of_z, w32, w64, ◌∙◌, sym, rules}
 use Rattle.std.proofs.lemmas.Int.{ints, to_z-of_z}
 use mir.Val.{SFits}
 use Rattle.sdm_rules.specs.Numbers.{read_int}

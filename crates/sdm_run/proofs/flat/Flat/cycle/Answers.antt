@@ -1,5 +1,5 @@
 -- The row is that of the computed place, which is the stepped place of the flat curve; so the laws of flat hold of it.
-use Rattle.std.proofs.Common.{◌≡◌, ℕ, ℤ, pos, Some, ◌*ℤ◌, ◌<◌, ◌<ℤ◌, Bool, true, false, IsTrue, ◌↔◌, not, ◌&&◌, ◌||◌, nat_lt, int_lt, to_z, of_z, w32, w64, ap, sym, subst, refl, ◌∙◌, arith, rules}
+use Rattle.std.proofs.Common.{◌≡◌, ℕ, ℤ, pos, Some, ◌*ℤ◌, ◌<◌, Bool, IsTrue, not, ◌&&◌, ◌||◌, nat_lt, int_lt, to_z, of_z, w32, w64, ap, sym, subst, ◌∙◌, arith, rules}
 use Rattle.std.proofs.lemmas.Int.{ints, to_z-of_z}
 use Rattle.std.proofs.Math.Facts.{to_z_pos}
 use Rattle.sdm_num.specs.Units.{centimetre}
@@ -8,7 +8,7 @@ use Rattle.sdm_rules.specs.Cells.{border_of}
 use Rattle.sdm_rules.specs.Curves.{exact, stepped}
 use Rattle.sdm_rules.specs.Supervision.{whole_mm}
 use Rattle.sdm_rules.specs.declared.rows.FlatRow.{FlatRow}
-use Rattle.sdm_rules.specs.Flat.{FlatLine, FlatSupervision, KeepsFlatOrder, StopsByFlatEnd, after_flat_line, flat_slopes, flat_row}
+use Rattle.sdm_rules.specs.Flat.{FlatLine, FlatSupervision, KeepsFlatOrder, after_flat_line, flat_slopes, flat_row}
 use Rattle.sdm_laws.proofs.FlatFacts.{flat_machines, flat_stop}
 use Rattle.sdm_run.specs.FlatTurns.{line_at}
 use Rattle.sdm_run.proofs.FlatCurves.{row_by_place, same_stepped, shown_place}
