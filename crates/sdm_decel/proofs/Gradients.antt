@@ -1,5 +1,5 @@
 -- A gradient under the train is the value of one of its segments, so it is at most 80 per mille up or down.
-use Rattle.std.proofs.Common.{◌≡◌, ℕ, zero, suc, ℤ, pos, List, [], ◌∷◌, length, get_or, Bool, true, false, int_le, if◌then◌else◌, ◌<◌, ◌≤◌, ◌≤ℤ◌, unsigned_abs, refl, arith}
+use Rattle.std.proofs.Common.{ℕ, suc, ℤ, pos, List, [], ◌∷◌, length, get_or, Bool, true, false, int_le, if◌then◌else◌, ◌<◌, ◌≤◌, unsigned_abs, arith}
 use Rattle.sdm_rules.specs.Cells.{last_at, value_at}
 use Rattle.sdm_track.specs.declared.under_train.Segment.{Segment}
 use Rattle.sdm_track.specs.Segments.{AreSegments, gradient_in}

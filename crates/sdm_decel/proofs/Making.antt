@@ -1,8 +1,7 @@
 -- What a map is made of is well formed, and gives the slopes of the kind in every band and cell: the slope of a stretch is
 -- that of its first cell, and the same lies under the train in all its cells.
-use Rattle.std.proofs.Common.{◌≡◌, ℕ, ℤ, pos, List, map, All, length, get_or, slice_get, unsigned_abs, ◌+◌, ◌*◌, ◌^◌, ◌≤◌, ap, sym, subst, refl, ◌∙◌}
+use Rattle.std.proofs.Common.{◌≡◌, ℕ, ℤ, pos, List, map, length, get_or, slice_get, ◌+◌, ◌*◌, ◌^◌, ◌≤◌, ap, sym, subst, refl, ◌∙◌}
 use Rattle.std.specs.Int.{int_max}
-use Rattle.std.specs.List.{flat_map}
 use Rattle.std.specs.Option.{option_map_or}
 use Rattle.std.proofs.lemmas.List.{length-map}
 use Rattle.std.proofs.Math.ListN.{get_or-map}

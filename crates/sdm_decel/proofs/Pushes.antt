@@ -1,6 +1,6 @@
 -- What the next entry of a list adds to what the entries before it gave.
-use Rattle.std.proofs.Common.{◌≡◌, ℕ, ℤ, pos, negsuc, List, [], ◌∷◌, ◌++◌, map, Option, Some, None, length, get_or, slice_get, take, unsigned_abs, ◌+◌, ◌<◌, ◌≤◌, ◌+ℤ◌, ◌≤ℤ◌, ap, sym, refl, ◌∙◌, arith, append_assoc}
-use Rattle.std.specs.List.{flat_map, filter_map}
+use Rattle.std.proofs.Common.{◌≡◌, ℕ, ℤ, pos, negsuc, List, [], ◌∷◌, ◌++◌, map, Option, Some, None, length, get_or, slice_get, take, unsigned_abs, ◌+◌, ◌<◌, ◌+ℤ◌, ◌≤ℤ◌, ap, sym, refl, ◌∙◌, arith, append_assoc}
+use Rattle.std.specs.List.{flat_map}
 use Rattle.std.specs.Option.{option_map}
 use Rattle.std.proofs.lemmas.Int.{ints}
 use Rattle.std.proofs.lemmas.List.{append-nil, take_more, map_more}

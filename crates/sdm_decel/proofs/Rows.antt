@@ -1,12 +1,12 @@
 -- The slopes of a band are a row of the list of all slopes; its upper speeds rise with the bands.
-use Rattle.std.proofs.Common.{◌≡◌, ℕ, zero, suc, ℤ, pos, negsuc, List, [], ◌∷◌, ◌++◌, map, All, Option, Some, None, length, get_or, slice_get, unsigned_abs, ◌+◌, ◌*◌, ◌^◌, ◌<◌, ◌≤◌, ◌*ℤ◌, ◌≤ℤ◌, ◌<ℤ◌, ap, sym, refl, ◌∙◌, arith, length-append}
+use Rattle.std.proofs.Common.{◌≡◌, ℕ, zero, suc, ℤ, pos, negsuc, List, [], ◌∷◌, ◌++◌, map, length, get_or, slice_get, unsigned_abs, ◌+◌, ◌*◌, ◌<◌, ◌*ℤ◌, ◌≤ℤ◌, ◌<ℤ◌, ap, refl, ◌∙◌, arith, length-append}
 use Rattle.std.specs.List.{flat_map}
 use Rattle.std.specs.Option.{option_map_or}
 use Rattle.std.proofs.lemmas.Int.{ints}
 use Rattle.std.proofs.lemmas.List.{length-map, get_or_append_left, get_or-append-add, get_or_default}
 use Rattle.std.proofs.Math.ListN.{get_or-map}
 use Rattle.sdm_rules.specs.declared.data.Band.{Band}
-use Rattle.sdm_rules.specs.Slopes.{bands_of, most_bands}
+use Rattle.sdm_rules.specs.Slopes.{bands_of}
 use Rattle.sdm_rules.specs.Data.{AreBands, HasBands}
 use Rattle.sdm_rules.specs.Decelerations.{uppers_of}
 use Rattle.sdm_num.specs.Units.{notches}

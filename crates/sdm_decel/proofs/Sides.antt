@@ -1,6 +1,6 @@
 -- The same lies under the train with its front end in two cells, where no border lies past the first up to the second: each
 -- gradient has begun for both or for neither, and each area is in force for both or for neither.
-use Rattle.std.proofs.Common.{◌≡◌, ℕ, zero, suc, ℤ, pos, List, [], ◌∷◌, length, get_or, Bool, true, false, int_le, int_lt, if◌then◌else◌, ◌<◌, ◌+ℤ◌, ◌≤ℤ◌, ◌<ℤ◌, refl, sym, ◌∙◌, ap₂, arith, rules}
+use Rattle.std.proofs.Common.{◌≡◌, ℕ, suc, ℤ, pos, List, [], ◌∷◌, length, get_or, Bool, true, false, int_le, int_lt, ◌<◌, ◌+ℤ◌, ◌≤ℤ◌, ◌<ℤ◌, refl, sym, ◌∙◌, ap₂, arith, rules}
 use Rattle.std.specs.List.{list_any}
 use Rattle.std.proofs.lemmas.Int.{ints, by_lt_z}
 use Rattle.sdm_rules.specs.declared.data.Area.{Area}

@@ -1,6 +1,6 @@
 -- A slope map whose segments give the slopes of a kind stands for them; so it is accepted, or its first fault is theirs, over
 -- all cells from 0 on: in each segment the slopes are those of its first cell.
-use Rattle.std.proofs.Common.{◌≡◌, ℕ, zero, suc, ℤ, pos, negsuc, List, [], map, ◌+◌, ◌*◌, ◌<◌, ◌≤◌, ◌*ℤ◌, ◌≤ℤ◌, ◌<ℤ◌, length, get_or, slice_get, unsigned_abs, ap, subst, arith, refl, sym, inl, inr, ◌∙◌}
+use Rattle.std.proofs.Common.{◌≡◌, ℕ, zero, suc, ℤ, pos, negsuc, List, ◌+◌, ◌*◌, ◌<◌, ◌≤◌, ◌*ℤ◌, ◌≤ℤ◌, ◌<ℤ◌, length, get_or, unsigned_abs, ap, subst, arith, refl, sym, inl, inr, ◌∙◌}
 use Rattle.std.proofs.lemmas.Int.{ints}
 use Rattle.std.proofs.lemmas.Bool.{cases_lt}
 use Rattle.std.proofs.lemmas.List.{get_or_past}
@@ -12,7 +12,7 @@ use Rattle.sdm_rules.specs.Slopes.{Slopes, SlopeMap, meaning_of, segment_of, ban
 use Rattle.sdm_rules.specs.Data.{LineData}
 use Rattle.sdm_rules.specs.Decelerations.{q_of, uppers_of, slope_at, slopes_of}
 use Rattle.sdm_rules.specs.Opening as opening
-use Rattle.sdm_laws.proofs.Segments.{IsRising, in_segment, segment_is}
+use Rattle.sdm_laws.proofs.Segments.{in_segment, segment_is}
 use Rattle.sdm_curve.specs.declared.faults.CurveFault.{CurveFault}
 use Rattle.sdm_curve.specs.declared.faults.CurveFault.TheVariants.{TooWeak, TooVaried, Memory}
 use Rattle.sdm_curve.specs.Maps.{MapData, data_of, slope_in, start_in, AreStarts, IsMapData, IsStrong, IsEvenBand, IsAccepted}

@@ -1,8 +1,7 @@
 -- All borders in order, each once, are the first cells of stretches in each of which the same lies under the train: from the first
 -- cell of its stretch up to a cell no border lies between.
-use Rattle.std.proofs.Common.{◌≡◌, ℕ, zero, suc, ℤ, pos, negsuc, List, [], ◌∷◌, ◌++◌, map, All, Contains, length, get_or, unsigned_abs, ◌+◌, ◌*◌, ◌<◌, ◌≤◌, ◌+ℤ◌, ◌≤ℤ◌, ◌<ℤ◌, ap, sym, refl, ◌∙◌, arith, inl, inr, length-append}
+use Rattle.std.proofs.Common.{◌≡◌, ℕ, zero, suc, ℤ, pos, negsuc, List, [], ◌∷◌, ◌++◌, map, All, Contains, length, get_or, unsigned_abs, ◌*◌, ◌<◌, ◌≤◌, ◌+ℤ◌, ◌≤ℤ◌, ◌<ℤ◌, ap, sym, refl, ◌∙◌, arith, inl, inr, length-append}
 use Rattle.std.specs.Int.{int_max}
-use Rattle.std.specs.List.{flat_map}
 use Rattle.std.specs.List.Sorted.{IsStrictlyIncreasing}
 use Rattle.std.proofs.lemmas.Int.{ints, clamps, by_lt_z}
 use Rattle.std.proofs.lemmas.Bool.{cases_lt}
@@ -16,7 +15,7 @@ use Rattle.sdm_rules.specs.Decelerations.{under_train}
 use Rattle.sdm_rules.specs.Slopes.{segment_of}
 use Rattle.sdm_laws.proofs.Segments.{in_segment, IsInSegment}
 use Rattle.sdm_track.specs.declared.under_train.Segment.{Segment}
-use Rattle.sdm_track.specs.Ranges.{IsTrack, IsArea, AreAreas}
+use Rattle.sdm_track.specs.Ranges.{IsTrack, IsArea}
 use Rattle.sdm_track.specs.Segments.{AreSegments}
 use Rattle.sdm_curve.specs.Maps.{AreStarts}
 use Rattle.sdm_curve.proofs.Meanings.{rising_of, start_least}

@@ -1,5 +1,5 @@
 -- The next area adds its two borders.
-use Rattle.std.proofs.Common.{◌≡◌, ℕ, ℤ, unsigned_abs, ◌+◌, ◌≤◌, ap, ◌∙◌, arith}
+use Rattle.std.proofs.Common.{ℤ, unsigned_abs, ◌+◌, ◌≤◌, ap, ◌∙◌, arith}
 use Rattle.std.proofs.lemmas.Int.{ints}
 use Rattle.sdm_decel.proofs.Sizes.{stays, size_within}
 use Rattle.sdm_decel.proofs.Pushes.{areas_more, nat_plus}

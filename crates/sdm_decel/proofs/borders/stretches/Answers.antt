@@ -1,5 +1,5 @@
 -- The borders, in order and each once, are the first cells of the stretches.
-use Rattle.std.proofs.Common.{◌≡◌, List, ℤ, pos, map, ap, sym, subst, ◌∙◌}
+use Rattle.std.proofs.Common.{List, ℤ, pos, sym, subst}
 use Rattle.std.proofs.lemmas.Result.{IfOk-weaker}
 use Rattle.sdm_decel.specs.Borders.{AreStretches}
 use Rattle.sdm_decel.proofs.Stretches.{gathered, near_cells, stretches_are}

@@ -1,5 +1,5 @@
 -- Each part fits, so the bits of the difference are the difference.
-use Rattle.std.proofs.Common.{◌≡◌, ℤ, pos, ◌≤◌, ◌-ℤ◌, ◌*ℤ◌, unsigned_abs, ap, arith}
+use Rattle.std.proofs.Common.{ℤ, pos, ◌-ℤ◌, ◌*ℤ◌, ap, arith}
 use Rattle.sdm_decel.proofs.Sizes.{stays, size_within, product_size, difference_size}
 use Rattle.sdm_decel.proofs.decelerations.brake.Goals as goal
 

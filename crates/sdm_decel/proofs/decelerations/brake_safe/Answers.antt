@@ -1,5 +1,5 @@
 -- Each part fits, so the bits of the product are the product.
-use Rattle.std.proofs.Common.{◌≡◌, ℤ, pos, ◌≤◌, ◌*ℤ◌, unsigned_abs, ap, arith}
+use Rattle.std.proofs.Common.{ℤ, ◌*ℤ◌, ap, arith}
 use Rattle.sdm_decel.proofs.Sizes.{fits, stays, size_within, product_size, product_stays}
 use Rattle.sdm_decel.proofs.decelerations.brake_safe.Goals as goal
 

@@ -1,5 +1,5 @@
 -- Each part fits, so the bits of the product are the product.
-use Rattle.std.proofs.Common.{◌≡◌, ℤ, pos, ◌≤◌, ◌*ℤ◌, unsigned_abs, ap, arith}
+use Rattle.std.proofs.Common.{ℤ, pos, ◌*ℤ◌, ap, arith}
 use Rattle.sdm_decel.proofs.Sizes.{stays, product_size, product_stays}
 use Rattle.sdm_decel.proofs.decelerations.kn_term.Goals as goal
 

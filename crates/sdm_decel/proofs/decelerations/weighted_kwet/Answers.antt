@@ -1,6 +1,6 @@
 -- Each part fits, so the bits of the sum are the sum.
 use Rattle.std.proofs.Common.{◌≡◌, ℤ, pos, ◌≤◌, ◌+ℤ◌, ◌-ℤ◌, ◌*ℤ◌, ◌≤ℤ◌, unsigned_abs, w64, to_z, of_z, refl, arith}
-use Rattle.std.proofs.lemmas.Int.{ints, fits_signed_mul}
+use Rattle.std.proofs.lemmas.Int.{ints}
 use Rattle.sdm_decel.proofs.Sizes.{fits, stays, size_within, product_size, sum_size}
 use Rattle.sdm_decel.proofs.decelerations.weighted_kwet.Goals as goal
 

@@ -1,5 +1,5 @@
 -- Each part is what its function makes, for the train's length.
-use Rattle.std.proofs.Common.{◌≡◌, ℕ, ℤ, List, pos, map, unsigned_abs, w64, to_z, of_z, ◌≤ℤ◌, ap, subst, ◌∙◌, arith}
+use Rattle.std.proofs.Common.{◌≡◌, ℤ, List, pos, map, unsigned_abs, w64, to_z, of_z, ◌≤ℤ◌, ap, subst, ◌∙◌, arith}
 use Rattle.std.proofs.lemmas.Int.{ints}
 use Rattle.sdm_rules.specs.Decelerations.{UnderTrain, under_train}
 use Rattle.sdm_decel.specs.Borders.{AreStretches}

@@ -1,5 +1,5 @@
 -- The next band adds its row.
-use Rattle.std.proofs.Common.{◌≡◌, ◌++◌, List, ℤ, map, ap, sym, ◌∙◌}
+use Rattle.std.proofs.Common.{◌++◌, List, ℤ, map, ap, sym, ◌∙◌}
 use Rattle.sdm_rules.specs.declared.data.Band.{Band}
 use Rattle.sdm_rules.specs.Decelerations.{UnderTrain, slope_under}
 use Rattle.sdm_decel.proofs.Pushes.{flat_map_next}

@@ -1,5 +1,5 @@
 -- The next band adds its upper speed, if it has one.
-use Rattle.std.proofs.Common.{◌≡◌, sym, ◌∙◌, arith}
+use Rattle.std.proofs.Common.{sym, ◌∙◌, arith}
 use Rattle.sdm_decel.proofs.Sizes.{stays, size_within}
 use Rattle.sdm_decel.proofs.Pushes.{uppers_more, uppers_same}
 use Rattle.sdm_decel.proofs.maps.uppers.Goals as goal
