@@ -27,9 +27,9 @@ cut_is ts bs k in_ts in_bs cut =
     elim (cases_lt k (length ts)) [
       | inl lt ↦ absurd (phases_differ (get_or (ts ++ bs) k none) (rw (left_read ts bs k lt) (in_ts k none lt)) (cut.next none (let l = length_all ts bs in omega arith)))
       | inr ge ↦ elim (cases_lt (length ts) k) [
-          | inl gt ↦ absurd (phases_differ (get_or (ts ++ bs) (length ts) none) (there ts bs k gt cut) (rw (right_read ts bs) (in_bs 0 none (let l = length_all ts bs in let n = cut.known in omega arith))))
-          | inr le ↦ omega arith
-        ]
+        | inl gt ↦ absurd (phases_differ (get_or (ts ++ bs) (length ts) none) (there ts bs k gt cut) (rw (right_read ts bs) (in_bs 0 none (let l = length_all ts bs in let n = cut.known in omega arith))))
+        | inr le ↦ omega arith
+      ]
     ]
   where
     length_all : (ts bs : List Slice) → length (ts ++ bs) ≡ length ts + length bs
