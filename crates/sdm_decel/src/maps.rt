@@ -78,7 +78,7 @@ fn gradients_under(alloc: Global, track: &Track, length_cm: u32) -> Result<Segme
     ensures { IfOk result (λ segments. AreGradientsUnder track.now length_cm segments) }
 {
     let segments = track.compensated(alloc, length_cm)?;
-    // that they are in their ranges
+    // `count` says that they are in their ranges.
     let _count = segments.count();
     Ok(segments)
 }
@@ -139,10 +139,12 @@ fn map_of(
     )
 }
 
-/// The map of A_safe, on which emergency brake deceleration curves stand (SUBSET-026-3 3.13.6.2, 3.13.8.3): a segment begins at
-/// each cell where the gradient under the train or the adhesion changes. TooWeak and TooVaried name the first fault over all
-/// bands, counted from 1, and all cells from 0 on, as TooWeak exactly where a slope is below 0.05 m/s²; TooVaried where none
-/// is and the slopes of a band differ too much. (limits own)
+/// The map of A_safe, on which emergency brake deceleration curves stand (SUBSET-026-3 3.13.6.2, 3.13.8.3): the slopes of the
+/// definitions in every band and cell, before the track and past its end too. A segment begins at each cell where the gradient
+/// under the train or the adhesion changes: at most 2,000 segments, none past cell 10,200,000. TooWeak comes exactly where a
+/// slope is below 0.05 m/s², with the first by bands, counted from 1, and then by cells from 0 on; TooVaried exactly where none
+/// is and in some band the greatest slope is too many times the least, with the first such band. Both yield to Memory. (limits
+/// own)
 pub fn safe(
     alloc: Global,
     train: &Train,
