@@ -1,3 +1,4 @@
+-- A limit stands for the exact one, since each is as many grains before its place as the exact one is before its own.
 use Rattle.std.proofs.Common.{None, rules}
 use Rattle.sdm_num.specs.Fractions.{less}
 use Rattle.sdm_num.specs.Units.{way_in}

@@ -1,3 +1,4 @@
+-- Each part of the sum is one of the gains, maxima and ways that the formula names.
 use Rattle.std.proofs.Common.{◌+◌, rules}
 use Rattle.sdm_rules.specs.Reaction.{build_up}
 use Rattle.sdm_limits.proofs.Ways.{d_bec_is}
