@@ -1,33 +1,32 @@
 -- Slices of traction and then of the build-up are parted in one place alone: where the first slice of the build-up stands.
-use Rattle.std.proofs.Common.{◌≡◌, ℕ, List, ◌++◌, length, get_or, take, drop, ◌+◌, ◌*◌, ◌<◌, ◌≤◌, arith, refl, sym, subst, ◌∙◌, ap, inl, inr}
+use Rattle.std.proofs.Common.{◌≡◌, ℕ, List, ◌++◌, length, get_or, take, drop, ◌+◌, ◌*◌, ◌<◌, arith, subst, ◌∙◌, inl, inr}
 use Rattle.std.proofs.lemmas.Bool.{cases_lt}
 use Rattle.std.proofs.lemmas.Grind.{common_steps}
-use Rattle.sdm_rules.specs.declared.motions.Phase.{Phase}
 use Rattle.sdm_rules.specs.declared.motions.Phase.TheVariants.{Traction, Build}
 use Rattle.sdm_rules.specs.declared.motions.Slice.{Slice}
 use Rattle.sdm_rules.specs.declared.motions.Start.{Start}
 use Rattle.sdm_rules.specs.Motion.{IsIn, time_of}
 use Rattle.sdm_motion.specs.Slices.{IsCut, IsReaction}
 
--- any slice, for reads past the end
-none : Slice
-none = record { phase = Traction; time = 0; to = 0; length = 0 }
+-- what reads past the end give
+any_slice : Slice
+any_slice = record { phase = Traction; time = 0; to = 0; length = 0 }
 
 phases_differ : (x : Slice) → x.phase ≡ Traction → x.phase ≡ Build → ⊥
 phases_differ x e f = cc
 
-left_read : (ts bs : List Slice) (k : ℕ) → k < length ts → get_or (ts ++ bs) k none ≡ get_or ts k none
+left_read : (ts bs : List Slice) (k : ℕ) → k < length ts → get_or (ts ++ bs) k any_slice ≡ get_or ts k any_slice
 left_read ts bs k lt = grind (arith, common_steps)
 
-right_read : (ts bs : List Slice) → get_or (ts ++ bs) (length ts) none ≡ get_or bs 0 none
+right_read : (ts bs : List Slice) → get_or (ts ++ bs) (length ts) any_slice ≡ get_or bs 0 any_slice
 right_read ts bs = grind (arith, common_steps)
 
 cut_is : (ts bs : List Slice) (k : ℕ) → IsIn Traction ts → IsIn Build bs → IsCut (ts ++ bs) k → k ≡ length ts
 cut_is ts bs k in_ts in_bs cut =
     elim (cases_lt k (length ts)) [
-      | inl lt ↦ absurd (phases_differ (get_or (ts ++ bs) k none) (rw (left_read ts bs k lt) (in_ts k none lt)) (cut.next none (let l = length_all ts bs in omega arith)))
+      | inl lt ↦ absurd (phases_differ (get_or (ts ++ bs) k any_slice) (rw (left_read ts bs k lt) (in_ts k any_slice lt)) (cut.next any_slice (let l = length_all ts bs in omega arith)))
       | inr ge ↦ elim (cases_lt (length ts) k) [
-        | inl gt ↦ absurd (phases_differ (get_or (ts ++ bs) (length ts) none) (there ts bs k gt cut) (rw (right_read ts bs) (in_bs 0 none (let l = length_all ts bs in let n = cut.known in omega arith))))
+        | inl gt ↦ absurd (phases_differ (get_or (ts ++ bs) (length ts) any_slice) (there ts bs k gt cut) (rw (right_read ts bs) (in_bs 0 any_slice (let l = length_all ts bs in let n = cut.known in omega arith))))
         | inr le ↦ omega arith
       ]
     ]
@@ -35,13 +34,13 @@ cut_is ts bs k in_ts in_bs cut =
     length_all : (ts bs : List Slice) → length (ts ++ bs) ≡ length ts + length bs
     length_all ts bs = grind (arith, common_steps)
 
-    there : (ts bs : List Slice) (k : ℕ) → length ts < k → IsCut (ts ++ bs) k → (get_or (ts ++ bs) (length ts) none).phase ≡ Traction
+    there : (ts bs : List Slice) (k : ℕ) → length ts < k → IsCut (ts ++ bs) k → (get_or (ts ++ bs) (length ts) any_slice).phase ≡ Traction
     there ts bs k gt cut =
         let known = cut.known in
         let l = length_all ts bs in
         let lt : length ts < length (take k (ts ++ bs)) = grind (arith, common_steps) in
-        let e : get_or (take k (ts ++ bs)) (length ts) none ≡ get_or (ts ++ bs) (length ts) none = grind (arith, common_steps) in
-        rw (← e) (cut.before (length ts) none lt)
+        let e : get_or (take k (ts ++ bs)) (length ts) any_slice ≡ get_or (ts ++ bs) (length ts) any_slice = grind (arith, common_steps) in
+        rw (← e) (cut.before (length ts) any_slice lt)
 
 take_left : (ts bs : List Slice) → take (length ts) (ts ++ bs) ≡ ts
 take_left ts bs = grind (arith, common_steps)

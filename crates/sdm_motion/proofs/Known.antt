@@ -1,5 +1,5 @@
 -- A motion as it is handed in, by what the code tests.
-use Rattle.std.proofs.Common.{◌≡◌, ℕ, ℤ, pos, List, [], ◌∷◌, All, Some, slice_get, ◌*◌, ◌*ℤ◌, sym, ◌∙◌, refl}
+use Rattle.std.proofs.Common.{◌≡◌, ℕ, ℤ, pos, List, [], ◌∷◌, All, Some, slice_get, ◌*◌, ◌*ℤ◌, ◌∙◌, refl}
 use Rattle.sdm_rules.specs.declared.motions.Point.{Point}
 use Rattle.sdm_rules.specs.declared.motions.Slice.{Slice}
 use Rattle.sdm_rules.specs.declared.motions.Start.{Start}

@@ -1,5 +1,5 @@
 -- The cells on a way have one slope exactly where the segments that it meets do.
-use Rattle.std.proofs.Common.{◌≡◌, ℕ, ℤ, pos, List, length, ◌+◌, ◌*◌, ◌<◌, ◌≤◌, ◌+ℤ◌, ◌≤ℤ◌, arith, sym, subst, ◌∙◌}
+use Rattle.std.proofs.Common.{◌≡◌, ℕ, ℤ, ◌<◌, ◌≤◌, ◌≤ℤ◌, arith, sym, subst, ◌∙◌}
 use Rattle.std.proofs.lemmas.Int.{ints}
 use Rattle.sdm_rules.specs.declared.motions.Point.{Point}
 use Rattle.sdm_rules.specs.Slopes.{SlopeMap, meaning_of, segment_of}
@@ -7,7 +7,7 @@ use Rattle.sdm_rules.specs.Motion.{BrakesAtLeast, HasPart}
 use Rattle.sdm_laws.proofs.Segments.{in_segment, slope_in_segment}
 use Rattle.sdm_curve.specs.Maps.{AreStarts}
 use Rattle.sdm_curve.proofs.Meanings.{rising_of}
-use Rattle.sdm_motion.specs.Steps.{BrakesIn, HaveSlope, IsMet, Meets, NoneIsMet, segment_slope}
+use Rattle.sdm_motion.specs.Steps.{BrakesIn, HaveSlope, IsMet, NoneIsMet, segment_slope}
 use Rattle.sdm_motion.proofs.SegmentParts.{meets_of, found}
 
 -- every cell that has a part strictly between the places has the slope

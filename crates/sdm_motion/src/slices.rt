@@ -113,9 +113,8 @@ pub fn length_of(slices: &[Slice]) -> u128
 pub fn speed_after(speed: u64, slices: &[Slice]) -> u64
     ensures { result ≡ speed_after speed slices.now }
 {
-    let mut at = speed;
-    for x in slices {
-        at = x.to;
+    match slices.last() {
+        Some(x) => x.to,
+        None => speed,
     }
-    at
 }

@@ -1,4 +1,4 @@
-use Rattle.std.proofs.Common.{rules, arith}
+use Rattle.std.proofs.Common.{rules}
 use Rattle.sdm_motion.proofs.Cuts.{back_is_build, front_time, back_time}
 use Rattle.sdm_motion.proofs.slices.is_reaction.Goals as goal
 

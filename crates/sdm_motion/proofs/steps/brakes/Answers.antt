@@ -1,4 +1,4 @@
-use Rattle.std.proofs.Common.{rules, arith, sym, ◌∙◌}
+use Rattle.std.proofs.Common.{rules, arith, ◌∙◌}
 use Rattle.std.proofs.lemmas.Int.{ints}
 use borrow.Author.Tests.{leb-true}
 use Rattle.sdm_motion.proofs.Enough.{enough_of, enough_out, segment_slope_most, fits_product}
