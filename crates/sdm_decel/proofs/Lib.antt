@@ -1,4 +1,6 @@
 pub mod Sizes
+pub mod KwetTerms
+pub mod SlopeTerms
 pub mod Gradients
 pub mod Sides
 pub mod Stretches
