@@ -5,8 +5,9 @@ use Rattle.std.specs.Ordering.{nat_cmp}
 use Rattle.std.specs.FinMap as finite
 use Rattle.sdm_rules.specs.declared.data.SpeedStep.{SpeedStep}
 use Rattle.sdm_rules.specs.declared.restrictions.Restriction.{Restriction}
+use Rattle.sdm_rules.specs.Data.{TrackData}
 use Rattle.sdm_rules.specs.Codes.{coded_restrictions}
-use Rattle.sdm_rules.specs.Profile.{lowest_limit, zones_of_track, zone_of}
+use Rattle.sdm_rules.specs.Profile.{Zone, lowest_limit, zones_of_track, zone_of}
 use Rattle.sdm_rules.specs.Records.{most_restrictions}
 use Rattle.sdm_track.specs.Ranges.{AreSpeeds, longest_track, longest_train}
 use Rattle.sdm_speed.specs.Zones.{IsLimit}
@@ -20,10 +21,24 @@ pub record ProfileData : Type 0 where
   pub speeds : List SpeedStep
   pub restrictions : finite.FinMap nat_cmp Restriction
 
+-- the profile of a track for a train of a maximum speed and a length: no restriction is in force (own)
+abbrev pub new_profile : TrackData → ℕ → ℕ → ProfileData
+new_profile track max_speed length_cm = record {
+  max_speed = max_speed;
+  length_cm = pos length_cm;
+  track_cm = track.length_cm;
+  speeds = track.speeds;
+  restrictions = finite.empty;
+}
+
+-- the speed limits of a profile: of the static speed profile, and of the temporary restrictions (SUBSET-026-3 3.13.7; own cell form)
+abbrev pub zones_of : ProfileData → List Zone
+zones_of p = zones_of_track p.length_cm p.speeds ++ map (zone_of p.length_cm) (finite.values p.restrictions)
+
 -- the MRSP of a cell in km/h: that of the definition for a train of this maximum speed and length, a track of this static speed
 -- profile, and these restrictions (SUBSET-026-3 3.13.7; own cell form)
 abbrev pub mrsp_of : ProfileData → ℤ → ℕ
-mrsp_of p cell = lowest_limit p.max_speed cell (zones_of_track p.length_cm p.speeds ++ map (zone_of p.length_cm) (finite.values p.restrictions))
+mrsp_of p cell = lowest_limit p.max_speed cell (zones_of p)
 
 -- a profile within its ranges (ranges own)
 pub record IsProfile (p : ProfileData) : Type 0 where

@@ -1,6 +1,6 @@
 //! Where the speed profile falls. It falls only where a zone begins, so the way from one beginning to the next meets every fall.
 
-ghost use Rattle.std.specs.Prelude.{◌≡◌, ℕ, ℤ, All, MatchOption, ◌≤ℤ◌};
+ghost use Rattle.std.specs.Prelude.{◌≡◌, All, MatchOption};
 ghost use Rattle.sdm_rules.specs.Profile.{lowest_limit};
 ghost use Rattle.sdm_rules.specs.Targets.{IsNextFall, HasNoFall};
 ghost use Rattle.sdm_speed.specs.Zones.{IsZone, IsNextOf, has_start, nearer};

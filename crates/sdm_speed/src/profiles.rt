@@ -1,10 +1,9 @@
 //! The speed profile of a train on a track. The restrictions stand beside their zones in one order, so that a revocation finds the
 //! zone by the restriction's place.
 
-ghost use Rattle.std.specs.Prelude.{◌≡◌, ℕ, ℤ, pos, ◌+◌, ◌++◌, ◌∷◌, [], ◌<◌, ◌≤◌, ◌≤ℤ◌, All, Some, None, IfOk, MatchOption, MatchResult, OnOk, OnErr, length, min, slice_get, vec_len, vec_capacity, position, IsTrue, IfSome};
+ghost use Rattle.std.specs.Prelude.{◌≡◌, pos, ◌+◌, ◌<◌, ◌≤◌, ◌≤ℤ◌, All, Some, None, IfOk, IfErr, IfSome, MatchOption, OnOk, OnErr, min, position, vec_len, vec_capacity};
 ghost use Rattle.std.specs.FinMap as finite;
 ghost use Rattle.std.specs.Int.{int_gap};
-ghost use Rattle.std.specs.Ordering.{nat_cmp};
 ghost use Rattle.sdm_rules.specs.Cells.{lowest};
 ghost use Rattle.sdm_rules.specs.Profile.{zones_of_track, zone_of, end_for};
 ghost use Rattle.sdm_rules.specs.Records.{restrict_fault, revoke_fault, most_restrictions};
@@ -12,7 +11,7 @@ ghost use Rattle.sdm_rules.specs.Targets.{IsNextFall, HasNoFall};
 ghost use Rattle.sdm_track.specs.Ranges.{AreSpeeds, longest_track};
 ghost use Rattle.sdm_speed.specs.Zones.{IsLimit, IsZone, IsFallInRange};
 ghost use Rattle.sdm_speed.specs.Held.{has_id};
-ghost use Rattle.sdm_speed.specs.Profiles.{mrsp_of, IsProfile};
+ghost use Rattle.sdm_speed.specs.Profiles.{mrsp_of, new_profile, IsProfile};
 
 use crate::falls;
 use crate::zones::{self, Zone};
@@ -141,7 +140,7 @@ impl Profile {
         requires fastest { max_speed ≤ 500 }
         requires shortest { 1 ≤ length_cm }
         requires longest { length_cm ≤ 150_000 }
-        ensures { IfOk result (λ profile. profile ≡ record { max_speed = max_speed; length_cm = pos length_cm; track_cm = track.now.length_cm; speeds = track.now.speeds; restrictions = finite.empty }) }
+        ensures { IfOk result (λ profile. profile ≡ new_profile track.now max_speed length_cm) }
     {
         let track_cm = track.length_cm();
         let speeds = speeds_of(alloc, track)?;
@@ -195,8 +194,9 @@ impl Profile {
     pub fn set(&mut self, r: Restriction) -> Result<(), RestrictFault>
         requires slowest { 1 ≤ r.speed }
         requires fastest { r.speed ≤ 500 }
-        ensures answer { MatchResult result (λ _. restrict_fault self.old.track_cm self.old.restrictions r ≡ None) (λ fault. restrict_fault self.old.track_cm self.old.restrictions r ≡ Some fault) }
+        ensures accepted { OnOk result (restrict_fault self.old.track_cm self.old.restrictions r ≡ None) }
         ensures added { OnOk result (self.new ≡ record self.old { restrictions = finite.insert self.old.restrictions r.id r }) }
+        ensures refused { IfErr result (λ fault. restrict_fault self.old.track_cm self.old.restrictions r ≡ Some fault) }
         ensures unchanged { OnErr result (self.new ≡ self.old) }
     {
         if let Some(fault) = self.restrict_fault(r) {
@@ -209,8 +209,9 @@ impl Profile {
 
     /// Takes a restriction out of force. Refused where none with this identity is held; the profile is then as it was. (own)
     pub fn revoke(&mut self, id: u16) -> Result<(), RevokeFault>
-        ensures answer { MatchResult result (λ _. revoke_fault self.old.restrictions id ≡ None) (λ fault. revoke_fault self.old.restrictions id ≡ Some fault) }
+        ensures accepted { OnOk result (revoke_fault self.old.restrictions id ≡ None) }
         ensures removed { OnOk result (self.new ≡ record self.old { restrictions = finite.remove self.old.restrictions id }) }
+        ensures refused { IfErr result (λ fault. revoke_fault self.old.restrictions id ≡ Some fault) }
         ensures unchanged { OnErr result (self.new ≡ self.old) }
     {
         let Some(place) = place_of(&self.held, id) else {

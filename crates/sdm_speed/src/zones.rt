@@ -1,7 +1,7 @@
 //! Zones: stretches of the track with a speed limit, of which the lowest counts where several lie over one another. Static speed
 //! profile and temporary restrictions are zones alike, so one look at them all answers for both.
 
-ghost use Rattle.std.specs.Prelude.{◌≡◌, ℕ, ℤ, All, min, ◌≤ℤ◌};
+ghost use Rattle.std.specs.Prelude.{◌≡◌, ◌≤ℤ◌, All, min};
 ghost use Rattle.std.specs.Int.{int_gap};
 ghost use Rattle.sdm_rules.specs.Cells.{lowest};
 ghost use Rattle.sdm_rules.specs.Profile.{lowest_limit};

@@ -11,9 +11,9 @@ use Rattle.sdm_rules.specs.declared.targets.Fall.{Fall}
 use Rattle.sdm_rules.specs.Profile.{Zone, static_zones, zones_of_track, zone_of}
 use Rattle.sdm_rules.specs.Targets.{is_fall, IsNextFall}
 use Rattle.sdm_speed.specs.Zones.{starts_at, has_start}
-use Rattle.sdm_speed.specs.Profiles.{ProfileData, mrsp_of, IsProfile}
+use Rattle.sdm_speed.specs.Profiles.{ProfileData, zones_of, mrsp_of, IsProfile}
 use Rattle.sdm_speed.proofs.ZoneLaws.{le_is, not_le_is}
-use Rattle.sdm_speed.proofs.StartLaws.{no_fall}
+use Rattle.sdm_speed.proofs.StartLaws.{starts_at_fall}
 use Rattle.sdm_targets.specs.Lists.{most_falls}
 
 -- ---- how many zones have begun
@@ -67,9 +67,6 @@ passed_more (z ∷ zs) at c lt here =
 
 -- ---- the zones of a profile
 
-abbrev pub zones_of : ProfileData → List Zone
-zones_of p = zones_of_track p.length_cm p.speeds ++ map (zone_of p.length_cm) (finite.values p.restrictions)
-
 static_count : (length_cm : ℤ) (first : Option ℤ) (e : SpeedStep) (es : List SpeedStep) → length (static_zones length_cm first e es) ≡ length (e ∷ es)
 static_count length_cm first e [] = refl
 static_count length_cm first e (next ∷ es) = ap suc (static_count length_cm (Some next.start) next es)
@@ -86,13 +83,6 @@ zones_few p h =
 pub falls_few : (p : ProfileData) (at : ℤ) (n : ℕ) → IsProfile p → n ≤ passed (zones_of p) at → n ≤ most_falls
 falls_few p at n h le = omega (arith, passed_most (zones_of p) at, zones_few p h)
 
-starts_where_it_falls : (p : ProfileData) (c : ℤ) → is_fall (mrsp_of p) c ≡ true → has_start (zones_of p) c ≡ true
-starts_where_it_falls p c falls = by_start (has_start (zones_of p) c) refl
-  where
-    by_start : (b : Bool) → has_start (zones_of p) c ≡ b → b ≡ true
-    by_start true e = refl
-    by_start false e = let none = no_fall p.max_speed (zones_of p) c e in absurd cc
-
 -- one fall more
 pub fall_counts : (p : ProfileData) (at : ℤ) (fall : Fall) → IsNextFall (mrsp_of p) at fall → passed (zones_of p) at + 1 ≤ passed (zones_of p) fall.cell
-fall_counts p at fall next = passed_more (zones_of p) at fall.cell next.beyond (starts_where_it_falls p fall.cell next.falls)
+fall_counts p at fall next = passed_more (zones_of p) at fall.cell next.beyond (starts_at_fall p.max_speed (zones_of p) fall.cell next.falls)

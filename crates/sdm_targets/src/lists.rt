@@ -1,7 +1,7 @@
 //! The list of the targets. The falls come first, each found from the one before it; the end of the authority lies at or past them
 //! all, so the list is in the order of places.
 
-ghost use Rattle.std.specs.Prelude.{◌≡◌, ℕ, ℤ, List, [], ◌∷◌, ◌++◌, ◌<◌, ◌≤◌, pos, None, IfOk, length, vec_capacity};
+ghost use Rattle.std.specs.Prelude.{◌≡◌, List, [], ◌∷◌, ◌++◌, ◌<◌, ◌≤◌, pos, None, IfOk, length, vec_capacity};
 ghost use Rattle.sdm_rules.specs.Cells.{cell_of, border_of};
 ghost use Rattle.sdm_rules.specs.Records.{authority_fault};
 ghost use Rattle.sdm_rules.specs.Targets.{targets_of, end_of, ends_of};

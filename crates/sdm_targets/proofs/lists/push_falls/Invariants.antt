@@ -1,9 +1,9 @@
 -- The falls that are in the list and those past the cell reached are all.
 use Rattle.std.proofs.Common.{◌≡◌, ◌++◌, ◌≤◌, ◌^◌, pos, length}
 use Rattle.std.specs.Int.{int_gap}
-use Rattle.sdm_speed.specs.Profiles.{mrsp_of}
+use Rattle.sdm_speed.specs.Profiles.{zones_of, mrsp_of}
 use Rattle.sdm_targets.specs.Lists.{falls_past}
-use Rattle.sdm_targets.proofs.CountLaws.{passed, zones_of}
+use Rattle.sdm_targets.proofs.CountLaws.{passed}
 use Rattle.sdm_targets.proofs.lists.push_falls.Given as goal
 
 abbrev pub invariant-loop-fall : goal.invariant-loop-fall

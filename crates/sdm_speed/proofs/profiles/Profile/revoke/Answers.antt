@@ -8,8 +8,8 @@ use Rattle.sdm_speed.proofs.HeldLaws.{len_is, contains_is, distinct_less, remove
 use Rattle.sdm_speed.proofs.KeptLaws.{held_count}
 use Rattle.sdm_speed.proofs.profiles.Profile.revoke.Goals as goal
 
-pub returns-in_default-clause-answer : goal.returns-in_default-clause-answer
-returns-in_default-clause-answer c =
+pub returns-in_default-clause-refused : goal.returns-in_default-clause-refused
+returns-in_default-clause-refused c =
     let place = rw c.deref.ensures.value at c.in_default.ensures in
     rw (← c.self.view_is, contains_is c.self.inside.held.items c.args.id, ← place) refl
 
@@ -41,8 +41,8 @@ invariant_of-self c =
       zones_room = omega (arith, kept.zones_room, c.remove.ensures.len, c.remove-2.ensures.len, c.remove-2.ensures.capacity);
     }
 
-pub returns-clause-answer : goal.returns-clause-answer
-returns-clause-answer c =
+pub returns-clause-accepted : goal.returns-clause-accepted
+returns-clause-accepted c =
     let place = rw c.deref.ensures.value at c.in-Some.ensures in
     rw (← c.self.view_is, contains_is c.self.inside.held.items c.args.id, ← place) refl
 
