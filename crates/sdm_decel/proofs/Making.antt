@@ -13,7 +13,7 @@ use Rattle.sdm_rules.specs.Slopes.{SlopeMap, meaning_of, bands_of, segment_of}
 use Rattle.sdm_rules.specs.Opening.{IsAcceptedKind}
 use Rattle.sdm_curve.specs.declared.faults.CurveFault.{CurveFault}
 use Rattle.sdm_curve.specs.Faults.{IsFaultOf}
-use Rattle.sdm_curve.specs.Maps.{MapData, IsMapData, IsAccepted, map_data, data_of, slope_in}
+use Rattle.sdm_curve.specs.Maps.{MapData, IsMapData, AreAccepted, map_data, handed_in, slope_in}
 use Rattle.sdm_curve.proofs.Meanings.{segment_known}
 use Rattle.sdm_decel.specs.Borders.{AreStretches}
 use Rattle.sdm_decel.specs.Slopes.{AreParts, IsFaultOfKind}
@@ -68,13 +68,13 @@ module _ (kind : SlopeKind) (d : LineData) (q : ℕ) (uppers : List ℕ) (starts
 
   -- ---- what comes of them
 
-  pub stands_for : (m : SlopeMap) → data_of m ≡ map_data q uppers starts slopes → meaning_of m ≡ slopes_of kind d
+  pub stands_for : (m : SlopeMap) → handed_in m ≡ map_data q uppers starts slopes → meaning_of m ≡ slopes_of kind d
   stands_for m is = meaning_kind kind d (map_data q uppers starts slopes) gives m map_data_is is
 
-  pub stretches_kept : (m : SlopeMap) → data_of m ≡ map_data q uppers starts slopes → AreStretches d.track d.train.length_cm m.starts
+  pub stretches_kept : (m : SlopeMap) → handed_in m ≡ map_data q uppers starts slopes → AreStretches d.track d.train.length_cm m.starts
   stretches_kept m is = subst (λ (xs : List ℤ). AreStretches d.track d.train.length_cm xs) (sym (ap (λ (x : MapData). x.starts) is)) parts.stretches
 
-  pub accepts : IsAccepted (map_data q uppers starts slopes) → IsAcceptedKind kind d
+  pub accepts : AreAccepted (map_data q uppers starts slopes) → IsAcceptedKind kind d
   accepts h = accepted_kind kind d (map_data q uppers starts slopes) gives h
 
   pub refuses : (f : CurveFault) → IsFaultOf (map_data q uppers starts slopes) f → IsFaultOfKind kind d f

@@ -15,8 +15,8 @@ use Rattle.sdm_rules.specs.Opening as opening
 use Rattle.sdm_laws.proofs.Segments.{in_segment, segment_is}
 use Rattle.sdm_curve.specs.declared.faults.CurveFault.{CurveFault}
 use Rattle.sdm_curve.specs.declared.faults.CurveFault.TheVariants.{TooWeak, TooVaried, Memory}
-use Rattle.sdm_curve.specs.Maps.{MapData, data_of, slope_in, start_in, AreStarts, IsMapData, IsStrong, IsEvenBand, IsAccepted}
-use Rattle.sdm_curve.specs.Faults.{IsFirstWeak, IsFirstVaried, IsFaultOf}
+use Rattle.sdm_curve.specs.Maps.{MapData, handed_in, slope_in, start_in, AreStarts, IsMapData, IsStrongSlope, IsEvenBand, AreAccepted}
+use Rattle.sdm_curve.specs.Faults.{IsFirstWeakSlope, IsFirstVariedBand, IsFaultOf}
 use Rattle.sdm_curve.proofs.Meanings.{rising_of, segment_known, start_least, slope_at_cell}
 use Rattle.sdm_decel.specs.Slopes.{IsFaultOfKind}
 
@@ -66,12 +66,12 @@ module _ (kind : SlopeKind) (line : LineData) (d : MapData) (gives : Gives kind 
 
   -- ---- weak slopes
 
-  strong_at : (band cell : ℕ) → band < bands_of d.uppers → IsStrong d.q (slope_in d band (segment_of d.starts (pos cell))) → opening.IsStrongAt kind line band cell
+  strong_at : (band cell : ℕ) → band < bands_of d.uppers → IsStrongSlope d.q (slope_in d band (segment_of d.starts (pos cell))) → opening.IsStrongAt kind line band cell
   strong_at band cell lt h =
       let there = gives.slope band lt (pos cell) in
       subst (λ (n : ℕ). pos (2_000_000_000 * n) ≤ℤ (pos 20 *ℤ slope_at kind line band (pos cell))) gives.q (subst (λ (z : ℤ). pos (2_000_000_000 * d.q) ≤ℤ (pos 20 *ℤ z)) (sym there) h)
 
-  first_weak : (band i : ℕ) → IsFirstWeak d band i → opening.IsFirstWeak kind line band (unsigned_abs (start_in d i)) (slope_in d band i)
+  first_weak : (band i : ℕ) → IsFirstWeakSlope d band i → opening.IsFirstWeak kind line band (unsigned_abs (start_in d i)) (slope_in d band i)
   first_weak band i h = record {
     known = omega (arith, gives.bands, h.known_band);
     value = sym (slope_at_start band i h.known_band h.known);
@@ -89,7 +89,7 @@ module _ (kind : SlopeKind) (line : LineData) (d : MapData) (gives : Gives kind 
       let wide = h (segment_of d.starts (pos cell)) (segment_of d.starts (pos cell')) (known_at (pos cell)) (known_at (pos cell')) in
       rw (here, there) (subst (λ (n : ℕ). slope_in d band (segment_of d.starts (pos cell)) ≤ℤ (pos (variation n) *ℤ slope_in d band (segment_of d.starts (pos cell')))) gives.bands wide)
 
-  first_varied : (band : ℕ) (least greatest : ℤ) → ((b : ℕ) → b < bands_of d.uppers → (i : ℕ) → i < length d.starts → IsStrong d.q (slope_in d b i)) → IsFirstVaried d band least greatest → opening.IsFirstVaried kind line band least greatest
+  first_varied : (band : ℕ) (least greatest : ℤ) → ((b : ℕ) → b < bands_of d.uppers → (i : ℕ) → i < length d.starts → IsStrongSlope d.q (slope_in d b i)) → IsFirstVariedBand d band least greatest → opening.IsFirstVaried kind line band least greatest
   first_varied band least greatest strong h = record {
     strong = λ b c lt. strong_at b c (band_known b lt) (strong b (band_known b lt) (segment_of d.starts (pos c)) (known_at (pos c)));
     known = omega (arith, gives.bands, h.known);
@@ -105,7 +105,7 @@ module _ (kind : SlopeKind) (line : LineData) (d : MapData) (gives : Gives kind 
 
   -- ---- accepted, or the first fault
 
-  pub accepted_kind : IsAccepted d → opening.IsAcceptedKind kind line
+  pub accepted_kind : AreAccepted d → opening.IsAcceptedKind kind line
   accepted_kind h = record {
     strong = λ b c lt. strong_at b c (band_known b lt) (h.strong b (band_known b lt) (segment_of d.starts (pos c)) (known_at (pos c)));
     even = λ b lt. even b (band_known b lt) (h.even b (band_known b lt));
@@ -130,7 +130,7 @@ module _ (kind : SlopeKind) (line : LineData) (d : MapData) (gives : Gives kind 
   same_slopes : (u v : Slopes) → u.q ≡ v.q → u.uppers ≡ v.uppers → ((band : ℕ) (c : ℤ) → u.slope band c ≡ v.slope band c) → u ≡ v
   same_slopes u v q uppers slope = λ i. record { q = q i; uppers = uppers i; slope = λ band c. slope band c i }
 
-  pub meaning_kind : (m : SlopeMap) → IsMapData d → data_of m ≡ d → meaning_of m ≡ slopes_of kind line
+  pub meaning_kind : (m : SlopeMap) → IsMapData d → handed_in m ≡ d → meaning_of m ≡ slopes_of kind line
   unfolding slopes_of
   meaning_kind m given is =
       let all : length m.slopes ≡ bands_of m.uppers * length m.starts = rw length-map at (subst (λ (x : MapData). length x.slopes ≡ bands_of x.uppers * length x.starts) (sym is) given.lengths) in
