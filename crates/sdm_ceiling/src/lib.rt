@@ -1,6 +1,6 @@
-//! How far the train may run above a speed limit before it is warned and braked: the margins of ceiling speed
-//! monitoring. Each is least up to 110 km/h and rises evenly from there to a greatest value. At whole km/h each is a whole
-//! number of notches, so nothing is rounded.
+//! By how much the speed may exceed a limit before the driver is warned and the brakes are commanded. Each margin is least
+//! at limits up to 110 km/h and rises evenly from there to a greatest value. At whole km/h each is a whole number of
+//! notches, so nothing is rounded.
 #![tactic(auto)]
 
 ghost use Rattle.std.specs.Prelude.{◌≡◌, ◌-◌, ◌≤◌};

@@ -6,6 +6,7 @@ use std::test::Fail;
 /// A limit in km/h, and its margins EBI, SBI and warning in notches.
 const MARGINS: &str = "\
 0 112500 82500 60000
+109 112500 82500 60000
 110 112500 82500 60000
 111 113625 83175 60500
 139 145125 102075 74500

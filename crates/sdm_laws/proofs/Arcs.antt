@@ -26,6 +26,7 @@ pub record Arc (on : Slopes) (s band : ℕ) (y x : Fraction) (c : ℕ) : Type 0 
   pub n : ℕ
   pub is : ArcIn on s band n y x c
 
+-- both ends are places
 pub arc_from : (on : Slopes) (s band : ℕ) (y x : Fraction) (c : ℕ) → Arc on s band y x c → 0 < y.m
 arc_from on s band y x c h = factor_right h.n h.is.from y.m h.is.positive h.is.from_is
 
@@ -65,17 +66,22 @@ arc_of_forward on s band x y c x_pos h = record {
   };
 }
 
-pub arc_back-is : (on : Slopes) (s band change : ℕ) (x : Fraction) → IsPositive on band → 0 < s → 0 < x.m → Arc on s band (arc_back on s band x change) x (grain_energy on change)
+-- back to a greater square
+pub arc_back-is : (on : Slopes) (s band change : ℕ) (x : Fraction) → IsPositive on band → 0 < s → 0 < x.m →
+    Arc on s band (arc_back on s band x change) x (grain_energy on change)
 unfolding arc_back
 arc_back-is on s band change x some s_pos x_pos = arc_of_back on s band x _ _ x_pos (back-is on s band _ x _ some (mul-pos s_pos x_pos) (omega arith))
 
-pub arc_forward-is : (on : Slopes) (s band change : ℕ) (x : Fraction) → IsPositive on band → 0 < s → 0 < x.m → Arc on s band x (arc_forward on s band x change) (grain_energy on change)
+-- forward to a less one
+pub arc_forward-is : (on : Slopes) (s band change : ℕ) (x : Fraction) → IsPositive on band → 0 < s → 0 < x.m →
+    Arc on s band x (arc_forward on s band x change) (grain_energy on change)
 unfolding arc_forward
 arc_forward-is on s band change x some s_pos x_pos = arc_of_forward on s band x _ _ x_pos (forward-is on s band _ x _ some (mul-pos s_pos x_pos) (omega arith))
 
 -- ---- two arcs in common steps
 
-arc_finer : (on : Slopes) (s band k n n' : ℕ) (y x : Fraction) (c : ℕ) → 0 < s → 0 < k → n' ≡ k * n → ArcIn on s band n y x c → ArcIn on s band n' y x c
+arc_finer : (on : Slopes) (s band k n n' : ℕ) (y x : Fraction) (c : ℕ) → 0 < s → 0 < k → n' ≡ k * n → ArcIn on s band n y x c →
+    ArcIn on s band n' y x c
 arc_finer on s band k n n' y x c s_pos k_pos e h =
     let fine : s * n' ≡ k * (s * n) = omega (arith, ap (λ (z : ℕ). s * z) e) in
     let way = way_finer on band k (s * n) (s * n') _ _ h.d (n * c) fine (mul-pos s_pos h.positive) h.is in
@@ -94,7 +100,8 @@ record TwoArcs (on : Slopes) (s band : ℕ) (y x : Fraction) (c : ℕ) (y' x' : 
   one : ArcIn on s band n y x c
   two : ArcIn on s band n y' x' c'
 
-in_common_steps : (on : Slopes) (s band : ℕ) (y x : Fraction) (c : ℕ) (y' x' : Fraction) (c' : ℕ) → 0 < s → Arc on s band y x c → Arc on s band y' x' c' → TwoArcs on s band y x c y' x' c'
+in_common_steps : (on : Slopes) (s band : ℕ) (y x : Fraction) (c : ℕ) (y' x' : Fraction) (c' : ℕ) → 0 < s → Arc on s band y x c →
+    Arc on s band y' x' c' → TwoArcs on s band y x c y' x' c'
 in_common_steps on s band y x c y' x' c' s_pos h h' = record {
   n = h'.n * h.n;
   one = arc_finer on s band h'.n h.n _ y x c s_pos h'.is.positive refl h.is;
@@ -102,7 +109,8 @@ in_common_steps on s band y x c y' x' c' s_pos h h' = record {
 }
 
 -- two arcs to one place: the arc between their beginnings
-pub arc_between_starts : (on : Slopes) (s band : ℕ) (x y y' : Fraction) (c c' : ℕ) → IsPositive on band → 0 < s → c' ≤ c → Arc on s band y x c → Arc on s band y' x c' → Arc on s band y y' (c - c')
+pub arc_between_starts : (on : Slopes) (s band : ℕ) (x y y' : Fraction) (c c' : ℕ) → IsPositive on band → 0 < s → c' ≤ c →
+    Arc on s band y x c → Arc on s band y' x c' → Arc on s band y y' (c - c')
 arc_between_starts on s band x y y' c c' some s_pos le h h' =
     let both = in_common_steps on s band y x c y' x c' s_pos h h' in
     let h1 = both.one in
@@ -115,7 +123,8 @@ arc_between_starts on s band x y y' c c' some s_pos le h h' =
     }
 
 -- two arcs from one place: the arc between their ends
-pub arc_between_ends : (on : Slopes) (s band : ℕ) (x y y' : Fraction) (c c' : ℕ) → IsPositive on band → 0 < s → c' ≤ c → Arc on s band x y c → Arc on s band x y' c' → Arc on s band y' y (c - c')
+pub arc_between_ends : (on : Slopes) (s band : ℕ) (x y y' : Fraction) (c c' : ℕ) → IsPositive on band → 0 < s → c' ≤ c →
+    Arc on s band x y c → Arc on s band x y' c' → Arc on s band y' y (c - c')
 arc_between_ends on s band x y y' c c' some s_pos le h h' =
     let both = in_common_steps on s band x y c x y' c' s_pos h h' in
     let h1 = both.one in
@@ -133,7 +142,8 @@ times_most : (k e n f f' : ℕ) → f ≤ e * n → f' ≤ k * f → f' ≤ (k *
 times_most k e n f f' h h' = omega (arith, mul-le-mul_left k h)
 
 -- backwards
-pub past_back : (on : Slopes) (s band k : ℕ) (x x' y y' : Fraction) (c e : ℕ) → 0 < s → IsPositive on band → IsEven on band k → IsPastBy x x' e → Arc on s band y x c → Arc on s band y' x' c → IsPastBy y y' (k * e)
+pub past_back : (on : Slopes) (s band k : ℕ) (x x' y y' : Fraction) (c e : ℕ) → 0 < s → IsPositive on band → IsEven on band k →
+    IsPastBy x x' e → Arc on s band y x c → Arc on s band y' x' c → IsPastBy y y' (k * e)
 past_back on s band k x x' y y' c e s_pos some even past h h' =
     let both = in_common_steps on s band y x c y' x' c s_pos h h' in
     let h1 = both.one in
@@ -147,7 +157,8 @@ past_back on s band k x x' y y' c e s_pos some even past h h' =
     past_of_steps both.n h1.from h2.from (k * e) y y' h1.positive h1.from_is h2.from_is (record { f = shift.f; is = shift.apart; most = most })
 
 -- and forwards
-pub past_forward : (on : Slopes) (s band k : ℕ) (x x' y y' : Fraction) (c e : ℕ) → 0 < s → IsPositive on band → IsEven on band k → IsPastBy x x' e → Arc on s band x y c → Arc on s band x' y' c → IsPastBy y y' (k * e)
+pub past_forward : (on : Slopes) (s band k : ℕ) (x x' y y' : Fraction) (c e : ℕ) → 0 < s → IsPositive on band → IsEven on band k →
+    IsPastBy x x' e → Arc on s band x y c → Arc on s band x' y' c → IsPastBy y y' (k * e)
 past_forward on s band k x x' y y' c e s_pos some even past h h' =
     let both = in_common_steps on s band x y c x' y' c s_pos h h' in
     let h1 = both.one in

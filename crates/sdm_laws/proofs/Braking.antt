@@ -41,7 +41,8 @@ bands_rise on m b (suc k) u v rising in_u in_v lt =
     omega arith
 
 -- a band that holds both squares is the one with a part between them
-same_band : (on : Slopes) (m b b' u u' : ℕ) → AreRising on.uppers → IsInBand on m b u → IsInBand on m b u' → HasBandPart on m b' u' u → b' ≡ b
+same_band : (on : Slopes) (m b b' u u' : ℕ) → AreRising on.uppers → IsInBand on m b u → IsInBand on m b u' → HasBandPart on m b' u' u →
+    b' ≡ b
 same_band on m b b' u u' rising in_u in_u' part =
     let from = part.from in
     let apart = part.apart in
@@ -62,18 +63,23 @@ part_at m p p' m_pos lt = record { apart = lt; begins = omega (arith, ints, cell
 same_slope : (on : Slopes) (band band' : ℕ) (c : ℤ) (a : ℕ) → band ≡ band' → on.slope band' c ≡ a → on.slope band c ≤ a
 same_slope on band band' c a e h = rw (e, h) (omega arith)
 
-step_within : (on : Slopes) (m : ℕ) (f : ℤ) (w : ℕ) (x y : Point) → IsUsable on → 0 < m → IsStep on m x y → IsWithin on m f w x → IsWithin on m f w y
+step_within : (on : Slopes) (m : ℕ) (f : ℤ) (w : ℕ) (x y : Point) → IsUsable on → 0 < m → IsStep on m x y → IsWithin on m f w x →
+    IsWithin on m f w y
 step_within on m f w x y usable m_pos step within =
     by_lt_z x.place y.place
     (λ (lt : x.place <ℤ y.place).
     let cell = cell_at m x.place in
-    let a_pos : 0 < step.slope = rw (← step.one_slope cell (part_at m x.place y.place m_pos lt)) (usable.positive step.band step.from_band.known cell) in
-    let steep : IsSteepest on m step.slope x y = λ band cell in_band part. same_slope on band step.band cell step.slope (same_band on m step.band band x.square y.square usable.rising step.from_band step.to_band in_band) (step.one_slope cell part) in
+    let here = step.one_slope cell (part_at m x.place y.place m_pos lt) in
+    let a_pos : 0 < step.slope = rw (← here) (usable.positive step.band step.from_band.known cell) in
+    let steep : IsSteepest on m step.slope x y = λ band cell in_band part.
+    same_slope on band step.band cell step.slope
+    (same_band on m step.band band x.square y.square usable.rising step.from_band step.to_band in_band) (step.one_slope cell part) in
     stretch on m f w step.slope x y usable m_pos a_pos steep step.brakes within)
     (λ (le : y.place ≤ℤ x.place).
     -- with no way any slope does
     let steep : IsSteepest on m 1 x y = λ band cell in_band part. absurd (clash_ℤ part.apart le) in
-    let brakes : BrakesAtLeast on 1 x.place x.square y.place y.square = record { forward = step.brakes.forward; slower = step.brakes.slower; enough = omega (arith, ints) } in
+    let given = step.brakes in
+    let brakes : BrakesAtLeast on 1 x.place x.square y.place y.square = record { forward = given.forward; slower = given.slower; enough = omega (arith, ints) } in
     stretch on m f w 1 x y usable m_pos (omega arith) steep brakes within)
 
 -- ---- at the foot
@@ -104,9 +110,11 @@ within_held on m f w x usable m_pos within =
 
 -- ---- all points
 
-pub each_held : (on : Slopes) (m : ℕ) (f : ℤ) (w : ℕ) (x : Point) (ys : List Point) → IsUsable on → 0 < m → IsBraking on m x ys → IsWithin on m f w x → AllByRecursion (IsHeld on m f w) (x ∷ ys)
+pub each_held : (on : Slopes) (m : ℕ) (f : ℤ) (w : ℕ) (x : Point) (ys : List Point) → IsUsable on → 0 < m → IsBraking on m x ys →
+    IsWithin on m f w x → AllByRecursion (IsHeld on m f w) (x ∷ ys)
 each_held on m f w x [] usable m_pos b within = (within_held on m f w x usable m_pos within, tt)
 each_held on m f w x (y ∷ ys) usable m_pos b within = (within_held on m f w x usable m_pos within, each_held on m f w y ys usable m_pos b.1 (step_within on m f w x y usable m_pos b.0 within))
 
-pub braking : (on : Slopes) (m : ℕ) (f : ℤ) (w : ℕ) (x : Point) (ys : List Point) → IsUsable on → 0 < m → IsBraking on m x ys → IsWithin on m f w x → All (IsHeld on m f w) (x ∷ ys)
+pub braking : (on : Slopes) (m : ℕ) (f : ℤ) (w : ℕ) (x : Point) (ys : List Point) → IsUsable on → 0 < m → IsBraking on m x ys →
+    IsWithin on m f w x → All (IsHeld on m f w) (x ∷ ys)
 braking on m f w x ys usable m_pos b within = All-from_recursion (IsHeld on m f w) (x ∷ ys) (each_held on m f w x ys usable m_pos b within)

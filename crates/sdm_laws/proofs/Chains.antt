@@ -17,7 +17,8 @@ use Rattle.sdm_laws.proofs.Arcs.{Arc, arc_from, arc_to}
 -- from the place `y` of the square `u` on to the place `x` of the square `w`
 pub data Chain (on : Slopes) (s : ℕ) : Fraction → ℕ → Fraction → ℕ → Type 0 where
   arrived : (y : Fraction) (u : ℕ) → 0 < y.m → Chain on s y u y u
-  along : (band : ℕ) (y x z : Fraction) (u v w : ℕ) → IsInBand on s band u → IsInBand on s band v → v ≤ u → Arc on s band y x (grain_energy on (u - v)) → Chain on s x v z w → Chain on s y u z w
+  along : (band : ℕ) (y x z : Fraction) (u v w : ℕ) → IsInBand on s band u → IsInBand on s band v → v ≤ u →
+      Arc on s band y x (grain_energy on (u - v)) → Chain on s x v z w → Chain on s y u z w
 
 pub chain_joined : (on : Slopes) (s : ℕ) (y x z : Fraction) (u v w : ℕ) → Chain on s y u x v → Chain on s x v z w → Chain on s y u z w
 chain_joined on s _ _ z _ _ w (arrived y u p) c = c

@@ -1,7 +1,7 @@
 -- Worked cases of curves, with q = 100. The slopes 200,000,000,000, 140,000,000,000 and 100,000,000,000 are 1, 0.7 and
 -- 0.5 m/s². A change of the square by c needs at 1 m/s² the way of 5 * 10^14 * c / (27 * 200,000,000,000) = 92.592.. * c
 -- grains, and of 185.185.. * c at 0.5 m/s². Feet lie at 1 m, 540,000,000,000 grains, but where it is said.
-use Rattle.std.proofs.Common.{◌≡◌, pos, [], ◌∷◌, refl}
+use Rattle.std.proofs.Common.{◌≡◌, ℕ, pos, [], ◌∷◌, refl}
 use Rattle.sdm_num.specs.Fractions.{IsSame, whole}
 use Rattle.sdm_rules.specs.Slopes.{Slopes, meaning_of}
 use Rattle.sdm_rules.specs.Curves.{back, forward, arc_back, arc_forward, place_at, stepped, exact, exact_at}
@@ -88,7 +88,14 @@ one_border_costs_a_grain = refl
 
 -- eight bands of 1 m/s² that meet at 1,000 to 7,000 notches
 abbrev eight_bands : Slopes
-eight_bands = meaning_of (record { q = 100; uppers = 1_000 ∷ 2_000 ∷ 3_000 ∷ 4_000 ∷ 5_000 ∷ 6_000 ∷ 7_000 ∷ []; starts = pos 0 ∷ []; slopes = 200_000_000_000 ∷ 200_000_000_000 ∷ 200_000_000_000 ∷ 200_000_000_000 ∷ 200_000_000_000 ∷ 200_000_000_000 ∷ 200_000_000_000 ∷ 200_000_000_000 ∷ [] })
+eight_bands =
+    let a : ℕ = 200_000_000_000 in
+    meaning_of (record {
+      q = 100;
+      uppers = 1_000 ∷ 2_000 ∷ 3_000 ∷ 4_000 ∷ 5_000 ∷ 6_000 ∷ 7_000 ∷ [];
+      starts = pos 0 ∷ [];
+      slopes = a ∷ a ∷ a ∷ a ∷ a ∷ a ∷ a ∷ a ∷ [];
+    })
 
 -- With no border it is 530,740,740,740.74. The borders cost 0.41, 0.22, 0.04, 0.85, 0.67, 0.48 and 0.30 grains, and the end
 -- 0.78.

@@ -62,7 +62,8 @@ energy_less : (on : Slopes) (a b c : ℕ) → a - b ≡ c → grain_energy on a 
 energy_less on a b c e = rw (← e) (sym (mul-sub (5_000_000_000_000 * on.q) a b))
 
 module _ (on : Slopes) (s : ℕ) (positive : ArePositive on) (s_pos : 0 < s) where
-  one_arc : (band : ℕ) (y x : Fraction) (u w : ℕ) → IsInBand on s band u → IsInBand on s band w → w ≤ u → Arc on s band y x (grain_energy on (u - w)) → Chain on s y u x w
+  one_arc : (band : ℕ) (y x : Fraction) (u w : ℕ) → IsInBand on s band u → IsInBand on s band w → w ≤ u →
+      Arc on s band y x (grain_energy on (u - w)) → Chain on s y u x w
   one_arc band y x u w in_u in_w le arc = along band y x x u w w in_u in_w le arc (arrived x w (arc_to on s band y x _ arc))
 
   -- two arcs back from one place

@@ -14,10 +14,12 @@ use Rattle.sdm_laws.proofs.CurveChains.{exact_chain}
 pub exact_positive : (on : Slopes) (s : ℕ) (f : ℤ) (w u : ℕ) → IsUsable on → 0 < s → 0 < (exact_at on s f w u).m
 exact_positive on s f w u usable s_pos = chain_from on s _ _ _ _ (exact_chain on s usable.positive s_pos f w u u (omega arith))
 
-pub exact_falls : (on : Slopes) (s : ℕ) (f : ℤ) (w u' u : ℕ) → IsUsable on → 0 < s → u' ≤ u → IsAtMost (exact_at on s f w u) (exact_at on s f w u')
+pub exact_falls : (on : Slopes) (s : ℕ) (f : ℤ) (w u' u : ℕ) → IsUsable on → 0 < s → u' ≤ u →
+    IsAtMost (exact_at on s f w u) (exact_at on s f w u')
 exact_falls on s f w u' u usable s_pos le = chain_at_most on s _ _ _ _ (exact_chain on s usable.positive s_pos f w u' u le)
 
-pub exact_before : (on : Slopes) (s : ℕ) (f : ℤ) (w u' u : ℕ) → IsUsable on → 0 < s → u' < u → IsBefore (exact_at on s f w u) (exact_at on s f w u')
+pub exact_before : (on : Slopes) (s : ℕ) (f : ℤ) (w u' u : ℕ) → IsUsable on → 0 < s → u' < u →
+    IsBefore (exact_at on s f w u) (exact_at on s f w u')
 exact_before on s f w u' u usable s_pos lt = chain_before on s _ _ _ _ usable.unit lt (exact_chain on s usable.positive s_pos f w u' u (omega arith))
 
 -- ---- at the foot

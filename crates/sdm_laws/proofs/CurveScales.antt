@@ -38,7 +38,8 @@ energy_scaled on k change big e = rw e (omega arith)
 upper_square_scaled : (on : Slopes) (s k band : ℕ) → upper_square on (k * s) band ≡ k * upper_square on s band
 upper_square_scaled on s k band = omega arith
 
-arc_scaled : (on : Slopes) (s k band : ℕ) (y x : Fraction) (c big : ℕ) → 0 < k → big ≡ k * c → Arc on (k * s) band y x big → Arc on s band (over k y) (over k x) c
+arc_scaled : (on : Slopes) (s k band : ℕ) (y x : Fraction) (c big : ℕ) → 0 < k → big ≡ k * c → Arc on (k * s) band y x big →
+    Arc on s band (over k y) (over k x) c
 arc_scaled on s k band y x c big k_pos e h =
     let n = h.n in
     let a = h.is in
@@ -78,7 +79,8 @@ module _ (on : Slopes) (s k v : ℕ) (s_pos : 0 < s) (k_pos : 0 < k) (fair : Are
 
   -- ---- over the bands
 
-  climb_scaled : (left band : ℕ) (big x : Fraction) (u z big_u big_z : ℕ) → band + left ≤ length on.uppers → big_u ≡ k * u → big_z ≡ k * z → IsPlaceOf k big x →
+  climb_scaled : (left band : ℕ) (big x : Fraction) (u z big_u big_z : ℕ) → band + left ≤ length on.uppers → big_u ≡ k * u → big_z ≡ k * z →
+      IsPlaceOf k big x →
       IsPlaceOf k (climb as_is on (k * s) left band big big_u big_z) (climb as_is on s left band x u z)
   climb_scaled zero band big x u z big_u big_z known u_is z_is h = back_scaled band (z - u) (big_z - big_u) big x (omega arith) (less_scaled k z u big_z big_u z_is u_is) h
   climb_scaled (suc left) band big x u z big_u big_z known u_is z_is h =
@@ -100,7 +102,8 @@ module _ (on : Slopes) (s k v : ℕ) (s_pos : 0 < s) (k_pos : 0 < k) (fair : Are
             ])
       ]
 
-  descend_scaled : (band : ℕ) (big x : Fraction) (u z big_u big_z : ℕ) → band ≤ length on.uppers → big_u ≡ k * u → big_z ≡ k * z → IsPlaceOf k big x →
+  descend_scaled : (band : ℕ) (big x : Fraction) (u z big_u big_z : ℕ) → band ≤ length on.uppers → big_u ≡ k * u → big_z ≡ k * z →
+      IsPlaceOf k big x →
       IsPlaceOf k (descend as_is on (k * s) band big big_u big_z) (descend as_is on s band x u z)
   descend_scaled zero big x u z big_u big_z known u_is z_is h = forward_scaled zero (u - z) (big_u - big_z) big x known (less_scaled k u z big_u big_z u_is z_is) h
   descend_scaled (suc band) big x u z big_u big_z known u_is z_is h =
@@ -145,10 +148,12 @@ module _ (on : Slopes) (s k v : ℕ) (s_pos : 0 < s) (k_pos : 0 < k) (fair : Are
 same_of : (k : ℕ) (big x : Fraction) → IsPlaceOf k big x → IsSame big (times k x)
 same_of k big x h = record { crossed = both_ways k big.m x.m big.n x.n h.not_before.crossed h.near.crossed }
   where
-    both_ways : (k big_m m : ℕ) (big_n n : ℤ) → (pos (k * big_m) *ℤ n) ≤ℤ (pos m *ℤ big_n) → (pos m *ℤ big_n) ≤ℤ (pos (k * big_m) *ℤ (n +ℤ pos (0 * m))) → pos m *ℤ big_n ≡ pos big_m *ℤ (pos k *ℤ n)
+    both_ways : (k big_m m : ℕ) (big_n n : ℤ) → (pos (k * big_m) *ℤ n) ≤ℤ (pos m *ℤ big_n) →
+        (pos m *ℤ big_n) ≤ℤ (pos (k * big_m) *ℤ (n +ℤ pos (0 * m))) → pos m *ℤ big_n ≡ pos big_m *ℤ (pos k *ℤ n)
     both_ways k big_m m big_n n low high =
         let none : n +ℤ pos (0 * m) ≡ n = omega (arith, ints) in
         rw (scale-scale big_m k n, mul_comm big_m k) (omega (arith, ints, low, rw none at high))
 
-pub exact_scaled : (on : Slopes) (s k : ℕ) (f : ℤ) (w u : ℕ) → IsUsable on → 0 < s → 0 < k → IsSame (exact_at on (k * s) f w (k * u)) (times k (exact_at on s f w u))
+pub exact_scaled : (on : Slopes) (s k : ℕ) (f : ℤ) (w u : ℕ) → IsUsable on → 0 < s → 0 < k →
+    IsSame (exact_at on (k * s) f w (k * u)) (times k (exact_at on s f w u))
 exact_scaled on s k f w u usable s_pos k_pos = same_of k _ _ (place_scaled on s k (variation (bands_of on.uppers)) s_pos k_pos (usable_fair on usable) f w u)

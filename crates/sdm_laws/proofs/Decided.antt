@@ -1,7 +1,7 @@
 -- Every opening is accepted or has a first fault: since slopes settle, each kind is decided by searches over finitely many
 -- cells, band by band; the kinds follow one another, and the authority comes last.
-use Rattle.std.proofs.Common.{◌≡◌, ℕ, ℤ, suc, pos, Option, Some, None, ◌<◌, ◌≤◌, ◌*◌, ◌*ℤ◌, ◌≤ℤ◌, ◌<ℤ◌, refl, ap, sym, subst, arith, inl, inr, min}
-use Rattle.std.specs.Prelude.{◌⊎◌, ⊤}
+use Rattle.std.proofs.Common.{◌≡◌, ℕ, ℤ, suc, pos, Option, Some, None, ◌<◌, ◌≤◌, ◌*◌, ◌*ℤ◌, ◌≤ℤ◌, ◌<ℤ◌, refl, ap, subst, arith, inl, inr, min}
+use Rattle.std.specs.Prelude.{◌⊎◌}
 use Rattle.std.proofs.lemmas.Int.{ints, by_lt_z}
 use Rattle.std.proofs.lemmas.Bool.{cases_lt}
 use Rattle.sdm_num.proofs.Ints.{scale-≤}
@@ -10,7 +10,7 @@ use Rattle.sdm_rules.specs.declared.data.SlopeKind.{SlopeKind}
 use Rattle.sdm_rules.specs.declared.data.SlopeKind.TheVariants.{Safe, Expected, Normal}
 use Rattle.sdm_rules.specs.declared.faults.AuthorityFault.{AuthorityFault}
 use Rattle.sdm_rules.specs.declared.faults.OpenFault.{OpenFault}
-use Rattle.sdm_rules.specs.declared.faults.OpenFault.TheVariants.{TooWeak, TooVaried, BadAuthority, Memory}
+use Rattle.sdm_rules.specs.declared.faults.OpenFault.TheVariants.{TooWeak, TooVaried, BadAuthority}
 use Rattle.sdm_rules.specs.Data.{LineData}
 use Rattle.sdm_rules.specs.Decelerations.{slope_at, q_of}
 use Rattle.sdm_rules.specs.Records.{authority_fault}

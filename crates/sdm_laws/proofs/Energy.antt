@@ -17,7 +17,9 @@ IsPositive on band = (c : ℤ) → 0 < on.slope band c
 abbrev pub IsEven : Slopes → ℕ → ℕ → Type 0
 IsEven on band k = (c c' : ℤ) → on.slope band c ≤ k * on.slope band c'
 
-pub energy-add : (on : Slopes) (band m : ℕ) (p : ℤ) (a b : ℕ) → energy on band m p (a + b) ≡ energy on band m p a + energy on band m (p +ℤ pos a) b
+-- ways one after the other add up
+pub energy-add : (on : Slopes) (band m : ℕ) (p : ℤ) (a b : ℕ) →
+    energy on band m p (a + b) ≡ energy on band m p a + energy on band m (p +ℤ pos a) b
 energy-add on band m p a b =
     let f : ℕ → ℕ = λ k. on.slope band (cell_at m (p +ℤ pos k)) in
     let g : ℕ → ℕ = λ k. on.slope band (cell_at m ((p +ℤ pos a) +ℤ pos k)) in
@@ -25,27 +27,27 @@ energy-add on band m p a b =
     total_same (λ k. f (a + k)) g b (λ k l. let e : p +ℤ pos (a + k) ≡ (p +ℤ pos a) +ℤ pos k = omega (arith, ints) in ap (λ (z : ℤ). on.slope band (cell_at m z)) e) in
     total-add f a b ∙ omega arith
 
--- with the same slopes
-pub energy_same : (on on' : Slopes) (band band' m : ℕ) (p : ℤ) (d : ℕ) → ((c : ℤ) → on.slope band c ≡ on'.slope band' c) → energy on band m p d ≡ energy on' band' m p d
-energy_same on on' band band' m p d same =
-    total_same (λ k. on.slope band (cell_at m (p +ℤ pos k))) (λ k. on'.slope band' (cell_at m (p +ℤ pos k))) d (λ k l. same (cell_at m (p +ℤ pos k)))
-
 -- in one cell the energy goes with the way
-pub energy_in_cell : (on : Slopes) (band m : ℕ) (p p' : ℤ) (d : ℕ) (c : ℤ) → 0 < m → p' ≡ p +ℤ pos d → IsInCell m c p → IsInCell m c p' → energy on band m p d ≡ on.slope band c * d
+pub energy_in_cell : (on : Slopes) (band m : ℕ) (p p' : ℤ) (d : ℕ) (c : ℤ) → 0 < m → p' ≡ p +ℤ pos d → IsInCell m c p → IsInCell m c p' →
+    energy on band m p d ≡ on.slope band c * d
 energy_in_cell on band m p p' d c m_pos way h h' =
     let low = h.low in
     let high = h'.high in
     total_const (λ k. on.slope band (cell_at m (p +ℤ pos k))) (on.slope band c) d
     (λ k l. ap (on.slope band) (cell_in m c (p +ℤ pos k) m_pos (omega (arith, ints)) (omega (arith, ints))))
 
-pub energy-finer : (on : Slopes) (band m m' t d : ℕ) (p : ℤ) → m' ≡ t * m → 0 < m → energy on band m' (pos t *ℤ p) (t * d) ≡ t * energy on band m p d
+-- in finer steps it is the same multiple
+pub energy-finer : (on : Slopes) (band m m' t d : ℕ) (p : ℤ) → m' ≡ t * m → 0 < m →
+    energy on band m' (pos t *ℤ p) (t * d) ≡ t * energy on band m p d
 energy-finer on band m m' t d p e m_pos =
     total_finer (λ k. on.slope band (cell_at m (p +ℤ pos k))) (λ k. on.slope band (cell_at m' (pos t *ℤ p +ℤ pos k))) t d
     (λ k j l lt. ap (on.slope band) (cell_finer m m' t k j p e m_pos lt))
 
+-- where no slope of the band is above `c`
 pub energy_at_most : (on : Slopes) (band m c d : ℕ) (p : ℤ) → ((z : ℤ) → on.slope band z ≤ c) → energy on band m p d ≤ c * d
 energy_at_most on band m c d p h = total_at_most (λ k. on.slope band (cell_at m (p +ℤ pos k))) c d (λ k l. h (cell_at m (p +ℤ pos k)))
 
+-- where none is below `c`
 pub energy_at_least : (on : Slopes) (band m c d : ℕ) (p : ℤ) → ((z : ℤ) → c ≤ on.slope band z) → c * d ≤ energy on band m p d
 energy_at_least on band m c d p h = total_at_least (λ k. on.slope band (cell_at m (p +ℤ pos k))) c d (λ k l. h (cell_at m (p +ℤ pos k)))
 
@@ -78,7 +80,8 @@ no_longer_to_end on band m p p' d d' some ends le =
     ]
 
 -- nor is the way from a beginning
-pub no_longer_from_start : (on : Slopes) (band m : ℕ) (p : ℤ) (d d' : ℕ) → IsPositive on band → energy on band m p d' ≤ energy on band m p d → d' ≤ d
+pub no_longer_from_start : (on : Slopes) (band m : ℕ) (p : ℤ) (d d' : ℕ) → IsPositive on band →
+    energy on band m p d' ≤ energy on band m p d → d' ≤ d
 no_longer_from_start on band m p d d' some le =
     elim (cases_lt d d') [
       | inl lt ↦ absurd (omega (arith, energy_from_start on band m p d' d (omega arith), energy_at_least on band m 1 (d' - d) (p +ℤ pos d) some))

@@ -20,7 +20,7 @@ use Rattle.sdm_laws.proofs.CurveNearness.{near_on}
 use Rattle.sdm_laws.proofs.TriggerOrder.{same, or_implies, and_implies}
 use Rattle.sdm_laws.proofs.Braking.{each_held}
 use Rattle.sdm_laws.proofs.StopFacts.{within_first}
-use Rattle.sdm_laws.proofs.Reaction.{each_bounded}
+use Rattle.sdm_laws.proofs.Reaction.{each_in_reach}
 use Rattle.sdm_laws.proofs.Stops.{not_past, each, all_split}
 
 pub flat_usable : LawOfFlatSlopes
@@ -56,7 +56,7 @@ flat_stop s l some covered scale p v xs first more m =
     let free = not-true (is_past 0 l.front (computed on foot 0 l.speed)) covered in
     let same_place : at +ℤ neg_ℤ (pos (0 * 1)) ≡ at = omega (arith, ints) in
     let begins = not_past on usable foot 0 l.speed 0 l.front (subst (λ (n : ℤ). is_past 0 l.front (record { n = n; m = 1 }) ≡ false) (sym same_place) free) in
-    let bounds = each_bounded scale (flat_start l) on 0 p v xs first more m.1.motion m.1.speed in
+    let bounds = each_in_reach scale (flat_start l) on 0 p v xs first more m.1.motion m.1.speed in
     let reaction = build_up_of (flat_start l) in
     let B : ℕ → ℕ → Point → Type 0 = λ way speed. IsBounded (p +ℤ pos (scale * scale * way)) (scale * speed) in
     let way : d_bec reaction 0 ≡ 0 = omega arith in

@@ -1,23 +1,23 @@
 -- The two facts of a knot fix the stepped end of an arc from a whole grain: the energy of the exact way lies between those
 -- of the two whole ways, so the way does. Code that walks, or looks up integrals, has to show just these.
-use Rattle.std.proofs.Common.{◌≡◌, ℕ, ℤ, zero, suc, pos, neg_ℤ, ◌+◌, ◌-◌, ◌*◌, ◌<◌, ◌≤◌, ◌+ℤ◌, ◌*ℤ◌, length, ap, arith, refl, sym, ◌∙◌}
+use Rattle.std.proofs.Common.{◌≡◌, ℕ, ℤ, zero, suc, pos, neg_ℤ, ◌+◌, ◌-◌, ◌*◌, ◌<◌, ◌≤◌, ◌+ℤ◌, ◌*ℤ◌, length, ap, arith, refl, ◌∙◌}
 use Rattle.std.proofs.lemmas.Int.{ints}
 use Rattle.std.proofs.Math.Nat.{mul-le-mul_left}
-use Rattle.std.proofs.lemmas.Nat.{mul-le}
 use Rattle.sdm_num.specs.Fractions.{Fraction, whole, floor}
 use Rattle.sdm_num.proofs.Ints.{scales}
 use Rattle.sdm_num.proofs.Floors.{floor_is}
 use Rattle.sdm_rules.specs.Slopes.{Slopes, IsUsable}
-use Rattle.sdm_rules.specs.Curves.{arc_back, arc_forward, grain_energy, upper_square, to_grain, climb, descend, stepped}
+use Rattle.sdm_rules.specs.Curves.{arc_back, arc_forward, grain_energy, upper_square, to_grain, climb, descend}
 use Rattle.sdm_laws.specs.Energy.{energy, IsKnot, IsKnotPast}
 use Rattle.sdm_laws.specs.CurveLaws.{HasKnots}
-use Rattle.sdm_laws.proofs.Energy.{IsPositive, energy_same, energy-finer, no_longer_to_end, shorter_to_end, no_longer_from_start, shorter_from_start}
-use Rattle.sdm_laws.proofs.Walks.{IsBackBy, IsForwardBy, one_times, back-is, forward-is}
-use Rattle.sdm_laws.proofs.BandSteps.{climb_stop, climb_on, descend_stop, descend_on, place_up, place_down}
+use Rattle.sdm_laws.proofs.Energy.{IsPositive, energy-finer, no_longer_to_end, shorter_to_end, no_longer_from_start, shorter_from_start}
+use Rattle.sdm_laws.proofs.Walks.{IsBackBy, IsForwardBy, back-is, forward-is}
+use Rattle.sdm_laws.proofs.BandSteps.{climb_on, descend_on}
 
 -- ---- the end of an arc
 
-floor_back : (on : Slopes) (band : ℕ) (f : ℤ) (d r : ℕ) (y : Fraction) → IsPositive on band → IsKnot on band f d r → IsBackBy on 1 band (whole f) y r → floor y ≡ f +ℤ neg_ℤ (pos d)
+floor_back : (on : Slopes) (band : ℕ) (f : ℤ) (d r : ℕ) (y : Fraction) → IsPositive on band → IsKnot on band f d r →
+    IsBackBy on 1 band (whole f) y r → floor y ≡ f +ℤ neg_ℤ (pos d)
 floor_back on band f d r y some knot h =
     let t = h.t in
     let m_is : y.m ≡ t = h.finer ∙ omega arith in
@@ -42,7 +42,8 @@ floor_back on band f d r y some knot h =
         (omega (arith, energy-finer on band 1 (1 * y.m) t d (f +ℤ neg_ℤ (pos d)) fine (omega arith), mul-le-mul_left t (least d refl), h.is.used)) in
         omega arith
 
-floor_forward : (on : Slopes) (band : ℕ) (f : ℤ) (d r : ℕ) (y : Fraction) → IsPositive on band → IsKnotPast on band f d r → IsForwardBy on 1 band (whole f) y r → floor y ≡ f +ℤ pos d
+floor_forward : (on : Slopes) (band : ℕ) (f : ℤ) (d r : ℕ) (y : Fraction) → IsPositive on band → IsKnotPast on band f d r →
+    IsForwardBy on 1 band (whole f) y r → floor y ≡ f +ℤ pos d
 floor_forward on band f d r y some knot h =
     let t = h.t in
     let m_is : y.m ≡ t = h.finer ∙ omega arith in
@@ -58,14 +59,16 @@ floor_forward on band f d r y some knot h =
     floor_is y.m y.n (f +ℤ pos d) (rw m_is h.positive) (rw m_is (simp scales (omega (arith, ints)))) (rw m_is (simp scales (omega (arith, ints))))
 
 -- the stepped end of an arc back from a whole grain
-pub knot_back : (on : Slopes) (band : ℕ) (at : ℤ) (d change : ℕ) → IsPositive on band → IsKnot on band at d (grain_energy on change) → floor (arc_back on 1 band (whole at) change) ≡ at +ℤ neg_ℤ (pos d)
+pub knot_back : (on : Slopes) (band : ℕ) (at : ℤ) (d change : ℕ) → IsPositive on band → IsKnot on band at d (grain_energy on change) →
+    floor (arc_back on 1 band (whole at) change) ≡ at +ℤ neg_ℤ (pos d)
 unfolding arc_back
 knot_back on band at d change some knot =
     let one : 1 * grain_energy on change ≡ grain_energy on change = omega arith in
     rw one (floor_back on band at d (grain_energy on change) _ some knot (back-is on 1 band (grain_energy on change) (whole at) (grain_energy on change) some (omega arith) (omega arith)))
 
 -- and of an arc forward
-pub knot_forward : (on : Slopes) (band : ℕ) (at : ℤ) (d change : ℕ) → IsPositive on band → IsKnotPast on band at d (grain_energy on change) → floor (arc_forward on 1 band (whole at) change) ≡ at +ℤ pos d
+pub knot_forward : (on : Slopes) (band : ℕ) (at : ℤ) (d change : ℕ) → IsPositive on band →
+    IsKnotPast on band at d (grain_energy on change) → floor (arc_forward on 1 band (whole at) change) ≡ at +ℤ pos d
 unfolding arc_forward
 knot_forward on band at d change some knot =
     let one : 1 * grain_energy on change ≡ grain_energy on change = omega arith in
@@ -73,70 +76,21 @@ knot_forward on band at d change some knot =
 
 -- ---- the stepped place, from band to band
 
--- from the foot: back where the asked speed is at least the foot speed
-pub stepped_up : (on : Slopes) (f : ℤ) (w v : ℕ) → w ≤ v → stepped on f w v ≡ floor (climb to_grain on 1 (length on.uppers) 0 (whole f) (w * w) (v * v))
-unfolding stepped
-stepped_up on f w v le =
-    let one : 1 * (w * w) ≡ w * w = omega arith in
-    let place = place_up to_grain on 1 f w (v * v) (rw one (mul-le w w v v le le)) in
-    ap floor (rw (one, ← one_times f) at place)
-
--- and forward where it is less
-pub stepped_down : (on : Slopes) (f : ℤ) (w v : ℕ) → v < w → stepped on f w v ≡ floor (descend to_grain on 1 (length on.uppers) (whole f) (w * w) (v * v))
-unfolding stepped
-stepped_down on f w v lt =
-    let one : 1 * (w * w) ≡ w * w = omega arith in
-    let place = place_down to_grain on 1 f w (v * v) (rw one (square_less v w lt)) in
-    ap floor (rw (one, ← one_times f) at place)
-  where
-    square_less : (v w : ℕ) → v < w → v * v < w * w
-    square_less v w lt = omega (arith, mul-le-mul_left v lt, mul-le-mul_left w lt)
-
 -- back to a border and on in the next band
-pub climb_knot : (on : Slopes) (left band : ℕ) (at : ℤ) (d u z : ℕ) → IsPositive on band → u < upper_square on 1 band → upper_square on 1 band < z → IsKnot on band at d (grain_energy on (upper_square on 1 band - u)) →
+pub climb_knot : (on : Slopes) (left band : ℕ) (at : ℤ) (d u z : ℕ) → IsPositive on band → u < upper_square on 1 band →
+    upper_square on 1 band < z → IsKnot on band at d (grain_energy on (upper_square on 1 band - u)) →
     climb to_grain on 1 (suc left) band (whole at) u z ≡ climb to_grain on 1 left (band + 1) (whole (at +ℤ neg_ℤ (pos d))) (upper_square on 1 band) z
 climb_knot on left band at d u z some lt further knot =
     climb_on to_grain on 1 left band (whole at) u z lt further
     ∙ ap (λ (p : ℤ). climb to_grain on 1 left (band + 1) (whole p) (upper_square on 1 band) z) (knot_back on band at d (upper_square on 1 band - u) some knot)
 
--- back within a band with a border above
-pub climb_end : (on : Slopes) (left band : ℕ) (at : ℤ) (d u z : ℕ) → IsPositive on band → u < upper_square on 1 band → z ≤ upper_square on 1 band → IsKnot on band at d (grain_energy on (z - u)) →
-    floor (climb to_grain on 1 (suc left) band (whole at) u z) ≡ at +ℤ neg_ℤ (pos d)
-climb_end on left band at d u z some lt below knot = ap floor (climb_stop to_grain on 1 left band (whole at) u z lt below) ∙ knot_back on band at d (z - u) some knot
-
--- back in the last band
-pub climb_top : (on : Slopes) (band : ℕ) (at : ℤ) (d u z : ℕ) → IsPositive on band → IsKnot on band at d (grain_energy on (z - u)) → floor (climb to_grain on 1 zero band (whole at) u z) ≡ at +ℤ neg_ℤ (pos d)
-climb_top on band at d u z some knot = knot_back on band at d (z - u) some knot
-
 -- forward to a border and on in the band below
-pub descend_knot : (on : Slopes) (band : ℕ) (at : ℤ) (d u z : ℕ) → IsPositive on (suc band) → upper_square on 1 band < u → z < upper_square on 1 band → IsKnotPast on (suc band) at d (grain_energy on (u - upper_square on 1 band)) →
+pub descend_knot : (on : Slopes) (band : ℕ) (at : ℤ) (d u z : ℕ) → IsPositive on (suc band) → upper_square on 1 band < u →
+    z < upper_square on 1 band → IsKnotPast on (suc band) at d (grain_energy on (u - upper_square on 1 band)) →
     descend to_grain on 1 (suc band) (whole at) u z ≡ descend to_grain on 1 band (whole (at +ℤ pos d)) (upper_square on 1 band) z
 descend_knot on band at d u z some lt further knot =
     descend_on to_grain on 1 band (whole at) u z lt further
     ∙ ap (λ (p : ℤ). descend to_grain on 1 band (whole p) (upper_square on 1 band) z) (knot_forward on (suc band) at d (u - upper_square on 1 band) some knot)
-
--- forward within a band with a border below
-pub descend_end : (on : Slopes) (band : ℕ) (at : ℤ) (d u z : ℕ) → IsPositive on (suc band) → upper_square on 1 band < u → upper_square on 1 band ≤ z → IsKnotPast on (suc band) at d (grain_energy on (u - z)) →
-    floor (descend to_grain on 1 (suc band) (whole at) u z) ≡ at +ℤ pos d
-descend_end on band at d u z some lt above knot = ap floor (descend_stop to_grain on 1 band (whole at) u z lt above) ∙ knot_forward on (suc band) at d (u - z) some knot
-
--- forward in the first band
-pub descend_bottom : (on : Slopes) (at : ℤ) (d u z : ℕ) → IsPositive on 0 → IsKnotPast on 0 at d (grain_energy on (u - z)) → floor (descend to_grain on 1 zero (whole at) u z) ≡ at +ℤ pos d
-descend_bottom on at d u z some knot = knot_forward on 0 at d (u - z) some knot
-
--- ---- the same slopes have the same knots
-
-pub knot_same : (on on' : Slopes) (band band' : ℕ) (f : ℤ) (d r : ℕ) → ((c : ℤ) → on.slope band c ≡ on'.slope band' c) → IsKnot on band f d r → IsKnot on' band' f d r
-knot_same on on' band band' f d r same knot = record {
-  enough = rw (energy_same on' on band' band 1 (f +ℤ neg_ℤ (pos d)) d (λ c. sym (same c))) knot.enough;
-  least = λ d' e. rw (energy_same on' on band' band 1 (f +ℤ neg_ℤ (pos d')) d' (λ c. sym (same c))) (knot.least d' e);
-}
-
-pub knot_past_same : (on on' : Slopes) (band band' : ℕ) (f : ℤ) (d r : ℕ) → ((c : ℤ) → on.slope band c ≡ on'.slope band' c) → IsKnotPast on band f d r → IsKnotPast on' band' f d r
-knot_past_same on on' band band' f d r same knot = record {
-  within = rw (energy_same on' on band' band 1 f d (λ c. sym (same c))) knot.within;
-  greatest = rw (energy_same on' on band' band 1 f (suc d) (λ c. sym (same c))) knot.greatest;
-}
 
 -- ---- all of it, in one band
 

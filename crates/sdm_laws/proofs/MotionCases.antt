@@ -37,7 +37,9 @@ from_cell_8 cell le = slope_in_segment two_segments 0 cell 1 starts_rise (record
 
 -- Over the cells 6 and 7 the square falls by 2 * 58,320,000 at 1 m/s², and over the cells 8 and 9 by 58,320,000 at 0.5 m/s².
 -- The steps meet where the slope changes: a step does not ask for the slope of a cell that it only touches.
-steps_meet_where_the_slope_changes : IsBraking (meaning_of two_segments) 1 (record { place = pos 32_400_000_000; square = 174_960_000 }) (record { place = pos 43_200_000_000; square = 58_320_000 } ∷ record { place = pos 54_000_000_000; square = 0 } ∷ [])
+steps_meet_where_the_slope_changes :
+    IsBraking (meaning_of two_segments) 1 (record { place = pos 32_400_000_000; square = 174_960_000 })
+    (record { place = pos 43_200_000_000; square = 58_320_000 } ∷ record { place = pos 54_000_000_000; square = 0 } ∷ [])
 steps_meet_where_the_slope_changes = (
   record {
     band = 0;
@@ -68,7 +70,8 @@ abbrev two_bands : Slopes
 two_bands = meaning_of (record { q = 100; uppers = 8_000 ∷ []; starts = pos 0 ∷ []; slopes = 200_000_000_000 ∷ 100_000_000_000 ∷ [] })
 
 -- no step goes from one band into another, however long its way
-no_step_over_a_border : (p p' : ℤ) → IsStep two_bands 1 (record { place = p; square = 10_000 * 10_000 }) (record { place = p'; square = 0 }) → ⊥
+no_step_over_a_border : (p p' : ℤ) →
+    IsStep two_bands 1 (record { place = p; square = 10_000 * 10_000 }) (record { place = p'; square = 0 }) → ⊥
 no_step_over_a_border p p' step = neither step.band step.from_band step.to_band
   where
     neither : (band : ℕ) → IsInBand two_bands 1 band (10_000 * 10_000) → IsInBand two_bands 1 band 0 → ⊥
@@ -97,5 +100,7 @@ these_are_slices : AreSlices gaining 0 (gained ∷ gained_more ∷ [])
 these_are_slices = (record { gains = omega arith; moves = omega arith }, (record { gains = omega arith; moves = omega arith }, tt))
 
 -- comes as far as D_bec and gets as fast as V_bec
-bounds_are_reached : last_point (record { place = pos 0; square = 0 }) (slice_ends (pos 0) 0 (gained ∷ gained_more ∷ [])) ≡ record { place = pos (d_bec (build_up_of gaining) 0); square = v_bec (build_up_of gaining) 0 * v_bec (build_up_of gaining) 0 }
+bounds_are_reached :
+    last_point (record { place = pos 0; square = 0 }) (slice_ends (pos 0) 0 (gained ∷ gained_more ∷ []))
+    ≡ record { place = pos (d_bec (build_up_of gaining) 0); square = v_bec (build_up_of gaining) 0 * v_bec (build_up_of gaining) 0 }
 bounds_are_reached = refl

@@ -1,5 +1,5 @@
 -- An input has one meaning: each part of it is read in one way, and the opening is decided in one way.
-use Rattle.std.proofs.Common.{◌≡◌, ℕ, Bool, true, false, nat_lt, List, [], Option, Some, None, length, take, drop, refl, sym, ◌∙◌, inl, inr}
+use Rattle.std.proofs.Common.{◌≡◌, ℕ, Bool, true, false, nat_lt, List, [], Option, Some, None, length, take, drop, refl, inl, inr}
 use Rattle.std.specs.Prelude.{◌⊎◌, MatchBool, Result, Ok, Err}
 use Rattle.sdm_rules.specs.declared.authorities.Authority.{Authority}
 use Rattle.sdm_rules.specs.declared.faults.DataFault.{DataFault}
@@ -9,8 +9,8 @@ use Rattle.sdm_rules.specs.Data.{LineData}
 use Rattle.sdm_rules.specs.Supervision.{opening}
 use Rattle.sdm_rules.specs.Records.{journey_from}
 use Rattle.sdm_rules.specs.Opening.{IsAccepted, IsOpenFault}
-use Rattle.sdm_rules.specs.Input.{Reader, End, TooLong, NoSplit, Toml, Data, Refused, end_of_journey, IsOpened, IsAfterData, IsAfterDocument, IsAfterDivision, IsRun, most_bytes}
-use Rattle.sdm_laws.specs.RunLaws.{IsDecided, LawOfOpening, HasOneRun}
+use Rattle.sdm_rules.specs.Input.{Reader, End, TooLong, NoSplit, Toml, Data, Refused, end_of_journey, IsAfterData, IsAfterDocument, IsAfterDivision, most_bytes}
+use Rattle.sdm_laws.specs.RunLaws.{LawOfOpening, HasOneRun}
 use Rattle.sdm_laws.proofs.Decided.{decided}
 use Rattle.sdm_laws.proofs.OneFault.{not_both, one_fault}
 

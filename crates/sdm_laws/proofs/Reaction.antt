@@ -14,7 +14,7 @@ use Rattle.sdm_rules.specs.declared.motions.Start.{Start}
 use Rattle.sdm_rules.specs.Slopes.{Slopes}
 use Rattle.sdm_rules.specs.Motion.{AreSlices, IsMotion, time_of, IsIn, slice_ends, last_point}
 use Rattle.sdm_rules.specs.Reaction.{build_up_of, v_cut_off, v_bec, d_bec}
-use Rattle.sdm_laws.specs.MotionLaws.{IsBounded}
+use Rattle.sdm_laws.specs.MotionLaws.{IsBounded, IsInReach}
 use Rattle.sdm_laws.proofs.SliceBounds.{last_speed, way_of, phase_speed, phase_way, ends_bounded, slices_split, last_speed-append, way_of-append, slice_ends-append, last_end}
 
 -- ---- one phase at a scale, over plain numbers
@@ -22,10 +22,12 @@ use Rattle.sdm_laws.proofs.SliceBounds.{last_speed, way_of, phase_speed, phase_w
 speed_at_scale : (s speed accel time v : ℕ) → v ≤ s * speed → v + 54 * accel * (s * time) ≤ s * (speed + 54 * accel * time)
 speed_at_scale s speed accel time v h = omega arith
 
-way_at_scale : (s speed accel time v way : ℕ) → v ≤ s * speed → 2 * way ≤ 1_000_000 * (2 * v + 54 * accel * (s * time)) * (s * time) → way ≤ s * s * (1_000_000 * ((speed + 27 * accel * time) * time))
+way_at_scale : (s speed accel time v way : ℕ) → v ≤ s * speed → 2 * way ≤ 1_000_000 * (2 * v + 54 * accel * (s * time)) * (s * time) →
+    way ≤ s * s * (1_000_000 * ((speed + 27 * accel * time) * time))
 way_at_scale s speed accel time v way h k = omega (arith, mul-le-mul_left (s * time) h)
 
-both_ways : (s mean at_least time rest way way' : ℕ) → mean ≤ at_least → way ≤ s * s * (1_000_000 * (mean * time)) → way' ≤ s * s * (1_000_000 * rest) → way + way' ≤ s * s * (1_000_000 * (at_least * time + rest))
+both_ways : (s mean at_least time rest way way' : ℕ) → mean ≤ at_least → way ≤ s * s * (1_000_000 * (mean * time)) →
+    way' ≤ s * s * (1_000_000 * rest) → way + way' ≤ s * s * (1_000_000 * (at_least * time + rest))
 both_ways s mean at_least time rest way way' h k k' = omega (arith, mul-le-mul_left (s * s * time) h)
 
 -- ---- both phases
@@ -62,40 +64,40 @@ module _ (s : ℕ) (start : Start) (target : ℕ) (p : ℤ) (v : ℕ) (traction 
       let build_way = way_at_scale s top start.accel2 start.berem (last_speed v traction) (way_of build) cut_off_last two in
       rw way_of-append (both_ways s mean (max mean target) start.traction _ (way_of traction) (way_of build) (omega arith) traction_way build_way)
 
-  pub ends_within : All (IsBounded (p +ℤ pos (s * s * d_bec (build_up_of start) target)) (s * v_bec (build_up_of start) target)) (slice_ends p v (traction ++ build))
-  ends_within =
+  ends_in_reach : All (IsInReach s start target p) (slice_ends p v (traction ++ build))
+  ends_in_reach =
       let q = p +ℤ pos (s * s * d_bec (build_up_of start) target) in
       let b = s * v_bec (build_up_of start) target in
+      let middle = p +ℤ pos (way_of traction) in
       let sum = way_of-append traction build in
       let far = whole_way in
       let rises : s * v_cut_off (build_up_of start) target ≤ b = mul-le-mul_left s (omega arith) in
       let cut_off = cut_off_speed in
-      let one : All (IsBounded q b) (slice_ends p v traction) = All-from_recursion (IsBounded q b) _ (ends_bounded start Traction p q v b traction parts.0 in_traction (omega arith) (omega (arith, ints))) in
-      let two : All (IsBounded q b) (slice_ends (p +ℤ pos (way_of traction)) (last_speed v traction) build) =
-      All-from_recursion (IsBounded q b) _ (ends_bounded start Build (p +ℤ pos (way_of traction)) q (last_speed v traction) b build parts.1 in_build braking_speed (omega (arith, ints))) in
-      rw slice_ends-append (All-append (IsBounded q b) _ _ one two)
+      let one = ends_bounded start Traction p q v b traction parts.0 in_traction (omega arith) (omega (arith, ints)) in
+      let two = ends_bounded start Build middle q (last_speed v traction) b build parts.1 in_build braking_speed (omega (arith, ints)) in
+      rw slice_ends-append (All-append (IsBounded q b) _ _ (All-from_recursion (IsBounded q b) _ one) (All-from_recursion (IsBounded q b) _ two))
 
-  pub last_within : IsBounded (p +ℤ pos (s * s * d_bec (build_up_of start) target)) (s * v_bec (build_up_of start) target) (last_point (record { place = p; square = v * v }) (slice_ends p v (traction ++ build)))
-  last_within =
+  last_in_reach : IsInReach s start target p (last_point (record { place = p; square = v * v }) (slice_ends p v (traction ++ build)))
+  last_in_reach =
       let far = whole_way in
-      let last : last_speed v (traction ++ build) ≤ s * v_bec (build_up_of start) target = rw last_speed-append (omega (arith, phase_speed start Build (last_speed v traction) build parts.1 in_build, braking_speed)) in
+      let speed = phase_speed start Build (last_speed v traction) build parts.1 in_build in
+      let last : last_speed v (traction ++ build) ≤ s * v_bec (build_up_of start) target = rw last_speed-append (omega (arith, speed, braking_speed)) in
       rw (last_end p v (traction ++ build)) (record { place = omega (arith, ints); square = mul-le _ _ _ _ last last })
 
 -- ---- a whole motion
 
 pub reaction : (s : ℕ) (start : Start) (on : Slopes) (target : ℕ) (p : ℤ) (v : ℕ) (xs : List Slice) (first : Point) (more : List Point) →
-    IsMotion s start on p v xs first more → v ≤ s * start.speed →
-    All (IsBounded (p +ℤ pos (s * s * d_bec (build_up_of start) target)) (s * v_bec (build_up_of start) target)) (slice_ends p v xs ++ first ∷ [])
+    IsMotion s start on p v xs first more → v ≤ s * start.speed → All (IsInReach s start target p) (slice_ends p v xs ++ first ∷ [])
 reaction s start on target p v xs first more m slow =
-    let q = p +ℤ pos (s * s * d_bec (build_up_of start) target) in
-    let b = s * v_bec (build_up_of start) target in
     let slices : AreSlices start v (m.traction ++ m.build) = subst (λ (zs : List Slice). AreSlices start v zs) m.split m.slices in
-    let ends : All (IsBounded q b) (slice_ends p v xs) = rw m.split (ends_within s start target p v m.traction m.build m.in_traction m.in_build m.traction_time m.build_time slices slow) in
-    let last : IsBounded q b first = rw (m.begins, m.split) (last_within s start target p v m.traction m.build m.in_traction m.in_build m.traction_time m.build_time slices slow) in
-    All-append (IsBounded q b) _ _ ends (All-from_recursion (IsBounded q b) (first ∷ []) (last, tt))
+    let ends = ends_in_reach s start target p v m.traction m.build m.in_traction m.in_build m.traction_time m.build_time slices slow in
+    let last = last_in_reach s start target p v m.traction m.build m.in_traction m.in_build m.traction_time m.build_time slices slow in
+    let slices_in_reach : All (IsInReach s start target p) (slice_ends p v xs) = rw m.split ends in
+    let first_in_reach : IsInReach s start target p first = rw (m.begins, m.split) last in
+    All-append (IsInReach s start target p) _ _ slices_in_reach (All-from_recursion (IsInReach s start target p) (first ∷ []) (first_in_reach, tt))
 
 -- the same, point by point
-pub each_bounded : (s : ℕ) (start : Start) (on : Slopes) (target : ℕ) (p : ℤ) (v : ℕ) (xs : List Slice) (first : Point) (more : List Point) →
-    IsMotion s start on p v xs first more → v ≤ s * start.speed →
-    AllByRecursion (IsBounded (p +ℤ pos (s * s * d_bec (build_up_of start) target)) (s * v_bec (build_up_of start) target)) (slice_ends p v xs ++ first ∷ [])
-each_bounded s start on target p v xs first more m slow = recursion_from_All (IsBounded (p +ℤ pos (s * s * d_bec (build_up_of start) target)) (s * v_bec (build_up_of start) target)) _ (reaction s start on target p v xs first more m slow)
+pub each_in_reach : (s : ℕ) (start : Start) (on : Slopes) (target : ℕ) (p : ℤ) (v : ℕ) (xs : List Slice) (first : Point) (more : List Point) →
+    IsMotion s start on p v xs first more → v ≤ s * start.speed → AllByRecursion (IsInReach s start target p) (slice_ends p v xs ++ first ∷ [])
+each_in_reach s start on target p v xs first more m slow =
+    recursion_from_All (IsInReach s start target p) _ (reaction s start on target p v xs first more m slow)

@@ -1,5 +1,5 @@
 -- Searches below a number: the first place where a test fails, and the places of the least and the greatest value.
-use Rattle.std.proofs.Common.{◌≡◌, ℕ, ℤ, zero, suc, Bool, true, false, ◌<◌, ◌≤◌, ◌≤ℤ◌, ◌<ℤ◌, arith, inl, inr, subst, refl, sym}
+use Rattle.std.proofs.Common.{◌≡◌, ℕ, ℤ, zero, suc, ◌<◌, ◌≤◌, ◌≤ℤ◌, ◌<ℤ◌, arith, inl, inr, subst}
 use Rattle.std.specs.Prelude.{◌⊎◌}
 use Rattle.std.proofs.lemmas.Int.{ints, by_lt_z}
 use Rattle.std.proofs.lemmas.Bool.{cases_lt}

@@ -60,7 +60,8 @@ cut (x ∷ xs) c h =
     low_more x xs c j le h zero l = le
     low_more x xs c j le h (suc k) l = h.low k (omega arith)
 
-    high_more : (x : ℤ) (xs : List ℤ) (c : ℤ) (j : ℕ) → IsCut xs c j → (k : ℕ) → suc j ≤ k → k < length (x ∷ xs) → c <ℤ get_or (x ∷ xs) k (pos 0)
+    high_more : (x : ℤ) (xs : List ℤ) (c : ℤ) (j : ℕ) → IsCut xs c j → (k : ℕ) → suc j ≤ k → k < length (x ∷ xs) →
+        c <ℤ get_or (x ∷ xs) k (pos 0)
     high_more x xs c j h zero l m = absurd (omega arith)
     high_more x xs c j h (suc k) l m = h.high k (omega arith) (omega arith)
 
@@ -109,14 +110,16 @@ pub record IsWayInSegment (m : ℕ) (starts : List ℤ) (i : ℕ) (p p' : ℤ) :
   pub high : (k : ℕ) → i < k → k < length starts → p' ≤ℤ cell_start m (get_or starts k (pos 0))
 
 -- so each of its steps does
-step_in_segment : (m : ℕ) (starts : List ℤ) (i : ℕ) (p p' : ℤ) (d k : ℕ) → 0 < m → p' ≡ p +ℤ pos d → k < d → IsWayInSegment m starts i p p' → IsInSegment starts (cell_at m (p +ℤ pos k)) i
+step_in_segment : (m : ℕ) (starts : List ℤ) (i : ℕ) (p p' : ℤ) (d k : ℕ) → 0 < m → p' ≡ p +ℤ pos d → k < d →
+    IsWayInSegment m starts i p p' → IsInSegment starts (cell_at m (p +ℤ pos k)) i
 step_in_segment m starts i p p' d k m_pos way lt h = record {
   known = h.known;
   low = λ some. cell_reaches m _ _ m_pos (omega (arith, ints, h.low some));
   high = λ j l known. cell_stays m _ _ m_pos (omega (arith, ints, h.high j l known));
 }
 
-pub energy_in_segment : (map : SlopeMap) (band m i : ℕ) (p p' : ℤ) (d : ℕ) → 0 < m → IsRising map.starts → IsWayInSegment m map.starts i p p' → p' ≡ p +ℤ pos d →
+pub energy_in_segment : (map : SlopeMap) (band m i : ℕ) (p p' : ℤ) (d : ℕ) → 0 < m → IsRising map.starts →
+    IsWayInSegment m map.starts i p p' → p' ≡ p +ℤ pos d →
     energy (meaning_of map) band m p d ≡ slice_index map.slopes (band * length map.starts + i) * d
 energy_in_segment map band m i p p' d m_pos rising h way =
     total_const (λ k. (meaning_of map).slope band (cell_at m (p +ℤ pos k))) (slice_index map.slopes (band * length map.starts + i)) d

@@ -1,13 +1,13 @@
 -- From some cell on the slopes of every kind and band stay the same: past all starts of gradients, and past all areas by the
 -- train length, the track under the train changes no more. So what is asked of all cells is asked of finitely many.
-use Rattle.std.proofs.Common.{◌≡◌, ℕ, ℤ, zero, suc, pos, Bool, true, false, cond, ◌&&◌, ◌||◌, List, [], ◌∷◌, ◌+◌, ◌≤◌, ◌*◌, ◌+ℤ◌, ◌-ℤ◌, ◌≤ℤ◌, ◌<ℤ◌, int_le, int_lt, unsigned_abs, refl, ap, sym, ◌∙◌, arith, rules}
+use Rattle.std.proofs.Common.{◌≡◌, ℕ, ℤ, zero, suc, pos, Bool, true, false, ◌&&◌, List, [], ◌∷◌, ◌+◌, ◌≤◌, ◌*◌, ◌+ℤ◌, ◌-ℤ◌, ◌≤ℤ◌, int_le, int_lt, unsigned_abs, refl, ap, sym, ◌∙◌, arith, rules}
 use Rattle.std.proofs.lemmas.Int.{ints, clamps}
 use Rattle.std.specs.Int.{int_min, int_max}
 use Rattle.std.specs.List.{list_any}
 use Rattle.sdm_rules.specs.declared.data.Area.{Area}
 use Rattle.sdm_rules.specs.declared.data.Gradient.{Gradient}
 use Rattle.sdm_rules.specs.declared.data.SlopeKind.{SlopeKind}
-use Rattle.sdm_rules.specs.Cells.{lowest, last_at, value_at}
+use Rattle.sdm_rules.specs.Cells.{lowest, last_at}
 use Rattle.sdm_rules.specs.Data.{LineData, TrackData}
 use Rattle.sdm_rules.specs.Decelerations.{track_gradient, is_in_force, under_train, slope_at}
 

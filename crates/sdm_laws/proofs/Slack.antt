@@ -32,7 +32,7 @@ usable_fair on h = record { positive = h.positive; even = h.even; some = first_f
     first_factor a (suc k) b p le = omega arith
 
 -- rounding down adds less than a grain
-pub past_floor : (y y' : Fraction) (e : ℕ) → IsPastBy y y' e → IsPastBy y (whole (floor y')) (e + 1)
+past_floor : (y y' : Fraction) (e : ℕ) → IsPastBy y y' e → IsPastBy y (whole (floor y')) (e + 1)
 past_floor y y' e p =
     let low : (pos y'.m *ℤ floor y') ≤ℤ y'.n = floor_low y'.m y'.n p.right in
     let high = rw scale-+ℤ at (floor_high y'.m y'.n p.right) in
@@ -43,7 +43,8 @@ past_floor y y' e p =
       near = at_most_trans y (more y' e) _ p.right p.near (record { crossed = next_grain y'.m y'.n (floor y') e high });
     }
   where
-    next_grain : (m : ℕ) (n z : ℤ) (e : ℕ) → n <ℤ (pos m *ℤ z +ℤ pos m *ℤ pos 1) → (pos 1 *ℤ (n +ℤ pos (e * m))) ≤ℤ (pos m *ℤ (z +ℤ pos ((e + 1) * 1)))
+    next_grain : (m : ℕ) (n z : ℤ) (e : ℕ) → n <ℤ (pos m *ℤ z +ℤ pos m *ℤ pos 1) →
+        (pos 1 *ℤ (n +ℤ pos (e * m))) ≤ℤ (pos m *ℤ (z +ℤ pos ((e + 1) * 1)))
     next_grain m n z e lt = rw (scale-+ℤ m z (pos ((e + 1) * 1))) (omega (arith, ints, lt))
 
 -- ---- the slack after some bands
@@ -63,12 +64,14 @@ slack_more k n e p = slack_rises k n e (k * e + 1) (omega (arith, mul-le-mul_lef
 -- ---- over the bands
 
 module _ (on : Slopes) (s k : ℕ) (s_pos : 0 < s) (fair : AreFair on k) where
-  pub back_past : (band change : ℕ) (x x' : Fraction) (e : ℕ) → band ≤ length on.uppers → IsPastBy x x' e → IsPastBy (arc_back on s band x change) (arc_back on s band x' change) (k * e)
+  back_past : (band change : ℕ) (x x' : Fraction) (e : ℕ) → band ≤ length on.uppers → IsPastBy x x' e →
+      IsPastBy (arc_back on s band x change) (arc_back on s band x' change) (k * e)
   back_past band change x x' e known past =
       let some = fair.positive band known in
       past_back on s band k x x' _ _ _ e s_pos some (fair.even band known) past (arc_back-is on s band change x some s_pos past.left) (arc_back-is on s band change x' some s_pos past.right)
 
-  pub forward_past : (band change : ℕ) (x x' : Fraction) (e : ℕ) → band ≤ length on.uppers → IsPastBy x x' e → IsPastBy (arc_forward on s band x change) (arc_forward on s band x' change) (k * e)
+  forward_past : (band change : ℕ) (x x' : Fraction) (e : ℕ) → band ≤ length on.uppers → IsPastBy x x' e →
+      IsPastBy (arc_forward on s band x change) (arc_forward on s band x' change) (k * e)
   forward_past band change x x' e known past =
       let some = fair.positive band known in
       past_forward on s band k x x' _ _ _ e s_pos some (fair.even band known) past (arc_forward-is on s band change x some s_pos past.left) (arc_forward-is on s band change x' some s_pos past.right)
@@ -117,7 +120,8 @@ module _ (on : Slopes) (s k : ℕ) (s_pos : 0 < s) (fair : AreFair on k) where
       no_more : (m : ℕ) (n : ℤ) → (pos m *ℤ n) ≤ℤ (pos m *ℤ (n +ℤ pos (0 * m)))
       no_more m n = scale-≤ m n (n +ℤ pos (0 * m)) (omega (arith, ints))
 
-  place_past : (f : ℤ) (w z : ℕ) → IsPastBy (place_at as_is on s f w z) (whole (floor (place_at to_grain on s f w z))) (slack_after k (bands_of on.uppers) 0)
+  place_past : (f : ℤ) (w z : ℕ) →
+      IsPastBy (place_at as_is on s f w z) (whole (floor (place_at to_grain on s f w z))) (slack_after k (bands_of on.uppers) 0)
   place_past f w z =
       let n = length on.uppers in
       let foot = whole (pos s *ℤ f) in
@@ -148,7 +152,7 @@ greatest_slack : greatest slack_of most_bands ≡ most_slack
 unfolding greatest
 greatest_slack = refl
 
-pub slack_at_most : (bands : ℕ) → bands ≤ most_bands → slack_of bands ≤ most_slack
+slack_at_most : (bands : ℕ) → bands ≤ most_bands → slack_of bands ≤ most_slack
 slack_at_most bands le = rw (sym greatest_slack) (at_most_greatest slack_of bands most_bands le)
 
 early_of_past : (z : ℤ) (x : Fraction) (e e' : ℕ) → IsPastBy x (whole z) e → e ≤ e' → IsEarlyFor (record { at = z; slack = e' }) x

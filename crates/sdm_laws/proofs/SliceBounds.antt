@@ -28,17 +28,20 @@ way_of (x ∷ xs) = x.length + way_of xs
 more_speed : (a v to time rest last : ℕ) → to ≤ v + 54 * a * time → last ≤ to + 54 * a * rest → last ≤ v + 54 * a * (time + rest)
 more_speed a v to time rest last g k = omega arith
 
-more_way : (a v to time length rest way : ℕ) → to ≤ v + 54 * a * time → 2 * length ≤ 1_000_000 * (v + to) * time → 2 * way ≤ 1_000_000 * (2 * to + 54 * a * rest) * rest →
+more_way : (a v to time length rest way : ℕ) → to ≤ v + 54 * a * time → 2 * length ≤ 1_000_000 * (v + to) * time →
+    2 * way ≤ 1_000_000 * (2 * to + 54 * a * rest) * rest →
     2 * (length + way) ≤ 1_000_000 * (2 * v + 54 * a * (time + rest)) * (time + rest)
 more_way a v to time length rest way g m k = omega (arith, mul-le-mul_left time g, mul-le-mul_left rest g)
 
 rest_in : (phase : Phase) (x : Slice) (xs : List Slice) → IsIn phase (x ∷ xs) → IsIn phase xs
 rest_in phase x xs h = λ k d lt. h (suc k) d (omega arith)
 
-slice_in : (start : Start) (phase : Phase) (v : ℕ) (x : Slice) (xs : List Slice) → AreSlices start v (x ∷ xs) → IsIn phase (x ∷ xs) → IsSlice (accel_in start phase) v x
+slice_in : (start : Start) (phase : Phase) (v : ℕ) (x : Slice) (xs : List Slice) → AreSlices start v (x ∷ xs) → IsIn phase (x ∷ xs) →
+    IsSlice (accel_in start phase) v x
 slice_in start phase v x xs h i = subst (λ (p : Phase). IsSlice (accel_in start p) v x) (i 0 x (omega arith)) h.0
 
-pub phase_speed : (start : Start) (phase : Phase) (v : ℕ) (xs : List Slice) → AreSlices start v xs → IsIn phase xs → last_speed v xs ≤ v + 54 * accel_in start phase * time_of xs
+pub phase_speed : (start : Start) (phase : Phase) (v : ℕ) (xs : List Slice) → AreSlices start v xs → IsIn phase xs →
+    last_speed v xs ≤ v + 54 * accel_in start phase * time_of xs
 phase_speed start phase v [] h i = omega arith
 phase_speed start phase v (x ∷ xs) h i =
     let rest = phase_speed start phase x.to xs h.1 (rest_in phase x xs i) in
@@ -67,7 +70,8 @@ ends_bounded start phase p q v b (x ∷ xs) h i slow near =
 
 -- ---- slices of one phase after those of another
 
-pub slices_split : (start : Start) (v : ℕ) (xs ys : List Slice) → AreSlices start v (xs ++ ys) → AreSlices start v xs × AreSlices start (last_speed v xs) ys
+pub slices_split : (start : Start) (v : ℕ) (xs ys : List Slice) → AreSlices start v (xs ++ ys) →
+    AreSlices start v xs × AreSlices start (last_speed v xs) ys
 slices_split start v [] ys h = (tt, h)
 slices_split start v (x ∷ xs) ys h = let k = slices_split start x.to xs ys h.1 in ((h.0, k.0), k.1)
 
@@ -79,14 +83,16 @@ pub way_of-append : (xs ys : List Slice) → way_of (xs ++ ys) ≡ way_of xs + w
 way_of-append [] ys = omega arith
 way_of-append (x ∷ xs) ys = let e = way_of-append xs ys in omega arith
 
-pub slice_ends-append : (p : ℤ) (v : ℕ) (xs ys : List Slice) → slice_ends p v (xs ++ ys) ≡ slice_ends p v xs ++ slice_ends (p +ℤ pos (way_of xs)) (last_speed v xs) ys
+pub slice_ends-append : (p : ℤ) (v : ℕ) (xs ys : List Slice) →
+    slice_ends p v (xs ++ ys) ≡ slice_ends p v xs ++ slice_ends (p +ℤ pos (way_of xs)) (last_speed v xs) ys
 slice_ends-append p v [] ys = let e : p ≡ p +ℤ pos 0 = omega (arith, ints) in ap (λ (q : ℤ). slice_ends q v ys) e
 slice_ends-append p v (x ∷ xs) ys =
     let e : (p +ℤ pos x.length) +ℤ pos (way_of xs) ≡ p +ℤ pos (x.length + way_of xs) = omega (arith, ints) in
     ap (λ (zs : List Point). record { place = p +ℤ pos x.length; square = x.to * x.to } ∷ zs)
     (slice_ends-append (p +ℤ pos x.length) x.to xs ys ∙ ap (λ (q : ℤ). slice_ends (p +ℤ pos x.length) x.to xs ++ slice_ends q (last_speed x.to xs) ys) e)
 
-pub last_end : (p : ℤ) (v : ℕ) (xs : List Slice) → last_point (record { place = p; square = v * v }) (slice_ends p v xs) ≡ record { place = p +ℤ pos (way_of xs); square = last_speed v xs * last_speed v xs }
+pub last_end : (p : ℤ) (v : ℕ) (xs : List Slice) →
+    last_point (record { place = p; square = v * v }) (slice_ends p v xs) ≡ record { place = p +ℤ pos (way_of xs); square = last_speed v xs * last_speed v xs }
 last_end p v [] = let e : p ≡ p +ℤ pos 0 = omega (arith, ints) in ap (λ (q : ℤ). record { place = q; square = v * v }) e
 last_end p v (x ∷ xs) =
     let e : (p +ℤ pos x.length) +ℤ pos (way_of xs) ≡ p +ℤ pos (x.length + way_of xs) = omega (arith, ints) in

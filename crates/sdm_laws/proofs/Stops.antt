@@ -38,7 +38,7 @@ use Rattle.sdm_laws.proofs.Nearness.{int_lt_in}
 use Rattle.sdm_laws.proofs.CurveNearness.{near_on}
 use Rattle.sdm_laws.proofs.Braking.{within_held, each_held}
 use Rattle.sdm_laws.proofs.MachineOrder.{AreUsable}
-use Rattle.sdm_laws.proofs.Reaction.{each_bounded}
+use Rattle.sdm_laws.proofs.Reaction.{each_in_reach}
 use Rattle.sdm_laws.proofs.StopFacts.{within_first, slower}
 
 -- ---- lists
@@ -92,7 +92,7 @@ module _ (d : LineData) (usable : IsUsable (slopes_of Safe d)) (r : OdometerRead
 
   -- the ends of slices and the first braking point are within D_bec and V_bec
   bounds : AllByRecursion (IsBounded (p +ℤ pos (s * s * d_bec_for d r t)) (s * v_bec_for d r t)) (slice_ends p v xs ++ first ∷ [])
-  bounds = each_bounded s (start_of d r) (slopes_of Safe d) (target_speed t) p v xs first more m.1.motion m.1.speed
+  bounds = each_in_reach s (start_of d r) (slopes_of Safe d) (target_speed t) p v xs first more m.1.motion m.1.speed
 
   -- where the front end is at or before the EBI on a curve from the target, the whole motion is held by that curve
   held_by_curve : is_past 0 r.max (less (computed (slopes_of Safe d) t.place (foot_speed_of t) (v_bec_for d r t)) (d_bec_for d r t)) ≡ false →

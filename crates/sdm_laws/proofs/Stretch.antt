@@ -65,7 +65,8 @@ arc_apart on s band a c y x h low =
 -- ---- the cells of a curve between two places
 
 -- each step of an arc between `p` and `p'` is in a cell that has a part there
-arc_part : (on : Slopes) (s band c : ℕ) (y x : Fraction) (p p' : ℤ) (h : Arc on s band y x c) (k : ℕ) → 0 < s → k < h.is.d → IsAtMost (whole p) y → IsBefore x (whole p') →
+arc_part : (on : Slopes) (s band c : ℕ) (y x : Fraction) (p p' : ℤ) (h : Arc on s band y x c) (k : ℕ) → 0 < s → k < h.is.d →
+    IsAtMost (whole p) y → IsBefore x (whole p') →
     HasPart s (cell_at (s * h.n) (pos h.is.from *ℤ y.n +ℤ pos k)) p p'
 arc_part on s band c y x p p' h k s_pos lt low high =
     let n = h.n in
@@ -85,7 +86,8 @@ arc_part on s band c y x p p' h k s_pos lt low high =
     }
 
 -- an arc with a step in it changes the square
-arc_moves : (on : Slopes) (s band : ℕ) (y x : Fraction) (u v k : ℕ) → ((c : ℤ) → 0 < on.slope band c) → (h : Arc on s band y x (grain_energy on (u - v))) → v ≤ u → k < h.is.d → v < u
+arc_moves : (on : Slopes) (s band : ℕ) (y x : Fraction) (u v k : ℕ) → ((c : ℤ) → 0 < on.slope band c) →
+    (h : Arc on s band y x (grain_energy on (u - v))) → v ≤ u → k < h.is.d → v < u
 arc_moves on s band y x u v k some h le lt =
     elim (cases_lt v u) [
       | inl less ↦ less
@@ -98,7 +100,8 @@ arc_moves on s band y x u v k some h le lt =
 
 module _ (on : Slopes) (s a : ℕ) (from to : Point) (s_pos : 0 < s) (positive : ArePositive on) (steep : IsSteepest on s a from to) where
   -- a curve between both places, for squares between both squares, needs a way at least as long as the slope `a` does
-  chain_apart : (y x : Fraction) (u w : ℕ) → u ≤ from.square → to.square ≤ w → Chain on s y u x w → IsAtMost (whole from.place) y → IsBefore x (whole to.place) → IsApart a (grain_energy on (u - w)) y x
+  chain_apart : (y x : Fraction) (u w : ℕ) → u ≤ from.square → to.square ≤ w → Chain on s y u x w → IsAtMost (whole from.place) y →
+      IsBefore x (whole to.place) → IsApart a (grain_energy on (u - w)) y x
   chain_apart _ _ _ _ u_le w_ge (arrived y u y_pos) low high = apart_none a _ y (let none : u - u ≡ 0 = omega arith in rw none (omega arith))
   chain_apart _ _ _ _ u_le w_ge (along band y x z u v w in_u in_v le arc rest) low high =
       let x_pos = arc_to on s band y x _ arc in
@@ -114,7 +117,8 @@ module _ (on : Slopes) (s a : ℕ) (from to : Point) (s_pos : 0 < s) (positive :
       rw (← sum) (apart_trans a _ _ y x z x_pos here further)
 
 -- a way that is no longer than the curve's does not pass it
-not_past : (a c : ℕ) (y y' : Fraction) (p p' : ℤ) → 0 < a → 0 < y.m → IsApart a c y y' → IsAtMost (whole p) y → (pos (27 * a) *ℤ p') ≤ℤ (pos (27 * a) *ℤ p +ℤ pos c) → IsAtMost (whole p') y'
+not_past : (a c : ℕ) (y y' : Fraction) (p p' : ℤ) → 0 < a → 0 < y.m → IsApart a c y y' → IsAtMost (whole p) y →
+    (pos (27 * a) *ℤ p') ≤ℤ (pos (27 * a) *ℤ p +ℤ pos c) → IsAtMost (whole p') y'
 not_past a c y y' p p' a_pos y_pos h low brakes =
     let one = simp scales at (scale-≤ ((27 * a) * y'.m) _ _ (at_most_out p y low)) in
     let two = simp scales at (scale-≤ (y.m * y'.m) _ _ brakes) in

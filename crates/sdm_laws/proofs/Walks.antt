@@ -13,7 +13,7 @@ use Rattle.sdm_laws.proofs.Cells.{IsInCell, cell_low, cell_high, start_finer, in
 use Rattle.sdm_laws.proofs.Energy.{IsPositive}
 use Rattle.sdm_laws.proofs.Ways.{IsWay, way_none, way_in_cell, way_joined, way_finer}
 
--- `y` lies before `x` by a way with the energy `r` for each step of `x`; the steps of `y` are `t` times finer
+-- `y` lies before `x` by a way with the energy `r`, as the steps of `x` count it; the steps of `y` are `t` times finer
 pub record IsBackBy (on : Slopes) (s band : ℕ) (x y : Fraction) (r : ℕ) : Type 0 where
   pub t : ℕ
   pub d : ℕ
@@ -29,8 +29,8 @@ pub record IsForwardBy (on : Slopes) (s band : ℕ) (x y : Fraction) (r : ℕ) :
   pub finer : y.m ≡ t * x.m
   pub is : IsWay on band (s * y.m) (pos t *ℤ x.n) y.n d (t * r)
 
-fine : (s t m m' : ℕ) → m' ≡ t * m → s * m' ≡ t * (s * m)
-fine s t m m' e = omega (arith, ap (λ (x : ℕ). s * x) e)
+steps_finer : (s t m m' : ℕ) → m' ≡ t * m → s * m' ≡ t * (s * m)
+steps_finer s t m m' e = omega (arith, ap (λ (x : ℕ). s * x) e)
 
 pub one_times : (z : ℤ) → z ≡ pos 1 *ℤ z
 one_times z = omega (arith, ints)
@@ -69,18 +69,21 @@ gap_before-is s x p =
       to = record { low = omega (arith, ints); high = omega (arith, ints) };
     }
 
+-- the energy is used up in the cell before `x`
 back_here : (on : Slopes) (s band fuel : ℕ) (x : Fraction) (r : ℕ) → r ≤ (27 * on.slope band (cell_before s x)) * gap_before s x →
     back on s band (suc fuel) x r ≡ record { n = pos (27 * on.slope band (cell_before s x)) *ℤ x.n +ℤ neg_ℤ (pos r); m = (27 * on.slope band (cell_before s x)) * x.m }
 unfolding back
 back_here on s band fuel x r h = search rules
 
+-- or more than that cell's is left
 back_on : (on : Slopes) (s band fuel : ℕ) (x : Fraction) (r : ℕ) → (27 * on.slope band (cell_before s x)) * gap_before s x < r →
     back on s band (suc fuel) x r ≡ back on s band fuel (record { n = cell_start (s * x.m) (cell_before s x); m = x.m }) (r - (27 * on.slope band (cell_before s x)) * gap_before s x)
 unfolding back
 back_on on s band fuel x r h = search rules
 
--- the last arc, in steps that are `k` times finer
-last_back : (on : Slopes) (band n n' k r g : ℕ) (c x y : ℤ) → 0 < n' → n' ≡ k * n → k ≡ 27 * on.slope band c → x ≡ cell_start n c +ℤ pos g → IsInCell n c x → r ≤ k * g →
+-- the last arc lies in one cell; its beginning is a step of a grid that is `k` times finer
+last_back : (on : Slopes) (band n n' k r g : ℕ) (c x y : ℤ) → 0 < n' → n' ≡ k * n → k ≡ 27 * on.slope band c → x ≡ cell_start n c +ℤ pos g →
+    IsInCell n c x → r ≤ k * g →
     y ≡ pos k *ℤ x +ℤ neg_ℤ (pos r) → IsWay on band n' y (pos k *ℤ x) r (k * r)
 last_back on band n n' k r g c x y n_pos e k_is gap_is here r_le y_is =
     let to = in_cell_finer k n n' c x e here in
@@ -91,15 +94,18 @@ last_back on band n n' k r g c x y n_pos e k_is gap_is here r_le y_is =
     rw k_is (rw k_is at (way_in_cell on band n' y (pos k *ℤ x) r c n_pos way from to))
 
 -- a whole cell's arc, and the walk on from the cell's start
-on_back : (on : Slopes) (s band : ℕ) (x z y : Fraction) (r g : ℕ) (c : ℤ) → 0 < s * x.m → z.m ≡ x.m → x.n ≡ z.n +ℤ pos g → IsInCell (s * x.m) c z.n → IsInCell (s * x.m) c x.n →
+on_back : (on : Slopes) (s band : ℕ) (x z y : Fraction) (r g : ℕ) (c : ℤ) → 0 < s * x.m → z.m ≡ x.m → x.n ≡ z.n +ℤ pos g →
+    IsInCell (s * x.m) c z.n → IsInCell (s * x.m) c x.n →
     (27 * on.slope band c) * g < r → IsBackBy on s band z y (r - (27 * on.slope band c) * g) → IsBackBy on s band x y r
 on_back on s band x z y r g c m_pos m_is gap_is from to lt h =
     let finer : y.m ≡ h.t * x.m = h.finer ∙ ap (λ (w : ℕ). h.t * w) m_is in
-    let cell = way_finer on band h.t (s * x.m) (s * y.m) z.n x.n g _ (fine s h.t x.m y.m finer) m_pos (way_in_cell on band (s * x.m) z.n x.n g c m_pos gap_is from to) in
+    let cell = way_finer on band h.t (s * x.m) (s * y.m) z.n x.n g _ (steps_finer s h.t x.m y.m finer) m_pos (way_in_cell on band (s * x.m) z.n x.n g c m_pos gap_is from to) in
     let both = way_joined on band (s * y.m) y.n (pos h.t *ℤ z.n) (pos h.t *ℤ x.n) h.d (h.t * g) _ _ h.is cell in
     record { t = h.t; d = h.d + h.t * g; positive = h.positive; finer = finer; is = rw (whole_and_left h.t r ((27 * on.slope band c) * g) lt) at both }
 
-pub back-is : (on : Slopes) (s band fuel : ℕ) (x : Fraction) (r : ℕ) → IsPositive on band → 0 < s * x.m → r ≤ fuel → IsBackBy on s band x (back on s band fuel x r) r
+-- the walk back uses up the energy that it is asked for
+pub back-is : (on : Slopes) (s band fuel : ℕ) (x : Fraction) (r : ℕ) → IsPositive on band → 0 < s * x.m → r ≤ fuel →
+    IsBackBy on s band x (back on s band fuel x r) r
 unfolding back
 back-is on s band zero x r some m_pos le =
     let none : r ≡ 0 = omega arith in
@@ -118,7 +124,7 @@ back-is on s band (suc fuel) x r some m_pos le =
         d = r;
         positive = k_pos;
         finer = refl;
-        is = last_back on band (s * x.m) (s * (k * x.m)) k r g c x.n _ (rw (fine s k x.m (k * x.m) refl) (mul-pos k_pos m_pos)) (omega arith) refl gap.is gap.to ge refl;
+        is = last_back on band (s * x.m) (s * (k * x.m)) k r g c x.n _ (rw (steps_finer s k x.m (k * x.m) refl) (mul-pos k_pos m_pos)) (omega arith) refl gap.is gap.to ge refl;
       })
     ]
 
@@ -149,18 +155,21 @@ gap_after-is s x p =
       to = record { low = omega (arith, ints); high = omega (arith, ints) };
     }
 
+-- the energy is used up in the cell at `x`
 forward_here : (on : Slopes) (s band fuel : ℕ) (x : Fraction) (r : ℕ) → r ≤ (27 * on.slope band (cell_here s x)) * gap_after s x →
     forward on s band (suc fuel) x r ≡ record { n = pos (27 * on.slope band (cell_here s x)) *ℤ x.n +ℤ pos r; m = (27 * on.slope band (cell_here s x)) * x.m }
 unfolding forward
 forward_here on s band fuel x r h = search rules
 
+-- or more than that cell's is left
 forward_on : (on : Slopes) (s band fuel : ℕ) (x : Fraction) (r : ℕ) → (27 * on.slope band (cell_here s x)) * gap_after s x < r →
     forward on s band (suc fuel) x r ≡ forward on s band fuel (record { n = cell_start (s * x.m) (cell_here s x +ℤ pos 1); m = x.m }) (r - (27 * on.slope band (cell_here s x)) * gap_after s x)
 unfolding forward
 forward_on on s band fuel x r h = search rules
 
--- the last arc
-last_forward : (on : Slopes) (band n n' k r g : ℕ) (c x z y : ℤ) → 0 < n' → n' ≡ k * n → k ≡ 27 * on.slope band c → z ≡ x +ℤ pos g → IsInCell n c x → IsInCell n c z → r ≤ k * g →
+-- the last arc; its end is a step of a grid that is `k` times finer
+last_forward : (on : Slopes) (band n n' k r g : ℕ) (c x z y : ℤ) → 0 < n' → n' ≡ k * n → k ≡ 27 * on.slope band c → z ≡ x +ℤ pos g →
+    IsInCell n c x → IsInCell n c z → r ≤ k * g →
     y ≡ pos k *ℤ x +ℤ pos r → IsWay on band n' (pos k *ℤ x) y r (k * r)
 last_forward on band n n' k r g c x z y n_pos e k_is gap_is here there r_le y_is =
     let from = in_cell_finer k n n' c x e here in
@@ -169,16 +178,20 @@ last_forward on band n n' k r g c x z y n_pos e k_is gap_is here there r_le y_is
     let to : IsInCell n' c y = record { low = omega (arith, ints, from.low); high = omega (arith, ints, end.high, gap) } in
     rw k_is (rw k_is at (way_in_cell on band n' (pos k *ℤ x) y r c n_pos y_is from to))
 
-on_forward : (on : Slopes) (s band : ℕ) (x z y : Fraction) (r g : ℕ) (c : ℤ) → 0 < s * x.m → z.m ≡ x.m → z.n ≡ x.n +ℤ pos g → IsInCell (s * x.m) c x.n → IsInCell (s * x.m) c z.n →
+-- a whole cell's arc, and the walk on from the cell's end
+on_forward : (on : Slopes) (s band : ℕ) (x z y : Fraction) (r g : ℕ) (c : ℤ) → 0 < s * x.m → z.m ≡ x.m → z.n ≡ x.n +ℤ pos g →
+    IsInCell (s * x.m) c x.n → IsInCell (s * x.m) c z.n →
     (27 * on.slope band c) * g < r → IsForwardBy on s band z y (r - (27 * on.slope band c) * g) → IsForwardBy on s band x y r
 on_forward on s band x z y r g c m_pos m_is gap_is from to lt h =
     let finer : y.m ≡ h.t * x.m = h.finer ∙ ap (λ (w : ℕ). h.t * w) m_is in
-    let cell = way_finer on band h.t (s * x.m) (s * y.m) x.n z.n g _ (fine s h.t x.m y.m finer) m_pos (way_in_cell on band (s * x.m) x.n z.n g c m_pos gap_is from to) in
+    let cell = way_finer on band h.t (s * x.m) (s * y.m) x.n z.n g _ (steps_finer s h.t x.m y.m finer) m_pos (way_in_cell on band (s * x.m) x.n z.n g c m_pos gap_is from to) in
     let both = way_joined on band (s * y.m) (pos h.t *ℤ x.n) (pos h.t *ℤ z.n) y.n (h.t * g) h.d _ _ cell h.is in
     let whole = add_comm _ _ ∙ whole_and_left h.t r ((27 * on.slope band c) * g) lt in
     record { t = h.t; d = h.t * g + h.d; positive = h.positive; finer = finer; is = rw whole at both }
 
-pub forward-is : (on : Slopes) (s band fuel : ℕ) (x : Fraction) (r : ℕ) → IsPositive on band → 0 < s * x.m → r ≤ fuel → IsForwardBy on s band x (forward on s band fuel x r) r
+-- the walk forward uses up the energy that it is asked for
+pub forward-is : (on : Slopes) (s band fuel : ℕ) (x : Fraction) (r : ℕ) → IsPositive on band → 0 < s * x.m → r ≤ fuel →
+    IsForwardBy on s band x (forward on s band fuel x r) r
 unfolding forward
 forward-is on s band zero x r some m_pos le =
     let none : r ≡ 0 = omega arith in
@@ -197,6 +210,6 @@ forward-is on s band (suc fuel) x r some m_pos le =
         d = r;
         positive = k_pos;
         finer = refl;
-        is = last_forward on band (s * x.m) (s * (k * x.m)) k r g c x.n (cell_start (s * x.m) (c +ℤ pos 1)) _ (rw (fine s k x.m (k * x.m) refl) (mul-pos k_pos m_pos)) (omega arith) refl gap.is gap.from gap.to ge refl;
+        is = last_forward on band (s * x.m) (s * (k * x.m)) k r g c x.n (cell_start (s * x.m) (c +ℤ pos 1)) _ (rw (steps_finer s k x.m (k * x.m) refl) (mul-pos k_pos m_pos)) (omega arith) refl gap.is gap.from gap.to ge refl;
       })
     ]

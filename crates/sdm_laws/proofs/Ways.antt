@@ -20,11 +20,14 @@ pub record IsWay (on : Slopes) (band n : ℕ) (y x : ℤ) (d r : ℕ) : Type 0 w
 pub way_none : (on : Slopes) (band n : ℕ) (x : ℤ) → IsWay on band n x x 0 0
 way_none on band n x = record { way = omega (arith, ints); used = omega (arith, total-zero (λ k. on.slope band (cell_at n (x +ℤ pos k)))) }
 
-pub way_in_cell : (on : Slopes) (band n : ℕ) (y x : ℤ) (d : ℕ) (c : ℤ) → 0 < n → x ≡ y +ℤ pos d → IsInCell n c y → IsInCell n c x → IsWay on band n y x d ((27 * on.slope band c) * d)
+-- a way in one cell
+pub way_in_cell : (on : Slopes) (band n : ℕ) (y x : ℤ) (d : ℕ) (c : ℤ) → 0 < n → x ≡ y +ℤ pos d → IsInCell n c y → IsInCell n c x →
+    IsWay on band n y x d ((27 * on.slope band c) * d)
 way_in_cell on band n y x d c n_pos way h h' = record { way = way; used = omega (arith, energy_in_cell on band n y x d c n_pos way h h') }
 
 -- two ways one after the other
-pub way_joined : (on : Slopes) (band n : ℕ) (y x z : ℤ) (d d' r r' : ℕ) → IsWay on band n y x d r → IsWay on band n x z d' r' → IsWay on band n y z (d + d') (r + r')
+pub way_joined : (on : Slopes) (band n : ℕ) (y x z : ℤ) (d d' r r' : ℕ) → IsWay on band n y x d r → IsWay on band n x z d' r' →
+    IsWay on band n y z (d + d') (r + r')
 way_joined on band n y x z d d' r r' h h' =
     let way = h.way in
     let way' = h'.way in
@@ -32,13 +35,15 @@ way_joined on band n y x z d d' r r' h h' =
     record { way = omega (arith, ints); used = omega (arith, energy-add on band n y d d', h.used, h'.used) }
 
 -- a way in finer steps
-pub way_finer : (on : Slopes) (band k n n' : ℕ) (y x : ℤ) (d r : ℕ) → n' ≡ k * n → 0 < n → IsWay on band n y x d r → IsWay on band n' (pos k *ℤ y) (pos k *ℤ x) (k * d) (k * r)
+pub way_finer : (on : Slopes) (band k n n' : ℕ) (y x : ℤ) (d r : ℕ) → n' ≡ k * n → 0 < n → IsWay on band n y x d r →
+    IsWay on band n' (pos k *ℤ y) (pos k *ℤ x) (k * d) (k * r)
 way_finer on band k n n' y x d r e n_pos h =
     let used = ap (λ (z : ℕ). k * z) h.used in
     record { way = ap (λ (z : ℤ). pos k *ℤ z) h.way ∙ scale-+ℤ k y (pos d); used = omega (arith, energy-finer on band n n' k d y e n_pos) }
 
 -- two ways to one end: what lies between their beginnings
-pub way_between_starts : (on : Slopes) (band n : ℕ) (y y' x : ℤ) (d d' r r' : ℕ) → IsPositive on band → r' ≤ r → IsWay on band n y x d r → IsWay on band n y' x d' r' → IsWay on band n y y' (d - d') (r - r')
+pub way_between_starts : (on : Slopes) (band n : ℕ) (y y' x : ℤ) (d d' r r' : ℕ) → IsPositive on band → r' ≤ r → IsWay on band n y x d r →
+    IsWay on band n y' x d' r' → IsWay on band n y y' (d - d') (r - r')
 way_between_starts on band n y y' x d d' r r' some le h h' =
     let ends : y +ℤ pos d ≡ y' +ℤ pos d' = sym h.way ∙ h'.way in
     let used = h.used in
@@ -47,7 +52,8 @@ way_between_starts on band n y y' x d d' r r' some le h h' =
     record { way = omega (arith, ints); used = omega (arith, energy_to_end on band n y y' d d' ends d_le) }
 
 -- two ways from one beginning: what lies between their ends
-pub way_between_ends : (on : Slopes) (band n : ℕ) (x y y' : ℤ) (d d' r r' : ℕ) → IsPositive on band → r' ≤ r → IsWay on band n x y d r → IsWay on band n x y' d' r' → IsWay on band n y' y (d - d') (r - r')
+pub way_between_ends : (on : Slopes) (band n : ℕ) (x y y' : ℤ) (d d' r r' : ℕ) → IsPositive on band → r' ≤ r → IsWay on band n x y d r →
+    IsWay on band n x y' d' r' → IsWay on band n y' y (d - d') (r - r')
 way_between_ends on band n x y y' d d' r r' some le h h' =
     let way = h.way in
     let way' = h'.way in
@@ -84,7 +90,8 @@ shifted_forward on band n y y' d d' e some same way =
     record { f = (e + d) - d'; apart = omega (arith, ints); same = omega (arith, energy_from_start on band n y' (e + d) d' d_le) }
 
 -- so it lies at most `k * e` past it
-pub shifted_at_most : (on : Slopes) (band n k : ℕ) (y y' x' : ℤ) (e : ℕ) → IsPositive on band → IsEven on band k → (s : IsShifted on band n y y' x' e) → s.f ≤ k * e
+pub shifted_at_most : (on : Slopes) (band n k : ℕ) (y y' x' : ℤ) (e : ℕ) → IsPositive on band → IsEven on band k →
+    (s : IsShifted on band n y y' x' e) → s.f ≤ k * e
 shifted_at_most on band n k y y' x' e some even s =
     let g = energy on band n x' e in
     let each : (j : ℕ) → j < s.f → g ≤ (k * e) * on.slope band (cell_at n (y' +ℤ pos j)) =

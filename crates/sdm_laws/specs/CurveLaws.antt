@@ -29,17 +29,21 @@ LawOfRounding = (on : Slopes) (f : ℤ) (w v : ℕ) → IsUsable on → IsRounde
 
 -- ---- exact places
 
--- On usable slopes every exact place is a fraction (own).
+-- On usable slopes every exact place is a fraction: its denominator is above 0 (own).
 abbrev pub LawOfFractions : Type 0
 LawOfFractions = (on : Slopes) (s : ℕ) (f : ℤ) (w u : ℕ) → IsUsable on → 0 < s → 0 < (exact_at on s f w u).m
 
 -- On usable slopes the place of a greater square is before that of a less one (own).
 abbrev pub LawOfOrder : Type 0
-LawOfOrder = (on : Slopes) (s : ℕ) (f : ℤ) (w u' u : ℕ) → IsUsable on → 0 < s → u' < u → IsBefore (exact_at on s f w u) (exact_at on s f w u')
+LawOfOrder =
+    (on : Slopes) (s : ℕ) (f : ℤ) (w u' u : ℕ) → IsUsable on → 0 < s → u' < u →
+    IsBefore (exact_at on s f w u) (exact_at on s f w u')
 
 -- On usable slopes, at `k` times the scale, the place of `k` times the square is `k` times the place (own).
 abbrev pub LawOfScale : Type 0
-LawOfScale = (on : Slopes) (s k : ℕ) (f : ℤ) (w u : ℕ) → IsUsable on → 0 < s → 0 < k → IsSame (exact_at on (k * s) f w (k * u)) (times k (exact_at on s f w u))
+LawOfScale =
+    (on : Slopes) (s k : ℕ) (f : ℤ) (w u : ℕ) → IsUsable on → 0 < s → 0 < k →
+    IsSame (exact_at on (k * s) f w (k * u)) (times k (exact_at on s f w u))
 
 -- the curve is at its foot at its foot speed (own)
 pub record IsAtFoot (on : Slopes) (f : ℤ) (w : ℕ) : Type 0 where
@@ -55,12 +59,22 @@ LawOfFoot = (on : Slopes) (f : ℤ) (w : ℕ) → IsAtFoot on f w
 -- What the two facts of a knot give: the stepped end of an arc from a whole grain, back and forward; and so the stepped
 -- place goes back from a border of the band to the next, and forward to the one below (own).
 pub record HasKnots (on : Slopes) (band : ℕ) : Type 0 where
-  pub back : (at : ℤ) (d change : ℕ) → IsKnot on band at d (grain_energy on change) → floor (arc_back on 1 band (whole at) change) ≡ at +ℤ neg_ℤ (pos d)
-  pub ahead : (at : ℤ) (d change : ℕ) → IsKnotPast on band at d (grain_energy on change) → floor (arc_forward on 1 band (whole at) change) ≡ at +ℤ pos d
-  pub climbs : (left : ℕ) (at : ℤ) (d u z : ℕ) → u < upper_square on 1 band → upper_square on 1 band < z → IsKnot on band at d (grain_energy on (upper_square on 1 band - u)) →
-      climb to_grain on 1 (suc left) band (whole at) u z ≡ climb to_grain on 1 left (band + 1) (whole (at +ℤ neg_ℤ (pos d))) (upper_square on 1 band) z
-  pub descends : (below : ℕ) (at : ℤ) (d u z : ℕ) → band ≡ suc below → upper_square on 1 below < u → z < upper_square on 1 below → IsKnotPast on band at d (grain_energy on (u - upper_square on 1 below)) →
-      descend to_grain on 1 band (whole at) u z ≡ descend to_grain on 1 below (whole (at +ℤ pos d)) (upper_square on 1 below) z
+  pub back :
+      (at : ℤ) (d change : ℕ) → IsKnot on band at d (grain_energy on change) →
+      floor (arc_back on 1 band (whole at) change) ≡ at +ℤ neg_ℤ (pos d)
+  pub ahead :
+      (at : ℤ) (d change : ℕ) → IsKnotPast on band at d (grain_energy on change) →
+      floor (arc_forward on 1 band (whole at) change) ≡ at +ℤ pos d
+  pub climbs :
+      (left : ℕ) (at : ℤ) (d u z : ℕ) → u < upper_square on 1 band → upper_square on 1 band < z →
+      IsKnot on band at d (grain_energy on (upper_square on 1 band - u)) →
+      climb to_grain on 1 (suc left) band (whole at) u z
+      ≡ climb to_grain on 1 left (band + 1) (whole (at +ℤ neg_ℤ (pos d))) (upper_square on 1 band) z
+  pub descends :
+      (below : ℕ) (at : ℤ) (d u z : ℕ) → band ≡ suc below → upper_square on 1 below < u → z < upper_square on 1 below →
+      IsKnotPast on band at d (grain_energy on (u - upper_square on 1 below)) →
+      descend to_grain on 1 band (whole at) u z
+      ≡ descend to_grain on 1 below (whole (at +ℤ pos d)) (upper_square on 1 below) z
 
 -- In each band of usable slopes the facts of knots give stepped places (own).
 abbrev pub LawOfKnots : Type 0

@@ -1,7 +1,7 @@
 -- The energy that a way asks for in one band, and what fixes a whole way by its energy. These are means of proof: no
 -- definition of the profile cites them (own).
-use Rattle.std.specs.Prelude.{◌≡◌, ℕ, zero, suc, ℤ, pos, neg_ℤ, List, [], ◌+◌, ◌*◌, ◌<◌, ◌≤◌, ◌+ℤ◌}
-use Rattle.sdm_rules.specs.Slopes.{Slopes, meaning_of}
+use Rattle.std.specs.Prelude.{◌≡◌, ℕ, zero, suc, ℤ, pos, neg_ℤ, ◌+◌, ◌*◌, ◌<◌, ◌≤◌, ◌+ℤ◌}
+use Rattle.sdm_rules.specs.Slopes.{Slopes}
 use Rattle.sdm_rules.specs.Curves.{cell_at}
 
 -- f 0 + .. + f (d - 1)
@@ -22,7 +22,3 @@ pub record IsKnot (on : Slopes) (band : ℕ) (f : ℤ) (d r : ℕ) : Type 0 wher
 pub record IsKnotPast (on : Slopes) (band : ℕ) (f : ℤ) (d r : ℕ) : Type 0 where
   pub within : 27 * energy on band 1 f d ≤ r
   pub greatest : r < 27 * energy on band 1 f (suc d)
-
--- the slopes of one band, kept by segments
-abbrev pub band_map : List ℤ → List ℕ → Slopes
-band_map starts slopes = meaning_of (record { q = 0; uppers = []; starts = starts; slopes = slopes })

@@ -29,7 +29,9 @@ pub record HasBandPart (on : Slopes) (m band u' u : ℕ) : Type 0 where
 -- the slope `a` is at least that of every cell with a part between the places, in every band with a part between the
 -- squares (own)
 abbrev pub IsSteepest : Slopes → ℕ → ℕ → Point → Point → Type 0
-IsSteepest on m a x y = (band : ℕ) (cell : ℤ) → HasBandPart on m band y.square x.square → HasPart m cell x.place y.place → on.slope band cell ≤ a
+IsSteepest on m a x y =
+    (band : ℕ) (cell : ℤ) → HasBandPart on m band y.square x.square → HasPart m cell x.place y.place →
+    on.slope band cell ≤ a
 
 -- Of one stretch: a train within the curve that brakes at least with the slope `a`, the steepest of its way, is within the
 -- curve after it (own).
@@ -59,10 +61,14 @@ pub record IsBounded (q : ℤ) (b : ℕ) (x : Point) : Type 0 where
   pub place : x.place ≤ℤ q
   pub square : x.square ≤ b * b
 
+-- the point lies at most D_bec past the beginning `p`, with a speed of at most V_bec for a target speed (own)
+abbrev pub IsInReach : ℕ → Start → ℕ → ℤ → Point → Type 0
+IsInReach s start target p = IsBounded (p +ℤ pos (s * s * d_bec (build_up_of start) target)) (s * v_bec (build_up_of start) target)
+
 -- Of the reaction: in every motion that begins with at most the speed of its start, the ends of the slices and the first
 -- braking point lie at most D_bec past the beginning, with a speed of at most V_bec, for any target speed (own).
 abbrev pub LawOfReaction : Type 0
 LawOfReaction =
     (s : ℕ) (start : Start) (on : Slopes) (target : ℕ) (p : ℤ) (v : ℕ) (xs : List Slice) (first : Point) (more : List Point) →
     IsMotion s start on p v xs first more → v ≤ s * start.speed →
-    All (IsBounded (p +ℤ pos (s * s * d_bec (build_up_of start) target)) (s * v_bec (build_up_of start) target)) (slice_ends p v xs ++ first ∷ [])
+    All (IsInReach s start target p) (slice_ends p v xs ++ first ∷ [])

@@ -1,4 +1,4 @@
-//! National values that were tested. (SUBSET-026-3 3.13.2.3, A.3.2)
+//! The national values that supervision works with: each number is within its range. (SUBSET-026-3 3.13.2.3, A.3.2)
 
 ghost use Rattle.std.specs.Prelude.{◌≡◌, ◌≤ℤ◌, IfOk, pos};
 ghost use Rattle.std.specs.Result.{result_err};
@@ -44,7 +44,7 @@ impl National {
         Ok(National { fields })
     }
 
-    /// M_NVAVADH in twentieths, 0 to 20.
+    /// M_NVAVADH in twentieths, 0 to 20. The clause `accepted` says what holds of all the values.
     pub fn avadh(&self) -> i64
         ensures value { result ≡ self.now.avadh }
         ensures range { (pos 0 ≤ℤ result) × (result ≤ℤ pos 20) }

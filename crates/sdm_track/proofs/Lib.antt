@@ -1,4 +1,4 @@
-pub mod Accepted
+pub mod AcceptedTracks
 pub mod StepLaws
 pub mod LowestLaws
 pub mod WindowLaws

@@ -19,12 +19,11 @@ use Rattle.sdm_track.proofs.StepLaws.{lies_on, value_is, value_before, value_fro
 use Rattle.sdm_track.proofs.LowestLaws.{lowest_is, int_min_lower}
 use Rattle.sdm_track.proofs.WindowLaws.{lowest_under}
 
-abbrev no_segment : Segment
-no_segment = record { start = pos 0; value = pos 0 }
-
 -- ---- the segment in which a cell lies
 
-pub read_is : (list : List Segment) (i : ℕ) (c : ℤ) (s : Segment) → IsRising (λ s. s.start) list → LiesIn (λ s. s.start) list i c → s ≡ get_or list i s → s.value ≡ gradient_in list c
+-- a segment that is read at the place where a cell lies has the gradient there
+pub read_is : (list : List Segment) (i : ℕ) (c : ℤ) (s : Segment) → IsRising (λ s. s.start) list → LiesIn (λ s. s.start) list i c → s ≡ get_or list i s →
+    s.value ≡ gradient_in list c
 read_is list i c s rise lies is = ap (λ (s : Segment). s.value) is ∙ sym (value_is (λ s. s.start) (λ s. s.value) list i c s (pos 0) rise lies)
 
 -- ---- a list of segments, as one more is added
@@ -40,6 +39,7 @@ pub record EndsWith (out : List Segment) (at value : ℤ) : Type 0 where
   pub last : (d : Segment) → (get_or out (length out - 1) d).value ≡ value
   pub on : (c : ℤ) → at ≤ℤ c → gradient_in out c ≡ value
 
+-- one segment, from 0
 ends_first : (s : Segment) → s.start ≡ pos 0 → IsSegment s → EndsWith (s ∷ []) (pos 0) s.value
 ends_first s is in_range = record {
   some = omega arith;
@@ -52,6 +52,7 @@ ends_first s is in_range = record {
   on = λ c l. refl;
 }
 
+-- what ends at a cell ends at a later one
 ends_on : (out : List Segment) (at to value : ℤ) → EndsWith out at value → at ≤ℤ to → EndsWith out to value
 ends_on out at to value h le = record {
   some = h.some;
@@ -64,7 +65,8 @@ ends_on out at to value h le = record {
   on = λ c l. h.on c (omega (arith, ints));
 }
 
-module _ (out : List Segment) (s : Segment) (at value : ℤ) (h : EndsWith out at value) (later : at <ℤ s.start) (in_range : IsSegment s) (new : value ≢ s.value) where
+module _ (out : List Segment) (s : Segment) (at value : ℤ) (h : EndsWith out at value) (later : at <ℤ s.start) (in_range : IsSegment s)
+    (new : value ≢ s.value) where
   old_at : (i : ℕ) (d : Segment) → i < length out → get_or (out ++ s ∷ []) i d ≡ get_or out i d
   old_at i d l = get_or-append out (s ∷ []) d i l
 
@@ -74,6 +76,7 @@ module _ (out : List Segment) (s : Segment) (at value : ℤ) (h : EndsWith out a
   longer : length (out ++ s ∷ []) ≡ length out + 1
   longer = length-append out (s ∷ [])
 
+  -- one segment more, with another value
   ends_more : EndsWith (out ++ s ∷ []) s.start s.value
   ends_more = record {
     some = omega (arith, longer);
@@ -102,22 +105,24 @@ module _ (out : List Segment) (s : Segment) (at value : ℤ) (h : EndsWith out a
 
 -- ---- the gradients under the train
 
-abbrev under : List Gradient → ℕ → ℤ → ℤ
-under entries length_cm c = lowest int_min (track_gradient entries) (c -ℤ pos length_cm) length_cm
+-- the gradient of a front end in a cell
+abbrev gradient_under : List Gradient → ℕ → ℤ → ℤ
+gradient_under entries length_cm c = lowest int_min (track_gradient entries) (c -ℤ pos length_cm) length_cm
 
 -- of the segments made so far: the window lies under the train, they are right before its next border and end there
 pub record IsSoFar (entries : List Gradient) (length_cm : ℕ) (w : Window) (out : List Segment) (value : ℤ) : Type 0 where
   pub window : 0 < length entries → IsUnder entries length_cm w
   pub not_before : pos 0 ≤ℤ w.at
-  pub right : (c : ℤ) → IsBeforeBorder entries length_cm w c → gradient_in out c ≡ under entries length_cm c
+  pub right : (c : ℤ) → IsBeforeBorder entries length_cm w c → gradient_in out c ≡ gradient_under entries length_cm c
   pub ends : EndsWith out w.at value
   pub few : length out ≤ w.rear + w.front + 1
   pub rear_known : w.rear ≤ length entries - 1
   pub front_known : w.front ≤ length entries - 1
 
 -- from the window's place to its next border the gradient is the window's lowest
-under_window : (entries : List Gradient) (length_cm : ℕ) (w : Window) (grad c : ℤ) → IsRising start_of entries → IsUnder entries length_cm w → IsLowestEntry entries w.rear (w.front + 1) grad → w.at ≤ℤ c → IsBeforeBorder entries length_cm w c →
-    under entries length_cm c ≡ grad
+under_window : (entries : List Gradient) (length_cm : ℕ) (w : Window) (grad c : ℤ) → IsRising start_of entries → IsUnder entries length_cm w →
+    IsLowestEntry entries w.rear (w.front + 1) grad → w.at ≤ℤ c → IsBeforeBorder entries length_cm w c →
+    gradient_under entries length_cm c ≡ grad
 under_window entries length_cm w grad c rise u h le before =
     lowest_under entries length_cm w.rear w.front c grad rise
     (lies_on start_of entries w.rear (w.at -ℤ pos length_cm) (c -ℤ pos length_cm) u.rear (omega (arith, ints)) before.rear)
@@ -127,7 +132,9 @@ under_window entries length_cm w grad c rise u h le before =
 abbrev pub first_window : Window
 first_window = record { rear = 0; front = 0; at = pos 0 }
 
-under_first : (entries : List Gradient) (length_cm : ℕ) → IsRising start_of entries → (c : ℤ) → IsBeforeBorder entries length_cm first_window c → under entries length_cm c ≡ (get_or entries 0 level).grad
+-- before the first border the gradient is that of the first entry; level without entries
+under_first : (entries : List Gradient) (length_cm : ℕ) → IsRising start_of entries → (c : ℤ) → IsBeforeBorder entries length_cm first_window c →
+    gradient_under entries length_cm c ≡ (get_or entries 0 level).grad
 under_first [] length_cm rise c before = lowest_is (λ a b. a ≤ℤ b) int_min int_min_lower (track_gradient []) (c -ℤ pos length_cm) c length_cm (pos 0) (omega (arith, ints)) (record {
   none_below = λ d a b. omega (arith, ints);
   at = c;
@@ -142,6 +149,7 @@ under_first (x ∷ xs) length_cm rise c before =
     (record { none_below = λ k l m. (let e : k ≡ 0 = omega arith in rw e (omega (arith, ints))); place = 0; from_rear = omega arith; to_front = omega arith; reached = refl })
 
 module _ (entries : List Gradient) (length_cm : ℕ) (gradients : AreGradients longest_track entries) where
+  -- the cells up to cell 0 lie in the first entry
   lies_in_first : (c : ℤ) → 0 < length entries → c ≤ℤ pos 0 → LiesIn start_of entries 0 c
   lies_in_first c some le = record {
     known = some;
@@ -149,7 +157,9 @@ module _ (entries : List Gradient) (length_cm : ℕ) (gradients : AreGradients l
     goes_on = record { before = λ d m. (let r = gradients.rise.rises 0 1 d (omega arith) m in let z = gradients.from_zero.first d some in omega (arith, ints)) };
   }
 
-  pub so_far_first : (out : List Segment) (s : Segment) (value : ℤ) → out ≡ s ∷ [] → s.start ≡ pos 0 → s.value ≡ value → value ≡ (get_or entries 0 level).grad → IsSegment s → IsSoFar entries length_cm first_window out value
+  -- the first segment
+  pub so_far_first : (out : List Segment) (s : Segment) (value : ℤ) → out ≡ s ∷ [] → s.start ≡ pos 0 → s.value ≡ value → value ≡ (get_or entries 0 level).grad → IsSegment s →
+      IsSoFar entries length_cm first_window out value
   so_far_first out s value made is v grad in_range = rw (made, ← v) (record {
     window = λ some. record {
       front = lies_in_first (pos 0) some (omega (arith, ints));
@@ -164,6 +174,7 @@ module _ (entries : List Gradient) (length_cm : ℕ) (gradients : AreGradients l
     front_known = omega arith;
   })
 
+  -- the window moves on to the next border
   module _ (old new : Window) (out : List Segment) (value grad : ℤ) (made : IsSoFar entries length_cm old out value) (next : IsNext entries length_cm old new)
       (lowest_there : IsLowestEntry entries new.rear (new.front + 1) grad) where
     rear_in : new.rear ≤ length entries - 1
@@ -183,7 +194,9 @@ module _ (entries : List Gradient) (length_cm : ℕ) (gradients : AreGradients l
           uphill = rw lowest_there.reached at entry.uphill;
         }
 
-    pub so_far_more : (more : List Segment) (s : Segment) → more ≡ out ++ s ∷ [] → s.start ≡ new.at → s.value ≡ grad → IsSegment s → value ≢ grad → IsSoFar entries length_cm new more grad
+    -- another gradient there: a segment more
+    pub so_far_more : (more : List Segment) (s : Segment) → more ≡ out ++ s ∷ [] → s.start ≡ new.at → s.value ≡ grad → IsSegment s → value ≢ grad →
+        IsSoFar entries length_cm new more grad
     so_far_more more s added is v in_range other = rw added (record {
       window = λ some. next.under;
       not_before = (let a = made.not_before in let b = next.later in omega (arith, ints));
@@ -198,6 +211,7 @@ module _ (entries : List Gradient) (length_cm : ℕ) (gradients : AreGradients l
       front_known = front_in;
     })
 
+    -- the same gradient: the segments stay
     pub so_far_on : value ≡ grad → IsSoFar entries length_cm new out value
     so_far_on same = record {
       window = λ some. next.under;

@@ -61,7 +61,11 @@ module _ {E : Type 0} (start : E → ℤ) where
     known = known;
     begun = λ e p. rw (get_or_default es i e d known) (omega (arith, ints));
     goes_on = record {
-      before = λ e more. (let r = rising.rises i (i + 1) e (omega arith) more in let s = get_or_default es i e d known in let t : c ≡ start (get_or es i e) = is ∙ ap start (sym s) in omega (arith, ints));
+      before = λ e more.
+          let r = rising.rises i (i + 1) e (omega arith) more in
+          let s = get_or_default es i e d known in
+          let t : c ≡ start (get_or es i e) = is ∙ ap start (sym s) in
+          omega (arith, ints);
     };
   }
 
@@ -79,7 +83,8 @@ module _ {E : Type 0} (start : E → ℤ) where
       ])
 
   -- in the last of them lies the cell; where there is none, in the first step
-  pub lies_in_last : (es : List E) (c : ℤ) (i j : ℕ) → 0 < length es → i ≤ length es → j ≡ i - 1 → IsPartitionPoint (λ e. int_le (start e) c ≡ true) (λ e. int_le (start e) c ≡ false) es i → LiesIn start es j c
+  pub lies_in_last : (es : List E) (c : ℤ) (i j : ℕ) → 0 < length es → i ≤ length es → j ≡ i - 1 →
+      IsPartitionPoint (λ e. int_le (start e) c ≡ true) (λ e. int_le (start e) c ≡ false) es i → LiesIn start es j c
   lies_in_last es c i j some known is parts = record {
     known = omega arith;
     begun = λ d p. le_of _ _ (parts.0 j d (omega arith) (omega arith));
@@ -98,7 +103,8 @@ module _ {E V : Type 0} (start : E → ℤ) (value : E → V) where
   none_begun (x ∷ xs) c before later = rw (not_le_is (start x) c (later 0 x (omega arith))) (none_begun xs c before (λ j d l. later (suc j) d (omega arith)))
 
   -- the step `k` has begun, and no later one
-  last_begun : (es : List E) (k : ℕ) (d : E) (c : ℤ) (before : V) → k < length es → start (get_or es k d) ≤ℤ c → ((j : ℕ) (d : E) → k < j → j < length es → c <ℤ start (get_or es j d)) → last_at start value es c before ≡ value (get_or es k d)
+  last_begun : (es : List E) (k : ℕ) (d : E) (c : ℤ) (before : V) → k < length es → start (get_or es k d) ≤ℤ c →
+      ((j : ℕ) (d : E) → k < j → j < length es → c <ℤ start (get_or es j d)) → last_at start value es c before ≡ value (get_or es k d)
   last_begun [] k d c before known begun later = absurd (omega arith)
   last_begun (x ∷ xs) zero d c before known begun later = rw (le_is (start x) c begun) (none_begun xs c (value x) (λ j e l. later (suc j) e (omega arith) (omega arith)))
   last_begun (x ∷ xs) (suc k) d c before known begun later = last_begun xs k d c _ (omega arith) begun (λ j e l m. later (suc j) e (omega arith) (omega arith))

@@ -18,15 +18,16 @@ use Rattle.sdm_track.proofs.LowestLaws.{IsLowest, lowest_is, int_min_lower}
 -- ---- the next border
 
 -- the window keeps at least one entry: its rear one is not its front one when it leaves alone
-keeps_one : (entries : List Gradient) (length_cm rear front : ℕ) (at : ℤ) → rear ≤ front → 1 ≤ length_cm → rear + 1 < length entries → IsBeforeNext start_of entries front at →
-    at ≡ (get_or entries (rear + 1) level).start +ℤ pos length_cm → rear + 1 ≤ front
+keeps_one : (entries : List Gradient) (length_cm rear front : ℕ) (at : ℤ) → rear ≤ front → 1 ≤ length_cm → rear + 1 < length entries →
+    IsBeforeNext start_of entries front at → at ≡ (get_or entries (rear + 1) level).start +ℤ pos length_cm → rear + 1 ≤ front
 keeps_one entries length_cm rear front at ordered long room first is = elim (cases_lt rear front) [
   | inl lt ↦ omega arith
   | inr ge ↦ (let e : front ≡ rear = omega arith in let l = (rw e at first).before level room in absurd (omega (arith, ints)))
 ]
 
-module _ (entries : List Gradient) (length_cm : ℕ) (w : Window) (at : ℤ) (gradients : AreGradients longest_track entries) (under : IsUnder entries length_cm w) (long : 1 ≤ length_cm)
-    (room : w.rear + 1 < length entries) where
+module _ (entries : List Gradient) (length_cm : ℕ) (w : Window) (at : ℤ) (gradients : AreGradients longest_track entries)
+    (under : IsUnder entries length_cm w) (long : 1 ≤ length_cm) (room : w.rear + 1 < length entries) where
+  -- a cell before the start of the next entry
   before_next : (i : ℕ) (c : ℤ) → i + 1 < length entries → c <ℤ (get_or entries (i + 1) level).start → IsBeforeNext start_of entries i c
   before_next i c known lt = record { before = λ d more. rw (get_or_default entries (i + 1) d level known) lt }
 
@@ -36,7 +37,8 @@ module _ (entries : List Gradient) (length_cm : ℕ) (w : Window) (at : ℤ) (gr
   enters more is first = record {
     under = record {
       front = lies_at_start start_of entries (w.front + 1) level at gradients.rise more is;
-      rear = lies_on start_of entries w.rear (w.at -ℤ pos length_cm) (at -ℤ pos length_cm) under.rear (omega (arith, ints, under.front.goes_on.before level more)) (before_next w.rear (at -ℤ pos length_cm) room (omega (arith, ints)));
+      rear = lies_on start_of entries w.rear (w.at -ℤ pos length_cm) (at -ℤ pos length_cm) under.rear (omega (arith, ints, under.front.goes_on.before level more))
+          (before_next w.rear (at -ℤ pos length_cm) room (omega (arith, ints)));
       ordered = omega (arith, under.ordered);
     };
     later = omega (arith, ints, under.front.goes_on.before level more);
@@ -57,7 +59,10 @@ module _ (entries : List Gradient) (length_cm : ℕ) (w : Window) (at : ℤ) (gr
           ordered = keeps_one entries length_cm w.rear w.front at under.ordered long room first is;
         };
         later = omega (arith, ints, under.rear.goes_on.before level room);
-        nearest = λ c l. record { front = record { before = λ d more. (let next = first.before d more in omega (arith, ints)) }; rear = before_next w.rear (c -ℤ pos length_cm) room (omega (arith, ints)) };
+        nearest = λ c l. record {
+          front = record { before = λ d more. (let next = first.before d more in omega (arith, ints)) };
+          rear = before_next w.rear (c -ℤ pos length_cm) room (omega (arith, ints));
+        };
         moves = omega arith;
         on_track = (let within = (gradients.each (w.rear + 1) level room).on_track in omega (arith, ints));
       }
@@ -86,7 +91,8 @@ record HasCell (entries : List Gradient) (back front : ℤ) (k : ℕ) : Type 0 w
   to_front : at ≤ℤ front
   lies : LiesIn start_of entries k at
 
-module _ (entries : List Gradient) (rear front : ℕ) (back at : ℤ) (rise : IsRising start_of entries) (long : back ≤ℤ at) (in_rear : LiesIn start_of entries rear back) (in_front : LiesIn start_of entries front at) where
+module _ (entries : List Gradient) (rear front : ℕ) (back at : ℤ) (rise : IsRising start_of entries) (long : back ≤ℤ at)
+    (in_rear : LiesIn start_of entries rear back) (in_front : LiesIn start_of entries front at) where
   -- the rear entry has the rear cell, each other one its first cell
   has_cell : (k : ℕ) → rear ≤ k → k ≤ front → HasCell entries back at k
   has_cell k low high = elim (cases_lt rear k) [
@@ -108,6 +114,7 @@ module _ (entries : List Gradient) (rear front : ℕ) (back at : ℤ) (rise : Is
     | inr ge ↦ (let e : k ≡ rear = omega arith in rw e (record { at = back; from_back = omega (arith, ints); to_front = long; lies = in_rear }))
   ]
 
+  -- the lowest of the entries is the lowest of the cells
   lowest_cell : (grad : ℤ) → IsLowestEntry entries rear (front + 1) grad → IsLowest (λ a b. a ≤ℤ b) (track_gradient entries) back at grad
   lowest_cell grad h =
       let cell = has_cell h.place h.from_rear (omega (arith, h.to_front)) in
@@ -123,8 +130,9 @@ module _ (entries : List Gradient) (rear front : ℕ) (back at : ℤ) (rise : Is
         reached = value_is start_of (λ e. e.grad) entries h.place cell.at level (pos 0) rise cell.lies ∙ h.reached;
       }
 
-pub lowest_under : (entries : List Gradient) (length_cm rear front : ℕ) (at grad : ℤ) → IsRising start_of entries → LiesIn start_of entries rear (at -ℤ pos length_cm) → LiesIn start_of entries front at → IsLowestEntry entries rear (front + 1) grad →
-    lowest int_min (track_gradient entries) (at -ℤ pos length_cm) length_cm ≡ grad
+-- so it is the gradient of a front end in the cell `at`
+pub lowest_under : (entries : List Gradient) (length_cm rear front : ℕ) (at grad : ℤ) → IsRising start_of entries → LiesIn start_of entries rear (at -ℤ pos length_cm) →
+    LiesIn start_of entries front at → IsLowestEntry entries rear (front + 1) grad → lowest int_min (track_gradient entries) (at -ℤ pos length_cm) length_cm ≡ grad
 lowest_under entries length_cm rear front at grad rise in_rear in_front h =
     lowest_is (λ a b. a ≤ℤ b) int_min int_min_lower (track_gradient entries) (at -ℤ pos length_cm) at length_cm grad (omega (arith, ints))
     (lowest_cell entries rear front (at -ℤ pos length_cm) at rise (omega (arith, ints)) in_rear in_front grad h)

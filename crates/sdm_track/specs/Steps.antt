@@ -1,5 +1,5 @@
--- Values that change at the starts of steps, as gradients, segments and speeds do: the step in which a cell lies. The value in
--- a cell is `value_at` of the profile.
+-- Values that change at the starts of steps, as gradients, segments and speeds do: the step in which a cell lies. Its value is
+-- the value in the cell (own form of the cells of the profile).
 use Rattle.std.specs.Prelude.{◌≡◌, ℕ, ℤ, pos, List, length, slice_index_or, ◌+◌, ◌<◌, ◌≤ℤ◌, ◌<ℤ◌}
 
 -- the first step, if there is one, starts at 0

@@ -1,10 +1,11 @@
--- The entries of a list of gradients that lie under a train, as the front end moves from border to border.
+-- The entries of a list of gradients that lie under a train, as the front end moves from border to border (own).
 use Rattle.std.specs.Prelude.{◌≡◌, ℕ, ℤ, pos, List, slice_index_or, ◌+◌, ◌<◌, ◌≤◌, ◌+ℤ◌, ◌-ℤ◌, ◌≤ℤ◌, ◌<ℤ◌}
 use Rattle.sdm_rules.specs.declared.data.Gradient.{Gradient}
 use Rattle.sdm_track.specs.declared.window.Window.{Window}
 use Rattle.sdm_track.specs.Steps.{LiesIn, IsBeforeNext}
 use Rattle.sdm_track.specs.Ranges.{longest_track}
 
+-- where an entry starts, in cm
 abbrev pub start_of : Gradient → ℤ
 start_of e = e.start
 

@@ -2,7 +2,7 @@
 //! count, values, start of the first entry, order; the first that is broken is answered.
 
 ghost use Rattle.std.specs.Prelude.{◌≡◌, ℕ, ℤ, pos, neg_ℤ, ◌+◌, ◌^◌, ◌+ℤ◌, ◌-ℤ◌, ◌<◌, ◌≤◌, Option, Bool, int_lt, length};
-ghost use Rattle.sdm_rules.specs.Ranges.{is_within, gradient_refused, speed_refused, area_refused, count_fault, value_fault, gap_fault, order_fault, gradients_fault, speeds_fault, areas_fault};
+ghost use Rattle.sdm_rules.specs.Ranges.{is_within, gradient_refused, speed_refused, area_refused, count_fault, value_fault, gap_fault, order_fault, gradients_fault, speeds_fault, areas_fault, or_else};
 
 use sdm_rules::{Area, Gradient, Section, SpeedStep, TrackFault};
 
@@ -177,13 +177,20 @@ fn order_fault<E: Entry>(list: Section, entries: &[E]) -> Option<TrackFault>
     None
 }
 
-/// The first rule that the gradients break.
-#[tactic(auto, unfolding(sdm_rules::specs::Ranges::gradients_fault))]
-pub fn gradients_fault(length_cm: u32, entries: &[Gradient]) -> Option<TrackFault>
-    ensures { result ≡ gradients_fault (pos length_cm) entries.now }
+/// The first rule that a list of steps breaks, which begins at 0 and has from `least` to `most` entries.
+fn steps_fault<E: Entry>(
+    list: Section,
+    least: usize,
+    most: usize,
+    length_cm: u32,
+    entries: &[E],
+) -> Option<TrackFault>
+    requires { most < 2 ^ 32 }
+    ensures { result ≡ or_else (count_fault list least most entries.now)
+        (or_else (value_fault list (E.refused_key (pos length_cm)) 1 entries.now)
+        (or_else (gap_fault list E.start entries.now) (order_fault list E.start E.past 1 entries.now))) }
 {
-    let list = Section::Gradient;
-    if let Some(fault) = count_fault(list, 0, MOST_GRADIENTS, entries) {
+    if let Some(fault) = count_fault(list, least, most, entries) {
         return Some(fault);
     }
     if let Some(fault) = value_fault(list, length_cm, entries) {
@@ -193,6 +200,14 @@ pub fn gradients_fault(length_cm: u32, entries: &[Gradient]) -> Option<TrackFaul
         return Some(fault);
     }
     order_fault(list, entries)
+}
+
+/// The first rule that the gradients break.
+#[tactic(auto, unfolding(sdm_rules::specs::Ranges::gradients_fault))]
+pub fn gradients_fault(length_cm: u32, entries: &[Gradient]) -> Option<TrackFault>
+    ensures { result ≡ gradients_fault (pos length_cm) entries.now }
+{
+    steps_fault(Section::Gradient, 0, MOST_GRADIENTS, length_cm, entries)
 }
 
 /// The first rule that the static speed profile breaks.
@@ -200,30 +215,19 @@ pub fn gradients_fault(length_cm: u32, entries: &[Gradient]) -> Option<TrackFaul
 pub fn speeds_fault(length_cm: u32, entries: &[SpeedStep]) -> Option<TrackFault>
     ensures { result ≡ speeds_fault (pos length_cm) entries.now }
 {
-    let list = Section::Speed;
-    if let Some(fault) = count_fault(list, 1, MOST_SPEEDS, entries) {
-        return Some(fault);
-    }
-    if let Some(fault) = value_fault(list, length_cm, entries) {
-        return Some(fault);
-    }
-    if let Some(fault) = gap_fault(list, entries) {
-        return Some(fault);
-    }
-    order_fault(list, entries)
+    steps_fault(Section::Speed, 1, MOST_SPEEDS, length_cm, entries)
 }
 
-/// The first rule that the areas of reduced adhesion break.
+/// The first rule that the areas of reduced adhesion break. They need not begin at 0.
 #[tactic(auto, unfolding(sdm_rules::specs::Ranges::areas_fault))]
 pub fn areas_fault(length_cm: u32, entries: &[Area]) -> Option<TrackFault>
     ensures { result ≡ areas_fault (pos length_cm) entries.now }
 {
-    let list = Section::Adhesion;
-    if let Some(fault) = count_fault(list, 0, MOST_AREAS, entries) {
+    if let Some(fault) = count_fault(Section::Adhesion, 0, MOST_AREAS, entries) {
         return Some(fault);
     }
-    if let Some(fault) = value_fault(list, length_cm, entries) {
+    if let Some(fault) = value_fault(Section::Adhesion, length_cm, entries) {
         return Some(fault);
     }
-    order_fault(list, entries)
+    order_fault(Section::Adhesion, entries)
 }

@@ -10,3 +10,6 @@ mod window;
 pub use sdm_rules::{Area, Gradient, Section, SpeedStep, TrackFault};
 pub use tracks::Track;
 pub use under_train::Segments;
+
+#[cfg(test)]
+mod tests;

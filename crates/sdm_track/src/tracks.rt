@@ -17,8 +17,8 @@ use std::marker::Model;
 const LONGEST_CM: u32 = 10_000_000;
 
 /// A track from 0 to its length, 1 to 10,000,000 cm: its gradients (SUBSET-026-3 3.13.4), its static speed profile (3.11.3) and
-/// its areas of reduced adhesion (3.12). Each list is in the order of its starts; before the track its first entry goes on,
-/// past the track its last. (ranges own)
+/// its areas of reduced adhesion (3.12), each list in the order of its starts. Before the track the first gradient and the first
+/// speed go on, past the track the last ones. (ranges own)
 #[derive(Debug, Drop)]
 pub struct Track {
     length_cm: u32,

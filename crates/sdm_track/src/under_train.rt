@@ -1,13 +1,14 @@
 //! The gradients under a train. The cells of the front end in which the lowest gradient from the rear end to the front end stays
 //! the same make a segment, so that a curve meets few changes.
 
-ghost use Rattle.std.specs.Prelude.{◌≡◌, ℕ, ℤ, pos, ◌+◌, ◌-◌, ◌*◌, ◌<◌, ◌≤◌, ◌-ℤ◌, length, slice_get, slice_index_or, Some, IfOk};
+ghost use Rattle.std.specs.Prelude.{◌≡◌, ℕ, ℤ, pos, neg_ℤ, ◌+◌, ◌-◌, ◌*◌, ◌<◌, ◌≤◌, ◌+ℤ◌, ◌-ℤ◌, ◌≤ℤ◌, ◌<ℤ◌, length, slice_get, slice_index_or, Some, IfOk};
 ghost use Rattle.std.specs.Int.{int_min};
 ghost use Rattle.std.specs.Option.{option_map};
 ghost use Rattle.sdm_rules.specs.Cells.{lowest};
 ghost use Rattle.sdm_rules.specs.Decelerations.{track_gradient};
+ghost use Rattle.sdm_rules.specs.Ranges.{steepest};
 ghost use Rattle.sdm_track.specs.Steps.{LiesIn};
-ghost use Rattle.sdm_track.specs.Ranges.{AreGradients, longest_track};
+ghost use Rattle.sdm_track.specs.Ranges.{AreGradients, longest_track, longest_train};
 ghost use Rattle.sdm_track.specs.Windows.{level};
 ghost use Rattle.sdm_track.specs.Segments.{IsSegment, AreSegments, gradient_in};
 
@@ -70,7 +71,9 @@ impl Segments {
     /// The first cell of the segment at a place in the list, counted from 0.
     pub fn start(&self, i: usize) -> i32
         requires { i < length self.now }
-        ensures { option_map (λ s. s.start) (slice_get self.now i) ≡ Some result }
+        ensures value { option_map (λ s. s.start) (slice_get self.now i) ≡ Some result }
+        ensures not_before { pos 0 ≤ℤ result }
+        ensures not_past { result <ℤ (longest_track +ℤ longest_train) }
     {
         self.list[i].start
     }
@@ -79,6 +82,8 @@ impl Segments {
     pub fn value(&self, i: usize) -> i16
         requires { i < length self.now }
         ensures value { option_map (λ s. s.value) (slice_get self.now i) ≡ Some result }
+        ensures downhill { neg_ℤ steepest ≤ℤ result }
+        ensures uphill { result ≤ℤ steepest }
         ensures in_its_cells { (c : ℤ) → LiesIn (λ s. s.start) self.now i c → gradient_in self.now c ≡ result }
     {
         self.list[i].value
@@ -86,7 +91,9 @@ impl Segments {
 
     /// The gradient for a front end in the cell; before cell 0 that of the first segment.
     pub fn at(&self, cell: i32) -> i16
-        ensures { result ≡ gradient_in self.now cell }
+        ensures value { result ≡ gradient_in self.now cell }
+        ensures downhill { neg_ℤ steepest ≤ℤ result }
+        ensures uphill { result ≤ℤ steepest }
     {
         let begun = self.list.partition_point(|segment| segment.start <= cell);
         self.list[begun.saturating_sub(1)].value

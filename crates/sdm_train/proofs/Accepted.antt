@@ -14,20 +14,24 @@ use Rattle.sdm_train.specs.Trains.{IsBand, IsTrain}
 
 -- ---- one rule after another
 
+-- where neither of two rules in turn is broken, each holds
 both_none : {A : Type 0} (x y : Option A) → or_else x y ≡ None → (x ≡ None) × (y ≡ None)
 both_none None y h = (refl, h)
 both_none (Some x) y h = absurd (cc)
 
+-- where there is no fault, no key was refused
 no_key : (fault : ℕ → TrainFault) (key : Option ℕ) → fault_at fault key ≡ None → key ≡ None
 no_key fault None h = refl
 no_key fault (Some key) h = absurd (cc)
 
 -- ---- numbers
 
+-- the test of a number that may be wanting, as a fact
 within_if_any : (least greatest : ℤ) (n : Option ℤ) → is_within_if_any least greatest n ≡ true → IfSome n (λ x. (least ≤ℤ x) × (x ≤ℤ greatest))
 within_if_any least greatest None h = tt
 within_if_any least greatest (Some n) h = (grind (arith, ints), grind (arith, ints))
 
+-- a band of which no number is refused has its numbers in their ranges
 pub IsBand_of : (b : Band) → band_refused b ≡ None → IsBand b
 IsBand_of b h = record {
   upper = within_if_any (pos 1) (pos 500) b.upper (grind arith);
@@ -42,15 +46,18 @@ IsBand_of b h = record {
 
 -- ---- bands
 
+-- the test of the count, as a fact
 few_of : (count : ℕ) → band_count_fault count ≡ None → (0 < count) × (count ≤ most_bands)
 few_of count h = (grind arith, grind arith)
 
+-- so each band has, where no number of the bands is refused
 each_band : (i : ℕ) (bands : List Band) → band_value_fault i bands ≡ None → All IsBand bands
 each_band i [] h = All-nil IsBand
 each_band i (b ∷ more) h =
     let both = both_none (fault_at (λ key. Value i key) (band_refused b)) (band_value_fault (suc i) more) h in
     All-cons IsBand b more (IsBand_of b (no_key _ (band_refused b) both.0)) (each_band (suc i) more both.1)
 
+-- the last band has no upper speed
 last_has_none : (i : ℕ) (upper : Option ℤ) → order_of_last i upper ≡ None → upper ≡ None
 last_has_none i None h = refl
 last_has_none i (Some upper) h = absurd (cc)
@@ -61,6 +68,7 @@ next_has_one : (i : ℕ) (above : ℤ) (upper : Option ℤ) (later : ℤ → Opt
 next_has_one i above None later h = absurd (cc)
 next_has_one i above (Some u) later h = (u, refl, grind (arith, ints), grind arith)
 
+-- the bands are in order, where none is out of it
 in_order : (i : ℕ) (above : ℤ) (bands : List Band) → 0 < length bands → band_order_fault i above bands ≡ None → AreBands above bands
 in_order i above [] some h = absurd (omega arith)
 in_order i above (b ∷ []) some h = last_has_none i b.upper h
@@ -77,6 +85,7 @@ record BreaksNoRule (count : ℕ) (t : TrainData) : Type 0 where
   band_numbers : band_value_fault 1 t.bands ≡ None
   band_order : band_order_fault 1 (pos 0) t.bands ≡ None
 
+-- a train without a fault keeps each group of rules
 no_rule_broken : (count : ℕ) (t : TrainData) → train_fault count t ≡ None → BreaksNoRule count t
 unfolding train_fault
 no_rule_broken count t h =
@@ -87,6 +96,7 @@ no_rule_broken count t h =
     let bands = both_none values order few.1 in
     record { own_numbers = no_key _ (train_refused t) own.0; few = few_of count few.0; band_numbers = bands.0; band_order = bands.1 }
 
+-- what callers may rely on follows from what was tested
 pub IsTrain_of : (t : TrainData) → train_fault (length t.bands) t ≡ None → IsTrain t
 IsTrain_of t h =
     let rules = no_rule_broken (length t.bands) t h in
@@ -99,6 +109,7 @@ IsTrain_of t h =
       emergency_time = grind (arith, ints, own);
       service_time = grind (arith, ints, own);
       half_seconds = grind (arith, ints, own);
+      not_empty = rules.few.0;
       bands = record { few = rules.few.1; in_order = in_order 1 (pos 0) t.bands rules.few.0 rules.band_order };
       each_band = each_band 1 t.bands rules.band_numbers;
       no_fault = h;

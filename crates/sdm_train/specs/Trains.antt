@@ -1,5 +1,5 @@
 -- What callers may rely on of every accepted train: no rule is broken, and what follows for its numbers and bands (own).
-use Rattle.std.specs.Prelude.{◌≡◌, pos, ◌≤ℤ◌, ◌%◌, None, IfSome, All, length, unsigned_abs}
+use Rattle.std.specs.Prelude.{◌≡◌, pos, ◌≤ℤ◌, ◌<◌, ◌%◌, None, IfSome, All, length, unsigned_abs}
 use Rattle.sdm_rules.specs.declared.data.Band.{Band}
 use Rattle.sdm_rules.specs.Data.{TrainData, HasBands}
 use Rattle.sdm_rules.specs.Ranges.{train_fault}
@@ -24,6 +24,7 @@ pub record IsTrain (t : TrainData) : Type 0 where
   pub emergency_time : (pos 0 ≤ℤ t.emergency_time) × (t.emergency_time ≤ℤ pos 300)  -- ds
   pub service_time : (pos 0 ≤ℤ t.service_time) × (t.service_time ≤ℤ pos 300)  -- ds
   pub half_seconds : unsigned_abs t.service_time % 5 ≡ 0
+  pub not_empty : 0 < length t.bands
   pub bands : HasBands t.bands
   pub each_band : All IsBand t.bands
   pub no_fault : train_fault (length t.bands) t ≡ None

@@ -1,7 +1,7 @@
 //! The clauses say of all trains which are accepted and what is kept. Here the ranges and the order of the rules stand as
 //! rows worked by hand, so that the definitions are tested too.
 
-use crate::{Band, Train, TrainFault, TrainFields};
+use crate::{Band, Train, TrainFields};
 use sdm_rules::MOST_BANDS;
 use std::alloc::{AllocError, Global};
 use std::test::Fail;
@@ -117,6 +117,24 @@ fn set_uppers(fields: &mut TrainFields, uppers: &str) -> Result<(), &'static str
     Ok(())
 }
 
+// The fields of a row: the upper speeds, a semicolon, and each number that differs, after its key.
+fn fields_of(row: &str) -> Result<TrainFields, &'static str> {
+    let (uppers, numbers) = row.split_once(';').ok_or("no semicolon")?;
+    let mut fields = one_band();
+    set_uppers(&mut fields, uppers)?;
+    set_numbers(&mut fields, numbers)?;
+    Ok(fields)
+}
+
+fn set_numbers(fields: &mut TrainFields, numbers: &str) -> Result<(), &'static str> {
+    let mut words = numbers.split_whitespace();
+    while let Some(key) = words.next() {
+        let number = words.next().ok_or("no number")?;
+        set(fields, key, number.parse::<i64>().map_err(|_| "no number")?)?;
+    }
+    Ok(())
+}
+
 // What comes of the fields, as text.
 fn outcome(alloc: Global, fields: TrainFields) -> Result<String, AllocError> {
     match Train::new(fields) {
@@ -125,87 +143,69 @@ fn outcome(alloc: Global, fields: TrainFields) -> Result<String, AllocError> {
     }
 }
 
-// A key, its least and its greatest number, its band and its number in the section.
-const RANGES: &str = "\
-length 1 150000 0 1
-max_speed 1 500 0 2
-rotating_mass 0 50 0 3
-traction_cutoff_time 0 300 0 4
-emergency_time 0 300 0 6
-service_time 0 300 0 7
-upper 1 500 1 1
-emergency 1 400 1 2
-service 1 400 1 3
-normal 1 400 1 4
-kdry 1 1000 1 5
-kwet 1 1000 1 6
-kn_up 0 1000 1 7
-kn_down 0 1000 1 8";
-
-#[test]
-fn a_number_is_accepted_exactly_within_its_range(rt: HostRuntime) -> Result<(), Fail> {
-    for line in RANGES.lines() {
-        let mut words = line.split_whitespace();
-        let key = words.next().ok_or("no key")?;
-        let least = i64::from(words.next().ok_or("no least")?.parse::<i32>()?);
-        let greatest = i64::from(words.next().ok_or("no greatest")?.parse::<i32>()?);
-        let fault = TrainFault::Value {
-            band: words.next().ok_or("no band")?.parse::<u32>()?,
-            key: words.next().ok_or("no number")?.parse::<u8>()?,
-        };
-        for number in [least, greatest, least - 1, greatest + 1] {
-            let mut fields = one_band();
-            set_uppers(&mut fields, "100 -")?;
-            set(&mut fields, key, number)?;
-            let want = if number < least || greatest < number {
-                Some(fault)
-            } else {
-                None
-            };
-            assert_eq!(rt; Train::new(fields).err(), want, "{key} {number}");
-        }
-    }
-    Ok(())
-}
-
-// What comes of a train, its upper speeds, and the numbers that differ from those of the train above.
-const FIRST_FAULTS: &str = "\
-accepted; -; service_time 5
-value of key 7 in band 0; -; service_time 1
-value of key 7 in band 0; -; service_time 7
-value of key 1 in band 0; -; max_speed 0 length 0
-value of key 2 in band 0; ; max_speed 0
-value of key 7 in band 0; -; service_time 7 kdry 0
-band count; ;
-band count; ; kdry 0
-accepted; 10 20 30 40 50 60 70 -;
-order of band 8; 10 20 30 40 50 60 70 80;
-band count; 10 20 30 40 50 60 70 80 -;
-band count; 10 20 30 40 50 60 70 - -; kdry 0
-order of band 1; 100;
-order of band 1; - -;
-order of band 2; 100 - 120 -;
-order of band 3; 100 120 140;
-accepted; 100 101 -;
-order of band 2; 100 100 -;
-order of band 2; 100 99 -;
-order of band 2; 100 100 90;
-value of key 1 in band 3; 100 100 501 -;
-value of key 5 in band 1; - -; kn_up 1001 kdry 0";
+const OUTCOMES: &str = "\
+accepted: 1 -; length 1 max_speed 1 rotating_mass 0 traction_cutoff_time 0 emergency_time 0 service_time 0
+accepted: 1 -; emergency 1 service 1 normal 1 kdry 1 kwet 1 kn_up 0 kn_down 0
+accepted: -; length 150000 max_speed 500 rotating_mass 50 traction_cutoff_time 300 emergency_time 300 service_time 300
+accepted: 500 -; emergency 400 service 400 normal 400 kdry 1000 kwet 1000 kn_up 1000 kn_down 1000
+value of key 1 in band 0: -; length 0
+value of key 1 in band 0: -; length 150001
+value of key 2 in band 0: -; max_speed 0
+value of key 2 in band 0: -; max_speed 501
+value of key 3 in band 0: -; rotating_mass -1
+value of key 3 in band 0: -; rotating_mass 51
+value of key 4 in band 0: -; traction_cutoff_time -1
+value of key 4 in band 0: -; traction_cutoff_time 301
+value of key 6 in band 0: -; emergency_time -1
+value of key 6 in band 0: -; emergency_time 301
+value of key 7 in band 0: -; service_time -5
+value of key 7 in band 0: -; service_time 305
+value of key 7 in band 0: -; service_time 1
+value of key 7 in band 0: -; service_time 7
+accepted: -; service_time 5
+value of key 1 in band 1: 0 -;
+value of key 1 in band 1: 501 -;
+value of key 2 in band 1: -; emergency 0
+value of key 2 in band 1: -; emergency 401
+value of key 3 in band 1: -; service 0
+value of key 3 in band 1: -; service 401
+value of key 4 in band 1: -; normal 0
+value of key 4 in band 1: -; normal 401
+value of key 5 in band 1: -; kdry 0
+value of key 5 in band 1: -; kdry 1001
+value of key 6 in band 1: -; kwet 0
+value of key 6 in band 1: -; kwet 1001
+value of key 7 in band 1: -; kn_up -1
+value of key 7 in band 1: -; kn_up 1001
+value of key 8 in band 1: -; kn_down -1
+value of key 8 in band 1: -; kn_down 1001
+band count: ;
+band count: 10 20 30 40 50 60 70 80 -;
+accepted: 10 20 30 40 50 60 70 -;
+order of band 8: 10 20 30 40 50 60 70 80;
+order of band 1: 100;
+order of band 1: - -;
+order of band 2: 100 - 120 -;
+accepted: 100 101 -;
+order of band 2: 100 100 -;
+order of band 2: 100 99 -;
+order of band 3: 100 120 140;
+value of key 1 in band 0: -; max_speed 0 length 0
+value of key 7 in band 0: ; service_time 7
+value of key 2 in band 0: -; max_speed 0 kdry 0
+band count: ; kdry 0
+band count: 10 20 30 40 50 60 70 - -; kdry 0
+value of key 5 in band 1: -; kn_up 1001 kdry 0
+value of key 5 in band 1: 100 0 -; kdry 0
+value of key 1 in band 3: 100 100 501 -;
+order of band 2: 100 100 90;";
 
 #[test]
 fn the_first_rule_that_is_broken_is_named(rt: HostRuntime) -> Result<(), Fail> {
-    for line in FIRST_FAULTS.lines() {
-        let mut parts = line.split(';');
-        let want = parts.next().ok_or("no outcome")?;
-        let mut fields = one_band();
-        set_uppers(&mut fields, parts.next().ok_or("no upper speeds")?)?;
-        let mut words = parts.next().ok_or("no numbers")?.split_whitespace();
-        while let Some(key) = words.next() {
-            let number = words.next().ok_or("no number")?.parse::<i64>()?;
-            set(&mut fields, key, number)?;
-        }
-        assert_eq!(rt; outcome(rt.alloc(), fields)?.as_str(), want, "{line}");
+    for line in OUTCOMES.lines() {
+        let (want, row) = line.split_once(": ").ok_or("no outcome")?;
+        let found = outcome(rt.alloc(), fields_of(row)?)?;
+        assert_eq!(rt; found.as_str(), want, "{row}");
     }
     Ok(())
 }

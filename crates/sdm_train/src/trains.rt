@@ -1,4 +1,4 @@
-//! Train data that were tested.
+//! The train that supervision works with: no rule of its data is broken.
 
 ghost use Rattle.std.specs.Prelude.{◌≡◌, ◌≤ℤ◌, ◌<◌, ◌%◌, All, IfOk, IfSome, length, pos, slice_get, unsigned_abs};
 ghost use Rattle.std.specs.Result.{result_err};
@@ -107,7 +107,7 @@ impl Train {
         self.fields.service_brake
     }
 
-    /// How many speed bands there are.
+    /// How many speed bands there are, 1 to MOST_BANDS. The clause `accepted` says what holds of the whole train.
     pub fn band_count(&self) -> u32
         ensures value { result ≡ length self.now.bands }
         ensures accepted { IsTrain self.now }

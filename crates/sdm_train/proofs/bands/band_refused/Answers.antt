@@ -1,3 +1,4 @@
+-- The number that is handed on is the number itself, since it fits its width.
 use Rattle.std.proofs.Common.{arith}
 use Rattle.std.proofs.lemmas.Int.{to_z-of_z}
 use Rattle.sdm_train.proofs.bands.band_refused.Goals as goal

@@ -2,7 +2,7 @@
 use Rattle.std.proofs.Common.{◌≡◌, None}
 use Rattle.sdm_rules.specs.Ranges.{track_fault}
 use Rattle.sdm_track.specs.Ranges.{track_data}
-use Rattle.sdm_track.proofs.Accepted.{track_accepted}
+use Rattle.sdm_track.proofs.AcceptedTracks.{track_accepted}
 use Rattle.sdm_track.proofs.tracks.Track.new.Goals as goal
 
 pub invariant_of-result : goal.invariant_of-result

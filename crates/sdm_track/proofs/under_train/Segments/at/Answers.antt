@@ -8,8 +8,8 @@ use Rattle.sdm_track.proofs.StepLaws.{starts_parted, lies_in_last}
 use Rattle.sdm_track.proofs.SegmentLaws.{read_is}
 use Rattle.sdm_track.proofs.under_train.Segments.at.Goals as goal
 
-pub returns : goal.returns
-returns c =
+pub returns-clause-value : goal.returns-clause-value
+returns-clause-value c =
     let slice = c.deref.result.now in
     let start = λ (s : Segment). s.start in
     let begun = c.partition_point-begun.result in

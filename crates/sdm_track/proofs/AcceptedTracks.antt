@@ -17,22 +17,27 @@ use Rattle.sdm_track.specs.Ranges.{IsGradient, IsSpeedStep, IsArea, AreGradients
 
 -- ---- tests that found no fault
 
+-- neither of two faults
 neither : {A : Type 0} (x y : Option A) → or_else x y ≡ None → (x ≡ None) × (y ≡ None)
 neither None y e = (refl, e)
 neither (Some x) y e = cc
 
+-- a test that gives no fault is passed
 passed : {F : Type 0} (test : Bool) (fault : F) → (if test then None else Some fault) ≡ None → test ≡ true
 passed true fault e = refl
 passed false fault e = cc
 
+-- a test for a fault that gives none, and nor does what is tested later
 not_found : {F : Type 0} (test : Bool) (fault : F) (later : Option F) → (if test then Some fault else later) ≡ None → (test ≡ false) × (later ≡ None)
 not_found true fault later e = cc
 not_found false fault later e = (refl, e)
 
+-- no fault at a key: no key is refused
 not_refused : {F : Type 0} (fault : ℕ → F) (key : Option ℕ) → fault_at fault key ≡ None → key ≡ None
 not_refused fault None e = refl
 not_refused fault (Some key) e = cc
 
+-- both tests are passed
 both_true : (a b : Bool) → (a && b) ≡ true → (a ≡ true) × (b ≡ true)
 both_true true b e = (refl, e)
 both_true false b e = cc
@@ -43,9 +48,11 @@ le_of a b e = grind (arith, ints)
 not_lt_of : (a b : ℤ) → int_lt a b ≡ false → b ≤ℤ a
 not_lt_of a b e = grind (arith, ints)
 
+-- a number within its range
 within : (least greatest n : ℤ) → is_within least greatest n ≡ true → (least ≤ℤ n) × (n ≤ℤ greatest)
 within least greatest n e = (le_of _ _ (both_true _ _ e).0, le_of _ _ (both_true _ _ e).1)
 
+-- a key that is not refused passed its test
 accepted : (key : ℕ) (test : Bool) → refused key test ≡ None → test ≡ true
 accepted key true e = refl
 accepted key false e = cc
@@ -61,12 +68,16 @@ keys_within least greatest n least' greatest' n' e =
 
 -- ---- each entry, and each pair of neighbours
 
-each_accepted : {E : Type 0} (list : Section) (key_refused : E → Option ℕ) (i : ℕ) (es : List E) → value_fault list key_refused i es ≡ None → (k : ℕ) (d : E) → k < length es → key_refused (get_or es k d) ≡ None
+-- no entry of the list has a key that is refused
+each_accepted : {E : Type 0} (list : Section) (key_refused : E → Option ℕ) (i : ℕ) (es : List E) → value_fault list key_refused i es ≡ None →
+    (k : ℕ) (d : E) → k < length es → key_refused (get_or es k d) ≡ None
 each_accepted list key_refused i [] e k d l = absurd (omega arith)
 each_accepted list key_refused i (x ∷ xs) e zero d l = not_refused _ (key_refused x) (neither _ (value_fault list key_refused (suc i) xs) e).0
 each_accepted list key_refused i (x ∷ xs) e (suc k) d l = each_accepted list key_refused (suc i) xs (neither _ (value_fault list key_refused (suc i) xs) e).1 k d (omega arith)
 
-each_in_order : {E : Type 0} (list : Section) (start past : E → ℤ) (i : ℕ) (es : List E) → order_fault list start past i es ≡ None → (k : ℕ) (d : E) → suc k < length es → past (get_or es k d) ≤ℤ start (get_or es (suc k) d)
+-- no entry starts too early after the one before it
+each_in_order : {E : Type 0} (list : Section) (start past : E → ℤ) (i : ℕ) (es : List E) → order_fault list start past i es ≡ None →
+    (k : ℕ) (d : E) → suc k < length es → past (get_or es k d) ≤ℤ start (get_or es (suc k) d)
 each_in_order list start past i [] e k d l = absurd (omega arith)
 each_in_order list start past i (x ∷ []) e k d l = absurd (omega arith)
 each_in_order list start past i (x ∷ next ∷ more) e zero d l = not_lt_of (start next) (past x) (not_found _ _ (order_fault list start past (suc i) (next ∷ more)) e).0
@@ -85,6 +96,7 @@ all_in_order start past es long next i (suc j) d lt known = elim (cases_lt i j) 
   | inr ge ↦ (let e : i ≡ j = omega arith in rw e (next j d known))
 ]
 
+-- so the starts of steps rise
 starts_rise : {E : Type 0} (list : Section) (start : E → ℤ) (i : ℕ) (es : List E) → order_fault list start (λ e. start e +ℤ pos 1) i es ≡ None → IsRising start es
 starts_rise list start i es e = record {
   rises = λ i j d lt known.
@@ -92,6 +104,7 @@ starts_rise list start i es e = record {
       omega (arith, ints);
 }
 
+-- without a gap the first entry starts at 0
 from_zero : {E : Type 0} (list : Section) (start : E → ℤ) (es : List E) → gap_fault list start es ≡ None → ((k : ℕ) (d : E) → k < length es → pos 0 ≤ℤ start (get_or es k d)) → IsFromZero start es
 from_zero list start [] e low = record { first = λ d some. absurd (omega arith) }
 from_zero list start (x ∷ xs) e low = record {
@@ -101,6 +114,7 @@ from_zero list start (x ∷ xs) e low = record {
       omega (arith, ints);
 }
 
+-- there are as many entries as may be
 count_within : {E : Type 0} (list : Section) (least most : ℕ) (es : List E) → count_fault list least most es ≡ None → (least ≤ length es) × (length es ≤ most)
 count_within list least most es e =
     let counted = both_true (nat_le least (length es)) (nat_le (length es) most) (passed _ (Count list) e) in
@@ -133,7 +147,8 @@ are_gradients length_cm es e =
     let count = neither (count_fault sections.Gradient 0 most_gradients es) _ e in
     let values = neither (value_fault sections.Gradient (gradient_refused length_cm) 1 es) _ count.1 in
     let gap = neither (gap_fault sections.Gradient (λ e. e.start) es) _ values.1 in
-    let each = λ (k : ℕ) (d : Gradient) (l : k < length es). is_gradient length_cm (get_or es k d) (each_accepted sections.Gradient (gradient_refused length_cm) 1 es values.0 k d l) in
+    let each = λ (k : ℕ) (d : Gradient) (l : k < length es).
+    is_gradient length_cm (get_or es k d) (each_accepted sections.Gradient (gradient_refused length_cm) 1 es values.0 k d l) in
     record {
       few = (count_within sections.Gradient 0 most_gradients es count.0).1;
       each = each;
@@ -147,7 +162,8 @@ are_speeds length_cm es e =
     let count = neither (count_fault sections.Speed 1 most_speeds es) _ e in
     let values = neither (value_fault sections.Speed (speed_refused length_cm) 1 es) _ count.1 in
     let gap = neither (gap_fault sections.Speed (λ e. e.start) es) _ values.1 in
-    let each = λ (k : ℕ) (d : SpeedStep) (l : k < length es). is_speed_step length_cm (get_or es k d) (each_accepted sections.Speed (speed_refused length_cm) 1 es values.0 k d l) in
+    let each = λ (k : ℕ) (d : SpeedStep) (l : k < length es).
+    is_speed_step length_cm (get_or es k d) (each_accepted sections.Speed (speed_refused length_cm) 1 es values.0 k d l) in
     record {
       some = (count_within sections.Speed 1 most_speeds es count.0).0;
       few = (count_within sections.Speed 1 most_speeds es count.0).1;
@@ -161,11 +177,13 @@ unfolding areas_fault
 are_areas length_cm es e =
     let count = neither (count_fault sections.Adhesion 0 most_areas es) _ e in
     let values = neither (value_fault sections.Adhesion (area_refused length_cm) 1 es) _ count.1 in
-    let each = λ (k : ℕ) (d : Area) (l : k < length es). is_area length_cm (get_or es k d) (each_accepted sections.Adhesion (area_refused length_cm) 1 es values.0 k d l) in
+    let each = λ (k : ℕ) (d : Area) (l : k < length es).
+    is_area length_cm (get_or es k d) (each_accepted sections.Adhesion (area_refused length_cm) 1 es values.0 k d l) in
     record {
       few = (count_within sections.Adhesion 0 most_areas es count.0).1;
       each = each;
-      apart = all_in_order (λ a. a.start) (λ a. a.end) es (λ k d l. (let some = (each k d l).some_cell in omega (arith, ints))) (each_in_order sections.Adhesion (λ a. a.start) (λ a. a.end) 1 es values.1);
+      apart = all_in_order (λ a. a.start) (λ a. a.end) es (λ k d l. (let some = (each k d l).some_cell in omega (arith, ints)))
+          (each_in_order sections.Adhesion (λ a. a.start) (λ a. a.end) 1 es values.1);
     }
 
 pub track_accepted : (t : TrackData) → track_fault t ≡ None → IsTrack t

@@ -1,0 +1,4 @@
+pub mod Maps
+pub mod Faults
+pub mod Checks
+pub mod Made

@@ -1,0 +1,17 @@
+//! Slope maps, which hold a deceleration for each speed band and stretch of track, and the brake curves that follow them.
+//! How the place of a curve is found is known here alone: contracts speak of what a map stands for.
+#![tactic(auto)]
+
+mod bands;
+mod checks;
+pub mod curve;
+pub mod faults;
+pub mod map;
+mod walk;
+
+pub use curve::Curve;
+pub use faults::CurveFault;
+pub use map::BandMap;
+
+#[cfg(test)]
+mod tests;

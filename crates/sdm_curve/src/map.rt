@@ -1,0 +1,174 @@
+//! Slope maps. One is made once for each kind of slope and then only read; its type keeps that its slopes were accepted.
+
+ghost use Rattle.std.specs.Prelude.{◌≡◌, ℕ, pos, ◌+◌, ◌*◌, ◌^◌, ◌<◌, ◌≤◌, ◌≤ℤ◌, length, map, unsigned_abs, slice_index, slice_index_or, IfOk, IfErr};
+ghost use Rattle.sdm_rules.specs.Slopes.{SlopeMap, meaning_of, bands_of, IsUsable};
+ghost use Rattle.sdm_rules.specs.Curves.{cell_start};
+ghost use Rattle.sdm_curve.specs.Maps.{map_data, handed_in, AreStarts, IsMapData, AreAccepted, IsKept};
+ghost use Rattle.sdm_curve.specs.Faults.{IsFaultOf};
+
+use crate::checks::fault_of;
+use crate::faults::CurveFault;
+use sdm_num::Speed;
+use std::alloc::{AllocError, Global};
+use std::marker::Model;
+
+/// 5,400,000,000 grains: a cell, which is one centimetre.
+const CELL: i128 = 5_400_000_000;
+
+/// A slope for each speed band and each segment of the track, in 1/Q m/s² with Q = 2·10⁹·q, in a form that every law of
+/// curves can stand on: at least 0.05 m/s², and in one band not too uneven. (own)
+#[derive(Drop)]
+pub struct BandMap {
+    q: u32,
+    uppers: Vec<Speed>,
+    starts: Vec<i32>,
+    slopes: Vec<u64>,
+}
+
+impl Model for BandMap {
+    ghost Value = { SlopeMap };
+
+    ghost view = { λ m. record { q = m.q; uppers = m.uppers.items; starts = m.starts.items; slopes = m.slopes.items } };
+
+    ghost invariant = { λ m. IsKept (handed_in (record { q = m.q; uppers = m.uppers.items; starts = m.starts.items; slopes = m.slopes.items })) };
+}
+
+// Slopes that are not below 0, as naturals.
+fn naturals(alloc: Global, slopes: &[i64]) -> Result<Vec<u64>, AllocError>
+    ensures { IfOk result (λ v. v.items ≡ map unsigned_abs slopes.now) }
+{
+    slopes
+        .iter()
+        .map(|slope| slope.unsigned_abs())
+        .collect(alloc)
+}
+
+// The map of what was handed in.
+fn kept(
+    alloc: Global,
+    q: u32,
+    uppers: &[Speed],
+    starts: &[i32],
+    slopes: &[i64],
+) -> Result<BandMap, AllocError>
+    requires { IsKept (map_data q uppers.now starts.now slopes.now) }
+    ensures { IfOk result (λ m. handed_in m ≡ map_data q uppers.now starts.now slopes.now) }
+{
+    let uppers = uppers.to_vec(alloc)?;
+    let starts = starts.to_vec(alloc)?;
+    let slopes = naturals(alloc, slopes)?;
+    Ok(BandMap {
+        q,
+        uppers,
+        starts,
+        slopes,
+    })
+}
+
+impl BandMap {
+    /// The map of the upper speeds of all bands but the last, the first cells of the segments, and a slope within ±10¹⁵
+    /// for each band and segment, all segments of the first band first. It is refused as TooWeak exactly where a slope is
+    /// below 0.05 m/s², as TooVaried exactly where none is and the slopes of a band differ too much, each time for the
+    /// first such slope or band; Memory comes where memory is refused.
+    pub fn new(
+        alloc: Global,
+        q: u32,
+        uppers: &[Speed],
+        starts: &[i32],
+        slopes: &[i64],
+    ) -> Result<BandMap, CurveFault>
+        requires { IsMapData (map_data q uppers.now starts.now slopes.now) }
+        ensures kept { IfOk result (λ m. handed_in m ≡ map_data q uppers.now starts.now slopes.now) }
+        ensures accepted { IfOk result (λ _. AreAccepted (map_data q uppers.now starts.now slopes.now)) }
+        ensures fault { IfErr result (IsFaultOf (map_data q uppers.now starts.now slopes.now)) }
+    {
+        if let Some(fault) = fault_of(q, uppers, starts, slopes) {
+            return Err(fault);
+        }
+        kept(alloc, q, uppers, starts, slopes).map_err(|_| CurveFault::Memory)
+    }
+
+    /// 100 plus the rotating mass in percent, by which the unit of slopes is scaled.
+    pub fn q(&self) -> u32
+        ensures value { result ≡ self.now.q }
+        ensures range { (100 ≤ result) × (result ≤ 11_730) }
+        ensures kept { IsKept (handed_in self.now) }
+        ensures usable { IsUsable (meaning_of self.now) }
+    {
+        self.q
+    }
+
+    /// The number of bands.
+    pub fn bands(&self) -> usize
+        ensures value { result ≡ bands_of self.now.uppers }
+        ensures usable { IsUsable (meaning_of self.now) }
+    {
+        self.uppers.len() + 1
+    }
+
+    /// The upper speed of a band but the last, counted from 0.
+    pub fn upper(&self, i: usize) -> Speed
+        requires { i < length self.now.uppers }
+        ensures { result ≡ slice_index self.now.uppers i }
+    {
+        self.uppers[i]
+    }
+
+    /// The number of segments.
+    pub fn segments(&self) -> usize
+        ensures value { result ≡ length self.now.starts }
+        ensures some { 0 < result }
+        ensures rising { AreStarts self.now.starts }
+    {
+        self.starts.len()
+    }
+
+    /// The first cell of a segment, counted from 0.
+    pub fn start(&self, i: usize) -> i32
+        requires { i < length self.now.starts }
+        ensures value { result ≡ slice_index_or self.now.starts i (pos 0) }
+        ensures not_below_0 { pos 0 ≤ℤ result }
+    {
+        self.starts[i]
+    }
+
+    /// The slope of a band in a segment, both counted from 0.
+    pub fn slope(&self, band: usize, i: usize) -> i64
+        requires known_band { band < bands_of self.now.uppers }
+        requires known { i < length self.now.starts }
+        ensures { result ≡ pos (slice_index self.now.slopes (band * length self.now.starts + i)) }
+    {
+        self.natural_slope(band, i) as i64
+    }
+
+    // The slope as it is kept.
+    fn natural_slope(&self, band: usize, i: usize) -> u64
+        requires known_band { band < bands_of self.now.uppers }
+        requires known { i < length self.now.starts }
+        ensures value { result ≡ slice_index self.now.slopes (band * length self.now.starts + i) }
+        ensures some { 0 < result }
+        ensures small { result ≤ 10 ^ 15 }
+    {
+        self.slopes[band * self.segments() + i]
+    }
+
+    /// The energy of a grain in a band and a segment, both counted from 0: 27 times the slope.
+    pub(crate) fn rate(&self, band: usize, i: usize) -> u128
+        requires known_band { band < bands_of self.now.uppers }
+        requires known { i < length self.now.starts }
+        ensures value { result ≡ 27 * slice_index self.now.slopes (band * length self.now.starts + i) }
+        ensures some { 0 < result }
+        ensures small { result ≤ 27 * 10 ^ 15 }
+    {
+        27 * u128::from(self.natural_slope(band, i))
+    }
+
+    /// The place in grains where a segment begins.
+    pub(crate) fn border(&self, i: usize) -> i128
+        requires { i < length self.now.starts }
+        ensures value { result ≡ cell_start 1 (slice_index_or self.now.starts i (pos 0)) }
+        ensures within { (pos 0 ≤ℤ result) × (result ≤ℤ pos (2 ^ 64)) }
+    {
+        CELL * i128::from(self.start(i))
+    }
+}

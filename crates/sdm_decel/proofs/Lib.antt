@@ -1,0 +1,10 @@
+pub mod Sizes
+pub mod KwetTerms
+pub mod SlopeTerms
+pub mod Gradients
+pub mod Sides
+pub mod Stretches
+pub mod Rows
+pub mod Pushes
+pub mod SlopeLaws
+pub mod Making

@@ -1,0 +1,74 @@
+-- The same lies under the train with its front end in two cells, where no border lies past the first up to the second: each
+-- gradient has begun for both or for neither, and each area is in force for both or for neither.
+use Rattle.std.proofs.Common.{◌≡◌, ℕ, suc, ℤ, pos, List, [], ◌∷◌, length, get_or, Bool, true, false, int_le, int_lt, ◌<◌, ◌+ℤ◌, ◌≤ℤ◌, ◌<ℤ◌, refl, sym, ◌∙◌, ap₂, arith, rules}
+use Rattle.std.specs.List.{list_any}
+use Rattle.std.proofs.lemmas.Int.{ints, by_lt_z}
+use Rattle.sdm_rules.specs.declared.data.Area.{Area}
+use Rattle.sdm_rules.specs.Cells.{last_at, value_at}
+use Rattle.sdm_rules.specs.Data.{TrackData}
+use Rattle.sdm_rules.specs.Decelerations.{UnderTrain, is_in_force, under_train}
+use Rattle.sdm_track.specs.declared.under_train.Segment.{Segment}
+use Rattle.sdm_decel.specs.Borders.{AreGradientsUnder}
+
+le_is : (a b : ℤ) → a ≤ℤ b → int_le a b ≡ true
+le_is a b h = sym (search (rules, ints))
+
+not_le_is : (a b : ℤ) → b <ℤ a → int_le a b ≡ false
+not_le_is a b h = sym (search (rules, ints))
+
+lt_is : (a b : ℤ) → a <ℤ b → int_lt a b ≡ true
+lt_is a b h = sym (search (rules, ints))
+
+not_lt_is : (a b : ℤ) → b ≤ℤ a → int_lt a b ≡ false
+not_lt_is a b h = sym (search (rules, ints))
+
+-- no border lies past the cell `s` up to the cell `c`
+pub record IsBegun (s c border : ℤ) : Type 0 where
+  pub begun : border ≤ℤ c → border ≤ℤ s
+
+module _ (s c : ℤ) (le : s ≤ℤ c) where
+  le_same : (b : ℤ) → IsBegun s c b → int_le b c ≡ int_le b s
+  le_same b h =
+      by_lt_z c b
+      (λ (lt : c <ℤ b). not_le_is b c lt ∙ sym (not_le_is b s (omega (arith, ints))))
+      (λ (ge : b ≤ℤ c). le_is b c ge ∙ sym (le_is b s (h.begun ge)))
+
+  lt_same : (b : ℤ) → IsBegun s c b → int_lt c b ≡ int_lt s b
+  lt_same b h =
+      by_lt_z c b
+      (λ (lt : c <ℤ b). lt_is c b lt ∙ sym (lt_is s b (omega (arith, ints))))
+      (λ (ge : b ≤ℤ c). not_lt_is c b ge ∙ sym (not_lt_is s b (h.begun ge)))
+
+  -- ---- gradients
+
+  last_same : {E V : Type 0} (start : E → ℤ) (value : E → V) (es : List E) (before : V) → ((k : ℕ) (d : E) → k < length es → IsBegun s c (start (get_or es k d))) →
+      last_at start value es c before ≡ last_at start value es s before
+  last_same start value [] before h = refl
+  last_same start value (x ∷ xs) before h = rw (le_same (start x) (h 0 x (omega arith))) (last_same start value xs _ (λ k d l. h (suc k) d (omega arith)))
+
+  value_same : {E V : Type 0} (start : E → ℤ) (value : E → V) (none : V) (es : List E) → ((k : ℕ) (d : E) → k < length es → IsBegun s c (start (get_or es k d))) →
+      value_at start value none es c ≡ value_at start value none es s
+  value_same start value none [] h = refl
+  value_same start value none (x ∷ xs) h = last_same start value xs (value x) (λ k d l. h (suc k) d (omega arith))
+
+  -- ---- areas
+
+  any_same : (length_cm : ℤ) (areas : List Area) → ((k : ℕ) (d : Area) → k < length areas → IsBegun s c (get_or areas k d).start) → ((k : ℕ) (d : Area) → k < length areas → IsBegun s c ((get_or areas k d).end +ℤ length_cm)) →
+      list_any (is_in_force length_cm c) areas ≡ list_any (is_in_force length_cm s) areas
+  any_same length_cm [] starts ends = refl
+  any_same length_cm (a ∷ more) starts ends =
+      let front = le_same a.start (starts 0 a (omega arith)) in
+      let rear = lt_same (a.end +ℤ length_cm) (ends 0 a (omega arith)) in
+      let rest = any_same length_cm more (λ k d l. starts (suc k) d (omega arith)) (λ k d l. ends (suc k) d (omega arith)) in
+      cc
+
+  -- ---- the track under the train
+
+  pub under_same : (track : TrackData) (length_cm : ℕ) (segments : List Segment) → AreGradientsUnder track length_cm segments → ((k : ℕ) (d : Segment) → k < length segments → IsBegun s c (get_or segments k d).start) →
+      ((k : ℕ) (d : Area) → k < length track.areas → IsBegun s c (get_or track.areas k d).start) → ((k : ℕ) (d : Area) → k < length track.areas → IsBegun s c ((get_or track.areas k d).end +ℤ pos length_cm)) →
+      under_train track (pos length_cm) c ≡ under_train track (pos length_cm) s
+  under_same track length_cm segments given gradients starts ends =
+      let grad = sym (given.at c) ∙ value_same (λ x. x.start) (λ x. x.value) (pos 0) segments gradients ∙ given.at s in
+      let reduced = any_same (pos length_cm) track.areas starts ends in
+      let under : ℤ → Bool → UnderTrain = λ g r. record { grad = g; reduced = r } in
+      ap₂ under grad reduced

@@ -1,0 +1,129 @@
+//! The decelerations of SUBSET-026-3 3.13.6 in whole numbers of 1/Q m/s², with Q = 2·10⁹·q: in this unit each is exact.
+
+ghost use Rattle.std.specs.Prelude.{◌≡◌, ℤ, pos, unsigned_abs, ◌^◌, ◌+ℤ◌, ◌-ℤ◌, ◌*ℤ◌, ◌≤◌};
+ghost use Rattle.sdm_rules.specs.Decelerations.{q_of, brake_safe, brake_under, mass_factor, a_gradient, kn_of, kn_term, slope_under};
+ghost use Rattle.sdm_decel.specs.Slopes.{brake_of};
+ghost use Rattle.sdm_train.specs.Trains.{IsBand};
+
+use crate::under::Under;
+use sdm_national::National;
+use sdm_rules::SlopeKind;
+use sdm_train::{Band, Train};
+
+/// 1 cm/s² in 1/(2·10⁹) m/s². (own unit)
+const CM_S2: i64 = 20_000_000;
+
+/// 9.81 m/s² for 1 per mille of a train without rotating mass, in 1/Q m/s². (SUBSET-026-3 3.13.4.3)
+const GRAVITY: i64 = 1_962_000_000;
+
+/// q: 100 plus the rotating mass in percent; 102 · 115 where it is not known, for both values that are then taken. (own unit)
+pub fn q_of(train: &Train) -> u32
+    ensures value { result ≡ q_of train.now.rotating_mass }
+    ensures least { 100 ≤ result }
+    ensures greatest { result ≤ 11_730 }
+{
+    match train.rotating_mass() {
+        Some(percent) => 100 + percent as u32,
+        None => 11_730,
+    }
+}
+
+// Where the rotating mass is not known, 15 percent are taken uphill and 2 percent downhill: with q = 102 · 115 this leaves
+// the factor 102 uphill and 115 downhill. (SUBSET-026-3 3.13.4.3; own values)
+fn mass_factor(rotating_mass: Option<i64>, grad: i64) -> i64
+    ensures value { result ≡ mass_factor rotating_mass grad }
+    ensures size { unsigned_abs result ≤ 115 }
+{
+    match rotating_mass {
+        Some(_) => 1,
+        None if grad < 0 => 115,
+        None => 102,
+    }
+}
+
+// A_gradient = 9.81 · grad / (1000 + 10 · M_rotating), in 1/Q m/s². (SUBSET-026-3 3.13.4.3)
+fn a_gradient(rotating_mass: Option<i64>, grad: i64) -> i64
+    requires { unsigned_abs grad ≤ 80 }
+    ensures value { result ≡ a_gradient rotating_mass grad }
+    ensures size { unsigned_abs result ≤ 18_050_400_000_000 }
+{
+    GRAVITY * mass_factor(rotating_mass, grad) * grad
+}
+
+// Kwet_rst weighted by M_NVAVADH: Kwet_rst + M_NVAVADH · (1 − Kwet_rst), in 1/20,000. (SUBSET-026-3 3.13.6.2.1)
+fn weighted_kwet(avadh: i64, band: &Band) -> i64
+    requires avadh { unsigned_abs avadh ≤ 20 }
+    requires band { IsBand band.now }
+    ensures value { result ≡ pos 20 *ℤ band.now.kwet +ℤ avadh *ℤ (pos 1000 -ℤ band.now.kwet) }
+    ensures size { unsigned_abs result ≤ 40_000 }
+{
+    20 * band.kwet + avadh * (1000 - band.kwet)
+}
+
+// Kdry_rst · (Kwet_rst + M_NVAVADH · (1 − Kwet_rst)) · A_brake_emergency, in 1/(2·10⁹) m/s². (SUBSET-026-3 3.13.6.2.1)
+fn brake_safe(avadh: i64, band: &Band) -> i64
+    requires avadh { unsigned_abs avadh ≤ 20 }
+    requires band { IsBand band.now }
+    ensures value { result ≡ brake_safe avadh band.now }
+    ensures size { unsigned_abs result ≤ 16_000_000_000 }
+{
+    band.kdry * weighted_kwet(avadh, band) * band.emergency
+}
+
+// A_brake_safe: on reduced adhesion at most the national maximum A_NVMAXREDADH. (SUBSET-026-3 3.13.6.2.1)
+fn brake_under(national: &National, under: Under, band: &Band) -> i64
+    requires { IsBand band.now }
+    ensures value { result ≡ brake_under national.now under band.now }
+    ensures size { unsigned_abs result ≤ 16_000_000_000 }
+{
+    let dry = brake_safe(national.avadh(), band);
+    if under.reduced() {
+        dry.min(CM_S2 * national.adhesion_max())
+    } else {
+        dry
+    }
+}
+
+// Kn: Kn+ uphill and on the level, Kn- downhill, in cm/s². (SUBSET-026-3 3.13.6.4; own form)
+fn kn_of(band: &Band, grad: i64) -> i64
+    requires { IsBand band.now }
+    ensures value { result ≡ kn_of band.now grad }
+    ensures size { unsigned_abs result ≤ 1000 }
+{
+    if grad < 0 { band.kn_down } else { band.kn_up }
+}
+
+// Kn · grad / 1000, in 1/(2·10⁹) m/s². (SUBSET-026-3 3.13.6.4; own form)
+fn kn_term(band: &Band, grad: i64) -> i64
+    requires band { IsBand band.now }
+    requires grad { unsigned_abs grad ≤ 80 }
+    ensures value { result ≡ kn_term band.now grad }
+    ensures size { unsigned_abs result ≤ 1_600_000_000 }
+{
+    20_000 * kn_of(band, grad) * grad
+}
+
+// What the brakes give, in 1/(2·10⁹) m/s²: A_brake_safe, A_brake_service, or A_brake_normal_service less Kn · grad / 1000.
+// Reduced adhesion counts for the emergency brake alone. (SUBSET-026-3 3.13.6.2, 3.13.6.3, 3.13.6.4)
+fn brake(kind: SlopeKind, national: &National, under: Under, band: &Band) -> i64
+    requires { IsBand band.now }
+    ensures value { result ≡ brake_of kind national.now under band.now }
+    ensures size { unsigned_abs result ≤ 16_000_000_000 }
+{
+    match kind {
+        SlopeKind::Safe => brake_under(national, under, band),
+        SlopeKind::Expected => CM_S2 * band.service,
+        SlopeKind::Normal => CM_S2 * band.normal - kn_term(band, under.grad()),
+    }
+}
+
+/// A_safe, A_expected or A_normal_service of a band: what its brakes give, and A_gradient, in 1/Q m/s².
+/// (SUBSET-026-3 3.13.6.2, 3.13.6.3, 3.13.6.4)
+pub fn slope(kind: SlopeKind, train: &Train, national: &National, under: Under, band: &Band) -> i64
+    requires { IsBand band.now }
+    ensures value { result ≡ slope_under kind train.now national.now under band.now }
+    ensures size { unsigned_abs result ≤ 10 ^ 15 }
+{
+    let brake = brake(kind, national, under, band);
+    i64::from(q_of(train)) * brake + a_gradient(train.rotating_mass(), under.grad())
+}

@@ -1,0 +1,78 @@
+//! What the decelerations of a front end rest on, beside its speed band.
+
+ghost use Rattle.std.specs.Prelude.{◌≡◌, ℤ, pos, map, IfOk, unsigned_abs, ◌≤◌};
+ghost use Rattle.sdm_rules.specs.Decelerations.{under_train};
+ghost use Rattle.sdm_track.specs.Segments.{AreSegments, gradient_in};
+ghost use Rattle.sdm_decel.specs.Borders.{AreGradientsUnder};
+
+use sdm_num::NoMemory;
+use sdm_track::{Segments, Track};
+use std::alloc::Global;
+use std::marker::Model;
+
+/// The track under the train: the lowest gradient from its rear end to its front end, in per mille and at most 80 up or down
+/// (SUBSET-026-3 3.13.4.2), and whether reduced adhesion is in force (3.13.6.2).
+#[derive(Clone, Copy)]
+pub struct Under {
+    grad: i64,
+    reduced: bool,
+}
+
+impl Model for Under {
+    ghost use Rattle.std.specs.Prelude.{◌≤◌, unsigned_abs};
+    ghost use Rattle.sdm_rules.specs.Decelerations.{UnderTrain};
+
+    ghost Value = { UnderTrain };
+
+    ghost view = { λ u. record { grad = u.grad; reduced = u.reduced } };
+
+    ghost invariant = { λ u. unsigned_abs u.grad ≤ 80 };
+
+    ghost inverse = { λ u. record { grad = u.grad; reduced = u.reduced } };
+}
+
+impl Under {
+    /// The track under a train of this length in cm with its front end in the cell.
+    pub fn at(track: &Track, segments: &Segments, length_cm: u32, cell: i32) -> Under
+        requires { AreGradientsUnder track.now length_cm segments.now }
+        ensures { result ≡ under_train track.now (pos length_cm) cell }
+    {
+        Under {
+            grad: i64::from(segments.at(cell)),
+            reduced: track.reduced(cell, length_cm),
+        }
+    }
+
+    /// The track under the train with its front end in each of the cells.
+    pub fn at_each(
+        alloc: Global,
+        track: &Track,
+        segments: &Segments,
+        length_cm: u32,
+        cells: &[i32],
+    ) -> Result<Vec<Under>, NoMemory>
+        requires { AreGradientsUnder track.now length_cm segments.now }
+        ensures { IfOk result (λ v. v.items ≡ map (under_train track.now (pos length_cm)) cells.now) }
+    {
+        let mut unders = Vec::new(alloc);
+        for cell in cells {
+            unders.push(Under::at(track, segments, length_cm, *cell))?;
+        }
+        Ok(unders)
+    }
+
+    /// The gradient in per mille, uphill positive.
+    pub fn grad(self) -> i64
+        ensures value { result ≡ self.grad }
+        ensures size { unsigned_abs result ≤ 80 }
+    {
+        self.grad
+    }
+
+    /// Whether reduced adhesion is in force.
+    pub fn reduced(self) -> bool
+        ensures { result ≡ self.reduced }
+    {
+        self.reduced
+    }
+}

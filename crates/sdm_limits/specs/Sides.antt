@@ -1,0 +1,53 @@
+-- What limits that were found say of the limits of the profile: where they lie, and which exact ones they stand for (own).
+use Rattle.std.specs.Prelude.{ℕ, Option, Some, None, option_map, ⊤}
+use Rattle.sdm_num.specs.Fractions.{Fraction, whole}
+use Rattle.sdm_num.specs.Bounds.{Bound, IsEarlyFor}
+use Rattle.sdm_rules.specs.declared.data.Times.{Times}
+use Rattle.sdm_rules.specs.Slopes.{SlopeMap, meaning_of}
+use Rattle.sdm_rules.specs.Limits.{CurvePlaces, SupervisionLimits, ebd_limits_at, sbd_limits_at}
+use Rattle.sdm_curve.specs.Made.{Foot}
+use Rattle.sdm_limits.specs.declared.limits.Limits.{Limits}
+use Rattle.sdm_limits.specs.declared.reaction.Reaction.{Reaction}
+
+-- the limits on an EBD with a foot, on the slopes of a map, for any way to find the places of a curve
+-- (SUBSET-026-3 3.13.9.3)
+abbrev pub ebd_limits_by : CurvePlaces → SlopeMap → Foot → Option Fraction → Times → ℕ → Reaction → SupervisionLimits
+ebd_limits_by P map ebd guide times v reaction =
+    ebd_limits_at times v guide reaction.d_bec (P (meaning_of map) ebd.place ebd.speed reaction.v_bec)
+
+-- the same on an SBD, which gives no EBI (SUBSET-026-3 3.13.9.3)
+abbrev pub sbd_limits_by : CurvePlaces → SlopeMap → Foot → Option Fraction → Times → ℕ → SupervisionLimits
+sbd_limits_by P map sbd guide times v = sbd_limits_at times v guide (P (meaning_of map) sbd.place sbd.speed v)
+
+-- the place of a bound, as a fraction
+abbrev pub place_of : Bound → Fraction
+place_of e = whole e.at
+
+-- the place of a bound, if there is one
+abbrev pub place_where : Option Bound → Option Fraction
+place_where e = option_map place_of e
+
+-- the places of the limits that were found
+abbrev pub places_of : Limits → SupervisionLimits
+places_of l = record {
+  ebi = place_where l.ebi;
+  sbi = place_of l.sbi;
+  warning = place_of l.warning;
+  permitted = place_of l.permitted;
+  indication = place_of l.indication;
+}
+
+-- there is a bound where there is an exact place, and it stands for it
+abbrev pub IsEarlyWhere : Option Bound → Option Fraction → Type 0
+IsEarlyWhere None None = ⊤
+IsEarlyWhere (Some e) (Some x) = IsEarlyFor e x
+IsEarlyWhere None (Some x) = ⊥
+IsEarlyWhere (Some e) None = ⊥
+
+-- each limit that was found stands for the exact one
+pub record StandFor (l : Limits) (x : SupervisionLimits) : Type 0 where
+  pub ebi : IsEarlyWhere l.ebi x.ebi
+  pub sbi : IsEarlyFor l.sbi x.sbi
+  pub warning : IsEarlyFor l.warning x.warning
+  pub permitted : IsEarlyFor l.permitted x.permitted
+  pub indication : IsEarlyFor l.indication x.indication

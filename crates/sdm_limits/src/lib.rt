@@ -1,0 +1,15 @@
+//! emergency brake works, and the limits that lie before the curve by what happens until then. Each limit is a whole
+//! number of grains before a computed place, so it lies on the same side of the exact limit.
+#![tactic(auto)]
+
+pub mod limits;
+pub mod reaction;
+pub mod times;
+
+pub use limits::{Limits, ebd_limits, sbd_limits};
+pub use reaction::{Reaction, reaction_of};
+pub use sdm_rules::Times;
+pub use times::OfTrain;
+
+#[cfg(test)]
+mod tests;

@@ -1,0 +1,136 @@
+//! The limits of a target, each so many grains before the place of its brake curve: EBI, SBI, W, P and I. They are found
+//! from the computed place of the curve just as the exact limits from the exact one. Own: T_bs1 and T_bs2 are the same, and
+//! each target has one SBI, on its EBD or, for an EOA, on its SBD.
+
+ghost use Rattle.std.specs.Prelude.{◌≡◌, ◌≤◌, ◌*◌, ◌^◌, Option};
+ghost use Rattle.std.specs.Option.{option_map_or};
+ghost use Rattle.sdm_num.specs.Units.{notches};
+ghost use Rattle.sdm_num.specs.Bounds.{IsEarlyFor};
+ghost use Rattle.sdm_num.specs.Fractions.{Fraction, lesser};
+ghost use Rattle.sdm_rules.specs.Limits.{computed, exact_places, limits_before};
+ghost use Rattle.sdm_curve.specs.Made.{IsMadeFrom};
+ghost use Rattle.sdm_limits.specs.Ranges.{AreTimes, IsGuide, IsWithin, reach};
+ghost use Rattle.sdm_limits.specs.Sides.{IsEarlyWhere, StandFor, ebd_limits_by, place_of, place_where, places_of, sbd_limits_by};
+
+use crate::reaction::{Reaction, way};
+use crate::times::{T_DRIVER, T_WARNING};
+use sdm_curve::{BandMap, Curve};
+use sdm_num::{Early, Speed};
+use sdm_rules::Times;
+
+/// The limits of a target: EBI, SBI, W, P and I, each on the safe side of the exact one. An EOA has no EBI.
+/// (SUBSET-026-3 3.13.9.3)
+#[derive(Clone, Copy, Debug, PartialEq, Eq)]
+pub struct Limits {
+    /// d_EBI, past which the emergency brake is commanded.
+    pub ebi: Option<Early>,
+    /// d_SBI, past which the service brake is commanded.
+    pub sbi: Early,
+    /// d_W, past which the driver is warned.
+    pub warning: Early,
+    /// d_P, past which the train is too fast.
+    pub permitted: Early,
+    /// d_I, from which on the driver sees the target.
+    pub indication: Early,
+}
+
+/// The limits on an EBD at the estimated speed `v`, with the guidance curve's place at `v` where there is a guidance curve.
+/// The curve was made from the map; `v` is at most 500 km/h, each time at most 300 ds, D_bec at most 10¹⁶ grains, and the
+/// guide lies within 10¹⁸ grains of the origin. (SUBSET-026-3 3.13.9.3; ranges own)
+pub fn ebd_limits(
+    safe: &BandMap,
+    ebd: &Curve,
+    guide: Option<Early>,
+    times: &Times,
+    v: Speed,
+    reaction: &Reaction,
+) -> Limits
+    requires made { IsMadeFrom safe.now ebd.now }
+    requires guide { IsGuide guide }
+    requires times { AreTimes times.now }
+    requires speed { v ≤ notches 500 }
+    requires way { reaction.now.d_bec ≤ 10 ^ 16 }
+    ensures at { places_of result ≡
+        ebd_limits_by computed safe.now ebd.now (place_where guide) times.now v reaction.now }
+    ensures stands { (g : Option Fraction) → IsEarlyWhere guide g →
+        StandFor result (ebd_limits_by exact_places safe.now ebd.now g times.now v reaction.now) }
+{
+    // d_EBI = d_EBD(V_bec) - D_bec (SUBSET-026-3 3.13.9.3.2)
+    let ebi = ebd.place(safe, reaction.v_bec).less(reaction.d_bec);
+    // d_SBI = d_EBI - V_est * T_bs (SUBSET-026-3 3.13.9.3.3; form own)
+    let sbi = ebi.less(way(v.notches(), times.bs));
+    limits_from_sbi(times, v, guide, Some(ebi), sbi)
+}
+
+/// The limits on an SBD, which have no EBI, at the estimated speed `v`, with the guidance curve's place at `v` where there is
+/// a guidance curve. The conditions are those of `ebd_limits`. (SUBSET-026-3 3.13.9.3; ranges own)
+pub fn sbd_limits(
+    expected: &BandMap,
+    sbd: &Curve,
+    guide: Option<Early>,
+    times: &Times,
+    v: Speed,
+) -> Limits
+    requires made { IsMadeFrom expected.now sbd.now }
+    requires guide { IsGuide guide }
+    requires times { AreTimes times.now }
+    requires speed { v ≤ notches 500 }
+    ensures at { places_of result ≡
+        sbd_limits_by computed expected.now sbd.now (place_where guide) times.now v }
+    ensures stands { (g : Option Fraction) → IsEarlyWhere guide g →
+        StandFor result (sbd_limits_by exact_places expected.now sbd.now g times.now v) }
+{
+    // d_SBI = d_SBD(V_est) - V_est * T_bs (SUBSET-026-3 3.13.9.3.3; form own)
+    let sbi = sbd.place(expected, v).less(way(v.notches(), times.bs));
+    limits_from_sbi(times, v, guide, None, sbi)
+}
+
+// The limits before an SBI, with an EBI if there is one. (SUBSET-026-3 3.13.9.3.4 to 3.13.9.3.6; form own)
+fn limits_from_sbi(
+    times: &Times,
+    v: Speed,
+    guide: Option<Early>,
+    ebi: Option<Early>,
+    sbi: Early,
+) -> Limits
+    requires guide { IsGuide guide }
+    requires times { AreTimes times.now }
+    requires speed { v ≤ notches 500 }
+    requires near { IsWithin reach sbi.at }
+    ensures at { places_of result ≡
+        limits_before times.now v (place_where guide) (place_where ebi) (place_of sbi) }
+    ensures stands { (g e : Option Fraction) (s : Fraction) →
+        IsEarlyWhere guide g → IsEarlyWhere ebi e → IsEarlyFor sbi s →
+        StandFor result (limits_before times.now v g e s) }
+{
+    let v = v.notches();
+    // d_P = d_SBI - V_est * T_driver, or the guidance curve's place where that is earlier (SUBSET-026-3 3.13.9.3.5)
+    let driver = sbi.less(way(v, T_DRIVER));
+    let permitted = guided(guide, driver);
+    Limits {
+        ebi,
+        sbi,
+        // d_W = d_SBI - V_est * T_warning (SUBSET-026-3 3.13.9.3.4)
+        warning: sbi.less(way(v, T_WARNING)),
+        permitted,
+        // d_I = d_P - V_est * T_indication (SUBSET-026-3 3.13.9.3.6)
+        indication: permitted.less(way(v, times.indication)),
+    }
+}
+
+// The permitted limit: the place that the driver's time asks for, or the guide where that is earlier.
+#[tactic(auto, using(crate::proofs::Places::earlier_place))]
+fn guided(guide: Option<Early>, driver: Early) -> Early
+    requires guide { IsGuide guide }
+    requires near { IsWithin (2 * reach) driver.at }
+    ensures at { place_of result ≡
+        option_map_or (λ g. lesser g (place_of driver)) (place_where guide) (place_of driver) }
+    ensures stands { (g : Option Fraction) (d : Fraction) → IsEarlyWhere guide g → IsEarlyFor driver d →
+        IsEarlyFor result (option_map_or (λ x. lesser x d) g d) }
+    ensures near { IsWithin (2 * reach) result.at }
+{
+    match guide {
+        Some(guide) => guide.earlier(driver),
+        None => driver,
+    }
+}

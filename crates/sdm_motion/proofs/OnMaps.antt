@@ -1,0 +1,25 @@
+-- What a kept map stands for is usable, so the laws of motions hold on it.
+use Rattle.std.proofs.Common.{ℕ, ◌*◌, ◌<◌, arith}
+use Rattle.std.proofs.Math.Nat.{mul-le-mul_left}
+use Rattle.sdm_rules.specs.Slopes.{meaning_of}
+use Rattle.sdm_laws.proofs.Stretch.{stretch}
+use Rattle.sdm_laws.proofs.Braking.{braking}
+use Rattle.sdm_laws.proofs.Reaction.{reaction}
+use Rattle.sdm_curve.proofs.Meanings.{usable_of}
+use Rattle.sdm_motion.specs.MapLaws.{LawOfMapStretch, LawOfMapBraking, LawOfMapReaction, LawOfMapMotion}
+
+pub map_stretch : LawOfMapStretch
+map_stretch map m f w a x y kept = stretch (meaning_of map) m f w a x y (usable_of map kept)
+
+pub map_braking : LawOfMapBraking
+map_braking map m f w x ys kept = braking (meaning_of map) m f w x ys (usable_of map kept)
+
+pub map_reaction : LawOfMapReaction
+map_reaction map s start target = reaction s start (meaning_of map) target
+
+-- the square of a scale is above 0 too
+pub square_some : (s : ℕ) → 0 < s → 0 < s * s
+square_some s some = omega (arith, mul-le-mul_left s some)
+
+pub map_motion : LawOfMapMotion
+map_motion map s start f w p v xs first more kept some motion = map_braking map (s * s) f w first more kept (square_some s some) motion.braking

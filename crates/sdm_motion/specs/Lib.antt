@@ -1,0 +1,4 @@
+pub mod MapLaws
+pub mod Slices
+pub mod Steps
+pub mod Motions

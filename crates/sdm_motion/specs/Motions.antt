@@ -1,0 +1,26 @@
+-- Motions as they are handed in: a list of slices and a list of points (own).
+use Rattle.std.specs.Prelude.{◌≡◌, ℕ, ℤ, pos, neg_ℤ, List, ◌∷◌, ◌*◌, ◌^◌, ◌≤◌, ◌*ℤ◌, ◌≤ℤ◌, All}
+use Rattle.sdm_rules.specs.declared.motions.Point.{Point}
+use Rattle.sdm_rules.specs.declared.motions.Slice.{Slice}
+use Rattle.sdm_rules.specs.declared.motions.Start.{Start}
+use Rattle.sdm_rules.specs.Slopes.{Slopes}
+use Rattle.sdm_rules.specs.Motion.{IsMotion, last_point, slice_ends}
+
+-- a point within 10^21 of 0, in 1/s² grains, with a square of at most 10^17, in 1/s² squared notches (own)
+pub record IsInRange (x : Point) : Type 0 where
+  pub low : neg_ℤ (pos (10 ^ 21)) ≤ℤ x.place
+  pub high : x.place ≤ℤ pos (10 ^ 21)
+  pub square : x.square ≤ 10 ^ 17
+
+-- where slices end that begin at the place `p` with the speed `v` (own)
+abbrev pub first_of : ℤ → ℕ → List Slice → Point
+first_of p v xs = last_point (record { place = p; square = v * v }) (slice_ends p v xs)
+
+-- the slices and points are a motion that begins exactly at the front and with the speed of the start, and every point is
+-- in its ranges (own)
+pub record IsKnownMotion (s : ℕ) (start : Start) (on : Slopes) (xs : List Slice) (points : List Point) : Type 0 where
+  pub first : Point
+  pub more : List Point
+  pub split : points ≡ first ∷ more
+  pub motion : IsMotion s start on (pos (s * s) *ℤ start.front) (s * start.speed) xs first more
+  pub ranges : All IsInRange points

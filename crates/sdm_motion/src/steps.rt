@@ -1,0 +1,175 @@
+//! Steps of a braking train, from point to point.
+
+ghost use Rattle.std.specs.Prelude.{◌≡◌, ◌↔◌, ◌+◌, ◌*◌, ◌^◌, ◌<◌, ◌≤◌, ◌+ℤ◌, ◌≤ℤ◌, pos, neg_ℤ, length, IsTrue, All};
+ghost use Rattle.sdm_rules.specs.Slopes.{bands_of, meaning_of};
+ghost use Rattle.sdm_rules.specs.Curves.{grain_energy, upper_square};
+ghost use Rattle.sdm_rules.specs.Motion.{lower_square, BrakesAtLeast, IsInBand, IsStep};
+ghost use Rattle.sdm_curve.specs.Maps.{handed_in, IsKept};
+ghost use Rattle.sdm_motion.specs.Motions.{IsInRange};
+ghost use Rattle.sdm_motion.specs.Steps.{segment_slope, AreBraking, BrakesIn, IsStepIn};
+
+use crate::slopes::{first_met, have_slope, segment_slope};
+use sdm_curve::BandMap;
+use sdm_rules::Point;
+
+// The square at the upper speed of a band.
+fn border(m: u32, map: &BandMap, band: usize) -> u128
+    requires few { m ≤ 256 }
+    requires known { band < length map.now.uppers }
+    ensures { result ≡ upper_square (meaning_of map.now) m band }
+{
+    let upper = u128::from(map.upper(band).notches());
+    u128::from(m) * (upper * upper)
+}
+
+// Whether the square is at or above the lower border of a band; the first one has none.
+fn is_above(m: u32, map: &BandMap, band: usize, square: u128) -> bool
+    requires few { m ≤ 256 }
+    requires known { band < bands_of map.now.uppers }
+    ensures { IsTrue result ↔ (lower_square (meaning_of map.now) m band ≤ square) }
+{
+    if band == 0 {
+        return true;
+    }
+    border(m, map, band - 1) <= square
+}
+
+// Whether the square is at or below the upper border of a band; the last one has none.
+fn is_below(m: u32, map: &BandMap, band: usize, square: u128) -> bool
+    requires few { m ≤ 256 }
+    requires known { band < bands_of map.now.uppers }
+    ensures { IsTrue result ↔ (band < length map.now.uppers → square ≤ upper_square (meaning_of map.now) m band) }
+{
+    if map.bands() <= band + 1 {
+        return true;
+    }
+    square <= border(m, map, band)
+}
+
+// Whether the square lies in the band, its borders included.
+fn is_in_band(m: u32, map: &BandMap, band: usize, square: u128) -> bool
+    requires few { m ≤ 256 }
+    requires known { band < bands_of map.now.uppers }
+    ensures { IsTrue result ↔ IsInBand (meaning_of map.now) m band square }
+{
+    if !is_above(m, map, band, square) {
+        return false;
+    }
+    is_below(m, map, band, square)
+}
+
+// The energy of a change of the square.
+fn energy_of(map: &BandMap, change: u128) -> u128
+    requires { change ≤ 10 ^ 17 }
+    ensures value { result ≡ grain_energy (meaning_of map.now) change }
+    ensures kept { IsKept (handed_in map.now) }
+{
+    5_000_000_000_000 * u128::from(map.q()) * change
+}
+
+/// The way from a place to a point that is not before it.
+pub fn way_to(point: &Point, from: i128) -> u128
+    requires low { neg_ℤ (pos (2 * 10 ^ 21)) ≤ℤ from }
+    requires forward { from ≤ℤ point.now.place }
+    requires range { IsInRange point.now }
+    ensures value { point.now.place ≡ from +ℤ pos result }
+    ensures small { result ≤ 3 * 10 ^ 21 }
+{
+    (point.place - from) as u128
+}
+
+// Whether the train brakes at least with the slope of a band in a segment.
+fn brakes(map: &BandMap, band: usize, i: usize, from: &Point, to: &Point) -> bool
+    requires known_band { band < bands_of map.now.uppers }
+    requires known { i < length map.now.starts }
+    requires from { IsInRange from.now }
+    requires to { IsInRange to.now }
+    requires forward { from.now.place ≤ℤ to.now.place }
+    requires slower { to.now.square ≤ from.now.square }
+    ensures { IsTrue result ↔ BrakesAtLeast (meaning_of map.now) (segment_slope map.now band i) from.now.place from.now.square to.now.place to.now.square }
+{
+    let energy = energy_of(map, from.square - to.square);
+    let slope = u128::from(segment_slope(map, band, i));
+    27 * slope * way_to(to, from.place) <= energy
+}
+
+// Whether all cells on the way have one slope in the band, and the train brakes at least with it. A point that stays asks
+// no slope.
+fn brakes_in(m: u32, map: &BandMap, band: usize, from: &Point, to: &Point) -> bool
+    requires some { 0 < m }
+    requires few { m ≤ 256 }
+    requires known { band < bands_of map.now.uppers }
+    requires from { IsInRange from.now }
+    requires to { IsInRange to.now }
+    requires forward { from.now.place ≤ℤ to.now.place }
+    requires slower { to.now.square ≤ from.now.square }
+    ensures { IsTrue result ↔ BrakesIn (meaning_of map.now) m band from.now to.now }
+{
+    let Some(i) = first_met(m, map, from, to) else {
+        return true;
+    };
+    let slope = segment_slope(map, band, i);
+    if !have_slope(m, map, band, from, to, slope) {
+        return false;
+    }
+    brakes(map, band, i, from, to)
+}
+
+// Whether the step is possible in the band.
+fn is_step_in(m: u32, map: &BandMap, band: usize, from: &Point, to: &Point) -> bool
+    requires some { 0 < m }
+    requires few { m ≤ 256 }
+    requires known { band < bands_of map.now.uppers }
+    requires from { IsInRange from.now }
+    requires to { IsInRange to.now }
+    ensures { IsTrue result ↔ IsStepIn (meaning_of map.now) m band from.now to.now }
+{
+    if to.place < from.place {
+        return false;
+    }
+    if from.square < to.square {
+        return false;
+    }
+    if !is_in_band(m, map, band, from.square) {
+        return false;
+    }
+    if !is_in_band(m, map, band, to.square) {
+        return false;
+    }
+    brakes_in(m, map, band, from, to)
+}
+
+// Whether the step is possible: in some band that holds both squares.
+fn is_step(m: u32, map: &BandMap, from: &Point, to: &Point) -> bool
+    requires some { 0 < m }
+    requires few { m ≤ 256 }
+    requires from { IsInRange from.now }
+    requires to { IsInRange to.now }
+    ensures { IsTrue result ↔ IsStep (meaning_of map.now) m from.now to.now }
+{
+    for band in 0..map.bands() {
+        if is_step_in(m, map, band, from, to) {
+            return true;
+        }
+    }
+    false
+}
+
+/// Whether there are points that brake step by step to a square of 0.
+pub fn are_braking(m: u32, map: &BandMap, points: &[Point]) -> bool
+    requires some { 0 < m }
+    requires few { m ≤ 256 }
+    requires ranges { All IsInRange points.now }
+    ensures { IsTrue result ↔ AreBraking (meaning_of map.now) m points.now }
+{
+    if points.is_empty() {
+        return false;
+    }
+    let last = points.len() - 1;
+    for i in 0..last {
+        if !is_step(m, map, &points[i], &points[i + 1]) {
+            return false;
+        }
+    }
+    points[last].square == 0
+}

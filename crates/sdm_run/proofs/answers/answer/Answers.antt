@@ -1,0 +1,16 @@
+-- The promises of a command's rows and of an input that is too long, at the command that the words ask for.
+use Rattle.std.proofs.Common.{Err, ap, sym}
+use Rattle.sdm_run.proofs.CommandFacts.{rows_told, too_long_told}
+use Rattle.sdm_run.proofs.answers.answer.Goals as goal
+
+pub returns-in-Err-Fault-clause-rows : goal.returns-in-Err-Fault-clause-rows
+returns-in-Err-Fault-clause-rows g c = rows_told _ _ _ (sym c.in-Some.ensures.value) c.in-Some.ensures.range
+
+pub returns-in-Err-TooLong-clause-rows : goal.returns-in-Err-TooLong-clause-rows
+returns-in-Err-TooLong-clause-rows g c = rows_told _ _ _ (sym c.in-Some.ensures.value) c.in-Some.ensures.range
+
+pub returns-in-Err-Memory-clause-rows : goal.returns-in-Err-Memory-clause-rows
+returns-in-Err-Memory-clause-rows g c = rows_told _ _ _ (sym c.in-Some.ensures.value) c.in-Some.ensures.range
+
+pub returns-in-Err-TooLong-clause-answer : goal.returns-in-Err-TooLong-clause-answer
+returns-in-Err-TooLong-clause-answer g c = too_long_told _ _ _ _ (sym c.in-Some.ensures.value) (c.in-Err-TooLong.ensures.too_long (ap Err c.in-Err-TooLong.field-0-is))

@@ -1,0 +1,17 @@
+-- So far out took the rows of the lines before, and what is left gives the rest of the output.
+use Rattle.std.proofs.Common.{suc, ◌+◌, ◌≤◌, length}
+use Rattle.sdm_rules.specs.Input.{most_bytes}
+use Rattle.sdm_rules.specs.Flat.{flat_output, lines_of}
+use Rattle.sdm_run.proofs.FlatTexts.{IsLeft}
+use Rattle.sdm_run.proofs.flat_run.run_flat.Given as goal
+
+abbrev pub invariant-lines : goal.invariant-lines
+invariant-lines g l = record {
+  left : IsLeft (g.O.Sink.taken l.fn.out) (g.O.Sink.taken l.out) (flat_output l.decel l.end_cm l.bytes) (suc l.number) l.flat (lines_of l.rest);
+  few : l.number + length l.rest ≤ most_bytes;
+  later : g.O.Sink.faults l.fn.out ≤ g.O.Sink.faults l.out;
+}
+
+-- each turn takes a byte
+abbrev pub decreases-lines : goal.decreases-lines
+decreases-lines g l = length l.rest

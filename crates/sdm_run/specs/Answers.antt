@@ -1,0 +1,85 @@
+-- How an outcome answers what a command defines, and what out took for it: one relation for every command (own).
+use Rattle.std.specs.Prelude.{◌≡◌, ◌⊎◌, ◌≤◌, ℕ, List, [], ◌∷◌, ◌++◌, Option, Some, None}
+use Rattle.std.specs.Io.KnownBytes.{Appends, Keeps}
+use Rattle.sdm_io.specs.Told.{AppendsPart}
+use Rattle.sdm_rules.specs.declared.faults.EventCause.TheVariants.{Line}
+use Rattle.sdm_rules.specs.Input as ends
+use Rattle.sdm_rules.specs.Flat.{Output}
+use Rattle.sdm_run.specs.declared.outcome.Outcome.{Outcome}
+use Rattle.sdm_run.specs.declared.outcome.Outcome.TheVariants.{Done, Usage, ReadFault, WriteFault, TooLong, BadEvent, Memory}
+use Rattle.sdm_run.specs.declared.words.Command.{Command}
+use Rattle.sdm_run.specs.declared.words.Command.TheVariants.{Flat}
+
+-- the end that an outcome tells, if it tells one (own)
+abbrev pub told_end : Outcome → Option ends.End
+told_end Done = Some ends.Done
+told_end Usage = None
+told_end ReadFault = None
+told_end WriteFault = None
+told_end TooLong = Some ends.TooLong
+told_end (BadEvent number cause) = Some (ends.BadEvent number cause)
+told_end Memory = None
+
+-- a fault or want of memory came before the end (own)
+abbrev pub IsCutShort : Outcome → Type 0
+IsCutShort outcome = (outcome ≡ ReadFault) ⊎ (outcome ≡ WriteFault) ⊎ (outcome ≡ Memory)
+
+-- the outcome is that of the end, unless it was cut short (own)
+abbrev pub IsOutcomeOf : ends.End → Outcome → Type 0
+IsOutcomeOf end outcome = (told_end outcome ≡ Some end) ⊎ IsCutShort outcome
+
+-- no line, or each with its line feed (own)
+abbrev pub AreWholeLines : List ℕ → Type 0
+AreWholeLines text = (text ≡ []) ⊎ ((front : List ℕ) × (text ≡ front ++ 10 ∷ []))
+
+-- the bytes taken grew by whole lines at the front of the text (own)
+pub record AppendsLines (old new : Option (List ℕ)) (text : List ℕ) : Type 0 where
+  pub front : List ℕ
+  pub rest : List ℕ
+  pub parts : text ≡ front ++ rest
+  pub whole_lines : AreWholeLines front
+  pub taken : Appends old new front
+
+-- What out took of the defined text: where an end is told, the whole text before it; after a write fault a front of it,
+-- after want of memory whole lines, and else nothing. A text that ends as too long is empty (own).
+abbrev pub TakesFor : Outcome → Option (List ℕ) → Option (List ℕ) → List ℕ → Type 0
+TakesFor Done old new text = Appends old new text
+TakesFor Usage old new text = Keeps old new
+TakesFor ReadFault old new text = Keeps old new
+TakesFor WriteFault old new text = AppendsPart old new text
+TakesFor TooLong old new text = Appends old new text
+TakesFor (BadEvent number cause) old new text = Appends old new text
+TakesFor Memory old new text = AppendsLines old new text
+
+-- the outcome answers the defined output, of which out took its part (own)
+pub record IsAnswer (output : Output) (old new : Option (List ℕ)) (outcome : Outcome) : Type 0 where
+  pub ended : IsOutcomeOf output.end outcome
+  pub taken : TakesFor outcome old new output.text
+
+-- an outcome that comes before any row, whatever the input tells (own)
+abbrev pub ComesFirst : Outcome → Type 0
+ComesFirst outcome = (outcome ≡ Usage) ⊎ (outcome ≡ ReadFault) ⊎ (outcome ≡ TooLong)
+
+-- an outcome that comes after the end of the input (own)
+abbrev pub ComesLast : Outcome → Type 0
+ComesLast Done = Unit {0}
+ComesLast Usage = ⊥
+ComesLast ReadFault = ⊥
+ComesLast WriteFault = Unit {0}
+ComesLast TooLong = ⊥
+ComesLast (BadEvent number cause) = Unit {0}
+ComesLast Memory = ⊥
+
+-- an outcome that `flat` may have: no line is refused for another cause than its form or its time (own)
+abbrev pub IsFlatOutcome : Outcome → Type 0
+IsFlatOutcome Done = Unit {0}
+IsFlatOutcome Usage = ⊥
+IsFlatOutcome ReadFault = Unit {0}
+IsFlatOutcome WriteFault = Unit {0}
+IsFlatOutcome TooLong = Unit {0}
+IsFlatOutcome (BadEvent number cause) = (1 ≤ number) × (cause ≡ Line)
+IsFlatOutcome Memory = Unit {0}
+
+-- an outcome that a command may have (own)
+abbrev pub IsPossible : Command → Outcome → Type 0
+IsPossible (Flat decel end) outcome = IsFlatOutcome outcome

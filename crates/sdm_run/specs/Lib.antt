@@ -1,0 +1,8 @@
+pub mod Words
+pub mod OutcomeLines
+pub mod Commands
+pub mod Cuts
+pub mod Answers
+pub mod Flats
+pub mod FlatTurns
+pub mod FlatRun

@@ -1,0 +1,130 @@
+//! The top call: from the words and the bytes of an input to the bytes of out and of the fault stream, and an outcome.
+
+ghost use Rattle.std.specs.Prelude.{◌≡◌, ◌⊎◌, ◌↔◌, ◌+◌, ◌≤◌, length, Some, IsNone, IfSome};
+ghost use Rattle.std.specs.Io.KnownBytes.{Appends, IsAtEnd, Keeps};
+ghost use Rattle.sdm_io.specs.Causes.{Rose};
+ghost use Rattle.sdm_io.specs.Told.{AppendsPart, ReadsExactly, ReadsWithin, Told};
+ghost use Rattle.sdm_rules.specs.Input.{most_bytes};
+ghost use Rattle.sdm_run.specs.Answers.{ComesFirst, ComesLast, IsAnswer, IsPossible, told_end};
+ghost use Rattle.sdm_run.specs.Commands.{AreRowsSafe, TakesMemoryFirst, output_of};
+ghost use Rattle.sdm_run.specs.OutcomeLines.{outcome_line};
+ghost use Rattle.sdm_run.specs.Words.{IsInRange, asked_by};
+
+use crate::flat_run::run_flat;
+use crate::outcome::Outcome;
+use crate::outcome_lines::outcome_bytes;
+use crate::words::{Command, command_of};
+use sdm_io::{FixedSource, NullSink, Sink, Source, Unread, read_to_end, write_piece};
+use sdm_text::RowBuf;
+use std::alloc::Global;
+
+/// The most bytes of an input. (own)
+const MOST_BYTES: usize = 16_777_216;
+
+/// The program. Each command writes what it defines for the bytes of the input; for each outcome but Done its line goes to
+/// the fault stream, whose faults change no outcome. (own)
+pub fn sdm_main<I: Source, O: Sink, E: Sink>(
+    alloc: Global,
+    words: &[String],
+    input: &mut I,
+    out: &mut O,
+    err: &mut E,
+) -> Outcome
+    ensures usage { (result ≡ Outcome.Usage) ↔ IsNone (asked_by words.now) }
+
+    // what the command defines for the bytes of the input, and what out took of it
+    ensures answer { IfSome (asked_by words.now) (λ command. Told (I.left input.old) (λ bytes. IsAnswer (output_of command bytes) (O.taken out.old) (O.taken out.new) result)) }
+    ensures rows { IfSome (asked_by words.now) (λ command. Told (I.left input.old) (AreRowsSafe command)) }
+    ensures possible { IfSome (asked_by words.now) (λ command. IsPossible command result) }
+    ensures first { ComesFirst result → Keeps (O.taken out.old) (O.taken out.new) }
+    ensures memory { IfSome (asked_by words.now) (λ command. TakesMemoryFirst command → result ≡ Outcome.Memory → Keeps (O.taken out.old) (O.taken out.new)) }
+
+    // how much of the input was read
+    ensures within { ReadsWithin (I.left input.old) (I.left input.new) (most_bytes + 1) }
+    ensures too_long { result ≡ Outcome.TooLong → ReadsExactly (I.left input.old) (I.left input.new) (most_bytes + 1) }
+    ensures to_end { ComesLast result → IsAtEnd (I.left input.new) }
+
+    // a fault is answered only where it was counted
+    ensures read { result ≡ Outcome.ReadFault → Rose (I.faults input.old) (I.faults input.new) }
+    ensures write { result ≡ Outcome.WriteFault → Rose (O.faults out.old) (O.faults out.new) }
+
+    // the line of the outcome
+    ensures line { AppendsPart (E.taken err.old) (E.taken err.new) (outcome_line result) }
+    ensures whole_line { Rose (E.faults err.old) (E.faults err.new) ⊎ Appends (E.taken err.old) (E.taken err.new) (outcome_line result) }
+{
+    let outcome = answer(alloc, words, input, out);
+    tell(&outcome, err);
+    outcome
+}
+
+// The outcome, before it is told.
+fn answer<I: Source, O: Sink>(
+    alloc: Global,
+    words: &[String],
+    input: &mut I,
+    out: &mut O,
+) -> Outcome
+    ensures usage { (result ≡ Outcome.Usage) ↔ IsNone (asked_by words.now) }
+    ensures answer { IfSome (asked_by words.now) (λ command. Told (I.left input.old) (λ bytes. IsAnswer (output_of command bytes) (O.taken out.old) (O.taken out.new) result)) }
+    ensures rows { IfSome (asked_by words.now) (λ command. Told (I.left input.old) (AreRowsSafe command)) }
+    ensures possible { IfSome (asked_by words.now) (λ command. IsPossible command result) }
+    ensures first { ComesFirst result → Keeps (O.taken out.old) (O.taken out.new) }
+    ensures memory { IfSome (asked_by words.now) (λ command. TakesMemoryFirst command → result ≡ Outcome.Memory → Keeps (O.taken out.old) (O.taken out.new)) }
+    ensures within { ReadsWithin (I.left input.old) (I.left input.new) (most_bytes + 1) }
+    ensures too_long { result ≡ Outcome.TooLong → ReadsExactly (I.left input.old) (I.left input.new) (most_bytes + 1) }
+    ensures to_end { ComesLast result → IsAtEnd (I.left input.new) }
+    ensures read { result ≡ Outcome.ReadFault → Rose (I.faults input.old) (I.faults input.new) }
+    ensures write { result ≡ Outcome.WriteFault → Rose (O.faults out.old) (O.faults out.new) }
+{
+    let Some(command) = command_of(words) else {
+        return Outcome::Usage;
+    };
+    match read_to_end(alloc, input, MOST_BYTES) {
+        Ok(bytes) => run_command(alloc, command, &bytes, out),
+        Err(Unread::Fault) => Outcome::ReadFault,
+        Err(Unread::TooLong) => Outcome::TooLong,
+        Err(Unread::Memory) => Outcome::Memory,
+    }
+}
+
+// Answers the bytes of an input that is not too long.
+#[tactic(auto, using(crate::proofs::CommandFacts::rows_safe))]
+fn run_command<O: Sink>(alloc: Global, command: Command, bytes: &[u8], out: &mut O) -> Outcome
+    requires short { length bytes.now ≤ most_bytes }
+    requires range { IsInRange command }
+    ensures answer { IsAnswer (output_of command bytes.now) (O.taken out.old) (O.taken out.new) result }
+    ensures rows { AreRowsSafe command bytes.now }
+    ensures possible { IsPossible command result }
+    ensures not_first { ComesFirst result → ⊥ }
+    ensures memory { TakesMemoryFirst command → result ≡ Outcome.Memory → Keeps (O.taken out.old) (O.taken out.new) }
+    ensures write { result ≡ Outcome.WriteFault → Rose (O.faults out.old) (O.faults out.new) }
+{
+    match command {
+        Command::Flat { decel, end_cm } => run_flat(alloc, decel, end_cm, bytes, out),
+    }
+}
+
+// Writes the line of an outcome to the fault stream.
+fn tell<E: Sink>(outcome: &Outcome, err: &mut E)
+    ensures line { AppendsPart (E.taken err.old) (E.taken err.new) (outcome_line outcome.now) }
+    ensures whole_line { Rose (E.faults err.old) (E.faults err.new) ⊎ Appends (E.taken err.old) (E.taken err.new) (outcome_line outcome.now) }
+{
+    let mut line = RowBuf::new();
+    outcome_bytes(outcome, &mut line);
+    let _ = write_piece(err, line.bytes());
+}
+
+/// The outcome over bytes and sinks that never fail: exactly that of the defined end, unless memory is wanting. (own)
+pub fn outcome_of(alloc: Global, words: &[String], bytes: &[u8]) -> Outcome
+    ensures usage { (result ≡ Outcome.Usage) ↔ IsNone (asked_by words.now) }
+    ensures complete { IfSome (asked_by words.now) (λ command. (told_end result ≡ Some (output_of command bytes.now).end) ⊎ (result ≡ Outcome.Memory)) }
+{
+    let mut input = FixedSource::new(bytes);
+    sdm_main(
+        alloc,
+        words,
+        &mut input,
+        &mut NullSink::new(),
+        &mut NullSink::new(),
+    )
+}

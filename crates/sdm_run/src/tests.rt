@@ -1,0 +1,371 @@
+//! Worked journeys of `flat` as tables, refusals and faults at chosen calls, and the lines of outcomes. In the tables `/`
+//! stands for a line feed, `~` for a carriage return and `-` for nothing.
+
+use crate::outcome_lines::outcome_bytes;
+use crate::{CycleFault, EventCause, Flat, FlatRow, Outcome, outcome_of, sdm_main};
+use sdm_io::{FixedSource, MemSink, MemSource, NullSink};
+use sdm_num::{Place, Speed};
+use sdm_rules::{AuthorityFault, EventFault, FieldFault, RestrictFault, RevokeFault};
+use sdm_text::RowBuf;
+use std::alloc::Global;
+use std::test::Fail;
+
+// The fields of a line of a table.
+fn fields_of<'a>(alloc: Global, line: &'a str) -> Result<Vec<&'a str>, Fail> {
+    let mut fields = Vec::new(alloc);
+    for field in line.split('|') {
+        fields.push(field.trim())?;
+    }
+    Ok(fields)
+}
+
+// The bytes that a field writes.
+fn bytes_of(alloc: Global, field: &str) -> Result<Vec<u8>, Fail> {
+    let mut bytes = Vec::new(alloc);
+    if field == "-" {
+        return Ok(bytes);
+    }
+    for byte in field.as_bytes() {
+        bytes.push(match *byte {
+            b'/' => b'\n',
+            b'~' => b'\r',
+            other => other,
+        })?;
+    }
+    Ok(bytes)
+}
+
+// The words that a field writes, with spaces between them.
+fn words_of(alloc: Global, field: &str) -> Result<Vec<String>, Fail> {
+    let mut words = Vec::new(alloc);
+    for word in field.split_whitespace() {
+        if word != "-" {
+            words.push(String::from_str(alloc, word)?)?;
+        }
+    }
+    Ok(words)
+}
+
+// The numbers that a field writes; `-` is none.
+fn numbers_of(alloc: Global, field: &str) -> Result<Vec<u32>, Fail> {
+    let mut numbers = Vec::new(alloc);
+    for word in field.split_whitespace() {
+        if word != "-" {
+            numbers.push(word.parse::<u32>()?)?;
+        }
+    }
+    Ok(numbers)
+}
+
+// How a source and sinks over memory behave: bytes moved at once, and the calls that fail.
+#[derive(Drop)]
+struct Streams<'a> {
+    step: &'a str,
+    failing_reads: &'a str,
+    failing_writes: &'a str,
+    failing_lines: &'a str,
+}
+
+const STEADY: Streams<'static> = Streams {
+    step: "1000",
+    failing_reads: "-",
+    failing_writes: "-",
+    failing_lines: "-",
+};
+
+// What the program answered, and what its sinks took.
+#[derive(Drop)]
+struct Answer {
+    code: u8,
+    out: Vec<u8>,
+    err: Vec<u8>,
+}
+
+fn answer_of(alloc: Global, words: &str, input: &str, streams: &Streams) -> Result<Answer, Fail> {
+    let words = words_of(alloc, words)?;
+    let bytes = bytes_of(alloc, input)?;
+    let step = streams.step.parse::<usize>()?.max(1);
+    let reads = numbers_of(alloc, streams.failing_reads)?;
+    let writes = numbers_of(alloc, streams.failing_writes)?;
+    let lines = numbers_of(alloc, streams.failing_lines)?;
+    let mut input = MemSource::new(alloc, &bytes, step, &reads)?;
+    let mut out = MemSink::new(alloc, 1000, step, &writes)?;
+    let mut err = MemSink::new(alloc, 1000, step, &lines)?;
+    let outcome = sdm_main(alloc, &words, &mut input, &mut out, &mut err);
+    Ok(Answer {
+        code: outcome.code(),
+        out: out.bytes().to_vec(alloc)?,
+        err: err.bytes().to_vec(alloc)?,
+    })
+}
+
+// words | code
+const WORDS: &str = "\
+    - | 1
+    flat | 1
+    flat 100 | 1
+    flat 100 100000 | 0
+    flat 100 100000 1 | 1
+    100 100000 | 1
+    Flat 100 100000 | 1
+    flat2 100 100000 | 1
+    fla 100 100000 | 1
+    run | 1
+    --help | 1
+    --version | 1
+    flat --help | 1
+    flat 5 0 | 0
+    flat 4 0 | 1
+    flat 400 10000000 | 0
+    flat 401 10000000 | 1
+    flat 400 10000001 | 1
+    flat 100 -1 | 1
+    flat -100 0 | 1
+    flat 0100 -0 | 0
+    flat 000000000000000005 000000000000000000 | 0
+    flat 0000000000000000005 0 | 1
+    flat +100 0 | 1
+    flat 100. 0 | 1
+    flat 100 1e5 | 1
+    flat a 0 | 1
+    flat 100 b | 1";
+
+#[test]
+fn words_without_a_shape_are_usage(rt: HostRuntime) -> Result<(), Fail> {
+    let alloc = rt.alloc();
+    for line in WORDS.lines() {
+        let fields = fields_of(alloc, line)?;
+        let [words, code] = fields.as_slice() else {
+            return Err("no row".into());
+        };
+        let answer = answer_of(alloc, words, "-", &STEADY)?;
+        assert_eq!(rt; answer.code, code.parse::<u8>()?, "{line}");
+        assert!(rt; answer.out.is_empty(), "{line}");
+        let told = if answer.code == 1 {
+            "sdm: bad words/"
+        } else {
+            "-"
+        };
+        assert!(rt; answer.err == bytes_of(alloc, told)?, "{line}");
+    }
+    Ok(())
+}
+
+// words | input | rows | code | line
+const JOURNEYS: &str = "\
+    flat 100 100000 | 0,799990,20000/ | 0,800000,1,0/ | 0 | -
+    flat 100 100000 | 0,799990,20000 | 0,800000,1,0/ | 0 | -
+    flat 100 100000 | - | - | 0 | -
+    flat 100 100000 | 0,799990,20000/5,800010,20000/10,810000,15000/50,900000,0/ | 0,800000,1,0/5,800000,0,1/10,887500,1,1/50,1000000,1,0/ | 0 | -
+    flat 100 100000 | 0,800000,20000/5,800001,20000/5,0,1/5,0,0/5,0,1/ | 0,800000,1,0/5,800000,0,1/5,999999,1,1/5,1000000,1,0/5,999999,1,0/ | 0 | -
+    flat 100 100000 | 0,1000000,0/1,1000001,0/2,1000000,0/ | 0,1000000,1,0/1,1000000,0,1/2,1000000,1,0/ | 0 | -
+    flat 100 100000 | 0,0,0/0,0/ | 0,1000000,1,0/ | 7 | sdm: bad event 2: line/
+    flat 100 100000 | 0,0,0,0/ | - | 7 | sdm: bad event 1: line/
+    flat 100 100000 | 0,0,/ | - | 7 | sdm: bad event 1: line/
+    flat 100 100000 | 0, 0,0/ | - | 7 | sdm: bad event 1: line/
+    flat 100 100000 | 0,0,0~/ | - | 7 | sdm: bad event 1: line/
+    flat 100 100000 | 0,0,0/1,0,0~ | 0,1000000,1,0/ | 7 | sdm: bad event 2: line/
+    flat 100 100000 | 0,0,0//1,0,0/ | 0,1000000,1,0/ | 7 | sdm: bad event 2: line/
+    flat 100 100000 | 0,0,0// | 0,1000000,1,0/ | 7 | sdm: bad event 2: line/
+    flat 100 100000 | / | - | 7 | sdm: bad event 1: line/
+    flat 100 100000 | 5,0,0/5,0,0/4,0,0/6,0,0/ | 5,1000000,1,0/5,1000000,1,0/ | 7 | sdm: bad event 3: line/
+    flat 100 100000 | 007,-0,0/ | 7,1000000,1,0/ | 0 | -
+    flat 100 100000 | 100000000,110000000,138888/ | 100000000,-8644939,0,1/ | 0 | -
+    flat 100 100000 | 0,-10000000,0/ | 0,1000000,1,0/ | 0 | -
+    flat 100 100000 | 100000001,0,0/ | - | 7 | sdm: bad event 1: line/
+    flat 100 100000 | -1,0,0/ | - | 7 | sdm: bad event 1: line/
+    flat 100 100000 | 0,110000001,0/ | - | 7 | sdm: bad event 1: line/
+    flat 100 100000 | 0,-10000001,0/ | - | 7 | sdm: bad event 1: line/
+    flat 100 100000 | 0,0,138889/ | - | 7 | sdm: bad event 1: line/
+    flat 100 100000 | 0,0,-1/ | - | 7 | sdm: bad event 1: line/
+    flat 5 0 | 0,-10000000,138888/0,-193000000,1/ | 0,-192898766,0,1/ | 7 | sdm: bad event 2: line/
+    flat 400 10000000 | 0,99999999,1/0,100000000,0/ | 0,99999999,1,0/0,100000000,1,0/ | 0 | -";
+
+#[test]
+fn each_journey_has_its_rows_and_its_end(rt: HostRuntime) -> Result<(), Fail> {
+    let alloc = rt.alloc();
+    for line in JOURNEYS.lines() {
+        let fields = fields_of(alloc, line)?;
+        let [words, input, rows, code, told] = fields.as_slice() else {
+            return Err("no row".into());
+        };
+        let answer = answer_of(alloc, words, input, &STEADY)?;
+        assert_eq!(rt; answer.code, code.parse::<u8>()?, "{line}");
+        assert!(rt; answer.out == bytes_of(alloc, rows)?, "{line}");
+        assert!(rt; answer.err == bytes_of(alloc, told)?, "{line}");
+    }
+    Ok(())
+}
+
+// step | failing reads | failing writes | failing writes of the line | rows | code | line
+const FAULTS: &str = "\
+    1000 | - | - | - | 0,800000,1,0/5,800000,0,1/ | 0 | -
+    1 | - | - | - | 0,800000,1,0/5,800000,0,1/ | 0 | -
+    3 | - | - | - | 0,800000,1,0/5,800000,0,1/ | 0 | -
+    1000 | 1 | - | - | - | 2 | sdm: read fault/
+    1000 | 2 | - | - | - | 2 | sdm: read fault/
+    1 | 30 | - | - | - | 2 | sdm: read fault/
+    1 | 31 | - | - | - | 2 | sdm: read fault/
+    1 | 32 | - | - | 0,800000,1,0/5,800000,0,1/ | 0 | -
+    1000 | - | 1 | - | - | 3 | sdm: write fault/
+    1000 | - | 2 | - | 0,800000,1,0/ | 3 | sdm: write fault/
+    1000 | - | 3 | - | 0,800000,1,0/5,800000,0,1/ | 0 | -
+    1 | - | 3 | - | 0, | 3 | sdm: write fault/
+    3 | - | 6 | - | 0,800000,1,0/ | 3 | sdm: write fault/
+    3 | - | 7 | - | 0,800000,1,0/5,8 | 3 | sdm: write fault/
+    1000 | 1 | - | 1 | - | 2 | -
+    1 | 1 | - | 5 | - | 2 | sdm:
+    1 | - | 1 | 1 | - | 3 | -
+    1 | - | - | 1 | 0,800000,1,0/5,800000,0,1/ | 0 | -";
+
+#[test]
+fn a_fault_ends_the_program_where_it_comes(rt: HostRuntime) -> Result<(), Fail> {
+    let alloc = rt.alloc();
+    for line in FAULTS.lines() {
+        let fields = fields_of(alloc, line)?;
+        let [step, reads, writes, lines, rows, code, told] = fields.as_slice() else {
+            return Err("no row".into());
+        };
+        let streams = Streams {
+            step,
+            failing_reads: reads,
+            failing_writes: writes,
+            failing_lines: lines,
+        };
+        let input = "0,799990,20000/5,800010,20000/";
+        let answer = answer_of(alloc, "flat 100 100000", input, &streams)?;
+        assert_eq!(rt; answer.code, code.parse::<u8>()?, "{line}");
+        assert!(rt; answer.out == bytes_of(alloc, rows)?, "{line}");
+        assert!(rt; answer.err == bytes_of(alloc, told)?, "{line}");
+    }
+    Ok(())
+}
+
+#[test]
+fn the_limit_of_an_input_is_not_past_it(rt: HostRuntime) -> Result<(), Fail> {
+    let alloc = rt.alloc();
+    let words = words_of(alloc, "flat 100 100000")?;
+    let line_feeds = vec![in alloc; b'\n'; 16_777_217]?;
+    let first_line = Outcome::BadEvent {
+        number: 1,
+        cause: EventCause::Line,
+    };
+    if let Some((_, within)) = line_feeds.split_last() {
+        assert_eq!(rt; outcome_of(alloc, &words, within), first_line);
+    }
+    assert_eq!(rt; outcome_of(alloc, &words, &line_feeds), Outcome::TooLong);
+    assert_eq!(rt; outcome_of(alloc, &words, b"0,0,0\n"), Outcome::Done);
+    assert_eq!(rt; outcome_of(alloc, &[], b"0,0,0\n"), Outcome::Usage);
+
+    let mut err = MemSink::new(alloc, 1000, 1000, &[])?;
+    let mut input = FixedSource::new(&line_feeds);
+    let outcome = sdm_main(alloc, &words, &mut input, &mut NullSink::new(), &mut err);
+    assert_eq!(rt; outcome.code(), 4);
+    assert!(rt; err.bytes() == b"sdm: input too long\n".as_slice());
+    Ok(())
+}
+
+#[test]
+fn a_time_that_goes_back_changes_nothing(rt: HostRuntime) -> Result<(), Fail> {
+    let mut flat = Flat::begin(rt.alloc(), 100, 100_000)?;
+    let past = Place::of_mm(800_010);
+    let speed = Speed::of_mm_s(20_000);
+    let row = FlatRow {
+        time: 10,
+        ebi: 800_000,
+        covered: false,
+        eb: true,
+    };
+    assert_eq!(rt; flat.cycle(10, past, speed), Ok(row));
+    let refused = CycleFault::TimeBack { last: 10, time: 9 };
+    assert_eq!(rt; flat.cycle(9, Place::of_mm(0), Speed::new(0)), Err(refused));
+    let held = FlatRow {
+        time: 10,
+        ebi: 887_500,
+        covered: true,
+        eb: true,
+    };
+    assert_eq!(rt;
+        flat.cycle(10, Place::of_mm(810_000), Speed::of_mm_s(15_000)),
+        Ok(held)
+    );
+    Ok(())
+}
+
+// The cause that a text tells.
+fn cause_of(text: &str) -> Option<EventCause> {
+    Some(match text {
+        "unknown kind" => EventCause::Form(EventFault::UnknownKind),
+        "field count" => EventCause::Form(EventFault::FieldCount),
+        "field 8: not a number" => EventCause::Form(EventFault::Field {
+            column: 8,
+            fault: FieldFault::NotNumber,
+        }),
+        "field 4294967295: out of range" => EventCause::Form(EventFault::Field {
+            column: u32::MAX,
+            fault: FieldFault::OutOfRange,
+        }),
+        "too many events" => EventCause::Form(EventFault::TooMany),
+        "supervised location before end" => EventCause::Authority(AuthorityFault::SvlBeforeEoa),
+        "beyond track" => EventCause::Authority(AuthorityFault::BeyondTrack),
+        "bad speed" => EventCause::Authority(AuthorityFault::BadSpeed),
+        "too many restrictions" => EventCause::Restrict(RestrictFault::Full),
+        "identity in use" => EventCause::Restrict(RestrictFault::IdInUse { id: 7 }),
+        "restriction value" => EventCause::Restrict(RestrictFault::Value),
+        "identity unknown" => EventCause::Revoke(RevokeFault::Unknown { id: 7 }),
+        "time back" => EventCause::TimeBack { last: 5, time: 4 },
+        "line" => EventCause::Line,
+        _ => return None,
+    })
+}
+
+const CAUSES: &str = "\
+    unknown kind
+    field count
+    field 8: not a number
+    field 4294967295: out of range
+    too many events
+    supervised location before end
+    beyond track
+    bad speed
+    too many restrictions
+    identity in use
+    restriction value
+    identity unknown
+    time back
+    line";
+
+#[test]
+fn each_cause_has_its_text(rt: HostRuntime) -> Result<(), Fail> {
+    let alloc = rt.alloc();
+    for line in CAUSES.lines() {
+        let text = line.trim();
+        let outcome = Outcome::BadEvent {
+            number: u32::MAX,
+            cause: cause_of(text).ok_or("no cause")?,
+        };
+        let mut told = RowBuf::new();
+        outcome_bytes(&outcome, &mut told);
+        let wanted = format!(in alloc; "sdm: bad event 4294967295: {text}\n")?;
+        assert!(rt; told.bytes() == wanted.as_bytes(), "{text}");
+    }
+    Ok(())
+}
+
+#[test]
+fn each_outcome_has_its_code_and_its_line(rt: HostRuntime) {
+    let outcomes = [
+        (Outcome::Done, 0, ""),
+        (Outcome::Usage, 1, "sdm: bad words\n"),
+        (Outcome::ReadFault, 2, "sdm: read fault\n"),
+        (Outcome::WriteFault, 3, "sdm: write fault\n"),
+        (Outcome::TooLong, 4, "sdm: input too long\n"),
+        (Outcome::Memory, 8, "sdm: no memory\n"),
+    ];
+    for (outcome, code, line) in outcomes {
+        let mut told = RowBuf::new();
+        outcome_bytes(&outcome, &mut told);
+        assert_eq!(rt; outcome.code(), code);
+        assert!(rt; told.bytes() == line.as_bytes());
+    }
+}

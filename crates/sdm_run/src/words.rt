@@ -1,0 +1,40 @@
+//! The words after the program's name, and the commands that they ask for. A new command adds a variant and a shape.
+
+ghost use Rattle.std.specs.Prelude.{◌≡◌, map, string_bytes, IfSome};
+ghost use Rattle.sdm_run.specs.Words.{IsInRange, asked_by, flat_command};
+
+use crate::numbers::natural_in;
+
+/// What the words ask for. (own)
+#[derive(Clone, Copy, Debug, PartialEq, Eq)]
+pub enum Command {
+    /// `flat A END`: a deceleration in cm/s², from 5 to 400, and an end in cm, from 0 to 10,000,000.
+    Flat { decel: u16, end_cm: u32 },
+}
+
+/// The command of words; none where they have none of the shapes. (own)
+#[tactic(auto, unfolding(crate::specs::Words::command_of))]
+pub fn command_of(words: &[String]) -> Option<Command>
+    ensures value { result ≡ asked_by words.now }
+    ensures range { IfSome result IsInRange }
+{
+    let (name, more) = words.split_first()?;
+    match name.as_str() {
+        "flat" => flat_command(more),
+        _ => None,
+    }
+}
+
+// The two numbers of `flat`.
+fn flat_command(words: &[String]) -> Option<Command>
+    ensures value { result ≡ flat_command (map string_bytes words.now) }
+    ensures range { IfSome result IsInRange }
+{
+    let [decel, end] = words else { return None };
+    let decel = natural_in(decel.as_str().as_bytes(), 5, 400)?;
+    let end_cm = natural_in(end.as_str().as_bytes(), 0, 10_000_000)?;
+    Some(Command::Flat {
+        decel: decel as u16,
+        end_cm,
+    })
+}

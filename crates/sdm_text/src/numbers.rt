@@ -1,0 +1,55 @@
+//! Numbers as they stand in fields and words: an optional minus sign and 1 to 18 decimal digits. So many digits fit an
+//! i64 whatever they are, so that a number too large for its field and a field that is no number are told apart.
+
+ghost use Rattle.std.specs.Prelude.{◌≡◌, ◌^◌, ◌<◌, IfSome, Some, None, if◌then◌else◌};
+ghost use Rattle.std.specs.Str.Parse.{digits_value};
+ghost use Rattle.sdm_rules.specs.Numbers.{is_digits, most_digits, number_of, read_int};
+
+use sdm_rules::FieldFault;
+
+/// The most digits of a number. (own)
+const MOST_DIGITS: usize = 18;
+
+/// The number of a field, from `lo` to `hi`. Leading zeros are accepted, and `-0` is 0. The field is NotNumber where it
+/// isn't an optional minus sign and 1 to 18 digits, and OutOfRange where its number is below `lo` or above `hi`. (own)
+#[tactic(auto, unfolding(sdm_rules::specs::Numbers::read_int))]
+pub fn read_int(field: &[u8], lo: i64, hi: i64) -> Result<i64, FieldFault>
+    ensures { result ≡ read_int field.now lo hi }
+{
+    let Some(number) = number_of(field) else {
+        return Err(FieldFault::NotNumber);
+    };
+    if lo <= number && number <= hi {
+        Ok(number)
+    } else {
+        Err(FieldFault::OutOfRange)
+    }
+}
+
+/// The number that a field writes, if it is of this form.
+fn number_of(field: &[u8]) -> Option<i64>
+    ensures { result ≡ number_of field.now }
+{
+    match field {
+        [b'-', digits @ ..] => Some(-(magnitude(digits)? as i64)),
+        digits => Some(magnitude(digits)? as i64),
+    }
+}
+
+/// The number that 1 to 18 digits write; none for other bytes.
+fn magnitude(digits: &[u8]) -> Option<u64>
+    ensures value { result ≡ if is_digits digits.now then Some (digits_value 10 digits.now) else None }
+    ensures fits { IfSome result (λ n. n < 10 ^ most_digits) }
+{
+    if digits.is_empty() || digits.len() > MOST_DIGITS {
+        return None;
+    }
+    let mut value = 0u64;
+    for digit in digits {
+        if !digit.is_ascii_digit() {
+            return None;
+        }
+        value = 10 * value + u64::from(digit - b'0');
+    }
+    Some(value)
+}

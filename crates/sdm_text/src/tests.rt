@@ -1,0 +1,104 @@
+//! Fields at the ends of their forms and ranges, and rows up to the last byte that they hold.
+
+use crate::{FieldFault, ROW_BYTES, RowBuf, read_int};
+use std::test::Fail;
+
+/// A field, the least and the greatest number that it may hold, the answer, and what the case shows.
+const FIELDS: &str = "\
+007|0|10|7|leading zeros are accepted
+0|0|0|0|zero alone
+-0|0|0|0|a minus sign before zero
+-12|-20|20|-12|a number below zero
+12|12|14|12|the least
+11|12|14|OutOfRange|one below the least
+14|12|14|14|the greatest
+15|12|14|OutOfRange|one above the greatest
+-12|-12|-10|-12|the least below zero
+-13|-12|-10|OutOfRange|one below the least below zero
+-9|-12|-10|OutOfRange|one above the greatest below zero
+13|14|12|OutOfRange|no number is in an empty range
+999999999999999999|-9223372036854775808|9223372036854775807|999999999999999999|eighteen digits
+-999999999999999999|-9223372036854775808|9223372036854775807|-999999999999999999|eighteen digits below zero
+000000000000000001|0|1|1|eighteen digits with leading zeros
+1000000000000000000|-9223372036854775808|9223372036854775807|NotNumber|nineteen digits
+0000000000000000001|0|1|NotNumber|nineteen digits with leading zeros
+-0000000000000000001|-1|1|NotNumber|nineteen digits below zero
+|0|10|NotNumber|an empty field
+-|-10|10|NotNumber|a minus sign alone
++1|0|10|NotNumber|a plus sign
+--1|-10|10|NotNumber|two minus signs
+1-|-10|10|NotNumber|a minus sign at the end
+1 |0|10|NotNumber|a space after
+ 1|0|10|NotNumber|a space before
+1.0|0|10|NotNumber|a point
+/|0|10|NotNumber|the byte before the digits
+:|0|10|NotNumber|the byte after the digits
+x|14|12|NotNumber|a field that is no number in an empty range";
+
+fn bound(word: Option<&str>) -> Result<i64, &'static str> {
+    word.ok_or("no bound")?
+        .parse::<i64>()
+        .map_err(|_| "not a bound")
+}
+
+fn answer(word: Option<&str>) -> Result<Result<i64, FieldFault>, &'static str> {
+    match word.ok_or("no answer")? {
+        "NotNumber" => Ok(Err(FieldFault::NotNumber)),
+        "OutOfRange" => Ok(Err(FieldFault::OutOfRange)),
+        number => Ok(Ok(number.parse::<i64>().map_err(|_| "not an answer")?)),
+    }
+}
+
+#[test]
+fn a_field_is_an_optional_minus_sign_and_digits(rt: HostRuntime) -> Result<(), Fail> {
+    for line in FIELDS.lines() {
+        let mut words = line.split('|');
+        let field = words.next().ok_or("no field")?;
+        let lo = bound(words.next())?;
+        let hi = bound(words.next())?;
+        assert_eq!(rt;
+            read_int(field.as_bytes(), lo, hi),
+            answer(words.next())?,
+            "{line}"
+        );
+    }
+    Ok(())
+}
+
+/// A number, and the row that `at `, the number and a comma make.
+const ROWS: &str = "\
+-9223372036854775808|at -9223372036854775808,
+9223372036854775807|at 9223372036854775807,
+0|at 0,
+-7|at -7,
+100|at 100,";
+
+#[test]
+#[tactic(auto, using(crate::proofs::Lengths::signed_decimal_is_short))]
+fn a_row_is_what_was_put_since_it_was_cleared(rt: HostRuntime) -> Result<(), Fail> {
+    let mut row = RowBuf::new();
+    assert_eq!(rt; row.bytes(), b"".as_slice());
+    for line in ROWS.lines() {
+        let (number, want) = line.split_once('|').ok_or("no number")?;
+        let number = number.parse::<i64>().map_err(|_| "not a number")?;
+        row.clear();
+        row.text(b"at ");
+        row.number(number);
+        row.byte(b',');
+        assert_eq!(rt; row.bytes(), want.as_bytes());
+    }
+    Ok(())
+}
+
+#[test]
+fn a_row_holds_192_bytes(rt: HostRuntime) {
+    let mut row = RowBuf::new();
+    row.text(&[b'x'; 191]);
+    row.byte(b'y');
+    assert_eq!(rt; row.bytes().len(), 192);
+    assert_eq!(rt; row.bytes()[190], b'x');
+    assert_eq!(rt; row.bytes()[191], b'y');
+    row.clear();
+    row.text(&[b'z'; ROW_BYTES]);
+    assert_eq!(rt; row.bytes().len(), 192);
+}
