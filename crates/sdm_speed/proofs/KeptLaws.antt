@@ -5,7 +5,7 @@ use Rattle.sdm_rules.specs.declared.targets.Fall.{Fall}
 use Rattle.sdm_rules.specs.Profile.{lowest_limit, zones_of_track, zone_of}
 use Rattle.sdm_rules.specs.Targets.{IsNextFall, HasNoFall}
 use Rattle.sdm_speed.specs.declared.profiles.Profile.TheInside.{Inside}
-use Rattle.sdm_speed.specs.Zones.{IsLimit, IsFallInRange}
+use Rattle.sdm_speed.specs.Zones.{IsLimit, IsFallInRange, limits_of}
 use Rattle.sdm_speed.specs.Profiles.{ProfileData, mrsp_of}
 use Rattle.sdm_speed.specs.ProfileFields.{data_of, IsKept}
 use Rattle.sdm_speed.proofs.ZoneLaws.{lowest_limit-append}
@@ -26,11 +26,11 @@ module _ (f : Inside) (kept : IsKept f) where
       ∙ sym (lowest_limit-append f.max_speed cell statics (map (zone_of (pos f.length_cm)) (finite.values (data_of f).restrictions)))
 
   -- the zones give the MRSP
-  pub kept_mrsp : (λ (cell : ℤ). lowest_limit f.max_speed cell f.zones.items) ≡ mrsp_of (data_of f)
+  pub kept_mrsp : (limits_of f.max_speed f.zones.items) ≡ mrsp_of (data_of f)
   kept_mrsp = λ k cell. kept_at cell k
 
   -- and its falls
-  pub kept_fall : (after : ℤ) (next : Option Fall) → MatchOption next (HasNoFall (λ (cell : ℤ). lowest_limit f.max_speed cell f.zones.items) after) (IsNextFall (λ (cell : ℤ). lowest_limit f.max_speed cell f.zones.items) after) →
+  pub kept_fall : (after : ℤ) (next : Option Fall) → MatchOption next (HasNoFall (limits_of f.max_speed f.zones.items) after) (IsNextFall (limits_of f.max_speed f.zones.items) after) →
       MatchOption next (HasNoFall (mrsp_of (data_of f)) after) (IsNextFall (mrsp_of (data_of f)) after)
   kept_fall after next h = subst (λ (profile : ℤ → ℕ). MatchOption next (HasNoFall profile after) (IsNextFall profile after)) kept_mrsp h
 
@@ -38,7 +38,7 @@ module _ (f : Inside) (kept : IsKept f) where
   mrsp_in_range cell = subst IsLimit (kept_at cell) (limit_in_range f.max_speed cell f.zones.items kept.in_range.top kept.each)
 
   -- a fall lies on the track, and its speed is a limit
-  pub fall_in_range : (after : ℤ) (next : Option Fall) → MatchOption next (HasNoFall (λ (cell : ℤ). lowest_limit f.max_speed cell f.zones.items) after) (IsNextFall (λ (cell : ℤ). lowest_limit f.max_speed cell f.zones.items) after) → IfSome next IsFallInRange
+  pub fall_in_range : (after : ℤ) (next : Option Fall) → MatchOption next (HasNoFall (limits_of f.max_speed f.zones.items) after) (IsNextFall (limits_of f.max_speed f.zones.items) after) → IfSome next IsFallInRange
   fall_in_range after None h = tt
   fall_in_range after (Some fall) h =
       let begins = start_on_track f.zones.items fall.cell kept.each (starts_at_fall f.max_speed f.zones.items fall.cell h.falls) in

@@ -9,7 +9,7 @@ use Rattle.std.proofs.lemmas.List.Folds.{list_any-append}
 use Rattle.sdm_rules.specs.Profile.{Zone, covers, lowest_limit}
 use Rattle.sdm_rules.specs.Targets.{is_fall, HasNoFall}
 use Rattle.sdm_track.specs.Ranges.{longest_track}
-use Rattle.sdm_speed.specs.Zones.{IsZone, starts_at, has_start, IsNext, HasNone, IsNextOf, nearer}
+use Rattle.sdm_speed.specs.Zones.{IsZone, starts_at, has_start, IsNext, HasNone, IsNextOf, nearer, limits_of}
 use Rattle.sdm_speed.proofs.ZoneLaws.{le_is, not_le_is, lt_is, not_lt_is}
 
 -- ---- tests
@@ -92,11 +92,11 @@ not_lower m n le = grind (arith, nat_tests)
 pub lower : (m n : ℕ) → m < n → nat_lt m n ≡ true
 lower m n lt = grind (arith, nat_tests)
 
-pub no_fall : (top : ℕ) (zs : List Zone) (c : ℤ) → has_start zs c ≡ false → is_fall (λ d. lowest_limit top d zs) c ≡ false
+pub no_fall : (top : ℕ) (zs : List Zone) (c : ℤ) → has_start zs c ≡ false → is_fall (limits_of top zs) c ≡ false
 no_fall top zs c off = not_lower _ _ (no_lower top zs c off)
 
 -- so a fall lies where a zone begins
-pub starts_at_fall : (top : ℕ) (zs : List Zone) (c : ℤ) → is_fall (λ d. lowest_limit top d zs) c ≡ true → has_start zs c ≡ true
+pub starts_at_fall : (top : ℕ) (zs : List Zone) (c : ℤ) → is_fall (limits_of top zs) c ≡ true → has_start zs c ≡ true
 starts_at_fall top zs c falls = by_start (has_start zs c) refl
   where
     by_start : (b : Bool) → has_start zs c ≡ b → b ≡ true
@@ -165,15 +165,15 @@ next_start_more zs i d after next known h =
 abbrev pub IsQuiet : (ℤ → Bool) → ℤ → ℤ → Type 0
 IsQuiet falls after at = (c : ℤ) → after <ℤ c → c ≤ℤ at → falls c ≡ false
 
-module _ (top : ℕ) (zs : List Zone) (after at : ℤ) (quiet : IsQuiet (is_fall (λ c. lowest_limit top c zs)) after at) where
+module _ (top : ℕ) (zs : List Zone) (after at : ℤ) (quiet : IsQuiet (is_fall (limits_of top zs)) after at) where
   -- nor before the next start
-  pub quiet_before : (cell : ℤ) → IsNext (has_start zs) at cell → (c : ℤ) → after <ℤ c → c <ℤ cell → is_fall (λ d. lowest_limit top d zs) c ≡ false
+  pub quiet_before : (cell : ℤ) → IsNext (has_start zs) at cell → (c : ℤ) → after <ℤ c → c <ℤ cell → is_fall (limits_of top zs) c ≡ false
   quiet_before cell next c a l = by_lt_z at c (λ (m : at <ℤ c). no_fall top zs c (next.first c m l)) (λ (g : c ≤ℤ at). quiet c a g)
 
   -- nor up to it, where the speed doesn't fall there
-  pub quiet_up_to : (cell : ℤ) → IsNext (has_start zs) at cell → is_fall (λ c. lowest_limit top c zs) cell ≡ false → IsQuiet (is_fall (λ c. lowest_limit top c zs)) after cell
+  pub quiet_up_to : (cell : ℤ) → IsNext (has_start zs) at cell → is_fall (limits_of top zs) cell ≡ false → IsQuiet (is_fall (limits_of top zs)) after cell
   quiet_up_to cell next here c a l = by_lt_z c cell (λ (m : c <ℤ cell). quiet_before cell next c a m) (λ (g : cell ≤ℤ c). let e : c ≡ cell = omega (arith, ints) in rw e here)
 
   -- nor ever, where no zone begins any more
-  pub quiet_from_here : HasNone (has_start zs) at → HasNoFall (λ c. lowest_limit top c zs) after
+  pub quiet_from_here : HasNone (has_start zs) at → HasNoFall (limits_of top zs) after
   quiet_from_here nowhere c a = by_lt_z at c (λ (m : at <ℤ c). no_fall top zs c (nowhere.none c m)) (λ (g : c ≤ℤ at). quiet c a g)

@@ -6,7 +6,7 @@ use Rattle.std.proofs.lemmas.Int.{ints, by_lt_z}
 use Rattle.std.proofs.lemmas.List.{take_more}
 use Rattle.sdm_rules.specs.Cells.{lowest}
 use Rattle.sdm_rules.specs.Profile.{Zone, covers, capped, lowest_limit}
-use Rattle.sdm_speed.specs.Zones.{IsZone, meets}
+use Rattle.sdm_speed.specs.Zones.{IsZone, meets, limits_of}
 
 -- ---- tests of whole numbers
 
@@ -99,16 +99,16 @@ int_gap_same (pos a) = omega arith
 int_gap_same (negsuc a) = omega arith
 
 module _ (top : ℕ) (zs : List Zone) (i : ℕ) (z d : Zone) (from to : ℤ) (v : ℕ) (known : i < length zs) (is : z ≡ get_or zs i d) (zones : All IsZone zs) (ordered : from ≤ℤ to)
-    (so_far : v ≡ lowest min (λ c. lowest_limit top c (take i zs)) from (int_gap from to)) where
+    (so_far : v ≡ lowest min (limits_of top (take i zs)) from (int_gap from to)) where
   -- one zone more of a list
-  more : lowest min (λ c. lowest_limit top c (take (i + 1) zs)) from (int_gap from to) ≡ (if meets from to z then min z.limit v else v)
+  more : lowest min (limits_of top (take (i + 1) zs)) from (int_gap from to) ≡ (if meets from to z then min z.limit v else v)
   more =
       let zone : IsZone z = rw is (zones i d known) in
       rw (take_more zs i d known, ← is, so_far) (ap (λ (f : ℤ → ℕ). lowest min f from (int_gap from to)) (λ k c. lowest_limit-push top c (take i zs) z k)
-      ∙ lowest-capped (λ c. lowest_limit top c (take i zs)) z from to (int_gap from to) zone (int_gap_is from to ordered))
+      ∙ lowest-capped (limits_of top (take i zs)) z from to (int_gap from to) zone (int_gap_is from to ordered))
 
-  pub lowest_met : meets from to z ≡ true → min v z.limit ≡ lowest min (λ c. lowest_limit top c (take (i + 1) zs)) from (int_gap from to)
+  pub lowest_met : meets from to z ≡ true → min v z.limit ≡ lowest min (limits_of top (take (i + 1) zs)) from (int_gap from to)
   lowest_met met = rw (more, met) (omega arith)
 
-  pub lowest_not_met : meets from to z ≡ false → v ≡ lowest min (λ c. lowest_limit top c (take (i + 1) zs)) from (int_gap from to)
+  pub lowest_not_met : meets from to z ≡ false → v ≡ lowest min (limits_of top (take (i + 1) zs)) from (int_gap from to)
   lowest_not_met met = rw (more, met) refl

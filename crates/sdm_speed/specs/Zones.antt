@@ -4,7 +4,7 @@ use Rattle.std.specs.List.{list_any}
 use Rattle.std.specs.Option.{option_map_or}
 use Rattle.std.specs.Ordering.{int_eq}
 use Rattle.sdm_rules.specs.declared.targets.Fall.{Fall}
-use Rattle.sdm_rules.specs.Profile.{Zone}
+use Rattle.sdm_rules.specs.Profile.{Zone, lowest_limit}
 use Rattle.sdm_track.specs.Ranges.{longest_track}
 
 -- a speed limit that a profile accepts, in km/h (own)
@@ -24,6 +24,10 @@ pub record IsFallInRange (fall : Fall) : Type 0 where
   pub not_before : pos 0 ≤ℤ fall.cell
   pub on_track : fall.cell <ℤ longest_track
   pub limited : IsLimit fall.speed
+
+-- the lowest limit of each cell: of all zones that cover it, and of the greatest one (own)
+abbrev pub limits_of : ℕ → List Zone → ℤ → ℕ
+limits_of top zones cell = lowest_limit top cell zones
 
 -- the zone covers one of the cells from `from` to `to` (own)
 abbrev pub meets : ℤ → ℤ → Zone → Bool

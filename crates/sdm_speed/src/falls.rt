@@ -1,9 +1,8 @@
 //! Where the speed profile falls. It falls only where a zone begins, so the way from one beginning to the next meets every fall.
 
 ghost use Rattle.std.specs.Prelude.{◌≡◌, All, MatchOption};
-ghost use Rattle.sdm_rules.specs.Profile.{lowest_limit};
 ghost use Rattle.sdm_rules.specs.Targets.{IsNextFall, HasNoFall};
-ghost use Rattle.sdm_speed.specs.Zones.{IsZone, IsNextOf, has_start, nearer};
+ghost use Rattle.sdm_speed.specs.Zones.{IsZone, IsNextOf, has_start, limits_of, nearer};
 
 use crate::zones::{Zone, limit_in};
 use sdm_rules::Fall;
@@ -36,7 +35,7 @@ fn next_start(zones: &[Zone], after: i32) -> Option<i32>
 /// The first fall past the border of the cell `after`.
 pub fn next_fall(zones: &[Zone], top: u16, after: i32) -> Option<Fall>
     requires { All IsZone zones.now }
-    ensures { MatchOption result (HasNoFall (λ c. lowest_limit top c zones.now) after) (IsNextFall (λ c. lowest_limit top c zones.now) after) }
+    ensures { MatchOption result (HasNoFall (limits_of top zones.now) after) (IsNextFall (limits_of top zones.now) after) }
 {
     let mut at = after;
     while let Some(cell) = next_start(zones, at) {

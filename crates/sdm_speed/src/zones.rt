@@ -4,8 +4,7 @@
 ghost use Rattle.std.specs.Prelude.{◌≡◌, ◌≤ℤ◌, All, min};
 ghost use Rattle.std.specs.Int.{int_gap};
 ghost use Rattle.sdm_rules.specs.Cells.{lowest};
-ghost use Rattle.sdm_rules.specs.Profile.{lowest_limit};
-ghost use Rattle.sdm_speed.specs.Zones.{IsZone, meets};
+ghost use Rattle.sdm_speed.specs.Zones.{IsZone, limits_of, meets};
 
 use std::marker::Model;
 
@@ -49,7 +48,7 @@ impl Zone {
 pub fn lowest(zones: &[Zone], top: u16, from: i32, to: i32) -> u16
     requires zones { All IsZone zones.now }
     requires ordered { from ≤ℤ to }
-    ensures { result ≡ lowest min (λ c. lowest_limit top c zones.now) from (int_gap from to) }
+    ensures { result ≡ lowest min (limits_of top zones.now) from (int_gap from to) }
 {
     let mut lowest = top;
     for zone in zones {
@@ -63,7 +62,7 @@ pub fn lowest(zones: &[Zone], top: u16, from: i32, to: i32) -> u16
 /// The lowest limit of one cell.
 pub fn limit_in(zones: &[Zone], top: u16, cell: i32) -> u16
     requires { All IsZone zones.now }
-    ensures { result ≡ lowest_limit top cell zones.now }
+    ensures { result ≡ limits_of top zones.now cell }
 {
     lowest(zones, top, cell, cell)
 }

@@ -1,5 +1,5 @@
 -- A profile has no more falls than entries and restrictions: each lies where a zone begins that none of the earlier ones has.
-use Rattle.std.proofs.Common.{◌≡◌, ℕ, suc, ℤ, pos, List, [], ◌∷◌, ◌++◌, length, map, Option, Some, None, Bool, true, false, ◌||◌, if◌then◌else◌, int_le, ◌+◌, ◌<◌, ◌≤◌, ◌+ℤ◌, ◌≤ℤ◌, ◌<ℤ◌, refl, sym, ap, ◌∙◌, arith, length-append}
+use Rattle.std.proofs.Common.{◌≡◌, ℕ, suc, ℤ, List, [], ◌∷◌, length, map, Option, Some, None, Bool, true, false, ◌||◌, if◌then◌else◌, int_le, ◌+◌, ◌≤◌, ◌≤ℤ◌, ◌<ℤ◌, refl, ap, arith, length-append}
 use Rattle.std.specs.Option.{option_map_or}
 use Rattle.std.specs.Ordering.{int_eq}
 use Rattle.std.specs.FinMap as finite
@@ -9,7 +9,7 @@ use Rattle.std.proofs.lemmas.List.{length-map}
 use Rattle.sdm_rules.specs.declared.data.SpeedStep.{SpeedStep}
 use Rattle.sdm_rules.specs.declared.targets.Fall.{Fall}
 use Rattle.sdm_rules.specs.Profile.{Zone, static_zones, zones_of_track, zone_of}
-use Rattle.sdm_rules.specs.Targets.{is_fall, IsNextFall}
+use Rattle.sdm_rules.specs.Targets.{IsNextFall}
 use Rattle.sdm_speed.specs.Zones.{starts_at, has_start}
 use Rattle.sdm_speed.specs.Profiles.{ProfileData, zones_of, mrsp_of, IsProfile}
 use Rattle.sdm_speed.proofs.ZoneLaws.{le_is, not_le_is}

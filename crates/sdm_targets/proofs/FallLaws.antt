@@ -1,5 +1,5 @@
 -- The falls past a cell, one at a time: cells where the profile does not fall are left out, so the next fall comes first.
-use Rattle.std.proofs.Common.{◌≡◌, ℕ, zero, suc, ℤ, pos, negsuc, List, [], ◌∷◌, ◌++◌, Bool, true, false, map, ◌+◌, ◌-◌, ◌<◌, ◌≤◌, ◌+ℤ◌, ◌≤ℤ◌, ◌<ℤ◌, refl, sym, ap, ◌∙◌, arith, append_assoc}
+use Rattle.std.proofs.Common.{◌≡◌, ℕ, zero, suc, ℤ, pos, negsuc, List, [], ◌∷◌, ◌++◌, Bool, false, map, ◌+◌, ◌-◌, ◌+ℤ◌, ◌≤ℤ◌, ◌<ℤ◌, refl, sym, ap, ◌∙◌, arith, append_assoc}
 use Rattle.std.specs.Prelude.{filter}
 use Rattle.std.specs.Int.{int_gap}
 use Rattle.std.proofs.lemmas.Int.{ints, by_lt_z}
@@ -8,7 +8,7 @@ use Rattle.sdm_rules.specs.declared.targets.Fall.{Fall}
 use Rattle.sdm_rules.specs.declared.targets.Target.{Target}
 use Rattle.sdm_rules.specs.declared.targets.TargetKind.TheVariants.{Mrsp}
 use Rattle.sdm_rules.specs.Cells.{cells, border_of}
-use Rattle.sdm_rules.specs.Targets.{is_fall, fall_at, IsNextFall, HasNoFall}
+use Rattle.sdm_rules.specs.Targets.{is_fall, fall_at, IsNextFall}
 use Rattle.sdm_speed.proofs.ZoneLaws.{int_gap_is}
 use Rattle.sdm_targets.specs.Lists.{falls_past}
 

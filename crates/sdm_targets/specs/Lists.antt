@@ -1,5 +1,5 @@
 -- The lists of targets (own).
-use Rattle.std.specs.Prelude.{ℕ, ℤ, pos, List, ◌≤◌, ◌+ℤ◌, ◌≤ℤ◌, map, filter, ◌+◌}
+use Rattle.std.specs.Prelude.{ℕ, ℤ, pos, List, ◌+ℤ◌, ◌≤ℤ◌, map, filter, ◌+◌}
 use Rattle.std.specs.Int.{int_gap}
 use Rattle.sdm_rules.specs.declared.authorities.Authority.{Authority}
 use Rattle.sdm_rules.specs.declared.authorities.Authority.TheVariants.{Stop, Limit}

@@ -1,7 +1,7 @@
 -- From start to start: where the speed falls is the next fall; else the search goes on.
-use Rattle.std.proofs.Common.{◌≡◌, ◌≤◌, ◌<◌, ◌-ℤ◌, ℤ, pos, w32, to_z, of_z, arith, rules}
+use Rattle.std.proofs.Common.{◌≡◌, ◌≤◌, ◌<◌, ◌-ℤ◌, pos, w32, to_z, of_z, arith, rules}
 use Rattle.std.proofs.lemmas.Int.{ints, to_z-of_z}
-use Rattle.sdm_rules.specs.Profile.{lowest_limit}
+use Rattle.sdm_speed.specs.Zones.{limits_of}
 use Rattle.sdm_speed.proofs.StartLaws.{quiet_before, quiet_up_to, quiet_from_here, lower, not_lower}
 use Rattle.sdm_speed.proofs.falls.next_fall.Goals as goal
 
@@ -9,7 +9,7 @@ pub returns-then-speed-limit_in : goal.returns-then-speed-limit_in
 returns-then-speed-limit_in c =
     let cell = c.in-Some.cell in
     let next = c.in-Some.ensures in
-    let profile = λ (d : ℤ). lowest_limit c.args.top d c.args.zones.now in
+    let profile = limits_of c.args.top c.args.zones.now in
     let after_is : to_z w32 (of_z w32 c.args.after) ≡ c.args.after = to_z-of_z w32 c.args.after c.ranges.after in
     let cell_is : to_z w32 (of_z w32 cell) ≡ cell = to_z-of_z w32 cell (search rules) in
     let before_is : to_z w32 (of_z w32 (cell -ℤ pos 1)) ≡ cell -ℤ pos 1 = omega (arith, ints, next.beyond) in
@@ -27,7 +27,7 @@ pub loop-cell-preserved : goal.loop-cell-preserved
 loop-cell-preserved c =
     let cell = c.in-Some.cell in
     let next = c.in-Some.ensures in
-    let profile = λ (d : ℤ). lowest_limit c.args.top d c.args.zones.now in
+    let profile = limits_of c.args.top c.args.zones.now in
     let cell_is : to_z w32 (of_z w32 cell) ≡ cell = to_z-of_z w32 cell (search rules) in
     let before_is : to_z w32 (of_z w32 (cell -ℤ pos 1)) ≡ cell -ℤ pos 1 = omega (arith, ints, next.beyond) in
     let here = rw cell_is at c.limit_in-speed.ensures in

@@ -1,5 +1,5 @@
 -- The cells of places fit.
-use Rattle.std.proofs.Common.{◌≡◌, ℤ, pos, negsuc, ◌≤ℤ◌, arith, w32, w64, to_z, of_z, ◌∙◌}
+use Rattle.std.proofs.Common.{◌≡◌, ℤ, pos, negsuc, ◌≤ℤ◌, arith, w32, w64, to_z, of_z}
 use Rattle.std.proofs.lemmas.Int.{ints}
 use Rattle.sdm_num.specs.Units.{IsPlace}
 use Rattle.sdm_rules.specs.Cells.{cell_of}

@@ -1,5 +1,5 @@
 -- The next fall comes first of those that are left; past the end none is.
-use Rattle.std.proofs.Common.{◌≡◌, ◌<◌, ◌≤◌, ◌≤ℤ◌, ◌<ℤ◌, ℤ, pos, length, w32, to_z, of_z, arith, rules, length-append}
+use Rattle.std.proofs.Common.{◌≡◌, ◌≤ℤ◌, ◌<ℤ◌, pos, w32, to_z, of_z, arith, rules, length-append}
 use Rattle.std.proofs.lemmas.Int.{ints, to_z-of_z}
 use Rattle.sdm_speed.specs.Profiles.{mrsp_of}
 use Rattle.sdm_targets.proofs.FallLaws.{all_in, one_more_in}
