@@ -26,7 +26,7 @@ notches_of_mm_s v = 54 * v
 abbrev pub way_in : ℕ → ℕ → ℕ
 way_in v time = 1_000_000 * v * time
 
--- a place that fits: within 4 * 10^18 grains, about 7.4 million km
+-- a place that fits: within 4 * 10^18 grains, about 7,400 km
 abbrev pub IsPlace : ℤ → Type 0
 IsPlace z = (negsuc 3_999_999_999_999_999_999 ≤ℤ z) × (z ≤ℤ pos 4_000_000_000_000_000_000)
 

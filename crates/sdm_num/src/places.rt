@@ -1,5 +1,6 @@
 //! Places on the track, in one absolute coordinate.
 
+ghost use Rattle.std.specs.Int.{int_div_euclid};
 ghost use Rattle.std.specs.Prelude.{◌≡◌, ℤ, pos, negsuc, neg_ℤ, ◌+ℤ◌, ◌*ℤ◌, ◌≤ℤ◌};
 ghost use Rattle.sdm_num.specs.Units.{IsPlace, centimetre, place_of_mm};
 ghost use Rattle.sdm_num.specs.Bounds.{mm_above, mm_below};
@@ -85,6 +86,13 @@ impl Place {
         ensures { later ≡ self +ℤ pos result }
     {
         later.grains.abs_diff(self.grains)
+    }
+
+    /// The cell that holds the place: cell `c` begins at `c` cm. (own)
+    pub fn cell(self) -> i32
+        ensures { result ≡ int_div_euclid self (pos centimetre) }
+    {
+        self.grains.div_euclid(5_400_000_000) as i32
     }
 
     /// The place in millimetres, rounded down.

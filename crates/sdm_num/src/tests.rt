@@ -3,11 +3,13 @@
 use crate::{Early, Late, NoMemory, Place, Reading, Speed};
 
 #[test]
-fn a_millimetre_is_540_million_grains(rt: HostRuntime) {
+fn a_millimetre_is_540_million_grains_and_a_cell_ten_of_them(rt: HostRuntime) {
     assert_eq!(rt; Place::of_mm(-2).grains(), -1_080_000_000);
     assert_eq!(rt; Place::of_cm(3).grains(), 16_200_000_000);
     assert_eq!(rt; Place::new(7).less(9).grains(), -2);
     assert_eq!(rt; Place::new(7).more(9).grains(), 16);
+    assert_eq!(rt; Place::of_mm(19).cell(), 1);
+    assert_eq!(rt; Place::new(-1).cell(), -1);
 }
 
 #[test]

@@ -29,7 +29,7 @@ abbrev pub t_traction : ℕ → Bool → ℕ → ℕ
 t_traction cut_off interface bs = if interface then cut_off - (warning_time + bs) else cut_off
 
 -- T_traction; T_berem = max(T_be - T_traction, 0); T_bs; T_indication = max(0.8 * T_bs, 5 s) + T_driver
--- (SUBSET-026-3 3.13.9.3.2, 3.13.9.3.5)
+-- (SUBSET-026-3 3.13.9.3.2, 3.13.9.3.6)
 abbrev pub times_of : ℕ → Bool → ℕ → ℕ → Bool → Times
 times_of cut_off interface emergency service in_use =
     let bs_time = t_bs service in_use in

@@ -2,7 +2,7 @@
 //! all, so the list is in the order of places.
 
 ghost use Rattle.std.specs.Prelude.{◌≡◌, List, [], ◌∷◌, ◌++◌, ◌<◌, ◌≤◌, pos, None, IfOk, length, vec_capacity};
-ghost use Rattle.sdm_rules.specs.Cells.{cell_of, border_of};
+ghost use Rattle.sdm_rules.specs.Cells.{border_of};
 ghost use Rattle.sdm_rules.specs.Records.{authority_fault};
 ghost use Rattle.sdm_rules.specs.Targets.{targets_of, end_of, ends_of};
 ghost use Rattle.sdm_speed.specs.Profiles.{mrsp_of, IsProfile};
@@ -65,13 +65,6 @@ impl TargetList {
     {
         self.targets.push_reserved(target);
     }
-}
-
-/// The cell that holds a place.
-fn cell_of(place: Place) -> i32
-    ensures { result ≡ cell_of place }
-{
-    place.grains().div_euclid(5_400_000_000) as i32
 }
 
 /// The place of a border on the track, in cm.
@@ -158,6 +151,6 @@ pub fn targets_of(
     ensures { into.new ≡ targets_of (mrsp_of profile.now) authority.now front released }
 {
     into.clear();
-    push_falls(profile, cell_of(front), end_of(authority), into);
+    push_falls(profile, front.cell(), end_of(authority), into);
     push_ends(authority, released, into);
 }
