@@ -10,7 +10,7 @@ use Rattle.sdm_curve.specs.Made.{Foot}
 
 -- the earlier of d_SBD(V_rel) - V_rel * T_bs and d_EBD(V_rel) - V_rel * (T_traction + T_berem + T_bs), with the EBD on `safe`
 -- slopes, the SBD on `expected` ones, and V_rel in notches (SUBSET-026-3 3.13.9.4; own form)
-abbrev pub release_start_by : CurvePlaces → Slopes → Foot → Slopes → Foot → Times → ℕ → Fraction
+unfoldable pub release_start_by : CurvePlaces → Slopes → Foot → Slopes → Foot → Times → ℕ → Fraction
 release_start_by P safe ebd expected sbd times v =
     lesser (less (P expected sbd.place sbd.speed v) (way_in v times.bs))
     (less (P safe ebd.place ebd.speed v) (way_in v (times.traction + times.berem + times.bs)))
