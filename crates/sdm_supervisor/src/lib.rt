@@ -12,3 +12,6 @@ pub mod verdicts;
 
 pub use sdm_rules::{CycleFault, OpenFault, Row, SlopeKind};
 pub use supervisors::Supervisor;
+
+#[cfg(test)]
+mod tests;
