@@ -1,6 +1,6 @@
 //! Fields at the ends of their forms and ranges, and rows up to the last byte that they hold.
 
-use crate::{FieldFault, ROW_BYTES, RowBuf, read_int};
+use crate::{FieldFault, ROW_BYTES, RowBuf, integer_in, natural_in, read_int};
 use std::test::Fail;
 
 /// A field, the least and the greatest number that it may hold, the answer, and what the case shows.
@@ -63,6 +63,18 @@ fn a_field_is_an_optional_minus_sign_and_digits(rt: HostRuntime) -> Result<(), F
         );
     }
     Ok(())
+}
+
+#[test]
+fn a_number_of_32_bits_is_read_in_its_range(rt: HostRuntime) {
+    let (least, greatest) = (i32::MIN, i32::MAX);
+    assert_eq!(rt; integer_in(b"-2147483648", least, greatest), Ok(least));
+    assert_eq!(rt; integer_in(b"2147483647", least, greatest), Ok(greatest));
+    assert_eq!(rt; integer_in(b"-301", -300, 300), Err(FieldFault::OutOfRange));
+    assert_eq!(rt; integer_in(b"-", -300, 300), Err(FieldFault::NotNumber));
+    assert_eq!(rt; natural_in(b"4294967295", 0, u32::MAX), Ok(u32::MAX));
+    assert_eq!(rt; natural_in(b"-1", 0, 500), Err(FieldFault::OutOfRange));
+    assert_eq!(rt; natural_in(b"1 km", 0, 500), Err(FieldFault::NotNumber));
 }
 
 /// A number, and the row that `at `, the number and a comma make.
