@@ -5,4 +5,3 @@ pub mod FlatFormula
 pub mod FlatTexts
 pub mod FlatOrder
 pub mod CommandFacts
-pub mod ReadBounds

@@ -7,10 +7,9 @@ ghost use Rattle.sdm_rules.specs.Text.{flag_text};
 ghost use Rattle.sdm_run.specs.FlatTurns.{IsFlatLine};
 
 use crate::lines::three_fields;
-use crate::numbers::{integer_in, natural_in};
 use sdm_num::{Place, Speed};
 use sdm_rules::FlatRow;
-use sdm_text::RowBuf;
+use sdm_text::{RowBuf, integer_in, natural_in};
 use std::marker::Model;
 
 /// A line of `flat`: a time in ds, a front end and a speed, each in its range. (own)
@@ -64,9 +63,9 @@ pub fn flat_line(bytes: &[u8]) -> Option<Line>
     ensures { result ≡ flat_line bytes.now }
 {
     let fields = three_fields(bytes)?;
-    let time = natural_in(fields.first, 0, 100_000_000)?;
-    let front = integer_in(fields.second, -10_000_000, 110_000_000)?;
-    let speed = natural_in(fields.third, 0, 138_888)?;
+    let time = natural_in(fields.first, 0, 100_000_000).ok()?;
+    let front = integer_in(fields.second, -10_000_000, 110_000_000).ok()?;
+    let speed = natural_in(fields.third, 0, 138_888).ok()?;
     Some(Line {
         time,
         front: Place::of_mm(front),

@@ -7,7 +7,6 @@ pub mod flat;
 mod flat_lines;
 mod flat_run;
 mod lines;
-mod numbers;
 pub mod outcome;
 pub mod outcome_lines;
 pub mod words;

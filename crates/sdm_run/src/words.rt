@@ -3,7 +3,7 @@
 ghost use Rattle.std.specs.Prelude.{◌≡◌, map, string_bytes, IfSome};
 ghost use Rattle.sdm_run.specs.Words.{IsInRange, asked_by, flat_command};
 
-use crate::numbers::natural_in;
+use sdm_text::natural_in;
 
 /// What the words ask for. (own)
 #[derive(Clone, Copy, Debug, PartialEq, Eq)]
@@ -31,8 +31,8 @@ fn flat_command(words: &[String]) -> Option<Command>
     ensures range { IfSome result IsInRange }
 {
     let [decel, end] = words else { return None };
-    let decel = natural_in(decel.as_str().as_bytes(), 5, 400)?;
-    let end_cm = natural_in(end.as_str().as_bytes(), 0, 10_000_000)?;
+    let decel = natural_in(decel.as_str().as_bytes(), 5, 400).ok()?;
+    let end_cm = natural_in(end.as_str().as_bytes(), 0, 10_000_000).ok()?;
     Some(Command::Flat {
         decel: decel as u16,
         end_cm,
