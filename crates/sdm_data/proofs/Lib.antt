@@ -1,0 +1,2 @@
+pub mod LinesOfInput
+pub mod DocumentLaws
