@@ -1,2 +1,5 @@
 pub mod LinesOfInput
 pub mod DocumentLaws
+pub mod TableLaws
+pub mod EntriesLeft
+pub mod KeyLaws

@@ -1,1 +1,6 @@
 pub mod Document
+pub mod Versions
+pub mod Members
+pub mod Sections
+pub mod Views
+pub mod Given

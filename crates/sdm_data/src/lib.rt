@@ -2,8 +2,21 @@
 //! holds or the first rule that it breaks.
 #![tactic(auto)]
 
+mod authorities;
 mod division;
 mod documents;
+mod keys;
+mod lists;
+mod national_values;
+mod roots;
+mod section_tables;
+mod versions;
 
+pub use authorities::authority_in;
 pub use division::split;
 pub use documents::{DocumentFault, read_document};
+pub use lists::{Entry, entries};
+pub use national_values::national_in;
+pub use roots::{Root, root_in};
+pub use section_tables::SectionTable;
+pub use versions::Version;
