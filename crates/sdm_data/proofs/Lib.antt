@@ -3,3 +3,4 @@ pub mod DocumentLaws
 pub mod TableLaws
 pub mod EntriesLeft
 pub mod KeyLaws
+pub mod AcceptedData
