@@ -6,7 +6,6 @@ mod authorities;
 mod division;
 mod documents;
 mod journeys;
-mod keys;
 mod lists;
 mod national_values;
 mod roots;

@@ -6,10 +6,10 @@ ghost use Rattle.sdm_data.specs.Sections.{root_in};
 ghost use Rattle.sdm_data.specs.Given.{root_of};
 ghost use Rattle.sdm_data.specs.Views.{seen};
 
-use crate::keys::key_names;
 use crate::section_tables::SectionTable;
 use crate::versions::{Version, version_of};
 use sdm_rules::{DataFault, Section};
+use sdm_text::key_names;
 use toml::Table;
 
 /// The version of the data, and the tables of their sections. (own)

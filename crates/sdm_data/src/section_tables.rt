@@ -10,9 +10,9 @@ ghost use Rattle.sdm_data.specs.Versions.{known_keys};
 ghost use Rattle.sdm_data.specs.Members.{as_tables, at, found, known, of_kind, optional, or_fault, required, section_of, within};
 ghost use Rattle.sdm_data.specs.Views.{members_of, seen, tables_in};
 
-use crate::keys::key_name;
 use crate::versions::{Version, known_keys};
 use sdm_rules::{At, DataFault, Section};
+use sdm_text::key_name;
 use toml::{Table, Value};
 
 /// A table as a section; its index counts from 1 in a list and is 0 elsewhere. (own)

@@ -3,8 +3,8 @@
 ghost use Rattle.std.specs.Prelude.{◌≡◌, map};
 ghost use Rattle.sdm_data.specs.Versions.{end_keys, known_keys, limit_keys, version_of};
 
-use crate::keys::key_names;
 use sdm_rules::Section;
+use sdm_text::key_names;
 
 /// A version of the data part. A later one adds keys. (own)
 #[derive(Clone, Copy, Debug, PartialEq, Eq)]

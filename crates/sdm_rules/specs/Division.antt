@@ -1,5 +1,6 @@
 -- How an input is divided: the data part, the dividing line, and the records (own).
-use Rattle.std.specs.Prelude.{ℕ, Bool, ◌||◌, List, [], ◌∷◌, Option, Some, None, ◌+◌, ◌==◌, codes, length, if◌then◌else◌}
+use Rattle.std.specs.Prelude.{ℕ, suc, Bool, ◌||◌, List, [], ◌∷◌, Option, ◌==◌, codes, length, option_map, position, take, if◌then◌else◌}
+use Rattle.std.specs.List.{concat}
 use Rattle.std.specs.Str.{bytes_eq}
 
 -- a byte before the first of pieces (own)
@@ -16,13 +17,12 @@ ended_lines (c ∷ cs) = if c == 10 then (c ∷ []) ∷ ended_lines cs else befo
 abbrev pub is_dividing_line : List ℕ → Bool
 is_dividing_line line = bytes_eq line (codes "%%\n") || bytes_eq line (codes "%%\r\n") || bytes_eq line (codes "%%")
 
--- Where the first dividing line of these lines begins, and where it ends; the first of the lines begins at the offset `start` (own).
-abbrev pub divide_from : ℕ → List (List ℕ) → Option (ℕ × ℕ)
-divide_from start [] = None
-divide_from start (line ∷ more) =
-    let end = start + length line in
-    if is_dividing_line line then Some (start, end) else divide_from end more
+-- the offset after the first `k` lines (own)
+abbrev pub offset_after : ℕ → List (List ℕ) → ℕ
+offset_after k lines = length (concat (take k lines))
 
--- Where the data part of an input ends, and where its records begin: the first dividing line lies between (own).
+-- Where the data part of an input ends, and where its records begin: about the first dividing line (own).
 unfoldable pub divide : List ℕ → Option (ℕ × ℕ)
-divide input = divide_from 0 (ended_lines input)
+divide input =
+    let lines = ended_lines input in
+    option_map (λ k. (offset_after k lines, offset_after (suc k) lines)) (position is_dividing_line lines)
