@@ -9,3 +9,4 @@ mod TextCases
 mod InputCases
 mod FlatCases
 mod TrialCases
+mod DivisionCases

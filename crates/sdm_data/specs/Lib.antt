@@ -1,0 +1,7 @@
+pub mod Document
+pub mod Versions
+pub mod Members
+pub mod Sections
+pub mod Journey
+pub mod Views
+pub mod Given
