@@ -4,3 +4,4 @@ pub mod TableLaws
 pub mod EntriesLeft
 pub mod KeyLaws
 pub mod AcceptedData
+mod DivisionCases

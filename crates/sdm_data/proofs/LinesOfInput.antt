@@ -4,7 +4,7 @@ use Rattle.std.proofs.Common.{◌≡◌, ◌≢◌, ℕ, zero, suc, ◌+◌, ◌
 use Rattle.std.proofs.lemmas.Bool.{ne_eqb}
 use Rattle.std.proofs.lemmas.Bool.Decides.{nat_tests}
 use Rattle.std.specs.List.{concat, position_or_len}
-use Rattle.sdm_rules.specs.Division.{ended_lines, is_dividing_line, offset_after, divide}
+use Rattle.sdm_data.specs.Division.{ended_lines, is_dividing_line, offset_after, divide}
 
 line_up_to : (at : ℕ) (bytes : List ℕ) → at < length bytes → get_or bytes at 0 ≡ 10 → ((k : ℕ) → k < at → get_or bytes k 0 ≢ 10) → ended_lines bytes ≡ take (suc at) bytes ∷ ended_lines (drop (suc at) bytes)
 line_up_to at [] within is first = absurd (omega arith)

@@ -1,3 +1,4 @@
+pub mod Division
 pub mod Document
 pub mod Versions
 pub mod Members

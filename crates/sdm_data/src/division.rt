@@ -1,7 +1,7 @@
 //! Where the data part of an input ends and where its records begin.
 
 ghost use Rattle.std.specs.Prelude.{◌≡◌, ◌+◌, ◌<◌, ◌≤◌, ◌∷◌, IfSome, length};
-ghost use Rattle.sdm_rules.specs.Division.{divide, ended_lines, is_dividing_line};
+ghost use Rattle.sdm_data.specs.Division.{divide, ended_lines, is_dividing_line};
 
 /// The offset at which the data part ends, and the one at which the records begin: those of the dividing line and of the
 /// byte after it. The dividing line is the first line that is exactly `%%`, ended by LF, by CR and LF, or by the end of the

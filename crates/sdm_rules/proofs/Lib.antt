@@ -9,4 +9,3 @@ mod TextCases
 mod InputCases
 mod FlatCases
 mod TrialCases
-mod DivisionCases

@@ -18,7 +18,6 @@ use Rattle.sdm_rules.specs.Machines.{InOrder}
 use Rattle.sdm_rules.specs.Records.{time_fault}
 use Rattle.sdm_rules.specs.Numbers.{read_int}
 use Rattle.sdm_rules.specs.Stop.{StopsBy}
-use Rattle.sdm_rules.specs.Division.{before_all}
 use Rattle.sdm_rules.specs.Input.{End, Done, BadEvent}
 use Rattle.sdm_rules.specs.Text.{flag_text, line_of}
 
@@ -88,6 +87,11 @@ abbrev pub StopsByFlatEnd : FlatSupervision → FlatLine → Type 0
 StopsByFlatEnd s l = StopsBy (flat_slopes s.decel) (flat_start l) (border_of (pos s.end))
 
 -- ---- its input
+
+-- a byte before the first of pieces (own)
+abbrev pub before_all : ℕ → List (List ℕ) → List (List ℕ)
+before_all c [] = (c ∷ []) ∷ []
+before_all c (piece ∷ more) = (c ∷ piece) ∷ more
 
 -- the lines of a text, each ended by LF; the last LF may be wanting, and an empty text has no line (own)
 abbrev pub lines_of : List ℕ → List (List ℕ)

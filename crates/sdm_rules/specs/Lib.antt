@@ -20,7 +20,6 @@ pub mod Opening
 pub mod Headline
 pub mod Numbers
 pub mod Forms
-pub mod Division
 pub mod Input
 pub mod Text
 pub mod FaultLines

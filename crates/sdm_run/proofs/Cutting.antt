@@ -3,8 +3,7 @@ use Rattle.std.proofs.Common.{◌≡◌, ◌≢◌, ℕ, ◌+◌, ◌-◌, ◌<�
 use Rattle.std.proofs.lemmas.Bool.{ne_eqb}
 use Rattle.std.proofs.lemmas.List.{get_or_default, get_or-take, length-take, length-drop, take_all, take-append-drop}
 use Rattle.std.proofs.Math.Seq.{drop-cons}
-use Rattle.sdm_rules.specs.Division.{before_all}
-use Rattle.sdm_rules.specs.Flat.{comma_fields, lines_of}
+use Rattle.sdm_rules.specs.Flat.{before_all, comma_fields, lines_of}
 use Rattle.sdm_run.specs.Cuts.{IsCut, IsUncut}
 
 -- the bytes after the first have no mark either

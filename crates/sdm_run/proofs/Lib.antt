@@ -1,7 +1,8 @@
 pub mod Cutting
-pub mod Digits
-pub mod FlatCurves
-pub mod FlatFormula
 pub mod FlatTexts
 pub mod FlatOrder
 pub mod CommandFacts
+pub mod RunTurnLaws
+pub mod RunData
+pub mod RunAnswers
+pub mod OutputLaws

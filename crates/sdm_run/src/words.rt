@@ -1,7 +1,7 @@
 //! The words after the program's name, and the commands that they ask for. A new command adds a variant and a shape.
 
 ghost use Rattle.std.specs.Prelude.{◌≡◌, map, string_bytes, IfSome};
-ghost use Rattle.sdm_run.specs.Words.{IsInRange, asked_by, flat_command};
+ghost use Rattle.sdm_run.specs.Words.{IsInRange, asked_by, flat_command, run_command};
 
 use sdm_text::natural_in;
 
@@ -10,6 +10,8 @@ use sdm_text::natural_in;
 pub enum Command {
     /// `flat A END`: a deceleration in cm/s², from 5 to 400, and an end in cm, from 0 to 10,000,000.
     Flat { decel: u16, end_cm: u32 },
+    /// `run`: the journey of the input.
+    Run,
 }
 
 /// The command of words; none where they have none of the shapes. (own)
@@ -20,8 +22,20 @@ pub fn command_of(words: &[String]) -> Option<Command>
 {
     let (name, more) = words.split_first()?;
     match name.as_str() {
+        "run" => run_command(more),
         "flat" => flat_command(more),
         _ => None,
+    }
+}
+
+// `run` has no words after it.
+fn run_command(words: &[String]) -> Option<Command>
+    ensures { result ≡ run_command (map string_bytes words.now) }
+{
+    if words.is_empty() {
+        Some(Command::Run)
+    } else {
+        None
     }
 }
 

@@ -1,6 +1,6 @@
 -- No line was a dividing line so far; what is left is divided as the whole input is.
 use Rattle.std.proofs.Common.{◌≡◌, ◌+◌, length}
-use Rattle.sdm_rules.specs.Division.{divide, ended_lines}
+use Rattle.sdm_data.specs.Division.{divide, ended_lines}
 use Rattle.sdm_data.proofs.LinesOfInput.{divide_from}
 use Rattle.sdm_data.proofs.division.split.Given as goal
 
