@@ -1,10 +1,10 @@
 -- The path of a key by its name, and how long the names are.
-use Rattle.std.proofs.Common.{◌≡◌, ◌≢◌, ℕ, zero, suc, ◌≤◌, Bool, true, nat_le, List, [], ◌∷◌, ◌++◌, Option, Some, None, codes, length, refl, arith}
+use Rattle.std.proofs.Common.{◌≡◌, ◌≢◌, ℕ, zero, suc, ◌≤◌, Bool, true, nat_le, List, [], ◌∷◌, ◌++◌, Some, None, codes, length, refl, arith}
 use Rattle.std.specs.List.{list_all, slice_get}
 use Rattle.std.proofs.lemmas.Bool.Decides.{nat_tests}
 use Rattle.sdm_rules.specs.declared.faults.Section.{Section}
 use Rattle.sdm_rules.specs.declared.faults.Section.TheVariants as sections
-use Rattle.sdm_rules.specs.FaultLines.{key_name, key_names, key_path, list_path, section_path}
+use Rattle.sdm_rules.specs.FaultLines.{key_name, key_names, key_path, section_path}
 
 -- a number that names no key leaves the section's path
 pub key_path_without_name : (section : Section) (index key : ℕ) → key_name section key ≡ None → key_path section index key ≡ section_path section index

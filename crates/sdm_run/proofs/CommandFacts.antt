@@ -9,8 +9,8 @@ use Rattle.sdm_rules.specs.Input as ends
 use Rattle.sdm_rules.specs.Flat.{Output, flat_output}
 use Rattle.sdm_run.specs.declared.words.Command.{Command}
 use Rattle.sdm_run.specs.declared.words.Command.TheVariants.{Flat}
-use Rattle.sdm_run.specs.declared.outcome.Outcome.{Outcome}
-use Rattle.sdm_run.specs.declared.outcome.Outcome.TheVariants.{TooLong}
+use Rattle.sdm_report.specs.declared.outcome.Outcome.{Outcome}
+use Rattle.sdm_report.specs.declared.outcome.Outcome.TheVariants.{TooLong}
 use Rattle.sdm_run.specs.Words.{IsInRange}
 use Rattle.sdm_run.specs.Answers.{IsAnswer}
 use Rattle.sdm_run.specs.Commands.{AreRowsSafe, output_of, within_limit}

@@ -1,5 +1,4 @@
 pub mod Cutting
-pub mod Digits
 pub mod FlatCurves
 pub mod FlatFormula
 pub mod FlatTexts

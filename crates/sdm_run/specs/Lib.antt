@@ -1,5 +1,4 @@
 pub mod Words
-pub mod OutcomeLines
 pub mod Commands
 pub mod Cuts
 pub mod Answers

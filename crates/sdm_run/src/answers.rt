@@ -4,17 +4,16 @@ ghost use Rattle.std.specs.Prelude.{◌≡◌, ◌⊎◌, ◌↔◌, ◌+◌, �
 ghost use Rattle.std.specs.Io.KnownBytes.{Appends, IsAtEnd, Keeps};
 ghost use Rattle.sdm_io.specs.Causes.{Rose};
 ghost use Rattle.sdm_io.specs.Told.{AppendsPart, ReadsExactly, ReadsWithin, Told};
+ghost use Rattle.sdm_report.specs.OutcomeLines.{outcome_line};
 ghost use Rattle.sdm_rules.specs.Input.{most_bytes};
 ghost use Rattle.sdm_run.specs.Answers.{ComesFirst, ComesLast, IsAnswer, IsPossible, told_end};
 ghost use Rattle.sdm_run.specs.Commands.{AreRowsSafe, TakesMemoryFirst, output_of};
-ghost use Rattle.sdm_run.specs.OutcomeLines.{outcome_line};
 ghost use Rattle.sdm_run.specs.Words.{IsInRange, asked_by};
 
 use crate::flat_run::run_flat;
-use crate::outcome::Outcome;
-use crate::outcome_lines::outcome_bytes;
 use crate::words::{Command, command_of};
 use sdm_io::{FixedSource, NullSink, Sink, Source, Unread, read_to_end, write_piece};
+use sdm_report::{Outcome, outcome_bytes};
 use sdm_text::RowBuf;
 use std::alloc::Global;
 

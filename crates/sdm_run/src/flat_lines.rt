@@ -1,14 +1,13 @@
 //! The lines that `flat` reads and the rows that it writes.
 
-ghost use Rattle.std.specs.Prelude.{◌≡◌, ◌+◌, ◌≤◌, [], ◌++◌, length};
-ghost use Rattle.std.specs.Fmt.{signed_decimal};
+ghost use Rattle.std.specs.Prelude.{◌≡◌, []};
 ghost use Rattle.sdm_rules.specs.Flat.{flat_line, flat_text};
-ghost use Rattle.sdm_rules.specs.Text.{flag_text};
 ghost use Rattle.sdm_run.specs.FlatTurns.{IsFlatLine};
 
 use crate::lines::three_fields;
 use crate::numbers::{integer_in, natural_in};
 use sdm_num::{Place, Speed};
+use sdm_report::fields::{put_count, put_flag, put_number};
 use sdm_rules::FlatRow;
 use sdm_text::RowBuf;
 use std::marker::Model;
@@ -74,29 +73,13 @@ pub fn flat_line(bytes: &[u8]) -> Option<Line>
     })
 }
 
-fn put_number(n: i64, into: &mut RowBuf)
-    requires { length into.old ≤ 100 }
-    ensures text { into.new ≡ into.old ++ signed_decimal n }
-    ensures short { length into.new ≤ length into.old + 20 }
-{
-    into.number(n);
-}
-
-fn put_flag(flag: bool, into: &mut RowBuf)
-    requires { length into.old ≤ 100 }
-    ensures text { into.new ≡ into.old ++ flag_text flag }
-    ensures short { length into.new ≤ length into.old + 1 }
-{
-    into.byte(if flag { b'1' } else { b'0' });
-}
-
 /// Puts a row. (own)
 #[tactic(auto, unfolding(sdm_rules::specs::Flat::flat_text))]
 pub fn put_row(row: &FlatRow, into: &mut RowBuf)
     requires { into.old ≡ [] }
     ensures { into.new ≡ flat_text row.now }
 {
-    put_number(i64::from(row.time), into);
+    put_count(row.time, into);
     into.byte(b',');
     put_number(row.ebi, into);
     into.byte(b',');

@@ -11,9 +11,9 @@ ghost use Rattle.sdm_run.specs.FlatTurns.{IsAccepted, IsRefused};
 use crate::flat::Flat;
 use crate::flat_lines::{flat_line, put_row};
 use crate::lines::first_line;
-use crate::outcome::Outcome;
 use sdm_io::{Sink, write_piece};
-use sdm_rules::{EventCause, FlatRow};
+use sdm_report::{EventCause, Outcome};
+use sdm_rules::FlatRow;
 use sdm_text::RowBuf;
 use std::alloc::Global;
 

@@ -1,12 +1,9 @@
-//! Worked journeys of `flat` as tables, refusals and faults at chosen calls, and the lines of outcomes. In the tables `/`
-//! stands for a line feed, `~` for a carriage return and `-` for nothing.
+//! Worked journeys of `flat` as tables, with refusals and faults at chosen calls. In the tables `/` stands for a line feed,
+//! `~` for a carriage return and `-` for nothing.
 
-use crate::outcome_lines::outcome_bytes;
 use crate::{CycleFault, EventCause, Flat, FlatRow, Outcome, outcome_of, sdm_main};
 use sdm_io::{FixedSource, MemSink, MemSource, NullSink};
 use sdm_num::{Place, Speed};
-use sdm_rules::{AuthorityFault, EventFault, FieldFault, RestrictFault, RevokeFault};
-use sdm_text::RowBuf;
 use std::alloc::Global;
 use std::test::Fail;
 
@@ -290,82 +287,4 @@ fn a_time_that_goes_back_changes_nothing(rt: HostRuntime) -> Result<(), Fail> {
         Ok(held)
     );
     Ok(())
-}
-
-// The cause that a text tells.
-fn cause_of(text: &str) -> Option<EventCause> {
-    Some(match text {
-        "unknown kind" => EventCause::Form(EventFault::UnknownKind),
-        "field count" => EventCause::Form(EventFault::FieldCount),
-        "field 8: not a number" => EventCause::Form(EventFault::Field {
-            column: 8,
-            fault: FieldFault::NotNumber,
-        }),
-        "field 4294967295: out of range" => EventCause::Form(EventFault::Field {
-            column: u32::MAX,
-            fault: FieldFault::OutOfRange,
-        }),
-        "too many events" => EventCause::Form(EventFault::TooMany),
-        "supervised location before end" => EventCause::Authority(AuthorityFault::SvlBeforeEoa),
-        "beyond track" => EventCause::Authority(AuthorityFault::BeyondTrack),
-        "bad speed" => EventCause::Authority(AuthorityFault::BadSpeed),
-        "too many restrictions" => EventCause::Restrict(RestrictFault::Full),
-        "identity in use" => EventCause::Restrict(RestrictFault::IdInUse { id: 7 }),
-        "restriction value" => EventCause::Restrict(RestrictFault::Value),
-        "identity unknown" => EventCause::Revoke(RevokeFault::Unknown { id: 7 }),
-        "time back" => EventCause::TimeBack { last: 5, time: 4 },
-        "line" => EventCause::Line,
-        _ => return None,
-    })
-}
-
-const CAUSES: &str = "\
-    unknown kind
-    field count
-    field 8: not a number
-    field 4294967295: out of range
-    too many events
-    supervised location before end
-    beyond track
-    bad speed
-    too many restrictions
-    identity in use
-    restriction value
-    identity unknown
-    time back
-    line";
-
-#[test]
-fn each_cause_has_its_text(rt: HostRuntime) -> Result<(), Fail> {
-    let alloc = rt.alloc();
-    for line in CAUSES.lines() {
-        let text = line.trim();
-        let outcome = Outcome::BadEvent {
-            number: u32::MAX,
-            cause: cause_of(text).ok_or("no cause")?,
-        };
-        let mut told = RowBuf::new();
-        outcome_bytes(&outcome, &mut told);
-        let wanted = format!(in alloc; "sdm: bad event 4294967295: {text}\n")?;
-        assert!(rt; told.bytes() == wanted.as_bytes(), "{text}");
-    }
-    Ok(())
-}
-
-#[test]
-fn each_outcome_has_its_code_and_its_line(rt: HostRuntime) {
-    let outcomes = [
-        (Outcome::Done, 0, ""),
-        (Outcome::Usage, 1, "sdm: bad words\n"),
-        (Outcome::ReadFault, 2, "sdm: read fault\n"),
-        (Outcome::WriteFault, 3, "sdm: write fault\n"),
-        (Outcome::TooLong, 4, "sdm: input too long\n"),
-        (Outcome::Memory, 8, "sdm: no memory\n"),
-    ];
-    for (outcome, code, line) in outcomes {
-        let mut told = RowBuf::new();
-        outcome_bytes(&outcome, &mut told);
-        assert_eq!(rt; outcome.code(), code);
-        assert!(rt; told.bytes() == line.as_bytes());
-    }
 }

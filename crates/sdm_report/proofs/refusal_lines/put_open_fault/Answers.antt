@@ -1,5 +1,5 @@
 -- The pieces in their order are the text.
-use Rattle.std.proofs.Common.{◌≡◌, to_z, of_z, w32, rules, arith, FitsSigned}
+use Rattle.std.proofs.Common.{◌≡◌, to_z, of_z, w32, rules}
 use Rattle.std.proofs.lemmas.Int.{ints, to_z-of_z}
 use Rattle.sdm_rules.specs.FaultLines.{open_text}
 use Rattle.sdm_report.proofs.Pieces.{three_pieces}

@@ -1,5 +1,5 @@
 -- Each comma and the fields after it lengthen the fields that are put, and a line feed ends them.
-use Rattle.std.proofs.Common.{◌≡◌, [], ◌∷◌, ◌++◌, decimal, refl, ap, ◌∙◌}
+use Rattle.std.proofs.Common.{◌≡◌, [], ◌∷◌, ◌++◌, decimal, refl}
 use Rattle.sdm_rules.specs.Text.{row_text, flag_text, state_text, status_text, place_text}
 use Rattle.sdm_report.proofs.Pieces.{IsJoined, more_fields}
 use Rattle.sdm_report.proofs.row_lines.row_bytes.Goals as goal
