@@ -18,10 +18,10 @@ module _ (c : goal.In_ok-number) where
   bounds = rw (← least, ← greatest) c.in_ok-number.ensures.range
 
   same : to_z w32 (of_z w32 (to_z w64 (of_z w64 c.in_ok-number.number))) ≡ c.in_ok-number.number
-  same = rw number (to_z-of_z w32 _ (between_fits _ _ _ c.ranges.least c.ranges.greatest (bounds).0 (bounds).1))
+  same = rw number (to_z-of_z w32 _ (between_fits w32 _ _ _ c.ranges.least c.ranges.greatest bounds.0 bounds.1))
 
 pub overflow_cast-result : goal.overflow_cast-result
-overflow_cast-result c = rw (number c) (between_fits _ _ _ c.ranges.least c.ranges.greatest (bounds c).0 (bounds c).1)
+overflow_cast-result c = rw (number c) (between_fits w32 _ _ _ c.ranges.least c.ranges.greatest (bounds c).0 (bounds c).1)
 
 pub returns-clause-value : goal.returns-clause-value
 returns-clause-value c = rw (same c, ← least c, ← greatest c) (sym c.read_int.ensures.value ∙ c.in_ok-number.was)

@@ -1,0 +1,11 @@
+-- The records of a journey as `csv` reads them from bytes in memory (own).
+use Rattle.std.specs.Prelude.{ℕ, List}
+use Rattle.csv.specs.Reading.{default_config, records, strip_bom}
+
+-- a record is the list of its fields, of any bytes (own)
+abbrev pub Record : Type 0
+Record = List (List ℕ)
+
+-- the records of bytes: comma separated, with no header row and of any lengths, after a byte order mark if there is one (own)
+abbrev pub records_of : List ℕ → List Record
+records_of bytes = records default_config (strip_bom bytes)
