@@ -204,13 +204,23 @@ fn wrong_lines(alloc: Global, table: &str, want: bool) -> Result<Vec<usize>, Fai
     Ok(wrong)
 }
 
-// Map | scale | front, speed, accelerations, times of the start | phase, time, speed, way of slices | place, square of points
+// In each table: map | scale | front, speed, accelerations, times of the start | phase, time, speed, way of slices | place, square of
+// points.
 //
-// From row to row: a motion as it is asked of the supervisor, and at scale 16; slices that gain 1 cm/s² for 1 s; steps to
-// and over borders of segments, and from band to band; places below 0; the ends of the ranges.
-const MOTIONS: &str = "\
+// A train of 20 m/s at 760 m whose brake takes 2 s to build up: for an SvL at 1000 m it is at its EBI, and still covered. It makes
+// full use of the 2 s, brakes no more than it must, and comes to stand exactly at the SvL: no limit could lie later. At scale 1
+// and at scale 16.
+const FROM_THE_EBI: &str = "\
 level | 1 | 410400000000000 1080000 0 0 0 20 | b 10 1080000 10800000000000, b 5 1080000 5400000000000, b 5 1080000 5400000000000 | 432000000000000 1166400000000, 459000000000000 874800000000, 486000000000000 583200000000, 540000000000000 0
-level | 16 | 410400000000000 1080000 0 0 0 20 | b 160 17280000 2764800000000000, b 80 17280000 1382400000000000, b 80 17280000 1382400000000000 | 110592000000000000 298598400000000, 117504000000000000 223948800000000, 124416000000000000 149299200000000, 138240000000000000 0
+level | 16 | 410400000000000 1080000 0 0 0 20 | b 160 17280000 2764800000000000, b 80 17280000 1382400000000000, b 80 17280000 1382400000000000 | 110592000000000000 298598400000000, 117504000000000000 223948800000000, 124416000000000000 149299200000000, 138240000000000000 0";
+
+// It can't come to stand a grain past the SvL.
+const PAST_THE_SVL: &str = "\
+level | 1 | 410400000000000 1080000 0 0 0 20 | b 10 1080000 10800000000000, b 5 1080000 5400000000000, b 5 1080000 5400000000000 | 432000000000000 1166400000000, 459000000000000 874800000000, 486000000000000 583200000000, 540000000000001 0";
+
+// From row to row: slices that gain 1 cm/s² for 1 s; steps to and over borders of segments, and from band to band; places
+// below 0; the ends of the ranges.
+const MOTIONS: &str = "\
 level | 1 | 0 0 1 0 10 10 | t 10 540 2700000000, b 10 540 5400000000 | 8100000000 291600, 8100000000 0
 level | 1 | 0 0 1 0 10 10 | t 4 216 432000000, t 6 540 2268000000, b 10 540 5400000000 | 8100000000 291600, 8100000000 0
 level | 1 | 0 0 1 0 10 10 | t 10 0 0, b 10 0 0 | 0 0
@@ -273,6 +283,15 @@ fn motions_are_told_from_what_no_train_does(rt: HostRuntime) -> Result<(), Fail>
     let wrong = wrong_lines(rt.alloc(), MOTIONS, true)?;
     assert_eq!(rt; wrong.len(), 0);
     let wrong = wrong_lines(rt.alloc(), NO_MOTIONS, false)?;
+    assert_eq!(rt; wrong.len(), 0);
+    Ok(())
+}
+
+#[test]
+fn a_train_at_its_ebi_may_stop_exactly_at_the_svl(rt: HostRuntime) -> Result<(), Fail> {
+    let wrong = wrong_lines(rt.alloc(), FROM_THE_EBI, true)?;
+    assert_eq!(rt; wrong.len(), 0);
+    let wrong = wrong_lines(rt.alloc(), PAST_THE_SVL, false)?;
     assert_eq!(rt; wrong.len(), 0);
     Ok(())
 }
