@@ -14,3 +14,6 @@ pub mod verdicts;
 pub use flat::Flat;
 pub use sdm_rules::{CycleFault, FlatRow, OpenFault, Row, SlopeKind};
 pub use supervisors::Supervisor;
+
+#[cfg(test)]
+mod tests;

@@ -1,0 +1,112 @@
+//! Journeys of which each record is answered as it was worked out outside of this program: by hand, or by a model in exact fractions.
+//!
+//! A table is text. An empty line parts its journeys. A journey begins with what it shows, after `#`, and with what its data have
+//! otherwise than the base data: sections with their keys, or with the numbers of their entries. Its records follow in the form of the
+//! product's input, each with its answer: the row as the product prints it, a fault, or `taken`. `up to` with an identity stands for
+//! as many restrictions alike as bring the identities up to that one.
+
+mod data;
+mod journeys;
+mod modelled;
+mod records;
+
+use data::{base, set_line};
+use journeys::{COMMANDS, FRONTS, LIMITS, RECORDS, RELEASES};
+use modelled::MODELLED;
+use records::{answer, begin};
+use std::alloc::Global;
+use std::process::Abort;
+use std::test::Fail;
+
+fn go(rt: &impl Abort, alloc: Global, journey: &str) -> Result<(), Fail> {
+    let mut data = base(alloc);
+    for line in journey.lines() {
+        if !line.contains(" = ") && !line.starts_with('#') {
+            set_line(alloc, &mut data, line)?;
+        }
+    }
+    let Ok(mut supervisor) = begin(alloc, data)? else {
+        return Err("the opening is refused")?;
+    };
+    for line in journey.lines() {
+        if let Some((record, expected)) = line.split_once(" = ") {
+            let found = answer(alloc, &mut supervisor, record)?;
+            assert_eq!(rt; found.as_str(), expected, "{record}");
+        }
+    }
+    Ok(())
+}
+
+fn go_through(rt: &impl Abort, alloc: Global, table: &str) -> Result<(), Fail> {
+    for journey in table.split("\n\n") {
+        go(rt, alloc, journey)?;
+    }
+    Ok(())
+}
+
+#[test]
+fn limits_lie_where_a_train_must_begin_to_brake(rt: HostRuntime) -> Result<(), Fail> {
+    go_through(&rt, rt.alloc(), LIMITS)
+}
+
+#[test]
+fn each_target_compares_its_own_front_end(rt: HostRuntime) -> Result<(), Fail> {
+    go_through(&rt, rt.alloc(), FRONTS)
+}
+
+#[test]
+fn commands_are_held_until_they_are_released(rt: HostRuntime) -> Result<(), Fail> {
+    go_through(&rt, rt.alloc(), COMMANDS)
+}
+
+#[test]
+fn what_is_refused_changes_nothing(rt: HostRuntime) -> Result<(), Fail> {
+    go_through(&rt, rt.alloc(), RECORDS)
+}
+
+#[test]
+fn the_release_speed_counts_past_the_earlier_start(rt: HostRuntime) -> Result<(), Fail> {
+    go_through(&rt, rt.alloc(), RELEASES)
+}
+
+#[test]
+fn rows_are_those_of_an_exact_model(rt: HostRuntime) -> Result<(), Fail> {
+    go_through(&rt, rt.alloc(), MODELLED)
+}
+
+/// What the data of an opening have otherwise than the base data, and whether it is taken or what its first fault is.
+const OPENINGS: &str = "\
+end 200000 200000 500 = taken
+limit 0 500 = taken
+adhesion 90000 100000; national adhesion_max 4 = Safe slope 8000000000 too weak in band 1, cell 90000
+adhesion 90000 100000; national adhesion_max 5; band 1 emergency 81 service 80 normal 80 = Safe slopes from 10000000000 to 162000000000 too varied in band 1
+band 1 service 4; train service_brake 0 = Expected slope 8000000000 too weak in band 1, cell 0
+band 1 upper 36; band 2 normal 4 = Normal slope 8000000000 too weak in band 2, cell 0
+band 1 normal 50 kn_down 200; gradient 0 0 50000 -80 = Normal slope -24960000000 too weak in band 1, cell 50000
+band 1 normal 5; gradient 0 0 50000 80 = Normal slopes from 10000000000 to 166960000000 too varied in band 1
+band 1 service 4 emergency 81; adhesion 90000 100000; national adhesion_max 5 = Safe slopes from 10000000000 to 162000000000 too varied in band 1
+band 1 service 4 normal 4 = Expected slope 8000000000 too weak in band 1, cell 0
+band 1 normal 4; end 100000 99999 0 = Normal slope 8000000000 too weak in band 1, cell 0
+end 100000 99999 0 = supervised location before end
+end 100000 200001 501 = beyond track
+end 100000 100000 501 = bad speed
+limit 200001 0 = beyond track
+limit 100000 0 = bad speed
+limit 200000 501 = bad speed
+band 1 upper 36; band 2 upper 72 emergency 80 service 80 normal 80; band 3 emergency 50 service 50 normal 50; gradient 0 80 199999 -50; end 100000 100000 0 = Safe slope 1900000000 too weak in band 3, cell 199999";
+
+#[test]
+fn the_first_fault_of_an_opening_is_named(rt: HostRuntime) -> Result<(), Fail> {
+    let alloc = rt.alloc();
+    for line in OPENINGS.lines() {
+        let (text, expected) = line.split_once(" = ").ok_or("no answer")?;
+        let mut data = base(alloc);
+        set_line(alloc, &mut data, text)?;
+        let found = match begin(alloc, data)? {
+            Ok(_) => format!(in alloc; "taken")?,
+            Err(fault) => format!(in alloc; "{fault}")?,
+        };
+        assert_eq!(rt; found.as_str(), expected, "{text}");
+    }
+    Ok(())
+}

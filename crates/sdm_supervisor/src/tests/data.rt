@@ -1,0 +1,259 @@
+//! The data of a journey, from what a table says of them.
+
+ghost use Rattle.std.specs.Prelude.{◌<◌, IfOk};
+
+use sdm_national::NationalFields;
+use sdm_rules::MOST_BANDS;
+use sdm_targets::Authority;
+use sdm_track::{Area, Gradient, SpeedStep};
+use sdm_train::{Band, TrainFields};
+use std::alloc::Global;
+use std::test::Fail;
+
+const BAND: Band = Band {
+    upper: None,
+    emergency: 100,
+    service: 100,
+    normal: 100,
+    kdry: 1000,
+    kwet: 1000,
+    kn_up: 0,
+    kn_down: 0,
+};
+
+const TRAIN: TrainFields = TrainFields {
+    length: 10_000,
+    max_speed: 160,
+    rotating_mass: Some(0),
+    traction_cutoff_time: 0,
+    traction_cutoff_interface: false,
+    emergency_time: 0,
+    service_time: 0,
+    service_brake: true,
+    bands: [BAND; MOST_BANDS],
+    band_count: 1,
+};
+
+const NATIONAL: NationalFields = NationalFields {
+    avadh: 20,
+    adhesion_max: 70,
+    guidance: false,
+    service_in_target: true,
+    early_release: false,
+    inhibit_under_reading: false,
+};
+
+/// The data of a journey before any range is tested.
+#[derive(Drop)]
+pub struct Data {
+    pub train: TrainFields,
+    pub national: NationalFields,
+    pub track_cm: u32,
+    pub gradients: Vec<Gradient>,
+    pub speeds: Vec<SpeedStep>,
+    pub areas: Vec<Area>,
+    pub authority: Authority,
+}
+
+/// A train of 100 m that brakes with 1 m/s² at once, at 160 km/h on a level track of 2 km, with its EOA and SvL at 1000 m.
+pub fn base(alloc: Global) -> Data {
+    Data {
+        train: TRAIN,
+        national: NATIONAL,
+        track_cm: 200_000,
+        gradients: Vec::new(alloc),
+        speeds: Vec::new(alloc),
+        areas: Vec::new(alloc),
+        authority: Authority::Stop {
+            eoa: 100_000,
+            svl: 100_000,
+            release: 0,
+        },
+    }
+}
+
+pub fn number(word: Option<&str>) -> Result<i64, Fail> {
+    Ok(word.ok_or("a number is wanting")?.parse::<i64>()?)
+}
+
+pub fn natural(word: Option<&str>) -> Result<u32, Fail> {
+    Ok(word.ok_or("a number is wanting")?.parse::<u32>()?)
+}
+
+pub fn small(word: Option<&str>) -> Result<u16, Fail> {
+    Ok(word.ok_or("a number is wanting")?.parse::<u16>()?)
+}
+
+fn set_in_train(train: &mut TrainFields, key: &str, value: Option<&str>) -> Result<(), Fail> {
+    if key == "rotating_mass" && value == Some("-") {
+        train.rotating_mass = None;
+        return Ok(());
+    }
+    let value = number(value)?;
+    match key {
+        "length" => train.length = value,
+        "max_speed" => train.max_speed = value,
+        "rotating_mass" => train.rotating_mass = Some(value),
+        "traction_cutoff_time" => train.traction_cutoff_time = value,
+        "traction_cutoff_interface" => train.traction_cutoff_interface = value == 1,
+        "emergency_time" => train.emergency_time = value,
+        "service_time" => train.service_time = value,
+        "service_brake" => train.service_brake = value == 1,
+        _ => return Err("no such key of the train")?,
+    }
+    Ok(())
+}
+
+fn set_in_band(band: &mut Band, key: &str, value: Option<&str>) -> Result<(), Fail> {
+    let value = number(value)?;
+    match key {
+        "upper" => band.upper = Some(value),
+        "emergency" => band.emergency = value,
+        "service" => band.service = value,
+        "normal" => band.normal = value,
+        "kdry" => band.kdry = value,
+        "kwet" => band.kwet = value,
+        "kn_up" => band.kn_up = value,
+        "kn_down" => band.kn_down = value,
+        _ => return Err("no such key of a band")?,
+    }
+    Ok(())
+}
+
+fn set_in_national(
+    national: &mut NationalFields,
+    key: &str,
+    value: Option<&str>,
+) -> Result<(), Fail> {
+    let value = number(value)?;
+    match key {
+        "avadh" => national.avadh = value,
+        "adhesion_max" => national.adhesion_max = value,
+        "guidance" => national.guidance = value == 1,
+        "service_in_target" => national.service_in_target = value == 1,
+        "early_release" => national.early_release = value == 1,
+        "inhibit_under_reading" => national.inhibit_under_reading = value == 1,
+        _ => return Err("no such national value")?,
+    }
+    Ok(())
+}
+
+// The place in the array of a band's number, which counts from 1.
+fn band_index(word: Option<&str>) -> Result<usize, Fail>
+    ensures { IfOk result (λ i. i < 8) }
+{
+    match natural(word)? {
+        n @ 1..=8 => Ok(n as usize - 1),
+        _ => Err("no such band")?,
+    }
+}
+
+fn set_band(train: &mut TrainFields, text: &str) -> Result<(), Fail> {
+    let mut words = text.split_whitespace();
+    let i = band_index(words.next())?;
+    train.band_count = train.band_count.max(i as u32 + 1);
+    while let Some(key) = words.next() {
+        set_in_band(&mut train.bands[i], key, words.next())?;
+    }
+    Ok(())
+}
+
+fn gradients(alloc: Global, text: &str) -> Result<Vec<Gradient>, Fail> {
+    let mut entries = Vec::new(alloc);
+    let mut words = text.split_whitespace();
+    while let Some(start) = words.next() {
+        entries.push(Gradient {
+            start: number(Some(start))?,
+            grad: number(words.next())?,
+        })?;
+    }
+    Ok(entries)
+}
+
+fn speeds(alloc: Global, text: &str) -> Result<Vec<SpeedStep>, Fail> {
+    let mut entries = Vec::new(alloc);
+    let mut words = text.split_whitespace();
+    while let Some(start) = words.next() {
+        entries.push(SpeedStep {
+            start: number(Some(start))?,
+            speed: number(words.next())?,
+            delayed: words.next() == Some("1"),
+        })?;
+    }
+    Ok(entries)
+}
+
+fn areas(alloc: Global, text: &str) -> Result<Vec<Area>, Fail> {
+    let mut entries = Vec::new(alloc);
+    let mut words = text.split_whitespace();
+    while let Some(start) = words.next() {
+        entries.push(Area {
+            start: number(Some(start))?,
+            end: number(words.next())?,
+        })?;
+    }
+    Ok(entries)
+}
+
+/// The authority of a kind with these numbers: of `end` EOA, SvL and release speed; of `limit` LOA and speed.
+pub fn authority<'a>(
+    kind: &str,
+    first: Option<&'a str>,
+    second: Option<&'a str>,
+    third: Option<&'a str>,
+) -> Result<Authority, Fail> {
+    match kind {
+        "end" => Ok(Authority::Stop {
+            eoa: natural(first)?,
+            svl: natural(second)?,
+            release: small(third)?,
+        }),
+        "limit" => Ok(Authority::Limit {
+            loa: natural(first)?,
+            speed: small(second)?,
+        }),
+        _ => Err("no such authority")?,
+    }
+}
+
+fn set_numbers(data: &mut Data, section: &str, text: &str) -> Result<(), Fail> {
+    let mut words = text.split_whitespace();
+    while let Some(key) = words.next() {
+        let value = words.next();
+        match section {
+            "train" => set_in_train(&mut data.train, key, value)?,
+            "national" => set_in_national(&mut data.national, key, value)?,
+            _ => data.track_cm = natural(value)?,
+        }
+    }
+    Ok(())
+}
+
+fn set_authority(data: &mut Data, kind: &str, text: &str) -> Result<(), Fail> {
+    let mut words = text.split_whitespace();
+    data.authority = authority(kind, words.next(), words.next(), words.next())?;
+    Ok(())
+}
+
+// Sets what a section says.
+fn set_section(alloc: Global, data: &mut Data, text: &str) -> Result<(), Fail> {
+    let (section, text) = text.trim().split_once(' ').ok_or("an empty section")?;
+    match section {
+        "train" | "national" | "track" => set_numbers(data, section, text)?,
+        "band" => set_band(&mut data.train, text)?,
+        "gradient" => data.gradients = gradients(alloc, text)?,
+        "speed" => data.speeds = speeds(alloc, text)?,
+        "adhesion" => data.areas = areas(alloc, text)?,
+        "end" | "limit" => set_authority(data, section, text)?,
+        _ => return Err("no such section")?,
+    }
+    Ok(())
+}
+
+/// Sets what a line says, whose sections are parted by `;`.
+pub fn set_line(alloc: Global, data: &mut Data, line: &str) -> Result<(), Fail> {
+    for section in line.split(';') {
+        set_section(alloc, data, section)?;
+    }
+    Ok(())
+}
