@@ -4,5 +4,6 @@ pub mod FlatOrder
 pub mod CommandFacts
 pub mod RunTurnLaws
 pub mod RunData
+pub mod RunTexts
 pub mod RunAnswers
 pub mod OutputLaws

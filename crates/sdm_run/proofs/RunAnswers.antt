@@ -23,7 +23,7 @@ use Rattle.sdm_report.specs.declared.outcome.Outcome.{Outcome}
 use Rattle.sdm_report.specs.declared.outcome.Outcome.TheVariants.{Done, Usage, ReadFault, WriteFault, TooLong, BadData, Refused, BadEvent, Memory}
 use Rattle.sdm_data.specs.Division.{divide}
 use Rattle.sdm_events.specs.Journey.{Record, records_of}
-use Rattle.sdm_run.specs.Answers.{IsAnswer}
+use Rattle.sdm_run.specs.Answers.{ComesBefore, ComesFirst, IsAnswer, IsRecordsOutcome}
 use Rattle.sdm_run.specs.Journeys.{run_reader, output_of_records, IsRunOutput}
 use Rattle.sdm_run.specs.RunParts.{IsDataOf, IsOpeningOf, IsRefusedBy}
 use Rattle.sdm_run.specs.RunTurns.{AreRunRowsSafe}
@@ -61,10 +61,6 @@ run_of_parts bytes rows end short parts =
 
 -- ---- the data part
 
--- an outcome that tells an end of no rows
-told_nothing : (end : End) (old : Option (List ℕ)) (outcome : Outcome) → IsAnswer (output_by [] end) old old outcome → IsAnswer (output_by [] end) old old outcome
-told_nothing end old outcome h = h
-
 -- no dividing line
 pub no_split : (bytes : List ℕ) (old : Option (List ℕ)) → length bytes ≤ most_bytes → divide bytes ≡ None → (output : Output) → IsRunOutput bytes output → IsAnswer output old old (BadData NoSplit)
 no_split bytes old short none = answers_all bytes [] ends.NoSplit old old (BadData NoSplit) (run_of_parts bytes [] ends.NoSplit short (rw none (refl, refl))) (record { ended = inl refl; taken = Appends-nil old })
@@ -78,8 +74,8 @@ pub refused : (bytes : List ℕ) (data_end start : ℕ) (old : Option (List ℕ)
     (output : Output) → IsRunOutput bytes output → IsAnswer output old old outcome
 refused bytes data_end start old (BadData Toml) short cut none =
     answers_all bytes [] ends.Toml old old (BadData Toml) (run_of_parts bytes [] ends.Toml short (rw (cut, none) (refl, refl))) (record { ended = inl refl; taken = Appends-nil old })
-refused bytes data_end start old (BadData (Data fault)) short cut (known, members, document, data) =
-    answers_all bytes [] (ends.Data fault) old old (BadData (Data fault)) (run_of_parts bytes [] (ends.Data fault) short (rw (cut, document, data) (refl, refl))) (record { ended = inl refl; taken = Appends-nil old })
+refused bytes data_end start old (BadData (Data fault)) short cut (known, table, document, read) =
+    answers_all bytes [] (ends.Data fault) old old (BadData (Data fault)) (run_of_parts bytes [] (ends.Data fault) short (rw (cut, document, read) (refl, refl))) (record { ended = inl refl; taken = Appends-nil old })
 refused bytes data_end start old (Refused fault) short cut (known, line, a, given, first) =
     answers_all bytes [] (ends.Refused fault) old old (Refused fault) (run_of_parts bytes [] (ends.Refused fault) short (rw (cut, given.document, given.read) (inr (fault, first, refl, refl)))) (record { ended = inl refl; taken = Appends-nil old })
 refused bytes data_end start old Memory short cut free = λ output is. memory_first old output
@@ -108,3 +104,38 @@ pub run_rows_safe : (bytes : List ℕ) → AreRunRowsSafe bytes
 run_rows_safe bytes ends s cut is =
     rows_of_turns event_of 1 s false false (records_of (drop ends.1 bytes)) (opening_open (take ends.0 bytes) s is)
     (rw is.state (record { needed = λ h. h; allowed = λ h. h }))
+
+-- ---- no outcome of these comes before the bytes are answered
+
+pub refused_not_before : (bytes : List ℕ) (outcome : Outcome) → IsRefusedBy bytes outcome → ComesBefore outcome → ⊥
+refused_not_before bytes Done h b = b
+refused_not_before bytes Usage h b = h
+refused_not_before bytes ReadFault h b = h
+refused_not_before bytes WriteFault h b = b
+refused_not_before bytes TooLong h b = h
+refused_not_before bytes (BadData fault) h b = b
+refused_not_before bytes (Refused fault) h b = b
+refused_not_before bytes (BadEvent number cause) h b = b
+refused_not_before bytes Memory h b = b
+
+pub records_not_before : (outcome : Outcome) → IsRecordsOutcome outcome → ComesBefore outcome → ⊥
+records_not_before Done h b = b
+records_not_before Usage h b = h
+records_not_before ReadFault h b = h
+records_not_before WriteFault h b = b
+records_not_before TooLong h b = h
+records_not_before (BadData fault) h b = b
+records_not_before (Refused fault) h b = b
+records_not_before (BadEvent number cause) h b = b
+records_not_before Memory h b = b
+
+pub flat_not_before : (outcome : Outcome) → (ComesFirst outcome → ⊥) → ComesBefore outcome → ⊥
+flat_not_before Done h b = b
+flat_not_before Usage h b = h b
+flat_not_before ReadFault h b = h b
+flat_not_before WriteFault h b = b
+flat_not_before TooLong h b = h b
+flat_not_before (BadData fault) h b = b
+flat_not_before (Refused fault) h b = b
+flat_not_before (BadEvent number cause) h b = b
+flat_not_before Memory h b = b

@@ -71,38 +71,38 @@ reading_safe : (o : Option CycleFault) (s : Supervision) (r : OdometerReading) (
     IsOpen s → InOrder must s.commands.eb may → LaterSafe later →
     AreTurnsSafe must may (turns_of_event s (record_kinds.Read r) (unless time_cause o (record { after = after_reading s r; row = Some (row_of s r) })) later)
 unfolding row_in after_reading
-reading_safe None s r must may later open h rest =
-    let order = machines s r open must may h in
-    (record { order = order; stop = stop s r open; gaps = gaps s r },
-    rest (after_reading s r) (must_after s r must) (may_after s r may) (record { bands = open.bands; usable = open.usable }) order)
-reading_safe (Some fault) s r must may later open h rest = tt
+reading_safe None s r must may later opened h rest =
+    let order = machines s r opened must may h in
+    (record { order = order; stop = stop s r opened; gaps = gaps s r },
+    rest (after_reading s r) (must_after s r must) (may_after s r may) (record { bands = opened.bands; usable = opened.usable }) order)
+reading_safe (Some fault) s r must may later opened h rest = tt
 
 event_safe : (s : Supervision) (e : Event) (must may : Bool) (later : Supervision → List Turn) →
     IsOpen s → InOrder must s.commands.eb may → LaterSafe later → AreTurnsSafe must may (turns_of_event s e (step s e) later)
 unfolding step
-event_safe s (record_kinds.Read r) must may later open h rest = reading_safe (time_fault s.last_time r.time) s r must may later open h rest
-event_safe s (record_kinds.Authority a) must may later open h rest =
+event_safe s (record_kinds.Read r) must may later opened h rest = reading_safe (time_fault s.last_time r.time) s r must may later opened h rest
+event_safe s (record_kinds.Authority a) must may later opened h rest =
     quiet_safe causes.Authority (authority_fault s.line.track.length_cm a) s (after_authority s a) (record_kinds.Authority a) must may later refl
-    (rest (after_authority s a) must may (record { bands = open.bands; usable = open.usable }) h)
-event_safe s (record_kinds.Restrict r) must may later open h rest =
+    (rest (after_authority s a) must may (record { bands = opened.bands; usable = opened.usable }) h)
+event_safe s (record_kinds.Restrict r) must may later opened h rest =
     quiet_safe causes.Restrict (restrict_fault s.line.track.length_cm s.restrictions r) s (after_restriction s r) (record_kinds.Restrict r) must may later refl
-    (rest (after_restriction s r) must may (record { bands = open.bands; usable = open.usable }) h)
-event_safe s (record_kinds.Revoke id) must may later open h rest =
+    (rest (after_restriction s r) must may (record { bands = opened.bands; usable = opened.usable }) h)
+event_safe s (record_kinds.Revoke id) must may later opened h rest =
     quiet_safe causes.Revoke (revoke_fault s.restrictions id) s (after_revocation s id) (record_kinds.Revoke id) must may later refl
-    (rest (after_revocation s id) must may (record { bands = open.bands; usable = open.usable }) h)
+    (rest (after_revocation s id) must may (record { bands = opened.bands; usable = opened.usable }) h)
 
 record_safe : (s : Supervision) (e : Result Event EventFault) (must may : Bool) (later : Supervision → List Turn) →
     IsOpen s → InOrder must s.commands.eb may → LaterSafe later → AreTurnsSafe must may (turns_of_record s e later)
-record_safe s (Ok e) must may later open h rest = event_safe s e must may later open h rest
-record_safe s (Err fault) must may later open h rest = tt
+record_safe s (Ok e) must may later opened h rest = event_safe s e must may later opened h rest
+record_safe s (Err fault) must may later opened h rest = tt
 
 turns_safe : {A : Type 0} (form : A → Result Event EventFault) (n : ℕ) (s : Supervision) (must may : Bool) (records : List A) →
     IsOpen s → InOrder must s.commands.eb may → AreTurnsSafe must may (turns_from form n s records)
-turns_safe form n s must may [] open h = tt
-turns_safe form n s must may (x ∷ xs) open h =
-    record_safe s (event_at form n x) must may (λ t. turns_from form (suc n) t xs) open h (λ t must' may' o k. turns_safe form (suc n) t must' may' xs o k)
+turns_safe form n s must may [] opened h = tt
+turns_safe form n s must may (x ∷ xs) opened h =
+    record_safe s (event_at form n x) must may (λ t. turns_from form (suc n) t xs) opened h (λ t must' may' o k. turns_safe form (suc n) t must' may' xs o k)
 
 -- the rows are those of the turns, and each turn is safe
 pub rows_of_turns : {A : Type 0} (form : A → Result Event EventFault) (n : ℕ) (s : Supervision) (must may : Bool) (records : List A) →
     IsOpen s → InOrder must s.commands.eb may → AreRowsOfTurns form n s must may records
-rows_of_turns form n s must may records open h = record { rows = rows_are form n s records; safe = turns_safe form n s must may records open h }
+rows_of_turns form n s must may records opened h = record { rows = rows_are form n s records; safe = turns_safe form n s must may records opened h }

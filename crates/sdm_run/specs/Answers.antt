@@ -77,6 +77,18 @@ ComesFirst (Refused fault) = Unit {0}
 ComesFirst (BadEvent number cause) = ⊥
 ComesFirst Memory = ⊥
 
+-- an outcome that comes before the bytes of the input are answered (own)
+abbrev pub ComesBefore : Outcome → Type 0
+ComesBefore Done = ⊥
+ComesBefore Usage = Unit {0}
+ComesBefore ReadFault = Unit {0}
+ComesBefore WriteFault = ⊥
+ComesBefore TooLong = Unit {0}
+ComesBefore (BadData fault) = ⊥
+ComesBefore (Refused fault) = ⊥
+ComesBefore (BadEvent number cause) = ⊥
+ComesBefore Memory = ⊥
+
 -- an outcome that comes after the end of the input (own)
 abbrev pub ComesLast : Outcome → Type 0
 ComesLast Done = Unit {0}

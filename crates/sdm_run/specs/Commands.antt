@@ -1,5 +1,5 @@
 -- What each command defines for the bytes of its input (own).
-use Rattle.std.specs.Prelude.{◌≡◌, ℕ, ⊥, List, [], length, nat_lt, if◌then◌else◌}
+use Rattle.std.specs.Prelude.{◌≡◌, ℕ, List, [], length, nat_lt, if◌then◌else◌}
 use Rattle.sdm_rules.specs.Input.{most_bytes, TooLong}
 use Rattle.sdm_rules.specs.Flat.{Output, flat_output}
 use Rattle.sdm_run.specs.FlatRun.{AreFlatRowsSafe}

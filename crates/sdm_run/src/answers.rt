@@ -8,7 +8,7 @@ ghost use Rattle.sdm_report.specs.OutcomeLines.{outcome_line};
 ghost use Rattle.sdm_rules.specs.Flat.{Output};
 ghost use Rattle.sdm_rules.specs.Input.{most_bytes};
 ghost use Rattle.sdm_run.specs.declared.words.Command.{Command};
-ghost use Rattle.sdm_run.specs.Answers.{ComesFirst, ComesLast, IsAnswer, IsPossible, told_end};
+ghost use Rattle.sdm_run.specs.Answers.{ComesBefore, ComesFirst, ComesLast, IsAnswer, IsPossible, told_end};
 ghost use Rattle.sdm_run.specs.Commands.{AreRowsSafe, HasOneOutput, IsOutputOf, TakesMemoryFirst};
 ghost use Rattle.sdm_run.specs.Words.{IsInRange, asked_by};
 
@@ -97,7 +97,8 @@ fn run_command<O: Sink>(alloc: Global, command: Command, bytes: &[u8], out: &mut
     ensures answer { (output : Output) → IsOutputOf command bytes.now output → IsAnswer output (O.taken out.old) (O.taken out.new) result }
     ensures rows { AreRowsSafe command bytes.now }
     ensures possible { IsPossible command result }
-    ensures not_first { ComesFirst result → ⊥ }
+    ensures not_before { ComesBefore result → ⊥ }
+    ensures first { ComesFirst result → Keeps (O.taken out.old) (O.taken out.new) }
     ensures memory { TakesMemoryFirst command → result ≡ Outcome.Memory → Keeps (O.taken out.old) (O.taken out.new) }
     ensures write { result ≡ Outcome.WriteFault → Rose (O.faults out.old) (O.faults out.new) }
 {

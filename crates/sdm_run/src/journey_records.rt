@@ -26,6 +26,7 @@ use std::alloc::Global;
 const MOST_RECORDS: u32 = 100_000;
 
 // Takes a reading: its row.
+#[tactic(auto, unfolding(sdm_rules::specs::Records::step))]
 fn take_reading(supervisor: &mut Supervisor, reading: &Reading) -> Result<Option<Row>, EventCause>
     ensures accepted { IfOk result (λ row. step supervisor.old (record_kinds.Read reading.now) ≡ Ok (record { after = supervisor.new; row = row })) }
     ensures refused { IfErr result (λ cause. step supervisor.old (record_kinds.Read reading.now) ≡ Err cause) }
@@ -101,6 +102,7 @@ fn turn<O: Sink>(
     number: u32,
     out: &mut O,
 ) -> Result<bool, Outcome>
+    requires { 1 ≤ number }
     ensures turn { IsTurn (O.taken out.old) (O.taken out.new) number supervisor.old supervisor.new records.old records.new result }
     ensures later { O.faults out.old ≤ O.faults out.new }
     ensures write { result ≡ Err Outcome.WriteFault → Rose (O.faults out.old) (O.faults out.new) }
@@ -120,27 +122,6 @@ fn turn<O: Sink>(
     }
 }
 
-// Takes record after record; done where none is left.
-fn take_records<O: Sink>(
-    alloc: Global,
-    supervisor: &mut Supervisor,
-    bytes: &[u8],
-    out: &mut O,
-) -> Result<(), Outcome>
-    ensures done { OnOk result (IsAnswer (output_of_records 1 supervisor.old (records_of bytes.now)) (O.taken out.old) (O.taken out.new) Outcome.Done) }
-    ensures cut { IfErr result (IsAnswer (output_of_records 1 supervisor.old (records_of bytes.now)) (O.taken out.old) (O.taken out.new)) }
-    ensures write { result ≡ Err Outcome.WriteFault → Rose (O.faults out.old) (O.faults out.new) }
-    ensures possible { IfErr result IsRecordsOutcome }
-{
-    let mut records = Records::begin(alloc, bytes);
-    let mut record = ByteRecord::new(alloc);
-    let mut number = 1u32;
-    'records: while turn(supervisor, &mut records, &mut record, number, out)? {
-        number += 1;
-    }
-    Ok(())
-}
-
 /// Answers the records of these bytes, from a supervision state on. WriteFault comes only where out failed. (own)
 pub fn run_records<O: Sink>(
     alloc: Global,
@@ -152,8 +133,14 @@ pub fn run_records<O: Sink>(
     ensures write { result ≡ Outcome.WriteFault → Rose (O.faults out.old) (O.faults out.new) }
     ensures possible { IsRecordsOutcome result }
 {
-    match take_records(alloc, supervisor, bytes, out) {
-        Ok(()) => Outcome::Done,
-        Err(outcome) => outcome,
+    let mut records = Records::begin(alloc, bytes);
+    let mut record = ByteRecord::new(alloc);
+    let mut number = 1u32;
+    'records: loop {
+        match turn(supervisor, &mut records, &mut record, number, out) {
+            Ok(true) => number += 1,
+            Ok(false) => return Outcome::Done,
+            Err(outcome) => return outcome,
+        }
     }
 }
