@@ -1,8 +1,8 @@
 -- A section of the data part: what a key of it holds, or the rule that is broken there (own).
-use Rattle.std.specs.Prelude.{ℕ, suc, ◌-◌, ◌^◌, min, ℤ, pos, unsigned_abs, Bool, not, is_some, if◌then◌else◌, List, [], ◌∷◌, Option, Some, None, Result, Ok, Err, option_map, option_and_then}
+use Rattle.std.specs.Prelude.{ℕ, suc, ◌-◌, ◌^◌, min, ℤ, pos, unsigned_abs, Bool, not, is_some, if◌then◌else◌, List, [], ◌∷◌, Option, Some, None, Result, Ok, Err, option_and_then}
 use Rattle.std.specs.List.{list_any, list_all, filter_map}
 use Rattle.std.specs.Str.{bytes_eq}
-use Rattle.toml.specs.Data.{Data, Items, no_items, item, Members, no_members, member, get_member, as_array, as_integer, as_table}
+use Rattle.toml.specs.Data.{Data, Items, no_items, item, Members, no_members, member, get_member, as_array, as_table}
 use Rattle.sdm_rules.specs.declared.faults.Section.{Section}
 use Rattle.sdm_rules.specs.declared.faults.At.{At}
 use Rattle.sdm_rules.specs.declared.faults.DataFault.{DataFault}
@@ -26,8 +26,8 @@ at s key = record { section = s.section; index = s.index; key = key }
 
 -- ---- rules one after the other
 
--- what follows, where no rule was broken so far (own)
 infixl 10 ◌>>=◌
+-- what follows, where no rule was broken so far (own)
 abbrev pub ◌>>=◌ : {A B : Type 0} → Result A DataFault → (A → Result B DataFault) → Result B DataFault
 (Ok x) >>= rest = rest x
 (Err fault) >>= rest = Err fault

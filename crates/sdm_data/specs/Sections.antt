@@ -1,6 +1,6 @@
 -- What each section of the data part holds, or the first rule that it breaks: UnknownKey, and then key by key Missing, WrongKind
 -- and, for some, Value (own). Keys go by their numbers in `key_names`.
-use Rattle.std.specs.Prelude.{ℕ, ℤ, pos, true, List, [], Option, Some, None, Result, Ok, Err, codes, unwrap_or, if◌then◌else◌}
+use Rattle.std.specs.Prelude.{ℕ, pos, true, List, [], Option, Result, Ok, Err, codes, unwrap_or, if◌then◌else◌}
 use Rattle.std.specs.Str.{bytes_eq}
 use Rattle.toml.specs.Data.{Members, as_integer, as_bool, as_str, as_table}
 use Rattle.sdm_rules.specs.declared.authorities.Authority.{Authority}
