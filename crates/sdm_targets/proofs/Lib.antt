@@ -1,2 +1,3 @@
 pub mod FallLaws
 pub mod CountLaws
+pub mod RangeLaws

@@ -1,14 +1,20 @@
 -- The lists of targets (own).
-use Rattle.std.specs.Prelude.{ℕ, ℤ, pos, List, ◌+ℤ◌, ◌≤ℤ◌, map, filter, ◌+◌}
+use Rattle.std.specs.Prelude.{ℕ, ℤ, pos, List, ◌+ℤ◌, ◌≤◌, ◌≤ℤ◌, map, filter, ◌+◌}
 use Rattle.std.specs.Int.{int_gap}
 use Rattle.sdm_rules.specs.declared.authorities.Authority.{Authority}
 use Rattle.sdm_rules.specs.declared.authorities.Authority.TheVariants.{Stop, Limit}
 use Rattle.sdm_rules.specs.declared.targets.Target.{Target}
-use Rattle.sdm_rules.specs.Cells.{cells}
+use Rattle.sdm_rules.specs.Cells.{cells, border_of}
 use Rattle.sdm_rules.specs.Ranges.{most_speeds}
 use Rattle.sdm_rules.specs.Records.{most_restrictions}
 use Rattle.sdm_rules.specs.Targets.{is_fall, fall_at}
 use Rattle.sdm_track.specs.Ranges.{longest_track}
+
+-- a target lies on the longest track, both ends included, and its speed is at most 500 km/h (ranges own)
+pub record IsTarget (t : Target) : Type 0 where
+  pub not_before : pos 0 ≤ℤ t.place
+  pub on_track : t.place ≤ℤ border_of longest_track
+  pub speed : t.speed ≤ 500
 
 -- the room of a list (own)
 abbrev pub room : ℕ
@@ -23,7 +29,7 @@ most_falls = most_speeds + most_restrictions
 abbrev pub falls_past : (ℤ → ℕ) → ℤ → ℤ → List Target
 falls_past profile after end = map (fall_at profile) (filter (is_fall profile) (cells (after +ℤ pos 1) (int_gap after end)))
 
--- the ends of the authority lie on the longest track (own)
+-- the ends of the authority lie on the longest track, and a limit's speed is at most 500 km/h (own)
 abbrev pub IsOnTrack : Authority → Type 0
 IsOnTrack (Stop eoa svl release) = (pos eoa ≤ℤ longest_track) × (pos svl ≤ℤ longest_track)
-IsOnTrack (Limit loa speed) = pos loa ≤ℤ longest_track
+IsOnTrack (Limit loa speed) = (pos loa ≤ℤ longest_track) × (speed ≤ 500)

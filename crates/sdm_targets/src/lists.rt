@@ -1,12 +1,12 @@
 //! The list of the targets. The falls come first, each found from the one before it; the end of the authority lies at or past them
 //! all, so the list is in the order of places.
 
-ghost use Rattle.std.specs.Prelude.{◌≡◌, List, [], ◌∷◌, ◌++◌, ◌<◌, ◌≤◌, pos, None, IfOk, length, vec_capacity};
+ghost use Rattle.std.specs.Prelude.{◌≡◌, All, List, [], ◌∷◌, ◌++◌, ◌<◌, ◌≤◌, pos, None, IfOk, length, vec_capacity};
 ghost use Rattle.sdm_rules.specs.Cells.{border_of};
 ghost use Rattle.sdm_rules.specs.Records.{authority_fault};
 ghost use Rattle.sdm_rules.specs.Targets.{targets_of, end_of, ends_of};
 ghost use Rattle.sdm_speed.specs.Profiles.{mrsp_of, IsProfile};
-ghost use Rattle.sdm_targets.specs.Lists.{room, most_falls, falls_past, IsOnTrack};
+ghost use Rattle.sdm_targets.specs.Lists.{room, most_falls, falls_past, IsOnTrack, IsTarget};
 
 use sdm_num::{NoMemory, Place};
 use sdm_rules::{Authority, Target, TargetKind};
@@ -90,6 +90,7 @@ fn push_falls(profile: &Profile, after: i32, end: u32, into: &mut TargetList)
     requires { into.old ≡ [] }
     ensures falls { into.new ≡ falls_past (mrsp_of profile.now) after (pos end) }
     ensures few { length into.new ≤ most_falls }
+    ensures each { All IsTarget into.new }
     ensures in_range { IsProfile profile.now }
 {
     let mut at = after;
@@ -110,7 +111,8 @@ fn push_falls(profile: &Profile, after: i32, end: u32, into: &mut TargetList)
 fn push_ends(authority: &Authority, released: bool, into: &mut TargetList)
     requires on_track { IsOnTrack authority.now }
     requires few { length into.old ≤ most_falls }
-    ensures { into.new ≡ into.old ++ ends_of authority.now released }
+    ensures ends { into.new ≡ into.old ++ ends_of authority.now released }
+    ensures each { All IsTarget into.old → All IsTarget into.new }
 {
     match *authority {
         Authority::Stop { eoa, svl, .. } => {
@@ -148,7 +150,8 @@ pub fn targets_of(
     into: &mut TargetList,
 )
     requires { authority_fault profile.now.track_cm authority.now ≡ None }
-    ensures { into.new ≡ targets_of (mrsp_of profile.now) authority.now front released }
+    ensures targets { into.new ≡ targets_of (mrsp_of profile.now) authority.now front released }
+    ensures in_range { All IsTarget into.new }
 {
     into.clear();
     push_falls(profile, front.cell(), end_of(authority), into);

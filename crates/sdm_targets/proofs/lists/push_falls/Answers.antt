@@ -3,6 +3,7 @@ use Rattle.std.proofs.Common.{◌≡◌, ◌≤ℤ◌, ◌<ℤ◌, pos, w32, to_
 use Rattle.std.proofs.lemmas.Int.{ints, to_z-of_z}
 use Rattle.sdm_speed.specs.Profiles.{mrsp_of}
 use Rattle.sdm_targets.proofs.FallLaws.{all_in, one_more_in}
+use Rattle.sdm_targets.proofs.RangeLaws.{one_more_on_track}
 use Rattle.sdm_targets.proofs.CountLaws.{falls_few, fall_counts}
 use Rattle.sdm_targets.proofs.lists.push_falls.Goals as goal
 
@@ -29,6 +30,7 @@ loop-fall-preserved c =
     rw cell_is (record {
       falls = rw (c.push.ensures, place_is) (one_more_in (mrsp_of c.args.profile.now) _ (pos c.args.end) fall _ _ c.loop-fall.invariant.falls next on);
       count = rw (c.push.ensures, length-append) (let more = fall_counts c.args.profile.now _ fall next in omega (arith, more, c.loop-fall.invariant.count));
+      each = rw (c.push.ensures, place_is) (one_more_on_track _ fall c.loop-fall.invariant.each c.in-Some.ensures.in_range);
     })
 
 pub returns-clause-falls : goal.returns-clause-falls

@@ -1,0 +1,36 @@
+-- The start is the lesser of two places, each so many grains before one of a curve, and stands for the lesser of both exact
+-- ones.
+use Rattle.std.proofs.Common.{◌+◌, ◌∙◌, ap, rules}
+use Rattle.sdm_num.specs.Fractions.{less}
+use Rattle.sdm_num.specs.Units.{way_in}
+use Rattle.sdm_rules.specs.Slopes.{meaning_of}
+use Rattle.sdm_rules.specs.Curves.{exact, stepped}
+use Rattle.sdm_limits.specs.Sides.{place_of}
+use Rattle.sdm_limits.proofs.Places.{early_before}
+use Rattle.sdm_release.specs.Starts.{release_start_by}
+use Rattle.sdm_release.proofs.Places.{earlier_of_two}
+use Rattle.sdm_release.proofs.release_start.Goals as goal
+
+pub returns-clause-at : goal.returns-clause-at
+unfolding release_start_by
+returns-clause-at c =
+    let a = c.args in
+    ap place_of c.earlier.ensures.value ∙
+    earlier_of_two c.less-before_eoa.result c.less-before_svl.result
+    (stepped (meaning_of a.expected.now) a.sbd.now.place a.sbd.now.speed a.release)
+    (stepped (meaning_of a.safe.now) a.ebd.now.place a.ebd.now.speed a.release)
+    (way_in a.release a.times.now.bs)
+    (way_in a.release (a.times.now.traction + a.times.now.berem + a.times.now.bs))
+    (search rules)
+    (search rules)
+
+pub returns-clause-stands : goal.returns-clause-stands
+unfolding release_start_by
+returns-clause-stands c =
+    let a = c.args in
+    let sbd = exact (meaning_of a.expected.now) a.sbd.now.place a.sbd.now.speed a.release in
+    let ebd = exact (meaning_of a.safe.now) a.ebd.now.place a.ebd.now.speed a.release in
+    let emergency_time = a.times.now.traction + a.times.now.berem + a.times.now.bs in
+    let eoa = early_before c.less-before_eoa.result sbd c.way-service.result a.release a.times.now.bs c.way-service.ensures.value (c.less-before_eoa.ensures.stands sbd c.place.ensures.stands) in
+    let svl = early_before c.less-before_svl.result ebd c.way-emergency.result a.release emergency_time c.way-emergency.ensures.value (c.less-before_svl.ensures.stands ebd c.place-2.ensures.stands) in
+    c.earlier.ensures.stands (less sbd (way_in a.release a.times.now.bs)) (less ebd (way_in a.release emergency_time)) eoa svl

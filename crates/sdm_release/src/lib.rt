@@ -1,0 +1,60 @@
+//! Where release speed monitoring starts: where a train at the release speed must begin to brake for the EOA by its SBD or for
+//! the SvL by its EBD, whichever comes first. Like the limits it lies a whole number of grains before computed places, so it
+//! is on the same side of the exact start.
+#![tactic(auto)]
+
+ghost use Rattle.std.specs.Prelude.{◌≡◌, ◌≤◌, ◌*◌};
+ghost use Rattle.sdm_num.specs.Bounds.{IsEarlyFor};
+ghost use Rattle.sdm_num.specs.Units.{notches, way_in};
+ghost use Rattle.sdm_rules.specs.Limits.{computed, exact_places};
+ghost use Rattle.sdm_rules.specs.Slopes.{meaning_of};
+ghost use Rattle.sdm_curve.specs.Made.{IsMadeFrom};
+ghost use Rattle.sdm_limits.specs.Ranges.{AreTimes};
+ghost use Rattle.sdm_limits.specs.Sides.{place_of};
+ghost use Rattle.sdm_release.specs.Starts.{release_start_by};
+
+use sdm_curve::{BandMap, Curve};
+use sdm_num::{Early, Speed};
+use sdm_rules::Times;
+
+/// Where release speed monitoring starts: the earlier of the places where a train at the release speed V_rel must begin to
+/// brake for the SvL by the EBD and for the EOA by the SBD, on the safe side of the exact one. Each curve was made from the map
+/// before it, each time is at most 300 ds, and V_rel is at most 500 km/h. (SUBSET-026-3 3.13.9.4; form and ranges own)
+pub fn release_start(
+    safe: &BandMap,
+    ebd: &Curve,
+    expected: &BandMap,
+    sbd: &Curve,
+    times: &Times,
+    release: Speed,
+) -> Early
+    requires ebd { IsMadeFrom safe.now ebd.now }
+    requires sbd { IsMadeFrom expected.now sbd.now }
+    requires times { AreTimes times.now }
+    requires speed { release ≤ notches 500 }
+    ensures at { place_of result ≡
+        release_start_by computed (meaning_of safe.now) ebd.now (meaning_of expected.now) sbd.now times.now release }
+    ensures stands { IsEarlyFor result
+        (release_start_by exact_places (meaning_of safe.now) ebd.now (meaning_of expected.now) sbd.now times.now release) }
+{
+    // d_SBD(V_rel) - V_rel * T_bs (SUBSET-026-3 3.13.9.4; form own)
+    let service = way(release, times.bs);
+    let before_eoa = sbd.place(expected, release).less(service);
+    // d_EBD(V_rel) - V_rel * (T_traction + T_berem + T_bs) (SUBSET-026-3 3.13.9.4; form own)
+    let emergency = way(release, times.traction + times.berem + times.bs);
+    let before_svl = ebd.place(safe, release).less(emergency);
+    before_eoa.earlier(before_svl)
+}
+
+// The way in grains at a speed within a time in ds.
+fn way(speed: Speed, time: u32) -> u64
+    requires speed { speed ≤ notches 500 }
+    requires time { time ≤ 900 }
+    ensures value { result ≡ way_in speed time }
+    ensures small { result ≤ 900_000_000 * speed }
+{
+    1_000_000 * u64::from(speed.notches()) * u64::from(time)
+}
+
+#[cfg(test)]
+mod tests;

@@ -1,0 +1,57 @@
+-- What a cycle promises of its row is what the laws say of the row of the definitions.
+use Rattle.std.proofs.Common.{◌≡◌, ◌+◌, ◌≤◌, Bool, false, Some, ◌∙◌, subst, sym}
+use Rattle.std.specs.Prelude.{IsTrue, ◌==◌}
+use Rattle.sdm_num.specs.Units.{notches}
+use Rattle.sdm_num.specs.Readings.{OdometerReading}
+use Rattle.sdm_rules.specs.declared.commands.Held.{Held}
+use Rattle.sdm_rules.specs.declared.rows.Row.{Row}
+use Rattle.sdm_rules.specs.Margins.{ebi_margin}
+use Rattle.sdm_rules.specs.Machines.{KeepsOrder}
+use Rattle.sdm_rules.specs.Opening.{IsOpen}
+use Rattle.sdm_rules.specs.Stop.{IsSafe}
+use Rattle.sdm_rules.specs.Supervision.{Supervision, situation_of, commands_in, row_in, row_of, after_reading}
+use Rattle.sdm_laws.proofs.Headline.{machines, stop, release}
+use Rattle.sdm_laws.proofs.Gaps.{gaps}
+use Rattle.sdm_supervisor.specs.Lines.{IsLine}
+use Rattle.sdm_supervisor.specs.Promises.{BeginsRelease, HasOnlyGaps}
+use Rattle.sdm_rules.specs.declared.commands.State.{State}
+use Rattle.sdm_rules.specs.declared.commands.Triggers.{Triggers}
+use Rattle.sdm_rules.specs.Commands.{commands_after}
+use Rattle.sdm_supervisor.specs.declared.situations.Situation.{Situation}
+use Rattle.sdm_supervisor.specs.Situations.{IsFoundAt, state_found, triggers_found}
+use Rattle.sdm_supervisor.proofs.CeilingLaw.{within_ceiling}
+use Rattle.sdm_supervisor.proofs.SituationLaws.{commands_are}
+
+-- a state on an accepted line is open
+pub is_open : (s : Supervision) → IsLine s.line → IsOpen s
+is_open s line = record { bands = line.train.bands; usable = line.usable }
+
+module _ (s : Supervision) (r : OdometerReading) where
+  -- the commands after a reading, from the triggers and the type of supervision that were found
+  pub held_is : (found : Situation) → IsFoundAt s r found → (held : Held) (t : Triggers) (state : State) (stopped early : Bool) →
+      t ≡ triggers_found found → state ≡ state_found found → stopped ≡ (r.speed == 0) → early ≡ s.line.national.early_release →
+      held ≡ commands_after s.commands t state stopped early found.in_use → held ≡ commands_in s.line s.commands r (situation_of s r)
+  held_is found is held t state stopped early t_is state_is stopped_is early_is e =
+      e ∙ (λ k. commands_after s.commands (t_is k) (state_is k) stopped (early_is k) found.in_use) ∙ commands_are s r found is s.commands stopped stopped_is
+
+  -- the state after a reading, by the commands after it
+  pub taken : (held : Held) → held ≡ commands_in s.line s.commands r (situation_of s r) → record s { last_time = Some r.time; commands = held } ≡ after_reading s r
+  unfolding after_reading
+  taken held e = λ k. record s { last_time = Some r.time; commands = e k }
+
+  module _ (row : Row) (is : row ≡ row_of s r) where
+    pub order_of : IsOpen s → KeepsOrder s r row.held.eb
+    unfolding row_in
+    order_of opened = subst (λ (x : Row). KeepsOrder s r x.held.eb) (sym is) (machines s r opened)
+
+    pub safe_of : IsOpen s → IsTrue row.covered → IsSafe s r
+    safe_of opened covered = stop s r opened (subst (λ (x : Row). IsTrue x.covered) is covered)
+
+    pub gaps_of : row.held.eb ≡ false → HasOnlyGaps s r
+    gaps_of eb = gaps s r (subst (λ (x : Row). x.held.eb ≡ false) is eb)
+
+    pub ceiling_of : row.held.eb ≡ false → r.speed ≤ notches row.ceiling + ebi_margin row.ceiling
+    ceiling_of eb = subst (λ (x : Row). r.speed ≤ notches x.ceiling + ebi_margin x.ceiling) (sym is) (within_ceiling s r (subst (λ (x : Row). x.held.eb ≡ false) is eb))
+
+  pub release_of : IsOpen s → BeginsRelease s r
+  release_of opened = λ eoa svl speed is some. release s r eoa svl speed opened is some

@@ -1,0 +1,6 @@
+mod VerdictLaws
+mod SituationLaws
+mod CeilingLaw
+mod LineLaws
+mod FindLaws
+mod CycleLaws

@@ -1,0 +1,5 @@
+pub mod Lines
+pub mod Verdicts
+pub mod Situations
+pub mod Kept
+pub mod Promises

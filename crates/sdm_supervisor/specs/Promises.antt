@@ -1,0 +1,17 @@
+-- What a cycle promises beside its row, in words of the definitions (own).
+use Rattle.std.specs.Prelude.{◌≡◌, ℕ, false, Contains, ◌<◌}
+use Rattle.sdm_num.specs.Readings.{OdometerReading}
+use Rattle.sdm_rules.specs.declared.authorities.Authority.TheVariants.{Stop}
+use Rattle.sdm_rules.specs.declared.targets.Target.{Target}
+use Rattle.sdm_rules.specs.Machines.{IsReleasedAt}
+use Rattle.sdm_rules.specs.Stop.{IsGap}
+use Rattle.sdm_rules.specs.Supervision.{Supervision, situation_of, is_covered_for}
+
+-- of a moving train each target that is not covered is a gap: a target of speed, slow enough for, whose speed the train may pass in the
+-- reaction times (own)
+abbrev pub HasOnlyGaps : Supervision → OdometerReading → Type 0
+HasOnlyGaps s r = 0 < r.speed → (t : Target) → Contains (situation_of s r).targets t → is_covered_for s.line r t ≡ false → IsGap s r t
+
+-- release speed monitoring begins at its exact start, or less than a millimetre before it (SUBSET-026-3 3.13.9.4; own)
+abbrev pub BeginsRelease : Supervision → OdometerReading → Type 0
+BeginsRelease s r = (eoa svl release : ℕ) → s.authority ≡ Stop eoa svl release → 0 < release → IsReleasedAt s r eoa svl release

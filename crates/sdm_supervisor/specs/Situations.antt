@@ -1,0 +1,75 @@
+-- What a supervisor finds at a reading before it decides, and what follows from it (SUBSET-026-3 3.13.10; own).
+use Rattle.std.specs.Prelude.{◌≡◌, ℕ, Bool, false, not, ◌&&◌, ◌||◌, IfSome, nat_lt, ◌≤◌, is_some, option_map, ◌+◌, if◌then◌else◌}
+use Rattle.std.specs.Option.{option_map_or}
+use Rattle.sdm_num.specs.Units.{notches}
+use Rattle.sdm_num.specs.Bounds.{mm_below}
+use Rattle.sdm_num.specs.Readings.{OdometerReading}
+use Rattle.sdm_rules.specs.declared.commands.State.{State}
+use Rattle.sdm_rules.specs.declared.commands.State.TheVariants.{C, T, R}
+use Rattle.sdm_rules.specs.declared.commands.Held.{Held}
+use Rattle.sdm_rules.specs.declared.commands.Triggers.{Triggers}
+use Rattle.sdm_rules.specs.declared.rows.Row.{Row}
+use Rattle.sdm_rules.specs.Margins.{ebi_margin, sbi_margin, warning_margin}
+use Rattle.sdm_rules.specs.Triggers.{no_margin}
+use Rattle.sdm_rules.specs.Supervision.{Supervision, situation_of}
+use Rattle.sdm_supervisor.specs.declared.situations.Situation.{Situation}
+use Rattle.sdm_supervisor.specs.Verdicts.{verdict_of}
+
+-- what was found is what the definitions say of the state and the reading (own)
+pub record IsFoundAt (s : Supervision) (r : OdometerReading) (found : Situation) : Type 0 where
+  pub speed : found.speed ≡ r.speed
+  pub ceiling : found.ceiling_kmh ≡ (situation_of s r).ceiling_kmh
+  pub past_end : found.past_end ≡ (situation_of s r).past_end
+  pub release : found.release_kmh ≡ (situation_of s r).release
+  pub in_use : found.in_use ≡ (situation_of s r).in_use
+  pub verdict : found.verdict ≡ verdict_of s.line r (situation_of s r).targets
+
+-- the ceiling and the release speed are at most 500 km/h (ranges own)
+pub record IsInRange (found : Situation) : Type 0 where
+  pub ceiling : found.ceiling_kmh ≤ 500
+  pub release : IfSome found.release_kmh (λ kmh. kmh ≤ 500)
+
+-- above the ceiling with a margin of it (SUBSET-026-3 3.13.10.3)
+abbrev pub is_above : Situation → (ℕ → ℕ) → Bool
+is_above found margin = nat_lt (notches found.ceiling_kmh + margin found.ceiling_kmh) found.speed
+
+-- in release speed monitoring above the release speed (SUBSET-026-3 3.13.10.5)
+abbrev pub is_above_release : Situation → Bool
+is_above_release found = option_map_or (λ kmh. nat_lt (notches kmh) found.speed) found.release_kmh false
+
+-- the service brake intervention is triggered (SUBSET-026-3 3.13.10; own table)
+abbrev pub is_service_found : Situation → Bool
+is_service_found found = is_above found sbi_margin || found.verdict.serv
+
+-- an emergency is triggered (SUBSET-026-3 3.13.10; own table)
+abbrev pub is_emergency_found : Situation → Bool
+is_emergency_found found =
+    (is_above found ebi_margin || found.verdict.emer) || found.past_end || is_above_release found || (is_service_found found && not found.in_use)
+
+-- the triggers by what was found (SUBSET-026-3 3.13.10; own tables)
+unfoldable pub triggers_found : Situation → Triggers
+triggers_found found = record {
+  over = is_above found no_margin || found.verdict.over || is_above_release found;
+  warn = is_above found warning_margin || found.verdict.warn;
+  serv = is_service_found found;
+  emer = is_emergency_found found;
+}
+
+-- the type of supervision by what was found (SUBSET-026-3 3.13.10.6; own)
+unfoldable pub state_found : Situation → State
+state_found found = if is_some found.release_kmh then R else if found.verdict.indicated then T else C
+
+-- the row of a time by what was found, with the commands after it (own)
+unfoldable pub row_found : Situation → ℕ → Held → Row
+row_found found time held = record {
+  time = time;
+  state = state_found found;
+  held = held;
+  covered = not (is_some found.release_kmh) && found.verdict.covered;
+  ceiling = found.ceiling_kmh;
+  ebi = option_map mm_below found.verdict.nearest.ebi;
+  sbi = option_map mm_below found.verdict.nearest.sbi;
+  warning = option_map mm_below found.verdict.nearest.warning;
+  permitted = option_map mm_below found.verdict.nearest.permitted;
+  indication = option_map mm_below found.verdict.nearest.indication;
+}

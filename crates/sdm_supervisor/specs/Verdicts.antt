@@ -1,0 +1,114 @@
+-- What the targets of a reading say together: which of their limits are passed, whether each is covered, and the nearest limit of each
+-- name (SUBSET-026-3 3.13.10; own).
+use Rattle.std.specs.Prelude.{ℕ, ℤ, Bool, false, ◌&&◌, ◌||◌, List, [], ◌∷◌, Option, Some, None, nat_le, nat_lt, option_map, if◌then◌else◌}
+use Rattle.std.specs.Int.{int_min}
+use Rattle.std.specs.List.{list_all, list_any}
+use Rattle.std.specs.Option.{option_map_or}
+use Rattle.sdm_num.specs.Bounds.{Bound}
+use Rattle.sdm_num.specs.Fractions.{Fraction, floor}
+use Rattle.sdm_num.specs.Readings.{OdometerReading}
+use Rattle.sdm_rules.specs.declared.targets.TargetKind.{TargetKind}
+use Rattle.sdm_rules.specs.declared.targets.TargetKind.TheVariants.{Mrsp, Loa, Eoa, Svl}
+use Rattle.sdm_rules.specs.declared.targets.Target.{Target}
+use Rattle.sdm_rules.specs.Data.{LineData}
+use Rattle.sdm_rules.specs.Margins.{ebi_margin, sbi_margin, warning_margin}
+use Rattle.sdm_rules.specs.Targets.{target_speed, with_margin}
+use Rattle.sdm_rules.specs.Limits.{SupervisionLimits, computed, limits_of}
+use Rattle.sdm_rules.specs.Triggers.{is_past, no_margin}
+use Rattle.sdm_rules.specs.Supervision.{is_covered_for}
+use Rattle.sdm_supervisor.specs.declared.verdicts.Nearest.{Nearest}
+use Rattle.sdm_supervisor.specs.declared.verdicts.Verdict.{Verdict}
+
+-- the front end that a target compares: the estimated one for the EOA, else the max safe one (SUBSET-026-3 3.13.10.4)
+abbrev pub front_of : OdometerReading → TargetKind → ℤ
+front_of r Eoa = r.est
+front_of r Svl = r.max
+front_of r Mrsp = r.max
+front_of r Loa = r.max
+
+-- the speed is above the target's with a margin of it, and the front end is past the limit (SUBSET-026-3 3.13.10.4; own)
+abbrev pub passes_at : OdometerReading → (ℕ → ℕ) → Target → Fraction → Bool
+passes_at r margin t limit = nat_lt (with_margin margin t) r.speed && is_past 0 (front_of r t.kind) limit
+
+-- so by an EBI, where the target has one (own)
+abbrev pub passes_ebi_at : OdometerReading → Target → Option Fraction → Bool
+passes_ebi_at r t limit = option_map_or (passes_at r ebi_margin t) limit false
+
+-- the lesser of two places, where there are any (own)
+abbrev pub nearer : Option ℤ → Option ℤ → Option ℤ
+nearer None y = y
+nearer (Some x) None = Some x
+nearer (Some x) (Some y) = Some (int_min x y)
+
+-- a limit counts for the nearest where the target's speed is at most the train's (own)
+abbrev pub counted : OdometerReading → Target → Option Fraction → Option ℤ
+counted r t limit = if nat_le (target_speed t) r.speed then option_map floor limit else None
+
+-- the place of a bound where it counts (own)
+abbrev pub counted_where : Bool → Option Bound → Option ℤ
+counted_where counts limit = if counts then option_map (λ e. e.at) limit else None
+
+-- the nearest limit of a name over targets, in grains (own)
+abbrev pub nearest_of : OdometerReading → (Target → Option Fraction) → List Target → Option ℤ
+nearest_of r limit [] = None
+nearest_of r limit (t ∷ ts) = nearer (counted r t (limit t)) (nearest_of r limit ts)
+
+-- what one target says at a reading, by its limits (SUBSET-026-3 3.13.10; own)
+unfoldable pub verdict_at : LineData → OdometerReading → SupervisionLimits → Target → Verdict
+verdict_at d r l t = record {
+  over = passes_at r no_margin t l.permitted;
+  warn = passes_at r warning_margin t l.warning;
+  serv = passes_at r sbi_margin t l.sbi;
+  emer = passes_ebi_at r t l.ebi;
+  indicated = passes_at r no_margin t l.indication;
+  covered = is_covered_for d r t;
+  nearest = record {
+    ebi = counted r t l.ebi;
+    sbi = counted r t (Some l.sbi);
+    warning = counted r t (Some l.warning);
+    permitted = counted r t (Some l.permitted);
+    indication = counted r t (Some l.indication);
+  };
+}
+
+-- what targets say at a reading (SUBSET-026-3 3.13.10; own)
+unfoldable pub verdict_of : LineData → OdometerReading → List Target → Verdict
+verdict_of d r ts =
+    let limits = limits_of computed d r in
+    record {
+      over = list_any (λ t. passes_at r no_margin t (limits t).permitted) ts;
+      warn = list_any (λ t. passes_at r warning_margin t (limits t).warning) ts;
+      serv = list_any (λ t. passes_at r sbi_margin t (limits t).sbi) ts;
+      emer = list_any (λ t. passes_ebi_at r t (limits t).ebi) ts;
+      indicated = list_any (λ t. passes_at r no_margin t (limits t).indication) ts;
+      covered = list_all (is_covered_for d r) ts;
+      nearest = record {
+        ebi = nearest_of r (λ t. (limits t).ebi) ts;
+        sbi = nearest_of r (λ t. Some (limits t).sbi) ts;
+        warning = nearest_of r (λ t. Some (limits t).warning) ts;
+        permitted = nearest_of r (λ t. Some (limits t).permitted) ts;
+        indication = nearest_of r (λ t. Some (limits t).indication) ts;
+      };
+    }
+
+-- the nearest limits of two lists of targets (own)
+abbrev pub nearer_limits : Nearest → Nearest → Nearest
+nearer_limits a b = record {
+  ebi = nearer a.ebi b.ebi;
+  sbi = nearer a.sbi b.sbi;
+  warning = nearer a.warning b.warning;
+  permitted = nearer a.permitted b.permitted;
+  indication = nearer a.indication b.indication;
+}
+
+-- what two lists of targets say together (own)
+abbrev pub both : Verdict → Verdict → Verdict
+both a b = record {
+  over = a.over || b.over;
+  warn = a.warn || b.warn;
+  serv = a.serv || b.serv;
+  emer = a.emer || b.emer;
+  indicated = a.indicated || b.indicated;
+  covered = a.covered && b.covered;
+  nearest = nearer_limits a.nearest b.nearest;
+}

@@ -1,0 +1,14 @@
+//! The supervisor: from the data of a journey and its first authority on, every record changes the supervision state as the definitions say,
+//! and every reading gives its row. Nothing above this crate knows of brake curves; nothing in it knows of text.
+#![tactic(auto)]
+
+pub mod limits;
+pub mod lines;
+pub mod releases;
+pub mod situations;
+pub mod speeds;
+pub mod supervisors;
+pub mod verdicts;
+
+pub use sdm_rules::{CycleFault, OpenFault, Row, SlopeKind};
+pub use supervisors::Supervisor;

@@ -1,0 +1,234 @@
+//! The supervisor of a journey. All its memory is taken when it begins; a record takes none. What it is worth is said by the clauses of
+//! `cycle`: its emergency command lies between that of a machine with exact limits and that of the same machine with every limit one
+//! millimetre earlier, and from every covered row the train stops before the supervised location.
+
+ghost use Rattle.std.specs.Prelude.{◌≡◌, ◌≤◌, ◌+◌, IsTrue, false, None, Some, IfOk, IfErr, OnOk, OnErr};
+ghost use Rattle.sdm_num.specs.Readings.{IsReading};
+ghost use Rattle.sdm_num.specs.Units.{notches};
+ghost use Rattle.sdm_rules.specs.Machines.{KeepsOrder};
+ghost use Rattle.sdm_rules.specs.Margins.{ebi_margin};
+ghost use Rattle.sdm_rules.specs.Opening.{IsAccepted, IsOpen};
+ghost use Rattle.sdm_rules.specs.Records.{authority_fault, restrict_fault, revoke_fault, time_fault};
+ghost use Rattle.sdm_rules.specs.Stop.{IsSafe};
+ghost use Rattle.sdm_rules.specs.Supervision.{after_authority, after_reading, after_restriction, after_revocation, opening, row_of};
+ghost use Rattle.sdm_decel.specs.Slopes.{line_of};
+ghost use Rattle.sdm_supervisor.specs.Lines.{IsRefusal};
+ghost use Rattle.sdm_supervisor.specs.Promises.{BeginsRelease, HasOnlyGaps};
+ghost use Rattle.sdm_supervisor.specs.Situations.{IsFoundAt, IsInRange};
+
+use crate::lines::Line;
+use crate::situations::Situation;
+use sdm_national::National;
+use sdm_num::Reading;
+use sdm_rules::{CycleFault, OpenFault, RestrictFault, Restriction, RevokeFault, Row};
+use sdm_speed::Profile;
+use sdm_state::{Held, Status, next};
+use sdm_targets::{Authority, AuthorityFault, TargetList, check_authority, targets_of};
+use sdm_track::Track;
+use sdm_train::Train;
+use std::alloc::Global;
+use std::marker::Model;
+
+/// The supervisor of a journey: its value is the supervision state of the definitions, that is the data, the authority, the temporary
+/// restrictions in force, the time of the last reading, and the commands that are held. (SUBSET-026-3 3.13.10; own)
+#[derive(Drop)]
+pub struct Supervisor {
+    line: Line,
+    authority: Authority,
+    profile: Profile,
+    /// Room for the targets of the reading in hand.
+    targets: TargetList,
+    last_time: Option<u32>,
+    held: Held,
+}
+
+impl Model for Supervisor {
+    ghost use Rattle.std.specs.Coded.{codes};
+    ghost use Rattle.sdm_rules.specs.Codes.{coded_restrictions};
+    ghost use Rattle.sdm_rules.specs.Supervision.{Supervision};
+    ghost use Rattle.sdm_supervisor.specs.Kept.{IsKept};
+
+    ghost Value = { Supervision };
+
+    ghost coded = { Prim.hlevel (codes, coded_restrictions) };
+
+    ghost view = { λ s. record { line = s.line; authority = s.authority; restrictions = s.profile.restrictions; last_time = s.last_time; commands = s.held } };
+
+    ghost invariant = { λ s. IsKept s.line s.profile s.authority };
+}
+
+/// Before the first reading no command is held. (own)
+const NOTHING_HELD: Held = Held {
+    tco: false,
+    sb: false,
+    eb: false,
+    status: Status::N,
+};
+
+impl Supervisor {
+    /// The supervisor of a journey with its first authority: no restriction is in force, no reading was taken, and no command is held. It is
+    /// refused by the first of these: slopes that are too weak or too varied, of the safe, then of the expected, then of the normal
+    /// kind (TooWeak before TooVaried); an authority that `check_authority` refuses for the track. Memory may come in place of
+    /// each. (SUBSET-026-3 3.13.2; refusals own)
+    pub fn begin(
+        alloc: Global,
+        train: Train,
+        national: National,
+        track: Track,
+        authority: Authority,
+    ) -> Result<Supervisor, OpenFault>
+        ensures opening { IfOk result (λ s. s ≡ opening (line_of train national track) authority) }
+        ensures accepted { OnOk result (IsAccepted (line_of train national track) authority) }
+        ensures refused { IfErr result (IsRefusal (line_of train national track) authority) }
+    {
+        match Line::open(alloc, train, national, track) {
+            Ok(line) => Supervisor::on_line(alloc, line, authority),
+            Err(fault) => Err(fault),
+        }
+    }
+
+    /// The supervisor on a line, with its first authority.
+    fn on_line(alloc: Global, line: Line, authority: Authority) -> Result<Supervisor, OpenFault>
+        ensures opening { IfOk result (λ s. s ≡ opening line authority) }
+        ensures accepted { OnOk result (IsAccepted line authority) }
+        ensures refused { IfErr result (IsRefusal line authority) }
+    {
+        if let Err(fault) = check_authority(&authority, line.track_cm()) {
+            return Err(OpenFault::BadAuthority(fault));
+        }
+        let Ok(profile) = Profile::begin(alloc, line.track(), line.max_speed_kmh(), line.train_cm())
+        else {
+            return Err(OpenFault::Memory);
+        };
+        let Ok(targets) = TargetList::begin(alloc) else {
+            return Err(OpenFault::Memory);
+        };
+        Ok(Supervisor {
+            line,
+            authority,
+            profile,
+            targets,
+            last_time: None,
+            held: NOTHING_HELD,
+        })
+    }
+
+    /// Takes a new authority in place of the old one; no command changes. Refused where `check_authority` refuses it for the track; nothing
+    /// is then changed. (SUBSET-026-3 3.8; refusals own)
+    pub fn authority(&mut self, a: Authority) -> Result<(), AuthorityFault>
+        ensures accepted { OnOk result (authority_fault self.old.line.track.length_cm a ≡ None) }
+        ensures taken { OnOk result (self.new ≡ after_authority self.old a) }
+        ensures refused { IfErr result (λ fault. authority_fault self.old.line.track.length_cm a ≡ Some fault) }
+        ensures unchanged { OnErr result (self.new ≡ self.old) }
+    {
+        check_authority(&a, self.line.track_cm())?;
+        self.authority = a;
+        Ok(())
+    }
+
+    /// Puts a temporary restriction of 1 to 500 km/h into force. Refused where 32 are held, where one with its identity is held, and where it
+    /// ends at or before its start or past the track's end; nothing is then changed. (SUBSET-026-3 3.11.5; refusals own)
+    pub fn restrict(&mut self, r: Restriction) -> Result<(), RestrictFault>
+        requires slowest { 1 ≤ r.speed }
+        requires fastest { r.speed ≤ 500 }
+        ensures accepted { OnOk result (restrict_fault self.old.line.track.length_cm self.old.restrictions r ≡ None) }
+        ensures taken { OnOk result (self.new ≡ after_restriction self.old r) }
+        ensures refused { IfErr result (λ fault. restrict_fault self.old.line.track.length_cm self.old.restrictions r ≡ Some fault) }
+        ensures unchanged { OnErr result (self.new ≡ self.old) }
+    {
+        self.profile.set(r)
+    }
+
+    /// Takes a temporary restriction out of force. Refused where none with this identity is held; nothing is then changed. (own)
+    pub fn revoke(&mut self, id: u16) -> Result<(), RevokeFault>
+        ensures accepted { OnOk result (revoke_fault self.old.restrictions id ≡ None) }
+        ensures taken { OnOk result (self.new ≡ after_revocation self.old id) }
+        ensures refused { IfErr result (λ fault. revoke_fault self.old.restrictions id ≡ Some fault) }
+        ensures unchanged { OnErr result (self.new ≡ self.old) }
+    {
+        self.profile.revoke(id)
+    }
+
+    /// What is found at a reading, before the commands are decided. Only the room for targets changes.
+    fn find(&mut self, reading: &Reading) -> Situation
+        requires { IsReading reading.now }
+        ensures found { IsFoundAt self.old reading.now result }
+        ensures range { IsInRange result }
+        ensures accepted { IsOpen self.old }
+        ensures unchanged { self.new ≡ self.old }
+    {
+        let front = reading.max_mm();
+        let release_kmh = self.line.release_kmh(&self.authority, front);
+        targets_of(
+            &self.profile,
+            &self.authority,
+            front,
+            release_kmh.is_some(),
+            &mut self.targets,
+        );
+        Situation {
+            speed: reading.speed_mm_s(),
+            ceiling_kmh: self.profile.lowest(reading.min_mm().cell(), front.cell()),
+            past_end: self.line.is_past_end(&self.authority, reading.min_mm()),
+            release_kmh,
+            in_use: self.line.is_service_in_use(),
+            verdict: self.line.verdict(reading, self.targets.get()),
+        }
+    }
+
+    /// Whether a time is before that of the last reading.
+    fn time_fault(&self, time: u32) -> Option<CycleFault>
+        ensures { result ≡ time_fault self.now.last_time time }
+    {
+        match self.last_time {
+            Some(last) if time < last => Some(CycleFault::TimeBack { last, time }),
+            _ => None,
+        }
+    }
+
+    /// Judges a reading, and takes its time and the commands after it. TimeBack comes exactly where its time is before that of the last
+    /// reading, and changes nothing. (SUBSET-026-3 3.13.10; own)
+    ///
+    /// The row is that of the definitions. Its emergency command keeps the order of the three machines: that with exact limits, this one,
+    /// and that with every limit one millimetre earlier. From a covered row every motion within the bounds of the reading stops by the
+    /// SvL and meets each speed target; a row without emergency command that isn't covered has a gap, which is a speed target. Without
+    /// emergency command the speed is at most the ceiling with its EBI margin.
+    pub fn cycle(&mut self, reading: &Reading) -> Result<Row, CycleFault>
+        ensures in_time { OnOk result (time_fault self.old.last_time reading.now.time ≡ None) }
+        ensures row { IfOk result (λ row. row ≡ row_of self.old reading.now) }
+        ensures taken { OnOk result (self.new ≡ after_reading self.old reading.now) }
+        ensures order { IfOk result (λ row. KeepsOrder self.old reading.now row.held.eb) }
+        ensures safe { IfOk result (λ row. IsTrue row.covered → IsSafe self.old reading.now) }
+        ensures gaps { IfOk result (λ row. row.held.eb ≡ false → HasOnlyGaps self.old reading.now) }
+        ensures ceiling { IfOk result (λ row. row.held.eb ≡ false → reading.now.speed ≤ notches row.ceiling + ebi_margin row.ceiling) }
+        ensures release { OnOk result (BeginsRelease self.old reading.now) }
+        ensures time_back { IfErr result (λ fault. time_fault self.old.last_time reading.now.time ≡ Some fault) }
+        ensures unchanged { OnErr result (self.new ≡ self.old) }
+    {
+        if let Some(fault) = self.time_fault(reading.time()) {
+            return Err(fault);
+        }
+        Ok(self.judge(reading))
+    }
+
+    /// Judges a reading that isn't before the last one.
+    fn judge(&mut self, reading: &Reading) -> Row
+        requires { IsReading reading.now }
+        ensures row { result ≡ row_of self.old reading.now }
+        ensures taken { self.new ≡ after_reading self.old reading.now }
+        ensures accepted { IsOpen self.old }
+    {
+        let found = self.find(reading);
+        let held = next(
+            self.held,
+            found.triggers(),
+            found.state(),
+            found.speed.notches() == 0,
+            self.line.has_early_release(),
+            found.in_use,
+        );
+        self.last_time = Some(reading.time());
+        self.held = held;
+        found.row(reading.time(), held)
+    }
+}
