@@ -1,9 +1,9 @@
 -- What is tested on the keys of a table and on the values of an array holds of the members that they stand for.
-use Rattle.std.proofs.Common.{◌≡◌, ℕ, Bool, true, false, not, ◌||◌, ◌&&◌, cond, is_some, List, [], ◌∷◌, map, Bor, Option, Some, None, String, Global, string_bytes, refl, ap, sym, ◌∙◌}
+use Rattle.std.proofs.Common.{◌≡◌, ℕ, Bool, true, false, not, ◌||◌, ◌&&◌, cond, is_some, List, [], ◌∷◌, map, Bor, Option, Some, None, String, Global, string_bytes, refl, ap}
 use Rattle.std.specs.List.{list_any, list_all, filter_map}
 use Rattle.std.specs.Map.{keys_of as keys_of_entries}
 use Rattle.std.specs.Str.{bytes_eq}
-use Rattle.toml.specs.Data.{Data, Items, as_array, as_table}
+use Rattle.toml.specs.Data.{Data, as_array, as_table}
 use Rattle.toml.specs.View.{view, members_view, items_view}
 use Rattle.toml.specs.declared.value.Value.{Value}
 use Rattle.sdm_data.specs.Members.{has_unknown, values_of, all_tables, as_tables}

@@ -1,5 +1,5 @@
 -- A section of the data part: what a key of it holds, or the rule that is broken there (own).
-use Rattle.std.specs.Prelude.{ℕ, suc, ◌-◌, ◌^◌, min, ℤ, pos, unsigned_abs, Bool, not, is_some, if◌then◌else◌, List, [], ◌∷◌, Option, Some, None, Result, Ok, Err, option_map, option_and_then}
+use Rattle.std.specs.Prelude.{ℕ, suc, ◌-◌, ◌^◌, min, ℤ, pos, unsigned_abs, Bool, not, is_some, if◌then◌else◌, List, [], ◌∷◌, Option, Some, None, Result, Ok, Err, option_and_then}
 use Rattle.std.specs.List.{list_any, list_all, filter_map}
 use Rattle.std.specs.Str.{bytes_eq}
 use Rattle.toml.specs.Data.{Data, Items, no_items, item, Members, no_members, member, get_member, as_array, as_integer, as_table}
@@ -26,8 +26,8 @@ at s key = record { section = s.section; index = s.index; key = key }
 
 -- ---- rules one after the other
 
--- what follows, where no rule was broken so far (own)
 infixl 10 ◌>>=◌
+-- what follows, where no rule was broken so far (own)
 abbrev pub ◌>>=◌ : {A B : Type 0} → Result A DataFault → (A → Result B DataFault) → Result B DataFault
 (Ok x) >>= rest = rest x
 (Err fault) >>= rest = Err fault
@@ -75,9 +75,13 @@ if_there read (Some value) = read value >>= λ x. Ok (Some x)
 unfoldable pub optional : {A : Type 0} → (Data → Option A) → SectionMembers → ℕ → Result (Option A) DataFault
 optional kind s key = if_there (of_kind kind s key) (found s key)
 
--- the number of a key, from `least` to `greatest`; else Value (own)
+-- a number of a key, from `least` to `greatest`; else Value (own)
 abbrev pub within : SectionMembers → ℕ → ℕ → ℕ → ℤ → Result ℕ DataFault
 within s key least greatest n = if is_within (pos least) (pos greatest) n then Ok (unsigned_abs n) else Err (Value (at s key))
+
+-- the number, from `least` to `greatest`, that a key must hold: Missing, WrongKind, Value (own)
+unfoldable pub number : SectionMembers → ℕ → ℕ → ℕ → Result ℕ DataFault
+number s key least greatest = required as_integer s key >>= within s key least greatest
 
 -- ---- arrays of tables
 

@@ -1,6 +1,6 @@
 -- What each section of the data part holds, or the first rule that it breaks: UnknownKey, and then key by key Missing, WrongKind
 -- and, for some, Value (own). Keys go by their numbers in `key_names`.
-use Rattle.std.specs.Prelude.{ℕ, ℤ, pos, true, List, [], Option, Some, None, Result, Ok, Err, codes, unwrap_or, if◌then◌else◌}
+use Rattle.std.specs.Prelude.{ℕ, pos, true, List, [], Option, Result, Ok, Err, codes, unwrap_or, if◌then◌else◌}
 use Rattle.std.specs.Str.{bytes_eq}
 use Rattle.toml.specs.Data.{Members, as_integer, as_bool, as_str, as_table}
 use Rattle.sdm_rules.specs.declared.authorities.Authority.{Authority}
@@ -17,7 +17,7 @@ use Rattle.sdm_rules.specs.Data.{TrainData, TrackData}
 use Rattle.sdm_rules.specs.FaultLines.{key_names}
 use Rattle.sdm_data.specs.declared.versions.Version.{Version}
 use Rattle.sdm_data.specs.Versions.{version_of, known_keys, end_keys, limit_keys}
-use Rattle.sdm_data.specs.Members.{◌>>=◌, SectionMembers, section_of, at, or_fault, known, required, optional, within, as_tables, entries_from}
+use Rattle.sdm_data.specs.Members.{◌>>=◌, SectionMembers, section_of, at, or_fault, known, required, optional, within, number, as_tables, entries_from}
 
 -- ---- the root
 
@@ -158,16 +158,12 @@ track_in version members = do
 
 -- ---- the authority
 
--- the number of a key of the authority, within its range (own)
-abbrev pub number_in : SectionMembers → ℕ → ℕ → ℕ → Result ℕ DataFault
-number_in authority key least greatest = required as_integer authority key >>= within authority key least greatest
-
 -- an authority to an end; the release speed may be absent and is 0 then (own)
 unfoldable pub end_in : SectionMembers → Result Authority DataFault
 end_in authority = do
   _ ← known authority end_keys
-  eoa ← number_in authority 2 0 10_000_000
-  svl ← number_in authority 3 0 10_000_000
+  eoa ← number authority 2 0 10_000_000
+  svl ← number authority 3 0 10_000_000
   kmh ← optional as_integer authority 4
   release ← within authority 4 0 500 (unwrap_or kmh (pos 0))
   Ok (Stop eoa svl release)
@@ -176,8 +172,8 @@ end_in authority = do
 unfoldable pub limit_in : SectionMembers → Result Authority DataFault
 limit_in authority = do
   _ ← known authority limit_keys
-  loa ← number_in authority 5 0 10_000_000
-  speed ← number_in authority 6 1 500
+  loa ← number authority 5 0 10_000_000
+  speed ← number authority 6 1 500
   Ok (Limit loa speed)
 
 -- the authority: its kind comes first, since the other keys depend on it (own)

@@ -1,8 +1,8 @@
 //! The section `authority`: the movement authority with which the journey begins. (SUBSET-026-3 3.8)
 
-ghost use Rattle.std.specs.Prelude.{◌≡◌, ◌≤◌, IfOk};
+ghost use Rattle.std.specs.Prelude.{◌≡◌};
 ghost use Rattle.toml.specs.View.{table_view};
-ghost use Rattle.sdm_data.specs.Sections.{authority_in, end_in, limit_in, number_in};
+ghost use Rattle.sdm_data.specs.Sections.{authority_in, end_in, limit_in};
 ghost use Rattle.sdm_data.specs.Views.{members_of};
 
 use crate::section_tables::SectionTable;
@@ -35,8 +35,8 @@ fn end_in(authority: &SectionTable) -> Result<Authority, DataFault>
     ensures { result ≡ end_in (members_of authority.now) }
 {
     authority.known(end_keys())?;
-    let eoa = number_in(authority, 2, 0, MOST_CM)?;
-    let svl = number_in(authority, 3, 0, MOST_CM)?;
+    let eoa = authority.number(2, 0, MOST_CM)?;
+    let svl = authority.number(3, 0, MOST_CM)?;
     let kmh = authority.integer_if_any(4)?.unwrap_or(0);
     let release = authority.within(4, 0, MOST_KMH, kmh)?;
     Ok(Authority::Stop {
@@ -52,18 +52,10 @@ fn limit_in(authority: &SectionTable) -> Result<Authority, DataFault>
     ensures { result ≡ limit_in (members_of authority.now) }
 {
     authority.known(&limit_keys())?;
-    let loa = number_in(authority, 5, 0, MOST_CM)?;
-    let speed = number_in(authority, 6, 1, MOST_KMH)?;
+    let loa = authority.number(5, 0, MOST_CM)?;
+    let speed = authority.number(6, 1, MOST_KMH)?;
     Ok(Authority::Limit {
         loa,
         speed: speed as u16,
     })
-}
-
-// The number of a key, within its range.
-fn number_in(authority: &SectionTable, key: u8, least: u32, greatest: u32) -> Result<u32, DataFault>
-    ensures value { result ≡ number_in (members_of authority.now) key least greatest }
-    ensures range { IfOk result (λ n. n ≤ greatest) }
-{
-    authority.within(key, least, greatest, authority.integer(key)?)
 }

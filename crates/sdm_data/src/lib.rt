@@ -14,14 +14,10 @@ mod tracks;
 mod trains;
 mod versions;
 
-pub use authorities::authority_in;
 pub use division::split;
 pub use documents::{DocumentFault, read_document};
 pub use journeys::{JourneyData, data_of};
-pub use lists::{Entry, entries};
-pub use national_values::national_in;
-pub use roots::{Root, root_in};
-pub use section_tables::SectionTable;
-pub use tracks::{GivenTrack, track_in};
-pub use trains::{GivenTrain, train_in};
-pub use versions::Version;
+pub use sdm_rules::{At, DataFault};
+
+#[cfg(test)]
+mod tests;

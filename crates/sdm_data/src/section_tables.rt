@@ -7,7 +7,7 @@ ghost use Rattle.std.specs.Str.{bytes_eq};
 ghost use Rattle.toml.specs.Data.{get_member, as_bool, as_integer, as_str, as_table};
 ghost use Rattle.toml.specs.View.{view, table_view};
 ghost use Rattle.sdm_data.specs.Versions.{known_keys};
-ghost use Rattle.sdm_data.specs.Members.{as_tables, at, found, known, of_kind, optional, or_fault, required, section_of, within};
+ghost use Rattle.sdm_data.specs.Members.{as_tables, at, found, known, number, optional, or_fault, required, section_of, within};
 ghost use Rattle.sdm_data.specs.Views.{members_of, seen, tables_in};
 
 use crate::versions::{Version, known_keys};
@@ -163,7 +163,16 @@ impl<'a> SectionTable<'a> {
         }
     }
 
-    /// The number of a key, where it is from `least` to `greatest`: else Value. (own)
+    /// The whole number, from `least` to `greatest`, that a key must hold. (own)
+    #[tactic(auto, unfolding(crate::specs::Members::number))]
+    pub fn number(&self, key: u8, least: u32, greatest: u32) -> Result<u32, DataFault>
+        ensures value { result ≡ number (members_of self.now) key least greatest }
+        ensures range { IfOk result (λ n. n ≤ greatest) }
+    {
+        self.within(key, least, greatest, self.integer(key)?)
+    }
+
+    /// A number of a key, where it is from `least` to `greatest`: else Value. (own)
     pub fn within(&self, key: u8, least: u32, greatest: u32, number: i64) -> Result<u32, DataFault>
         ensures value { result ≡ within (members_of self.now) key least greatest number }
         ensures range { IfOk result (λ n. n ≤ greatest) }
