@@ -113,6 +113,7 @@ fn each_key_has_its_number(rt: HostRuntime) -> Result<(), Fail> {
         assert!(rt; key_name(section, 77).is_none(), "{word}");
     }
     Ok(())
+}
 
 #[test]
 fn a_number_of_32_bits_is_read_in_its_range(rt: HostRuntime) {
