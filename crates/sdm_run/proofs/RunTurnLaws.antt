@@ -72,9 +72,10 @@ reading_safe : (o : Option CycleFault) (s : Supervision) (r : OdometerReading) (
     AreTurnsSafe must may (turns_of_event s (record_kinds.Read r) (unless time_cause o (record { after = after_reading s r; row = Some (row_of s r) })) later)
 unfolding row_in after_reading
 reading_safe None s r must may later opened h rest =
-    let order = machines s r opened must may h in
-    (record { order = order; stop = stop s r opened; gaps = gaps s r },
-    rest (after_reading s r) (must_after s r must) (may_after s r may) (record { bands = opened.bands; usable = opened.usable }) order)
+    let order = machines s r opened must may h in (
+      record { order = order; stop = stop s r opened; gaps = gaps s r },
+      rest (after_reading s r) (must_after s r must) (may_after s r may) (record { bands = opened.bands; usable = opened.usable }) order,
+    )
 reading_safe (Some fault) s r must may later opened h rest = tt
 
 event_safe : (s : Supervision) (e : Event) (must may : Bool) (later : Supervision → List Turn) →
