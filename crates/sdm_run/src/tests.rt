@@ -1,10 +1,14 @@
-//! Worked journeys of `flat` as tables, with refusals and faults at chosen calls. In the tables `/` stands for a line feed,
-//! `~` for a carriage return and `-` for nothing.
+//! Worked journeys as tables, with refusals and faults at chosen calls. In the tables `/` stands for a line feed, `~` for a
+//! carriage return and `-` for nothing.
+
+mod journeys;
 
 use crate::{CycleFault, EventCause, Flat, FlatRow, Outcome, outcome_of, sdm_main};
+use journeys::{BASE, PARTS, REFUSALS, RUNS};
 use sdm_io::{FixedSource, MemSink, MemSource, NullSink};
 use sdm_num::{Place, Speed};
 use std::alloc::Global;
+use std::process::Abort;
 use std::test::Fail;
 
 // The fields of a line of a table.
@@ -79,13 +83,17 @@ struct Answer {
 }
 
 fn answer_of(alloc: Global, words: &str, input: &str, streams: &Streams) -> Result<Answer, Fail> {
-    let words = words_of(alloc, words)?;
     let bytes = bytes_of(alloc, input)?;
+    answer_to(alloc, words, &bytes, streams)
+}
+
+fn answer_to(alloc: Global, words: &str, bytes: &[u8], streams: &Streams) -> Result<Answer, Fail> {
+    let words = words_of(alloc, words)?;
     let step = streams.step.parse::<usize>()?.max(1);
     let reads = numbers_of(alloc, streams.failing_reads)?;
     let writes = numbers_of(alloc, streams.failing_writes)?;
     let lines = numbers_of(alloc, streams.failing_lines)?;
-    let mut input = MemSource::new(alloc, &bytes, step, &reads)?;
+    let mut input = MemSource::new(alloc, bytes, step, &reads)?;
     let mut out = MemSink::new(alloc, 1000, step, &writes)?;
     let mut err = MemSink::new(alloc, 1000, step, &lines)?;
     let outcome = sdm_main(alloc, &words, &mut input, &mut out, &mut err);
@@ -94,6 +102,30 @@ fn answer_of(alloc: Global, words: &str, input: &str, streams: &Streams) -> Resu
         out: out.bytes().to_vec(alloc)?,
         err: err.bytes().to_vec(alloc)?,
     })
+}
+
+// A line of the base data, as some changes have it: each is a line, `>` and what stands in its place.
+fn changed<'a>(line: &'a str, changes: &'a str) -> &'a str {
+    for change in changes.split(';') {
+        if let Some((old, new)) = change.split_once('>') {
+            if old.trim() == line {
+                return new.trim();
+            }
+        }
+    }
+    line
+}
+
+// The answer to a journey over the base data with changes.
+fn run_of(alloc: Global, changes: &str, records: &str, streams: &Streams) -> Result<Answer, Fail> {
+    let mut input = Vec::new(alloc);
+    for line in BASE.lines() {
+        input.extend_from_slice(&bytes_of(alloc, changed(line, changes))?)?;
+        input.push(b'\n')?;
+    }
+    input.extend_from_slice(b"%%\n")?;
+    input.extend_from_slice(&bytes_of(alloc, records)?)?;
+    answer_to(alloc, "run", &input, streams)
 }
 
 // words | code
@@ -107,7 +139,9 @@ const WORDS: &str = "\
     Flat 100 100000 | 1
     flat2 100 100000 | 1
     fla 100 100000 | 1
-    run | 1
+    run 1 | 1
+    run run | 1
+    Run | 1
     --help | 1
     --version | 1
     flat --help | 1
@@ -187,6 +221,80 @@ fn each_journey_has_its_rows_and_its_end(rt: HostRuntime) -> Result<(), Fail> {
             return Err("no row".into());
         };
         let answer = answer_of(alloc, words, input, &STEADY)?;
+        assert_eq!(rt; answer.code, code.parse::<u8>()?, "{line}");
+        assert!(rt; answer.out == bytes_of(alloc, rows)?, "{line}");
+        assert!(rt; answer.err == bytes_of(alloc, told)?, "{line}");
+    }
+    Ok(())
+}
+
+fn go_through(rt: &impl Abort, alloc: Global, table: &str) -> Result<(), Fail> {
+    for line in table.lines() {
+        let fields = fields_of(alloc, line)?;
+        let [changes, records, rows, code, told] = fields.as_slice() else {
+            return Err("no row".into());
+        };
+        let answer = run_of(alloc, changes, records, &STEADY)?;
+        assert_eq!(rt; answer.code, code.parse::<u8>()?, "{line}");
+        assert!(rt; answer.out == bytes_of(alloc, rows)?, "{line}");
+        assert!(rt; answer.err == bytes_of(alloc, told)?, "{line}");
+    }
+    Ok(())
+}
+
+#[test]
+fn each_reading_of_a_journey_has_its_row(rt: HostRuntime) -> Result<(), Fail> {
+    go_through(&rt, rt.alloc(), RUNS)
+}
+
+#[test]
+fn what_is_refused_is_told_with_the_rows_before_it(rt: HostRuntime) -> Result<(), Fail> {
+    go_through(&rt, rt.alloc(), REFUSALS)
+}
+
+#[test]
+fn a_journey_without_its_parts_is_refused(rt: HostRuntime) -> Result<(), Fail> {
+    let alloc = rt.alloc();
+    for line in PARTS.lines() {
+        let fields = fields_of(alloc, line)?;
+        let [input, code, told] = fields.as_slice() else {
+            return Err("no row".into());
+        };
+        let answer = answer_of(alloc, "run", input, &STEADY)?;
+        assert_eq!(rt; answer.code, code.parse::<u8>()?, "{line}");
+        assert!(rt; answer.out.is_empty(), "{line}");
+        assert!(rt; answer.err == bytes_of(alloc, told)?, "{line}");
+    }
+    Ok(())
+}
+
+// step | failing reads | failing writes | rows | code | line
+const RUN_FAULTS: &str = "\
+    1 | - | - | 0,T,W,1,0,0,1,160,800000,800000,760000,720000,540000/ | 0 | -
+    1000 | 2 | - | - | 2 | sdm: read fault/
+    1000 | - | 1 | - | 3 | sdm: write fault/
+    3 | - | 2 | 0,T | 3 | sdm: write fault/";
+
+#[test]
+fn a_fault_ends_a_journey_where_it_comes(rt: HostRuntime) -> Result<(), Fail> {
+    let alloc = rt.alloc();
+    for line in RUN_FAULTS.lines() {
+        let fields = fields_of(alloc, line)?;
+        let [step, reads, writes, rows, code, told] = fields.as_slice() else {
+            return Err("no row".into());
+        };
+        let streams = Streams {
+            step,
+            failing_reads: reads,
+            failing_writes: writes,
+            failing_lines: "-",
+        };
+        let answer = run_of(
+            alloc,
+            "-",
+            "read,0,799990,799990,799990,20000,0,0/",
+            &streams,
+        )?;
         assert_eq!(rt; answer.code, code.parse::<u8>()?, "{line}");
         assert!(rt; answer.out == bytes_of(alloc, rows)?, "{line}");
         assert!(rt; answer.err == bytes_of(alloc, told)?, "{line}");
