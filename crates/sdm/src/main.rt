@@ -19,7 +19,7 @@ fn main(rt: HostRuntime) -> ExitCode {
             }
         }
         Err(error) if error.kind() == ErrorKind::OutOfMemory => return no_memory,
-        // A word that is no text: no command has such words, nor has it none.
+        // A word that is not UTF-8: the program goes on with no words, which is Usage.
         Err(_) => {}
     }
     let mut input = StdSource::new(rt.stdin());

@@ -68,8 +68,8 @@ module _ (kind : SlopeKind) (d : LineData) (q : ℕ) (uppers : List ℕ) (starts
 
   -- ---- what comes of them
 
-  pub stands_for : (m : SlopeMap) → handed_in m ≡ map_data q uppers starts slopes → meaning_of m ≡ slopes_of kind d
-  stands_for m is = meaning_kind kind d (map_data q uppers starts slopes) gives m map_data_is is
+  pub stands_for : (m : SlopeMap) → handed_in m ≡ map_data q uppers starts slopes → AreAccepted (map_data q uppers starts slopes) → meaning_of m ≡ slopes_of kind d
+  stands_for m is accepted = meaning_kind kind d (map_data q uppers starts slopes) gives m (rw is (record { well_formed = map_data_is; accepted = accepted })) is
 
   pub stretches_kept : (m : SlopeMap) → handed_in m ≡ map_data q uppers starts slopes → AreStretches d.track d.train.length_cm m.starts
   stretches_kept m is = subst (λ (xs : List ℤ). AreStretches d.track d.train.length_cm xs) (sym (ap (λ (x : MapData). x.starts) is)) parts.stretches

@@ -6,7 +6,7 @@ ghost use Rattle.sdm_rules.specs.Decelerations.{uppers_of, slope_under, slopes_o
 ghost use Rattle.sdm_rules.specs.Slopes.{meaning_of};
 ghost use Rattle.sdm_rules.specs.Opening.{IsAcceptedKind};
 ghost use Rattle.sdm_train.specs.Trains.{IsTrain, IsBand};
-ghost use Rattle.sdm_decel.specs.Borders.{AreGradientsUnder, AreStretches};
+ghost use Rattle.sdm_decel.specs.Borders.{AreStretches};
 ghost use Rattle.sdm_decel.specs.Slopes.{line_of, slopes_of_bands, AreParts, IsFaultOfKind};
 
 use crate::borders::stretches;
@@ -16,7 +16,7 @@ use sdm_curve::{BandMap, CurveFault};
 use sdm_national::National;
 use sdm_num::{NoMemory, Speed};
 use sdm_rules::SlopeKind;
-use sdm_track::{Segments, Track};
+use sdm_track::Track;
 use sdm_train::{Band, Train};
 use std::alloc::Global;
 
@@ -71,18 +71,6 @@ fn slopes(
     Ok(slopes)
 }
 
-// The gradients under a train of this length in cm.
-fn gradients_under(alloc: Global, track: &Track, length_cm: u32) -> Result<Segments, NoMemory>
-    requires some { 1 ≤ length_cm }
-    requires short { length_cm ≤ 150_000 }
-    ensures { IfOk result (λ segments. AreGradientsUnder track.now length_cm segments) }
-{
-    let segments = track.compensated(alloc, length_cm)?;
-    // `count` says that they are in their ranges.
-    let _count = segments.count();
-    Ok(segments)
-}
-
 // What a map is made of.
 #[derive(Drop)]
 struct Parts {
@@ -102,7 +90,7 @@ fn parts_of(
     ensures { IfOk result (λ p. AreParts kind (line_of train.now national.now track.now) p.uppers.items p.starts.items p.slopes.items) }
 {
     let length_cm = train.length() as u32;
-    let segments = gradients_under(alloc, track, length_cm)?;
+    let segments = track.compensated(alloc, length_cm)?;
     let starts = stretches(alloc, track, &segments, length_cm)?;
     let unders = Under::at_each(alloc, track, &segments, length_cm, &starts)?;
     let uppers = uppers(alloc, train)?;

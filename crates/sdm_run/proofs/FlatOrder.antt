@@ -8,9 +8,9 @@ use Rattle.sdm_rules.specs.Flat.{FlatSupervision, FlatLine, Output, flat_opening
 use Rattle.sdm_rules.specs.Cells.{border_of}
 use Rattle.sdm_rules.specs.Curves.{exact}
 use Rattle.sdm_rules.specs.Supervision.{whole_mm}
-use Rattle.sdm_run.specs.Flats.{ebi_mm}
-use Rattle.sdm_run.proofs.FlatCurves.{shown_place}
-use Rattle.sdm_run.proofs.FlatFormula.{ebi_is}
+use Rattle.sdm_supervisor.specs.Flats.{ebi_mm}
+use Rattle.sdm_supervisor.proofs.FlatCurves.{shown_place}
+use Rattle.sdm_supervisor.proofs.FlatFormula.{ebi_is}
 use Rattle.sdm_laws.proofs.FlatFacts.{flat_machines, flat_stop}
 use Rattle.sdm_run.specs.FlatRun.{FlatTurn, turn_and, turns_of_line, turns_from, turns_of, text_of_turns, AreTurnsSafe, AreFlatRowsSafe}
 

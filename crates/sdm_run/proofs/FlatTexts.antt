@@ -7,7 +7,7 @@ use Rattle.std.proofs.KnownBytes.{Appends-nil, Appends-trans}
 use Rattle.sdm_io.specs.Told.{AppendsPart}
 use Rattle.sdm_rules.specs.declared.rows.FlatRow.{FlatRow}
 use Rattle.sdm_rules.specs.Flat.{FlatSupervision, Output, flat_opening, flat_text, flat_output, flat_output_from, lines_of}
-use Rattle.sdm_run.specs.declared.outcome.Outcome.TheVariants.{WriteFault}
+use Rattle.sdm_report.specs.declared.outcome.Outcome.TheVariants.{WriteFault}
 use Rattle.sdm_run.specs.Answers.{IsAnswer}
 use Rattle.sdm_run.specs.FlatTurns.{IsAccepted}
 

@@ -1,8 +1,9 @@
 pub mod Cutting
-pub mod Digits
-pub mod FlatCurves
-pub mod FlatFormula
 pub mod FlatTexts
 pub mod FlatOrder
 pub mod CommandFacts
-pub mod ReadBounds
+pub mod RunTurnLaws
+pub mod RunData
+pub mod RunTexts
+pub mod RunAnswers
+pub mod OutputLaws

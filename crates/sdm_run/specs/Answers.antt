@@ -1,14 +1,18 @@
 -- How an outcome answers what a command defines, and what out took for it: one relation for every command (own).
-use Rattle.std.specs.Prelude.{◌≡◌, ◌⊎◌, ◌≤◌, ℕ, List, [], ◌∷◌, ◌++◌, Option, Some, None}
+use Rattle.std.specs.Prelude.{◌≡◌, ◌⊎◌, ◌≢◌, ◌≤◌, ℕ, List, [], ◌∷◌, ◌++◌, Option, Some, None}
 use Rattle.std.specs.Io.KnownBytes.{Appends, Keeps}
 use Rattle.sdm_io.specs.Told.{AppendsPart}
 use Rattle.sdm_rules.specs.declared.faults.EventCause.TheVariants.{Line}
 use Rattle.sdm_rules.specs.Input as ends
 use Rattle.sdm_rules.specs.Flat.{Output}
-use Rattle.sdm_run.specs.declared.outcome.Outcome.{Outcome}
-use Rattle.sdm_run.specs.declared.outcome.Outcome.TheVariants.{Done, Usage, ReadFault, WriteFault, TooLong, BadEvent, Memory}
+use Rattle.sdm_rules.specs.declared.faults.DataFault.TheVariants as data_faults
+use Rattle.sdm_rules.specs.declared.faults.OpenFault.TheVariants as open_faults
+use Rattle.sdm_report.specs.declared.outcome.InputFault.TheVariants.{NoSplit, Toml, Data}
+use Rattle.sdm_report.specs.declared.outcome.Outcome.{Outcome}
+use Rattle.sdm_report.specs.declared.outcome.Outcome.TheVariants.{Done, Usage, ReadFault, WriteFault, TooLong, BadData, Refused, BadEvent, Memory}
+use Rattle.sdm_report.specs.OutcomeLines.{end_of_data}
 use Rattle.sdm_run.specs.declared.words.Command.{Command}
-use Rattle.sdm_run.specs.declared.words.Command.TheVariants.{Flat}
+use Rattle.sdm_run.specs.declared.words.Command.TheVariants.{Flat, Run}
 
 -- the end that an outcome tells, if it tells one (own)
 abbrev pub told_end : Outcome → Option ends.End
@@ -17,6 +21,8 @@ told_end Usage = None
 told_end ReadFault = None
 told_end WriteFault = None
 told_end TooLong = Some ends.TooLong
+told_end (BadData fault) = Some (end_of_data fault)
+told_end (Refused fault) = Some (ends.Refused fault)
 told_end (BadEvent number cause) = Some (ends.BadEvent number cause)
 told_end Memory = None
 
@@ -41,13 +47,16 @@ pub record AppendsLines (old new : Option (List ℕ)) (text : List ℕ) : Type 0
   pub taken : Appends old new front
 
 -- What out took of the defined text: where an end is told, the whole text before it; after a write fault a front of it,
--- after want of memory whole lines, and else nothing. A text that ends as too long is empty (own).
+-- after want of memory whole lines, and else nothing. A text is empty that ends as too long, with bad data, or with a refused
+-- opening (own).
 abbrev pub TakesFor : Outcome → Option (List ℕ) → Option (List ℕ) → List ℕ → Type 0
 TakesFor Done old new text = Appends old new text
 TakesFor Usage old new text = Keeps old new
 TakesFor ReadFault old new text = Keeps old new
 TakesFor WriteFault old new text = AppendsPart old new text
 TakesFor TooLong old new text = Appends old new text
+TakesFor (BadData fault) old new text = Appends old new text
+TakesFor (Refused fault) old new text = Appends old new text
 TakesFor (BadEvent number cause) old new text = Appends old new text
 TakesFor Memory old new text = AppendsLines old new text
 
@@ -58,7 +67,27 @@ pub record IsAnswer (output : Output) (old new : Option (List ℕ)) (outcome : O
 
 -- an outcome that comes before any row, whatever the input tells (own)
 abbrev pub ComesFirst : Outcome → Type 0
-ComesFirst outcome = (outcome ≡ Usage) ⊎ (outcome ≡ ReadFault) ⊎ (outcome ≡ TooLong)
+ComesFirst Done = ⊥
+ComesFirst Usage = Unit {0}
+ComesFirst ReadFault = Unit {0}
+ComesFirst WriteFault = ⊥
+ComesFirst TooLong = Unit {0}
+ComesFirst (BadData fault) = Unit {0}
+ComesFirst (Refused fault) = Unit {0}
+ComesFirst (BadEvent number cause) = ⊥
+ComesFirst Memory = ⊥
+
+-- an outcome that comes before the bytes of the input are answered (own)
+abbrev pub ComesBefore : Outcome → Type 0
+ComesBefore Done = ⊥
+ComesBefore Usage = Unit {0}
+ComesBefore ReadFault = Unit {0}
+ComesBefore WriteFault = ⊥
+ComesBefore TooLong = Unit {0}
+ComesBefore (BadData fault) = ⊥
+ComesBefore (Refused fault) = ⊥
+ComesBefore (BadEvent number cause) = ⊥
+ComesBefore Memory = ⊥
 
 -- an outcome that comes after the end of the input (own)
 abbrev pub ComesLast : Outcome → Type 0
@@ -67,19 +96,51 @@ ComesLast Usage = ⊥
 ComesLast ReadFault = ⊥
 ComesLast WriteFault = Unit {0}
 ComesLast TooLong = ⊥
+ComesLast (BadData fault) = Unit {0}
+ComesLast (Refused fault) = Unit {0}
 ComesLast (BadEvent number cause) = Unit {0}
 ComesLast Memory = ⊥
 
--- an outcome that `flat` may have: no line is refused for another cause than its form or its time (own)
+-- an outcome that `flat` may have: there is no data part and no opening, and no line is refused for another cause than its
+-- form or its time (own)
 abbrev pub IsFlatOutcome : Outcome → Type 0
 IsFlatOutcome Done = Unit {0}
 IsFlatOutcome Usage = ⊥
 IsFlatOutcome ReadFault = Unit {0}
 IsFlatOutcome WriteFault = Unit {0}
 IsFlatOutcome TooLong = Unit {0}
+IsFlatOutcome (BadData fault) = ⊥
+IsFlatOutcome (Refused fault) = ⊥
 IsFlatOutcome (BadEvent number cause) = (1 ≤ number) × (cause ≡ Line)
 IsFlatOutcome Memory = Unit {0}
+
+-- an outcome that records may have, once the supervisor is opened: none is refused as a line (own)
+abbrev pub IsRecordsOutcome : Outcome → Type 0
+IsRecordsOutcome Done = Unit {0}
+IsRecordsOutcome Usage = ⊥
+IsRecordsOutcome ReadFault = ⊥
+IsRecordsOutcome WriteFault = Unit {0}
+IsRecordsOutcome TooLong = ⊥
+IsRecordsOutcome (BadData fault) = ⊥
+IsRecordsOutcome (Refused fault) = ⊥
+IsRecordsOutcome (BadEvent number cause) = (1 ≤ number) × (cause ≢ Line)
+IsRecordsOutcome Memory = Unit {0}
+
+-- an outcome that `run` may have: want of memory is never told inside another fault (own)
+abbrev pub IsRunOutcome : Outcome → Type 0
+IsRunOutcome Done = Unit {0}
+IsRunOutcome Usage = ⊥
+IsRunOutcome ReadFault = Unit {0}
+IsRunOutcome WriteFault = Unit {0}
+IsRunOutcome TooLong = Unit {0}
+IsRunOutcome (BadData NoSplit) = Unit {0}
+IsRunOutcome (BadData Toml) = Unit {0}
+IsRunOutcome (BadData (Data fault)) = fault ≢ data_faults.Memory
+IsRunOutcome (Refused fault) = fault ≢ open_faults.Memory
+IsRunOutcome (BadEvent number cause) = (1 ≤ number) × (cause ≢ Line)
+IsRunOutcome Memory = Unit {0}
 
 -- an outcome that a command may have (own)
 abbrev pub IsPossible : Command → Outcome → Type 0
 IsPossible (Flat decel end) outcome = IsFlatOutcome outcome
+IsPossible Run outcome = IsRunOutcome outcome

@@ -7,7 +7,7 @@ use Rattle.sdm_rules.specs.Limits.{exact_places}
 use Rattle.sdm_rules.specs.Machines.{InOrder}
 use Rattle.sdm_rules.specs.Records.{time_fault}
 use Rattle.sdm_rules.specs.Flat.{FlatSupervision, FlatLine, flat_opening, flat_line, flat_row, flat_after, after_flat_line, flat_text, flat_output, lines_of, StopsByFlatEnd}
-use Rattle.sdm_run.specs.Flats.{ebi_mm}
+use Rattle.sdm_supervisor.specs.Flats.{ebi_mm}
 
 -- an accepted line and the state that it meets (own)
 pub record FlatTurn : Type 0 where

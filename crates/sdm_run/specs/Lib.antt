@@ -1,8 +1,9 @@
 pub mod Words
-pub mod OutcomeLines
-pub mod Commands
-pub mod Cuts
 pub mod Answers
-pub mod Flats
+pub mod Cuts
 pub mod FlatTurns
 pub mod FlatRun
+pub mod Journeys
+pub mod RunParts
+pub mod RunTurns
+pub mod Commands

@@ -5,7 +5,7 @@ use Rattle.std.specs.declared.alloc.Global.{Global}
 use Rattle.sdm_rules.specs.declared.faults.FieldFault.{FieldFault}
 use Rattle.sdm_rules.specs.Numbers.{read_int}
 use Rattle.sdm_run.specs.declared.words.Command.{Command}
-use Rattle.sdm_run.specs.declared.words.Command.TheVariants.{Flat}
+use Rattle.sdm_run.specs.declared.words.Command.TheVariants.{Flat, Run}
 
 -- `flat` with its two numbers, if both are read (own)
 abbrev pub flat_of : Result ℤ FieldFault → Result ℤ FieldFault → Option Command
@@ -18,10 +18,18 @@ abbrev pub flat_command : List (List ℕ) → Option Command
 flat_command (decel ∷ end ∷ []) = flat_of (read_int decel (pos 5) (pos 400)) (read_int end (pos 0) (pos 10_000_000))
 flat_command _ = None
 
--- the shapes of the words, each with its command: `flat A END` (own)
+-- `run` has no words after it (own)
+abbrev pub run_command : List (List ℕ) → Option Command
+run_command [] = Some Run
+run_command _ = None
+
+-- the shapes of the words, each with its command: `run`, and `flat A END` (own)
 unfoldable pub command_of : List (List ℕ) → Option Command
 command_of [] = None
-command_of (name ∷ more) = if bytes_eq name (codes "flat") then flat_command more else None
+command_of (name ∷ more) =
+    if bytes_eq name (codes "run") then run_command more
+    else if bytes_eq name (codes "flat") then flat_command more
+    else None
 
 -- the command that the words ask for, if they ask for one (own)
 abbrev pub asked_by : List (String Global) → Option Command
@@ -30,3 +38,4 @@ asked_by words = command_of (map string_bytes words)
 -- the numbers of a command are in their ranges (own)
 abbrev pub IsInRange : Command → Type 0
 IsInRange (Flat decel end) = (5 ≤ decel) × (decel ≤ 400) × (end ≤ 10_000_000)
+IsInRange Run = Unit {0}

@@ -1,20 +1,22 @@
 //! The top call: from the words and the bytes of an input to the bytes of out and of the fault stream, and an outcome.
 
-ghost use Rattle.std.specs.Prelude.{◌≡◌, ◌⊎◌, ◌↔◌, ◌+◌, ◌≤◌, length, Some, IsNone, IfSome};
+ghost use Rattle.std.specs.Prelude.{◌≡◌, ◌⊎◌, ◌↔◌, ◌+◌, ◌≤◌, ℕ, List, length, Some, IsNone, IfSome};
 ghost use Rattle.std.specs.Io.KnownBytes.{Appends, IsAtEnd, Keeps};
 ghost use Rattle.sdm_io.specs.Causes.{Rose};
 ghost use Rattle.sdm_io.specs.Told.{AppendsPart, ReadsExactly, ReadsWithin, Told};
+ghost use Rattle.sdm_report.specs.OutcomeLines.{outcome_line};
+ghost use Rattle.sdm_rules.specs.Flat.{Output};
 ghost use Rattle.sdm_rules.specs.Input.{most_bytes};
-ghost use Rattle.sdm_run.specs.Answers.{ComesFirst, ComesLast, IsAnswer, IsPossible, told_end};
-ghost use Rattle.sdm_run.specs.Commands.{AreRowsSafe, TakesMemoryFirst, output_of};
-ghost use Rattle.sdm_run.specs.OutcomeLines.{outcome_line};
+ghost use Rattle.sdm_run.specs.declared.words.Command.{Command};
+ghost use Rattle.sdm_run.specs.Answers.{ComesBefore, ComesFirst, ComesLast, IsAnswer, IsPossible, told_end};
+ghost use Rattle.sdm_run.specs.Commands.{AreRowsSafe, HasOneOutput, IsOutputOf, TakesMemoryFirst};
 ghost use Rattle.sdm_run.specs.Words.{IsInRange, asked_by};
 
 use crate::flat_run::run_flat;
-use crate::outcome::Outcome;
-use crate::outcome_lines::outcome_bytes;
+use crate::journey_run::run_journey;
 use crate::words::{Command, command_of};
 use sdm_io::{FixedSource, NullSink, Sink, Source, Unread, read_to_end, write_piece};
+use sdm_report::{Outcome, outcome_bytes};
 use sdm_text::RowBuf;
 use std::alloc::Global;
 
@@ -33,7 +35,7 @@ pub fn sdm_main<I: Source, O: Sink, E: Sink>(
     ensures usage { (result ≡ Outcome.Usage) ↔ IsNone (asked_by words.now) }
 
     // what the command defines for the bytes of the input, and what out took of it
-    ensures answer { IfSome (asked_by words.now) (λ command. Told (I.left input.old) (λ bytes. IsAnswer (output_of command bytes) (O.taken out.old) (O.taken out.new) result)) }
+    ensures answer { IfSome (asked_by words.now) (λ command. Told (I.left input.old) (λ bytes. (output : Output) → IsOutputOf command bytes output → IsAnswer output (O.taken out.old) (O.taken out.new) result)) }
     ensures rows { IfSome (asked_by words.now) (λ command. Told (I.left input.old) (AreRowsSafe command)) }
     ensures possible { IfSome (asked_by words.now) (λ command. IsPossible command result) }
     ensures first { ComesFirst result → Keeps (O.taken out.old) (O.taken out.new) }
@@ -65,7 +67,7 @@ fn answer<I: Source, O: Sink>(
     out: &mut O,
 ) -> Outcome
     ensures usage { (result ≡ Outcome.Usage) ↔ IsNone (asked_by words.now) }
-    ensures answer { IfSome (asked_by words.now) (λ command. Told (I.left input.old) (λ bytes. IsAnswer (output_of command bytes) (O.taken out.old) (O.taken out.new) result)) }
+    ensures answer { IfSome (asked_by words.now) (λ command. Told (I.left input.old) (λ bytes. (output : Output) → IsOutputOf command bytes output → IsAnswer output (O.taken out.old) (O.taken out.new) result)) }
     ensures rows { IfSome (asked_by words.now) (λ command. Told (I.left input.old) (AreRowsSafe command)) }
     ensures possible { IfSome (asked_by words.now) (λ command. IsPossible command result) }
     ensures first { ComesFirst result → Keeps (O.taken out.old) (O.taken out.new) }
@@ -92,15 +94,17 @@ fn answer<I: Source, O: Sink>(
 fn run_command<O: Sink>(alloc: Global, command: Command, bytes: &[u8], out: &mut O) -> Outcome
     requires short { length bytes.now ≤ most_bytes }
     requires range { IsInRange command }
-    ensures answer { IsAnswer (output_of command bytes.now) (O.taken out.old) (O.taken out.new) result }
+    ensures answer { (output : Output) → IsOutputOf command bytes.now output → IsAnswer output (O.taken out.old) (O.taken out.new) result }
     ensures rows { AreRowsSafe command bytes.now }
     ensures possible { IsPossible command result }
-    ensures not_first { ComesFirst result → ⊥ }
+    ensures not_before { ComesBefore result → ⊥ }
+    ensures first { ComesFirst result → Keeps (O.taken out.old) (O.taken out.new) }
     ensures memory { TakesMemoryFirst command → result ≡ Outcome.Memory → Keeps (O.taken out.old) (O.taken out.new) }
     ensures write { result ≡ Outcome.WriteFault → Rose (O.faults out.old) (O.faults out.new) }
 {
     match command {
         Command::Flat { decel, end_cm } => run_flat(alloc, decel, end_cm, bytes, out),
+        Command::Run => run_journey(alloc, bytes, out),
     }
 }
 
@@ -114,10 +118,16 @@ fn tell<E: Sink>(outcome: &Outcome, err: &mut E)
     let _ = write_piece(err, line.bytes());
 }
 
+/// Each command defines one output for all bytes: a text and an end. (own)
+#[tactic(auto, using(crate::proofs::OutputLaws::one_output))]
+pub fn law_of_outputs()
+    ensures { (command : Command) (bytes : List ℕ) → HasOneOutput command bytes }
+{}
+
 /// The outcome over bytes and sinks that never fail: exactly that of the defined end, unless memory is wanting. (own)
 pub fn outcome_of(alloc: Global, words: &[String], bytes: &[u8]) -> Outcome
     ensures usage { (result ≡ Outcome.Usage) ↔ IsNone (asked_by words.now) }
-    ensures complete { IfSome (asked_by words.now) (λ command. (told_end result ≡ Some (output_of command bytes.now).end) ⊎ (result ≡ Outcome.Memory)) }
+    ensures complete { IfSome (asked_by words.now) (λ command. (output : Output) → IsOutputOf command bytes.now output → (told_end result ≡ Some output.end) ⊎ (result ≡ Outcome.Memory)) }
 {
     let mut input = FixedSource::new(bytes);
     sdm_main(

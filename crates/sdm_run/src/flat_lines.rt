@@ -1,16 +1,14 @@
 //! The lines that `flat` reads and the rows that it writes.
 
-ghost use Rattle.std.specs.Prelude.{◌≡◌, ◌+◌, ◌≤◌, [], ◌++◌, length};
-ghost use Rattle.std.specs.Fmt.{signed_decimal};
+ghost use Rattle.std.specs.Prelude.{◌≡◌, []};
 ghost use Rattle.sdm_rules.specs.Flat.{flat_line, flat_text};
-ghost use Rattle.sdm_rules.specs.Text.{flag_text};
-ghost use Rattle.sdm_run.specs.FlatTurns.{IsFlatLine};
+ghost use Rattle.sdm_supervisor.specs.FlatLines.{IsFlatLine};
 
 use crate::lines::three_fields;
-use crate::numbers::{integer_in, natural_in};
 use sdm_num::{Place, Speed};
+use sdm_report::fields::{put_count, put_flag, put_number};
 use sdm_rules::FlatRow;
-use sdm_text::RowBuf;
+use sdm_text::{RowBuf, integer_in, natural_in};
 use std::marker::Model;
 
 /// A line of `flat`: a time in ds, a front end and a speed, each in its range. (own)
@@ -23,7 +21,7 @@ pub struct Line {
 
 impl Model for Line {
     ghost use Rattle.sdm_rules.specs.Flat.{FlatLine};
-    ghost use Rattle.sdm_run.specs.FlatTurns.{IsFlatLine, line_at};
+    ghost use Rattle.sdm_supervisor.specs.FlatLines.{IsFlatLine, line_at};
 
     ghost Value = { FlatLine };
 
@@ -64,30 +62,14 @@ pub fn flat_line(bytes: &[u8]) -> Option<Line>
     ensures { result ≡ flat_line bytes.now }
 {
     let fields = three_fields(bytes)?;
-    let time = natural_in(fields.first, 0, 100_000_000)?;
-    let front = integer_in(fields.second, -10_000_000, 110_000_000)?;
-    let speed = natural_in(fields.third, 0, 138_888)?;
+    let time = natural_in(fields.first, 0, 100_000_000).ok()?;
+    let front = integer_in(fields.second, -10_000_000, 110_000_000).ok()?;
+    let speed = natural_in(fields.third, 0, 138_888).ok()?;
     Some(Line {
         time,
         front: Place::of_mm(front),
         speed: Speed::of_mm_s(speed),
     })
-}
-
-fn put_number(n: i64, into: &mut RowBuf)
-    requires { length into.old ≤ 100 }
-    ensures text { into.new ≡ into.old ++ signed_decimal n }
-    ensures short { length into.new ≤ length into.old + 20 }
-{
-    into.number(n);
-}
-
-fn put_flag(flag: bool, into: &mut RowBuf)
-    requires { length into.old ≤ 100 }
-    ensures text { into.new ≡ into.old ++ flag_text flag }
-    ensures short { length into.new ≤ length into.old + 1 }
-{
-    into.byte(if flag { b'1' } else { b'0' });
 }
 
 /// Puts a row. (own)
@@ -96,7 +78,7 @@ pub fn put_row(row: &FlatRow, into: &mut RowBuf)
     requires { into.old ≡ [] }
     ensures { into.new ≡ flat_text row.now }
 {
-    put_number(i64::from(row.time), into);
+    put_count(row.time, into);
     into.byte(b',');
     put_number(row.ebi, into);
     into.byte(b',');

@@ -8,12 +8,11 @@ ghost use Rattle.sdm_rules.specs.Flat.{flat_output};
 ghost use Rattle.sdm_run.specs.Answers.{ComesFirst, IsAnswer, IsFlatOutcome};
 ghost use Rattle.sdm_run.specs.FlatTurns.{IsAccepted, IsRefused};
 
-use crate::flat::Flat;
 use crate::flat_lines::{flat_line, put_row};
 use crate::lines::first_line;
-use crate::outcome::Outcome;
 use sdm_io::{Sink, write_piece};
-use sdm_rules::{EventCause, FlatRow};
+use sdm_report::{EventCause, Outcome};
+use sdm_supervisor::{Flat, FlatRow};
 use sdm_text::RowBuf;
 use std::alloc::Global;
 

@@ -1,21 +1,19 @@
 //! The program from the bytes that come in to the bytes that go out: its words, its commands, the rows that they write, and
-//! the outcome with its line of the fault stream.
+//! the outcome that it ends with.
 #![tactic(auto)]
 
 pub mod answers;
-pub mod flat;
 mod flat_lines;
 mod flat_run;
+mod journey_openings;
+mod journey_records;
+mod journey_run;
 mod lines;
-mod numbers;
-pub mod outcome;
-pub mod outcome_lines;
 pub mod words;
 
-pub use answers::{outcome_of, sdm_main};
-pub use flat::Flat;
-pub use outcome::Outcome;
-pub use sdm_rules::{CycleFault, EventCause, FlatRow};
+pub use answers::{law_of_outputs, outcome_of, sdm_main};
+pub use sdm_report::{EventCause, InputFault, Outcome};
+pub use sdm_supervisor::{CycleFault, Flat, FlatRow};
 pub use words::Command;
 
 #[cfg(test)]

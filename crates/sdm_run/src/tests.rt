@@ -1,13 +1,14 @@
-//! Worked journeys of `flat` as tables, refusals and faults at chosen calls, and the lines of outcomes. In the tables `/`
-//! stands for a line feed, `~` for a carriage return and `-` for nothing.
+//! Worked journeys as tables, with refusals and faults at chosen calls. In the tables `/` stands for a line feed, `~` for a
+//! carriage return and `-` for nothing.
 
-use crate::outcome_lines::outcome_bytes;
+mod journeys;
+
 use crate::{CycleFault, EventCause, Flat, FlatRow, Outcome, outcome_of, sdm_main};
+use journeys::{BASE, PARTS, REFUSALS, RUNS};
 use sdm_io::{FixedSource, MemSink, MemSource, NullSink};
 use sdm_num::{Place, Speed};
-use sdm_rules::{AuthorityFault, EventFault, FieldFault, RestrictFault, RevokeFault};
-use sdm_text::RowBuf;
 use std::alloc::Global;
+use std::process::Abort;
 use std::test::Fail;
 
 // The fields of a line of a table.
@@ -82,13 +83,17 @@ struct Answer {
 }
 
 fn answer_of(alloc: Global, words: &str, input: &str, streams: &Streams) -> Result<Answer, Fail> {
-    let words = words_of(alloc, words)?;
     let bytes = bytes_of(alloc, input)?;
+    answer_to(alloc, words, &bytes, streams)
+}
+
+fn answer_to(alloc: Global, words: &str, bytes: &[u8], streams: &Streams) -> Result<Answer, Fail> {
+    let words = words_of(alloc, words)?;
     let step = streams.step.parse::<usize>()?.max(1);
     let reads = numbers_of(alloc, streams.failing_reads)?;
     let writes = numbers_of(alloc, streams.failing_writes)?;
     let lines = numbers_of(alloc, streams.failing_lines)?;
-    let mut input = MemSource::new(alloc, &bytes, step, &reads)?;
+    let mut input = MemSource::new(alloc, bytes, step, &reads)?;
     let mut out = MemSink::new(alloc, 1000, step, &writes)?;
     let mut err = MemSink::new(alloc, 1000, step, &lines)?;
     let outcome = sdm_main(alloc, &words, &mut input, &mut out, &mut err);
@@ -97,6 +102,30 @@ fn answer_of(alloc: Global, words: &str, input: &str, streams: &Streams) -> Resu
         out: out.bytes().to_vec(alloc)?,
         err: err.bytes().to_vec(alloc)?,
     })
+}
+
+// A line of the base data, as some changes have it: each is a line, `>` and what stands in its place.
+fn changed<'a>(line: &'a str, changes: &'a str) -> &'a str {
+    for change in changes.split(';') {
+        if let Some((old, new)) = change.split_once('>') {
+            if old.trim() == line {
+                return new.trim();
+            }
+        }
+    }
+    line
+}
+
+// The answer to a journey over the base data with changes.
+fn run_of(alloc: Global, changes: &str, records: &str, streams: &Streams) -> Result<Answer, Fail> {
+    let mut input = Vec::new(alloc);
+    for line in BASE.lines() {
+        input.extend_from_slice(&bytes_of(alloc, changed(line, changes))?)?;
+        input.push(b'\n')?;
+    }
+    input.extend_from_slice(b"%%\n")?;
+    input.extend_from_slice(&bytes_of(alloc, records)?)?;
+    answer_to(alloc, "run", &input, streams)
 }
 
 // words | code
@@ -110,7 +139,9 @@ const WORDS: &str = "\
     Flat 100 100000 | 1
     flat2 100 100000 | 1
     fla 100 100000 | 1
-    run | 1
+    run 1 | 1
+    run run | 1
+    Run | 1
     --help | 1
     --version | 1
     flat --help | 1
@@ -190,6 +221,80 @@ fn each_journey_has_its_rows_and_its_end(rt: HostRuntime) -> Result<(), Fail> {
             return Err("no row".into());
         };
         let answer = answer_of(alloc, words, input, &STEADY)?;
+        assert_eq!(rt; answer.code, code.parse::<u8>()?, "{line}");
+        assert!(rt; answer.out == bytes_of(alloc, rows)?, "{line}");
+        assert!(rt; answer.err == bytes_of(alloc, told)?, "{line}");
+    }
+    Ok(())
+}
+
+fn go_through(rt: &impl Abort, alloc: Global, table: &str) -> Result<(), Fail> {
+    for line in table.lines() {
+        let fields = fields_of(alloc, line)?;
+        let [changes, records, rows, code, told] = fields.as_slice() else {
+            return Err("no row".into());
+        };
+        let answer = run_of(alloc, changes, records, &STEADY)?;
+        assert_eq!(rt; answer.code, code.parse::<u8>()?, "{line}");
+        assert!(rt; answer.out == bytes_of(alloc, rows)?, "{line}");
+        assert!(rt; answer.err == bytes_of(alloc, told)?, "{line}");
+    }
+    Ok(())
+}
+
+#[test]
+fn each_reading_of_a_journey_has_its_row(rt: HostRuntime) -> Result<(), Fail> {
+    go_through(&rt, rt.alloc(), RUNS)
+}
+
+#[test]
+fn what_is_refused_is_told_with_the_rows_before_it(rt: HostRuntime) -> Result<(), Fail> {
+    go_through(&rt, rt.alloc(), REFUSALS)
+}
+
+#[test]
+fn a_journey_without_its_parts_is_refused(rt: HostRuntime) -> Result<(), Fail> {
+    let alloc = rt.alloc();
+    for line in PARTS.lines() {
+        let fields = fields_of(alloc, line)?;
+        let [input, code, told] = fields.as_slice() else {
+            return Err("no row".into());
+        };
+        let answer = answer_of(alloc, "run", input, &STEADY)?;
+        assert_eq!(rt; answer.code, code.parse::<u8>()?, "{line}");
+        assert!(rt; answer.out.is_empty(), "{line}");
+        assert!(rt; answer.err == bytes_of(alloc, told)?, "{line}");
+    }
+    Ok(())
+}
+
+// step | failing reads | failing writes | rows | code | line
+const RUN_FAULTS: &str = "\
+    1 | - | - | 0,T,W,1,0,0,1,160,800000,800000,760000,720000,540000/ | 0 | -
+    1000 | 2 | - | - | 2 | sdm: read fault/
+    1000 | - | 1 | - | 3 | sdm: write fault/
+    3 | - | 2 | 0,T | 3 | sdm: write fault/";
+
+#[test]
+fn a_fault_ends_a_journey_where_it_comes(rt: HostRuntime) -> Result<(), Fail> {
+    let alloc = rt.alloc();
+    for line in RUN_FAULTS.lines() {
+        let fields = fields_of(alloc, line)?;
+        let [step, reads, writes, rows, code, told] = fields.as_slice() else {
+            return Err("no row".into());
+        };
+        let streams = Streams {
+            step,
+            failing_reads: reads,
+            failing_writes: writes,
+            failing_lines: "-",
+        };
+        let answer = run_of(
+            alloc,
+            "-",
+            "read,0,799990,799990,799990,20000,0,0/",
+            &streams,
+        )?;
         assert_eq!(rt; answer.code, code.parse::<u8>()?, "{line}");
         assert!(rt; answer.out == bytes_of(alloc, rows)?, "{line}");
         assert!(rt; answer.err == bytes_of(alloc, told)?, "{line}");
@@ -290,82 +395,4 @@ fn a_time_that_goes_back_changes_nothing(rt: HostRuntime) -> Result<(), Fail> {
         Ok(held)
     );
     Ok(())
-}
-
-// The cause that a text tells.
-fn cause_of(text: &str) -> Option<EventCause> {
-    Some(match text {
-        "unknown kind" => EventCause::Form(EventFault::UnknownKind),
-        "field count" => EventCause::Form(EventFault::FieldCount),
-        "field 8: not a number" => EventCause::Form(EventFault::Field {
-            column: 8,
-            fault: FieldFault::NotNumber,
-        }),
-        "field 4294967295: out of range" => EventCause::Form(EventFault::Field {
-            column: u32::MAX,
-            fault: FieldFault::OutOfRange,
-        }),
-        "too many events" => EventCause::Form(EventFault::TooMany),
-        "supervised location before end" => EventCause::Authority(AuthorityFault::SvlBeforeEoa),
-        "beyond track" => EventCause::Authority(AuthorityFault::BeyondTrack),
-        "bad speed" => EventCause::Authority(AuthorityFault::BadSpeed),
-        "too many restrictions" => EventCause::Restrict(RestrictFault::Full),
-        "identity in use" => EventCause::Restrict(RestrictFault::IdInUse { id: 7 }),
-        "restriction value" => EventCause::Restrict(RestrictFault::Value),
-        "identity unknown" => EventCause::Revoke(RevokeFault::Unknown { id: 7 }),
-        "time back" => EventCause::TimeBack { last: 5, time: 4 },
-        "line" => EventCause::Line,
-        _ => return None,
-    })
-}
-
-const CAUSES: &str = "\
-    unknown kind
-    field count
-    field 8: not a number
-    field 4294967295: out of range
-    too many events
-    supervised location before end
-    beyond track
-    bad speed
-    too many restrictions
-    identity in use
-    restriction value
-    identity unknown
-    time back
-    line";
-
-#[test]
-fn each_cause_has_its_text(rt: HostRuntime) -> Result<(), Fail> {
-    let alloc = rt.alloc();
-    for line in CAUSES.lines() {
-        let text = line.trim();
-        let outcome = Outcome::BadEvent {
-            number: u32::MAX,
-            cause: cause_of(text).ok_or("no cause")?,
-        };
-        let mut told = RowBuf::new();
-        outcome_bytes(&outcome, &mut told);
-        let wanted = format!(in alloc; "sdm: bad event 4294967295: {text}\n")?;
-        assert!(rt; told.bytes() == wanted.as_bytes(), "{text}");
-    }
-    Ok(())
-}
-
-#[test]
-fn each_outcome_has_its_code_and_its_line(rt: HostRuntime) {
-    let outcomes = [
-        (Outcome::Done, 0, ""),
-        (Outcome::Usage, 1, "sdm: bad words\n"),
-        (Outcome::ReadFault, 2, "sdm: read fault\n"),
-        (Outcome::WriteFault, 3, "sdm: write fault\n"),
-        (Outcome::TooLong, 4, "sdm: input too long\n"),
-        (Outcome::Memory, 8, "sdm: no memory\n"),
-    ];
-    for (outcome, code, line) in outcomes {
-        let mut told = RowBuf::new();
-        outcome_bytes(&outcome, &mut told);
-        assert_eq!(rt; outcome.code(), code);
-        assert!(rt; told.bytes() == line.as_bytes());
-    }
 }

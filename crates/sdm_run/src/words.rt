@@ -1,15 +1,17 @@
 //! The words after the program's name, and the commands that they ask for. A new command adds a variant and a shape.
 
 ghost use Rattle.std.specs.Prelude.{◌≡◌, map, string_bytes, IfSome};
-ghost use Rattle.sdm_run.specs.Words.{IsInRange, asked_by, flat_command};
+ghost use Rattle.sdm_run.specs.Words.{IsInRange, asked_by, flat_command, run_command};
 
-use crate::numbers::natural_in;
+use sdm_text::natural_in;
 
 /// What the words ask for. (own)
 #[derive(Clone, Copy, Debug, PartialEq, Eq)]
 pub enum Command {
     /// `flat A END`: a deceleration in cm/s², from 5 to 400, and an end in cm, from 0 to 10,000,000.
     Flat { decel: u16, end_cm: u32 },
+    /// `run`: the journey of the input.
+    Run,
 }
 
 /// The command of words; none where they have none of the shapes. (own)
@@ -20,8 +22,20 @@ pub fn command_of(words: &[String]) -> Option<Command>
 {
     let (name, more) = words.split_first()?;
     match name.as_str() {
+        "run" => run_command(more),
         "flat" => flat_command(more),
         _ => None,
+    }
+}
+
+// `run` has no words after it.
+fn run_command(words: &[String]) -> Option<Command>
+    ensures { result ≡ run_command (map string_bytes words.now) }
+{
+    if words.is_empty() {
+        Some(Command::Run)
+    } else {
+        None
     }
 }
 
@@ -31,8 +45,8 @@ fn flat_command(words: &[String]) -> Option<Command>
     ensures range { IfSome result IsInRange }
 {
     let [decel, end] = words else { return None };
-    let decel = natural_in(decel.as_str().as_bytes(), 5, 400)?;
-    let end_cm = natural_in(end.as_str().as_bytes(), 0, 10_000_000)?;
+    let decel = natural_in(decel.as_str().as_bytes(), 5, 400).ok()?;
+    let end_cm = natural_in(end.as_str().as_bytes(), 0, 10_000_000).ok()?;
     Some(Command::Flat {
         decel: decel as u16,
         end_cm,

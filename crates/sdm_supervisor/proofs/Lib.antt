@@ -4,3 +4,5 @@ mod CeilingLaw
 mod LineLaws
 mod FindLaws
 mod CycleLaws
+pub mod FlatCurves
+pub mod FlatFormula

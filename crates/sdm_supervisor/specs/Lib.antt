@@ -3,3 +3,5 @@ pub mod Verdicts
 pub mod Situations
 pub mod Kept
 pub mod Promises
+pub mod FlatLines
+pub mod Flats

@@ -2,6 +2,7 @@
 //! and every reading gives its row. Nothing above this crate knows of brake curves; nothing in it knows of text.
 #![tactic(auto)]
 
+pub mod flat;
 pub mod limits;
 pub mod lines;
 pub mod releases;
@@ -10,7 +11,8 @@ pub mod speeds;
 pub mod supervisors;
 pub mod verdicts;
 
-pub use sdm_rules::{CycleFault, OpenFault, Row, SlopeKind};
+pub use flat::Flat;
+pub use sdm_rules::{CycleFault, FlatRow, OpenFault, Row, SlopeKind};
 pub use supervisors::Supervisor;
 
 #[cfg(test)]

@@ -1,13 +1,15 @@
-//! Numbers and rows as text: what the fields of records and the words of commands say, and a buffer in which a row is put
-//! together. Nothing here takes memory.
+//! Numbers, keys and rows as text: what the fields of records and the words of commands say, the names of the keys of the
+//! data part, and a buffer in which a row is put together. Nothing here takes memory.
 #![tactic(auto)]
 
+pub mod keys;
 pub mod numbers;
 pub mod rows;
 
-pub use numbers::read_int;
+pub use keys::{key_name, key_names};
+pub use numbers::{integer_in, natural_in, read_int};
 pub use rows::{ROW_BYTES, RowBuf};
-pub use sdm_rules::FieldFault;
+pub use sdm_rules::{FieldFault, Section};
 
 #[cfg(test)]
 mod tests;

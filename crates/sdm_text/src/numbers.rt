@@ -1,7 +1,7 @@
 //! Numbers as they stand in fields and words: an optional minus sign and 1 to 18 decimal digits. So many digits fit an
 //! i64 whatever they are, so that a number too large for its field and a field that is no number are told apart.
 
-ghost use Rattle.std.specs.Prelude.{◌≡◌, ◌^◌, ◌<◌, IfSome, Some, None, if◌then◌else◌};
+ghost use Rattle.std.specs.Prelude.{◌≡◌, ◌^◌, ◌<◌, ◌≤◌, ◌≤ℤ◌, pos, IfOk, IfErr, IfSome, Some, None, if◌then◌else◌};
 ghost use Rattle.std.specs.Str.Parse.{digits_value};
 ghost use Rattle.sdm_rules.specs.Numbers.{is_digits, most_digits, number_of, read_int};
 
@@ -14,7 +14,8 @@ const MOST_DIGITS: usize = 18;
 /// isn't an optional minus sign and 1 to 18 digits, and OutOfRange where its number is below `lo` or above `hi`. (own)
 #[tactic(auto, unfolding(sdm_rules::specs::Numbers::read_int))]
 pub fn read_int(field: &[u8], lo: i64, hi: i64) -> Result<i64, FieldFault>
-    ensures { result ≡ read_int field.now lo hi }
+    ensures value { result ≡ read_int field.now lo hi }
+    ensures range { IfOk result (λ n. (lo ≤ℤ n) × (n ≤ℤ hi)) }
 {
     let Some(number) = number_of(field) else {
         return Err(FieldFault::NotNumber);
@@ -24,6 +25,26 @@ pub fn read_int(field: &[u8], lo: i64, hi: i64) -> Result<i64, FieldFault>
     } else {
         Err(FieldFault::OutOfRange)
     }
+}
+
+/// The number of a field in a range that 32 bits hold, or the fault of `read_int`. (own)
+pub fn integer_in(field: &[u8], least: i32, greatest: i32) -> Result<i32, FieldFault>
+    ensures value { IfOk result (λ n. read_int field.now least greatest ≡ Ok n) }
+    ensures range { IfOk result (λ n. (least ≤ℤ n) × (n ≤ℤ greatest)) }
+    ensures fault { IfErr result (λ fault. read_int field.now least greatest ≡ Err fault) }
+{
+    let number = read_int(field, i64::from(least), i64::from(greatest))?;
+    Ok(number as i32)
+}
+
+/// The number of a field whose range has no number below 0, likewise. (own)
+pub fn natural_in(field: &[u8], least: u32, greatest: u32) -> Result<u32, FieldFault>
+    ensures value { IfOk result (λ n. read_int field.now (pos least) (pos greatest) ≡ Ok (pos n)) }
+    ensures range { IfOk result (λ n. (least ≤ n) × (n ≤ greatest)) }
+    ensures fault { IfErr result (λ fault. read_int field.now (pos least) (pos greatest) ≡ Err fault) }
+{
+    let number = read_int(field, i64::from(least), i64::from(greatest))?;
+    Ok(number as u32)
 }
 
 /// The number that a field writes, if it is of this form.

@@ -1,6 +1,8 @@
-//! Fields at the ends of their forms and ranges, and rows up to the last byte that they hold.
+//! Fields at the ends of their forms and ranges, the keys of each section, and rows up to the last byte that they hold.
 
-use crate::{FieldFault, ROW_BYTES, RowBuf, read_int};
+use crate::{
+    FieldFault, ROW_BYTES, RowBuf, Section, integer_in, key_name, key_names, natural_in, read_int,
+};
 use std::test::Fail;
 
 /// A field, the least and the greatest number that it may hold, the answer, and what the case shows.
@@ -63,6 +65,66 @@ fn a_field_is_an_optional_minus_sign_and_digits(rt: HostRuntime) -> Result<(), F
         );
     }
     Ok(())
+}
+
+/// A section and the names of its keys, in the order of their numbers.
+const KEYS: &str = "\
+root|version train national track authority
+train|length max_speed rotating_mass traction_cutoff_time traction_cutoff_interface emergency_time service_time service_brake band
+band|upper emergency service normal kdry kwet kn_up kn_down
+national|avadh adhesion_max guidance service_in_target early_release inhibit_under_reading
+track|length gradient speed adhesion
+gradient|start grad
+speed|start speed delayed
+adhesion|start end
+authority|kind eoa svl release loa speed";
+
+fn section(word: &str) -> Result<Section, &'static str> {
+    match word {
+        "root" => Ok(Section::Root),
+        "train" => Ok(Section::Train),
+        "band" => Ok(Section::Band),
+        "national" => Ok(Section::National),
+        "track" => Ok(Section::Track),
+        "gradient" => Ok(Section::Gradient),
+        "speed" => Ok(Section::Speed),
+        "adhesion" => Ok(Section::Adhesion),
+        "authority" => Ok(Section::Authority),
+        _ => Err("no section"),
+    }
+}
+
+#[test]
+fn each_key_has_its_number(rt: HostRuntime) -> Result<(), Fail> {
+    for line in KEYS.lines() {
+        let (word, names) = line.split_once('|').ok_or("no names")?;
+        let section = section(word)?;
+        let mut key = 0u8;
+        for name in names.split(' ') {
+            key = key.checked_add(1).ok_or("too many")?;
+            assert!(rt; key_name(section, key) == Some(name), "{name}");
+        }
+        assert_eq!(rt; key_names(section).len(), usize::from(key), "{word}");
+        assert!(rt; key_name(section, 0).is_none(), "{word}");
+        assert!(rt;
+            key_name(section, key.saturating_add(1)).is_none(),
+            "{word}"
+        );
+        assert!(rt; key_name(section, 77).is_none(), "{word}");
+    }
+    Ok(())
+}
+
+#[test]
+fn a_number_of_32_bits_is_read_in_its_range(rt: HostRuntime) {
+    let (least, greatest) = (i32::MIN, i32::MAX);
+    assert_eq!(rt; integer_in(b"-2147483648", least, greatest), Ok(least));
+    assert_eq!(rt; integer_in(b"2147483647", least, greatest), Ok(greatest));
+    assert_eq!(rt; integer_in(b"-301", -300, 300), Err(FieldFault::OutOfRange));
+    assert_eq!(rt; integer_in(b"-", -300, 300), Err(FieldFault::NotNumber));
+    assert_eq!(rt; natural_in(b"4294967295", 0, u32::MAX), Ok(u32::MAX));
+    assert_eq!(rt; natural_in(b"-1", 0, 500), Err(FieldFault::OutOfRange));
+    assert_eq!(rt; natural_in(b"1 km", 0, 500), Err(FieldFault::NotNumber));
 }
 
 /// A number, and the row that `at `, the number and a comma make.

@@ -1,5 +1,6 @@
 pub mod AcceptedTracks
 pub mod StepLaws
 pub mod LowestLaws
+pub mod LowLaws
 pub mod WindowLaws
 pub mod SegmentLaws

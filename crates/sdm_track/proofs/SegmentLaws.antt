@@ -17,6 +17,7 @@ use Rattle.sdm_track.specs.Windows.{start_of, level, IsUnder, IsBeforeBorder, Is
 use Rattle.sdm_track.specs.Segments.{IsSegment, AreSegments, gradient_in}
 use Rattle.sdm_track.proofs.StepLaws.{lies_on, value_is, value_before, value_from}
 use Rattle.sdm_track.proofs.LowestLaws.{lowest_is, int_min_lower}
+use Rattle.sdm_track.proofs.LowLaws.{low_of_first}
 use Rattle.sdm_track.proofs.WindowLaws.{lowest_under}
 
 -- ---- the segment in which a cell lies
@@ -146,7 +147,7 @@ under_first (x ∷ xs) length_cm rise c before =
     lowest_under (x ∷ xs) length_cm 0 0 c x.grad rise
     (record { known = omega arith; begun = λ d p. absurd (omega arith); goes_on = before.rear })
     (record { known = omega arith; begun = λ d p. absurd (omega arith); goes_on = before.front })
-    (record { none_below = λ k l m. (let e : k ≡ 0 = omega arith in rw e (omega (arith, ints))); place = 0; from_rear = omega arith; to_front = omega arith; reached = refl })
+    (record { place = 0; lowest = (low_of_first (x ∷ xs)).0; reached = refl })
 
 module _ (entries : List Gradient) (length_cm : ℕ) (gradients : AreGradients longest_track entries) where
   -- the cells up to cell 0 lie in the first entry
@@ -186,7 +187,7 @@ module _ (entries : List Gradient) (length_cm : ℕ) (gradients : AreGradients l
     -- the segment that the window's lowest gradient gives
     pub next_segment : length_cm ≤ 150_000 → IsSegment (record { start = new.at; value = grad })
     next_segment short =
-        let entry = gradients.each lowest_there.place level (omega (arith, lowest_there.to_front, next.under.front.known)) in
+        let entry = gradients.each lowest_there.place level (omega (arith, lowest_there.lowest.to_front, next.under.front.known)) in
         record {
           not_before = (let a = made.not_before in let b = next.later in omega (arith, ints));
           not_past = (let a = next.on_track in omega (arith, ints));

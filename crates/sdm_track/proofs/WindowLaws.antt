@@ -43,6 +43,7 @@ module _ (entries : List Gradient) (length_cm : ℕ) (w : Window) (at : ℤ) (gr
     };
     later = omega (arith, ints, under.front.goes_on.before level more);
     nearest = λ c l. record { front = before_next w.front c more (omega (arith, ints)); rear = before_next w.rear (c -ℤ pos length_cm) room (omega (arith, ints)) };
+    step = record { rear_not_back = omega arith; rear_by_one = omega arith; front_not_back = omega arith; front_by_one = omega arith };
     moves = omega arith;
     on_track = (let within = (gradients.each (w.front + 1) level more).on_track in omega (arith, ints));
   }
@@ -63,6 +64,7 @@ module _ (entries : List Gradient) (length_cm : ℕ) (w : Window) (at : ℤ) (gr
           front = record { before = λ d more. (let next = first.before d more in omega (arith, ints)) };
           rear = before_next w.rear (c -ℤ pos length_cm) room (omega (arith, ints));
         };
+        step = record { rear_not_back = omega arith; rear_by_one = omega arith; front_not_back = omega arith; front_by_one = omega arith };
         moves = omega arith;
         on_track = (let within = (gradients.each (w.rear + 1) level room).on_track in omega (arith, ints));
       }
@@ -78,6 +80,7 @@ module _ (entries : List Gradient) (length_cm : ℕ) (w : Window) (at : ℤ) (gr
     };
     later = omega (arith, ints, under.front.goes_on.before level more);
     nearest = λ c l. record { front = before_next w.front c more (omega (arith, ints)); rear = before_next w.rear (c -ℤ pos length_cm) room (omega (arith, ints)) };
+    step = record { rear_not_back = omega arith; rear_by_one = omega arith; front_not_back = omega arith; front_by_one = omega arith };
     moves = omega arith;
     on_track = (let within = (gradients.each (w.front + 1) level more).on_track in omega (arith, ints));
   }
@@ -117,13 +120,13 @@ module _ (entries : List Gradient) (rear front : ℕ) (back at : ℤ) (rise : Is
   -- the lowest of the entries is the lowest of the cells
   lowest_cell : (grad : ℤ) → IsLowestEntry entries rear (front + 1) grad → IsLowest (λ a b. a ≤ℤ b) (track_gradient entries) back at grad
   lowest_cell grad h =
-      let cell = has_cell h.place h.from_rear (omega (arith, h.to_front)) in
+      let cell = has_cell h.place h.lowest.from_rear (omega (arith, h.lowest.to_front)) in
       record {
         none_below = λ c a b.
             let here = found start_of entries c (omega (arith, in_rear.known)) in
             let above : rear ≤ here.place = lies_in_order start_of entries rear here.place level back c rise in_rear here.lies a in
             let below : here.place ≤ front = lies_in_order start_of entries here.place front level c at rise here.lies in_front b in
-            rw (value_is start_of (λ e. e.grad) entries here.place c level (pos 0) rise here.lies) (h.none_below here.place above (omega arith));
+            rw (← h.reached, value_is start_of (λ e. e.grad) entries here.place c level (pos 0) rise here.lies) (h.lowest.none_below here.place above (omega arith));
         at = cell.at;
         from_first = cell.from_back;
         to_last = cell.to_front;

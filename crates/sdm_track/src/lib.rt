@@ -3,6 +3,7 @@
 #![tactic(auto)]
 
 mod entries;
+mod lows;
 mod tracks;
 mod under_train;
 mod window;

@@ -4,7 +4,7 @@ ghost use Rattle.std.specs.Prelude.{◌≡◌, ℤ, pos, ◌<◌, ◌≤◌, len
 ghost use Rattle.sdm_rules.specs.Ranges.{track_fault};
 ghost use Rattle.sdm_rules.specs.Decelerations.{is_in_force, under_train};
 ghost use Rattle.sdm_track.specs.Ranges.{IsTrack, IsGradient, IsSpeedStep, IsArea, track_data};
-ghost use Rattle.sdm_track.specs.Segments.{gradient_in};
+ghost use Rattle.sdm_track.specs.Segments.{AreSegments, gradient_in};
 
 use crate::entries::{areas_fault, gradients_fault, speeds_fault};
 use crate::under_train::{self, Segments};
@@ -161,7 +161,8 @@ impl Track {
     pub fn compensated(&self, alloc: Global, length_cm: u32) -> Result<Segments, NoMemory>
         requires shortest { 1 ≤ length_cm }
         requires longest { length_cm ≤ 150_000 }
-        ensures { IfOk result (λ segments. (c : ℤ) → gradient_in segments c ≡ (under_train self.now (pos length_cm) c).grad) }
+        ensures value { IfOk result (λ segments. (c : ℤ) → gradient_in segments c ≡ (under_train self.now (pos length_cm) c).grad) }
+        ensures in_range { IfOk result (λ segments. AreSegments segments) }
     {
         under_train::compensated(alloc, &self.gradients, length_cm)
     }

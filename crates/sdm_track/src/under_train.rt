@@ -12,6 +12,7 @@ ghost use Rattle.sdm_track.specs.Ranges.{AreGradients, longest_track, longest_tr
 ghost use Rattle.sdm_track.specs.Windows.{level};
 ghost use Rattle.sdm_track.specs.Segments.{IsSegment, AreSegments, gradient_in};
 
+use crate::lows::Lows;
 use crate::window::Window;
 use sdm_num::NoMemory;
 use sdm_rules::Gradient;
@@ -119,7 +120,8 @@ pub fn compensated(
     requires gradients { AreGradients longest_track entries.now }
     requires long { 1 ≤ length_cm }
     requires short { length_cm ≤ 150_000 }
-    ensures { IfOk result (λ segments. (c : ℤ) → gradient_in segments c ≡ lowest int_min (track_gradient entries.now) (c -ℤ pos length_cm) length_cm) }
+    ensures value { IfOk result (λ segments. (c : ℤ) → gradient_in segments c ≡ lowest int_min (track_gradient entries.now) (c -ℤ pos length_cm) length_cm) }
+    ensures in_range { IfOk result (λ segments. AreSegments segments) }
 {
     let mut list = Vec::new(alloc);
     let mut window = Window {
@@ -127,11 +129,13 @@ pub fn compensated(
         front: 0,
         at: 0,
     };
+    let mut lows = Lows::of_first(alloc, entries.len())?;
     let mut value = first_gradient(entries);
     list.push(Segment::new(window.at, value))?;
     while window.rear + 1 < entries.len() {
-        window = window.next(entries, length_cm);
-        let lowest = window.lowest(entries);
+        let next = window.next(entries, length_cm);
+        let lowest = lows.follow(entries, window, next)?;
+        window = next;
         if lowest != value {
             list.push(Segment::new(window.at, lowest))?;
             value = lowest;

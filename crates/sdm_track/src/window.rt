@@ -1,9 +1,9 @@
 //! The gradients that lie under a train. As the front end moves on, the entries of its front and its rear end only rise, so that
 //! one way along the list meets every border where the lowest gradient may change.
 
-ghost use Rattle.std.specs.Prelude.{◌≡◌, ℕ, pos, ◌+◌, ◌<◌, ◌≤◌, length};
+ghost use Rattle.std.specs.Prelude.{ℕ, ◌+◌, ◌<◌, ◌≤◌, length};
 ghost use Rattle.sdm_track.specs.Ranges.{AreGradients, longest_track};
-ghost use Rattle.sdm_track.specs.Windows.{IsUnder, IsNext, IsLowestEntry};
+ghost use Rattle.sdm_track.specs.Windows.{IsUnder, IsNext};
 
 use sdm_rules::Gradient;
 
@@ -47,21 +47,5 @@ impl Window {
             front: self.front,
             at: leaves,
         }
-    }
-
-    /// The lowest gradient of the window's entries.
-    pub fn lowest(self, entries: &[Gradient]) -> i64
-        requires ordered { self.rear ≤ self.front }
-        requires known { self.front < length entries.now }
-        ensures { IsLowestEntry entries.now self.rear (self.front + 1) result }
-    {
-        let mut lowest = entries[self.rear].grad;
-        for i in self.rear + 1..self.front + 1 {
-            let grad = entries[i].grad;
-            if grad < lowest {
-                lowest = grad;
-            }
-        }
-        lowest
     }
 }

@@ -1,9 +1,10 @@
--- The output of a command, within the limit of an input.
-use Rattle.std.proofs.Common.{rules}
-use Rattle.sdm_run.specs.Commands.{output_of}
+-- The output of `flat`, within the limit of an input.
 use Rattle.sdm_run.proofs.CommandFacts.{within_answer}
+use Rattle.sdm_run.proofs.RunAnswers.{flat_not_before}
 use Rattle.sdm_run.proofs.answers.run_command.Goals as goal
 
-pub returns-clause-answer : goal.returns-clause-answer
-unfolding output_of
-returns-clause-answer g c = search (rules, within_answer, c.run_flat.ensures.answer, c.requires.short)
+pub returns-in-Flat-clause-answer : goal.returns-in-Flat-clause-answer
+returns-in-Flat-clause-answer g c = rw c.in-Flat.is (within_answer _ _ _ _ _ c.requires.short c.run_flat.ensures.answer)
+
+pub returns-in-Flat-clause-not_before : goal.returns-in-Flat-clause-not_before
+returns-in-Flat-clause-not_before g c = flat_not_before c.run_flat.result c.run_flat.ensures.not_first

@@ -1,0 +1,7 @@
+pub mod LinesOfInput
+pub mod DocumentLaws
+pub mod TableLaws
+pub mod EntriesLeft
+pub mod KeyLaws
+pub mod AcceptedData
+mod DivisionCases

@@ -1,0 +1,186 @@
+-- What each section of the data part holds, or the first rule that it breaks: UnknownKey, and then key by key Missing, WrongKind
+-- and, for some, Value (own). Keys go by their numbers in `key_names`.
+use Rattle.std.specs.Prelude.{ℕ, pos, true, List, [], Option, Result, Ok, Err, codes, unwrap_or, if◌then◌else◌}
+use Rattle.std.specs.Str.{bytes_eq}
+use Rattle.toml.specs.Data.{Members, as_integer, as_bool, as_str, as_table}
+use Rattle.sdm_rules.specs.declared.authorities.Authority.{Authority}
+use Rattle.sdm_rules.specs.declared.authorities.Authority.TheVariants.{Stop, Limit}
+use Rattle.sdm_rules.specs.declared.data.Band.{Band}
+use Rattle.sdm_rules.specs.declared.data.NationalFields.{NationalFields}
+use Rattle.sdm_rules.specs.declared.data.Gradient.{Gradient}
+use Rattle.sdm_rules.specs.declared.data.SpeedStep.{SpeedStep}
+use Rattle.sdm_rules.specs.declared.data.Area.{Area}
+use Rattle.sdm_rules.specs.declared.faults.Section.TheVariants as sections
+use Rattle.sdm_rules.specs.declared.faults.DataFault.{DataFault}
+use Rattle.sdm_rules.specs.declared.faults.DataFault.TheVariants.{Value}
+use Rattle.sdm_rules.specs.Data.{TrainData, TrackData}
+use Rattle.sdm_rules.specs.FaultLines.{key_names}
+use Rattle.sdm_data.specs.declared.versions.Version.{Version}
+use Rattle.sdm_data.specs.Versions.{version_of, known_keys, end_keys, limit_keys}
+use Rattle.sdm_data.specs.Members.{◌>>=◌, SectionMembers, section_of, at, or_fault, known, required, optional, within, number, as_tables, entries_from}
+
+-- ---- the root
+
+-- the version of the data, and the tables of their sections (own)
+pub record RootMembers : Type 0 where
+  pub version : Version
+  pub train : Members
+  pub national : Members
+  pub track : Members
+  pub authority : Members
+
+-- the root of the document (own)
+unfoldable pub root_in : Members → Result RootMembers DataFault
+root_in members = do
+  let root = section_of sections.Root 0 members
+  _ ← known root (key_names sections.Root)
+  number ← required as_integer root 1
+  version ← or_fault (Value (at root 1)) (version_of number)
+  train ← required as_table root 2
+  national ← required as_table root 3
+  track ← required as_table root 4
+  authority ← required as_table root 5
+  Ok (record { version = version; train = train; national = national; track = track; authority = authority })
+
+-- ---- the train
+
+-- a speed band; in the last there is no upper speed (own)
+unfoldable pub band_in : Version → ℕ → Members → Result Band DataFault
+band_in version index members = do
+  let band = section_of sections.Band index members
+  _ ← known band (known_keys version sections.Band)
+  upper ← optional as_integer band 1
+  emergency ← required as_integer band 2
+  service ← required as_integer band 3
+  normal ← required as_integer band 4
+  kdry ← required as_integer band 5
+  kwet ← required as_integer band 6
+  kn_up ← required as_integer band 7
+  kn_down ← required as_integer band 8
+  Ok (record { upper = upper; emergency = emergency; service = service; normal = normal; kdry = kdry; kwet = kwet; kn_up = kn_up; kn_down = kn_down })
+
+-- the train with all the bands that are given (own)
+unfoldable pub train_in : Version → Members → Result TrainData DataFault
+train_in version members = do
+  let train = section_of sections.Train 0 members
+  _ ← known train (known_keys version sections.Train)
+  length ← required as_integer train 1
+  max_speed ← required as_integer train 2
+  rotating_mass ← optional as_integer train 3
+  cut_off_time ← required as_integer train 4
+  cut_off_interface ← required as_bool train 5
+  emergency_time ← required as_integer train 6
+  service_time ← required as_integer train 7
+  service_brake ← required as_bool train 8
+  tables ← required as_tables train 9
+  bands ← entries_from (band_in version) 1 tables
+  Ok (record {
+    length_cm = length;
+    max_speed = max_speed;
+    rotating_mass = rotating_mass;
+    cut_off_time = cut_off_time;
+    cut_off_interface = cut_off_interface;
+    emergency_time = emergency_time;
+    service_time = service_time;
+    service_brake = service_brake;
+    bands = bands;
+  })
+
+-- ---- the national values
+
+-- the national values (own)
+unfoldable pub national_in : Version → Members → Result NationalFields DataFault
+national_in version members = do
+  let national = section_of sections.National 0 members
+  _ ← known national (known_keys version sections.National)
+  avadh ← required as_integer national 1
+  adhesion_max ← required as_integer national 2
+  guidance ← required as_bool national 3
+  service_in_target ← required as_bool national 4
+  early_release ← required as_bool national 5
+  inhibit_under_reading ← required as_bool national 6
+  Ok (record {
+    avadh = avadh;
+    adhesion_max = adhesion_max;
+    guidance = guidance;
+    service_in_target = service_in_target;
+    early_release = early_release;
+    inhibit_under_reading = inhibit_under_reading;
+  })
+
+-- ---- the track
+
+-- a gradient (own)
+unfoldable pub gradient_in : Version → ℕ → Members → Result Gradient DataFault
+gradient_in version index members = do
+  let gradient = section_of sections.Gradient index members
+  _ ← known gradient (known_keys version sections.Gradient)
+  start ← required as_integer gradient 1
+  grad ← required as_integer gradient 2
+  Ok (record { start = start; grad = grad })
+
+-- an entry of the static speed profile; `delayed` may be absent and is true then (own)
+unfoldable pub speed_in : Version → ℕ → Members → Result SpeedStep DataFault
+speed_in version index members = do
+  let speed = section_of sections.Speed index members
+  _ ← known speed (known_keys version sections.Speed)
+  start ← required as_integer speed 1
+  kmh ← required as_integer speed 2
+  delayed ← optional as_bool speed 3
+  Ok (record { start = start; speed = kmh; delayed = unwrap_or delayed true })
+
+-- an area of reduced adhesion (own)
+unfoldable pub adhesion_in : Version → ℕ → Members → Result Area DataFault
+adhesion_in version index members = do
+  let area = section_of sections.Adhesion index members
+  _ ← known area (known_keys version sections.Adhesion)
+  start ← required as_integer area 1
+  end ← required as_integer area 2
+  Ok (record { start = start; end = end })
+
+-- no tables where the key of a list is absent (own)
+abbrev pub or_no_tables : Option (List Members) → List Members
+or_no_tables tables = unwrap_or tables []
+
+-- the track; the gradients and the areas of reduced adhesion may be absent (own)
+unfoldable pub track_in : Version → Members → Result TrackData DataFault
+track_in version members = do
+  let track = section_of sections.Track 0 members
+  _ ← known track (known_keys version sections.Track)
+  length ← required as_integer track 1
+  gradient_tables ← optional as_tables track 2
+  speed_tables ← required as_tables track 3
+  area_tables ← optional as_tables track 4
+  gradients ← entries_from (gradient_in version) 1 (or_no_tables gradient_tables)
+  speeds ← entries_from (speed_in version) 1 speed_tables
+  areas ← entries_from (adhesion_in version) 1 (or_no_tables area_tables)
+  Ok (record { length_cm = length; gradients = gradients; speeds = speeds; areas = areas })
+
+-- ---- the authority
+
+-- an authority to an end; the release speed may be absent and is 0 then (own)
+unfoldable pub end_in : SectionMembers → Result Authority DataFault
+end_in authority = do
+  _ ← known authority end_keys
+  eoa ← number authority 2 0 10_000_000
+  svl ← number authority 3 0 10_000_000
+  kmh ← optional as_integer authority 4
+  release ← within authority 4 0 500 (unwrap_or kmh (pos 0))
+  Ok (Stop eoa svl release)
+
+-- an authority to a limit (own)
+unfoldable pub limit_in : SectionMembers → Result Authority DataFault
+limit_in authority = do
+  _ ← known authority limit_keys
+  loa ← number authority 5 0 10_000_000
+  speed ← number authority 6 1 500
+  Ok (Limit loa speed)
+
+-- the authority: its kind comes first, since the other keys depend on it (own)
+unfoldable pub authority_in : Members → Result Authority DataFault
+authority_in members = do
+  let authority = section_of sections.Authority 0 members
+  kind ← required as_str authority 1
+  if bytes_eq kind (codes "end") then end_in authority
+      else if bytes_eq kind (codes "limit") then limit_in authority
+      else Err (Value (at authority 1))

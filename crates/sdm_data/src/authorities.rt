@@ -1,0 +1,61 @@
+//! The section `authority`: the movement authority with which the journey begins. (SUBSET-026-3 3.8)
+
+ghost use Rattle.std.specs.Prelude.{◌≡◌};
+ghost use Rattle.toml.specs.View.{table_view};
+ghost use Rattle.sdm_data.specs.Sections.{authority_in, end_in, limit_in};
+ghost use Rattle.sdm_data.specs.Views.{members_of};
+
+use crate::section_tables::SectionTable;
+use crate::versions::{end_keys, limit_keys};
+use sdm_rules::{Authority, DataFault, Section};
+use toml::Table;
+
+// The furthest place of an authority, in cm.
+const MOST_CM: u32 = 10_000_000;
+
+// The highest speed of an authority, in km/h.
+const MOST_KMH: u32 = 500;
+
+/// The authority that a table holds, or the first rule that it breaks. (own)
+#[tactic(auto, unfolding(crate::specs::Sections::authority_in))]
+pub fn authority_in(table: &Table) -> Result<Authority, DataFault>
+    ensures { result ≡ authority_in (table_view table.now) }
+{
+    let authority = SectionTable::new(table, Section::Authority, 0);
+    match authority.text(1)? {
+        "end" => end_in(&authority),
+        "limit" => limit_in(&authority),
+        _ => Err(DataFault::Value(authority.at(1))),
+    }
+}
+
+// An authority to an end; with no release speed where none is given.
+#[tactic(auto, unfolding(crate::specs::Sections::end_in))]
+fn end_in(authority: &SectionTable) -> Result<Authority, DataFault>
+    ensures { result ≡ end_in (members_of authority.now) }
+{
+    authority.known(end_keys())?;
+    let eoa = authority.number(2, 0, MOST_CM)?;
+    let svl = authority.number(3, 0, MOST_CM)?;
+    let kmh = authority.integer_if_any(4)?.unwrap_or(0);
+    let release = authority.within(4, 0, MOST_KMH, kmh)?;
+    Ok(Authority::Stop {
+        eoa,
+        svl,
+        release: release as u16,
+    })
+}
+
+// An authority to a limit.
+#[tactic(auto, unfolding(crate::specs::Sections::limit_in))]
+fn limit_in(authority: &SectionTable) -> Result<Authority, DataFault>
+    ensures { result ≡ limit_in (members_of authority.now) }
+{
+    authority.known(&limit_keys())?;
+    let loa = authority.number(5, 0, MOST_CM)?;
+    let speed = authority.number(6, 1, MOST_KMH)?;
+    Ok(Authority::Limit {
+        loa,
+        speed: speed as u16,
+    })
+}

@@ -1,0 +1,27 @@
+//! The section `national`: the national values. (SUBSET-026-3 3.13.2.3)
+
+ghost use Rattle.std.specs.Prelude.{◌≡◌};
+ghost use Rattle.toml.specs.View.{table_view};
+ghost use Rattle.sdm_data.specs.Sections.{national_in};
+
+use crate::section_tables::SectionTable;
+use crate::versions::Version;
+use sdm_rules::{DataFault, NationalFields, Section};
+use toml::Table;
+
+/// The national values that a table holds, or the first rule that it breaks. (own)
+#[tactic(auto, unfolding(crate::specs::Sections::national_in))]
+pub fn national_in(version: Version, table: &Table) -> Result<NationalFields, DataFault>
+    ensures { result ≡ national_in version (table_view table.now) }
+{
+    let national = SectionTable::new(table, Section::National, 0);
+    national.known_in(version)?;
+    Ok(NationalFields {
+        avadh: national.integer(1)?,
+        adhesion_max: national.integer(2)?,
+        guidance: national.flag(3)?,
+        service_in_target: national.flag(4)?,
+        early_release: national.flag(5)?,
+        inhibit_under_reading: national.flag(6)?,
+    })
+}

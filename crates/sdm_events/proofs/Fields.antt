@@ -1,0 +1,26 @@
+-- The fields of a record by their places: what a look-up finds, and the list of all that follow a place.
+use Rattle.std.proofs.Common.{◌≡◌, ◌<◌, ℕ, List, [], ◌∷◌, length, drop, Option, Some, None, Bor, IsSome, option_map, get_or, refl, sym}
+use Rattle.csv.specs.Records.{field_at}
+use Rattle.csv.proofs.RecordFacts.{field-get, field-there}
+
+-- a look-up within the record finds a field
+pub field_found : (fields : List (List ℕ)) (i : ℕ) (o : Option (Bor (List ℕ))) → option_map (λ s. s.now) o ≡ field_at fields i → i < length fields → IsSome o
+field_found fields i None is within = absurd (field-there fields i within (sym is))
+field_found fields i (Some f) is within = refl
+
+-- and what it finds is that field
+pub field_is : (fields : List (List ℕ)) (i : ℕ) (o : Option (Bor (List ℕ))) (f : Bor (List ℕ)) → option_map (λ s. s.now) o ≡ field_at fields i → o ≡ Some f → f.now ≡ get_or fields i []
+field_is fields i None f is found = cc found
+field_is fields i (Some g) f is found = cc (field-get fields i g.now (sym is))
+
+-- a record that has a first field is that field and those after it
+pub first_field : (fields : List (List ℕ)) (o : Option (Bor (List ℕ))) (f : Bor (List ℕ)) → option_map (λ s. s.now) o ≡ field_at fields 0 → o ≡ Some f → fields ≡ f.now ∷ drop 1 fields
+unfolding field_at
+first_field [] o f is found = cc (rw found at is)
+first_field (k ∷ more) o f is found = cc (rw found at is)
+
+-- a record without a first field has no fields
+pub no_fields : (fields : List (List ℕ)) (o : Option (Bor (List ℕ))) → option_map (λ s. s.now) o ≡ field_at fields 0 → o ≡ None → fields ≡ []
+unfolding field_at
+no_fields [] o is none = refl
+no_fields (k ∷ more) o is none = cc (rw none at is)

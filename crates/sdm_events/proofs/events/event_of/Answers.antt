@@ -1,0 +1,35 @@
+-- A record that has a first field is its kind and the fields after it.
+use Rattle.std.proofs.Common.{refl, arith}
+use Rattle.std.proofs.lemmas.Grind.{common_steps}
+use Rattle.csv.specs.Records.{fields_of}
+use Rattle.sdm_rules.specs.Forms.{event_of}
+use Rattle.sdm_events.proofs.Fields.{first_field, no_fields}
+use Rattle.sdm_events.proofs.events.event_of.Goals as goal
+
+pub returns-in_default : goal.returns-in_default
+unfolding event_of
+returns-in_default c = record { value = rw (no_fields (fields_of c.args.fields.now) _ c.get.ensures.value c.in_default.is) refl; form = tt }
+
+pub returns-then-eq : goal.returns-then-eq
+unfolding event_of
+returns-then-eq c = record { value = rw (first_field (fields_of c.args.fields.now) _ _ c.get.ensures.value c.in-Some.is) (grind (arith, common_steps)); form = c.read_event.ensures.form }
+
+pub returns-then-eq-2 : goal.returns-then-eq-2
+unfolding event_of
+returns-then-eq-2 c = record { value = rw (first_field (fields_of c.args.fields.now) _ _ c.get.ensures.value c.in-Some.is) (grind (arith, common_steps)); form = c.end_event.ensures.form }
+
+pub returns-then-eq-3 : goal.returns-then-eq-3
+unfolding event_of
+returns-then-eq-3 c = record { value = rw (first_field (fields_of c.args.fields.now) _ _ c.get.ensures.value c.in-Some.is) (grind (arith, common_steps)); form = c.limit_event.ensures.form }
+
+pub returns-then-eq-4 : goal.returns-then-eq-4
+unfolding event_of
+returns-then-eq-4 c = record { value = rw (first_field (fields_of c.args.fields.now) _ _ c.get.ensures.value c.in-Some.is) (grind (arith, common_steps)); form = c.restrict_event.ensures.form }
+
+pub returns-then-eq-5 : goal.returns-then-eq-5
+unfolding event_of
+returns-then-eq-5 c = record { value = rw (first_field (fields_of c.args.fields.now) _ _ c.get.ensures.value c.in-Some.is) (grind (arith, common_steps)); form = c.revoke_event.ensures.form }
+
+pub returns-else-eq-5 : goal.returns-else-eq-5
+unfolding event_of
+returns-else-eq-5 c = record { value = rw (first_field (fields_of c.args.fields.now) _ _ c.get.ensures.value c.in-Some.is) (grind (arith, common_steps)); form = tt }

@@ -1,0 +1,20 @@
+-- The records of a journey as `csv` reads them from bytes in memory (own).
+use Rattle.std.specs.Prelude.{ℕ, List, ◌≤◌, ⊤}
+use Rattle.sdm_rules.specs.declared.records.Event.{Event}
+use Rattle.sdm_rules.specs.declared.records.Event.TheVariants.{Read, Authority, Restrict, Revoke}
+use Rattle.csv.specs.Reading.{default_config, records, strip_bom}
+
+-- a record is the list of its fields, of any bytes (own)
+abbrev pub Record : Type 0
+Record = List (List ℕ)
+
+-- the records of bytes: comma separated, with no header row and of any lengths, after a byte order mark if there is one (own)
+abbrev pub records_of : List ℕ → List Record
+records_of bytes = records default_config (strip_bom bytes)
+
+-- a restriction has a speed of 1 to 500 km/h (ranges own)
+abbrev pub IsInForm : Event → Type 0
+IsInForm (Read r) = ⊤
+IsInForm (Authority a) = ⊤
+IsInForm (Restrict r) = (1 ≤ r.speed) × (r.speed ≤ 500)
+IsInForm (Revoke id) = ⊤

@@ -1,0 +1,154 @@
+//! The event of a record: its kind, then the count of its fields, then its columns in order. Each kind of record has a
+//! function of its own.
+
+ghost use Rattle.std.specs.Prelude.{◌≡◌, ◌≤◌, ◌≤ℤ◌, pos, negsuc, drop, IfOk};
+ghost use Rattle.csv.specs.Records.{fields_of};
+ghost use Rattle.sdm_num.specs.Readings.{reading_of};
+ghost use Rattle.sdm_events.specs.Journey.{IsInForm};
+ghost use Rattle.sdm_rules.specs.Forms.{end_form, event_of, limit_form, read_form, restrict_form, revoke_form};
+
+use crate::columns::{integer, natural};
+use csv::ByteRecord;
+use sdm_num::Reading;
+use sdm_rules::{Authority, Event, EventFault, Restriction};
+
+/// The event that a record writes. It is refused by UnknownKind where its first field names no kind; else by FieldCount
+/// where it has another count of fields than its kind; else by Field where a column is no number in its range, with the
+/// first such column. TooMany is never answered here. No memory is taken. (own)
+#[tactic(auto, unfolding(sdm_rules::specs::Forms::event_of))]
+pub fn event_of(fields: &ByteRecord) -> Result<Event, EventFault>
+    ensures value { result ≡ event_of (fields_of fields.now) }
+    ensures form { IfOk result IsInForm }
+{
+    let Some(kind) = fields.get(0) else {
+        return Err(EventFault::UnknownKind);
+    };
+    if kind == b"read".as_slice() {
+        read_event(fields)
+    } else if kind == b"end".as_slice() {
+        end_event(fields)
+    } else if kind == b"limit".as_slice() {
+        limit_event(fields)
+    } else if kind == b"restrict".as_slice() {
+        restrict_event(fields)
+    } else if kind == b"revoke".as_slice() {
+        revoke_event(fields)
+    } else {
+        Err(EventFault::UnknownKind)
+    }
+}
+
+// `read`: an odometer reading.
+#[tactic(auto, unfolding(sdm_rules::specs::Forms::read_form))]
+fn read_event(fields: &ByteRecord) -> Result<Event, EventFault>
+    ensures value { result ≡ read_form (drop 1 (fields_of fields.now)) }
+    ensures form { IfOk result IsInForm }
+{
+    if fields.len() != 8 {
+        return Err(EventFault::FieldCount);
+    }
+    let time = natural(fields, 2, 0, 100_000_000)?;
+    let est = integer(fields, 3, -10_000_000, 110_000_000)?;
+    let min = integer(fields, 4, -10_000_000, est)?;
+    let max = integer(fields, 5, est, 110_000_000)?;
+    let speed = natural(fields, 6, 0, 138_888)?;
+    let accel = integer(fields, 7, -300, 300)?;
+    let under = natural(fields, 8, 0, 10_000)?;
+    Ok(Event::Read(reading(time, est, min, max, speed, accel as i16, under)))
+}
+
+// The reading of numbers that are in their ranges.
+fn reading(
+    time: u32,
+    est_mm: i32,
+    min_mm: i32,
+    max_mm: i32,
+    speed_mm_s: u32,
+    accel: i16,
+    under_mm_s: u32,
+) -> Reading
+    requires time { time ≤ 100_000_000 }
+    requires low { negsuc 9_999_999 ≤ℤ min_mm }
+    requires back { min_mm ≤ℤ est_mm }
+    requires front { est_mm ≤ℤ max_mm }
+    requires high { max_mm ≤ℤ pos 110_000_000 }
+    requires speed { speed_mm_s ≤ 138_888 }
+    requires slowing { negsuc 299 ≤ℤ accel }
+    requires gaining { accel ≤ℤ pos 300 }
+    requires under { under_mm_s ≤ 10_000 }
+    ensures { result ≡ reading_of time est_mm min_mm max_mm speed_mm_s accel under_mm_s }
+{
+    Reading::new(time, est_mm, min_mm, max_mm, speed_mm_s, accel, under_mm_s).unwrap()
+}
+
+// `end`: an authority that ends in a stop.
+#[tactic(auto, unfolding(sdm_rules::specs::Forms::end_form))]
+fn end_event(fields: &ByteRecord) -> Result<Event, EventFault>
+    ensures value { result ≡ end_form (drop 1 (fields_of fields.now)) }
+    ensures form { IfOk result IsInForm }
+{
+    if fields.len() != 4 {
+        return Err(EventFault::FieldCount);
+    }
+    let eoa = natural(fields, 2, 0, 10_000_000)?;
+    let svl = natural(fields, 3, 0, 10_000_000)?;
+    let release = natural(fields, 4, 0, 500)?;
+    Ok(Event::Authority(Authority::Stop {
+        eoa,
+        svl,
+        release: release as u16,
+    }))
+}
+
+// `limit`: an authority that ends at a speed.
+#[tactic(auto, unfolding(sdm_rules::specs::Forms::limit_form))]
+fn limit_event(fields: &ByteRecord) -> Result<Event, EventFault>
+    ensures value { result ≡ limit_form (drop 1 (fields_of fields.now)) }
+    ensures form { IfOk result IsInForm }
+{
+    if fields.len() != 3 {
+        return Err(EventFault::FieldCount);
+    }
+    let loa = natural(fields, 2, 0, 10_000_000)?;
+    let speed = natural(fields, 3, 1, 500)?;
+    Ok(Event::Authority(Authority::Limit {
+        loa,
+        speed: speed as u16,
+    }))
+}
+
+// `restrict`: a temporary speed restriction.
+#[tactic(auto, unfolding(sdm_rules::specs::Forms::restrict_form))]
+fn restrict_event(fields: &ByteRecord) -> Result<Event, EventFault>
+    ensures value { result ≡ restrict_form (drop 1 (fields_of fields.now)) }
+    ensures form { IfOk result IsInForm }
+{
+    if fields.len() != 6 {
+        return Err(EventFault::FieldCount);
+    }
+    let id = natural(fields, 2, 0, 65_535)?;
+    let start = natural(fields, 3, 0, 10_000_000)?;
+    let end = natural(fields, 4, 0, 10_000_000)?;
+    let speed = natural(fields, 5, 1, 500)?;
+    let delayed = natural(fields, 6, 0, 1)?;
+    Ok(Event::Restrict(Restriction {
+        id: id as u16,
+        start,
+        end,
+        speed: speed as u16,
+        delayed: delayed == 1,
+    }))
+}
+
+// `revoke`: the end of a temporary speed restriction.
+#[tactic(auto, unfolding(sdm_rules::specs::Forms::revoke_form))]
+fn revoke_event(fields: &ByteRecord) -> Result<Event, EventFault>
+    ensures value { result ≡ revoke_form (drop 1 (fields_of fields.now)) }
+    ensures form { IfOk result IsInForm }
+{
+    if fields.len() != 2 {
+        return Err(EventFault::FieldCount);
+    }
+    let id = natural(fields, 2, 0, 65_535)?;
+    Ok(Event::Revoke { id: id as u16 })
+}

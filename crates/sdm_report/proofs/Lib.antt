@@ -1,0 +1,2 @@
+pub mod KeyPaths
+pub mod Pieces

@@ -1,0 +1,46 @@
+//! The pieces that rows and fault lines are made of, each with the most bytes that it takes.
+
+ghost use Rattle.std.specs.Prelude.{◌≡◌, ◌+◌, ◌≤◌, ◌++◌, length, decimal};
+ghost use Rattle.std.specs.Fmt.{signed_decimal};
+ghost use Rattle.sdm_rules.specs.Text.{flag_text, place_text};
+
+use sdm_text::{ROW_BYTES, RowBuf};
+
+/// Puts a number: at most 20 bytes. (own)
+pub fn put_number(number: i64, into: &mut RowBuf)
+    requires room { length into.old + 20 ≤ ROW_BYTES }
+    ensures text { into.new ≡ into.old ++ signed_decimal number }
+    ensures short { length into.new ≤ length into.old + 20 }
+{
+    into.number(number);
+}
+
+/// Puts a number of 32 bits: at most 10 bytes. (own)
+pub fn put_count(number: u32, into: &mut RowBuf)
+    requires room { length into.old + 10 ≤ ROW_BYTES }
+    ensures text { into.new ≡ into.old ++ decimal number }
+    ensures short { length into.new ≤ length into.old + 10 }
+{
+    into.number(i64::from(number));
+}
+
+/// Puts a place in mm, `-` where there is none: at most 20 bytes. (own)
+pub fn put_place(place: Option<i64>, into: &mut RowBuf)
+    requires room { length into.old + 20 ≤ ROW_BYTES }
+    ensures text { into.new ≡ into.old ++ place_text place }
+    ensures short { length into.new ≤ length into.old + 20 }
+{
+    match place {
+        Some(place) => put_number(place, into),
+        None => into.byte(b'-'),
+    }
+}
+
+/// Puts 1 or 0. (own)
+pub fn put_flag(flag: bool, into: &mut RowBuf)
+    requires room { length into.old + 1 ≤ ROW_BYTES }
+    ensures text { into.new ≡ into.old ++ flag_text flag }
+    ensures short { length into.new ≤ length into.old + 1 }
+{
+    into.byte(if flag { b'1' } else { b'0' });
+}

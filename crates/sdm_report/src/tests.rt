@@ -1,0 +1,371 @@
+//! Rows and fault lines worked by hand, as tables: those that a run can end with, and those that only a call can hand in.
+
+use crate::{EventCause, InputFault, Outcome, outcome_bytes, row_bytes};
+use sdm_rules::{
+    At, AuthorityFault, DataFault, EventFault, FieldFault, Held, NationalFault, OpenFault,
+    RestrictFault, RevokeFault, Row, Section, SlopeKind, State, Status, TrackFault, TrainFault,
+};
+use sdm_text::RowBuf;
+use std::alloc::Global;
+use std::test::Fail;
+
+// The fields of a line of a table.
+fn fields_of<'a>(alloc: Global, line: &'a str) -> Result<Vec<&'a str>, Fail> {
+    let mut fields = Vec::new(alloc);
+    for field in line.split('|') {
+        fields.push(field.trim())?;
+    }
+    Ok(fields)
+}
+
+// The line of an outcome.
+fn line_of(outcome: Outcome) -> RowBuf {
+    let mut line = RowBuf::new();
+    outcome_bytes(&outcome, &mut line);
+    line
+}
+
+fn state_of(word: &str) -> Option<State> {
+    match word {
+        "C" => Some(State::C),
+        "T" => Some(State::T),
+        "R" => Some(State::R),
+        _ => None,
+    }
+}
+
+fn status_of(word: &str) -> Option<Status> {
+    match word {
+        "N" => Some(Status::N),
+        "I" => Some(Status::I),
+        "O" => Some(Status::O),
+        "W" => Some(Status::W),
+        "X" => Some(Status::X),
+        _ => None,
+    }
+}
+
+// Whether a word is among words.
+fn has(words: &str, word: &str) -> bool {
+    words.split_whitespace().any(|other| other == word)
+}
+
+// The places that words write; `none` is none.
+fn places_of(alloc: Global, words: &str) -> Result<Vec<Option<i64>>, Fail> {
+    let mut places = Vec::new(alloc);
+    for word in words.split_whitespace() {
+        places.push(match word {
+            "none" => None,
+            number => Some(number.parse::<i64>()?),
+        })?;
+    }
+    Ok(places)
+}
+
+// time | state | status | what holds | ceiling | EBI, SBI, warning, permitted, indication | row
+const ROWS: &str = "\
+    0 | T | W | tco covered | 160 | 800000 800000 760000 720000 540000 | 0,T,W,1,0,0,1,160,800000,800000,760000,720000,540000
+    0 | T | X | tco sb eb | 160 | 800000 800000 760000 720000 540000 | 0,T,X,1,1,1,0,160,800000,800000,760000,720000,540000
+    10 | T | X | eb covered | 160 | 887500 887500 857500 827500 692500 | 10,T,X,0,0,1,1,160,887500,887500,857500,827500,692500
+    0 | C | X | tco sb covered | 160 | 868595 868595 773457 678319 250198 | 0,C,X,1,1,0,1,160,868595,868595,773457,678319,250198
+    0 | C | N | covered | 160 | 760000 700000 660000 620000 440000 | 0,C,N,0,0,0,1,160,760000,700000,660000,620000,440000
+    0 | T | O | covered | 160 | 650000 650000 610000 570000 390000 | 0,T,O,0,0,0,1,160,650000,650000,610000,570000,390000
+    5 | R | X | tco eb | 160 | none none none none none | 5,R,X,1,0,1,0,160,-,-,-,-,-
+    0 | R | I | - | 160 | none none none none none | 0,R,I,0,0,0,0,160,-,-,-,-,-
+    100000000 | C | I | sb | 0 | none -1 none 0 none | 100000000,C,I,0,1,0,0,0,-,-1,-,0,-
+    4294967295 | C | N | - | 65535 | -9223372036854775808 -9223372036854775808 -9223372036854775808 -9223372036854775808 -9223372036854775808 | 4294967295,C,N,0,0,0,0,65535,-9223372036854775808,-9223372036854775808,-9223372036854775808,-9223372036854775808,-9223372036854775808";
+
+#[test]
+fn each_row_has_its_fields_in_order(rt: HostRuntime) -> Result<(), Fail> {
+    let alloc = rt.alloc();
+    for line in ROWS.lines() {
+        let fields = fields_of(alloc, line)?;
+        let [time, state, status, holds, ceiling, places, text] = fields.as_slice() else {
+            return Err("no row".into());
+        };
+        let places = places_of(alloc, places)?;
+        let [ebi, sbi, warning, permitted, indication] = places.as_slice() else {
+            return Err("not five places".into());
+        };
+        let row = Row {
+            time: time.parse::<u32>()?,
+            state: state_of(state).ok_or("no state")?,
+            held: Held {
+                tco: has(holds, "tco"),
+                sb: has(holds, "sb"),
+                eb: has(holds, "eb"),
+                status: status_of(status).ok_or("no status")?,
+            },
+            covered: has(holds, "covered"),
+            ceiling: ceiling.parse::<u16>()?,
+            ebi: *ebi,
+            sbi: *sbi,
+            warning: *warning,
+            permitted: *permitted,
+            indication: *indication,
+        };
+        let mut told = RowBuf::new();
+        row_bytes(&row, &mut told);
+        let wanted = format!(in alloc; "{text}\n")?;
+        assert!(rt; told.bytes() == wanted.as_bytes(), "{line}");
+    }
+    Ok(())
+}
+
+fn section_of(word: &str) -> Option<Section> {
+    Some(match word {
+        "root" => Section::Root,
+        "train" => Section::Train,
+        "band" => Section::Band,
+        "national" => Section::National,
+        "track" => Section::Track,
+        "gradient" => Section::Gradient,
+        "speed" => Section::Speed,
+        "adhesion" => Section::Adhesion,
+        "authority" => Section::Authority,
+        _ => return None,
+    })
+}
+
+// A fault of a section, its index and a key.
+fn data_fault_of(kind: &str, section: Section, index: u32, key: u8) -> Option<DataFault> {
+    let at = At {
+        section,
+        index,
+        key,
+    };
+    Some(match kind {
+        "missing" => DataFault::Missing(at),
+        "unknown key" => DataFault::UnknownKey { section, index },
+        "wrong kind" => DataFault::WrongKind(at),
+        "value" => DataFault::Value(at),
+        "train value" => DataFault::Train(TrainFault::Value { band: index, key }),
+        "band order" => DataFault::Train(TrainFault::BandOrder { band: index }),
+        "band count" => DataFault::Train(TrainFault::BandCount),
+        "national value" => DataFault::National(NationalFault::Value { key }),
+        "track value" => DataFault::Track(TrackFault::Value {
+            list: section,
+            index,
+            key,
+        }),
+        "count" => DataFault::Track(TrackFault::Count { list: section }),
+        "order" => DataFault::Track(TrackFault::Order {
+            list: section,
+            index,
+        }),
+        "gap" => DataFault::Track(TrackFault::Gap { list: section }),
+        "memory" => DataFault::Memory,
+        _ => return None,
+    })
+}
+
+// fault | section | index | key | text
+const DATA_FAULTS: &str = "\
+    missing | root | 0 | 1 | bad data: missing version
+    missing | root | 0 | 5 | bad data: missing authority
+    missing | train | 0 | 1 | bad data: missing train.length
+    missing | train | 0 | 9 | bad data: missing train.band
+    missing | band | 2 | 8 | bad data: missing train.band[2].kn_down
+    missing | national | 0 | 6 | bad data: missing national.inhibit_under_reading
+    missing | authority | 0 | 6 | bad data: missing authority.speed
+    unknown key | root | 0 | 0 | bad data: unknown key in root
+    unknown key | train | 0 | 0 | bad data: unknown key in train
+    unknown key | band | 1 | 0 | bad data: unknown key in train.band[1]
+    unknown key | national | 0 | 0 | bad data: unknown key in national
+    unknown key | track | 0 | 0 | bad data: unknown key in track
+    unknown key | gradient | 512 | 0 | bad data: unknown key in track.gradient[512]
+    unknown key | speed | 10 | 0 | bad data: unknown key in track.speed[10]
+    unknown key | adhesion | 4294967295 | 0 | bad data: unknown key in track.adhesion[4294967295]
+    unknown key | authority | 0 | 0 | bad data: unknown key in authority
+    wrong kind | train | 0 | 5 | bad data: wrong kind train.traction_cutoff_interface
+    wrong kind | track | 0 | 2 | bad data: wrong kind track.gradient
+    wrong kind | speed | 3 | 3 | bad data: wrong kind track.speed[3].delayed
+    value | root | 0 | 1 | bad data: value version
+    value | authority | 0 | 2 | bad data: value authority.eoa
+    train value | train | 0 | 7 | bad data: value train.service_time
+    train value | train | 2 | 1 | bad data: value train.band[2].upper
+    band order | train | 2 | 0 | bad data: band order train.band[2]
+    band count | train | 0 | 0 | bad data: band count
+    national value | national | 0 | 1 | bad data: value national.avadh
+    track value | track | 0 | 1 | bad data: value track.length
+    track value | gradient | 1 | 2 | bad data: value track.gradient[1].grad
+    track value | adhesion | 64 | 2 | bad data: value track.adhesion[64].end
+    count | gradient | 0 | 0 | bad data: count track.gradient
+    count | speed | 0 | 0 | bad data: count track.speed
+    count | adhesion | 0 | 0 | bad data: count track.adhesion
+    order | gradient | 2 | 0 | bad data: order track.gradient[2]
+    order | speed | 128 | 0 | bad data: order track.speed[128]
+    order | adhesion | 3 | 0 | bad data: order track.adhesion[3]
+    gap | gradient | 0 | 0 | bad data: gap track.gradient
+    gap | speed | 0 | 0 | bad data: gap track.speed
+    missing | train | 0 | 77 | bad data: missing train
+    missing | root | 0 | 77 | bad data: missing root
+    wrong kind | band | 7 | 77 | bad data: wrong kind train.band[7]
+    value | authority | 0 | 0 | bad data: value authority
+    memory | root | 0 | 0 | no memory";
+
+#[test]
+fn each_fault_of_the_data_has_its_line(rt: HostRuntime) -> Result<(), Fail> {
+    let alloc = rt.alloc();
+    for line in DATA_FAULTS.lines() {
+        let fields = fields_of(alloc, line)?;
+        let [kind, section, index, key, text] = fields.as_slice() else {
+            return Err("no row".into());
+        };
+        let section = section_of(section).ok_or("no section")?;
+        let fault = data_fault_of(kind, section, index.parse::<u32>()?, key.parse::<u8>()?);
+        let outcome = Outcome::BadData(InputFault::Data(fault.ok_or("no fault")?));
+        let wanted = format!(in alloc; "sdm: {text}\n")?;
+        assert!(rt; line_of(outcome).bytes() == wanted.as_bytes(), "{line}");
+        assert_eq!(rt; outcome.code(), 5);
+    }
+    Ok(())
+}
+
+// The refusal of an opening: of a kind of slope with its band and cell, of an authority, or want of memory.
+fn open_fault_of(fault: &str, kind: &str, band: u32, cell: i32) -> Option<OpenFault> {
+    let kind = match kind {
+        "expected" => SlopeKind::Expected,
+        "normal" => SlopeKind::Normal,
+        _ => SlopeKind::Safe,
+    };
+    Some(match fault {
+        "too weak" => OpenFault::TooWeak {
+            kind,
+            band,
+            cell,
+            slope: 7,
+        },
+        "too varied" => OpenFault::TooVaried {
+            kind,
+            band,
+            least: 7,
+            greatest: 8,
+        },
+        "before end" => OpenFault::BadAuthority(AuthorityFault::SvlBeforeEoa),
+        "beyond track" => OpenFault::BadAuthority(AuthorityFault::BeyondTrack),
+        "bad speed" => OpenFault::BadAuthority(AuthorityFault::BadSpeed),
+        "memory" => OpenFault::Memory,
+        _ => return None,
+    })
+}
+
+// fault | kind | band | cell | text
+const OPEN_FAULTS: &str = "\
+    too weak | safe | 1 | 90000 | refused: too weak: safe band 1 cell 90000
+    too weak | expected | 8 | 0 | refused: too weak: expected band 8 cell 0
+    too weak | normal | 2 | -1 | refused: too weak: normal band 2 cell -1
+    too weak | expected | 4294967295 | -2147483648 | refused: too weak: expected band 4294967295 cell -2147483648
+    too varied | safe | 1 | 0 | refused: too varied: safe band 1
+    too varied | expected | 10 | 0 | refused: too varied: expected band 10
+    too varied | normal | 4294967295 | 0 | refused: too varied: normal band 4294967295
+    before end | - | 0 | 0 | refused: supervised location before end
+    beyond track | - | 0 | 0 | refused: beyond track
+    bad speed | - | 0 | 0 | refused: bad speed
+    memory | - | 0 | 0 | no memory";
+
+#[test]
+fn each_refusal_of_an_opening_has_its_line(rt: HostRuntime) -> Result<(), Fail> {
+    let alloc = rt.alloc();
+    for line in OPEN_FAULTS.lines() {
+        let fields = fields_of(alloc, line)?;
+        let [fault, kind, band, cell, text] = fields.as_slice() else {
+            return Err("no row".into());
+        };
+        let fault = open_fault_of(fault, kind, band.parse::<u32>()?, cell.parse::<i32>()?);
+        let outcome = Outcome::Refused(fault.ok_or("no fault")?);
+        let wanted = format!(in alloc; "sdm: {text}\n")?;
+        assert!(rt; line_of(outcome).bytes() == wanted.as_bytes(), "{line}");
+        assert_eq!(rt; outcome.code(), 6);
+    }
+    Ok(())
+}
+
+// The cause that a text tells.
+fn cause_of(text: &str) -> Option<EventCause> {
+    Some(match text {
+        "unknown kind" => EventCause::Form(EventFault::UnknownKind),
+        "field count" => EventCause::Form(EventFault::FieldCount),
+        "field 8: not a number" => EventCause::Form(EventFault::Field {
+            column: 8,
+            fault: FieldFault::NotNumber,
+        }),
+        "field 4294967295: out of range" => EventCause::Form(EventFault::Field {
+            column: u32::MAX,
+            fault: FieldFault::OutOfRange,
+        }),
+        "too many events" => EventCause::Form(EventFault::TooMany),
+        "supervised location before end" => EventCause::Authority(AuthorityFault::SvlBeforeEoa),
+        "beyond track" => EventCause::Authority(AuthorityFault::BeyondTrack),
+        "bad speed" => EventCause::Authority(AuthorityFault::BadSpeed),
+        "too many restrictions" => EventCause::Restrict(RestrictFault::Full),
+        "identity in use" => EventCause::Restrict(RestrictFault::IdInUse { id: 7 }),
+        "restriction value" => EventCause::Restrict(RestrictFault::Value),
+        "identity unknown" => EventCause::Revoke(RevokeFault::Unknown { id: 7 }),
+        "time back" => EventCause::TimeBack { last: 5, time: 4 },
+        "line" => EventCause::Line,
+        _ => return None,
+    })
+}
+
+const CAUSES: &str = "\
+    unknown kind
+    field count
+    field 8: not a number
+    field 4294967295: out of range
+    too many events
+    supervised location before end
+    beyond track
+    bad speed
+    too many restrictions
+    identity in use
+    restriction value
+    identity unknown
+    time back
+    line";
+
+#[test]
+fn each_cause_has_its_text(rt: HostRuntime) -> Result<(), Fail> {
+    let alloc = rt.alloc();
+    for line in CAUSES.lines() {
+        let text = line.trim();
+        let outcome = Outcome::BadEvent {
+            number: u32::MAX,
+            cause: cause_of(text).ok_or("no cause")?,
+        };
+        let wanted = format!(in alloc; "sdm: bad event 4294967295: {text}\n")?;
+        assert!(rt; line_of(outcome).bytes() == wanted.as_bytes(), "{text}");
+    }
+    Ok(())
+}
+
+#[test]
+fn each_outcome_has_its_code_and_its_line(rt: HostRuntime) {
+    let refused_line = Outcome::BadEvent {
+        number: 2,
+        cause: EventCause::Line,
+    };
+    let outcomes = [
+        (Outcome::Done, 0, ""),
+        (Outcome::Usage, 1, "sdm: bad words\n"),
+        (Outcome::ReadFault, 2, "sdm: read fault\n"),
+        (Outcome::WriteFault, 3, "sdm: write fault\n"),
+        (Outcome::TooLong, 4, "sdm: input too long\n"),
+        (
+            Outcome::BadData(InputFault::NoSplit),
+            5,
+            "sdm: bad data: no %% line\n",
+        ),
+        (
+            Outcome::BadData(InputFault::Toml),
+            5,
+            "sdm: bad data: not TOML\n",
+        ),
+        (refused_line, 7, "sdm: bad event 2: line\n"),
+        (Outcome::Memory, 8, "sdm: no memory\n"),
+    ];
+    for (outcome, code, line) in outcomes {
+        assert_eq!(rt; outcome.code(), code);
+        assert!(rt; line_of(outcome).bytes() == line.as_bytes());
+    }
+}

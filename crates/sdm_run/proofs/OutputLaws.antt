@@ -1,0 +1,15 @@
+-- Each command has one output for all bytes: that of `flat` by its definition, that of `run` since an input has one run.
+use Rattle.std.proofs.Common.{◌≡◌, ℕ, List, refl}
+use Rattle.sdm_rules.specs.Flat.{Output, flat_output}
+use Rattle.sdm_laws.proofs.OneRun.{one_run}
+use Rattle.sdm_run.specs.declared.words.Command.{Command}
+use Rattle.sdm_run.specs.declared.words.Command.TheVariants.{Flat, Run}
+use Rattle.sdm_run.specs.Commands.{HasOneOutput, within_limit}
+use Rattle.sdm_run.specs.Journeys.{run_reader}
+use Rattle.sdm_run.proofs.RunAnswers.{output_by, only_output}
+
+pub one_output : (command : Command) (bytes : List ℕ) → HasOneOutput command bytes
+one_output (Flat decel end) bytes = record { output = within_limit bytes (flat_output decel end bytes); is = refl; only = λ other is. is }
+one_output Run bytes =
+    let one = one_run run_reader bytes in
+    record { output = output_by one.rows one.end; is = record { rows = one.rows; run = one.is; text_is = refl }; only = λ other is. only_output bytes one.rows one.end one.is other is }

@@ -1,0 +1,141 @@
+-- What the parts of `run` say makes the output of the whole: an input has one run, so it is enough to name one.
+use Rattle.std.proofs.Common.{◌≡◌, ℕ, ◌≤◌, ◌<◌, true, false, List, [], Option, Some, None, take, drop, length, nat_lt, inl, inr, refl, ap, ◌∙◌, sym, subst, arith}
+use Rattle.std.specs.Prelude.{Ok, Err}
+use Rattle.std.proofs.lemmas.Bool.Decides.{nat_tests}
+use Rattle.std.specs.Io.KnownBytes.{Appends}
+use Rattle.std.proofs.KnownBytes.{Appends-nil}
+use Rattle.toml.specs.Data.{Members}
+use Rattle.sdm_rules.specs.declared.rows.Row.{Row}
+use Rattle.sdm_rules.specs.declared.authorities.Authority.{Authority}
+use Rattle.sdm_rules.specs.Data.{LineData}
+use Rattle.sdm_rules.specs.Flat.{Output}
+use Rattle.sdm_rules.specs.Forms.{event_of}
+use Rattle.sdm_rules.specs.Input.{most_bytes, End, IsRun, IsAfterDivision}
+use Rattle.sdm_rules.specs.Input as ends
+use Rattle.sdm_rules.specs.Machines.{InOrder}
+use Rattle.sdm_rules.specs.Opening.{IsOpen, IsOpenFault}
+use Rattle.sdm_rules.specs.Records.{journey_from}
+use Rattle.sdm_rules.specs.Supervision.{Supervision, opening}
+use Rattle.sdm_rules.specs.Text.{run_text}
+use Rattle.sdm_laws.proofs.OneRun.{one_run}
+use Rattle.sdm_report.specs.declared.outcome.InputFault.TheVariants.{NoSplit, Toml, Data}
+use Rattle.sdm_report.specs.declared.outcome.Outcome.{Outcome}
+use Rattle.sdm_report.specs.declared.outcome.Outcome.TheVariants.{Done, Usage, ReadFault, WriteFault, TooLong, BadData, Refused, BadEvent, Memory}
+use Rattle.sdm_data.specs.Division.{divide}
+use Rattle.sdm_events.specs.Journey.{Record, records_of}
+use Rattle.sdm_run.specs.Answers.{ComesBefore, ComesFirst, IsAnswer, IsRecordsOutcome}
+use Rattle.sdm_run.specs.Journeys.{run_reader, output_of_records, IsRunOutput}
+use Rattle.sdm_run.specs.RunParts.{IsDataOf, IsOpeningOf, IsRefusedBy}
+use Rattle.sdm_run.specs.RunTurns.{AreRunRowsSafe}
+use Rattle.sdm_run.proofs.RunTurnLaws.{rows_of_turns}
+use Rattle.sdm_run.proofs.RunData.{opening_open}
+
+-- the output of rows and an end
+abbrev pub output_by : List Row → End → Output
+output_by rows end = record { text = run_text rows; end = end }
+
+-- an output of the input is that of any rows and end that are its run
+pub only_output : (bytes : List ℕ) (rows : List Row) (end : End) → IsRun run_reader bytes rows end → (output : Output) → IsRunOutput bytes output → output ≡ output_by rows end
+only_output bytes rows end run output is =
+    let one = one_run run_reader bytes in
+    let mine = one.only rows end run in
+    let its = one.only is.rows output.end is.run in
+    λ k. record { text = (is.text_is ∙ ap run_text (its.0 ∙ sym mine.0)) k; end = (its.1 ∙ sym mine.1) k }
+
+-- what answers the output of one run answers each output
+pub answers_all : (bytes : List ℕ) (rows : List Row) (end : End) (old new : Option (List ℕ)) (outcome : Outcome) → IsRun run_reader bytes rows end → IsAnswer (output_by rows end) old new outcome →
+    (output : Output) → IsRunOutput bytes output → IsAnswer output old new outcome
+answers_all bytes rows end old new outcome run answer output is = subst (λ (o : Output). IsAnswer o old new outcome) (sym (only_output bytes rows end run output is)) answer
+
+-- ---- the limit
+
+pub run_too_long : (bytes : List ℕ) (old : Option (List ℕ)) → most_bytes < length bytes → (output : Output) → IsRunOutput bytes output → IsAnswer output old old TooLong
+run_too_long bytes old long =
+    let yes : nat_lt most_bytes (length bytes) ≡ true = grind (arith, nat_tests) in
+    answers_all bytes [] ends.TooLong old old TooLong (rw yes (refl, refl)) (record { ended = inl refl; taken = Appends-nil old })
+
+-- an input within the limit has the run of its parts
+pub run_of_parts : (bytes : List ℕ) (rows : List Row) (end : End) → length bytes ≤ most_bytes → IsAfterDivision run_reader rows end bytes (divide bytes) → IsRun run_reader bytes rows end
+run_of_parts bytes rows end short parts =
+    let no : nat_lt most_bytes (length bytes) ≡ false = grind (arith, nat_tests) in rw no parts
+
+-- ---- the data part
+
+-- no dividing line
+pub no_split : (bytes : List ℕ) (old : Option (List ℕ)) → length bytes ≤ most_bytes → divide bytes ≡ None → (output : Output) → IsRunOutput bytes output → IsAnswer output old old (BadData NoSplit)
+no_split bytes old short none = answers_all bytes [] ends.NoSplit old old (BadData NoSplit) (run_of_parts bytes [] ends.NoSplit short (rw none (refl, refl))) (record { ended = inl refl; taken = Appends-nil old })
+
+-- want of memory before the first row
+memory_first : (old : Option (List ℕ)) (output : Output) → IsAnswer output old old Memory
+memory_first old output = record { ended = inr (inr (inr refl)); taken = record { front = []; rest = output.text; parts = refl; whole_lines = inl refl; taken = Appends-nil old } }
+
+-- a data part that opens no supervisor
+pub refused : (bytes : List ℕ) (data_end start : ℕ) (old : Option (List ℕ)) (outcome : Outcome) → length bytes ≤ most_bytes → divide bytes ≡ Some (data_end, start) → IsRefusedBy (take data_end bytes) outcome →
+    (output : Output) → IsRunOutput bytes output → IsAnswer output old old outcome
+refused bytes data_end start old (BadData Toml) short cut none =
+    answers_all bytes [] ends.Toml old old (BadData Toml) (run_of_parts bytes [] ends.Toml short (rw (cut, none) (refl, refl))) (record { ended = inl refl; taken = Appends-nil old })
+refused bytes data_end start old (BadData (Data fault)) short cut (known, table, document, read) =
+    answers_all bytes [] (ends.Data fault) old old (BadData (Data fault)) (run_of_parts bytes [] (ends.Data fault) short (rw (cut, document, read) (refl, refl))) (record { ended = inl refl; taken = Appends-nil old })
+refused bytes data_end start old (Refused fault) short cut (known, line, a, given, first) =
+    answers_all bytes [] (ends.Refused fault) old old (Refused fault) (run_of_parts bytes [] (ends.Refused fault) short (rw (cut, given.document, given.read) (inr (fault, first, refl, refl)))) (record { ended = inl refl; taken = Appends-nil old })
+refused bytes data_end start old Memory short cut free = λ output is. memory_first old output
+refused bytes data_end start old Done short cut none = absurd none
+refused bytes data_end start old Usage short cut none = absurd none
+refused bytes data_end start old ReadFault short cut none = absurd none
+refused bytes data_end start old WriteFault short cut none = absurd none
+refused bytes data_end start old TooLong short cut none = absurd none
+refused bytes data_end start old (BadData NoSplit) short cut none = absurd none
+refused bytes data_end start old (BadEvent number cause) short cut none = absurd none
+
+-- ---- the records
+
+-- the records of an input whose data part opens a supervisor
+pub recorded : (bytes : List ℕ) (data_end start : ℕ) (s : Supervision) (old new : Option (List ℕ)) (outcome : Outcome) → length bytes ≤ most_bytes → divide bytes ≡ Some (data_end, start) →
+    IsOpeningOf (take data_end bytes) s → IsAnswer (output_of_records 1 s (records_of (drop start bytes))) old new outcome → (output : Output) → IsRunOutput bytes output → IsAnswer output old new outcome
+recorded bytes data_end start s old new outcome short cut is answer =
+    let journey = journey_from event_of 1 (opening is.line is.authority) (records_of (drop start bytes)) in
+    let run = run_of_parts bytes journey.rows (ends.end_of_journey journey.refused) short (rw (cut, is.given.document, is.given.read) (inl (record { accepted = is.accepted; rows_are = refl; end_is = refl }))) in
+    answers_all bytes journey.rows (ends.end_of_journey journey.refused) old new outcome run (subst (λ (t : Supervision). IsAnswer (output_of_records 1 t (records_of (drop start bytes))) old new outcome) is.state answer)
+
+-- ---- the rows
+
+-- the rows of an input are those of turns, each of which is safe
+pub run_rows_safe : (bytes : List ℕ) → AreRunRowsSafe bytes
+run_rows_safe bytes ends s cut is =
+    rows_of_turns event_of 1 s false false (records_of (drop ends.1 bytes)) (opening_open (take ends.0 bytes) s is)
+    (rw is.state (record { needed = λ h. h; allowed = λ h. h }))
+
+-- ---- no outcome of these comes before the bytes are answered
+
+pub refused_not_before : (bytes : List ℕ) (outcome : Outcome) → IsRefusedBy bytes outcome → ComesBefore outcome → ⊥
+refused_not_before bytes Done h b = b
+refused_not_before bytes Usage h b = h
+refused_not_before bytes ReadFault h b = h
+refused_not_before bytes WriteFault h b = b
+refused_not_before bytes TooLong h b = h
+refused_not_before bytes (BadData fault) h b = b
+refused_not_before bytes (Refused fault) h b = b
+refused_not_before bytes (BadEvent number cause) h b = b
+refused_not_before bytes Memory h b = b
+
+pub records_not_before : (outcome : Outcome) → IsRecordsOutcome outcome → ComesBefore outcome → ⊥
+records_not_before Done h b = b
+records_not_before Usage h b = h
+records_not_before ReadFault h b = h
+records_not_before WriteFault h b = b
+records_not_before TooLong h b = h
+records_not_before (BadData fault) h b = b
+records_not_before (Refused fault) h b = b
+records_not_before (BadEvent number cause) h b = b
+records_not_before Memory h b = b
+
+pub flat_not_before : (outcome : Outcome) → (ComesFirst outcome → ⊥) → ComesBefore outcome → ⊥
+flat_not_before Done h b = b
+flat_not_before Usage h b = h b
+flat_not_before ReadFault h b = h b
+flat_not_before WriteFault h b = b
+flat_not_before TooLong h b = h b
+flat_not_before (BadData fault) h b = b
+flat_not_before (Refused fault) h b = b
+flat_not_before (BadEvent number cause) h b = b
+flat_not_before Memory h b = b

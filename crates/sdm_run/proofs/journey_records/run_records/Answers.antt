@@ -1,0 +1,22 @@
+-- Each turn takes the first record that is left, or ends the run with the outcome of what is left.
+use Rattle.std.proofs.Common.{◌≡◌, suc, ◌+◌, Bool, Ok, ap, subst, ◌∙◌, arith}
+use Rattle.std.specs.Prelude.{Result}
+use Rattle.sdm_report.specs.declared.outcome.Outcome.{Outcome}
+use Rattle.sdm_run.specs.RunParts.{IsTurn}
+use Rattle.sdm_run.proofs.RunTexts.{took_more, cut_off}
+use Rattle.sdm_run.proofs.journey_records.run_records.Goals as goal
+
+pub records-preserved : goal.records-preserved
+records-preserved g c =
+    let step = subst (λ (r : Result Bool Outcome). IsTurn (g.O.Sink.taken c.records.out) (g.O.Sink.taken c.turn.new.out) c.records.number c.records.supervisor c.turn.new.supervisor c.records.records c.turn.new.records r)
+    (c.in-Ok-true.is ∙ ap Ok c.in-Ok-true.field-0-test) c.turn.ensures.turn in
+    let one : c.records.number + 1 ≡ suc c.records.number = omega arith in
+    record {
+      left = rw one (took_more _ _ _ _ _ _ _ c.records.invariant.left _ _ step);
+      from_1 = omega arith;
+      counted = omega (arith, step.counted);
+      later = omega (arith, c.records.invariant.later, c.turn.ensures.later);
+    }
+
+pub returns-in-Err-clause-answer : goal.returns-in-Err-clause-answer
+returns-in-Err-clause-answer g c = cut_off _ _ _ _ _ _ _ c.records.invariant.left c.in-Err.outcome c.in-Err.ensures.possible c.in-Err.ensures.turn

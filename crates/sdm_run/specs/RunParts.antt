@@ -1,0 +1,75 @@
+-- What the parts of `run` say: of the data part, and of one record after the other (own).
+use Rattle.std.specs.Prelude.{◌≡◌, ◌≢◌, ◌≤◌, ◌<◌, ℕ, suc, Bool, true, false, List, [], ◌++◌, Option, Some, None, Result, Ok, Err, length, ⊤}
+use Rattle.std.specs.Io.KnownBytes.{Appends}
+use Rattle.toml.specs.Data.{Members}
+use Rattle.sdm_rules.specs.declared.authorities.Authority.{Authority}
+use Rattle.sdm_rules.specs.declared.faults.DataFault.TheVariants as data_faults
+use Rattle.sdm_rules.specs.declared.faults.OpenFault.TheVariants as open_faults
+use Rattle.sdm_rules.specs.declared.rows.Row.{Row}
+use Rattle.sdm_rules.specs.Data.{LineData}
+use Rattle.sdm_rules.specs.Opening.{IsAccepted, IsOpenFault}
+use Rattle.sdm_rules.specs.Records.{most_records}
+use Rattle.sdm_rules.specs.Supervision.{Supervision, opening}
+use Rattle.sdm_rules.specs.Text.{row_text}
+use Rattle.sdm_report.specs.declared.outcome.InputFault.TheVariants.{NoSplit, Toml, Data}
+use Rattle.sdm_report.specs.declared.outcome.Outcome.{Outcome}
+use Rattle.sdm_report.specs.declared.outcome.Outcome.TheVariants.{Done, Usage, ReadFault, WriteFault, TooLong, BadData, Refused, BadEvent, Memory}
+use Rattle.sdm_data.specs.Document.{document_of}
+use Rattle.sdm_data.specs.Journey.{data_of}
+use Rattle.sdm_events.specs.Journey.{Record}
+use Rattle.sdm_run.specs.Answers.{IsAnswer, AreWholeLines}
+use Rattle.sdm_run.specs.Journeys.{output_of_records}
+
+-- ---- the data part
+
+-- the data part is a document with these data, which break no rule (own)
+pub record IsDataOf (bytes : List ℕ) (line : LineData) (a : Authority) : Type 0 where
+  pub members : Members
+  pub document : document_of bytes ≡ Some members
+  pub read : data_of members ≡ Ok (line, a)
+
+-- and they open this supervision state (own)
+pub record IsOpeningOf (bytes : List ℕ) (s : Supervision) : Type 0 where
+  pub line : LineData
+  pub authority : Authority
+  pub given : IsDataOf bytes line authority
+  pub accepted : IsAccepted line authority
+  pub state : s ≡ opening line authority
+
+-- the outcome of a data part that opens none: no document, the first rule that is broken, or the first fault of the opening; want
+-- of memory may come at any time (own)
+abbrev pub IsRefusedBy : List ℕ → Outcome → Type 0
+IsRefusedBy bytes Done = ⊥
+IsRefusedBy bytes Usage = ⊥
+IsRefusedBy bytes ReadFault = ⊥
+IsRefusedBy bytes WriteFault = ⊥
+IsRefusedBy bytes TooLong = ⊥
+IsRefusedBy bytes (BadData NoSplit) = ⊥
+IsRefusedBy bytes (BadData Toml) = document_of bytes ≡ None
+IsRefusedBy bytes (BadData (Data fault)) = (fault ≢ data_faults.Memory) × (members : Members) × (document_of bytes ≡ Some members) × (data_of members ≡ Err fault)
+IsRefusedBy bytes (Refused fault) = (fault ≢ open_faults.Memory) × (line : LineData) × (a : Authority) × IsDataOf bytes line a × IsOpenFault line a fault
+IsRefusedBy bytes (BadEvent number cause) = ⊥
+IsRefusedBy bytes Memory = ⊤
+
+-- ---- the records
+
+-- the text of a record: that of its row, where it is a reading (own)
+abbrev pub text_of : Option Row → List ℕ
+text_of None = []
+text_of (Some row) = row_text row
+
+-- The record of the number `n` was taken, and its row was written: what it and the records after it define is its text and what
+-- these define from the next state on (own).
+pub record TakesRecord (old new : Option (List ℕ)) (n : ℕ) (s t : Supervision) (records more : List Record) : Type 0 where
+  pub text : List ℕ
+  pub first : output_of_records n s records ≡ record { text = text ++ (output_of_records (suc n) t more).text; end = (output_of_records (suc n) t more).end }
+  pub whole_lines : AreWholeLines text
+  pub taken : Appends old new text
+  pub counted : n ≤ most_records
+  pub fewer : length more < length records
+
+-- what the answer of a turn says: a record was taken, none was left, or the run ends (own)
+abbrev pub IsTurn : Option (List ℕ) → Option (List ℕ) → ℕ → Supervision → Supervision → List Record → List Record → Result Bool Outcome → Type 0
+IsTurn old new n s t records more (Ok true) = TakesRecord old new n s t records more
+IsTurn old new n s t records more (Ok false) = (records ≡ []) × (new ≡ old)
+IsTurn old new n s t records more (Err outcome) = IsAnswer (output_of_records n s records) old new outcome

@@ -1,0 +1,146 @@
+//! The records of `run`: each is taken, and its row written, before the next one is read.
+
+ghost use Rattle.std.specs.Prelude.{◌≡◌, ◌≤◌, Ok, Err, IfOk, IfErr, OnOk, OnErr};
+ghost use Rattle.std.specs.Io.KnownBytes.{Appends};
+ghost use Rattle.csv.specs.Records.{fields_of};
+ghost use Rattle.sdm_io.specs.Causes.{HasCause, Rose};
+ghost use Rattle.sdm_io.specs.Told.{AppendsPart};
+ghost use Rattle.sdm_rules.specs.Forms.{event_of};
+ghost use Rattle.sdm_rules.specs.Records.{event_at, most_records, step, step_of};
+ghost use Rattle.sdm_events.specs.Journey.{IsInForm, records_of};
+ghost use Rattle.sdm_rules.specs.declared.records.Event.TheVariants as record_kinds;
+ghost use Rattle.sdm_run.specs.Answers.{IsAnswer, IsRecordsOutcome};
+ghost use Rattle.sdm_run.specs.Journeys.{output_of_records};
+ghost use Rattle.sdm_run.specs.RunParts.{IsTurn, text_of};
+
+use sdm_events::{ByteRecord, Event, EventFault, Records, event_of};
+use sdm_io::{Failed, Sink, write_piece};
+use sdm_num::{NoMemory, Reading};
+use sdm_report::{EventCause, Outcome, row_bytes};
+use sdm_rules::{Authority, Restriction};
+use sdm_supervisor::{CycleFault, Row, Supervisor};
+use sdm_text::RowBuf;
+use std::alloc::Global;
+
+/// The most records of a journey. (own)
+const MOST_RECORDS: u32 = 100_000;
+
+// Takes a reading: its row.
+#[tactic(auto, unfolding(sdm_rules::specs::Records::step))]
+fn take_reading(supervisor: &mut Supervisor, reading: &Reading) -> Result<Option<Row>, EventCause>
+    ensures accepted { IfOk result (λ row. step supervisor.old (record_kinds.Read reading.now) ≡ Ok (record { after = supervisor.new; row = row })) }
+    ensures refused { IfErr result (λ cause. step supervisor.old (record_kinds.Read reading.now) ≡ Err cause) }
+{
+    match supervisor.cycle(reading) {
+        Ok(row) => Ok(Some(row)),
+        Err(CycleFault::TimeBack { last, time }) => Err(EventCause::TimeBack { last, time }),
+    }
+}
+
+// Takes an event: its row, where it is a reading.
+#[tactic(auto, unfolding(sdm_rules::specs::Records::step))]
+fn take_event(supervisor: &mut Supervisor, event: Event) -> Result<Option<Row>, EventCause>
+    requires { IsInForm event }
+    ensures accepted { IfOk result (λ row. step supervisor.old event ≡ Ok (record { after = supervisor.new; row = row })) }
+    ensures refused { IfErr result (λ cause. step supervisor.old event ≡ Err cause) }
+{
+    match event {
+        Event::Read(reading) => take_reading(supervisor, &reading),
+        Event::Authority(a) => match supervisor.authority(a) {
+            Ok(()) => Ok(None),
+            Err(fault) => Err(EventCause::Authority(fault)),
+        },
+        Event::Restrict(r) => match supervisor.restrict(r) {
+            Ok(()) => Ok(None),
+            Err(fault) => Err(EventCause::Restrict(fault)),
+        },
+        Event::Revoke { id } => match supervisor.revoke(id) {
+            Ok(()) => Ok(None),
+            Err(fault) => Err(EventCause::Revoke(fault)),
+        },
+    }
+}
+
+// Takes the record of a number, which counts from 1: its row, where it is a reading.
+fn take_record(
+    supervisor: &mut Supervisor,
+    number: u32,
+    record: &ByteRecord,
+) -> Result<Option<Row>, EventCause>
+    ensures accepted { IfOk result (λ row. step_of supervisor.old (event_at event_of number (fields_of record.now)) ≡ Ok (record { after = supervisor.new; row = row })) }
+    ensures counted { OnOk result (number ≤ most_records) }
+    ensures refused { IfErr result (λ cause. step_of supervisor.old (event_at event_of number (fields_of record.now)) ≡ Err cause) }
+{
+    if MOST_RECORDS < number {
+        return Err(EventCause::Form(EventFault::TooMany));
+    }
+    match event_of(record) {
+        Ok(event) => take_event(supervisor, event),
+        Err(fault) => Err(EventCause::Form(fault)),
+    }
+}
+
+// Writes a row, where there is one.
+fn write_row<O: Sink>(row: Option<Row>, out: &mut O) -> Result<(), Failed>
+    ensures ok { OnOk result (Appends (O.taken out.old) (O.taken out.new) (text_of row)) }
+    ensures err { OnErr result (AppendsPart (O.taken out.old) (O.taken out.new) (text_of row)) }
+    ensures cause { HasCause (O.faults out.old) (O.faults out.new) result }
+{
+    let mut text = RowBuf::new();
+    if let Some(row) = row {
+        row_bytes(&row, &mut text);
+    }
+    write_piece(out, text.bytes())
+}
+
+// Takes the next record, which has this number, and writes its row: true. False where no record is left. Else the outcome that the
+// run ends with.
+fn turn<O: Sink>(
+    supervisor: &mut Supervisor,
+    records: &mut Records<'_>,
+    record: &mut ByteRecord,
+    number: u32,
+    out: &mut O,
+) -> Result<bool, Outcome>
+    requires { 1 ≤ number }
+    ensures turn { IsTurn (O.taken out.old) (O.taken out.new) number supervisor.old supervisor.new records.old records.new result }
+    ensures later { O.faults out.old ≤ O.faults out.new }
+    ensures write { result ≡ Err Outcome.WriteFault → Rose (O.faults out.old) (O.faults out.new) }
+    ensures possible { IfErr result IsRecordsOutcome }
+{
+    match records.next(record) {
+        Ok(true) => {}
+        Ok(false) => return Ok(false),
+        Err(NoMemory) => return Err(Outcome::Memory),
+    }
+    match take_record(supervisor, number, record) {
+        Ok(row) => match write_row(row, out) {
+            Ok(()) => Ok(true),
+            Err(_) => Err(Outcome::WriteFault),
+        },
+        Err(cause) => Err(Outcome::BadEvent { number, cause }),
+    }
+}
+
+/// Answers the records of these bytes, from a supervision state on. WriteFault comes only where out failed. (own)
+pub fn run_records<O: Sink>(
+    alloc: Global,
+    supervisor: &mut Supervisor,
+    bytes: &[u8],
+    out: &mut O,
+) -> Outcome
+    ensures answer { IsAnswer (output_of_records 1 supervisor.old (records_of bytes.now)) (O.taken out.old) (O.taken out.new) result }
+    ensures write { result ≡ Outcome.WriteFault → Rose (O.faults out.old) (O.faults out.new) }
+    ensures possible { IsRecordsOutcome result }
+{
+    let mut records = Records::begin(alloc, bytes);
+    let mut record = ByteRecord::new(alloc);
+    let mut number = 1u32;
+    'records: loop {
+        match turn(supervisor, &mut records, &mut record, number, out) {
+            Ok(true) => number += 1,
+            Ok(false) => return Outcome::Done,
+            Err(outcome) => return outcome,
+        }
+    }
+}

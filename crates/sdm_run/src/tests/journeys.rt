@@ -1,0 +1,93 @@
+//! Journeys of `run`, worked by hand.
+
+/// A train of 100 m on level track that brakes with 1 m/s² at once, with an EOA and SvL at 1000 m.
+pub const BASE: &str = r#"version = 1
+
+[train]
+length = 10000
+max_speed = 160
+rotating_mass = 0
+traction_cutoff_time = 0
+traction_cutoff_interface = false
+emergency_time = 0
+service_time = 0
+service_brake = true
+
+[[train.band]]
+emergency = 100
+service = 100
+normal = 100
+kdry = 1000
+kwet = 1000
+kn_up = 0
+kn_down = 0
+
+[national]
+avadh = 20
+adhesion_max = 70
+guidance = false
+service_in_target = true
+early_release = false
+inhibit_under_reading = false
+
+[track]
+length = 200000
+
+[[track.speed]]
+start = 0
+speed = 160
+
+[authority]
+kind = "end"
+eoa = 100000
+svl = 100000"#;
+
+/// What the base data have otherwise | records | rows | code | line
+pub const RUNS: &str =
+    r#"- | read,0,799990,799990,799990,20000,0,0/ | 0,T,W,1,0,0,1,160,800000,800000,760000,720000,540000/ | 0 | -
+- | read,0,800000,800000,800000,20000,0,0/ | 0,T,W,1,0,0,1,160,800000,800000,760000,720000,540000/ | 0 | -
+- | read,0,800010,800010,800010,20000,0,0/ | 0,T,X,1,1,1,0,160,800000,800000,760000,720000,540000/ | 0 | -
+- | read,0,800010,800010,800010,20000,0,0/read,10,810000,810000,810000,15000,0,0/read,50,900000,900000,900000,0,0,0/ | 0,T,X,1,1,1,0,160,800000,800000,760000,720000,540000/10,T,X,0,0,1,1,160,887500,887500,857500,827500,692500/50,C,N,0,0,0,1,160,1000000,1000000,1000000,1000000,1000000/ | 0 | -
+early_release = false > early_release = true | read,0,800010,800010,800010,20000,0,0/read,10,810000,810000,810000,15000,0,0/read,50,900000,900000,900000,0,0,0/ | 0,T,X,1,1,1,0,160,800000,800000,760000,720000,540000/10,T,I,0,0,0,1,160,887500,887500,857500,827500,692500/50,C,N,0,0,0,1,160,1000000,1000000,1000000,1000000,1000000/ | 0 | -
+emergency_time = 0 > emergency_time = 20 | read,0,760000,760000,760000,20000,0,0/ | 0,T,W,1,0,0,1,160,760000,760000,720000,680000,500000/ | 0 | -
+traction_cutoff_time = 0 > traction_cutoff_time = 10; emergency_time = 0 > emergency_time = 30 | read,0,711105,711105,711105,20000,50,0/ | 0,T,W,1,0,0,1,160,711105,711105,671105,631105,451105/ | 0 | -
+rotating_mass = 0 > rotating_mass = 9; [[track.speed]] > [[track.gradient]]/start = 0/grad = -10/[[track.speed]] | read,0,500000,500000,500000,20000,0,0/ | 0,C,N,0,0,0,1,160,780219,780219,740219,700219,520219/ | 0 | -
+emergency_time = 0 > emergency_time = 20; service_time = 0 > service_time = 30 | read,0,430000,430000,430000,20000,0,0/ | 0,C,N,0,0,0,1,160,760000,700000,660000,620000,440000/ | 0 | -
+eoa = 100000 > eoa = 200000; svl = 100000 > svl = 200000; emergency_time = 0 > emergency_time = 20 | restrict,1,50000,60000,80,1/read,0,460000,460000,460000,24305,0,0/read,5,460000,460000,460000,24306,0,0/ | 0,T,X,1,1,0,1,160,451403,451403,402793,354183,135438/5,T,X,1,1,1,0,160,451377,451377,402765,354153,135399/ | 0 | -
+eoa = 100000 > eoa = 200000; svl = 100000 > svl = 200000 | read,0,700000,700000,700000,20000,0,0/end,80000,80000,0/read,5,710000,710000,710000,20000,0,0/ | 0,C,N,0,0,0,1,160,1800000,1800000,1760000,1720000,1540000/5,T,X,1,1,1,0,160,600000,600000,560000,520000,340000/ | 0 | -
+svl = 100000 > svl = 100000/release = 18 | read,0,988000,988000,988000,4900,0,0/read,5,988000,988000,988000,5001,0,0/ | 0,R,I,0,0,0,0,160,-,-,-,-,-/5,R,X,1,0,1,0,160,-,-,-,-,-/ | 0 | -
+svl = 100000 > svl = 100000/release = 18 | read,0,987500,987500,987500,5000,0,0/ | 0,T,W,1,0,0,1,160,987500,987500,977500,967500,922500/ | 0 | -
+svl = 100000 > svl = 110000 | read,0,1000001,1000001,1000001,0,0,0/ | 0,C,X,1,0,1,1,160,1100000,1000000,1000000,1000000,1000000/ | 0 | -
+kind = "end" > kind = "limit"; eoa = 100000 > loa = 100000; svl = 100000 > speed = 60 | read,0,500000,500000,500000,25000,0,0/ | 0,C,N,0,0,0,1,160,863281,863281,813281,763281,538281/ | 0 | -
+- | - | - | 0 | -"#;
+
+/// What the base data have otherwise | records | rows | code | line
+pub const REFUSALS: &str =
+    r#"- | read,0,799990,799990,799990,20000,0,0/read,0,799990,799990,799990,20000,0,0/read,0,1/ | 0,T,W,1,0,0,1,160,800000,800000,760000,720000,540000/0,T,W,1,0,0,1,160,800000,800000,760000,720000,540000/ | 7 | sdm: bad event 3: field count/
+- | read,10,0,0,0,0,0,0/read,9,0,0,0,0,0,0/ | 10,C,N,0,0,0,1,160,1000000,1000000,1000000,1000000,1000000/ | 7 | sdm: bad event 2: time back/
+- | go,1/ | - | 7 | sdm: bad event 1: unknown kind/
+- | read,0,a,0,0,0,0,0/ | - | 7 | sdm: bad event 1: field 3: not a number/
+- | limit,1000,501/ | - | 7 | sdm: bad event 1: field 3: out of range/
+- | end,2,1,0/ | - | 7 | sdm: bad event 1: supervised location before end/
+- | limit,200001,60/ | - | 7 | sdm: bad event 1: beyond track/
+- | restrict,1,10,20,80,0/restrict,1,30,40,80,0/ | - | 7 | sdm: bad event 2: identity in use/
+- | restrict,1,20,20,80,0/ | - | 7 | sdm: bad event 1: restriction value/
+- | revoke,1/ | - | 7 | sdm: bad event 1: identity unknown/
+svl = 100000 > svl = 99999 | - | - | 6 | sdm: refused: supervised location before end/
+adhesion_max = 70 > adhesion_max = 4; [authority] > [[track.adhesion]]/start = 90000/end = 100000/[authority] | - | - | 6 | sdm: refused: too weak: safe band 1 cell 90000/
+emergency = 100 > emergency = 81; service = 100 > service = 80; normal = 100 > normal = 80; adhesion_max = 70 > adhesion_max = 5; [authority] > [[track.adhesion]]/start = 90000/end = 100000/[authority] | - | - | 6 | sdm: refused: too varied: safe band 1/
+length = 10000 > len = 10000 | - | - | 5 | sdm: bad data: unknown key in train/
+avadh = 20 > | - | - | 5 | sdm: bad data: missing national.avadh/
+kdry = 1000 > kdry = true | - | - | 5 | sdm: bad data: wrong kind train.band[1].kdry/
+kind = "end" > kind = "stop" | - | - | 5 | sdm: bad data: value authority.kind/
+max_speed = 160 > max_speed = 501; avadh = 20 > avadh = 21 | - | - | 5 | sdm: bad data: value train.max_speed/
+kn_down = 0 > kn_down = 0/upper = 100 | - | - | 5 | sdm: bad data: band order train.band[1]/
+speed = 160 > speed = 160/[[track.speed]]/start = 0/speed = 80 | - | - | 5 | sdm: bad data: order track.speed[2]/
+version = 1 > version = 1/version = 1 | - | - | 5 | sdm: bad data: not TOML/"#;
+
+/// input | code | line
+pub const PARTS: &str = r#"- | 5 | sdm: bad data: no %% line/
+%% | 5 | sdm: bad data: missing version/
+%% / | 5 | sdm: bad data: no %% line/
+a = /%%/ | 5 | sdm: bad data: not TOML/
+a = 1/%%~/ | 5 | sdm: bad data: unknown key in root/"#;
