@@ -4,9 +4,10 @@
 mod journeys;
 
 use crate::{CycleFault, EventCause, Flat, FlatRow, Outcome, outcome_of, sdm_main};
-use journeys::{BASE, PARTS, REFUSALS, RUNS};
+use journeys::{BASE, PARTS, REFUSALS, RUN_FAULTS, RUNS};
 use sdm_io::{FixedSource, MemSink, MemSource, NullSink};
 use sdm_num::{Place, Speed};
+use sdm_rules::EventFault;
 use std::alloc::Global;
 use std::process::Abort;
 use std::test::Fail;
@@ -268,19 +269,12 @@ fn a_journey_without_its_parts_is_refused(rt: HostRuntime) -> Result<(), Fail> {
     Ok(())
 }
 
-// step | failing reads | failing writes | rows | code | line
-const RUN_FAULTS: &str = "\
-    1 | - | - | 0,T,W,1,0,0,1,160,800000,800000,760000,720000,540000/ | 0 | -
-    1000 | 2 | - | - | 2 | sdm: read fault/
-    1000 | - | 1 | - | 3 | sdm: write fault/
-    3 | - | 2 | 0,T | 3 | sdm: write fault/";
-
 #[test]
 fn a_fault_ends_a_journey_where_it_comes(rt: HostRuntime) -> Result<(), Fail> {
     let alloc = rt.alloc();
     for line in RUN_FAULTS.lines() {
         let fields = fields_of(alloc, line)?;
-        let [step, reads, writes, rows, code, told] = fields.as_slice() else {
+        let [step, reads, writes, records, rows, code, told] = fields.as_slice() else {
             return Err("no row".into());
         };
         let streams = Streams {
@@ -289,12 +283,7 @@ fn a_fault_ends_a_journey_where_it_comes(rt: HostRuntime) -> Result<(), Fail> {
             failing_writes: writes,
             failing_lines: "-",
         };
-        let answer = run_of(
-            alloc,
-            "-",
-            "read,0,799990,799990,799990,20000,0,0/",
-            &streams,
-        )?;
+        let answer = run_of(alloc, "-", records, &streams)?;
         assert_eq!(rt; answer.code, code.parse::<u8>()?, "{line}");
         assert!(rt; answer.out == bytes_of(alloc, rows)?, "{line}");
         assert!(rt; answer.err == bytes_of(alloc, told)?, "{line}");
@@ -359,6 +348,8 @@ fn the_limit_of_an_input_is_not_past_it(rt: HostRuntime) -> Result<(), Fail> {
         assert_eq!(rt; outcome_of(alloc, &words, within), first_line);
     }
     assert_eq!(rt; outcome_of(alloc, &words, &line_feeds), Outcome::TooLong);
+    let run = words_of(alloc, "run")?;
+    assert_eq!(rt; outcome_of(alloc, &run, &line_feeds), Outcome::TooLong);
     assert_eq!(rt; outcome_of(alloc, &words, b"0,0,0\n"), Outcome::Done);
     assert_eq!(rt; outcome_of(alloc, &[], b"0,0,0\n"), Outcome::Usage);
 
@@ -367,6 +358,23 @@ fn the_limit_of_an_input_is_not_past_it(rt: HostRuntime) -> Result<(), Fail> {
     let outcome = sdm_main(alloc, &words, &mut input, &mut NullSink::new(), &mut err);
     assert_eq!(rt; outcome.code(), 4);
     assert!(rt; err.bytes() == b"sdm: input too long\n".as_slice());
+    Ok(())
+}
+
+#[test]
+fn a_record_past_the_hundred_thousandth_is_too_many(rt: HostRuntime) -> Result<(), Fail> {
+    let alloc = rt.alloc();
+    let words = words_of(alloc, "run")?;
+    let mut input = bytes_of(alloc, BASE)?;
+    input.extend_from_slice(b"\n%%\n")?;
+    for _ in 0..100_001u32 {
+        input.extend_from_slice(b"limit,0,1\n")?;
+    }
+    let too_many = Outcome::BadEvent {
+        number: 100_001,
+        cause: EventCause::Form(EventFault::TooMany),
+    };
+    assert_eq!(rt; outcome_of(alloc, &words, &input), too_many);
     Ok(())
 }
 

@@ -59,7 +59,16 @@ svl = 100000 > svl = 100000/release = 18 | read,0,988000,988000,988000,4900,0,0/
 svl = 100000 > svl = 100000/release = 18 | read,0,987500,987500,987500,5000,0,0/ | 0,T,W,1,0,0,1,160,987500,987500,977500,967500,922500/ | 0 | -
 svl = 100000 > svl = 110000 | read,0,1000001,1000001,1000001,0,0,0/ | 0,C,X,1,0,1,1,160,1100000,1000000,1000000,1000000,1000000/ | 0 | -
 kind = "end" > kind = "limit"; eoa = 100000 > loa = 100000; svl = 100000 > speed = 60 | read,0,500000,500000,500000,25000,0,0/ | 0,C,N,0,0,0,1,160,863281,863281,813281,763281,538281/ | 0 | -
-- | - | - | 0 | -"#;
+- | - | - | 0 | -
+traction_cutoff_time = 0 > traction_cutoff_time = 10; emergency_time = 0 > emergency_time = 30 | read,0,711105,711105,711105,20000,-100,0/ | 0,T,W,1,0,0,1,160,740000,740000,700000,660000,480000/ | 0 | -
+kn_down = 0 > kn_down = 0/upper = 36/[[train.band]]/emergency = 50/service = 50/normal = 50/kdry = 1000/kwet = 1000/kn_up = 0/kn_down = 0 | read,0,600000,600000,600000,20000,0,0/ | 0,T,O,0,0,0,1,160,650000,650000,610000,570000,390000/ | 0 | -
+emergency = 100 > emergency = 70; service = 100 > service = 70; normal = 100 > normal = 70; kn_down = 0 > kn_down = 0/upper = 18/[[train.band]]/emergency = 70/service = 70/normal = 70/kdry = 1000/kwet = 1000/kn_up = 0/kn_down = 0 | read,0,859999,859999,859999,14000,0,0/read,5,860000,860000,860000,14000,0,0/ | 0,T,W,1,0,0,1,160,859999,859999,831999,803999,677999/5,T,X,1,1,1,0,160,859999,859999,831999,803999,677999/ | 0 | -
+length = 10000 > length = 20000; rotating_mass = 0 > rotating_mass = 9; [[track.speed]] > [[track.gradient]]/start = 0/grad = -10/[[track.gradient]]/start = 50000/grad = 0/[[track.speed]] | read,0,400000,400000,400000,30000,0,0/ | 0,T,I,0,0,0,1,160,535164,535164,475164,415164,145164/ | 0 | -
+eoa = 100000 > eoa = 200000; svl = 100000 > svl = 200000 | read,0,0,0,0,47569,0,0/read,5,0,0,0,47570,0,0/ | 0,C,X,1,1,0,1,160,868595,868595,773457,678319,250198/5,C,X,1,1,1,1,160,868547,868547,773407,678267,250137/ | 0 | -
+[authority] > [[track.adhesion]]/start = 90000/end = 100000/[authority] | read,0,690000,690000,690000,20000,0,0/ | 0,T,I,0,0,0,1,160,770000,770000,730000,690000,510000/ | 0 | -
+emergency = 100 > emergency = 80; service = 100 > service = 80; normal = 100 > normal = 80; adhesion_max = 70 > adhesion_max = 5; [authority] > [[track.adhesion]]/start = 90000/end = 100000/[authority] | read,0,300000,300000,300000,20000,0,0/ | 0,C,N,0,0,0,1,160,656250,656250,616250,576250,396250/ | 0 | -
+svl = 100000 > svl = 110000; service_brake = true > service_brake = false | read,0,805000,805000,805000,20000,0,0/ | 0,T,X,1,0,1,1,160,900000,800000,760000,720000,540000/ | 0 | -
+guidance = false > guidance = true; normal = 100 > normal = 50 | read,0,610000,610000,610000,20000,0,0/ | 0,T,O,0,0,0,1,160,800000,800000,760000,600000,420000/ | 0 | -"#;
 
 /// What the base data have otherwise | records | rows | code | line
 pub const REFUSALS: &str =
@@ -83,7 +92,16 @@ kind = "end" > kind = "stop" | - | - | 5 | sdm: bad data: value authority.kind/
 max_speed = 160 > max_speed = 501; avadh = 20 > avadh = 21 | - | - | 5 | sdm: bad data: value train.max_speed/
 kn_down = 0 > kn_down = 0/upper = 100 | - | - | 5 | sdm: bad data: band order train.band[1]/
 speed = 160 > speed = 160/[[track.speed]]/start = 0/speed = 80 | - | - | 5 | sdm: bad data: order track.speed[2]/
-version = 1 > version = 1/version = 1 | - | - | 5 | sdm: bad data: not TOML/"#;
+version = 1 > version = 1/version = 1 | - | - | 5 | sdm: bad data: not TOML/
+- | restrict,1,1000,2000,80,0/restrict,2,1000,2000,80,0/restrict,3,1000,2000,80,0/restrict,4,1000,2000,80,0/restrict,5,1000,2000,80,0/restrict,6,1000,2000,80,0/restrict,7,1000,2000,80,0/restrict,8,1000,2000,80,0/restrict,9,1000,2000,80,0/restrict,10,1000,2000,80,0/restrict,11,1000,2000,80,0/restrict,12,1000,2000,80,0/restrict,13,1000,2000,80,0/restrict,14,1000,2000,80,0/restrict,15,1000,2000,80,0/restrict,16,1000,2000,80,0/restrict,17,1000,2000,80,0/restrict,18,1000,2000,80,0/restrict,19,1000,2000,80,0/restrict,20,1000,2000,80,0/restrict,21,1000,2000,80,0/restrict,22,1000,2000,80,0/restrict,23,1000,2000,80,0/restrict,24,1000,2000,80,0/restrict,25,1000,2000,80,0/restrict,26,1000,2000,80,0/restrict,27,1000,2000,80,0/restrict,28,1000,2000,80,0/restrict,29,1000,2000,80,0/restrict,30,1000,2000,80,0/restrict,31,1000,2000,80,0/restrict,32,1000,2000,80,0/restrict,33,1000,2000,80,0/ | - | 7 | sdm: bad event 33: too many restrictions/
+length = 10000 > length = 0; avadh = 20 > avadh = 20/colour = 1 | - | - | 5 | sdm: bad data: unknown key in national/
+length = 10000 > length = 0 | - | - | 5 | sdm: bad data: value train.length/
+version = 1 > version = 2 | - | - | 5 | sdm: bad data: value version/
+avadh = 20 > avadh = 21 | - | - | 5 | sdm: bad data: value national.avadh/
+length = 200000 > length = 0 | - | - | 5 | sdm: bad data: value track.length/
+[[train.band]] > band = []; emergency = 100 >; service = 100 >; normal = 100 >; kdry = 1000 >; kwet = 1000 >; kn_up = 0 >; kn_down = 0 > | - | - | 5 | sdm: bad data: band count/
+[[track.speed]] > speed = []; start = 0 >; speed = 160 > | - | - | 5 | sdm: bad data: count track.speed/
+start = 0 > start = 1 | - | - | 5 | sdm: bad data: gap track.speed/"#;
 
 /// input | code | line
 pub const PARTS: &str = r#"- | 5 | sdm: bad data: no %% line/
@@ -91,3 +109,12 @@ pub const PARTS: &str = r#"- | 5 | sdm: bad data: no %% line/
 %% / | 5 | sdm: bad data: no %% line/
 a = /%%/ | 5 | sdm: bad data: not TOML/
 a = 1/%%~/ | 5 | sdm: bad data: unknown key in root/"#;
+
+/// step | failing reads | failing writes | records | rows | code | line; a row is written before the next record is looked at
+pub const RUN_FAULTS: &str =
+    r#"1 | - | - | read,0,799990,799990,799990,20000,0,0/ | 0,T,W,1,0,0,1,160,800000,800000,760000,720000,540000/ | 0 | -
+1000 | 2 | - | read,0,799990,799990,799990,20000,0,0/ | - | 2 | sdm: read fault/
+1000 | - | 1 | read,0,799990,799990,799990,20000,0,0/ | - | 3 | sdm: write fault/
+1000 | - | 1 | read,0,799990,799990,799990,20000,0,0/go/ | - | 3 | sdm: write fault/
+1000 | - | 2 | read,0,799990,799990,799990,20000,0,0/go/ | 0,T,W,1,0,0,1,160,800000,800000,760000,720000,540000/ | 7 | sdm: bad event 2: unknown kind/
+3 | - | 2 | read,0,799990,799990,799990,20000,0,0/ | 0,T | 3 | sdm: write fault/"#;
