@@ -76,7 +76,7 @@ def realistic_data():
 
 def trip(numbers):
     """The places in mm, speeds in mm/s and accelerations in cm/s² of a train, each tenth of a second: it accelerates, runs at
-    its top speed, brakes, and stands for 5 s at 4940 m. Places are kept in twentieths of a mm, so that they are exact."""
+    its top speed, brakes, and stands for 5 s near 4940 m. Places are kept in twentieths of a mm, so that they are exact."""
     place, speed = 20 * numbers.draw(0, 200_000), 0
     top, traction, brake = numbers.draw(20_000, 43_000), numbers.draw(30, 80), numbers.draw(45, 60)
     stop, braking, standing = 20 * 4_940_000, False, 0
