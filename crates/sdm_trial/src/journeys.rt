@@ -1,0 +1,139 @@
+//! The data of every trial: a train of two speed bands on a track of 6 km, which falls by 5 per mille in its middle, with an
+//! EOA at 5 km and the SvL 50 m beyond it.
+
+ghost use Rattle.std.specs.Prelude.{◌≡◌, ◌≤◌, ℕ, None, IfOk};
+ghost use Rattle.sdm_rules.specs.Opening.{IsAccepted};
+ghost use Rattle.sdm_rules.specs.Trial.{trial_authority, trial_journey, trial_line, trial_national, trial_track, trial_train};
+ghost use Rattle.sdm_data.specs.Given.{line_of};
+
+use sdm_data::JourneyData;
+use sdm_national::National;
+use sdm_num::NoMemory;
+use sdm_rules::{Authority, Band, Gradient, MOST_BANDS, NationalFields, SpeedStep, TrainFields};
+use sdm_track::Track;
+use sdm_train::Train;
+use std::alloc::Global;
+
+/// Below 100 km/h.
+const LOW_BAND: Band = Band {
+    upper: Some(100),
+    emergency: 120,
+    service: 90,
+    normal: 60,
+    kdry: 850,
+    kwet: 950,
+    kn_up: 0,
+    kn_down: 0,
+};
+
+/// From 100 km/h on.
+const HIGH_BAND: Band = Band {
+    upper: None,
+    emergency: 100,
+    service: 80,
+    normal: 50,
+    kdry: 850,
+    kwet: 950,
+    kn_up: 0,
+    kn_down: 0,
+};
+
+const NATIONAL: NationalFields = NationalFields {
+    avadh: 0,
+    adhesion_max: 70,
+    guidance: false,
+    service_in_target: true,
+    early_release: false,
+    inhibit_under_reading: false,
+};
+
+const AUTHORITY: Authority = Authority::Stop {
+    eoa: 500_000,
+    svl: 505_000,
+    release: 0,
+};
+
+// The train: its two bands are the first of the array.
+#[tactic(auto, using(crate::proofs::FixedData::train_accepted))]
+fn train() -> Train
+    ensures { result ≡ trial_train }
+{
+    let mut bands = [HIGH_BAND; MOST_BANDS];
+    bands[0] = LOW_BAND;
+    let fields = TrainFields {
+        length: 20_000,
+        max_speed: 160,
+        rotating_mass: None,
+        traction_cutoff_time: 20,
+        traction_cutoff_interface: true,
+        emergency_time: 30,
+        service_time: 40,
+        service_brake: true,
+        bands,
+        band_count: 2,
+    };
+    match Train::new(fields) {
+        Ok(train) => train,
+        Err(_) => unreachable!(),
+    }
+}
+
+#[tactic(auto, using(crate::proofs::FixedData::national_accepted))]
+fn national() -> National
+    ensures { result ≡ trial_national }
+{
+    match National::new(NATIONAL) {
+        Ok(national) => national,
+        Err(_) => unreachable!(),
+    }
+}
+
+#[tactic(auto, using(crate::proofs::FixedData::track_accepted))]
+fn track(alloc: Global) -> Result<Track, NoMemory>
+    ensures { IfOk result (λ track. track ≡ trial_track) }
+{
+    let gradients = vec![in alloc;
+        Gradient { start: 0, grad: 0 },
+        Gradient {
+            start: 200_000,
+            grad: -5
+        },
+        Gradient {
+            start: 400_000,
+            grad: 0
+        },
+    ]
+    .map_err(|_| NoMemory)?;
+    let speeds = vec![in alloc;
+        SpeedStep {
+            start: 0,
+            speed: 160,
+            delayed: true
+        },
+    ]
+    .map_err(|_| NoMemory)?;
+    match Track::new(600_000, gradients, speeds, Vec::new(alloc)) {
+        Ok(track) => Ok(track),
+        Err(_) => unreachable!(),
+    }
+}
+
+/// The data of every trial. (own)
+pub fn trial_data(alloc: Global) -> Result<JourneyData, NoMemory>
+    ensures line { IfOk result (λ journey. line_of journey ≡ trial_line) }
+    ensures authority { IfOk result (λ journey. journey.authority ≡ trial_authority) }
+{
+    Ok(JourneyData {
+        train: train(),
+        national: national(),
+        track: track(alloc)?,
+        authority: AUTHORITY,
+    })
+}
+
+/// A trial is never refused: its data open a supervision state, and each reading of at most 100,000 cycles is taken. (own)
+#[tactic(auto, using(crate::proofs::Accepted::accepted, crate::proofs::Cycles::no_cycle_refused))]
+pub fn law_of_trial()
+    ensures accepted { IsAccepted trial_line trial_authority }
+    ensures taken { (seed cycles : ℕ) → cycles ≤ 100_000 → (trial_journey seed cycles).refused ≡ None }
+{}
