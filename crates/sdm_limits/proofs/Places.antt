@@ -11,7 +11,8 @@ use Rattle.sdm_rules.specs.Limits.{limits_before, ebd_limits_at}
 use Rattle.sdm_limits.specs.declared.limits.Limits.{Limits}
 use Rattle.sdm_limits.specs.Sides.{place_of, places_of}
 
-whole_less : (at z : ℤ) (k : ℕ) → at ≡ z +ℤ neg_ℤ (pos k) → whole at ≡ less (whole z) k
+-- a whole place less so many grains
+pub whole_less : (at z : ℤ) (k : ℕ) → at ≡ z +ℤ neg_ℤ (pos k) → whole at ≡ less (whole z) k
 whole_less at z k is =
     let same : at ≡ z +ℤ neg_ℤ (pos (k * 1)) = omega (arith, ints) in
     ap whole same

@@ -4,13 +4,7 @@ use Rattle.std.proofs.lemmas.Int.{ints}
 use Rattle.sdm_num.specs.Bounds.{Bound, earlier_of}
 use Rattle.sdm_num.specs.Fractions.{less, lesser, whole}
 use Rattle.sdm_limits.specs.Sides.{place_of}
-use Rattle.sdm_limits.proofs.Places.{earlier_place}
-
--- a whole place less so many grains
-whole_less : (at z : ℤ) (k : ℕ) → at ≡ z +ℤ neg_ℤ (pos k) → whole at ≡ less (whole z) k
-whole_less at z k is =
-    let same : at ≡ z +ℤ neg_ℤ (pos (k * 1)) = omega (arith, ints) in
-    ap whole same
+use Rattle.sdm_limits.proofs.Places.{earlier_place, whole_less}
 
 -- the earlier of two bounds, of which each lies so many grains before a whole place
 pub earlier_of_two :

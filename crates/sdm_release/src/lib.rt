@@ -6,12 +6,11 @@
 ghost use Rattle.std.specs.Prelude.{◌≡◌, ◌≤◌, ◌*◌};
 ghost use Rattle.sdm_num.specs.Bounds.{IsEarlyFor};
 ghost use Rattle.sdm_num.specs.Units.{notches, way_in};
-ghost use Rattle.sdm_rules.specs.Limits.{computed, exact_places};
+ghost use Rattle.sdm_rules.specs.Limits.{computed, exact_places, release_start_at};
 ghost use Rattle.sdm_rules.specs.Slopes.{meaning_of};
 ghost use Rattle.sdm_curve.specs.Made.{IsMadeFrom};
 ghost use Rattle.sdm_limits.specs.Ranges.{AreTimes};
 ghost use Rattle.sdm_limits.specs.Sides.{place_of};
-ghost use Rattle.sdm_release.specs.Starts.{release_start_by};
 
 use sdm_curve::{BandMap, Curve};
 use sdm_num::{Early, Speed};
@@ -32,10 +31,12 @@ pub fn release_start(
     requires sbd { IsMadeFrom expected.now sbd.now }
     requires times { AreTimes times.now }
     requires speed { release ≤ notches 500 }
-    ensures at { place_of result ≡
-        release_start_by computed (meaning_of safe.now) ebd.now (meaning_of expected.now) sbd.now times.now release }
-    ensures stands { IsEarlyFor result
-        (release_start_by exact_places (meaning_of safe.now) ebd.now (meaning_of expected.now) sbd.now times.now release) }
+    ensures at { place_of result ≡ release_start_at times.now release
+        (computed (meaning_of safe.now) ebd.now.place ebd.now.speed release)
+        (computed (meaning_of expected.now) sbd.now.place sbd.now.speed release) }
+    ensures stands { IsEarlyFor result (release_start_at times.now release
+        (exact_places (meaning_of safe.now) ebd.now.place ebd.now.speed release)
+        (exact_places (meaning_of expected.now) sbd.now.place sbd.now.speed release)) }
 {
     // d_SBD(V_rel) - V_rel * T_bs (SUBSET-026-3 3.13.9.4; form own)
     let service = way(release, times.bs);

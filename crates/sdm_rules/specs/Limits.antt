@@ -90,11 +90,16 @@ limits_of_kind P d r t Svl = ebd_limits_of P d r t None
 unfoldable pub limits_of : CurvePlaces → LineData → OdometerReading → Target → SupervisionLimits
 limits_of P d r t = limits_of_kind P d r t t.kind
 
--- Where release speed monitoring starts, with EOA and SvL in cm and the release speed V_rel in km/h: the earlier of
--- d_SBD(V_rel) - V_rel * T_bs and d_EBD(V_rel) - V_rel * (T_traction + T_berem + T_bs) (SUBSET-026-3 3.13.9.4; own form)
+-- where release speed monitoring starts, with the places of the EBD and the SBD at the release speed V_rel (notches): the
+-- earlier of d_SBD(V_rel) - V_rel * T_bs and d_EBD(V_rel) - V_rel * (T_traction + T_berem + T_bs)
+-- (SUBSET-026-3 3.13.9.4; own form)
+abbrev pub release_start_at : Times → ℕ → Fraction → Fraction → Fraction
+release_start_at times v ebd sbd =
+    lesser (less sbd (way_in v times.bs)) (less ebd (way_in v (times.traction + times.berem + times.bs)))
+
+-- the same of a line, with EOA and SvL in cm and the release speed in km/h: both curves have speed 0 at their foot
+-- (SUBSET-026-3 3.13.9.4; own form)
 unfoldable pub release_start : CurvePlaces → LineData → ℕ → ℕ → ℕ → Fraction
 release_start P d eoa svl release =
     let v = notches release in
-    let times = line_times d in
-    lesser (less (P (slopes_of Expected d) (border_of (pos eoa)) 0 v) (way_in v times.bs))
-    (less (P (slopes_of Safe d) (border_of (pos svl)) 0 v) (way_in v (times.traction + times.berem + times.bs)))
+    release_start_at (line_times d) v (P (slopes_of Safe d) (border_of (pos svl)) 0 v) (P (slopes_of Expected d) (border_of (pos eoa)) 0 v)

@@ -1,8 +1,19 @@
--- A journey from a number, and its summary (own).
-use Rattle.std.specs.Prelude.{ℕ, zero, suc, ℤ, pos, List, [], ◌∷◌, ◌++◌, ◌+◌, ◌*◌, ◌%◌, ◌+ℤ◌, ◌-ℤ◌, codes, decimal, count_by, fold, length, unwrap_or, unsigned_abs}
+-- A journey from a number: fixed data, made readings, and a summary of the rows (own).
+use Rattle.std.specs.Prelude.{ℕ, zero, suc, ℤ, pos, negsuc, true, false, Some, None, Result, Ok, List, [], ◌∷◌, ◌++◌, ◌+◌, ◌*◌, ◌%◌, ◌+ℤ◌, ◌-ℤ◌, codes, decimal, count_by, fold, length, unwrap_or, unsigned_abs}
 use Rattle.std.specs.Int.{int_rem_euclid}
-use Rattle.sdm_rules.specs.declared.rows.Row.{Row}
 use Rattle.sdm_num.specs.Readings.{OdometerReading, reading_of}
+use Rattle.sdm_rules.specs.declared.authorities.Authority.{Authority}
+use Rattle.sdm_rules.specs.declared.authorities.Authority.TheVariants.{Stop}
+use Rattle.sdm_rules.specs.declared.data.NationalFields.{NationalFields}
+use Rattle.sdm_rules.specs.declared.faults.EventFault.{EventFault}
+use Rattle.sdm_rules.specs.declared.records.Event.{Event}
+use Rattle.sdm_rules.specs.declared.records.Event.TheVariants as record_kinds
+use Rattle.sdm_rules.specs.declared.rows.Row.{Row}
+use Rattle.sdm_rules.specs.Data.{LineData, TrackData, TrainData}
+use Rattle.sdm_rules.specs.Flat.{Output}
+use Rattle.sdm_rules.specs.Input.{end_of_journey}
+use Rattle.sdm_rules.specs.Records.{Journey, journey_from}
+use Rattle.sdm_rules.specs.Supervision.{opening}
 
 -- the next number of the generator (own)
 abbrev pub next_number : ℕ → ℕ
@@ -23,10 +34,60 @@ reading_by i x =
 abbrev pub reading_in_cycle : ℕ → ℕ → OdometerReading
 reading_in_cycle seed i = reading_by i (number_at seed i)
 
--- the readings of `n` cycles from `i` on, after the number `x` (own)
+-- the readings of `n` cycles from cycle `i` on (own)
 abbrev pub readings_from : ℕ → ℕ → ℕ → List OdometerReading
-readings_from i x zero = []
-readings_from i x (suc n) = reading_by i (next_number x) ∷ readings_from (suc i) (next_number x) n
+readings_from seed i zero = []
+readings_from seed i (suc n) = reading_in_cycle seed i ∷ readings_from seed (suc i) n
+
+-- ---- the data
+
+-- the train: 200 m, 160 km/h, no known rotating mass, and two speed bands, below and above 100 km/h (own)
+abbrev pub trial_train : TrainData
+trial_train = record {
+  length_cm = pos 20_000;
+  max_speed = pos 160;
+  rotating_mass = None;
+  cut_off_time = pos 20;
+  cut_off_interface = true;
+  emergency_time = pos 30;
+  service_time = pos 40;
+  service_brake = true;
+  bands =
+      record { upper = Some (pos 100); emergency = pos 120; service = pos 90; normal = pos 60; kdry = pos 850; kwet = pos 950; kn_up = pos 0; kn_down = pos 0 }
+      ∷ record { upper = None; emergency = pos 100; service = pos 80; normal = pos 50; kdry = pos 850; kwet = pos 950; kn_up = pos 0; kn_down = pos 0 }
+      ∷ [];
+}
+
+-- the national values: the wet factor counts in full, no guidance, the service brake in use, no early release (own)
+abbrev pub trial_national : NationalFields
+trial_national = record { avadh = pos 0; adhesion_max = pos 70; guidance = false; service_in_target = true; early_release = false; inhibit_under_reading = false }
+
+-- the track: 6 km at 160 km/h, falling by 5 per mille from 2 km to 4 km, else level (own)
+abbrev pub trial_track : TrackData
+trial_track = record {
+  length_cm = pos 600_000;
+  gradients = record { start = pos 0; grad = pos 0 } ∷ record { start = pos 200_000; grad = negsuc 4 } ∷ record { start = pos 400_000; grad = pos 0 } ∷ [];
+  speeds = record { start = pos 0; speed = pos 160; delayed = true } ∷ [];
+  areas = [];
+}
+
+-- the data of every trial (own)
+abbrev pub trial_line : LineData
+trial_line = record { train = trial_train; national = trial_national; track = trial_track }
+
+-- the authority of every trial: an EOA at 5 km, the SvL 50 m beyond it, no release speed (own)
+abbrev pub trial_authority : Authority
+trial_authority = Stop 500_000 505_000 0
+
+-- ---- the journey
+
+-- a reading as a record: it is always in form (own)
+abbrev pub reading_record : OdometerReading → Result Event EventFault
+reading_record r = Ok (record_kinds.Read r)
+
+-- the journey of so many cycles from a seed (own)
+abbrev pub trial_journey : ℕ → ℕ → Journey
+trial_journey seed cycles = journey_from reading_record 1 (opening trial_line trial_authority) (readings_from seed 1 cycles)
 
 -- ---- the summary
 
@@ -47,3 +108,9 @@ summary_text rows =
     ++ count_text (codes "emergency") (count_by (λ r. r.held.eb) rows)
     ++ count_text (codes "service") (count_by (λ r. r.held.sb) rows)
     ++ count_text (codes "ebi") (unsigned_abs (int_rem_euclid (ebi_sum rows) (pos 1_000_000_000)))
+
+-- what `trial` defines: the summary of its rows, and the end of its journey (own)
+abbrev pub trial_output : ℕ → ℕ → Output
+trial_output seed cycles =
+    let journey = trial_journey seed cycles in
+    record { text = summary_text journey.rows; end = end_of_journey journey.refused }

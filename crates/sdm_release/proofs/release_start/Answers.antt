@@ -7,12 +7,10 @@ use Rattle.sdm_rules.specs.Slopes.{meaning_of}
 use Rattle.sdm_rules.specs.Curves.{exact, stepped}
 use Rattle.sdm_limits.specs.Sides.{place_of}
 use Rattle.sdm_limits.proofs.Places.{early_before}
-use Rattle.sdm_release.specs.Starts.{release_start_by}
 use Rattle.sdm_release.proofs.Places.{earlier_of_two}
 use Rattle.sdm_release.proofs.release_start.Goals as goal
 
 pub returns-clause-at : goal.returns-clause-at
-unfolding release_start_by
 returns-clause-at c =
     let a = c.args in
     ap place_of c.earlier.ensures.value ∙
@@ -25,7 +23,6 @@ returns-clause-at c =
     (search rules)
 
 pub returns-clause-stands : goal.returns-clause-stands
-unfolding release_start_by
 returns-clause-stands c =
     let a = c.args in
     let sbd = exact (meaning_of a.expected.now) a.sbd.now.place a.sbd.now.speed a.release in
