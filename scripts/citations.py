@@ -29,6 +29,11 @@ class Contract:
     def crate(self):
         return self.path.relative_to(CRATES).parts[0]
 
+    def parameters(self):
+        """The names of a function's parameters: in its clauses they stand for themselves."""
+        signature = re.split(r"\b(?:requires|ensures|decreases)\b", self.body(), maxsplit=1)[0]
+        return set(re.findall(r"(\w+)\s*:", signature)) if self.is_function() else set()
+
     def is_function(self):
         return not (self.clauses and self.clauses[0][0] == "ghost")
 
@@ -199,9 +204,11 @@ class Graph:
     def cited_by_contract(self, contract):
         """key -> the clauses of a contract that name it."""
         found = defaultdict(list)
+        parameters = contract.parameters()
         for kind, text in contract.clauses:
             for key in self.resolved(text, contract.path, {}):
-                found[key].append((kind, text))
+                if key[1] not in parameters:
+                    found[key].append((kind, text))
         return found
 
     def way_up(self, key):
