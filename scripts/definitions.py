@@ -46,7 +46,7 @@ def kind(source):
         rest = rest.strip().replace("own: ", "own, ")
         return f"simplified {clauses(first)}: {rest}" if rest else f"as {clauses(first)}"
     rest = " ".join(word for word in source.split() if word != "own")
-    return f"own ({rest})" if rest else "own"
+    return f"own ({rest})" if rest and "own" in source else source if rest else "own"
 
 
 def reasons():
