@@ -91,39 +91,53 @@ class Matrix:
 
         return [contract for contract, _ in sorted(self.graph.citers[key], key=rank)]
 
+    def is_claim(self, key):
+        return self.graph.definitions[key].is_claim()
+
+    def through(self, key):
+        """The definition that a contract cites nearest to this one: itself, or one that stands on it, a claim last."""
+        nearest = self.graph.way_up(key)
+        return min(nearest, key=lambda k: (self.is_claim(k), k[0] != key[0], len(self.graph.citers[k]), k), default=None)
+
     def contract(self, key):
         """The cell that names the contract, and the contracts themselves."""
-        nearest = self.graph.way_up(key)
-        if not nearest:
+        through = self.through(key)
+        if not through:
             return "none", []
-        if nearest == [key]:
-            found = self.ranked(key)
-            shown = list(dict.fromkeys(contract.shown() for contract in found))
-            more = f" and {len(shown) - 1} more" if len(shown) > 1 else ""
-            return shown[0] + more, found
-        through = min(nearest, key=lambda k: (k[0] != key[0], len(self.graph.citers[k]), k))
         found = self.ranked(through)
-        return f"{found[0].shown()} through `{through[1]}`", found
+        if through != key:
+            return f"{found[0].shown()} through `{through[1]}`", found
+        shown = list(dict.fromkeys(contract.shown() for contract in found))
+        return shown[0] + (f" and {len(shown) - 1} more" if len(shown) > 1 else ""), found
 
-    def shown_above(self, key):
-        """What shows the nearest definition that stands on this one."""
-        for find in (self.cases.of, lambda up: self.tests.of_any(self.contract(up)[1])):
-            level, seen = [key], {key}
-            while level:
-                level = sorted({up for k in level for up in self.graph.above[k]} - seen)
-                seen.update(level)
-                for up in level:
-                    if find(up):
-                        return f"{find(up)} through `{up[1]}`"
+    def nearest_above(self, key, find, levels):
+        """What `find` finds for the nearest definition that stands on this one; a claim counts where it stands on it at once."""
+        level, seen = [key], {key}
+        for depth in range(levels):
+            level = sorted({up for k in level for up in self.graph.above[k]} - seen)
+            seen.update(level)
+            for up in level:
+                found = None if depth and self.is_claim(up) else find(up)
+                if found:
+                    return f"{found} through `{up[1]}`"
         return None
 
     def shown_by(self, key, found):
-        """The cell that names what shows a definition: a case of it, else a test or an edit of a function whose contract cites it,
-        else what shows a definition that stands on it."""
-        tested = self.tests.of_any(found)
-        law = found and all(contract.is_law() for contract in found)
-        direct = self.cases.of(key) or (tested if self.graph.way_up(key) == [key] else None)
-        return direct or self.shown_above(key) or tested or ("the proof of the law" if law else "none")
+        """The cell that names what shows a definition: a case of it; a test or an edit of a function whose contract cites it; what
+        shows a definition that stands on it. Of a claim no far test counts: what shows it is the proof."""
+        if not found:
+            return self.cases.of(key) or self.nearest_above(key, self.cases.of, 1) or "none"
+        about, through = f"{key[1]} {self.graph.definitions[key].comment}", self.through(key)
+
+        def tested(up):
+            return self.tests.of_any(self.contract(up)[1], about, near_only=True)
+
+        ways = [lambda: self.cases.of(key), lambda: tested(key) if through == key else None]
+        ways += [lambda: self.nearest_above(key, self.cases.of, 1)]
+        if not self.is_claim(key) and not self.is_claim(through):
+            ways += [lambda: self.nearest_above(key, tested, 1), lambda: self.tests.of_any(found, about)]
+            ways += [lambda: self.nearest_above(key, self.cases.of, 9)]
+        return next((shown for shown in (way() for way in ways) if shown), "the proof of the contract")
 
     def line(self, definition, source):
         cell, found = self.contract(definition.key())

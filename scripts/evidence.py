@@ -11,6 +11,18 @@ LEMMA = re.compile(r"^(?:unfoldable |abbrev )?(?:pub )?([a-z_]\w*) :", re.M)
 CLAIM = re.compile(r"≡|\b(?:Is|Are|Has|Keeps|Stops|Slows|Meets)[A-Z]")
 TEST = re.compile(r"(#\[test\]\s*(?:#\[[^\n]*\]\s*)*)?\bfn\s+(\w+)")
 TABLE = re.compile(r"\bconst (\w+): &str\s*=\s*[^;]*;")
+STOP = set("the and its has are that each which from with one where what not for than this they all any there none these".split())
+
+
+def stems(text):
+    """The telling words of a text, without a plural's s."""
+    words = re.findall(r"[a-z]{3,}", re.sub(r"([a-z])([A-Z])", r"\1 \2", text).lower().replace("_", " "))
+    return {word.rstrip("s") for word in words if word not in STOP}
+
+
+def shared(name, text):
+    """How many telling words a name has in common with a text."""
+    return len(stems(name) & stems(text))
 
 
 def blocks(text):
@@ -93,14 +105,14 @@ class Tests:
             yield name, test, sum(tables[word] for word in set(re.findall(r"\w+", test)) & tables.keys())
 
     def count(self, crate, name, text, lines):
-        """Counts a test for each function of its crate that it calls, where the shortest test comes first, and for those that these
-        call in turn, where the one with the longest tables does."""
-        level, seen, rank = self.called(crate, text, text), set(), (False, len(text))
+        """Counts a test for each function of its crate that it calls, and for those that these call in turn; the test with the
+        longest tables comes first."""
+        level, seen, rank = self.called(crate, text, text), set(), (False, -lines, len(text))
         while level:
             seen |= level
             for contract in level:
                 self.tests[contract].append((*rank, name))
-            rank = (True, -lines)
+            rank = (True, *rank[1:])
             level = set().union(*(self.called(crate, contract.body(), contract.text) for contract in level)) - seen
 
     def called(self, crate, text, around):
@@ -128,17 +140,19 @@ class Tests:
             inner = min(around, key=lambda c: c.span[1] - c.span[0])
             self.edits[inner].append(edit.stem)
 
-    def of_any(self, contracts):
+    def of_any(self, contracts, about="", near_only=False):
         """The nearest test or edit of the first functions that have one: a test that calls one, an edit that changes one, a test
-        that comes to one. What a type means is shown by its methods."""
-        functions = [f for c in contracts for f in ([c] if c.is_function() else self.methods_of(c))]
-        for near in (True, False):
-            for contract in functions:
-                tests = sorted(self.tests[contract])
-                if tests and not (near and tests[0][0]):
-                    return f"test `{tests[0][2]}`"
-                if near and self.edits[contract]:
-                    return f"edit `{self.edits[contract][0]}`"
+        that comes to one. Of several tests the one whose name shares most words with `about` counts. What a type means is shown
+        by its methods."""
+        groups = [[c] if c.is_function() else self.methods_of(c) for c in contracts]
+        for near in (True,) if near_only else (True, False):
+            for group in groups:
+                tests = [test for contract in group for test in self.tests[contract] if not (near and test[0])]
+                edits = [edit for contract in group for edit in self.edits[contract]]
+                if tests:
+                    return f"test `{min(tests, key=lambda test: (test[0], -shared(test[-1], about), *test))[-1]}`"
+                if edits:
+                    return f"edit `{min(edits, key=lambda edit: (-shared(edit, about), edit))}`"
         return None
 
     def methods_of(self, meaning):

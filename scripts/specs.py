@@ -23,10 +23,14 @@ class Definition:
     def key(self):
         return (self.path, self.name)
 
+    def is_claim(self):
+        """Something that holds or doesn't, as against a value or a type of data."""
+        claims = r"(?:Is|Are|Has|Keeps|Stops|Slows|Meets|Takes|Comes|Reads|Appends|Begins|Law|In)[A-Z]"
+        return "Type 0" in self.text and bool(re.match(claims, self.name))
+
     def is_data(self):
-        """A type of data, as against a claim or a value."""
-        claim = re.match(r"(?:Is|Are|Has|Keeps|Stops|Slows|Meets|In)[A-Z]", self.name)
-        return self.text.lstrip().startswith(("pub record", "pub data")) and not claim
+        """A type of data."""
+        return self.text.lstrip().startswith(("pub record", "pub data")) and not self.is_claim()
 
     def constructors(self):
         """The constructors of a `data`."""
