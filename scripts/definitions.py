@@ -200,6 +200,9 @@ def comment_problems(matrix):
 def document_problems(matrix):
     """Lines that are wanting, lines of what is gone, and else a text that is stale."""
     text = DOC.read_text()
+    if BEGIN not in text:
+        yield "docs/DEFINITIONS.md: the line before its tables is gone"
+        return
     there = {(p.relative_to(ROOT).as_posix(), d.name) for p in specs.all_spec_files() for d in specs.definitions(p)}
     named = named_in(text)
     for where, name in sorted(there - named):
