@@ -1,0 +1,235 @@
+"""The standard inputs of the measurements, each made by a function of its own from a seed.
+
+The same seed gives the same bytes with every version of Python, since the numbers come from the generator below and from no
+other. docs/FORMATS.md says what the bytes mean.
+"""
+
+from dataclasses import dataclass
+from itertools import islice
+from pathlib import Path
+
+ROOT = Path(__file__).resolve().parent.parent
+
+RECORDS = 100_000  # the most records of a journey
+FLAT_LINES = 500_000
+GREATEST_READINGS = 2_000
+
+TRACK_CM = 10_000_000  # the longest track
+GRADIENTS = 512
+SPEED_STEPS = 128
+AREAS = 64
+RESTRICTIONS = 32
+
+
+@dataclass
+class Input:
+    """An input with all its lines, and the same with the first of them alone; `head` comes before the lines of both."""
+
+    name: str
+    words: list
+    words_of_one: list
+    head: str
+    lines: list
+    readings: int
+
+    def whole(self):
+        """The bytes with all lines."""
+        return self._bytes(self.lines)
+
+    def one(self):
+        """The bytes with the first line alone."""
+        return self._bytes(self.lines[:1])
+
+    def _bytes(self, lines):
+        return (self.head + "".join(lines)).encode()
+
+
+class Numbers:
+    """Pseudorandom numbers: the generator SplitMix64."""
+
+    MASK = (1 << 64) - 1
+
+    def __init__(self, seed):
+        self.state = seed & self.MASK
+
+    def draw(self, least, greatest):
+        """A whole number from the least to the greatest."""
+        self.state = (self.state + 0x9E3779B97F4A7C15) & self.MASK
+        mixed = self.state
+        mixed = ((mixed ^ (mixed >> 30)) * 0xBF58476D1CE4E5B9) & self.MASK
+        mixed = ((mixed ^ (mixed >> 27)) * 0x94D049BB133111EB) & self.MASK
+        mixed ^= mixed >> 31
+        return least + mixed % (greatest - least + 1)
+
+
+def reading(time_ds, est_mm, spread_mm, speed_mm_s, accel_cm_s2, under_mm_s):
+    """The record of a reading whose true front end lies within a spread about the estimated one."""
+    numbers = (time_ds, est_mm, est_mm - spread_mm, est_mm + spread_mm, speed_mm_s, accel_cm_s2, under_mm_s)
+    return "read," + ",".join(map(str, numbers)) + "\n"
+
+
+def realistic_data():
+    """The data part of examples/realistic, with the dividing line: 6 km of track with an end of authority at 5 km."""
+    text = (ROOT / "examples" / "realistic" / "input").read_text()
+    return text[: text.index("%%\n") + len("%%\n")]
+
+
+def trip(numbers):
+    """The places in mm, speeds in mm/s and accelerations in cm/s² of a train, each tenth of a second: it accelerates, runs at
+    its top speed, brakes, and stands for 5 s near 4940 m. Places are kept in twentieths of a mm, so that they are exact."""
+    place, speed = 20 * numbers.draw(0, 200_000), 0
+    top, traction, brake = numbers.draw(20_000, 43_000), numbers.draw(30, 80), numbers.draw(45, 60)
+    stop, braking, standing = 20 * 4_940_000, False, 0
+    while standing < 50:
+        braking = braking or (stop - place) * brake <= speed * speed
+        faster = max(speed - brake, 0) if braking else min(speed + traction, top)
+        yield place // 20, speed, faster - speed
+        place, speed = place + speed + faster, faster
+        standing += speed == 0
+
+
+def smooth_readings(numbers):
+    """Trips of a train on the realistic track, one after another, with a reading each tenth of a second."""
+    time = 0
+    while True:
+        for place, speed, accel in trip(numbers):
+            yield reading(time, place, 5_000, speed, accel, 500)
+            time += 1
+
+
+def scattered_readings(numbers, farthest_mm, fastest_mm_s):
+    """Readings at random over places and speeds."""
+    time = 0
+    while True:
+        place, spread = numbers.draw(0, farthest_mm), numbers.draw(0, 10_000)
+        speed, accel = numbers.draw(0, fastest_mm_s), numbers.draw(-100, 100)
+        yield reading(time, place, spread, speed, accel, numbers.draw(0, 1_000))
+        time += 1
+
+
+def smooth(seed):
+    """The realistic data with readings of a train that runs, brakes and stops."""
+    lines = list(islice(smooth_readings(Numbers(seed)), RECORDS))
+    return Input("smooth", ["run"], ["run"], realistic_data(), lines, len(lines))
+
+
+def scattered(seed):
+    """The realistic data with readings at random over its track, up to 160 km/h."""
+    lines = list(islice(scattered_readings(Numbers(seed), 6_000_000, 44_444), RECORDS))
+    return Input("scattered", ["run"], ["run"], realistic_data(), lines, len(lines))
+
+
+def table(name, **values):
+    """An entry of a list of the data part."""
+    return f"[[{name}]]\n" + "".join(f"{key} = {value}\n" for key, value in values.items())
+
+
+def greatest_train():
+    """A train of 100 m with eight speed bands, whose brakes grow weaker with the speed."""
+    text = "[train]\nlength = 10000\nmax_speed = 500\ntraction_cutoff_time = 100\ntraction_cutoff_interface = true\n"
+    text += "emergency_time = 60\nservice_time = 50\nservice_brake = true\n"
+    for band in range(8):
+        upper = {"upper": 60 * (band + 1)} if band < 7 else {}
+        brakes = {"emergency": 120 - 5 * band, "service": 100 - 5 * band, "normal": 70 - 3 * band}
+        text += table("train.band", **upper, **brakes, kdry=900, kwet=950, kn_up=20, kn_down=20)
+    return text
+
+
+def greatest_track(numbers):
+    """A track of 100 km with as many entries as there may be. No gradient is that of the entry before, and the train is shorter
+    than each entry, so that all of them count; the speeds fall from step to step."""
+    text, grad = f"[track]\nlength = {TRACK_CM}\n", 0
+    for entry in range(GRADIENTS):
+        grad = (grad + 10 + numbers.draw(1, 20)) % 21 - 10
+        text += table("track.gradient", start=TRACK_CM * entry // GRADIENTS, grad=grad)
+    for entry in range(SPEED_STEPS):
+        text += table("track.speed", start=TRACK_CM * entry // SPEED_STEPS, speed=500 - 3 * entry)
+    for entry in range(AREAS):
+        start = TRACK_CM * entry // AREAS + 50_000
+        text += table("track.adhesion", start=start, end=start + numbers.draw(20_000, 60_000))
+    return text
+
+
+def greatest_restrictions():
+    """Restrictions within each fourth speed step, so that each makes a fall and hides none."""
+    for entry in range(RESTRICTIONS):
+        start = TRACK_CM * (4 * entry + 1) // SPEED_STEPS + 30_000
+        yield f"restrict,{entry},{start},{start + 20_000},{100 - entry},1\n"
+
+
+def greatest_of(name, seed, guidance):
+    """The greatest data, with readings at random over their track, up to 500 km/h."""
+    numbers = Numbers(seed)
+    head = "version = 1\n" + greatest_train()
+    head += f"[national]\navadh = 10\nadhesion_max = 60\nguidance = {guidance}\nservice_in_target = true\n"
+    head += "early_release = false\ninhibit_under_reading = false\n" + greatest_track(numbers)
+    head += f'[authority]\nkind = "end"\neoa = {TRACK_CM - 10_000}\nsvl = {TRACK_CM}\nrelease = 40\n%%\n'
+    head += "".join(greatest_restrictions())
+    lines = list(islice(scattered_readings(numbers, 100_000_000, 138_888), GREATEST_READINGS))
+    return Input(name, ["run"], ["run"], head, lines, len(lines))
+
+
+def greatest(seed):
+    """The greatest data without guidance curves."""
+    return greatest_of("greatest", seed, "false")
+
+
+def greatest_guided(seed):
+    """The greatest data with guidance curves."""
+    return greatest_of("greatest-guided", seed, "true")
+
+
+def authority(numbers):
+    """The record of an authority on the realistic track: nine of ten end in a stop, half of these with a release speed."""
+    end = numbers.draw(300_000, 590_000)
+    if numbers.draw(1, 10) == 1:
+        return f"limit,{end},{numbers.draw(20, 160)}\n"
+    return f"end,{end},{end + 5_000},{20 * numbers.draw(0, 1)}\n"
+
+
+def restriction(numbers, held):
+    """The record that sets a restriction on the realistic track, or revokes it where it is held."""
+    identity = numbers.draw(1, RESTRICTIONS)
+    if identity in held:
+        held.remove(identity)
+        return f"revoke,{identity}\n"
+    held.add(identity)
+    start = numbers.draw(0, 550_000)
+    end = start + numbers.draw(5_000, 50_000)
+    return f"restrict,{identity},{start},{end},{numbers.draw(40, 160)},{numbers.draw(0, 1)}\n"
+
+
+def mixed(seed):
+    """The smooth readings of the realistic data; after each of them an authority, and a restriction or a revocation."""
+    numbers, held, lines = Numbers(seed), set(), []
+    for line in smooth_readings(Numbers(seed)):
+        lines += [line, authority(numbers), restriction(numbers, held)]
+        if len(lines) >= RECORDS:
+            break
+    lines = lines[:RECORDS]
+    readings = sum(line.startswith("read") for line in lines)
+    return Input("mixed", ["run"], ["run"], realistic_data(), lines, readings)
+
+
+def flat(seed):
+    """Lines of one brake curve of 1 m/s² that ends at 10 km."""
+    numbers = Numbers(seed)
+    lines = [f"{time},{numbers.draw(0, 10_100_000)},{numbers.draw(0, 138_888)}\n" for time in range(FLAT_LINES)]
+    words = ["flat", "100", "1000000"]
+    return Input("flat", words, words, "", lines, FLAT_LINES)
+
+
+def trial(seed):
+    """A journey that the program makes itself; it reads no input."""
+    return Input("trial", ["trial", "7", "100000"], ["trial", "7", "1"], "", [], 100_000)
+
+
+MAKERS = {
+    "smooth": smooth,
+    "scattered": scattered,
+    "greatest": greatest,
+    "greatest-guided": greatest_guided,
+    "mixed": mixed,
+    "flat": flat,
+    "trial": trial,
+}
