@@ -144,6 +144,10 @@ class Matrix:
         meaning = meaning_of(definition.comment).replace("|", "\\|")
         return f"| `{definition.name}` | {kind(source or 'none')} | {meaning} | {cell} | {self.shown_by(definition.key(), found)} |"
 
+    def uncited(self):
+        """The definitions that no contract cites, nor reaches through others."""
+        return [key for key in self.graph.definitions if not self.graph.way_up(key)]
+
     def section(self, path):
         """The table of a file, under its head and the reason of what is own."""
         where, head = path.relative_to(ROOT).as_posix(), specs.head_of(path)
@@ -226,6 +230,8 @@ def main(words):
     found = [*comment_problems(matrix), *document_problems(matrix)]
     for problem in found:
         print(problem)
+    for path, name in matrix.uncited():
+        print(f"note: nothing cites {name} of {path.relative_to(ROOT).as_posix()}")
     count = len(matrix.graph.definitions)
     print(f"definitions: {max(count - len(found), 0)} passed, {len(found)} failed")
     return 1 if found else 0
