@@ -7,7 +7,6 @@ the document lacks its line or names one that is gone, where own definitions hav
 
 import re
 import sys
-from pathlib import Path
 
 import believed
 import specs
@@ -29,7 +28,7 @@ PARTS = [
         "What inner contracts and laws cite",
         "These are not needed to say what the program does: they are how one crate tells the next what it computes, or how the laws of "
         "`sdm_laws` are stated. A mistake in one of them would make a proof above it fail, and could not make a wrong program pass. "
-        "All are own unless a clause is named.",
+        "Whoever relies on a law by its name relies on its statement here. All are own unless a clause is named.",
     ),
 ]
 
@@ -40,13 +39,15 @@ def clauses(text):
 
 
 def kind(source):
-    """Whether a definition is as the standard, simplified from it, or the project's own; with its clauses, and what is own."""
+    """Whether a definition is meant as the standard's, simplified from it, or the project's own; with its clauses, and what is own."""
     first, _, rest = source.partition(";")
     if "SUBSET-026-3" in first:
         rest = rest.strip().replace("own: ", "own, ")
         return f"simplified {clauses(first)}: {rest}" if rest else f"as {clauses(first)}"
+    if "own" not in source.split():
+        return source
     rest = " ".join(word for word in source.split() if word != "own")
-    return f"own ({rest})" if rest and "own" in source else source if rest else "own"
+    return f"own ({rest})" if rest else "own"
 
 
 def reasons():
