@@ -1,146 +1,240 @@
-"""Reads the definitions of all specs/ folders with their comments: name, file, source and meaning.
+"""Writes and checks the tables of docs/DEFINITIONS.md: each definition of the specs/ folders with its source, its meaning,
+the contract that cites it, and the case, test or must-fail edit that shows it.
 
-`scripts/write-definitions` writes the tables of docs/DEFINITIONS.md from them, and `scripts/check-definitions` fails where a
-definition has no source, or the document is not what the comments say.
+`scripts/write-definitions` writes them. `scripts/check-definitions` fails where a definition has no source or no comment, where
+the document lacks its line or names one that is gone, where own definitions have no reason, and where a line is stale.
 """
 
 import re
 import sys
-from pathlib import Path
 
-ROOT = Path(__file__).resolve().parent.parent
+import believed
+import specs
+from citations import Graph
+from evidence import Cases, Tests
+from specs import ROOT, meaning_of, source_of
+
 DOC = ROOT / "docs" / "DEFINITIONS.md"
+REASONS = ROOT / "scripts" / "own-reasons.txt"
 BEGIN = "<!-- The tables from here on are written by scripts/write-definitions. -->"
 
-DEFINITION = re.compile(r"^\s*(?:abbrev pub|unfoldable pub|pub record|pub data|pub)\s+([^\s:({]+)")
-SOURCE = re.compile(r"\(((?:[^()]|\([^()]*\))*?(?:SUBSET-026-3|\bown\b)(?:[^()]|\([^()]*\))*)\)")
+PARTS = [
+    (
+        "What the top call reaches",
+        "The contract of `sdm_main` names these definitions, or reaches them through others. Whoever relies on the program relies on "
+        "them. [ASSUMPTIONS.md](ASSUMPTIONS.md#the-files-to-believe) counts their lines.",
+    ),
+    (
+        "What inner contracts and laws cite",
+        "These are not needed to say what the program does: they are how one crate tells the next what it computes, or how the laws of "
+        "`sdm_laws` are stated. A mistake in one of them would make a proof above it fail, and could not make a wrong program pass. "
+        "Whoever relies on a law by its name relies on its statement here. All are own unless a clause is named.",
+    ),
+]
 
 
-def crates():
-    """The crates in the order of crates.txt."""
-    for line in (ROOT / "crates.txt").read_text().splitlines():
-        name = line.split(":")[0].split("#")[0].split()
-        if name:
-            yield name[0]
-
-
-def spec_files(crate):
-    """The files of a crate's specs/ folder in the order of Lib.antt."""
-    folder = ROOT / "crates" / crate / "specs"
-    library = folder / "Lib.antt"
-    if not library.exists():
-        return
-    for line in library.read_text().splitlines():
-        found = re.match(r"pub mod (\w+)", line)
-        if found:
-            yield folder / (found.group(1) + ".antt")
-
-
-def source_of(comment):
-    """The source that a comment names, as `SUBSET-026-3 3.13.7; own form` or `own`."""
-    found = SOURCE.findall(comment)
-    return found[-1].strip() if found else None
-
-
-def meaning_of(comment):
-    """The comment without its source."""
-    text = SOURCE.sub("", comment)
-    text = re.sub(r"\s+", " ", text).strip()
-    text = re.sub(r"\s+([.,:;])", r"\1", text)
-    return text.rstrip(".").replace("|", "\\|")
-
-
-def definitions(path):
-    """The head comment of a file, and (name, line, comment) of each of its public definitions."""
-    lines = path.read_text().splitlines()
-    head, i = [], 0
-    while i < len(lines) and lines[i].startswith("--"):
-        head.append(lines[i][2:].strip())
-        i += 1
-    found, comment, depth_of_record = [], [], None
-    for number, line in enumerate(lines[i:], i + 1):
-        stripped = line.strip()
-        indent = len(line) - len(line.lstrip())
-        if stripped.startswith("-- ----"):
-            comment = []
-            continue
-        if stripped.startswith("--"):
-            comment.append(stripped[2:].strip())
-            continue
-        if depth_of_record is not None and stripped and indent > depth_of_record:
-            comment = []
-            continue
-        depth_of_record = None
-        match = DEFINITION.match(line)
-        if match and not stripped.startswith("pub mod") and not stripped.startswith("pub use"):
-            found.append((match.group(1), number, " ".join(comment)))
-            if stripped.startswith(("pub record", "pub data")):
-                depth_of_record = indent
-        if stripped:
-            comment = []
-    return " ".join(head), found
-
-
-def rows():
-    """(crate, path, name, line, source, meaning) of every definition; the file's head gives a source that is not its own."""
-    for crate in crates():
-        for path in spec_files(crate):
-            head, found = definitions(path)
-            for name, line, comment in found:
-                yield crate, path, name, line, source_of(comment) or source_of(head), meaning_of(comment)
-
-
-def clauses(source):
+def clauses(text):
     """A source with each clause below the third level marked as to be compared with issue 3.6.0."""
-    return re.sub(r"\b(\d+\.\d+\.\d+\.\d+(?:\.\d+)*)", r"\1*", source)
+    return re.sub(r"\b(\d+\.\d+\.\d+\.\d+(?:\.\d+)*)", r"\1*", text.replace("SUBSET-026-3 ", ""))
 
 
 def kind(source):
-    """Whether a definition is as the standard, simplified from it, or the project's own."""
-    if "SUBSET-026-3" not in source:
-        return "own"
-    return "simplified" if "own" in source else "as the standard"
+    """Whether a definition is meant as the standard's, simplified from it, or the project's own; with its clauses, and what is own."""
+    first, _, rest = source.partition(";")
+    if "SUBSET-026-3" in first:
+        rest = rest.strip().replace("own: ", "own, ")
+        return f"simplified {clauses(first)}: {rest}" if rest else f"as {clauses(first)}"
+    if "own" not in source.split():
+        return source
+    rest = " ".join(word for word in source.split() if word != "own")
+    return f"own ({rest})" if rest else "own"
 
 
-def tables():
-    """The tables of the document."""
-    out, last = [], None
-    for crate, path, name, _, source, meaning in rows():
-        where = path.relative_to(ROOT).as_posix()
-        if where != last:
-            head, _found = definitions(path)
-            out += ["", f"### {where}", "", head, "", "| Definition | Kind | Source | Meaning |", "|---|---|---|---|"]
-            last = where
-        shown = source or "none"
-        out.append(f"| `{name}` | {kind(shown)} | {clauses(shown)} | {meaning} |")
-    return "\n".join(out) + "\n"
+def reasons():
+    """file -> why its own definitions are own."""
+    found = {}
+    for line in REASONS.read_text().splitlines():
+        if line and not line.startswith("#"):
+            path, _, reason = line.partition(": ")
+            found[path] = reason
+    return found
 
 
-def written():
-    """The document with its tables anew."""
+class Matrix:
+    """The lines of the document."""
+
+    def __init__(self):
+        self.graph = Graph()
+        self.cases, self.tests = Cases(self.graph), Tests(self.graph)
+        self.reached = believed.reached_by_file(self.graph)
+        self.reasons = reasons()
+
+    def ranked(self, key):
+        """The contracts that cite a definition, the most direct first."""
+        order = {crate: i for i, crate in enumerate(specs.crates())}
+        is_data = self.graph.definitions[key].is_data()
+        answers = re.compile(rf"≡ \(?{re.escape(key[1])}\b")
+
+        def rank(citer):
+            contract, cited = citer
+            ensured = [text for word, text in cited if word == "ensures"]
+            ghost = all(word == "ghost" for word, _ in cited)
+            return (
+                contract.is_law(),
+                not (is_data and contract.name == "Value"),
+                ghost,
+                not any(answers.search(text) for text in ensured),
+                not ensured,
+                not contract.public,
+                min(len(text) for _, text in cited),
+                order[contract.crate()],
+            )
+
+        return [contract for contract, _ in sorted(self.graph.citers[key], key=rank)]
+
+    def is_claim(self, key):
+        return self.graph.definitions[key].is_claim()
+
+    def through(self, key):
+        """The definition that a contract cites nearest to this one: itself, or one that stands on it, a claim last."""
+        nearest = self.graph.way_up(key)
+        return min(nearest, key=lambda k: (self.is_claim(k), k[0] != key[0], len(self.graph.citers[k]), k), default=None)
+
+    def contract(self, key):
+        """The cell that names the contract, and the contracts themselves."""
+        through = self.through(key)
+        if not through:
+            return "none", []
+        found = self.ranked(through)
+        if through != key:
+            return f"{found[0].shown()} through `{through[1]}`", found
+        shown = list(dict.fromkeys(contract.shown() for contract in found))
+        return shown[0] + (f" and {len(shown) - 1} more" if len(shown) > 1 else ""), found
+
+    def nearest_above(self, key, find, levels):
+        """What `find` finds for the nearest definition that stands on this one; a claim counts where it stands on it at once."""
+        level, seen = [key], {key}
+        for depth in range(levels):
+            level = sorted({up for k in level for up in self.graph.above[k]} - seen)
+            seen.update(level)
+            for up in level:
+                found = None if depth and self.is_claim(up) else find(up)
+                if found:
+                    return f"{found} through `{up[1]}`"
+        return None
+
+    def shown_by(self, key, found):
+        """The cell that names what shows a definition: a case of it; a test or an edit of a function whose contract cites it; what
+        shows a definition that stands on it. Of a claim no far test counts: what shows it is the proof."""
+        if not found:
+            return self.cases.of(key) or self.nearest_above(key, self.cases.of, 1) or "none"
+        about, through = f"{key[1]} {self.graph.definitions[key].comment}", self.through(key)
+
+        def tested(up):
+            return self.tests.of_any(self.contract(up)[1], about, near_only=True)
+
+        ways = [lambda: self.cases.of(key), lambda: tested(key) if through == key else None]
+        ways += [lambda: self.nearest_above(key, self.cases.of, 1)]
+        if not self.is_claim(key) and not self.is_claim(through):
+            ways += [lambda: self.nearest_above(key, tested, 1), lambda: self.tests.of_any(found, about)]
+            ways += [lambda: self.nearest_above(key, self.cases.of, 9)]
+        return next((shown for shown in (way() for way in ways) if shown), "the proof of the contract")
+
+    def line(self, definition, source):
+        cell, found = self.contract(definition.key())
+        meaning = meaning_of(definition.comment).replace("|", "\\|")
+        return f"| `{definition.name}` | {kind(source or 'none')} | {meaning} | {cell} | {self.shown_by(definition.key(), found)} |"
+
+    def uncited(self):
+        """The definitions that no contract cites, nor reaches through others."""
+        return [key for key in self.graph.definitions if not self.graph.way_up(key)]
+
+    def section(self, path):
+        """The table of a file, under its head and the reason of what is own."""
+        where, head = path.relative_to(ROOT).as_posix(), specs.head_of(path)
+        out = ["", f"#### {where}", "", head]
+        if where in self.reasons:
+            out += ["", f"Own because {self.reasons[where]}."]
+        out += ["", "| Definition | Source | Meaning | Contract | Shown by |", "|---|---|---|---|---|"]
+        return out + [self.line(d, source_of(d.comment) or source_of(head)) for d in specs.definitions(path)]
+
+    def tables(self):
+        """The two parts of the document."""
+        files = [path for path in specs.all_spec_files() if any(specs.definitions(path))]
+        inner = [path for path in files if not self.reached[path]]
+        out = []
+        for (title, text), paths in zip(PARTS, ([path for path in files if self.reached[path]], inner)):
+            out += ["", f"### {title}", "", text]
+            for path in paths:
+                out += self.section(path)
+        return "\n".join(out) + "\n"
+
+    def written(self, text):
+        """The document with its tables anew."""
+        return text[: text.index(BEGIN)] + BEGIN + "\n" + self.tables()
+
+
+def named_in(text):
+    """The (file, definition) of each line of the document."""
+    found, where = set(), None
+    for line in text[text.index(BEGIN) :].splitlines():
+        heading = re.match(r"#### (\S+)", line)
+        if heading:
+            where = heading.group(1)
+        name = re.match(r"\| `([^`]+)` \|", line)
+        if name:
+            found.add((where, name.group(1)))
+    return found
+
+
+def comment_problems(matrix):
+    """Definitions without a source or a comment, and files whose own definitions have no reason."""
+    for path in specs.all_spec_files():
+        where, head, own = path.relative_to(ROOT).as_posix(), specs.head_of(path), False
+        for definition in specs.definitions(path):
+            source = source_of(definition.comment) or source_of(head)
+            own = own or "own" in (source or "")
+            if not source:
+                yield f"{where}:{definition.line}: {definition.name} has no source"
+            if not meaning_of(definition.comment):
+                yield f"{where}:{definition.line}: {definition.name} has no comment"
+        if own and matrix.reached[path] and where not in matrix.reasons:
+            yield f"scripts/own-reasons.txt: no reason for what is own in {where}"
+
+
+def document_problems(matrix):
+    """Lines that are wanting, lines of what is gone, and else a text that is stale."""
     text = DOC.read_text()
-    return text[: text.index(BEGIN)] + BEGIN + "\n" + tables()
-
-
-def problems():
-    """What is wrong: a definition without a source, or a document that is not what the comments say."""
-    for _, path, name, line, source, meaning in rows():
-        if not source:
-            yield f"{path.relative_to(ROOT)}:{line}: {name} has no source"
-        if not meaning:
-            yield f"{path.relative_to(ROOT)}:{line}: {name} has no comment"
-    if DOC.read_text() != written():
-        yield "docs/DEFINITIONS.md is not what the comments say: run scripts/write-definitions"
+    if BEGIN not in text:
+        yield "docs/DEFINITIONS.md: the line before its tables is gone"
+        return
+    there = {(p.relative_to(ROOT).as_posix(), d.name) for p in specs.all_spec_files() for d in specs.definitions(p)}
+    named = named_in(text)
+    for where, name in sorted(there - named):
+        yield f"docs/DEFINITIONS.md: no line for {name} of {where}"
+    for where, name in sorted(named - there):
+        yield f"docs/DEFINITIONS.md: names {name} of {where}, which is gone"
+    for where in sorted(matrix.reasons):
+        if not (ROOT / where).exists():
+            yield f"scripts/own-reasons.txt: {where} is gone"
+    if there == named:
+        new, old = set(matrix.written(text).splitlines()), set(text.splitlines())
+        for line in sorted(new - old)[:5] or sorted(old - new)[:5]:
+            yield f"docs/DEFINITIONS.md: stale, run scripts/write-definitions: {line[:100]}"
 
 
 def main(words):
+    matrix = Matrix()
     if words == ["write"]:
-        DOC.write_text(written())
+        DOC.write_text(matrix.written(DOC.read_text()))
         return 0
-    found = list(problems())
+    found = [*comment_problems(matrix), *document_problems(matrix)]
     for problem in found:
         print(problem)
-    print(f"definitions: {len(list(rows())) - len(found)} passed, {len(found)} failed")
+    for path, name in matrix.uncited():
+        print(f"note: nothing cites {name} of {path.relative_to(ROOT).as_posix()}")
+    count = len(matrix.graph.definitions)
+    print(f"definitions: {max(count - len(found), 0)} passed, {len(found)} failed")
     return 1 if found else 0
 
 

@@ -1,0 +1,122 @@
+"""Reads the definitions of all specs/ folders: name, line, comment and text.
+
+scripts/citations.py finds what cites them, scripts/definitions.py writes them into docs/DEFINITIONS.md.
+"""
+
+import re
+from pathlib import Path
+
+ROOT = Path(__file__).resolve().parent.parent
+CRATES = ROOT / "crates"
+
+PUBLIC = re.compile(r"^\s*(?:abbrev pub|unfoldable pub|pub record|pub data|pub)\s+([^\s:({]+)")
+NO_DEFINITION = ("pub mod", "pub use")
+SOURCE = re.compile(r"\(((?:[^()]|\([^()]*\))*?(?:SUBSET-026-3|\bown\b)(?:[^()]|\([^()]*\))*)\)")
+
+
+class Definition:
+    """A public definition of a specs/ file: where it stands, the comment above it, and its text without comments."""
+
+    def __init__(self, path, name, line, comment, text):
+        self.path, self.name, self.line, self.comment, self.text = path, name, line, comment, text
+
+    def key(self):
+        return (self.path, self.name)
+
+    def is_claim(self):
+        """Something that holds or doesn't, as against a value or a type of data."""
+        claims = r"(?:Is|Are|Has|Keeps|Stops|Slows|Meets|Takes|Comes|Reads|Appends|Begins|Law|In)[A-Z]"
+        return "Type 0" in self.text and bool(re.match(claims, self.name))
+
+    def is_data(self):
+        """A type of data."""
+        return self.text.lstrip().startswith(("pub record", "pub data")) and not self.is_claim()
+
+    def constructors(self):
+        """The constructors of a `data`."""
+        if not self.text.lstrip().startswith("pub data"):
+            return []
+        return re.findall(r"^\s+([A-Za-z_]\w*)\s*:", self.text, re.M)
+
+
+def crates():
+    """The crates in the order of crates.txt."""
+    for line in (ROOT / "crates.txt").read_text().splitlines():
+        name = line.split(":")[0].split("#")[0].split()
+        if name:
+            yield name[0]
+
+
+def spec_files(crate):
+    """The files of a crate's specs/ folder in the order of Lib.antt."""
+    library = CRATES / crate / "specs" / "Lib.antt"
+    if not library.exists():
+        return
+    for line in library.read_text().splitlines():
+        found = re.match(r"pub mod (\w+)", line)
+        if found:
+            yield library.parent / (found.group(1) + ".antt")
+
+
+def all_spec_files():
+    """The spec files of all crates."""
+    for crate in crates():
+        yield from spec_files(crate)
+
+
+def head_of(path):
+    """The comment at the head of a file."""
+    head = []
+    for line in path.read_text().splitlines():
+        if not line.startswith("--"):
+            break
+        head.append(line[2:].strip())
+    return " ".join(head)
+
+
+def starts(lines):
+    """(index, name) of each public definition; fields of a record are none."""
+    depth = None
+    for i, line in enumerate(lines):
+        stripped, indent = line.strip(), len(line) - len(line.lstrip())
+        if not stripped or stripped.startswith("--"):
+            continue
+        if depth is not None and indent > depth:
+            continue
+        depth = None
+        found = PUBLIC.match(line)
+        if found and not stripped.startswith(NO_DEFINITION):
+            yield i, found.group(1)
+            if stripped.startswith(("pub record", "pub data")):
+                depth = indent
+
+
+def comment_above(lines, i):
+    """The lines of comment right above a line; a heading of a section is none of them."""
+    found = []
+    while i > 0 and lines[i - 1].strip().startswith("--") and not lines[i - 1].strip().startswith("-- ----"):
+        i -= 1
+        found.insert(0, lines[i].strip()[2:].strip())
+    return " ".join(found)
+
+
+def definitions(path):
+    """The public definitions of a file, in order."""
+    lines = path.read_text().splitlines()
+    found = list(starts(lines))
+    ends = [i for i, _ in found[1:]] + [len(lines)]
+    for (i, name), end in zip(found, ends):
+        text = "\n".join(re.sub(r"--.*", "", line) for line in lines[i:end])
+        yield Definition(path, name, i + 1, comment_above(lines, i), text)
+
+
+def source_of(comment):
+    """The source that a comment names, as `SUBSET-026-3 3.13.7; own form` or `own`."""
+    found = SOURCE.findall(comment)
+    return found[-1].strip() if found else None
+
+
+def meaning_of(comment):
+    """The comment without its source."""
+    text = re.sub(r"\s+", " ", SOURCE.sub("", comment)).strip()
+    return re.sub(r"\s+([.,:;])", r"\1", text).rstrip(".")
