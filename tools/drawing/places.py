@@ -119,9 +119,9 @@ def wanted_labels(journey, low, high):
         else:
             labels.append(wanted)
     for held in journey.restrictions:
-        start, end = max(held.what.start / CM_PER_M, low), min(held.what.end / CM_PER_M, high)
-        wanted = label_of(f"{held.what.speed} km/h", held, (start + end) / 2)
-        labels += [wanted] if wanted.when else []
+        fields = fields_of(held.what, journey.profile, low, high)
+        if fields and period(held, journey.readings):
+            labels.append(label_of(f"{held.what.speed} km/h", held, (fields[0][0] + fields[-1][1]) / 2))
     return sorted((at for at in labels if low <= at.place <= high), key=lambda at: (-at.until, -at.place))
 
 
@@ -198,17 +198,21 @@ def profile_lines(journey, low, high):
     return [f"{x:.3f} {kmh}" for x, kmh in pairs + [(high, kmh) for _, kmh in pairs[-1:]]]
 
 
+def fields_of(zone, profile, low, high):
+    """The rectangles between the speed of a restriction and the static speed profile above it: from, to in m, km/h, km/h."""
+    fields, pairs = [], steps(profile)
+    for (cm, kmh), (next_cm, _) in zip(pairs, pairs[1:] + [(math.inf, 0)]):
+        start = max(max(cm, zone.start) / CM_PER_M, low)
+        end = min(min(next_cm, zone.end) / CM_PER_M, high)
+        if start < end and zone.speed < kmh:
+            fields.append((start, end, zone.speed, kmh))
+    return fields
+
+
 def restriction_lines(journey, low, high):
-    """The restrictions as rectangles, from the speed of each up to the static speed profile."""
-    lines, pairs = [], steps(journey.profile)
-    for held in journey.restrictions:
-        zone = held.what
-        for (cm, kmh), (next_cm, _) in zip(pairs, pairs[1:] + [(math.inf, 0)]):
-            start = max(max(cm, zone.start) / CM_PER_M, low)
-            end = min(min(next_cm, zone.end) / CM_PER_M, high)
-            if start < end and zone.speed < kmh:
-                lines.append(f"{start:.3f} {kmh} {start:.3f} {end:.3f} {zone.speed} {kmh}")
-    return lines
+    """The fields of all restrictions."""
+    fields = [field for held in journey.restrictions for field in fields_of(held.what, journey.profile, low, high)]
+    return [f"{start:.3f} {kmh} {start:.3f} {end:.3f} {speed} {kmh}" for start, end, speed, kmh in fields]
 
 
 def limit_points(readings, limit):

@@ -43,7 +43,7 @@ def strip_panel(journey):
     lines += [
         f"set xrange [{readings[0].time:.1f}:{end:.3f}]; set yrange [0:{len(columns)}]",
         f"set ytics scale 0 {SMALL} ({names}); set xtics out scale 0.5 {SMALL} ({tics_of(readings, end)})",
-        label("time (s)\\nfront end (m)", LEFT - 24, FOOT - 20, "right " + SMALL),
+        label("time (s)\\nfront end (m)", LEFT - 32, FOOT - 20, "right " + SMALL),
     ]
     series = ["$boxes using 1:2:3:4:5:6:7 with boxxyerror fs solid noborder lc rgb variable notitle"] if boxes else []
     series += ["$letters using 1:2:3:4 with labels font ',10' tc rgb variable notitle"] if letters else []
