@@ -85,23 +85,30 @@ def strip_lines(readings, columns, end):
 
 def tics_of(readings, end):
     """Labels of the time axis at readings: the time, and below it the place of the front end."""
-    pixels = (RIGHT - LEFT) / (end - readings[0].time)
-    step = next(tenths for tenths in round_tenths() if tenths / 10 * pixels >= APART)
-    shown, last = [], -1
+    apart = APART * (end - readings[0].time) / (RIGHT - LEFT)
+    step = round_step(readings, apart)
+    shown = readings[:1]
     for reading in readings:
-        now = round(reading.time * 10) // step
-        if not shown or (now > last and (reading.time - shown[-1].time) * pixels >= APART):
+        if reading.time - shown[-1].time >= apart and tenths(reading) // step > tenths(shown[-1]) // step:
             shown.append(reading)
-            last = now
     return ", ".join(f'"{seconds(r.time)}\\n{r.front:.0f}" {r.time:.1f}' for r in shown)
 
 
-def round_tenths():
-    """1, 2 and 5 tenths of a second, and ten times as much, and so on."""
-    tenths = 1
-    while True:
-        yield from (tenths, 2 * tenths, 5 * tenths)
-        tenths *= 10
+def tenths(reading):
+    """The time of a reading in tenths of a second."""
+    return round(reading.time * 10)
+
+
+def round_step(readings, apart):
+    """The round step in tenths, of at least so many seconds, most of whose multiples have a reading; 1 where none is such."""
+    times = {tenths(reading) for reading in readings}
+    first, last, best, share = min(times), max(times), 1, 0.5
+    for step in (digit * 10**power for power in range(8) for digit in (1, 2, 5)):
+        multiples = range(first + -first % step, last + 1, step)
+        if step >= 10 * apart and len(multiples) >= 4:
+            now = sum(time in times for time in multiples) / len(multiples)
+            best, share = (step, now) if now > share else (best, share)
+    return best
 
 
 def key_of(edge):
