@@ -1,6 +1,7 @@
 pub mod Cutting
 pub mod FlatTexts
 pub mod FlatOrder
+pub mod TrialRuns
 pub mod CommandFacts
 pub mod RunTurnLaws
 pub mod RunData

@@ -1,19 +1,12 @@
 -- What the parts of `run` say makes the output of the whole: an input has one run, so it is enough to name one.
 use Rattle.std.proofs.Common.{◌≡◌, ℕ, ◌≤◌, ◌<◌, true, false, List, [], Option, Some, None, take, drop, length, nat_lt, inl, inr, refl, ap, ◌∙◌, sym, subst, arith}
-use Rattle.std.specs.Prelude.{Ok, Err}
 use Rattle.std.proofs.lemmas.Bool.Decides.{nat_tests}
-use Rattle.std.specs.Io.KnownBytes.{Appends}
 use Rattle.std.proofs.KnownBytes.{Appends-nil}
-use Rattle.toml.specs.Data.{Members}
 use Rattle.sdm_rules.specs.declared.rows.Row.{Row}
-use Rattle.sdm_rules.specs.declared.authorities.Authority.{Authority}
-use Rattle.sdm_rules.specs.Data.{LineData}
 use Rattle.sdm_rules.specs.Flat.{Output}
 use Rattle.sdm_rules.specs.Forms.{event_of}
 use Rattle.sdm_rules.specs.Input.{most_bytes, End, IsRun, IsAfterDivision}
 use Rattle.sdm_rules.specs.Input as ends
-use Rattle.sdm_rules.specs.Machines.{InOrder}
-use Rattle.sdm_rules.specs.Opening.{IsOpen, IsOpenFault}
 use Rattle.sdm_rules.specs.Records.{journey_from}
 use Rattle.sdm_rules.specs.Supervision.{Supervision, opening}
 use Rattle.sdm_rules.specs.Text.{run_text}
@@ -22,10 +15,10 @@ use Rattle.sdm_report.specs.declared.outcome.InputFault.TheVariants.{NoSplit, To
 use Rattle.sdm_report.specs.declared.outcome.Outcome.{Outcome}
 use Rattle.sdm_report.specs.declared.outcome.Outcome.TheVariants.{Done, Usage, ReadFault, WriteFault, TooLong, BadData, Refused, BadEvent, Memory}
 use Rattle.sdm_data.specs.Division.{divide}
-use Rattle.sdm_events.specs.Journey.{Record, records_of}
+use Rattle.sdm_events.specs.Journey.{records_of}
 use Rattle.sdm_run.specs.Answers.{ComesBefore, ComesFirst, IsAnswer, IsRecordsOutcome}
 use Rattle.sdm_run.specs.Journeys.{run_reader, output_of_records, IsRunOutput}
-use Rattle.sdm_run.specs.RunParts.{IsDataOf, IsOpeningOf, IsRefusedBy}
+use Rattle.sdm_run.specs.RunParts.{IsOpeningOf, IsRefusedBy}
 use Rattle.sdm_run.specs.RunTurns.{AreRunRowsSafe}
 use Rattle.sdm_run.proofs.RunTurnLaws.{rows_of_turns}
 use Rattle.sdm_run.proofs.RunData.{opening_open}

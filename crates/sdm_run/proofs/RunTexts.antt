@@ -1,11 +1,10 @@
 -- The output of records, record by record: what was written and the output of the records that are left are the output of all.
-use Rattle.std.proofs.Common.{◌≡◌, ℕ, suc, ◌+◌, ◌≤◌, ◌<◌, List, [], ◌∷◌, ◌++◌, length, take, Option, Some, None, inl, inr, refl, ap, ◌∙◌, sym, subst, append_assoc, length-append, arith}
+use Rattle.std.proofs.Common.{◌≡◌, ℕ, suc, ◌+◌, ◌≤◌, List, [], ◌∷◌, ◌++◌, length, take, Option, Some, None, inl, inr, refl, ap, ◌∙◌, sym, subst, append_assoc, length-append, arith}
 use Rattle.std.specs.Prelude.{Result, Ok, Err, ◌≢◌}
 use Rattle.std.proofs.Math.Seq.{take-append-add}
-use Rattle.std.proofs.lemmas.List.{take-append-le, append-nil}
+use Rattle.std.proofs.lemmas.List.{append-nil}
 use Rattle.std.specs.Io.KnownBytes.{Appends}
 use Rattle.std.proofs.KnownBytes.{Appends-nil, Appends-trans}
-use Rattle.sdm_io.specs.Told.{AppendsPart}
 use Rattle.sdm_rules.specs.declared.faults.EventFault.{EventFault}
 use Rattle.sdm_rules.specs.declared.faults.EventCause.{EventCause}
 use Rattle.sdm_rules.specs.declared.faults.EventCause.TheVariants as causes
@@ -16,7 +15,7 @@ use Rattle.sdm_rules.specs.declared.records.Event.TheVariants as record_kinds
 use Rattle.sdm_rules.specs.declared.rows.Row.{Row}
 use Rattle.sdm_rules.specs.Flat.{Output}
 use Rattle.sdm_rules.specs.Forms.{event_of}
-use Rattle.sdm_rules.specs.Records.{Journey, Step, authority_fault, restrict_fault, revoke_fault, time_fault, time_cause, unless, step, step_of, event_at, go_on, journey_from, most_records}
+use Rattle.sdm_rules.specs.Records.{Step, authority_fault, restrict_fault, revoke_fault, time_fault, time_cause, unless, step, step_of, event_at, most_records}
 use Rattle.sdm_rules.specs.Supervision.{Supervision}
 use Rattle.sdm_rules.specs.Text.{row_text}
 use Rattle.sdm_report.specs.declared.outcome.Outcome.{Outcome}
@@ -50,26 +49,6 @@ took old new n s t records more x row is e counted h = record {
   counted = counted;
   fewer = rw is (omega arith);
 }
-
--- a front of the row was written
-pub cut_row : (old new : Option (List ℕ)) (n : ℕ) (s t : Supervision) (records more : List Record) (x : Record) (row : Option Row) → records ≡ x ∷ more →
-    step_of s (event_at event_of n x) ≡ Ok (record { after = t; row = row }) → AppendsPart old new (text_of row) → IsAnswer (output_of_records n s records) old new WriteFault
-cut_row old new n s t records more x row is e h =
-    let all : output_of_records n s records ≡ record { text = text_of row ++ (output_of_records (suc n) t more).text; end = (output_of_records (suc n) t more).end } = ap (output_of_records n s) is ∙ output_first n s t x more row e in
-    let text : (output_of_records n s records).text ≡ text_of row ++ (output_of_records (suc n) t more).text = ap (λ (o : Output). o.text) all in
-    record {
-      ended = inr (inr (inl refl));
-      taken = (h.0, rw (text, length-append) (omega (arith, h.1)), subst (Appends old new) (sym (ap (take h.0) text ∙ take-append-le h.0 (text_of row) (output_of_records (suc n) t more).text h.1)) h.2);
-    }
-
--- the record is refused
-pub refused_record : (old : Option (List ℕ)) (n : ℕ) (s : Supervision) (records more : List Record) (x : Record) (cause : EventCause) → records ≡ x ∷ more →
-    step_of s (event_at event_of n x) ≡ Err cause → IsAnswer (output_of_records n s records) old old (BadEvent n cause)
-refused_record old n s records more x cause is e = rw (is, e) (record { ended = inl refl; taken = Appends-nil old })
-
--- want of memory before the record
-pub no_memory : (old : Option (List ℕ)) (output : Output) → IsAnswer output old old Memory
-no_memory old output = record { ended = inr (inr (inr refl)); taken = record { front = []; rest = output.text; parts = refl; whole_lines = inl refl; taken = Appends-nil old } }
 
 -- ---- no record is refused as a line
 

@@ -12,7 +12,7 @@ use Rattle.sdm_rules.specs.declared.faults.EventCause.TheVariants as causes
 use Rattle.sdm_rules.specs.Supervision.{Supervision, row_of, row_in, after_reading, after_authority, after_restriction, after_revocation}
 use Rattle.sdm_rules.specs.Machines.{InOrder, must_after, may_after}
 use Rattle.sdm_rules.specs.Opening.{IsOpen}
-use Rattle.sdm_rules.specs.Records.{Journey, Step, authority_fault, restrict_fault, revoke_fault, time_fault, time_cause, unless, quiet, step, step_of, event_at, go_on, journey_from}
+use Rattle.sdm_rules.specs.Records.{Journey, authority_fault, restrict_fault, revoke_fault, time_fault, time_cause, unless, quiet, step, step_of, event_at, go_on, journey_from}
 use Rattle.sdm_laws.proofs.Headline.{machines, stop}
 use Rattle.sdm_laws.proofs.Gaps.{gaps}
 use Rattle.sdm_run.specs.RunTurns.{Turn, turn_of, turns_of_event, turns_of_record, turns_from, row_of_turn, AreTurnsSafe, AreRowsOfTurns}

@@ -12,7 +12,7 @@ use Rattle.sdm_report.specs.declared.outcome.Outcome.{Outcome}
 use Rattle.sdm_report.specs.declared.outcome.Outcome.TheVariants.{Done, Usage, ReadFault, WriteFault, TooLong, BadData, Refused, BadEvent, Memory}
 use Rattle.sdm_report.specs.OutcomeLines.{end_of_data}
 use Rattle.sdm_run.specs.declared.words.Command.{Command}
-use Rattle.sdm_run.specs.declared.words.Command.TheVariants.{Flat, Run}
+use Rattle.sdm_run.specs.declared.words.Command.TheVariants.{Flat, Run, Trial}
 
 -- the end that an outcome tells, if it tells one (own)
 abbrev pub told_end : Outcome → Option ends.End
@@ -140,7 +140,26 @@ IsRunOutcome (Refused fault) = fault ≢ open_faults.Memory
 IsRunOutcome (BadEvent number cause) = (1 ≤ number) × (cause ≢ Line)
 IsRunOutcome Memory = Unit {0}
 
+-- an outcome that `trial` may have: it reads nothing, and no data and no reading of it are refused (own)
+abbrev pub IsTrialOutcome : Outcome → Type 0
+IsTrialOutcome Done = Unit {0}
+IsTrialOutcome Usage = ⊥
+IsTrialOutcome ReadFault = ⊥
+IsTrialOutcome WriteFault = Unit {0}
+IsTrialOutcome TooLong = ⊥
+IsTrialOutcome (BadData fault) = ⊥
+IsTrialOutcome (Refused fault) = ⊥
+IsTrialOutcome (BadEvent number cause) = ⊥
+IsTrialOutcome Memory = Unit {0}
+
 -- an outcome that a command may have (own)
 abbrev pub IsPossible : Command → Outcome → Type 0
 IsPossible (Flat decel end) outcome = IsFlatOutcome outcome
 IsPossible Run outcome = IsRunOutcome outcome
+IsPossible (Trial seed cycles) outcome = IsTrialOutcome outcome
+
+-- the command reads the input to its end (own)
+abbrev pub ReadsInput : Command → Type 0
+ReadsInput (Flat decel end) = Unit {0}
+ReadsInput Run = Unit {0}
+ReadsInput (Trial seed cycles) = ⊥

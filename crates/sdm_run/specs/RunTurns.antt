@@ -1,4 +1,4 @@
--- What is promised of all rows of `run`, over the whole list of its records (own).
+-- What is promised of all rows of `run` and of `trial`, over the whole list of their records (own).
 use Rattle.std.specs.Prelude.{◌≡◌, ℕ, suc, Bool, false, IsTrue, List, [], ◌∷◌, Option, Some, None, Result, Ok, Err, Contains, ◌<◌, map, take, drop}
 use Rattle.sdm_num.specs.Readings.{OdometerReading}
 use Rattle.sdm_rules.specs.declared.records.Event.{Event}
@@ -7,11 +7,12 @@ use Rattle.sdm_rules.specs.declared.faults.EventFault.{EventFault}
 use Rattle.sdm_rules.specs.declared.faults.EventCause.{EventCause}
 use Rattle.sdm_rules.specs.declared.rows.Row.{Row}
 use Rattle.sdm_rules.specs.declared.targets.Target.{Target}
-use Rattle.sdm_rules.specs.Supervision.{Supervision, situation_of, row_of, is_covered_for}
+use Rattle.sdm_rules.specs.Supervision.{Supervision, opening, situation_of, row_of, is_covered_for}
 use Rattle.sdm_rules.specs.Machines.{InOrder, must_after, may_after}
-use Rattle.sdm_rules.specs.Records.{Step, Journey, event_at, step, step_of, journey_from}
+use Rattle.sdm_rules.specs.Records.{Step, event_at, step, journey_from}
 use Rattle.sdm_rules.specs.Stop.{IsSafe, IsGap}
 use Rattle.sdm_rules.specs.Forms.{event_of}
+use Rattle.sdm_rules.specs.Trial.{reading_record, readings_from, trial_authority, trial_line}
 use Rattle.sdm_data.specs.Division.{divide}
 use Rattle.sdm_events.specs.Journey.{records_of}
 use Rattle.sdm_run.specs.RunParts.{IsOpeningOf}
@@ -84,3 +85,7 @@ pub record AreRowsOfTurns {A : Type 0} (form : A → Result Event EventFault) (n
 -- so of the records of an input whose data part opens a supervision state, from no command held on (own)
 abbrev pub AreRunRowsSafe : List ℕ → Type 0
 AreRunRowsSafe bytes = (ends : ℕ × ℕ) (s : Supervision) → divide bytes ≡ Some ends → IsOpeningOf (take ends.0 bytes) s → AreRowsOfTurns event_of 1 s false false (records_of (drop ends.1 bytes))
+
+-- so of the readings of a trial (own)
+abbrev pub AreTrialRowsSafe : ℕ → ℕ → Type 0
+AreTrialRowsSafe seed cycles = AreRowsOfTurns reading_record 1 (opening trial_line trial_authority) false false (readings_from seed 1 cycles)

@@ -5,7 +5,7 @@ use Rattle.std.specs.declared.alloc.Global.{Global}
 use Rattle.sdm_rules.specs.declared.faults.FieldFault.{FieldFault}
 use Rattle.sdm_rules.specs.Numbers.{read_int}
 use Rattle.sdm_run.specs.declared.words.Command.{Command}
-use Rattle.sdm_run.specs.declared.words.Command.TheVariants.{Flat, Run}
+use Rattle.sdm_run.specs.declared.words.Command.TheVariants.{Flat, Run, Trial}
 
 -- `flat` with its two numbers, if both are read (own)
 abbrev pub flat_of : Result ℤ FieldFault → Result ℤ FieldFault → Option Command
@@ -23,12 +23,24 @@ abbrev pub run_command : List (List ℕ) → Option Command
 run_command [] = Some Run
 run_command _ = None
 
--- the shapes of the words, each with its command: `run`, and `flat A END` (own)
+-- `trial` with its two numbers, if both are read (own)
+abbrev pub trial_of : Result ℤ FieldFault → Result ℤ FieldFault → Option Command
+trial_of (Ok seed) (Ok cycles) = Some (Trial (unsigned_abs seed) (unsigned_abs cycles))
+trial_of (Ok seed) (Err fault) = None
+trial_of (Err fault) cycles = None
+
+-- the words after `trial`: NUMBER and CYCLES (own)
+abbrev pub trial_command : List (List ℕ) → Option Command
+trial_command (seed ∷ cycles ∷ []) = trial_of (read_int seed (pos 0) (pos 65_535)) (read_int cycles (pos 1) (pos 100_000))
+trial_command _ = None
+
+-- the shapes of the words, each with its command: `run`, `flat A END`, and `trial NUMBER CYCLES` (own)
 unfoldable pub command_of : List (List ℕ) → Option Command
 command_of [] = None
 command_of (name ∷ more) =
     if bytes_eq name (codes "run") then run_command more
     else if bytes_eq name (codes "flat") then flat_command more
+    else if bytes_eq name (codes "trial") then trial_command more
     else None
 
 -- the command that the words ask for, if they ask for one (own)
@@ -39,3 +51,4 @@ asked_by words = command_of (map string_bytes words)
 abbrev pub IsInRange : Command → Type 0
 IsInRange (Flat decel end) = (5 ≤ decel) × (decel ≤ 400) × (end ≤ 10_000_000)
 IsInRange Run = Unit {0}
+IsInRange (Trial seed cycles) = (seed ≤ 65_535) × (1 ≤ cycles) × (cycles ≤ 100_000)

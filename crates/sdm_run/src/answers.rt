@@ -1,6 +1,6 @@
 //! The top call: from the words and the bytes of an input to the bytes of out and of the fault stream, and an outcome.
 
-ghost use Rattle.std.specs.Prelude.{◌≡◌, ◌⊎◌, ◌↔◌, ◌+◌, ◌≤◌, ℕ, List, length, Some, IsNone, IfSome};
+ghost use Rattle.std.specs.Prelude.{◌≡◌, ◌⊎◌, ◌↔◌, ◌+◌, ◌<◌, ◌≤◌, ℕ, List, length, Some, Err, IsNone, IfSome, IfOk, OnOk, OnErr};
 ghost use Rattle.std.specs.Io.KnownBytes.{Appends, IsAtEnd, Keeps};
 ghost use Rattle.sdm_io.specs.Causes.{Rose};
 ghost use Rattle.sdm_io.specs.Told.{AppendsPart, ReadsExactly, ReadsWithin, Told};
@@ -8,12 +8,13 @@ ghost use Rattle.sdm_report.specs.OutcomeLines.{outcome_line};
 ghost use Rattle.sdm_rules.specs.Flat.{Output};
 ghost use Rattle.sdm_rules.specs.Input.{most_bytes};
 ghost use Rattle.sdm_run.specs.declared.words.Command.{Command};
-ghost use Rattle.sdm_run.specs.Answers.{ComesBefore, ComesFirst, ComesLast, IsAnswer, IsPossible, told_end};
-ghost use Rattle.sdm_run.specs.Commands.{AreRowsSafe, HasOneOutput, IsOutputOf, TakesMemoryFirst};
+ghost use Rattle.sdm_run.specs.Answers.{ComesBefore, ComesFirst, ComesLast, IsAnswer, IsPossible, ReadsInput, told_end};
+ghost use Rattle.sdm_run.specs.Commands.{AreRowsSafe, HasOneOutput, IsOutputOf, OfInput, ReadsNothing, TakesMemoryFirst};
 ghost use Rattle.sdm_run.specs.Words.{IsInRange, asked_by};
 
 use crate::flat_run::run_flat;
 use crate::journey_run::run_journey;
+use crate::trial_run::run_trial;
 use crate::words::{Command, command_of};
 use sdm_io::{FixedSource, NullSink, Sink, Source, Unread, read_to_end, write_piece};
 use sdm_report::{Outcome, outcome_bytes};
@@ -35,8 +36,8 @@ pub fn sdm_main<I: Source, O: Sink, E: Sink>(
     ensures usage { (result ≡ Outcome.Usage) ↔ IsNone (asked_by words.now) }
 
     // what the command defines for the bytes of the input, and what out took of it
-    ensures answer { IfSome (asked_by words.now) (λ command. Told (I.left input.old) (λ bytes. (output : Output) → IsOutputOf command bytes output → IsAnswer output (O.taken out.old) (O.taken out.new) result)) }
-    ensures rows { IfSome (asked_by words.now) (λ command. Told (I.left input.old) (AreRowsSafe command)) }
+    ensures answer { IfSome (asked_by words.now) (λ command. OfInput command (I.left input.old) (λ bytes. (output : Output) → IsOutputOf command bytes output → IsAnswer output (O.taken out.old) (O.taken out.new) result)) }
+    ensures rows { IfSome (asked_by words.now) (λ command. OfInput command (I.left input.old) (AreRowsSafe command)) }
     ensures possible { IfSome (asked_by words.now) (λ command. IsPossible command result) }
     ensures first { ComesFirst result → Keeps (O.taken out.old) (O.taken out.new) }
     ensures memory { IfSome (asked_by words.now) (λ command. TakesMemoryFirst command → result ≡ Outcome.Memory → Keeps (O.taken out.old) (O.taken out.new)) }
@@ -44,7 +45,8 @@ pub fn sdm_main<I: Source, O: Sink, E: Sink>(
     // how much of the input was read
     ensures within { ReadsWithin (I.left input.old) (I.left input.new) (most_bytes + 1) }
     ensures too_long { result ≡ Outcome.TooLong → ReadsExactly (I.left input.old) (I.left input.new) (most_bytes + 1) }
-    ensures to_end { ComesLast result → IsAtEnd (I.left input.new) }
+    ensures to_end { IfSome (asked_by words.now) (λ command. ReadsInput command → ComesLast result → IsAtEnd (I.left input.new)) }
+    ensures unread { ReadsNothing (asked_by words.now) → input.new ≡ input.old }
 
     // a fault is answered only where it was counted
     ensures read { result ≡ Outcome.ReadFault → Rose (I.faults input.old) (I.faults input.new) }
@@ -67,25 +69,44 @@ fn answer<I: Source, O: Sink>(
     out: &mut O,
 ) -> Outcome
     ensures usage { (result ≡ Outcome.Usage) ↔ IsNone (asked_by words.now) }
-    ensures answer { IfSome (asked_by words.now) (λ command. Told (I.left input.old) (λ bytes. (output : Output) → IsOutputOf command bytes output → IsAnswer output (O.taken out.old) (O.taken out.new) result)) }
-    ensures rows { IfSome (asked_by words.now) (λ command. Told (I.left input.old) (AreRowsSafe command)) }
+    ensures answer { IfSome (asked_by words.now) (λ command. OfInput command (I.left input.old) (λ bytes. (output : Output) → IsOutputOf command bytes output → IsAnswer output (O.taken out.old) (O.taken out.new) result)) }
+    ensures rows { IfSome (asked_by words.now) (λ command. OfInput command (I.left input.old) (AreRowsSafe command)) }
     ensures possible { IfSome (asked_by words.now) (λ command. IsPossible command result) }
     ensures first { ComesFirst result → Keeps (O.taken out.old) (O.taken out.new) }
     ensures memory { IfSome (asked_by words.now) (λ command. TakesMemoryFirst command → result ≡ Outcome.Memory → Keeps (O.taken out.old) (O.taken out.new)) }
     ensures within { ReadsWithin (I.left input.old) (I.left input.new) (most_bytes + 1) }
     ensures too_long { result ≡ Outcome.TooLong → ReadsExactly (I.left input.old) (I.left input.new) (most_bytes + 1) }
-    ensures to_end { ComesLast result → IsAtEnd (I.left input.new) }
+    ensures to_end { IfSome (asked_by words.now) (λ command. ReadsInput command → ComesLast result → IsAtEnd (I.left input.new)) }
+    ensures unread { ReadsNothing (asked_by words.now) → input.new ≡ input.old }
     ensures read { result ≡ Outcome.ReadFault → Rose (I.faults input.old) (I.faults input.new) }
     ensures write { result ≡ Outcome.WriteFault → Rose (O.faults out.old) (O.faults out.new) }
 {
     let Some(command) = command_of(words) else {
         return Outcome::Usage;
     };
-    match read_to_end(alloc, input, MOST_BYTES) {
+    match bytes_for(alloc, command, input) {
         Ok(bytes) => run_command(alloc, command, &bytes, out),
         Err(Unread::Fault) => Outcome::ReadFault,
         Err(Unread::TooLong) => Outcome::TooLong,
         Err(Unread::Memory) => Outcome::Memory,
+    }
+}
+
+// The bytes that a command answers: those of the whole input, or none where it reads nothing.
+fn bytes_for<I: Source>(alloc: Global, command: Command, input: &mut I) -> Result<Vec<u8>, Unread>
+    ensures whole { IfOk result (λ v. ReadsInput command → Told (I.left input.old) (λ bytes. v.items ≡ bytes)) }
+    ensures end { OnOk result (ReadsInput command → IsAtEnd (I.left input.new)) }
+    ensures short { IfOk result (λ v. length v.items ≤ most_bytes) }
+    ensures reads { OnErr result (ReadsInput command) }
+    ensures unread { ReadsNothing (Some command) → input.new ≡ input.old }
+    ensures within { ReadsWithin (I.left input.old) (I.left input.new) (most_bytes + 1) }
+    ensures one_above { result ≡ Err Unread.TooLong → ReadsExactly (I.left input.old) (I.left input.new) (most_bytes + 1) }
+    ensures too_long { result ≡ Err Unread.TooLong → Told (I.left input.old) (λ bytes. most_bytes < length bytes) }
+    ensures fault { result ≡ Err Unread.Fault → Rose (I.faults input.old) (I.faults input.new) }
+{
+    match command {
+        Command::Flat { .. } | Command::Run => read_to_end(alloc, input, MOST_BYTES),
+        Command::Trial { .. } => Ok(Vec::new(alloc)),
     }
 }
 
@@ -105,6 +126,7 @@ fn run_command<O: Sink>(alloc: Global, command: Command, bytes: &[u8], out: &mut
     match command {
         Command::Flat { decel, end_cm } => run_flat(alloc, decel, end_cm, bytes, out),
         Command::Run => run_journey(alloc, bytes, out),
+        Command::Trial { seed, cycles } => run_trial(alloc, seed, cycles, out),
     }
 }
 

@@ -86,10 +86,11 @@ fn write_row<O: Sink>(row: Option<Row>, out: &mut O) -> Result<(), Failed>
     ensures err { OnErr result (AppendsPart (O.taken out.old) (O.taken out.new) (text_of row)) }
     ensures cause { HasCause (O.faults out.old) (O.faults out.new) result }
 {
+    let Some(row) = row else {
+        return Ok(());
+    };
     let mut text = RowBuf::new();
-    if let Some(row) = row {
-        row_bytes(&row, &mut text);
-    }
+    row_bytes(&row, &mut text);
     write_piece(out, text.bytes())
 }
 

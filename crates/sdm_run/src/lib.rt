@@ -9,6 +9,7 @@ mod journey_openings;
 mod journey_records;
 mod journey_run;
 mod lines;
+mod trial_run;
 pub mod words;
 
 pub use answers::{law_of_outputs, outcome_of, sdm_main};

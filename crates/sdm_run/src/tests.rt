@@ -2,12 +2,12 @@
 //! carriage return and `-` for nothing.
 
 mod journeys;
+mod trials;
 
 use crate::{CycleFault, EventCause, Flat, FlatRow, Outcome, outcome_of, sdm_main};
 use journeys::{BASE, PARTS, REFUSALS, RUN_FAULTS, RUNS};
 use sdm_io::{FixedSource, MemSink, MemSource, NullSink};
 use sdm_num::{Place, Speed};
-use sdm_rules::EventFault;
 use std::alloc::Global;
 use std::process::Abort;
 use std::test::Fail;
@@ -146,6 +146,15 @@ const WORDS: &str = "\
     --help | 1
     --version | 1
     flat --help | 1
+    trial | 1
+    trial 7 | 1
+    trial 7 3 1 | 1
+    trial 0 0 | 1
+    trial 65536 1 | 1
+    trial -1 1 | 1
+    trial 7 100001 | 1
+    trial 7 1e5 | 1
+    Trial 7 3 | 1
     flat 5 0 | 0
     flat 4 0 | 1
     flat 400 10000000 | 0
@@ -364,17 +373,15 @@ fn the_limit_of_an_input_is_not_past_it(rt: HostRuntime) -> Result<(), Fail> {
 #[test]
 fn a_record_past_the_hundred_thousandth_is_too_many(rt: HostRuntime) -> Result<(), Fail> {
     let alloc = rt.alloc();
-    let words = words_of(alloc, "run")?;
     let mut input = bytes_of(alloc, BASE)?;
     input.extend_from_slice(b"\n%%\n")?;
     for _ in 0..100_001u32 {
         input.extend_from_slice(b"limit,0,1\n")?;
     }
-    let too_many = Outcome::BadEvent {
-        number: 100_001,
-        cause: EventCause::Form(EventFault::TooMany),
-    };
-    assert_eq!(rt; outcome_of(alloc, &words, &input), too_many);
+    let answer = answer_to(alloc, "run", &input, &STEADY)?;
+    assert_eq!(rt; answer.code, 7);
+    assert!(rt; answer.out.is_empty());
+    assert!(rt; answer.err.as_slice() == b"sdm: bad event 100001: too many events\n".as_slice());
     Ok(())
 }
 

@@ -1,7 +1,7 @@
 //! The words after the program's name, and the commands that they ask for. A new command adds a variant and a shape.
 
 ghost use Rattle.std.specs.Prelude.{◌≡◌, map, string_bytes, IfSome};
-ghost use Rattle.sdm_run.specs.Words.{IsInRange, asked_by, flat_command, run_command};
+ghost use Rattle.sdm_run.specs.Words.{IsInRange, asked_by, flat_command, run_command, trial_command};
 
 use sdm_text::natural_in;
 
@@ -12,6 +12,8 @@ pub enum Command {
     Flat { decel: u16, end_cm: u32 },
     /// `run`: the journey of the input.
     Run,
+    /// `trial NUMBER CYCLES`: a journey from a number, from 0 to 65,535, of so many readings, from 1 to 100,000.
+    Trial { seed: u16, cycles: u32 },
 }
 
 /// The command of words; none where they have none of the shapes. (own)
@@ -24,6 +26,7 @@ pub fn command_of(words: &[String]) -> Option<Command>
     match name.as_str() {
         "run" => run_command(more),
         "flat" => flat_command(more),
+        "trial" => trial_command(more),
         _ => None,
     }
 }
@@ -50,5 +53,19 @@ fn flat_command(words: &[String]) -> Option<Command>
     Some(Command::Flat {
         decel: decel as u16,
         end_cm,
+    })
+}
+
+// The two numbers of `trial`.
+fn trial_command(words: &[String]) -> Option<Command>
+    ensures value { result ≡ trial_command (map string_bytes words.now) }
+    ensures range { IfSome result IsInRange }
+{
+    let [seed, cycles] = words else { return None };
+    let seed = natural_in(seed.as_str().as_bytes(), 0, 65_535).ok()?;
+    let cycles = natural_in(cycles.as_str().as_bytes(), 1, 100_000).ok()?;
+    Some(Command::Trial {
+        seed: seed as u16,
+        cycles,
     })
 }

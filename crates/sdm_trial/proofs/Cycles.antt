@@ -1,6 +1,6 @@
 -- The journey of a trial, cycle by cycle: no reading is refused, since its form is given, there are no more cycles than records
 -- may be, and times rise.
-use Rattle.std.proofs.Common.{◌≡◌, ℕ, zero, suc, List, ◌∷◌, None, Some, ◌+◌, ◌≤◌, ◌∙◌, ap, arith, refl}
+use Rattle.std.proofs.Common.{◌≡◌, ℕ, zero, suc, List, ◌∷◌, length, None, Some, ◌+◌, ◌≤◌, ◌∙◌, ap, arith, refl}
 use Rattle.std.proofs.lemmas.Bool.{le-ltb}
 use Rattle.sdm_num.specs.Readings.{OdometerReading}
 use Rattle.sdm_rules.specs.Records.{journey_from, most_records, step, time_fault, with_row}
@@ -17,18 +17,19 @@ pub reading_taken :
 unfolding step
 reading_taken i s r rest few in_time = rw (le-ltb most_records i few) (rw in_time refl)
 
--- so no reading from a cycle on is refused
-pub none_refused :
+-- so each reading from a cycle on gives a row, and none is refused
+pub all_taken :
     (seed n i : ℕ) (s : Supervision) →
     i + n ≤ 100_001 →
     time_fault s.last_time (reading_in_cycle seed i).time ≡ None →
-    (journey_from reading_record i s (readings_from seed i n)).refused ≡ None
-none_refused seed zero i s few in_time = refl
-none_refused seed (suc n) i s few in_time =
+    let journey = journey_from reading_record i s (readings_from seed i n) in (journey.refused ≡ None) × (length journey.rows ≡ n)
+all_taken seed zero i s few in_time = (refl, refl)
+all_taken seed (suc n) i s few in_time =
     let r = reading_in_cycle seed i in
-    ap (λ j. j.refused) (reading_taken i s r (readings_from seed (suc i) n) (omega arith) in_time)
-    ∙ none_refused seed n (suc i) (after_reading s r) (omega arith) (next_in_time s seed i)
+    let first = reading_taken i s r (readings_from seed (suc i) n) (omega arith) in_time in
+    let rest = all_taken seed n (suc i) (after_reading s r) (omega arith) (next_in_time s seed i) in
+    (ap (λ j. j.refused) first ∙ rest.0, ap (λ j. length j.rows) first ∙ ap suc rest.1)
 
--- no reading of a trial is refused
-pub no_cycle_refused : (seed cycles : ℕ) → cycles ≤ 100_000 → (trial_journey seed cycles).refused ≡ None
-no_cycle_refused seed cycles few = none_refused seed cycles 1 (opening trial_line trial_authority) (omega arith) (first_in_time trial_line trial_authority seed 1)
+-- so does each reading of a trial
+pub trial_taken : (seed cycles : ℕ) → cycles ≤ 100_000 → ((trial_journey seed cycles).refused ≡ None) × (length (trial_journey seed cycles).rows ≡ cycles)
+trial_taken seed cycles few = all_taken seed cycles 1 (opening trial_line trial_authority) (omega arith) (first_in_time trial_line trial_authority seed 1)

@@ -1,7 +1,7 @@
 //! The data of every trial: a train of two speed bands on a track of 6 km, which falls by 5 per mille in its middle, with an
 //! EOA at 5 km and the SvL 50 m beyond it.
 
-ghost use Rattle.std.specs.Prelude.{◌≡◌, ◌≤◌, ℕ, None, IfOk};
+ghost use Rattle.std.specs.Prelude.{◌≡◌, ◌≤◌, ℕ, None, IfOk, length};
 ghost use Rattle.sdm_rules.specs.Opening.{IsAccepted};
 ghost use Rattle.sdm_rules.specs.Trial.{trial_authority, trial_journey, trial_line, trial_national, trial_track, trial_train};
 ghost use Rattle.sdm_data.specs.Given.{line_of};
@@ -131,9 +131,10 @@ pub fn trial_data(alloc: Global) -> Result<JourneyData, NoMemory>
     })
 }
 
-/// A trial is never refused: its data open a supervision state, and each reading of at most 100,000 cycles is taken. (own)
-#[tactic(auto, using(crate::proofs::Accepted::accepted, crate::proofs::Cycles::no_cycle_refused))]
+/// A trial is never refused: its data open a supervision state, and each reading of at most 100,000 cycles gives a row. (own)
+#[tactic(auto, using(crate::proofs::Accepted::accepted, crate::proofs::Cycles::trial_taken))]
 pub fn law_of_trial()
     ensures accepted { IsAccepted trial_line trial_authority }
     ensures taken { (seed cycles : ℕ) → cycles ≤ 100_000 → (trial_journey seed cycles).refused ≡ None }
+    ensures rows { (seed cycles : ℕ) → cycles ≤ 100_000 → length (trial_journey seed cycles).rows ≡ cycles }
 {}

@@ -1,7 +1,15 @@
--- The promises of a command's rows and of an input that is too long, at the command that the words ask for.
+-- The promises of a command's rows and of an input that is too long, at the command that the words ask for; and what the bytes that
+-- were read are to the input.
 use Rattle.std.proofs.Common.{Err, ap, sym}
-use Rattle.sdm_run.proofs.CommandFacts.{rows_told, too_long_told}
+use Rattle.sdm_run.proofs.CommandFacts.{answer_told, rows_told, too_long_told}
 use Rattle.sdm_run.proofs.answers.answer.Goals as goal
+
+pub returns-in-Ok-clause-answer : goal.returns-in-Ok-clause-answer
+returns-in-Ok-clause-answer g c = answer_told _ _ _ _ _ _ (sym c.in-Some.ensures.value) c.in-Ok.ensures.whole c.deref.ensures.value c.run_command.ensures.answer
+
+pub returns-in-Err-TooLong-clause-answer : goal.returns-in-Err-TooLong-clause-answer
+returns-in-Err-TooLong-clause-answer g c =
+    too_long_told _ _ _ _ (sym c.in-Some.ensures.value) c.in-Err-TooLong.ensures.reads (c.in-Err-TooLong.ensures.too_long (ap Err c.in-Err-TooLong.field-0-is))
 
 pub returns-in-Err-Fault-clause-rows : goal.returns-in-Err-Fault-clause-rows
 returns-in-Err-Fault-clause-rows g c = rows_told _ _ _ (sym c.in-Some.ensures.value) c.in-Some.ensures.range
@@ -11,6 +19,3 @@ returns-in-Err-TooLong-clause-rows g c = rows_told _ _ _ (sym c.in-Some.ensures.
 
 pub returns-in-Err-Memory-clause-rows : goal.returns-in-Err-Memory-clause-rows
 returns-in-Err-Memory-clause-rows g c = rows_told _ _ _ (sym c.in-Some.ensures.value) c.in-Some.ensures.range
-
-pub returns-in-Err-TooLong-clause-answer : goal.returns-in-Err-TooLong-clause-answer
-returns-in-Err-TooLong-clause-answer g c = too_long_told _ _ _ _ (sym c.in-Some.ensures.value) (c.in-Err-TooLong.ensures.too_long (ap Err c.in-Err-TooLong.field-0-is))

@@ -1,0 +1,77 @@
+//! The command `trial`: a supervisor over made readings, and the summary of its rows. It reads no input, and nothing of it is
+//! refused.
+
+ghost use Rattle.std.specs.Prelude.{◌≡◌, ◌≤◌, IfOk};
+ghost use Rattle.std.specs.Io.KnownBytes.{Keeps};
+ghost use Rattle.sdm_io.specs.Causes.{Rose};
+ghost use Rattle.sdm_rules.specs.Supervision.{opening};
+ghost use Rattle.sdm_rules.specs.Trial.{trial_authority, trial_journey, trial_line, trial_output};
+ghost use Rattle.sdm_trial.specs.Summaries.{counts_of};
+ghost use Rattle.sdm_run.specs.Answers.{ComesFirst, IsAnswer, IsTrialOutcome};
+
+use sdm_io::{Sink, write_piece};
+use sdm_num::NoMemory;
+use sdm_report::Outcome;
+use sdm_rules::OpenFault;
+use sdm_supervisor::{CycleFault, Supervisor};
+use sdm_text::RowBuf;
+use sdm_trial::{Readings, Summary, trial_data};
+use std::alloc::Global;
+
+// The supervisor of the data of every trial, which are accepted.
+#[tactic(auto, using(crate::proofs::TrialRuns::only_memory))]
+fn begin(alloc: Global) -> Result<Supervisor, NoMemory>
+    ensures { IfOk result (λ supervisor. supervisor ≡ opening trial_line trial_authority) }
+{
+    let journey = trial_data(alloc)?;
+    let begun = Supervisor::begin(
+        alloc,
+        journey.train,
+        journey.national,
+        journey.track,
+        journey.authority,
+    );
+    match begun {
+        Ok(supervisor) => Ok(supervisor),
+        Err(OpenFault::Memory) => Err(NoMemory),
+        Err(_) => unreachable!(),
+    }
+}
+
+// The summary of the rows of all cycles.
+fn summary_of(supervisor: &mut Supervisor, seed: u16, cycles: u32) -> Summary
+    requires opening { supervisor.old ≡ opening trial_line trial_authority }
+    requires cycles { cycles ≤ 100_000 }
+    ensures { result ≡ counts_of (trial_journey seed cycles).rows }
+{
+    let mut readings = Readings::begin(seed, cycles);
+    let mut summary = Summary::new();
+    'cycles: while let Some(reading) = readings.next() {
+        match supervisor.cycle(&reading) {
+            Ok(row) => summary.add(&row),
+            Err(CycleFault::TimeBack { .. }) => unreachable!(),
+        }
+    }
+    summary
+}
+
+/// Answers a number and a count of cycles: the summary, in one piece. Memory comes only before out took anything; WriteFault only
+/// where out failed. (own)
+pub fn run_trial<O: Sink>(alloc: Global, seed: u16, cycles: u32, out: &mut O) -> Outcome
+    requires { cycles ≤ 100_000 }
+    ensures answer { IsAnswer (trial_output seed cycles) (O.taken out.old) (O.taken out.new) result }
+    ensures possible { IsTrialOutcome result }
+    ensures not_first { ComesFirst result → ⊥ }
+    ensures memory { result ≡ Outcome.Memory → Keeps (O.taken out.old) (O.taken out.new) }
+    ensures write { result ≡ Outcome.WriteFault → Rose (O.faults out.old) (O.faults out.new) }
+{
+    let Ok(mut supervisor) = begin(alloc) else {
+        return Outcome::Memory;
+    };
+    let mut text = RowBuf::new();
+    summary_of(&mut supervisor, seed, cycles).put(&mut text);
+    match write_piece(out, text.bytes()) {
+        Ok(()) => Outcome::Done,
+        Err(_) => Outcome::WriteFault,
+    }
+}
