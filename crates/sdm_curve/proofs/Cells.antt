@@ -8,7 +8,7 @@ use Rattle.std.proofs.Math.Path.{fun_ext}
 use Rattle.std.proofs.Math.ListN.{get_or-eq_default, length-map}
 use Rattle.sdm_rules.specs.Slopes.{SlopeMap, Slopes, meaning_of, segment_of, bands_of, variation}
 use Rattle.sdm_laws.proofs.Segments.{in_segment, segment_is}
-use Rattle.sdm_curve.specs.Maps.{IsKept, handed_in, MapData, AreStarts, slope_in, slope_on, start_in, IsStrongSlope, IsStrongBand, IsEvenBand}
+use Rattle.sdm_curve.specs.Maps.{IsKept, handed_in, MapData, AreStarts, slope_in, start_in, IsStrongSlope, IsStrongBand, IsEvenBand}
 use Rattle.sdm_curve.specs.Faults.{IsFirstWeakSlope, IsBandRange}
 use Rattle.sdm_curve.proofs.Meanings.{rising_of, segment_known, start_least}
 
@@ -18,6 +18,10 @@ segment_start starts i h known = segment_is starts (get_or starts i (pos 0)) i (
   low = λ p. omega (arith, ints);
   high = λ k l m. h.rise i k l m;
 })
+
+-- the slope of a band in a cell
+abbrev pub slope_on : MapData → ℕ → ℤ → ℤ
+slope_on d band cell = slope_in d band (segment_of d.starts cell)
 
 -- a cell before the start of a segment lies in an earlier one
 pub segment_before : (starts : List ℤ) (i : ℕ) (c : ℤ) → AreStarts starts → i < length starts → 0 < i → c <ℤ get_or starts i (pos 0) → segment_of starts c < i

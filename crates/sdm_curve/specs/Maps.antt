@@ -1,6 +1,6 @@
 -- What a slope map is made of, and which slopes are accepted (own).
 use Rattle.std.specs.Prelude.{◌≡◌, ℕ, ℤ, pos, neg_ℤ, List, map, ◌+◌, ◌*◌, ◌^◌, ◌<◌, ◌≤◌, ◌*ℤ◌, ◌≤ℤ◌, ◌<ℤ◌, length, slice_index, slice_index_or}
-use Rattle.sdm_rules.specs.Slopes.{SlopeMap, segment_of, most_bands, bands_of, variation}
+use Rattle.sdm_rules.specs.Slopes.{SlopeMap, most_bands, bands_of, variation}
 
 -- a slope map as it is handed in, where a slope may have any sign: units as in `SlopeMap` (own)
 pub record MapData : Type 0 where
@@ -24,10 +24,6 @@ slope_in d band i = slice_index_or d.slopes (band * length d.starts + i) (pos 0)
 -- the first cell of a segment (own)
 abbrev pub start_in : MapData → ℕ → ℤ
 start_in d i = slice_index_or d.starts i (pos 0)
-
--- the slope of a band in a cell (own)
-abbrev pub slope_on : MapData → ℕ → ℤ → ℤ
-slope_on d band cell = slope_in d band (segment_of d.starts cell)
 
 -- ---- the condition
 

@@ -1,6 +1,6 @@
 //! The profile of SUBSET-026-3 section 3.13 and appendix A.3 that this program keeps: every definition that a contract
-//! cites, in `specs/`, and the plain types that they speak of. There is no code here. An assessor who believes this crate
-//! and the contracts above it has nothing else to read.
+//! cites, in `specs/`, and the plain types that they speak of. There is no code here. `docs/ASSUMPTIONS.md` lists what an
+//! assessor must believe: these definitions, and those of how an input is read, which stand in the crates that read it.
 #![tactic(auto)]
 
 pub mod authorities;
