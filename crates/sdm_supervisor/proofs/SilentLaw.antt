@@ -25,15 +25,18 @@ at_least Loa speed margin = omega arith
 at_least Eoa speed margin = omega arith
 at_least Svl speed margin = omega arith
 
+-- above the train's speed no limit of a target is passed
 not_passed : (r : OdometerReading) (margin : ℕ → ℕ) (t : Target) (limit : Fraction) → r.speed < target_speed t → passes_at r margin t limit ≡ false
 not_passed r margin t limit slower =
     let within : r.speed ≤ with_margin margin t = omega (arith, at_least t.kind (notches t.speed) (margin t.speed)) in
     rw (le-ltb (with_margin margin t) r.speed within)
 
+-- so by an EBI, where the target has one
 ebi_not_passed : (r : OdometerReading) (t : Target) (ebi : Option Fraction) → r.speed < target_speed t → passes_ebi_at r t ebi ≡ false
 ebi_not_passed r t None slower = refl
 ebi_not_passed r t (Some ebi) slower = not_passed r ebi_margin t ebi slower
 
+-- above the train's speed no limit of a target counts
 not_counted : (r : OdometerReading) (t : Target) (limit : Option Fraction) → r.speed < target_speed t → counted r t limit ≡ None
 not_counted r t limit slower = rw (lt-leb (target_speed t) r.speed slower)
 
