@@ -1,4 +1,5 @@
 mod VerdictLaws
+mod SilentLaw
 mod SituationLaws
 mod CeilingLaw
 mod LineLaws

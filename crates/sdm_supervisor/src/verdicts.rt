@@ -193,9 +193,14 @@ impl Line {
         requires target { IsTarget target.now }
         ensures { result ≡ verdict_at self.now reading.now (limits_of computed self.now reading.now target.now) target.now }
     {
+        let counts = target_speed(target) <= reading.speed_mm_s();
+        // A target whose speed is above the train's is not passed, and none of its limits counts. Where it is met by speed, it is covered
+        // wherever its EBI lies. So no place of a curve is needed.
+        if !counts && self.is_met_by_speed(reading, target) {
+            return Verdict::of_none();
+        }
         let limits = self.limits(reading, target);
         let speeds = SpeedLimits::of_target(target);
-        let counts = target_speed(target) <= reading.speed_mm_s();
         Verdict {
             over: passes(reading, target, speeds.permitted, limits.permitted),
             warn: passes(reading, target, speeds.warning, limits.warning),
