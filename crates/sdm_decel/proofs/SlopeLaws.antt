@@ -11,10 +11,10 @@ use Rattle.sdm_rules.specs.Decelerations.{q_of, uppers_of, slope_at, slopes_of}
 use Rattle.sdm_rules.specs.Opening as opening
 use Rattle.sdm_curve.specs.declared.faults.CurveFault.{CurveFault}
 use Rattle.sdm_curve.specs.declared.faults.CurveFault.TheVariants.{TooWeak, TooVaried, Memory}
-use Rattle.sdm_curve.specs.Maps.{MapData, handed_in, slope_in, slope_on, start_in, AreStarts, IsStrongSlope, IsEvenBand, AreStrong, AreAccepted, IsKept}
+use Rattle.sdm_curve.specs.Maps.{MapData, handed_in, slope_in, start_in, AreStarts, IsStrongSlope, IsEvenBand, AreStrong, AreAccepted, IsKept}
 use Rattle.sdm_curve.specs.Faults.{IsFirstWeakSlope, IsFirstVariedBand, IsFaultOf}
 use Rattle.sdm_curve.proofs.Meanings.{slope_at_cell}
-use Rattle.sdm_curve.proofs.Cells.{start_cell, strong_cells, even_cells, weak_cell, range_cells, slope_past, meaning_is}
+use Rattle.sdm_curve.proofs.Cells.{slope_on, start_cell, strong_cells, even_cells, weak_cell, range_cells, slope_past, meaning_is}
 use Rattle.sdm_decel.specs.Slopes.{IsFaultOfKind}
 
 -- the map's data give the slopes of the kind in every band and cell

@@ -24,8 +24,8 @@ use std::alloc::Global;
 /// The most bytes of an input. (own)
 const MOST_BYTES: usize = 16_777_216;
 
-/// The program. Each command writes what it defines for the bytes of the input; for each outcome but Done its line goes to
-/// the fault stream, whose faults change no outcome. (own)
+/// The program. Each command writes what it defines for the bytes of the input, which `trial` leaves unread; for each outcome but
+/// Done its line goes to the fault stream, whose faults change no outcome. (own)
 pub fn sdm_main<I: Source, O: Sink, E: Sink>(
     alloc: Global,
     words: &[String],

@@ -34,7 +34,8 @@ fn begin(alloc: Global) -> Result<Supervisor, NoMemory>
     match begun {
         Ok(supervisor) => Ok(supervisor),
         Err(OpenFault::Memory) => Err(NoMemory),
-        Err(_) => unreachable!(),
+        Err(OpenFault::TooWeak { .. } | OpenFault::TooVaried { .. } | OpenFault::BadAuthority(_)) =>
+            unreachable!(),
     }
 }
 
