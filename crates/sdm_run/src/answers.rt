@@ -56,39 +56,14 @@ pub fn sdm_main<I: Source, O: Sink, E: Sink>(
     ensures line { AppendsPart (E.taken err.old) (E.taken err.new) (outcome_line result) }
     ensures whole_line { Rose (E.faults err.old) (E.faults err.new) ⊎ Appends (E.taken err.old) (E.taken err.new) (outcome_line result) }
 {
-    let outcome = answer(alloc, words, input, out);
-    tell(&outcome, err);
-    outcome
-}
-
-// The outcome, before it is told.
-fn answer<I: Source, O: Sink>(
-    alloc: Global,
-    words: &[String],
-    input: &mut I,
-    out: &mut O,
-) -> Outcome
-    ensures usage { (result ≡ Outcome.Usage) ↔ IsNone (asked_by words.now) }
-    ensures answer { IfSome (asked_by words.now) (λ command. OfInput command (I.left input.old) (λ bytes. (output : Output) → IsOutputOf command bytes output → IsAnswer output (O.taken out.old) (O.taken out.new) result)) }
-    ensures rows { IfSome (asked_by words.now) (λ command. OfInput command (I.left input.old) (AreRowsSafe command)) }
-    ensures possible { IfSome (asked_by words.now) (λ command. IsPossible command result) }
-    ensures first { ComesFirst result → Keeps (O.taken out.old) (O.taken out.new) }
-    ensures memory { IfSome (asked_by words.now) (λ command. TakesMemoryFirst command → result ≡ Outcome.Memory → Keeps (O.taken out.old) (O.taken out.new)) }
-    ensures within { ReadsWithin (I.left input.old) (I.left input.new) (most_bytes + 1) }
-    ensures too_long { result ≡ Outcome.TooLong → ReadsExactly (I.left input.old) (I.left input.new) (most_bytes + 1) }
-    ensures to_end { IfSome (asked_by words.now) (λ command. ReadsInput command → ComesLast result → IsAtEnd (I.left input.new)) }
-    ensures unread { ReadsNothing (asked_by words.now) → input.new ≡ input.old }
-    ensures read { result ≡ Outcome.ReadFault → Rose (I.faults input.old) (I.faults input.new) }
-    ensures write { result ≡ Outcome.WriteFault → Rose (O.faults out.old) (O.faults out.new) }
-{
     let Some(command) = command_of(words) else {
-        return Outcome::Usage;
+        return told(Outcome::Usage, err);
     };
     match bytes_for(alloc, command, input) {
-        Ok(bytes) => run_command(alloc, command, &bytes, out),
-        Err(Unread::Fault) => Outcome::ReadFault,
-        Err(Unread::TooLong) => Outcome::TooLong,
-        Err(Unread::Memory) => Outcome::Memory,
+        Ok(bytes) => told(run_command(alloc, command, &bytes, out), err),
+        Err(Unread::Fault) => told(Outcome::ReadFault, err),
+        Err(Unread::TooLong) => told(Outcome::TooLong, err),
+        Err(Unread::Memory) => told(Outcome::Memory, err),
     }
 }
 
@@ -130,14 +105,16 @@ fn run_command<O: Sink>(alloc: Global, command: Command, bytes: &[u8], out: &mut
     }
 }
 
-// Writes the line of an outcome to the fault stream.
-fn tell<E: Sink>(outcome: &Outcome, err: &mut E)
-    ensures line { AppendsPart (E.taken err.old) (E.taken err.new) (outcome_line outcome.now) }
-    ensures whole_line { Rose (E.faults err.old) (E.faults err.new) ⊎ Appends (E.taken err.old) (E.taken err.new) (outcome_line outcome.now) }
+// The outcome, once its line is written to the fault stream.
+fn told<E: Sink>(outcome: Outcome, err: &mut E) -> Outcome
+    ensures same { result ≡ outcome }
+    ensures line { AppendsPart (E.taken err.old) (E.taken err.new) (outcome_line outcome) }
+    ensures whole_line { Rose (E.faults err.old) (E.faults err.new) ⊎ Appends (E.taken err.old) (E.taken err.new) (outcome_line outcome) }
 {
     let mut line = RowBuf::new();
-    outcome_bytes(outcome, &mut line);
+    outcome_bytes(&outcome, &mut line);
     let _ = write_piece(err, line.bytes());
+    outcome
 }
 
 /// Each command defines one output for all bytes: a text and an end. (own)

@@ -1,13 +1,13 @@
 //! Worked journeys as tables, with refusals and faults at chosen calls. In the tables `/` stands for a line feed, `~` for a
 //! carriage return and `-` for nothing.
 
+mod flats;
 mod journeys;
 mod trials;
 
-use crate::{CycleFault, EventCause, Flat, FlatRow, Outcome, outcome_of, sdm_main};
+use crate::{EventCause, Outcome, outcome_of, sdm_main};
 use journeys::{BASE, PARTS, REFUSALS, RUN_FAULTS, RUNS};
 use sdm_io::{FixedSource, MemSink, MemSource, NullSink};
-use sdm_num::{Place, Speed};
 use std::alloc::Global;
 use std::process::Abort;
 use std::test::Fail;
@@ -192,52 +192,6 @@ fn words_without_a_shape_are_usage(rt: HostRuntime) -> Result<(), Fail> {
     Ok(())
 }
 
-// words | input | rows | code | line
-const JOURNEYS: &str = "\
-    flat 100 100000 | 0,799990,20000/ | 0,800000,1,0/ | 0 | -
-    flat 100 100000 | 0,799990,20000 | 0,800000,1,0/ | 0 | -
-    flat 100 100000 | - | - | 0 | -
-    flat 100 100000 | 0,799990,20000/5,800010,20000/10,810000,15000/50,900000,0/ | 0,800000,1,0/5,800000,0,1/10,887500,1,1/50,1000000,1,0/ | 0 | -
-    flat 100 100000 | 0,800000,20000/5,800001,20000/5,0,1/5,0,0/5,0,1/ | 0,800000,1,0/5,800000,0,1/5,999999,1,1/5,1000000,1,0/5,999999,1,0/ | 0 | -
-    flat 100 100000 | 0,1000000,0/1,1000001,0/2,1000000,0/ | 0,1000000,1,0/1,1000000,0,1/2,1000000,1,0/ | 0 | -
-    flat 100 100000 | 0,0,0/0,0/ | 0,1000000,1,0/ | 7 | sdm: bad event 2: line/
-    flat 100 100000 | 0,0,0,0/ | - | 7 | sdm: bad event 1: line/
-    flat 100 100000 | 0,0,/ | - | 7 | sdm: bad event 1: line/
-    flat 100 100000 | 0, 0,0/ | - | 7 | sdm: bad event 1: line/
-    flat 100 100000 | 0,0,0~/ | - | 7 | sdm: bad event 1: line/
-    flat 100 100000 | 0,0,0/1,0,0~ | 0,1000000,1,0/ | 7 | sdm: bad event 2: line/
-    flat 100 100000 | 0,0,0//1,0,0/ | 0,1000000,1,0/ | 7 | sdm: bad event 2: line/
-    flat 100 100000 | 0,0,0// | 0,1000000,1,0/ | 7 | sdm: bad event 2: line/
-    flat 100 100000 | / | - | 7 | sdm: bad event 1: line/
-    flat 100 100000 | 5,0,0/5,0,0/4,0,0/6,0,0/ | 5,1000000,1,0/5,1000000,1,0/ | 7 | sdm: bad event 3: line/
-    flat 100 100000 | 007,-0,0/ | 7,1000000,1,0/ | 0 | -
-    flat 100 100000 | 100000000,110000000,138888/ | 100000000,-8644939,0,1/ | 0 | -
-    flat 100 100000 | 0,-10000000,0/ | 0,1000000,1,0/ | 0 | -
-    flat 100 100000 | 100000001,0,0/ | - | 7 | sdm: bad event 1: line/
-    flat 100 100000 | -1,0,0/ | - | 7 | sdm: bad event 1: line/
-    flat 100 100000 | 0,110000001,0/ | - | 7 | sdm: bad event 1: line/
-    flat 100 100000 | 0,-10000001,0/ | - | 7 | sdm: bad event 1: line/
-    flat 100 100000 | 0,0,138889/ | - | 7 | sdm: bad event 1: line/
-    flat 100 100000 | 0,0,-1/ | - | 7 | sdm: bad event 1: line/
-    flat 5 0 | 0,-10000000,138888/0,-193000000,1/ | 0,-192898766,0,1/ | 7 | sdm: bad event 2: line/
-    flat 400 10000000 | 0,99999999,1/0,100000000,0/ | 0,99999999,1,0/0,100000000,1,0/ | 0 | -";
-
-#[test]
-fn each_journey_has_its_rows_and_its_end(rt: HostRuntime) -> Result<(), Fail> {
-    let alloc = rt.alloc();
-    for line in JOURNEYS.lines() {
-        let fields = fields_of(alloc, line)?;
-        let [words, input, rows, code, told] = fields.as_slice() else {
-            return Err("no row".into());
-        };
-        let answer = answer_of(alloc, words, input, &STEADY)?;
-        assert_eq!(rt; answer.code, code.parse::<u8>()?, "{line}");
-        assert!(rt; answer.out == bytes_of(alloc, rows)?, "{line}");
-        assert!(rt; answer.err == bytes_of(alloc, told)?, "{line}");
-    }
-    Ok(())
-}
-
 fn go_through(rt: &impl Abort, alloc: Global, table: &str) -> Result<(), Fail> {
     for line in table.lines() {
         let fields = fields_of(alloc, line)?;
@@ -300,50 +254,6 @@ fn a_fault_ends_a_journey_where_it_comes(rt: HostRuntime) -> Result<(), Fail> {
     Ok(())
 }
 
-// step | failing reads | failing writes | failing writes of the line | rows | code | line
-const FAULTS: &str = "\
-    1000 | - | - | - | 0,800000,1,0/5,800000,0,1/ | 0 | -
-    1 | - | - | - | 0,800000,1,0/5,800000,0,1/ | 0 | -
-    3 | - | - | - | 0,800000,1,0/5,800000,0,1/ | 0 | -
-    1000 | 1 | - | - | - | 2 | sdm: read fault/
-    1000 | 2 | - | - | - | 2 | sdm: read fault/
-    1 | 30 | - | - | - | 2 | sdm: read fault/
-    1 | 31 | - | - | - | 2 | sdm: read fault/
-    1 | 32 | - | - | 0,800000,1,0/5,800000,0,1/ | 0 | -
-    1000 | - | 1 | - | - | 3 | sdm: write fault/
-    1000 | - | 2 | - | 0,800000,1,0/ | 3 | sdm: write fault/
-    1000 | - | 3 | - | 0,800000,1,0/5,800000,0,1/ | 0 | -
-    1 | - | 3 | - | 0, | 3 | sdm: write fault/
-    3 | - | 6 | - | 0,800000,1,0/ | 3 | sdm: write fault/
-    3 | - | 7 | - | 0,800000,1,0/5,8 | 3 | sdm: write fault/
-    1000 | 1 | - | 1 | - | 2 | -
-    1 | 1 | - | 5 | - | 2 | sdm:
-    1 | - | 1 | 1 | - | 3 | -
-    1 | - | - | 1 | 0,800000,1,0/5,800000,0,1/ | 0 | -";
-
-#[test]
-fn a_fault_ends_the_program_where_it_comes(rt: HostRuntime) -> Result<(), Fail> {
-    let alloc = rt.alloc();
-    for line in FAULTS.lines() {
-        let fields = fields_of(alloc, line)?;
-        let [step, reads, writes, lines, rows, code, told] = fields.as_slice() else {
-            return Err("no row".into());
-        };
-        let streams = Streams {
-            step,
-            failing_reads: reads,
-            failing_writes: writes,
-            failing_lines: lines,
-        };
-        let input = "0,799990,20000/5,800010,20000/";
-        let answer = answer_of(alloc, "flat 100 100000", input, &streams)?;
-        assert_eq!(rt; answer.code, code.parse::<u8>()?, "{line}");
-        assert!(rt; answer.out == bytes_of(alloc, rows)?, "{line}");
-        assert!(rt; answer.err == bytes_of(alloc, told)?, "{line}");
-    }
-    Ok(())
-}
-
 #[test]
 fn the_limit_of_an_input_is_not_past_it(rt: HostRuntime) -> Result<(), Fail> {
     let alloc = rt.alloc();
@@ -382,32 +292,5 @@ fn a_record_past_the_hundred_thousandth_is_too_many(rt: HostRuntime) -> Result<(
     assert_eq!(rt; answer.code, 7);
     assert!(rt; answer.out.is_empty());
     assert!(rt; answer.err.as_slice() == b"sdm: bad event 100001: too many events\n".as_slice());
-    Ok(())
-}
-
-#[test]
-fn a_time_that_goes_back_changes_nothing(rt: HostRuntime) -> Result<(), Fail> {
-    let mut flat = Flat::begin(rt.alloc(), 100, 100_000)?;
-    let past = Place::of_mm(800_010);
-    let speed = Speed::of_mm_s(20_000);
-    let row = FlatRow {
-        time: 10,
-        ebi: 800_000,
-        covered: false,
-        eb: true,
-    };
-    assert_eq!(rt; flat.cycle(10, past, speed), Ok(row));
-    let refused = CycleFault::TimeBack { last: 10, time: 9 };
-    assert_eq!(rt; flat.cycle(9, Place::of_mm(0), Speed::new(0)), Err(refused));
-    let held = FlatRow {
-        time: 10,
-        ebi: 887_500,
-        covered: true,
-        eb: true,
-    };
-    assert_eq!(rt;
-        flat.cycle(10, Place::of_mm(810_000), Speed::of_mm_s(15_000)),
-        Ok(held)
-    );
     Ok(())
 }

@@ -2,14 +2,15 @@
 -- were read are to the input.
 use Rattle.std.proofs.Common.{Err, ap, sym}
 use Rattle.sdm_run.proofs.CommandFacts.{answer_told, rows_told, too_long_told}
-use Rattle.sdm_run.proofs.answers.answer.Goals as goal
+use Rattle.sdm_run.proofs.answers.sdm_main.Goals as goal
 
 pub returns-in-Ok-clause-answer : goal.returns-in-Ok-clause-answer
-returns-in-Ok-clause-answer g c = answer_told _ _ _ _ _ _ (sym c.in-Some.ensures.value) c.in-Ok.ensures.whole c.deref.ensures.value c.run_command.ensures.answer
+returns-in-Ok-clause-answer g c =
+    rw c.told-in-Ok.ensures.same (answer_told _ _ _ _ _ _ (sym c.in-Some.ensures.value) c.in-Ok.ensures.whole c.deref.ensures.value c.run_command.ensures.answer)
 
 pub returns-in-Err-TooLong-clause-answer : goal.returns-in-Err-TooLong-clause-answer
 returns-in-Err-TooLong-clause-answer g c =
-    too_long_told _ _ _ _ (sym c.in-Some.ensures.value) c.in-Err-TooLong.ensures.reads (c.in-Err-TooLong.ensures.too_long (ap Err c.in-Err-TooLong.field-0-is))
+    rw c.told-in-Err-TooLong.ensures.same (too_long_told _ _ _ _ (sym c.in-Some.ensures.value) c.in-Err-TooLong.ensures.reads (c.in-Err-TooLong.ensures.too_long (ap Err c.in-Err-TooLong.field-0-is)))
 
 pub returns-in-Err-Fault-clause-rows : goal.returns-in-Err-Fault-clause-rows
 returns-in-Err-Fault-clause-rows g c = rows_told _ _ _ (sym c.in-Some.ensures.value) c.in-Some.ensures.range
