@@ -1,6 +1,6 @@
 -- A list of restrictions of distinct identities stands for a map by identity: one more at its end is an insertion, one less a
 -- removal, and the lowest limit of their zones is the same in the order of the list and in that of the map.
-use Rattle.std.proofs.Common.{◌≡◌, ◌≢◌, ℕ, zero, suc, ℤ, List, [], ◌∷◌, ◌++◌, length, get_or, take, drop, All, map, Option, Some, None, is_some, Bool, true, false, cond, position, ◌==◌, ◌+◌, ◌-◌, ◌<◌, refl, sym, ap, ◌∙◌, arith}
+use Rattle.std.proofs.Common.{◌≡◌, ◌≢◌, ℕ, zero, suc, ℤ, List, [], ◌∷◌, ◌++◌, length, get_or, take, drop, All, map, Option, Some, None, is_some, Bool, true, false, cond, position, ◌==◌, ◌+◌, ◌<◌, refl, sym, ap, ◌∙◌, arith}
 use Rattle.std.specs.List.{remove, position_from}
 use Rattle.std.specs.Ordering.{nat_cmp, eq_by_cmp, is_eq}
 use Rattle.std.specs.Cmp.{nat_cmp_total}
@@ -11,11 +11,10 @@ use Rattle.std.specs.declared.cmp.Ordering.TheVariants.{Less, Equal, Greater}
 use Rattle.std.proofs.lemmas.Bool.Decides.{nat_tests}
 use Rattle.std.proofs.lemmas.Iterator.Adapters.{position_from-zero}
 use Rattle.std.proofs.lemmas.List.{map-append, nil_from_length}
-use Rattle.std.proofs.lemmas.List.Edits.{remove-append_right}
 use Rattle.std.proofs.lemmas.List.Elements.{All-append, All-take, All-drop}
 use Rattle.std.proofs.lemmas.List.Quantifiers.{position-Some}
 use Rattle.sdm_rules.specs.declared.restrictions.Restriction.{Restriction}
-use Rattle.sdm_rules.specs.Profile.{Zone, capped, lowest_limit, zone_of}
+use Rattle.sdm_rules.specs.Profile.{capped, lowest_limit, zone_of}
 use Rattle.sdm_speed.specs.Held.{has_id, keyed, by_identity, AreDistinct}
 use Rattle.sdm_speed.proofs.ZoneLaws.{capped_in_any_order}
 
@@ -41,7 +40,7 @@ not_here : {a b : ℕ} → (a == b) ≡ false → a ≢ b
 not_here {a} {b} t e = grind (arith, nat_tests)
 
 -- stands for a restriction that there is not
-none : Restriction
+abbrev pub none : Restriction
 none = record { id = 0; start = 0; end = 0; speed = 0; delayed = false }
 
 -- ---- the map
@@ -131,18 +130,7 @@ distinct_less [] (suc i) h = tt
 distinct_less (x ∷ xs) zero h = h.1
 distinct_less (x ∷ xs) (suc i) h = (none_less xs x.id i h.0, distinct_less xs i h.1)
 
--- and one zone less
-map-remove : {A B : Type 0} (f : A → B) (xs : List A) (i : ℕ) → remove (map f xs) i ≡ map f (remove xs i)
-map-remove f [] zero = refl
-map-remove f [] (suc i) = refl
-map-remove f (x ∷ xs) zero = refl
-map-remove {B = B} f (x ∷ xs) (suc i) = ap (λ (ys : List B). f x ∷ ys) (map-remove f xs i)
-
-pub zone_less : (statics : List Zone) (length_cm : ℤ) (rs : List Restriction) (at i : ℕ) → at ≡ length statics + i → remove (statics ++ map (zone_of length_cm) rs) at ≡ statics ++ map (zone_of length_cm) (remove rs i)
-zone_less statics length_cm rs at i e =
-    let after : at - length statics ≡ i = omega arith in
-    remove-append_right statics (map (zone_of length_cm) rs) (length statics) at refl (omega arith) ∙ ap (λ (zs : List Zone). statics ++ zs) (rw after (map-remove (zone_of length_cm) rs i))
-
+-- and one less of which each is as it should be
 pub All-remove : {A : Type 0} (P : A → Type 0) (xs : List A) (i : ℕ) → All P xs → All P (remove xs i)
 All-remove P xs i each = All-append P (take i xs) (drop (suc i) xs) (All-take P i xs each) (All-drop P (suc i) xs each)
 

@@ -4,4 +4,9 @@ pub mod HeldLaws
 pub mod StaticLaws
 pub mod RestrictLaws
 pub mod MrspLaws
+pub mod StepLaws
+pub mod SplitLaws
+pub mod CapLaws
+pub mod LowestLaws
+pub mod FallLaws
 pub mod KeptLaws

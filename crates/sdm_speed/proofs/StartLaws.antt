@@ -1,15 +1,13 @@
 -- A profile falls only where a zone begins: a zone that covers a cell and does not begin there covers the cell before it too.
-use Rattle.std.proofs.Common.{◌≡◌, ℕ, suc, ℤ, pos, List, [], ◌∷◌, ◌++◌, length, get_or, take, Option, Some, None, Bool, true, false, ◌&&◌, ◌||◌, nat_lt, int_le, int_lt, if◌then◌else◌, min, ◌+◌, ◌<◌, ◌≤◌, ◌-ℤ◌, ◌≤ℤ◌, ◌<ℤ◌, refl, sym, ap, subst, ◌∙◌, arith, All}
+use Rattle.std.proofs.Common.{◌≡◌, ℕ, suc, ℤ, pos, List, [], ◌∷◌, Option, Some, None, Bool, true, false, ◌&&◌, ◌||◌, nat_lt, int_le, int_lt, if◌then◌else◌, min, ◌<◌, ◌≤◌, ◌-ℤ◌, ◌≤ℤ◌, ◌<ℤ◌, refl, sym, ap, arith, All}
 use Rattle.std.specs.Option.{option_map_or}
 use Rattle.std.specs.Ordering.{int_eq}
 use Rattle.std.proofs.lemmas.Int.{ints, by_lt_z}
 use Rattle.std.proofs.lemmas.Bool.Decides.{Decides-int_eq, nat_tests}
-use Rattle.std.proofs.lemmas.List.{take_more}
-use Rattle.std.proofs.lemmas.List.Folds.{list_any-append}
 use Rattle.sdm_rules.specs.Profile.{Zone, covers, lowest_limit}
-use Rattle.sdm_rules.specs.Targets.{is_fall, HasNoFall}
+use Rattle.sdm_rules.specs.Targets.{is_fall}
 use Rattle.sdm_track.specs.Ranges.{longest_track}
-use Rattle.sdm_speed.specs.Zones.{IsZone, starts_at, has_start, IsNext, HasNone, IsNextOf, nearer, limits_of}
+use Rattle.sdm_speed.specs.Zones.{IsZone, starts_at, has_start, limits_of}
 use Rattle.sdm_speed.proofs.ZoneLaws.{le_is, not_le_is, lt_is, not_lt_is}
 
 -- ---- tests
@@ -115,65 +113,3 @@ on_track_by z zs c false here either zone rest = rest either
 pub start_on_track : (zs : List Zone) (c : ℤ) → All IsZone zs → has_start zs c ≡ true → (pos 0 ≤ℤ c) × (c <ℤ longest_track)
 start_on_track [] c each here = absurd cc
 start_on_track (z ∷ zs) c each here = on_track_by z zs c (starts_at c z) refl here (each 0 z (omega arith)) (start_on_track zs c (λ k d l. each (suc k) d (omega arith)))
-
--- ---- the next cell of which a test holds, or a zone's first
-
--- one zone more
-next_with : (holds : ℤ → Bool) (after : ℤ) (next start : Option ℤ) → IsNextOf holds after next → IsNextOf (λ c. holds c || option_map_or (int_eq c) start false) after (nearer next start after)
-next_with holds after None None h = record { none = λ c a. rw (h.none c a) refl }
-next_with holds after (Some b) None h = record { beyond = h.beyond; here = rw h.here refl; first = λ c a l. rw (h.first c a l) refl }
-next_with holds after None (Some d) h =
-    by_lt_z after d
-    (λ (l : after <ℤ d). rw (lt_is after d l) (record {
-      beyond = l;
-      here = rw (eq_is d d refl) (or_true (holds d));
-      first = λ c a m. rw (h.none c a) (apart c d (λ e. let no : d <ℤ d = rw e at m in omega (arith, ints)));
-    }))
-    (λ (g : d ≤ℤ after). rw (not_lt_is after d g) (record { none = λ c a. rw (h.none c a) (apart c d (λ e. let no : after <ℤ d = rw e at a in omega (arith, ints))) }))
-next_with holds after (Some b) (Some d) h =
-    by_lt_z after d
-    (λ (l : after <ℤ d). by_lt_z d b
-    (λ (m : d <ℤ b). rw (lt_is after d l, lt_is d b m) (record {
-      beyond = l;
-      here = rw (eq_is d d refl) (or_true (holds d));
-      first = λ c a k. let k' : c <ℤ b = omega (arith, ints) in rw (h.first c a k') (apart c d (λ e. let no : d <ℤ d = rw e at k in omega (arith, ints)));
-    }))
-    (λ (g : b ≤ℤ d). rw (lt_is after d l, not_lt_is d b g) (record {
-      beyond = h.beyond;
-      here = rw h.here refl;
-      first = λ c a k. rw (h.first c a k) (apart c d (λ e. let no : d <ℤ b = rw e at k in omega (arith, ints)));
-    })))
-    (λ (g : d ≤ℤ after). rw (not_lt_is after d g) (record {
-      beyond = h.beyond;
-      here = rw h.here refl;
-      first = λ c a k. rw (h.first c a k) (apart c d (λ e. let no : after <ℤ d = rw e at a in omega (arith, ints)));
-    }))
-
-has_start-push : (zs : List Zone) (z : Zone) (c : ℤ) → has_start (zs ++ z ∷ []) c ≡ (has_start zs c || starts_at c z)
-has_start-push zs z c = list_any-append (starts_at c) zs (z ∷ []) ∙ ap (λ b. has_start zs c || b) (or_nothing (starts_at c z))
-
--- one zone more of a list
-pub next_start_more : (zs : List Zone) (i : ℕ) (d : Zone) (after : ℤ) (next : Option ℤ) → i < length zs → IsNextOf (has_start (take i zs)) after next → IsNextOf (has_start (take (i + 1) zs)) after (nearer next (get_or zs i d).first after)
-next_start_more zs i d after next known h =
-    rw (take_more zs i d known)
-    (let same : (λ c. has_start (take i zs) c || starts_at c (get_or zs i d)) ≡ has_start (take i zs ++ get_or zs i d ∷ []) = λ k c. sym (has_start-push (take i zs) (get_or zs i d) c) k in
-    subst (λ holds. IsNextOf holds after (nearer next (get_or zs i d).first after)) same (next_with (has_start (take i zs)) after next (get_or zs i d).first h))
-
--- ---- from start to start
-
--- no fall past `after` up to the cell `at`
-abbrev pub IsQuiet : (ℤ → Bool) → ℤ → ℤ → Type 0
-IsQuiet falls after at = (c : ℤ) → after <ℤ c → c ≤ℤ at → falls c ≡ false
-
-module _ (top : ℕ) (zs : List Zone) (after at : ℤ) (quiet : IsQuiet (is_fall (limits_of top zs)) after at) where
-  -- nor before the next start
-  pub quiet_before : (cell : ℤ) → IsNext (has_start zs) at cell → (c : ℤ) → after <ℤ c → c <ℤ cell → is_fall (limits_of top zs) c ≡ false
-  quiet_before cell next c a l = by_lt_z at c (λ (m : at <ℤ c). no_fall top zs c (next.first c m l)) (λ (g : c ≤ℤ at). quiet c a g)
-
-  -- nor up to it, where the speed doesn't fall there
-  pub quiet_up_to : (cell : ℤ) → IsNext (has_start zs) at cell → is_fall (limits_of top zs) cell ≡ false → IsQuiet (is_fall (limits_of top zs)) after cell
-  quiet_up_to cell next here c a l = by_lt_z c cell (λ (m : c <ℤ cell). quiet_before cell next c a m) (λ (g : cell ≤ℤ c). let e : c ≡ cell = omega (arith, ints) in rw e here)
-
-  -- nor ever, where no zone begins any more
-  pub quiet_from_here : HasNone (has_start zs) at → HasNoFall (limits_of top zs) after
-  quiet_from_here nowhere c a = by_lt_z at c (λ (m : at <ℤ c). no_fall top zs c (nowhere.none c m)) (λ (g : c ≤ℤ at). quiet c a g)

@@ -1,8 +1,9 @@
 -- Restrictions in the order in which they were put into force, and what they are by identity (own).
-use Rattle.std.specs.Prelude.{◌≡◌, ℕ, Bool, List, [], ◌∷◌, None, ◌==◌, map}
+use Rattle.std.specs.Prelude.{◌≡◌, ℕ, Bool, List, [], ◌∷◌, None, ◌==◌, map, ◌<◌, ◌≤◌}
 use Rattle.std.specs.Ordering.{nat_cmp}
 use Rattle.std.specs.FinMap as finite
 use Rattle.sdm_rules.specs.declared.restrictions.Restriction.{Restriction}
+use Rattle.sdm_speed.specs.Zones.{IsLimit}
 
 -- the restriction has the identity (own)
 abbrev pub has_id : ℕ → Restriction → Bool
@@ -15,6 +16,12 @@ keyed r = (r.id, r)
 -- the restrictions as a map from identities (own)
 abbrev pub by_identity : List Restriction → finite.FinMap nat_cmp Restriction
 by_identity rs = finite.from_entries (map keyed rs)
+
+-- a restriction that is held covers a cell of the longest track, and has a limit (own)
+pub record IsHeld (r : Restriction) : Type 0 where
+  pub some_cell : r.start < r.end
+  pub on_track : r.end ≤ 10_000_000
+  pub limited : IsLimit r.speed
 
 -- no two of the restrictions have one identity (own)
 abbrev pub AreDistinct : List Restriction → Type 0

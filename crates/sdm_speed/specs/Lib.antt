@@ -1,4 +1,5 @@
 pub mod Zones
+pub mod Steps
 pub mod Held
 pub mod Profiles
 pub mod ProfileFields

@@ -1,10 +1,11 @@
 -- What the fields of a profile keep (own).
-use Rattle.std.specs.Prelude.{◌≡◌, pos, ◌++◌, All, map, vec_len, vec_capacity, ◌+◌, ◌≤◌}
-use Rattle.sdm_rules.specs.Profile.{zones_of_track, zone_of}
+use Rattle.std.specs.Prelude.{◌≡◌, ℤ, pos, List, ◌++◌, All, map, vec_len, vec_capacity, ◌+◌, ◌*◌, ◌≤◌}
+use Rattle.sdm_rules.specs.Profile.{Zone, zones_of_track, zone_of}
 use Rattle.sdm_rules.specs.Records.{most_restrictions}
 use Rattle.sdm_speed.specs.declared.profiles.Profile.TheInside.{Inside}
-use Rattle.sdm_speed.specs.Held.{AreDistinct, by_identity}
-use Rattle.sdm_speed.specs.Zones.{IsZone}
+use Rattle.sdm_speed.specs.Held.{AreDistinct, IsHeld, by_identity}
+use Rattle.sdm_speed.specs.Zones.{IsZone, limits_of}
+use Rattle.sdm_speed.specs.Steps.{AreRising, speeds_of}
 use Rattle.sdm_speed.specs.Profiles.{ProfileData, IsProfile}
 
 -- the value that callers see (own)
@@ -17,11 +18,24 @@ data_of f = record {
   restrictions = by_identity f.held.items;
 }
 
--- the zones of the static speed profile, then those of the restrictions held, with room for as many as may be (own)
+-- the zones of the static speed profile (own)
+abbrev pub static_zones_of : Inside → List Zone
+static_zones_of f = zones_of_track (pos f.length_cm) f.speeds.items
+
+-- the zones of the restrictions held, in the order in which they were put into force (own)
+abbrev pub held_zones_of : Inside → List Zone
+held_zones_of f = map (zone_of (pos f.length_cm)) f.held.items
+
+-- the steps give the lowest limits, without and with the restrictions held; there is room for as many steps as may be (own)
 pub record IsKept (f : Inside) : Type 0 where
   pub in_range : IsProfile (data_of f)
   pub distinct : AreDistinct f.held.items
-  pub zones : f.zones.items ≡ zones_of_track (pos f.length_cm) f.speeds.items ++ map (zone_of (pos f.length_cm)) f.held.items
-  pub each : All IsZone f.zones.items
+  pub each_static : All IsZone (static_zones_of f)
+  pub each_held : All IsHeld f.held.items
+  pub statics : (c : ℤ) → speeds_of f.statics.before f.statics.list.items c ≡ limits_of f.max_speed (static_zones_of f) c
+  pub statics_rising : AreRising f.statics.list.items
+  pub steps : (c : ℤ) → speeds_of f.steps.before f.steps.list.items c ≡ limits_of f.max_speed (static_zones_of f ++ held_zones_of f) c
+  pub steps_rising : AreRising f.steps.list.items
+  pub steps_few : vec_len f.steps.list ≤ vec_len f.statics.list + 2 * vec_len f.held
   pub held_room : most_restrictions ≤ vec_capacity f.held
-  pub zones_room : vec_len f.zones + most_restrictions ≤ vec_capacity f.zones + vec_len f.held
+  pub steps_room : vec_len f.statics.list + 2 * most_restrictions ≤ vec_capacity f.steps.list

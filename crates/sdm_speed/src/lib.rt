@@ -2,8 +2,8 @@
 //! temporary restrictions, which come and go. All room is taken when a profile begins.
 #![tactic(auto)]
 
-mod falls;
 mod profiles;
+mod steps;
 mod zones;
 
 pub use profiles::Profile;

@@ -1,20 +1,21 @@
-//! The speed profile of a train on a track. The restrictions stand beside their zones in one order, so that a revocation finds the
-//! zone by the restriction's place.
+//! The speed profile of a train on a track. Its speeds are kept as steps, found anew where a restriction comes or goes: one that comes
+//! lowers them, and after one has gone the static speeds are lowered by those that are left.
 
-ghost use Rattle.std.specs.Prelude.{◌≡◌, pos, ◌+◌, ◌<◌, ◌≤◌, ◌≤ℤ◌, All, Some, None, IfOk, IfErr, IfSome, MatchOption, OnOk, OnErr, min, position, vec_len, vec_capacity};
+ghost use Rattle.std.specs.Prelude.{◌≡◌, ℤ, pos, ◌+◌, ◌*◌, ◌≤◌, ◌≤ℤ◌, All, Some, None, IfOk, IfErr, IfSome, MatchOption, OnOk, OnErr, length, map, min, position, vec_len, vec_capacity};
 ghost use Rattle.std.specs.FinMap as finite;
 ghost use Rattle.std.specs.Int.{int_gap};
 ghost use Rattle.sdm_rules.specs.Cells.{lowest};
-ghost use Rattle.sdm_rules.specs.Profile.{zones_of_track, zone_of, end_for};
-ghost use Rattle.sdm_rules.specs.Records.{restrict_fault, revoke_fault, most_restrictions};
+ghost use Rattle.sdm_rules.specs.Profile.{lowest_limit, zones_of_track, zone_of, end_for};
+ghost use Rattle.sdm_rules.specs.Records.{restrict_fault, revoke_fault};
 ghost use Rattle.sdm_rules.specs.Targets.{IsNextFall, HasNoFall};
 ghost use Rattle.sdm_track.specs.Ranges.{AreSpeeds, longest_track};
-ghost use Rattle.sdm_speed.specs.Zones.{IsLimit, IsZone, IsFallInRange};
-ghost use Rattle.sdm_speed.specs.Held.{has_id};
+ghost use Rattle.sdm_speed.specs.Zones.{IsLimit, IsZone, IsFallInRange, limits_of};
+ghost use Rattle.sdm_speed.specs.Steps.{AreRising, speeds_of};
+ghost use Rattle.sdm_speed.specs.Held.{IsHeld, has_id};
 ghost use Rattle.sdm_speed.specs.Profiles.{mrsp_of, new_profile, IsProfile};
 
-use crate::falls;
-use crate::zones::{self, Zone};
+use crate::steps::Steps;
+use crate::zones::Zone;
 use sdm_num::NoMemory;
 use sdm_rules::{Fall, RestrictFault, Restriction, RevokeFault, SpeedStep};
 use sdm_track::Track;
@@ -32,7 +33,10 @@ pub struct Profile {
     track_cm: u32,
     speeds: Vec<SpeedStep>,
     held: Vec<Restriction>,
-    zones: Vec<Zone>,
+    /// The speeds without restrictions.
+    statics: Steps,
+    /// The speeds under the restrictions held.
+    steps: Steps,
 }
 
 impl Model for Profile {
@@ -74,15 +78,15 @@ fn end_for(length_cm: u32, delayed: bool, end: i64) -> i32
     }
 }
 
-/// The zones of the static speed profile, with room for those of the restrictions. Each border closes a zone and opens the next.
+/// The zones of the static speed profile. Each border closes a zone and opens the next.
 fn static_zones(alloc: Global, speeds: &[SpeedStep], length_cm: u32) -> Result<Vec<Zone>, NoMemory>
     requires speeds { AreSpeeds longest_track speeds.now }
     requires train { length_cm ≤ 150_000 }
     ensures value { IfOk result (λ zones. zones.items ≡ zones_of_track (pos length_cm) speeds.now) }
     ensures in_range { IfOk result (λ zones. All IsZone zones.items) }
-    ensures room { IfOk result (λ zones. vec_len zones + most_restrictions ≤ vec_capacity zones) }
+    ensures many { IfOk result (λ zones. vec_len zones ≡ length speeds.now) }
 {
-    let mut zones = Vec::with_capacity(alloc, speeds.len() + MOST_RESTRICTIONS)?;
+    let mut zones = Vec::with_capacity(alloc, speeds.len())?;
     let mut first = None;
     for i in 1..speeds.len() {
         let step = speeds[i - 1];
@@ -102,19 +106,48 @@ fn static_zones(alloc: Global, speeds: &[SpeedStep], length_cm: u32) -> Result<V
     Ok(zones)
 }
 
+/// The speeds of zones, and at most `top`.
+fn steps_of(alloc: Global, zones: &[Zone], top: u16) -> Result<Steps, NoMemory>
+    requires { length zones.now ≤ 128 }
+    ensures speeds { IfOk result (λ steps. (c : ℤ) → speeds_of steps.before steps.list.items c ≡ limits_of top zones.now c) }
+    ensures rising { IfOk result (λ steps. AreRising steps.list.items) }
+    ensures few { IfOk result (λ steps. vec_len steps.list ≤ 2 * length zones.now) }
+{
+    let mut steps = Steps::begin(alloc, top, 2 * zones.len())?;
+    for zone in zones {
+        steps.lower(*zone);
+    }
+    Ok(steps)
+}
+
 /// The zone of a temporary restriction.
 fn zone_of(r: Restriction, length_cm: u32) -> Zone
-    requires some_cell { r.start < r.end }
-    requires track { r.end ≤ 10_000_000 }
+    requires track { IsHeld r }
     requires train { length_cm ≤ 150_000 }
-    requires limited { IsLimit r.speed }
-    ensures value { result ≡ zone_of (pos length_cm) r }
-    ensures in_range { IsZone result }
+    ensures { result ≡ zone_of (pos length_cm) r }
 {
     Zone {
         first: Some(r.start as i32),
         past: Some(end_for(length_cm, r.delayed, i64::from(r.end))),
         limit: r.speed,
+    }
+}
+
+/// Makes the speeds those of the static profile, lowered by the restrictions held.
+fn lower_anew(steps: &mut Steps, statics: &Steps, held: &[Restriction], length_cm: u32)
+    requires held { All IsHeld held.now }
+    requires few { length held.now ≤ 32 }
+    requires train { length_cm ≤ 150_000 }
+    requires rising { AreRising statics.now.list.items }
+    requires room { vec_len statics.now.list + 2 * length held.now ≤ vec_capacity steps.old.list }
+    ensures speeds { (c : ℤ) → speeds_of steps.new.before steps.new.list.items c ≡ lowest_limit (speeds_of statics.now.before statics.now.list.items c) c (map (zone_of (pos length_cm)) held.now) }
+    ensures rising { AreRising steps.new.list.items }
+    ensures few { vec_len steps.new.list ≤ vec_len statics.now.list + 2 * length held.now }
+    ensures room { vec_capacity steps.old.list ≤ vec_capacity steps.new.list }
+{
+    steps.reset(statics);
+    for r in held {
+        steps.lower(zone_of(*r, length_cm));
     }
 }
 
@@ -145,14 +178,18 @@ impl Profile {
         let track_cm = track.length_cm();
         let speeds = speeds_of(alloc, track)?;
         let zones = static_zones(alloc, &speeds, length_cm)?;
+        let statics = steps_of(alloc, &zones, max_speed)?;
         let held = Vec::with_capacity(alloc, MOST_RESTRICTIONS)?;
+        let mut steps = Steps::begin(alloc, max_speed, 2 * (zones.len() + MOST_RESTRICTIONS))?;
+        steps.reset(&statics);
         Ok(Profile {
             max_speed,
             length_cm,
             track_cm,
             speeds,
             held,
-            zones,
+            statics,
+            steps,
         })
     }
 
@@ -203,7 +240,7 @@ impl Profile {
             return Err(fault);
         }
         self.held.push_reserved(r);
-        self.zones.push_reserved(zone_of(r, self.length_cm));
+        self.steps.lower(zone_of(r, self.length_cm));
         Ok(())
     }
 
@@ -217,9 +254,8 @@ impl Profile {
         let Some(place) = place_of(&self.held, id) else {
             return Err(RevokeFault::Unknown { id });
         };
-        let statics = self.zones.len() - self.held.len();
         self.held.remove(place);
-        self.zones.remove(statics + place);
+        lower_anew(&mut self.steps, &self.statics, &self.held, self.length_cm);
         Ok(())
     }
 
@@ -229,7 +265,7 @@ impl Profile {
         ensures value { result ≡ lowest min (mrsp_of self.now) from (int_gap from to) }
         ensures in_range { IsLimit result }
     {
-        zones::lowest(&self.zones, self.max_speed, from, to)
+        self.steps.lowest(from, to)
     }
 
     /// The first fall of the MRSP past the border where the cell `after` begins, with the lower speed in km/h.
@@ -239,6 +275,6 @@ impl Profile {
         ensures in_range { IfSome result IsFallInRange }
         ensures profile_in_range { IsProfile self.now }
     {
-        falls::next_fall(&self.zones, self.max_speed, after)
+        self.steps.next_fall(after)
     }
 }

@@ -4,7 +4,7 @@ use Rattle.std.proofs.lemmas.Int.{ints, to_z-of_z}
 use Rattle.std.proofs.lemmas.List.Elements.{All-push}
 use Rattle.sdm_track.specs.Ranges.{IsSpeedStep, longest_track}
 use Rattle.sdm_speed.specs.Zones.{IsZone}
-use Rattle.sdm_speed.proofs.StaticLaws.{none, zones_from_next, closed_zone, open_zone}
+use Rattle.sdm_speed.proofs.StaticLaws.{none, zones_from_next, static_zone}
 use Rattle.sdm_speed.proofs.profiles.static_zones.Goals as goal
 
 pub loop-i-preserved : goal.loop-i-preserved
@@ -27,7 +27,7 @@ loop-i-preserved c =
     rw (start64, start32) (record {
       zones = rw (pushed, append_assoc) (rw (zones_from_next (pos c.args.length_cm) c.loop-i.first es i e next known refl refl) at inv.zones);
       opened = λ f is. rw same (let e : next.start ≡ f = cc in sym e);
-      in_range = rw pushed (All-push IsZone _ _ inv.in_range (closed_zone es (i - 1) c.loop-i.first e c.requires.speeds (omega arith) refl inv.opened (pos c.args.length_cm) i next (omega (arith, ints)) (omega (arith, inv.count)) known refl));
+      in_range = rw pushed (All-push IsZone _ _ inv.in_range (static_zone es (i - 1) c.loop-i.first _ e c.requires.speeds (omega arith) refl inv.opened));
       count = omega (arith, c.push_reserved.ensures.len, inv.count);
       room = c.push_reserved.ensures.capacity ∙ inv.room;
     })
@@ -41,4 +41,4 @@ returns-clause-in_range c =
     let e_in : IsSpeedStep longest_track e = c.requires.speeds.each last none known in
     let speed64 : to_z w64 (of_z w64 e.speed) ≡ e.speed = omega (arith, ints, e_in.least, e_in.greatest) in
     let at_end : c.loop-i.i ≡ length es = omega (arith, c.requires.speeds.some) in
-    rw (c.push_reserved-2.ensures.items, speed64) (All-push IsZone _ _ c.loop-i.invariant.in_range (open_zone es last c.loop-i.first e c.requires.speeds known refl (rw at_end at c.loop-i.invariant.opened)))
+    rw (c.push_reserved-2.ensures.items, speed64) (All-push IsZone _ _ c.loop-i.invariant.in_range (static_zone es last c.loop-i.first _ e c.requires.speeds known refl (rw at_end at c.loop-i.invariant.opened)))

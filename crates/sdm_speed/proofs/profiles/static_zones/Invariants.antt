@@ -1,7 +1,6 @@
 -- The zones closed so far and those of the rest are all; the open one began where the entry before this border starts.
 use Rattle.std.proofs.Common.{◌≡◌, ℤ, pos, Some, ◌++◌, ◌-◌, ◌+◌, All, get_or, length, vec_len, vec_capacity}
 use Rattle.sdm_rules.specs.Profile.{zones_of_track}
-use Rattle.sdm_rules.specs.Records.{most_restrictions}
 use Rattle.sdm_speed.specs.Zones.{IsZone}
 use Rattle.sdm_speed.proofs.StaticLaws.{zones_from, none}
 use Rattle.sdm_speed.proofs.profiles.static_zones.Given as goal
@@ -12,5 +11,5 @@ invariant-loop-i l = record {
   opened : (f : ℤ) → l.first ≡ Some f → f ≡ (get_or l.speeds (l.i - 1) none).start;
   in_range : All IsZone l.zones.items;
   count : vec_len l.zones + 1 ≡ l.i;
-  room : vec_capacity l.zones ≡ length l.speeds + most_restrictions;
+  room : vec_capacity l.zones ≡ length l.speeds;
 }

@@ -1,7 +1,10 @@
--- The zones are those of the static speed profile; no restriction is held.
-use Rattle.std.proofs.Common.{[], sym, arith}
+-- The steps are those of the static speed profile; no restriction is held.
+use Rattle.std.proofs.Common.{List, [], length, ap, arith}
 use Rattle.std.proofs.lemmas.Int.{ints}
 use Rattle.std.proofs.lemmas.List.{append-nil}
+use Rattle.std.proofs.lemmas.List.Elements.{All-nil}
+use Rattle.sdm_speed.specs.declared.steps.Step.{Step}
+use Rattle.sdm_speed.specs.Held.{IsHeld}
 use Rattle.sdm_speed.proofs.HeldLaws.{len_is}
 use Rattle.sdm_speed.proofs.profiles.Profile.begin.Goals as goal
 
@@ -12,7 +15,12 @@ invariant_of-result c =
     let speeds_is = c.in_ok-speeds.ensures in
     let held_is = c.in_ok-held.ensures.items in
     let zones_is = rw c.deref.ensures.value at c.in_ok-zones.ensures.value in
+    let each = rw zones_is at c.in_ok-zones.ensures.in_range in
     let none = len_is [] tt in
+    let statics = rw (c.deref-2.ensures.value, zones_is) at c.in_ok-statics.ensures.speeds in
+    let ok_statics = c.in_ok-statics.statics.list.ok.0 in
+    let ok_steps = c.reset.new.self.list.ok.0 in
+    let ok_held = c.in_ok-held.held.ok.0 in
     record {
       in_range = record {
         top = record { least = c.requires.slowest; greatest = c.requires.fastest };
@@ -23,8 +31,18 @@ invariant_of-result c =
         few = rw (held_is, none) (omega arith);
       };
       distinct = rw held_is tt;
-      zones = rw (zones_is, held_is) (sym (append-nil _));
-      each = c.in_ok-zones.ensures.in_range;
+      each_static = each;
+      each_held = rw held_is (All-nil IsHeld);
+      statics = statics;
+      statics_rising = c.in_ok-statics.ensures.rising;
+      steps = λ cell. rw (c.reset.ensures.before, c.reset.ensures.list, held_is, append-nil) (statics cell);
+      steps_rising = rw c.reset.ensures.list c.in_ok-statics.ensures.rising;
+      steps_few = let same = ap (λ (steps : List Step). length steps) c.reset.ensures.list in omega arith;
       held_room = omega (arith, c.in_ok-held.ensures.exact);
-      zones_room = omega (arith, c.in_ok-zones.ensures.room, c.in_ok-held.ensures.len);
+      steps_room = omega (arith, c.reset.ensures.room, c.in_ok-steps.ensures.room, c.in_ok-statics.ensures.few, c.deref-2.ensures.len, c.len.ensures);
     }
+
+pub reset-requires : goal.reset-requires
+reset-requires c =
+    let ok_statics = c.in_ok-statics.statics.list.ok.0 in
+    omega (arith, c.in_ok-steps.ensures.room, c.in_ok-statics.ensures.few, c.deref-2.ensures.len, c.len.ensures)

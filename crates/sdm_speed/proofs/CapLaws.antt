@@ -1,0 +1,105 @@
+-- Where the ends of a zone are starts of steps, the zone covers a cell exactly where it covers the start of the step in which the cell lies.
+-- So the steps that it covers, with at most its limit, give the lowered speeds.
+use Rattle.std.proofs.Common.{◌≡◌, ◌⊎◌, ℕ, zero, suc, ℤ, List, [], ◌∷◌, ◌++◌, length, get_or, set, take, drop, map, ◌<◌, Option, Some, None, true, int_le, int_lt, inl, inr, ◌≤ℤ◌, ◌<ℤ◌, refl, sym, ap, ◌∙◌, arith}
+use Rattle.std.specs.Option.{option_map_or}
+use Rattle.std.proofs.lemmas.Int.{ints, by_lt_z}
+use Rattle.sdm_rules.specs.Profile.{Zone, capped}
+use Rattle.sdm_speed.specs.declared.steps.Step.{Step}
+use Rattle.sdm_speed.specs.Steps.{AreAfter, AreRising, IsStart, capped_before, capped_step, speeds_of}
+use Rattle.sdm_speed.proofs.ZoneLaws.{le_is, not_le_is, lt_is, not_lt_is}
+use Rattle.sdm_speed.proofs.StepLaws.{first_begun, none_begun, start_after}
+
+-- the starts stay
+cap_after : (z : Zone) (cell : ℤ) (ss : List Step) → AreAfter cell ss → AreAfter cell (map (capped_step z) ss)
+cap_after z cell [] after = tt
+cap_after z cell (s ∷ ss) after = (after.0, cap_after z s.start ss after.1)
+
+pub cap_rising : (z : Zone) (ss : List Step) → AreRising ss → AreRising (map (capped_step z) ss)
+cap_rising z [] rising = tt
+cap_rising z (s ∷ ss) rising = cap_after z s.start ss rising
+
+-- ---- from a cell to a later one, with no start between them
+
+-- the border lies at or before the cell, or a step starts there
+abbrev IsMet : Option ℤ → ℤ → List Step → Type 0
+IsMet border t ss = (b : ℤ) → border ≡ Some b → (b ≤ℤ t) ⊎ IsStart b ss
+
+module _ (t c : ℤ) (ss : List Step) (le : t ≤ℤ c) (after : AreAfter c ss) where
+  first_same : (first : Option ℤ) → IsMet first t ss → option_map_or (λ f. int_le f t) first true ≡ option_map_or (λ f. int_le f c) first true
+  first_same None met = refl
+  first_same (Some f) met = elim (met f refl) [
+    | inl before ↦ rw (le_is f t before, le_is f c (omega (arith, ints))) refl
+    | inr start ↦ (let past = start_after c f ss after start in rw (not_le_is f t (omega (arith, ints)), not_le_is f c past) refl)
+  ]
+
+  past_same : (past : Option ℤ) → IsMet past t ss → option_map_or (λ p. int_lt t p) past true ≡ option_map_or (λ p. int_lt c p) past true
+  past_same None met = refl
+  past_same (Some p) met = elim (met p refl) [
+    | inl before ↦ rw (not_lt_is t p before, not_lt_is c p (omega (arith, ints))) refl
+    | inr start ↦ (let past = start_after c p ss after start in rw (lt_is t p (omega (arith, ints)), lt_is c p past) refl)
+  ]
+
+  capped_same : (z : Zone) (v : ℕ) → IsMet z.first t ss → IsMet z.past t ss → capped t z v ≡ capped c z v
+  capped_same z v first past = rw (first_same z.first first, past_same z.past past) refl
+
+met_on : (border : Option ℤ) (t : ℤ) (s : Step) (ss : List Step) → t <ℤ s.start → IsMet border t (s ∷ ss) → IsMet border s.start ss
+met_on border t s ss lt met b is = elim (met b is) [
+  | inl before ↦ inl (omega (arith, ints))
+  | inr here ↦ elim here [ inl e ↦ inl (rw e (omega (arith, ints))) | inr later ↦ inr later ]
+]
+
+-- ---- the speeds
+
+-- from a cell on, whose speed is lowered
+capped_from : (z : Zone) (t : ℤ) (v : ℕ) (ss : List Step) (c : ℤ) → AreAfter t ss → IsMet z.first t ss → IsMet z.past t ss → t ≤ℤ c → speeds_of (capped t z v) (map (capped_step z) ss) c ≡ capped c z (speeds_of v ss c)
+capped_from z t v [] c after first past le = capped_same t c [] le tt z v first past
+capped_from z t v (s ∷ ss) c after first past le =
+    by_lt_z c s.start
+    (λ (lt : c <ℤ s.start).
+    let later : AreAfter c (s ∷ ss) = (lt, after.1) in
+    none_begun c (capped t z v) (map (capped_step z) (s ∷ ss)) c (cap_after z c (s ∷ ss) later) (omega (arith, ints))
+    ∙ capped_same t c (s ∷ ss) le later z v first past
+    ∙ ap (capped c z) (sym (none_begun c v (s ∷ ss) c later (omega (arith, ints)))))
+    (λ (begun : s.start ≤ℤ c).
+    first_begun (capped t z v) (capped_step z s) (map (capped_step z) ss) c begun
+    ∙ capped_from z s.start s.speed ss c after.1 (met_on z.first t s ss after.0 first) (met_on z.past t s ss after.0 past) begun
+    ∙ ap (capped c z) (sym (first_begun v s ss c begun)))
+
+-- before all steps
+module _ (limit v : ℕ) (ss : List Step) (c : ℤ) (after : AreAfter c ss) where
+  before_is : (first past : Option ℤ) → ((b : ℤ) → first ≡ Some b → IsStart b ss) → ((b : ℤ) → past ≡ Some b → IsStart b ss) → capped_before (record { first = first; past = past; limit = limit }) v ≡ capped c (record { first = first; past = past; limit = limit }) v
+  before_is None None first past = refl
+  before_is None (Some p) first past = rw (lt_is c p (start_after c p ss after (past p refl))) refl
+  before_is (Some f) past first _ = rw (not_le_is f c (start_after c f ss after (first f refl))) refl
+
+-- the ends of the zone are starts of steps
+pub capped_speeds : (z : Zone) (v : ℕ) (ss : List Step) (c : ℤ) → AreRising ss → ((b : ℤ) → z.first ≡ Some b → IsStart b ss) → ((b : ℤ) → z.past ≡ Some b → IsStart b ss) →
+    speeds_of (capped_before z v) (map (capped_step z) ss) c ≡ capped c z (speeds_of v ss c)
+capped_speeds z v [] c rising first past = before_is z.limit v [] c tt z.first z.past first past
+capped_speeds z v (s ∷ ss) c rising first past =
+    by_lt_z c s.start
+    (λ (lt : c <ℤ s.start).
+    let later : AreAfter c (s ∷ ss) = (lt, rising) in
+    none_begun c (capped_before z v) (map (capped_step z) (s ∷ ss)) c (cap_after z c (s ∷ ss) later) (omega (arith, ints))
+    ∙ before_is z.limit v (s ∷ ss) c later z.first z.past first past
+    ∙ ap (capped c z) (sym (none_begun c v (s ∷ ss) c later (omega (arith, ints)))))
+    (λ (begun : s.start ≤ℤ c).
+    first_begun (capped_before z v) (capped_step z s) (map (capped_step z) ss) c begun
+    ∙ capped_from z s.start s.speed ss c rising (here z.first first) (here z.past past) begun
+    ∙ ap (capped c z) (sym (first_begun v s ss c begun)))
+  where
+    here : (border : Option ℤ) → ((b : ℤ) → border ≡ Some b → IsStart b (s ∷ ss)) → IsMet border s.start ss
+    here border start b is = elim (start b is) [ inl e ↦ inl (rw e (omega (arith, ints))) | inr later ↦ inr later ]
+
+-- ---- one step after the other
+
+-- of the steps the first `i` are capped, and then the next one is
+pub one_more : (z : Zone) (ss : List Step) (i : ℕ) (d : Step) → i < length ss → set (map (capped_step z) (take i ss) ++ drop i ss) i (capped_step z (get_or ss i d)) ≡ map (capped_step z) (take (suc i) ss) ++ drop (suc i) ss
+one_more z [] i d known = absurd (omega arith)
+one_more z (s ∷ ss) zero d known = refl
+one_more z (s ∷ ss) (suc i) d known = ap (λ (rest : List Step). capped_step z s ∷ rest) (one_more z ss i d (omega arith))
+
+pub not_yet : (z : Zone) (ss : List Step) (i : ℕ) (d : Step) → i < length ss → get_or (map (capped_step z) (take i ss) ++ drop i ss) i d ≡ get_or ss i d
+not_yet z [] i d known = absurd (omega arith)
+not_yet z (s ∷ ss) zero d known = refl
+not_yet z (s ∷ ss) (suc i) d known = not_yet z ss i d (omega arith)

@@ -1,0 +1,86 @@
+-- The speed of a cell is that of the last step that has begun there: steps that have begun can be left out but the last, and steps that
+-- start past the cell say nothing of it.
+use Rattle.std.proofs.Common.{◌≡◌, ℕ, zero, suc, ℤ, pos, List, [], ◌∷◌, length, get_or, drop, true, false, int_lt, inl, inr, ◌<◌, ◌≤◌, ◌≤ℤ◌, ◌<ℤ◌, refl, ◌∙◌, arith}
+use Rattle.std.specs.List.Sorted.{IsPartitionedBy}
+use Rattle.std.proofs.lemmas.Int.{ints}
+use Rattle.sdm_speed.specs.declared.steps.Step.{Step}
+use Rattle.sdm_speed.specs.Steps.{AreAfter, AreRising, IsStart, speed_to, speeds_of}
+use Rattle.sdm_speed.proofs.ZoneLaws.{le_is, not_le_is, lt_is}
+
+-- stands for a step that there is not
+abbrev pub none : Step
+none = record { start = pos 0; speed = 0 }
+
+-- ---- steps that rise
+
+pub rising_of : (cell : ℤ) (ss : List Step) → AreAfter cell ss → AreRising ss
+rising_of cell [] after = tt
+rising_of cell (s ∷ ss) after = after.1
+
+-- what starts past a cell starts past an earlier one
+pub after_earlier : (cell c : ℤ) (ss : List Step) → AreAfter cell ss → c ≤ℤ cell → AreAfter c ss
+after_earlier cell c [] after le = tt
+after_earlier cell c (s ∷ ss) after le = (let past = after.0 in omega (arith, ints), after.1)
+
+after_all : (cell : ℤ) (ss : List Step) (j : ℕ) (d : Step) → AreAfter cell ss → j < length ss → cell <ℤ (get_or ss j d).start
+after_all cell [] j d after known = absurd (omega arith)
+after_all cell (s ∷ ss) zero d after known = after.0
+after_all cell (s ∷ ss) (suc j) d after known = let first = after.0 in let rest = after_all s.start ss j d after.1 (omega arith) in omega (arith, ints)
+
+-- each start lies past the cell
+pub start_after : (cell b : ℤ) (ss : List Step) → AreAfter cell ss → IsStart b ss → cell <ℤ b
+start_after cell b [] after start = absurd start
+start_after cell b (s ∷ ss) after (inl e) = let past = after.0 in rw (← e) past
+start_after cell b (s ∷ ss) after (inr later) = let past = after.0 in let rest = start_after s.start b ss after.1 later in omega (arith, ints)
+
+rises : (ss : List Step) (i j : ℕ) (d : Step) → AreRising ss → i ≤ j → j < length ss → (get_or ss i d).start ≤ℤ (get_or ss j d).start
+rises [] i j d rising le known = absurd (omega arith)
+rises (s ∷ ss) zero zero d rising le known = omega (arith, ints)
+rises (s ∷ ss) zero (suc j) d rising le known = let past = after_all s.start ss j d rising (omega arith) in omega (arith, ints)
+rises (s ∷ ss) (suc i) zero d rising le known = absurd (omega arith)
+rises (s ∷ ss) (suc i) (suc j) d rising le known = rises ss i j d (rising_of s.start ss rising) (omega arith) (omega arith)
+
+pub lt_of : (a b : ℤ) → int_lt a b ≡ true → a <ℤ b
+lt_of a b h = grind (arith, ints)
+
+pub not_lt_of : (a b : ℤ) → int_lt a b ≡ false → b ≤ℤ a
+not_lt_of a b h = grind (arith, ints)
+
+-- the steps that start before a cell come first
+pub starts_parted : (ss : List Step) (cell : ℤ) → AreRising ss → IsPartitionedBy (λ s. int_lt s.start cell) ss
+starts_parted ss cell rising i j d le known on =
+    let begun : (get_or ss j d).start <ℤ cell = lt_of _ _ on in
+    lt_is (get_or ss i d).start cell (let r = rises ss i j d rising le known in omega (arith, ints))
+
+-- ---- the speed of a cell
+
+-- no step has begun
+pub none_begun : (cell : ℤ) (v : ℕ) (ss : List Step) (c : ℤ) → AreAfter cell ss → c ≤ℤ cell → speeds_of v ss c ≡ v
+none_begun cell v [] c after le = refl
+none_begun cell v (s ∷ ss) c after le =
+    let past = after.0 in
+    rw (not_le_is s.start c (omega (arith, ints))) (none_begun s.start v ss c after.1 (omega (arith, ints)))
+
+-- the first step has begun
+pub first_begun : (v : ℕ) (s : Step) (ss : List Step) (c : ℤ) → s.start ≤ℤ c → speeds_of v (s ∷ ss) c ≡ speeds_of s.speed ss c
+first_begun v s ss c begun = rw (le_is s.start c begun) refl
+
+-- the first `i` steps have begun
+pub rest_begun : (v : ℕ) (ss : List Step) (i : ℕ) (c : ℤ) → ((k : ℕ) (d : Step) → k < i → k < length ss → (get_or ss k d).start ≤ℤ c) → speeds_of v ss c ≡ speeds_of (speed_to v ss i) (drop i ss) c
+rest_begun v [] zero c begun = refl
+rest_begun v [] (suc i) c begun = refl
+rest_begun v (s ∷ ss) zero c begun = refl
+rest_begun v (s ∷ ss) (suc i) c begun = first_begun v s ss c (begun 0 s (omega arith) (omega arith)) ∙ (rest_begun s.speed ss i c (λ k d l m. begun (suc k) d (omega arith) (omega arith)))
+
+-- the steps that are left start past the cell
+pub rest_after : (ss : List Step) (i : ℕ) (c : ℤ) → AreRising ss → ((k : ℕ) (d : Step) → i ≤ k → k < length ss → c <ℤ (get_or ss k d).start) → AreAfter c (drop i ss)
+rest_after [] zero c rising later = tt
+rest_after [] (suc i) c rising later = tt
+rest_after (s ∷ ss) zero c rising later = (later 0 s (omega arith) (omega arith), rising)
+rest_after (s ∷ ss) (suc i) c rising later = rest_after ss i c (rising_of s.start ss rising) (λ k d l m. later (suc k) d (omega arith) (omega arith))
+
+-- the speed up to a step is that of the step before it
+pub speed_to_next : (v : ℕ) (ss : List Step) (i : ℕ) (d : Step) → i < length ss → speed_to v ss (suc i) ≡ (get_or ss i d).speed
+speed_to_next v [] i d known = absurd (omega arith)
+speed_to_next v (s ∷ ss) zero d known = refl
+speed_to_next v (s ∷ ss) (suc i) d known = speed_to_next s.speed ss i d (omega arith)

@@ -1,0 +1,7 @@
+-- The first fall of the steps that are left is that of them all.
+use Rattle.std.proofs.Common.{◌≡◌, drop}
+use Rattle.sdm_speed.proofs.FallLaws.{first_fall}
+use Rattle.sdm_speed.proofs.steps.first_fall.Given as goal
+
+abbrev pub invariant-loop-step : goal.invariant-loop-step
+invariant-loop-step l = first_fall l.before (drop l.step-index l.steps) ≡ first_fall l.speed l.steps

@@ -1,0 +1,54 @@
+-- Speeds of all cells as steps: what they are, and what a zone makes of them (own).
+use Rattle.std.specs.Prelude.{◌≡◌, ◌⊎◌, ℕ, zero, suc, ℤ, List, [], ◌∷◌, length, slice_index_or, Option, MatchOption, is_none, min, if◌then◌else◌, ◌<◌, ◌≤◌, ◌≤ℤ◌, ◌<ℤ◌}
+use Rattle.sdm_rules.specs.declared.targets.Fall.{Fall}
+use Rattle.sdm_rules.specs.Cells.{last_at}
+use Rattle.sdm_rules.specs.Profile.{Zone, capped}
+use Rattle.sdm_rules.specs.Targets.{IsNextFall, HasNoFall}
+use Rattle.sdm_speed.specs.declared.steps.Step.{Step}
+
+-- the speed of each cell in km/h: of the last step whose start is at most the cell, and `before` where there is none (own)
+abbrev pub speeds_of : ℕ → List Step → ℤ → ℕ
+speeds_of before steps cell = last_at (λ s. s.start) (λ s. s.speed) steps cell before
+
+-- the steps start past the cell, each past the one before it (own)
+abbrev pub AreAfter : ℤ → List Step → Type 0
+AreAfter cell [] = Unit {0}
+AreAfter cell (s ∷ ss) = (cell <ℤ s.start) × AreAfter s.start ss
+
+-- each step starts past the one before it (own)
+abbrev pub AreRising : List Step → Type 0
+AreRising [] = Unit {0}
+AreRising (s ∷ ss) = AreAfter s.start ss
+
+-- the first `i` steps start before the cell, and the others at it or past it (own)
+pub record ArePartedAt (cell : ℤ) (steps : List Step) (i : ℕ) : Type 0 where
+  pub bound : i ≤ length steps
+  pub before : (k : ℕ) (d : Step) → k < i → (slice_index_or steps k d).start <ℤ cell
+  pub from : (k : ℕ) (d : Step) → i ≤ k → k < length steps → cell ≤ℤ (slice_index_or steps k d).start
+
+-- the speed in km/h up to where the step at this place starts, the first of which has the place 0 (own)
+abbrev pub speed_to : ℕ → List Step → ℕ → ℕ
+speed_to before steps zero = before
+speed_to before [] (suc i) = before
+speed_to before (s ∷ ss) (suc i) = speed_to s.speed ss i
+
+-- a step starts at the cell (own)
+abbrev pub IsStart : ℤ → List Step → Type 0
+IsStart cell [] = ⊥
+IsStart cell (s ∷ ss) = (s.start ≡ cell) ⊎ IsStart cell ss
+
+-- where a step started, one starts still (own)
+abbrev pub KeepsStarts : List Step → List Step → Type 0
+KeepsStarts old new = (cell : ℤ) → IsStart cell old → IsStart cell new
+
+-- the step, which has at most the zone's limit where the zone covers its start (own)
+abbrev pub capped_step : Zone → Step → Step
+capped_step z s = record { start = s.start; speed = capped s.start z s.speed }
+
+-- the speed before all steps, which is at most the zone's limit where the zone has no beginning (own)
+abbrev pub capped_before : Zone → ℕ → ℕ
+capped_before z v = if is_none z.first then min z.limit v else v
+
+-- the next fall of a profile past a cell, or that there is none (own)
+abbrev pub IsFallAfter : (ℤ → ℕ) → ℤ → Option Fall → Type 0
+IsFallAfter profile after next = MatchOption next (HasNoFall profile after) (IsNextFall profile after)

@@ -1,0 +1,237 @@
+//! Speeds of all cells as steps. They change only where a step starts, so a look at the step in which a cell lies answers for the
+//! cell, and the falls are among the starts. A zone lowers them in place: its ends become starts, and each step that it covers takes
+//! its limit.
+
+ghost use Rattle.std.specs.Prelude.{◌≡◌, ◌+◌, ◌<◌, ◌≤◌, ◌+ℤ◌, ◌≤ℤ◌, ℕ, ℤ, pos, [], Some, IfOk, length, map, min, vec_len, vec_capacity};
+ghost use Rattle.std.specs.Int.{int_gap};
+ghost use Rattle.sdm_rules.specs.Cells.{lowest};
+ghost use Rattle.sdm_rules.specs.Profile.{capped};
+ghost use Rattle.sdm_speed.specs.Steps.{AreAfter, AreRising, ArePartedAt, IsFallAfter, IsStart, KeepsStarts, capped_before, capped_step, speed_to, speeds_of};
+
+use crate::zones::Zone;
+use sdm_num::NoMemory;
+use sdm_rules::Fall;
+use std::alloc::Global;
+
+/// The speed in km/h from a cell on, up to where the next step starts.
+#[derive(Clone, Copy, Debug)]
+pub struct Step {
+    pub start: i32,
+    pub speed: u16,
+}
+
+/// A speed in km/h for every cell: one before the first step, and steps whose starts rise.
+#[derive(Debug, Drop)]
+pub struct Steps {
+    before: u16,
+    list: Vec<Step>,
+}
+
+// The speeds from a cell on: that of the cell, and the steps that start past it.
+#[derive(Clone, Copy)]
+struct Rest<'a> {
+    speed: u16,
+    later: &'a [Step],
+}
+
+// The step where the zone covers its start: at most the zone's limit.
+fn capped_step(step: Step, zone: Zone) -> Step
+    ensures { result ≡ capped_step zone step }
+{
+    if zone.covers(step.start) {
+        Step {
+            start: step.start,
+            speed: step.speed.min(zone.limit),
+        }
+    } else {
+        step
+    }
+}
+
+// The speed before all steps: at most the zone's limit where the zone has no beginning.
+fn capped_before(before: u16, zone: Zone) -> u16
+    ensures { result ≡ capped_before zone before }
+{
+    match zone.first {
+        None => before.min(zone.limit),
+        Some(_) => before,
+    }
+}
+
+// The lowest speed from a cell before all these steps up to the cell `to`, where `speed` holds before them.
+fn lowest_up_to(steps: &[Step], speed: u16, to: i32) -> u16
+    ensures { (from : ℤ) (n : ℕ) → to ≡ from +ℤ pos n → AreAfter from steps.now → result ≡ lowest min (speeds_of speed steps.now) from n }
+{
+    let mut lowest = speed;
+    for step in steps {
+        if to < step.start {
+            return lowest;
+        }
+        lowest = lowest.min(step.speed);
+    }
+    lowest
+}
+
+// The first fall past a cell before all these steps, where `speed` holds before them.
+fn first_fall(steps: &[Step], speed: u16) -> Option<Fall>
+    ensures { (after : ℤ) → AreAfter after steps.now → IsFallAfter (speeds_of speed steps.now) after result }
+{
+    let mut before = speed;
+    for step in steps {
+        if step.speed < before {
+            return Some(Fall {
+                cell: step.start,
+                speed: step.speed,
+            });
+        }
+        before = step.speed;
+    }
+    None
+}
+
+impl Steps {
+    /// One speed in every cell, with room for so many steps.
+    pub fn begin(alloc: Global, speed: u16, room: usize) -> Result<Steps, NoMemory>
+        ensures before { IfOk result (λ s. s.before ≡ speed) }
+        ensures list { IfOk result (λ s. s.list.items ≡ []) }
+        ensures room { IfOk result (λ s. vec_capacity s.list ≡ room) }
+    {
+        let list = Vec::with_capacity(alloc, room)?;
+        Ok(Steps {
+            before: speed,
+            list,
+        })
+    }
+
+    /// Takes the speeds of others, for whose steps there is room.
+    pub fn reset(&mut self, other: &Steps)
+        requires { length other.now.list.items ≤ vec_capacity self.old.list }
+        ensures before { self.new.before ≡ other.now.before }
+        ensures list { self.new.list.items ≡ other.now.list.items }
+        ensures room { vec_capacity self.old.list ≤ vec_capacity self.new.list }
+    {
+        self.before = other.before;
+        self.list.clear();
+        let Ok(()) = self.list.extend_from_slice(&other.list) else {
+            unreachable!()
+        };
+    }
+
+    // How many steps start before a cell.
+    fn started_before(&self, cell: i64) -> usize
+        requires { AreRising self.now.list.items }
+        ensures { ArePartedAt cell self.now.list.items result }
+    {
+        self.list
+            .partition_point(|step| i64::from(step.start) < cell)
+    }
+
+    // The speed up to where the step at this place starts.
+    fn speed_to(&self, i: usize) -> u16
+        requires { i ≤ length self.now.list.items }
+        ensures { result ≡ speed_to self.now.before self.now.list.items i }
+    {
+        if i == 0 {
+            self.before
+        } else {
+            self.list[i - 1].speed
+        }
+    }
+
+    // The speeds from a cell on.
+    fn from_cell(&self, cell: i32) -> Rest<'_>
+        requires { AreRising self.now.list.items }
+        ensures same { (c : ℤ) → cell ≤ℤ c → speeds_of self.now.before self.now.list.items c ≡ speeds_of result.speed result.later.now c }
+        ensures later { AreAfter cell result.later.now }
+    {
+        let begun = self.started_before(i64::from(cell) + 1);
+        Rest {
+            speed: self.speed_to(begun),
+            later: &self.list[begun..],
+        }
+    }
+
+    // Lets a step start at a cell, for which there is room. No speed changes.
+    fn split(&mut self, cell: i32)
+        requires rising { AreRising self.old.list.items }
+        requires room { vec_len self.old.list < vec_capacity self.old.list }
+        ensures speeds { (c : ℤ) → speeds_of self.new.before self.new.list.items c ≡ speeds_of self.old.before self.old.list.items c }
+        ensures start { IsStart cell self.new.list.items }
+        ensures starts { KeepsStarts self.old.list.items self.new.list.items }
+        ensures rising { AreRising self.new.list.items }
+        ensures few { vec_len self.new.list ≤ vec_len self.old.list + 1 }
+        ensures room { vec_capacity self.new.list ≡ vec_capacity self.old.list }
+    {
+        let i = self.started_before(i64::from(cell));
+        if i < self.list.len() && self.list[i].start == cell {
+            return;
+        }
+        let speed = self.speed_to(i);
+        let step = Step { start: cell, speed };
+        let Ok(()) = self.list.insert(i, step) else {
+            unreachable!()
+        };
+    }
+
+    // Lets a step start at a border, if there is one.
+    fn split_at(&mut self, border: Option<i32>)
+        requires rising { AreRising self.old.list.items }
+        requires room { vec_len self.old.list < vec_capacity self.old.list }
+        ensures speeds { (c : ℤ) → speeds_of self.new.before self.new.list.items c ≡ speeds_of self.old.before self.old.list.items c }
+        ensures start { (b : ℤ) → border ≡ Some b → IsStart b self.new.list.items }
+        ensures starts { KeepsStarts self.old.list.items self.new.list.items }
+        ensures rising { AreRising self.new.list.items }
+        ensures few { vec_len self.new.list ≤ vec_len self.old.list + 1 }
+        ensures room { vec_capacity self.new.list ≡ vec_capacity self.old.list }
+    {
+        if let Some(cell) = border {
+            self.split(cell);
+        }
+    }
+
+    // Each step that the zone covers takes at most its limit, and so do the cells before the first step.
+    fn cap(&mut self, zone: Zone)
+        ensures before { self.new.before ≡ capped_before zone self.old.before }
+        ensures list { self.new.list.items ≡ map (capped_step zone) self.old.list.items }
+        ensures len { vec_len self.new.list ≡ vec_len self.old.list }
+        ensures room { vec_capacity self.new.list ≡ vec_capacity self.old.list }
+    {
+        self.before = capped_before(self.before, zone);
+        for i in 0..self.list.len() {
+            self.list[i] = capped_step(self.list[i], zone);
+        }
+    }
+
+    /// Lowers the speeds to the limit of a zone in the cells that it covers; there is room for two steps more.
+    pub fn lower(&mut self, zone: Zone)
+        requires rising { AreRising self.old.list.items }
+        requires room { vec_len self.old.list + 2 ≤ vec_capacity self.old.list }
+        ensures speeds { (c : ℤ) → speeds_of self.new.before self.new.list.items c ≡ capped c zone (speeds_of self.old.before self.old.list.items c) }
+        ensures rising { AreRising self.new.list.items }
+        ensures few { vec_len self.new.list ≤ vec_len self.old.list + 2 }
+        ensures room { vec_capacity self.new.list ≡ vec_capacity self.old.list }
+    {
+        self.split_at(zone.first);
+        self.split_at(zone.past);
+        self.cap(zone);
+    }
+
+    /// The lowest speed of the cells from `from` to `to`.
+    pub fn lowest(&self, from: i32, to: i32) -> u16
+        requires rising { AreRising self.now.list.items }
+        requires ordered { from ≤ℤ to }
+        ensures { result ≡ lowest min (speeds_of self.now.before self.now.list.items) from (int_gap from to) }
+    {
+        let rest = self.from_cell(from);
+        lowest_up_to(rest.later, rest.speed, to)
+    }
+
+    /// The first fall past the border of the cell `after`.
+    pub fn next_fall(&self, after: i32) -> Option<Fall>
+        requires { AreRising self.now.list.items }
+        ensures { IsFallAfter (speeds_of self.now.before self.now.list.items) after result }
+    {
+        let rest = self.from_cell(after);
+        first_fall(rest.later, rest.speed)
+    }
+}
