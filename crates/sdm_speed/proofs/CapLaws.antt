@@ -1,9 +1,10 @@
 -- Where the ends of a zone are starts of steps, the zone covers a cell exactly where it covers the start of the step in which the cell lies.
 -- So the steps that it covers, with at most its limit, give the lowered speeds.
-use Rattle.std.proofs.Common.{◌≡◌, ◌⊎◌, ℕ, zero, suc, ℤ, List, [], ◌∷◌, ◌++◌, length, get_or, set, take, drop, map, ◌<◌, Option, Some, None, true, int_le, int_lt, inl, inr, ◌≤ℤ◌, ◌<ℤ◌, refl, sym, ap, ◌∙◌, arith}
+use Rattle.std.proofs.Common.{◌≡◌, ◌⊎◌, ℕ, zero, suc, ℤ, List, [], ◌∷◌, ◌++◌, length, get_or, set, take, drop, map, ◌+◌, ◌<◌, ◌≤◌, Option, Some, None, true, false, min, int_le, int_lt, inl, inr, ◌≤ℤ◌, ◌<ℤ◌, refl, sym, ap, ◌∙◌, arith, length-take, length-drop}
 use Rattle.std.specs.Option.{option_map_or}
 use Rattle.std.proofs.lemmas.Int.{ints, by_lt_z}
-use Rattle.sdm_rules.specs.Profile.{Zone, capped}
+use Rattle.std.proofs.lemmas.List.{get_or-take, get_or-drop, take-append-drop, map-append}
+use Rattle.sdm_rules.specs.Profile.{Zone, capped, covers}
 use Rattle.sdm_speed.specs.declared.steps.Step.{Step}
 use Rattle.sdm_speed.specs.Steps.{AreAfter, AreRising, IsStart, capped_before, capped_step, speeds_of}
 use Rattle.sdm_speed.proofs.ZoneLaws.{le_is, not_le_is, lt_is, not_lt_is}
@@ -91,7 +92,33 @@ capped_speeds z v (s ∷ ss) c rising first past =
     here : (border : Option ℤ) → ((b : ℤ) → border ≡ Some b → IsStart b (s ∷ ss)) → IsMet border s.start ss
     here border start b is = elim (start b is) [ inl e ↦ inl (rw e (omega (arith, ints))) | inr later ↦ inr later ]
 
--- ---- one step after the other
+-- ---- the steps that are covered, one after the other
+
+-- steps that are not covered stay
+uncovered : (z : Zone) (ss : List Step) → ((k : ℕ) (d : Step) → k < length ss → covers (get_or ss k d).start z ≡ false) → map (capped_step z) ss ≡ ss
+uncovered z [] off = refl
+uncovered z (s ∷ ss) off = ap (λ (x : Step). x ∷ map (capped_step z) ss) (stays s (off 0 s (omega arith))) ∙ ap (λ (xs : List Step). s ∷ xs) (uncovered z ss (λ k d l. off (suc k) d (omega arith)))
+  where
+    stays : (x : Step) → covers x.start z ≡ false → capped_step z x ≡ x
+    stays x apart = rw apart refl
+
+module _ (z : Zone) (ss : List Step) (i : ℕ) where
+  -- those before the first that is covered
+  pub front_stays : ((k : ℕ) (d : Step) → k < i → k < length ss → covers (get_or ss k d).start z ≡ false) → map (capped_step z) (take i ss) ++ drop i ss ≡ ss
+  front_stays off =
+      ap (λ (front : List Step). front ++ drop i ss) (uncovered z (take i ss) (λ k d l. let known : k < i = omega (arith, length-take i ss) in rw (get_or-take i ss k d known) (off k d known (omega (arith, length-take i ss)))))
+      ∙ take-append-drop i ss
+
+  -- those past the last that is covered
+  pub rest_stays : ((k : ℕ) (d : Step) → i ≤ k → k < length ss → covers (get_or ss k d).start z ≡ false) → map (capped_step z) (take i ss) ++ drop i ss ≡ map (capped_step z) ss
+  rest_stays off =
+      ap (λ (rest : List Step). map (capped_step z) (take i ss) ++ rest) (sym (uncovered z (drop i ss) (λ k d l. rw (get_or-drop i ss k d) (off (i + k) d (omega arith) (omega (arith, length-drop i ss))))))
+      ∙ sym (map-append (capped_step z) (take i ss) (drop i ss))
+      ∙ ap (map (capped_step z)) (take-append-drop i ss)
+
+-- one that is covered takes the limit
+pub lowered_is : (z : Zone) (s : Step) → covers s.start z ≡ true → record { start = s.start; speed = min z.limit s.speed } ≡ capped_step z s
+lowered_is z s on = rw on refl
 
 -- of the steps the first `i` are capped, and then the next one is
 pub one_more : (z : Zone) (ss : List Step) (i : ℕ) (d : Step) → i < length ss → set (map (capped_step z) (take i ss) ++ drop i ss) i (capped_step z (get_or ss i d)) ≡ map (capped_step z) (take (suc i) ss) ++ drop (suc i) ss

@@ -1,8 +1,8 @@
 -- Speeds of all cells as steps: what they are, and what a zone makes of them (own).
-use Rattle.std.specs.Prelude.{◌≡◌, ◌⊎◌, ℕ, zero, suc, ℤ, List, [], ◌∷◌, length, slice_index_or, Option, MatchOption, is_none, min, if◌then◌else◌, ◌<◌, ◌≤◌, ◌≤ℤ◌, ◌<ℤ◌}
+use Rattle.std.specs.Prelude.{◌≡◌, ◌⊎◌, ℕ, zero, suc, ℤ, true, false, List, [], ◌∷◌, length, slice_index_or, Option, MatchOption, is_none, min, if◌then◌else◌, ◌<◌, ◌≤◌, ◌≤ℤ◌, ◌<ℤ◌}
 use Rattle.sdm_rules.specs.declared.targets.Fall.{Fall}
 use Rattle.sdm_rules.specs.Cells.{last_at}
-use Rattle.sdm_rules.specs.Profile.{Zone, capped}
+use Rattle.sdm_rules.specs.Profile.{Zone, capped, covers}
 use Rattle.sdm_rules.specs.Targets.{IsNextFall, HasNoFall}
 use Rattle.sdm_speed.specs.declared.steps.Step.{Step}
 
@@ -44,6 +44,13 @@ KeepsStarts old new = (cell : ℤ) → IsStart cell old → IsStart cell new
 -- the step, which has at most the zone's limit where the zone covers its start (own)
 abbrev pub capped_step : Zone → Step → Step
 capped_step z s = record { start = s.start; speed = capped s.start z s.speed }
+
+-- the zone covers the starts of the steps at the places from `from` up to, but not including, `to`, and of no others (own)
+pub record AreCovered (z : Zone) (steps : List Step) (from to : ℕ) : Type 0 where
+  pub bound : to ≤ length steps
+  pub before : (k : ℕ) (d : Step) → k < from → k < length steps → covers (slice_index_or steps k d).start z ≡ false
+  pub within : (k : ℕ) (d : Step) → from ≤ k → k < to → covers (slice_index_or steps k d).start z ≡ true
+  pub past : (k : ℕ) (d : Step) → to ≤ k → k < length steps → covers (slice_index_or steps k d).start z ≡ false
 
 -- the speed before all steps, which is at most the zone's limit where the zone has no beginning (own)
 abbrev pub capped_before : Zone → ℕ → ℕ

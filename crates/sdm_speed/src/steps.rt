@@ -6,7 +6,7 @@ ghost use Rattle.std.specs.Prelude.{◌≡◌, ◌+◌, ◌<◌, ◌≤◌, ◌+
 ghost use Rattle.std.specs.Int.{int_gap};
 ghost use Rattle.sdm_rules.specs.Cells.{lowest};
 ghost use Rattle.sdm_rules.specs.Profile.{capped};
-ghost use Rattle.sdm_speed.specs.Steps.{AreAfter, AreRising, ArePartedAt, IsFallAfter, IsStart, KeepsStarts, capped_before, capped_step, speed_to, speeds_of};
+ghost use Rattle.sdm_speed.specs.Steps.{AreAfter, AreCovered, AreRising, ArePartedAt, IsFallAfter, IsStart, KeepsStarts, capped_before, capped_step, speed_to, speeds_of};
 
 use crate::zones::Zone;
 use sdm_num::NoMemory;
@@ -34,17 +34,20 @@ struct Rest<'a> {
     later: &'a [Step],
 }
 
-// The step where the zone covers its start: at most the zone's limit.
-fn capped_step(step: Step, zone: Zone) -> Step
-    ensures { result ≡ capped_step zone step }
+// The places of steps in their list: from the first one up to, but not including, the second.
+#[derive(Clone, Copy)]
+struct Places {
+    from: usize,
+    to: usize,
+}
+
+// The step with at most this speed.
+fn lowered(step: Step, limit: u16) -> Step
+    ensures { result ≡ record { start = step.start; speed = min limit step.speed } }
 {
-    if zone.covers(step.start) {
-        Step {
-            start: step.start,
-            speed: step.speed.min(zone.limit),
-        }
-    } else {
-        step
+    Step {
+        start: step.start,
+        speed: step.speed.min(limit),
     }
 }
 
@@ -189,16 +192,36 @@ impl Steps {
         }
     }
 
+    // The places of the steps whose starts the zone covers.
+    fn covered(&self, zone: Zone) -> Places
+        requires { AreRising self.now.list.items }
+        ensures { AreCovered zone self.now.list.items result.from result.to }
+    {
+        Places {
+            from: match zone.first {
+                None => 0,
+                Some(first) => self.started_before(i64::from(first)),
+            },
+            to: match zone.past {
+                None => self.list.len(),
+                Some(past) => self.started_before(i64::from(past)),
+            },
+        }
+    }
+
     // Each step that the zone covers takes at most its limit, and so do the cells before the first step.
     fn cap(&mut self, zone: Zone)
+        requires { AreRising self.old.list.items }
         ensures before { self.new.before ≡ capped_before zone self.old.before }
         ensures list { self.new.list.items ≡ map (capped_step zone) self.old.list.items }
         ensures len { vec_len self.new.list ≡ vec_len self.old.list }
         ensures room { vec_capacity self.new.list ≡ vec_capacity self.old.list }
     {
+        let covered = self.covered(zone);
+        let limit = zone.limit;
         self.before = capped_before(self.before, zone);
-        for i in 0..self.list.len() {
-            self.list[i] = capped_step(self.list[i], zone);
+        for i in covered.from..covered.to {
+            self.list[i] = lowered(self.list[i], limit);
         }
     }
 
