@@ -6,13 +6,8 @@ use Rattle.sdm_rules.specs.declared.targets.Fall.{Fall}
 use Rattle.sdm_rules.specs.Targets.{is_fall, IsNextFall}
 use Rattle.sdm_speed.specs.declared.steps.Step.{Step}
 use Rattle.sdm_speed.specs.Steps.{AreAfter, IsFallAfter, speeds_of}
+use Rattle.sdm_speed.proofs.StartLaws.{lower, not_lower}
 use Rattle.sdm_speed.proofs.StepLaws.{first_begun, none_begun}
-
-not_lower : (m n : ℕ) → n ≤ m → nat_lt m n ≡ false
-not_lower m n le = grind (arith, nat_tests)
-
-lower : (m n : ℕ) → m < n → nat_lt m n ≡ true
-lower m n lt = grind (arith, nat_tests)
 
 -- the first of the steps that is lower than the speed before it
 abbrev pub first_fall : ℕ → List Step → Option Fall

@@ -1,5 +1,6 @@
 -- A profile falls only where a zone begins: a zone that covers a cell and does not begin there covers the cell before it too.
 use Rattle.std.proofs.Common.{◌≡◌, ℕ, suc, ℤ, pos, List, [], ◌∷◌, Option, Some, None, Bool, true, false, ◌&&◌, ◌||◌, nat_lt, int_le, int_lt, if◌then◌else◌, min, ◌<◌, ◌≤◌, ◌-ℤ◌, ◌≤ℤ◌, ◌<ℤ◌, refl, sym, ap, arith, All}
+use Rattle.std.specs.List.{list_any}
 use Rattle.std.specs.Option.{option_map_or}
 use Rattle.std.specs.Ordering.{int_eq}
 use Rattle.std.proofs.lemmas.Int.{ints, by_lt_z}
@@ -7,8 +8,16 @@ use Rattle.std.proofs.lemmas.Bool.Decides.{Decides-int_eq, nat_tests}
 use Rattle.sdm_rules.specs.Profile.{Zone, covers, lowest_limit}
 use Rattle.sdm_rules.specs.Targets.{is_fall}
 use Rattle.sdm_track.specs.Ranges.{longest_track}
-use Rattle.sdm_speed.specs.Zones.{IsZone, starts_at, has_start, limits_of}
+use Rattle.sdm_speed.specs.Zones.{IsZone, limits_of}
 use Rattle.sdm_speed.proofs.ZoneLaws.{le_is, not_le_is, lt_is, not_lt_is}
+
+-- the zone begins at the cell
+abbrev pub starts_at : ℤ → Zone → Bool
+starts_at cell z = option_map_or (int_eq cell) z.first false
+
+-- one of the zones begins at the cell
+abbrev pub has_start : List Zone → ℤ → Bool
+has_start zones cell = list_any (starts_at cell) zones
 
 -- ---- tests
 
@@ -17,9 +26,6 @@ eq_is a b e = (Decides-int_eq a b).1 e
 
 eq_of : (a b : ℤ) → int_eq a b ≡ true → a ≡ b
 eq_of a b t = (Decides-int_eq a b).0 t
-
-apart : (a b : ℤ) → (a ≡ b → ⊥) → int_eq a b ≡ false
-apart a b ne = elim (int_eq a b) as (λ t. int_eq a b ≡ t → t ≡ false) [ true ↦ λ e. absurd (ne (eq_of a b e)) | false ↦ λ e. refl ] refl
 
 not_both : (b : Bool) → b ≡ true → b ≡ false → ⊥
 not_both b t f = cc
@@ -42,14 +48,6 @@ or_first false b h = refl
 or_second : (a b : Bool) → (a || b) ≡ false → b ≡ false
 or_second true b h = cc
 or_second false b h = h
-
-or_true : (b : Bool) → (b || true) ≡ true
-or_true true = refl
-or_true false = refl
-
-or_nothing : (b : Bool) → (b || false) ≡ b
-or_nothing true = refl
-or_nothing false = refl
 
 -- ---- no fall where no zone begins
 

@@ -1,11 +1,11 @@
 -- The speed of a cell is that of the last step that has begun there: steps that have begun can be left out but the last, and steps that
 -- start past the cell say nothing of it.
-use Rattle.std.proofs.Common.{◌≡◌, ℕ, zero, suc, ℤ, pos, List, [], ◌∷◌, length, get_or, drop, true, false, int_lt, inl, inr, ◌<◌, ◌≤◌, ◌≤ℤ◌, ◌<ℤ◌, refl, ◌∙◌, arith}
+use Rattle.std.proofs.Common.{◌≡◌, ℕ, zero, suc, ℤ, pos, List, [], ◌∷◌, length, get_or, drop, int_lt, inl, inr, ◌<◌, ◌≤◌, ◌≤ℤ◌, ◌<ℤ◌, refl, ◌∙◌, arith}
 use Rattle.std.specs.List.Sorted.{IsPartitionedBy}
 use Rattle.std.proofs.lemmas.Int.{ints}
 use Rattle.sdm_speed.specs.declared.steps.Step.{Step}
 use Rattle.sdm_speed.specs.Steps.{AreAfter, AreRising, IsStart, speed_to, speeds_of}
-use Rattle.sdm_speed.proofs.ZoneLaws.{le_is, not_le_is, lt_is}
+use Rattle.sdm_speed.proofs.ZoneLaws.{le_is, not_le_is, lt_is, lt_of}
 
 -- stands for a step that there is not
 abbrev pub none : Step
@@ -39,12 +39,6 @@ rises (s ∷ ss) zero zero d rising le known = omega (arith, ints)
 rises (s ∷ ss) zero (suc j) d rising le known = let past = after_all s.start ss j d rising (omega arith) in omega (arith, ints)
 rises (s ∷ ss) (suc i) zero d rising le known = absurd (omega arith)
 rises (s ∷ ss) (suc i) (suc j) d rising le known = rises ss i j d (rising_of s.start ss rising) (omega arith) (omega arith)
-
-pub lt_of : (a b : ℤ) → int_lt a b ≡ true → a <ℤ b
-lt_of a b h = grind (arith, ints)
-
-pub not_lt_of : (a b : ℤ) → int_lt a b ≡ false → b ≤ℤ a
-not_lt_of a b h = grind (arith, ints)
 
 -- the steps that start before a cell come first
 pub starts_parted : (ss : List Step) (cell : ℤ) → AreRising ss → IsPartitionedBy (λ s. int_lt s.start cell) ss

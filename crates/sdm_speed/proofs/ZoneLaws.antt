@@ -18,6 +18,12 @@ lt_is a b h = sym (search (rules, ints))
 pub not_lt_is : (a b : ℤ) → b ≤ℤ a → int_lt a b ≡ false
 not_lt_is a b h = sym (search (rules, ints))
 
+pub lt_of : (a b : ℤ) → int_lt a b ≡ true → a <ℤ b
+lt_of a b h = grind (arith, ints)
+
+pub not_lt_of : (a b : ℤ) → int_lt a b ≡ false → b ≤ℤ a
+not_lt_of a b h = grind (arith, ints)
+
 -- ---- one cell
 
 either_first : (a b : Bool) (k m n : ℕ) → (if a then min k (if b then min m n else n) else if b then min m n else n) ≡ (if b then min m (if a then min k n else n) else if a then min k n else n)

@@ -1,12 +1,11 @@
 -- A fall of a profile lies on the longest track, so the target at it does.
-use Rattle.std.proofs.Common.{ℤ, pos, List, [], ◌∷◌, ◌++◌, All, ◌≤ℤ◌, ◌*ℤ◌, arith}
+use Rattle.std.proofs.Common.{ℤ, pos, List, [], ◌∷◌, ◌++◌, All, ◌≤ℤ◌, arith}
 use Rattle.std.proofs.lemmas.Int.{ints}
 use Rattle.std.proofs.lemmas.List.Elements.{All-append, All-cons, All-nil}
 use Rattle.sdm_rules.specs.declared.targets.Fall.{Fall}
 use Rattle.sdm_rules.specs.declared.targets.Target.{Target}
 use Rattle.sdm_rules.specs.declared.targets.TargetKind.TheVariants.{Mrsp}
 use Rattle.sdm_rules.specs.Cells.{border_of}
-use Rattle.sdm_num.specs.Units.{centimetre}
 use Rattle.sdm_speed.specs.Zones.{IsFallInRange}
 use Rattle.sdm_targets.specs.Lists.{IsTarget}
 
