@@ -1,4 +1,5 @@
 mod VerdictLaws
+mod LimitOrder
 mod SilentLaw
 mod SituationLaws
 mod CeilingLaw

@@ -1,22 +1,25 @@
--- A target above the train's speed says what no target says, where it is covered: no margin makes its speed lower, so it is not passed, and
--- none of its limits counts. It is covered where it is met by speed, wherever its EBI lies.
-use Rattle.std.proofs.Common.{◌≡◌, ℕ, Bool, true, false, not, ◌||◌, [], ◌+◌, ◌≤◌, ◌<◌, Option, Some, None, refl, arith}
+-- What is left unsaid. A target above the train's speed only says whether it is covered: no margin makes its speed lower, so it is not passed,
+-- and none of its limits counts. A target whose indication limit is not passed only says where its limits lie.
+use Rattle.std.proofs.Common.{◌≡◌, ℕ, ℤ, Bool, true, false, not, ◌||◌, ◌&&◌, nat_lt, ◌+◌, ◌≤◌, ◌<◌, Option, Some, None, refl, arith}
+use Rattle.std.specs.Prelude.{option_map}
 use Rattle.std.specs.Option.{option_map_or}
-use Rattle.std.proofs.lemmas.Bool.{le-ltb, lt-leb}
-use Rattle.std.proofs.Math.Bool.{or-true}
-use Rattle.sdm_num.specs.Fractions.{Fraction}
+use Rattle.std.proofs.lemmas.Bool.{le-leb, le-ltb, lt-leb}
+use Rattle.std.proofs.Math.Bool.{and-false, and-true, or-false}
+use Rattle.sdm_num.specs.Fractions.{Fraction, floor}
 use Rattle.sdm_num.specs.Units.{notches}
 use Rattle.sdm_num.specs.Readings.{OdometerReading}
 use Rattle.sdm_rules.specs.declared.targets.Target.{Target}
 use Rattle.sdm_rules.specs.declared.targets.TargetKind.{TargetKind}
 use Rattle.sdm_rules.specs.declared.targets.TargetKind.TheVariants.{Mrsp, Loa, Eoa, Svl}
 use Rattle.sdm_rules.specs.Data.{LineData}
-use Rattle.sdm_rules.specs.Limits.{SupervisionLimits, computed, limits_of, v_bec_for}
+use Rattle.sdm_rules.specs.Limits.{SupervisionLimits, computed, limits_of, limits_of_kind, v_bec_for}
 use Rattle.sdm_rules.specs.Margins.{ebi_margin, sbi_margin, warning_margin}
 use Rattle.sdm_rules.specs.Supervision.{is_covered_for, is_met_by_speed}
 use Rattle.sdm_rules.specs.Targets.{at_speed_target, foot_speed_of, target_speed, with_margin}
 use Rattle.sdm_rules.specs.Triggers.{is_past, no_margin}
-use Rattle.sdm_supervisor.specs.Verdicts.{counted, passes_at, passes_ebi_at, verdict_at, verdict_of}
+use Rattle.sdm_supervisor.specs.declared.verdicts.Verdict.{Verdict}
+use Rattle.sdm_supervisor.specs.Verdicts.{both, counted, front_of, nearer, nearer_limits, nearest_at, passes_at, passes_ebi_at, verdict_at}
+use Rattle.sdm_supervisor.proofs.LimitOrder.{IsPastNone, past_none}
 
 -- no margin makes a target's speed lower
 at_least : (kind : TargetKind) (speed margin : ℕ) → at_speed_target kind speed ≤ at_speed_target kind (speed + margin)
@@ -40,30 +43,79 @@ ebi_not_passed r t (Some ebi) slower = not_passed r ebi_margin t ebi slower
 not_counted : (r : OdometerReading) (t : Target) (limit : Option Fraction) → r.speed < target_speed t → counted r t limit ≡ None
 not_counted r t limit slower = rw (lt-leb (target_speed t) r.speed slower)
 
--- whatever its limits, a target above the train's speed says nothing where it is covered
-pub says_nothing : (d : LineData) (r : OdometerReading) (l : SupervisionLimits) (t : Target) → r.speed < target_speed t → is_covered_for d r t ≡ true → verdict_at d r l t ≡ verdict_of d r []
-unfolding verdict_at verdict_of
-says_nothing d r l t slower covered = λ k. record {
-  over = not_passed r no_margin t l.permitted slower k;
-  warn = not_passed r warning_margin t l.warning slower k;
-  serv = not_passed r sbi_margin t l.sbi slower k;
-  emer = ebi_not_passed r t l.ebi slower k;
-  indicated = not_passed r no_margin t l.indication slower k;
-  covered = covered k;
+-- ---- what was said so far
+
+or_unless : (a b : Bool) → b ≡ false → (a || b) ≡ a
+or_unless a b not = rw not (or-false a)
+
+nearer_unless : (a b : Option ℤ) → b ≡ None → nearer a b ≡ a
+nearer_unless None b none = none
+nearer_unless (Some x) b none = rw none refl
+
+-- whatever its limits, a target above the train's speed says only whether it is covered
+pub says_if_covered : (d : LineData) (r : OdometerReading) (l : SupervisionLimits) (t : Target) (said : Verdict) → r.speed < target_speed t →
+    both said (verdict_at d r l t) ≡ record said { covered = said.covered && is_covered_for d r t }
+unfolding verdict_at
+says_if_covered d r l t said slower = λ k. record {
+  over = or_unless said.over _ (not_passed r no_margin t l.permitted slower) k;
+  warn = or_unless said.warn _ (not_passed r warning_margin t l.warning slower) k;
+  serv = or_unless said.serv _ (not_passed r sbi_margin t l.sbi slower) k;
+  emer = or_unless said.emer _ (ebi_not_passed r t l.ebi slower) k;
+  indicated = or_unless said.indicated _ (not_passed r no_margin t l.indication slower) k;
+  covered = said.covered && is_covered_for d r t;
   nearest = record {
-    ebi = not_counted r t l.ebi slower k;
-    sbi = not_counted r t (Some l.sbi) slower k;
-    warning = not_counted r t (Some l.warning) slower k;
-    permitted = not_counted r t (Some l.permitted) slower k;
-    indication = not_counted r t (Some l.indication) slower k;
+    ebi = nearer_unless said.nearest.ebi _ (not_counted r t l.ebi slower) k;
+    sbi = nearer_unless said.nearest.sbi _ (not_counted r t (Some l.sbi) slower) k;
+    warning = nearer_unless said.nearest.warning _ (not_counted r t (Some l.warning) slower) k;
+    permitted = nearer_unless said.nearest.permitted _ (not_counted r t (Some l.permitted) slower) k;
+    indication = nearer_unless said.nearest.indication _ (not_counted r t (Some l.indication) slower) k;
   };
 }
 
--- what is met by speed is covered wherever an EBI lies
-wherever : (met : Bool) (is_past_at : Fraction → Bool) (ebi : Option Fraction) → met ≡ true → option_map_or (λ e. not (is_past_at e) || met) ebi true ≡ true
-wherever met is_past_at None is = refl
-wherever met is_past_at (Some ebi) is = rw is (or-true (not (is_past_at ebi)))
+-- ---- up to the indication limit
 
--- a target that is met by speed is covered
-pub covered_by_speed : (d : LineData) (r : OdometerReading) (t : Target) → is_met_by_speed t.kind (v_bec_for d r t) (foot_speed_of t) ≡ true → is_covered_for d r t ≡ true
-covered_by_speed d r t met = wherever (is_met_by_speed t.kind (v_bec_for d r t) (foot_speed_of t)) (is_past 0 r.max) (limits_of computed d r t).ebi met
+-- a limit that is not passed at any speed
+not_passed_yet : (r : OdometerReading) (margin : ℕ → ℕ) (t : Target) (limit : Fraction) → is_past 0 (front_of r t.kind) limit ≡ false → passes_at r margin t limit ≡ false
+not_passed_yet r margin t limit ahead = rw ahead (and-false (nat_lt (with_margin margin t) r.speed))
+
+ebi_not_passed_yet : (r : OdometerReading) (t : Target) (ebi : Option Fraction) → option_map_or (is_past 0 (front_of r t.kind)) ebi false ≡ false → passes_ebi_at r t ebi ≡ false
+ebi_not_passed_yet r t None ahead = refl
+ebi_not_passed_yet r t (Some ebi) ahead = not_passed_yet r ebi_margin t ebi ahead
+
+-- a target whose EBI is not passed is covered; the EOA has none
+covered_yet : (d : LineData) (r : OdometerReading) (t : Target) (kind : TargetKind) (met : Bool) → IsPastNone (front_of r kind) (limits_of_kind computed d r t kind) →
+    option_map_or (λ ebi. not (is_past 0 r.max ebi) || met) (limits_of_kind computed d r t kind).ebi true ≡ true
+covered_yet d r t Mrsp met none = rw none.ebi refl
+covered_yet d r t Loa met none = rw none.ebi refl
+covered_yet d r t Eoa met none = refl
+covered_yet d r t Svl met none = rw none.ebi refl
+
+and_where : (a b : Bool) → b ≡ true → (a && b) ≡ a
+and_where a b is = rw is (and-true a)
+
+-- at or above its speed, a target's limits count
+all_counted : (r : OdometerReading) (t : Target) (limit : Option Fraction) → target_speed t ≤ r.speed → counted r t limit ≡ option_map floor limit
+all_counted r t limit reached = rw (le-leb (target_speed t) r.speed reached) refl
+
+-- up to its indication limit, a target that is not above the train's speed says only where its limits lie
+pub says_where : (d : LineData) (r : OdometerReading) (t : Target) (said : Verdict) → target_speed t ≤ r.speed → is_past 0 (front_of r t.kind) (limits_of computed d r t).indication ≡ false →
+    both said (verdict_at d r (limits_of computed d r t) t) ≡ record said { nearest = nearer_limits said.nearest (nearest_at (limits_of computed d r t)) }
+unfolding verdict_at limits_of
+says_where d r t said reached ahead =
+    let l = limits_of computed d r t in
+    let none = past_none d r t (front_of r t.kind) ahead in
+    λ k. record {
+      over = or_unless said.over _ (not_passed_yet r no_margin t l.permitted none.permitted) k;
+      warn = or_unless said.warn _ (not_passed_yet r warning_margin t l.warning none.warning) k;
+      serv = or_unless said.serv _ (not_passed_yet r sbi_margin t l.sbi none.sbi) k;
+      emer = or_unless said.emer _ (ebi_not_passed_yet r t l.ebi none.ebi) k;
+      indicated = or_unless said.indicated _ (not_passed_yet r no_margin t l.indication ahead) k;
+      covered = and_where said.covered _ (covered_yet d r t t.kind (is_met_by_speed t.kind (v_bec_for d r t) (foot_speed_of t)) none) k;
+      nearest = record {
+        ebi = nearer said.nearest.ebi (all_counted r t l.ebi reached k);
+        sbi = nearer said.nearest.sbi (all_counted r t (Some l.sbi) reached k);
+        warning = nearer said.nearest.warning (all_counted r t (Some l.warning) reached k);
+        permitted = nearer said.nearest.permitted (all_counted r t (Some l.permitted) reached k);
+        indication = nearer said.nearest.indication (all_counted r t (Some l.indication) reached k);
+      };
+    }

@@ -4,7 +4,6 @@ use Rattle.std.specs.Prelude.{ℕ, ℤ, Bool, false, ◌&&◌, ◌||◌, List, [
 use Rattle.std.specs.Int.{int_min}
 use Rattle.std.specs.List.{list_all, list_any}
 use Rattle.std.specs.Option.{option_map_or}
-use Rattle.sdm_num.specs.Bounds.{Bound}
 use Rattle.sdm_num.specs.Fractions.{Fraction, floor}
 use Rattle.sdm_num.specs.Readings.{OdometerReading}
 use Rattle.sdm_rules.specs.declared.targets.TargetKind.{TargetKind}
@@ -44,9 +43,15 @@ nearer (Some x) (Some y) = Some (int_min x y)
 abbrev pub counted : OdometerReading → Target → Option Fraction → Option ℤ
 counted r t limit = if nat_le (target_speed t) r.speed then option_map floor limit else None
 
--- the place of a bound where it counts (own)
-abbrev pub counted_where : Bool → Option Bound → Option ℤ
-counted_where counts limit = if counts then option_map (λ e. e.at) limit else None
+-- the limits of one target, in grains (own)
+abbrev pub nearest_at : SupervisionLimits → Nearest
+nearest_at l = record {
+  ebi = option_map floor l.ebi;
+  sbi = Some (floor l.sbi);
+  warning = Some (floor l.warning);
+  permitted = Some (floor l.permitted);
+  indication = Some (floor l.indication);
+}
 
 -- the nearest limit of a name over targets, in grains (own)
 abbrev pub nearest_of : OdometerReading → (Target → Option Fraction) → List Target → Option ℤ

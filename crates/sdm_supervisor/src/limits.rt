@@ -110,6 +110,21 @@ impl Line {
         }
     }
 
+    /// The EBI of a target at a reading, on which no guidance curve bears; an EOA has none. (SUBSET-026-3 3.13.9.3.2)
+    #[tactic(auto, unfolding(sdm_rules::specs::Limits::limits_of))]
+    pub fn ebi(&self, reading: &Reading, target: &Target) -> Option<Early>
+        requires reading { IsReading reading.now }
+        requires target { IsTarget target.now }
+        ensures { place_where result ≡ (limits_of computed self.now reading.now target.now).ebi }
+    {
+        match target.kind {
+            TargetKind::Mrsp | TargetKind::Loa | TargetKind::Svl => {
+                self.ebd_limits(reading, target, None).ebi
+            }
+            TargetKind::Eoa => None,
+        }
+    }
+
     /// Whether the train needs no way to brake for the target: it is one of speed, and V_bec is at most its foot speed. (own)
     pub fn is_met_by_speed(&self, reading: &Reading, target: &Target) -> bool
         requires reading { IsReading reading.now }

@@ -1,12 +1,13 @@
-//! Release speed monitoring on a line: where it begins, and whether a front end is past that.
+//! Release speed monitoring on a line: where it begins for an authority, and whether a front end is past that. The start follows from the
+//! data and the authority alone, so it is found once, when the authority is taken.
 
-ghost use Rattle.std.specs.Prelude.{◌≡◌, ◌≤◌, ◌&&◌, nat_lt, IfSome, None, pos};
+ghost use Rattle.std.specs.Prelude.{◌≡◌, ◌≤◌, None, pos};
 ghost use Rattle.sdm_rules.specs.Cells.{border_of};
 ghost use Rattle.sdm_rules.specs.Limits.{computed, release_start};
 ghost use Rattle.sdm_rules.specs.Records.{authority_fault};
-ghost use Rattle.sdm_rules.specs.Supervision.{is_past_end, release_of};
-ghost use Rattle.sdm_rules.specs.Triggers.{is_past};
+ghost use Rattle.sdm_rules.specs.Supervision.{is_past_end};
 ghost use Rattle.sdm_limits.specs.Sides.{place_of};
+ghost use Rattle.sdm_supervisor.specs.Kept.{IsReleaseOf, released};
 ghost use Rattle.sdm_supervisor.specs.Lines.{IsLine};
 
 use crate::lines::Line;
@@ -14,6 +15,26 @@ use sdm_curve::Curve;
 use sdm_num::{Early, Place, Speed};
 use sdm_release::release_start;
 use sdm_targets::Authority;
+
+/// The release speed of an authority with the start of its monitoring, as a supervisor keeps it. (SUBSET-026-3 3.13.9.4; own)
+#[derive(Clone, Copy, Debug, PartialEq, Eq)]
+pub struct Release {
+    /// The max safe front end past which the release speed is monitored.
+    pub start: Early,
+    /// The release speed, 1 to 500 km/h.
+    pub speed_kmh: u16,
+}
+
+/// The release speed in km/h, where one is kept and the max safe front end is past the start of its monitoring.
+/// (SUBSET-026-3 3.13.10.5; own)
+pub fn released_kmh(release: Option<Release>, front: Place) -> Option<u16>
+    ensures { result ≡ released release front }
+{
+    match release {
+        Some(release) if release.start.is_passed_by(front) => Some(release.speed_kmh),
+        _ => None,
+    }
+}
 
 /// The place of a border on the track, in cm.
 fn place_of_cm(cm: u32) -> Place
@@ -27,7 +48,8 @@ impl Line {
     /// Whether the authority has an EOA, and the min safe front end is past it. (SUBSET-026-3 3.13.10; own)
     pub fn is_past_end(&self, authority: &Authority, min: Place) -> bool
         requires { authority_fault self.now.track.length_cm authority.now ≡ None }
-        ensures { result ≡ is_past_end authority.now min }
+        ensures value { result ≡ is_past_end authority.now min }
+        ensures line { IsLine self.now }
     {
         // `track` says that the track, on which the authority lies, is not longer than it may be.
         let _track = self.track();
@@ -58,41 +80,22 @@ impl Line {
         )
     }
 
-    /// Whether a front end is past that start.
-    fn is_past_start(&self, eoa: u32, svl: u32, release_kmh: u16, front: Place) -> bool
-        requires eoa { eoa ≤ 10_000_000 }
-        requires svl { svl ≤ 10_000_000 }
-        requires release { release_kmh ≤ 500 }
-        ensures { result ≡ is_past 0 front (release_start computed self.now eoa svl release_kmh) }
-    {
-        self.release_start(eoa, svl, release_kmh)
-            .is_passed_by(front)
-    }
-
-    /// Whether there is a release speed, and a front end is past the start.
-    fn is_released(&self, eoa: u32, svl: u32, release_kmh: u16, front: Place) -> bool
-        requires eoa { eoa ≤ 10_000_000 }
-        requires svl { svl ≤ 10_000_000 }
-        requires release { release_kmh ≤ 500 }
-        ensures { result ≡ (nat_lt 0 release_kmh && is_past 0 front (release_start computed self.now eoa svl release_kmh)) }
-    {
-        release_kmh > 0 && self.is_past_start(eoa, svl, release_kmh, front)
-    }
-
-    /// The release speed in km/h, where the authority has one and the max safe front end is past the start of release speed
-    /// monitoring. (SUBSET-026-3 3.13.10.5; own)
-    pub fn release_kmh(&self, authority: &Authority, front: Place) -> Option<u16>
+    /// What is kept of an authority's release speed; none where it has no release speed. (SUBSET-026-3 3.13.9.4; own)
+    // Seldom called, and large: inlined into the loop over records it would slow each reading.
+    #[inline(never)]
+    pub fn release(&self, authority: &Authority) -> Option<Release>
         requires { authority_fault self.now.track.length_cm authority.now ≡ None }
-        ensures value { result ≡ release_of self.now authority.now front }
-        ensures range { IfSome result (λ kmh. kmh ≤ 500) }
-        ensures line { IsLine self.now }
+        ensures { IsReleaseOf self.now authority.now result }
     {
         // `track` says that the track, on which the authority lies, is not longer than it may be.
         let _track = self.track();
         match *authority {
             Authority::Stop { eoa, svl, release } => {
-                if self.is_released(eoa, svl, release, front) {
-                    Some(release)
+                if release > 0 {
+                    Some(Release {
+                        start: self.release_start(eoa, svl, release),
+                        speed_kmh: release,
+                    })
                 } else {
                     None
                 }

@@ -17,6 +17,7 @@ ghost use Rattle.sdm_supervisor.specs.Promises.{BeginsRelease, HasOnlyGaps};
 ghost use Rattle.sdm_supervisor.specs.Situations.{IsFoundAt, IsInRange};
 
 use crate::lines::Line;
+use crate::releases::{Release, released_kmh};
 use crate::situations::Situation;
 use sdm_national::National;
 use sdm_num::Reading;
@@ -35,6 +36,8 @@ use std::marker::Model;
 pub struct Supervisor {
     line: Line,
     authority: Authority,
+    /// Kept between records: what the authority says of release speed monitoring on the line.
+    release: Option<Release>,
     profile: Profile,
     /// Room for the targets of the reading in hand.
     targets: TargetList,
@@ -54,7 +57,7 @@ impl Model for Supervisor {
 
     ghost view = { λ s. record { line = s.line; authority = s.authority; restrictions = s.profile.restrictions; last_time = s.last_time; commands = s.held } };
 
-    ghost invariant = { λ s. IsKept s.line s.profile s.authority };
+    ghost invariant = { λ s. IsKept s.line s.profile s.authority s.release };
 }
 
 /// Before the first reading no command is held. (own)
@@ -103,9 +106,11 @@ impl Supervisor {
         let Ok(targets) = TargetList::begin(alloc) else {
             return Err(OpenFault::Memory);
         };
+        let release = line.release(&authority);
         Ok(Supervisor {
             line,
             authority,
+            release,
             profile,
             targets,
             last_time: None,
@@ -122,6 +127,7 @@ impl Supervisor {
         ensures unchanged { OnErr result (self.new ≡ self.old) }
     {
         check_authority(&a, self.line.track_cm())?;
+        self.release = self.line.release(&a);
         self.authority = a;
         Ok(())
     }
@@ -158,7 +164,7 @@ impl Supervisor {
         ensures unchanged { self.new ≡ self.old }
     {
         let front = reading.max_mm();
-        let release_kmh = self.line.release_kmh(&self.authority, front);
+        let release_kmh = released_kmh(self.release, front);
         targets_of(
             &self.profile,
             &self.authority,

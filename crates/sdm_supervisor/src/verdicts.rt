@@ -1,16 +1,17 @@
 //! What the targets of a reading say together. Each target is looked at once, and what it says is added to what the others said.
 
-ghost use Rattle.std.specs.Prelude.{◌≡◌, ◌≤◌, ◌&&◌, All, [], nat_lt};
+ghost use Rattle.std.specs.Prelude.{◌≡◌, ◌≤◌, ◌&&◌, All, [], true, nat_lt, not};
+ghost use Rattle.std.specs.Option.{option_map_or};
 ghost use Rattle.sdm_num.specs.Readings.{IsReading, OdometerReading};
 ghost use Rattle.sdm_rules.specs.Limits.{computed, limits_of};
 ghost use Rattle.sdm_rules.specs.Supervision.{is_covered_for};
 ghost use Rattle.sdm_rules.specs.Margins.{ebi_margin};
 ghost use Rattle.sdm_rules.specs.Data.{LineData};
-ghost use Rattle.sdm_rules.specs.Targets.{with_margin};
+ghost use Rattle.sdm_rules.specs.Targets.{target_speed, with_margin};
 ghost use Rattle.sdm_rules.specs.Triggers.{is_past};
 ghost use Rattle.sdm_limits.specs.Sides.{place_of, place_where, places_of};
 ghost use Rattle.sdm_targets.specs.Lists.{IsTarget};
-ghost use Rattle.sdm_supervisor.specs.Verdicts.{both, counted_where, front_of, nearer, nearer_limits, passes_ebi_at, verdict_at, verdict_of};
+ghost use Rattle.sdm_supervisor.specs.Verdicts.{both, front_of, nearer, nearer_limits, nearest_at, passes_ebi_at, verdict_at, verdict_of};
 
 use crate::limits::target_speed;
 use crate::lines::Line;
@@ -54,16 +55,6 @@ fn nearer(a: Option<Place>, b: Option<Place>) -> Option<Place>
     }
 }
 
-/// The place of a limit where it counts.
-fn counted_where(counts: bool, limit: Option<Early>) -> Option<Place>
-    ensures { result ≡ counted_where counts limit }
-{
-    match limit {
-        Some(limit) if counts => Some(limit.at()),
-        _ => None,
-    }
-}
-
 impl Nearest {
     // The nearest limits of two lists of targets.
     fn and(self, other: Nearest) -> Nearest
@@ -78,20 +69,16 @@ impl Nearest {
         }
     }
 
-    // A target's limits where they count; else none.
-    fn of(counts: bool, limits: &Limits) -> Nearest
-        ensures ebi { result.ebi ≡ counted_where counts limits.now.ebi }
-        ensures sbi { result.sbi ≡ counted_where counts (Some limits.now.sbi) }
-        ensures warning { result.warning ≡ counted_where counts (Some limits.now.warning) }
-        ensures permitted { result.permitted ≡ counted_where counts (Some limits.now.permitted) }
-        ensures indication { result.indication ≡ counted_where counts (Some limits.now.indication) }
+    // The limits of one target.
+    fn of(limits: &Limits) -> Nearest
+        ensures { result ≡ nearest_at (places_of limits.now) }
     {
         Nearest {
-            ebi: counted_where(counts, limits.ebi),
-            sbi: counted_where(counts, Some(limits.sbi)),
-            warning: counted_where(counts, Some(limits.warning)),
-            permitted: counted_where(counts, Some(limits.permitted)),
-            indication: counted_where(counts, Some(limits.indication)),
+            ebi: limits.ebi.map(|ebi| ebi.at()),
+            sbi: Some(limits.sbi.at()),
+            warning: Some(limits.warning.at()),
+            permitted: Some(limits.permitted.at()),
+            indication: Some(limits.indication.at()),
         }
     }
 }
@@ -152,7 +139,7 @@ fn is_past(front: Place, limit: Early) -> bool
     limit.is_passed_by(front)
 }
 
-/// Whether a reading passes a limit of a target: the speed is above the one given, and the front end is past the limit.
+/// Whether a reading passes a limit of a target: the speed is above the one given, and the target's front end is past the limit.
 fn passes(reading: &Reading, target: &Target, above: Speed, limit: Early) -> bool
     ensures { result ≡ (nat_lt above reading.now.speed && is_past 0 (front_of reading.now target.now.kind) (place_of limit)) }
 {
@@ -170,7 +157,27 @@ fn passes_ebi(reading: &Reading, target: &Target, above: Speed, ebi: Option<Earl
     }
 }
 
+/// Whether the max safe front end is at or before an EBI, where there is one.
+fn is_before(reading: &Reading, ebi: Option<Early>) -> bool
+    ensures { result ≡ option_map_or (λ e. not (is_past 0 reading.now.max e)) (place_where ebi) true }
+{
+    match ebi {
+        Some(ebi) => !is_past(reading.max_mm(), ebi),
+        None => true,
+    }
+}
+
 impl Line {
+    /// Whether a target above the train's speed is covered: it is met by speed, as most such targets are, or the max safe front end is at
+    /// or before its EBI. (own)
+    fn is_covered_above(&self, reading: &Reading, target: &Target) -> bool
+        requires reading { IsReading reading.now }
+        requires target { IsTarget target.now }
+        ensures { result ≡ is_covered_for self.now reading.now target.now }
+    {
+        self.is_met_by_speed(reading, target) || is_before(reading, self.ebi(reading, target))
+    }
+
     /// Whether a target is covered: the max safe front end is at or before its EBI, if it has one, or it is met by speed. (own)
     fn is_covered_for(&self, reading: &Reading, target: &Target, ebi: Option<Early>) -> bool
         requires reading { IsReading reading.now }
@@ -178,28 +185,18 @@ impl Line {
         requires ebi { place_where ebi ≡ (limits_of computed self.now reading.now target.now).ebi }
         ensures { result ≡ is_covered_for self.now reading.now target.now }
     {
-        match ebi {
-            Some(ebi) => {
-                !is_past(reading.max_mm(), ebi) || self.is_met_by_speed(reading, target)
-            }
-            None => true,
-        }
+        is_before(reading, ebi) || self.is_met_by_speed(reading, target)
     }
 
-    /// What a target says at a reading. (SUBSET-026-3 3.13.10; own)
+    /// What a target says whose speed is at most the train's, by its limits. (SUBSET-026-3 3.13.10; own)
     #[tactic(auto, unfolding(crate::specs::Verdicts::verdict_at))]
-    fn verdict_for(&self, reading: &Reading, target: &Target) -> Verdict
+    fn verdict_by(&self, reading: &Reading, target: &Target, limits: &Limits) -> Verdict
         requires reading { IsReading reading.now }
         requires target { IsTarget target.now }
+        requires limits { places_of limits.now ≡ limits_of computed self.now reading.now target.now }
+        requires counts { target_speed target.now ≤ reading.now.speed }
         ensures { result ≡ verdict_at self.now reading.now (limits_of computed self.now reading.now target.now) target.now }
     {
-        let counts = target_speed(target) <= reading.speed_mm_s();
-        // A target whose speed is above the train's is not passed, and none of its limits counts. Where it is met by speed, it is covered
-        // wherever its EBI lies. So no place of a curve is needed.
-        if !counts && self.is_met_by_speed(reading, target) {
-            return Verdict::of_none();
-        }
-        let limits = self.limits(reading, target);
         let speeds = SpeedLimits::of_target(target);
         Verdict {
             over: passes(reading, target, speeds.permitted, limits.permitted),
@@ -208,8 +205,32 @@ impl Line {
             emer: passes_ebi(reading, target, speeds.ebi, limits.ebi),
             indicated: passes(reading, target, speeds.permitted, limits.indication),
             covered: self.is_covered_for(reading, target, limits.ebi),
-            nearest: Nearest::of(counts, &limits),
+            nearest: Nearest::of(limits),
         }
+    }
+
+    /// What was said so far with what a target says. (SUBSET-026-3 3.13.10; own)
+    fn verdict_with(&self, said: Verdict, reading: &Reading, target: &Target) -> Verdict
+        requires reading { IsReading reading.now }
+        requires target { IsTarget target.now }
+        ensures { result ≡ both said (verdict_at self.now reading.now (limits_of computed self.now reading.now target.now) target.now) }
+    {
+        // A target above the train's speed is not passed, and none of its limits counts.
+        if reading.speed_mm_s() < target_speed(target) {
+            return Verdict {
+                covered: said.covered && self.is_covered_above(reading, target),
+                ..said
+            };
+        }
+        let limits = self.limits(reading, target);
+        // No limit lies before the indication limit: up to there none is passed.
+        if !is_past(front_of(reading, target.kind), limits.indication) {
+            return Verdict {
+                nearest: said.nearest.and(Nearest::of(&limits)),
+                ..said
+            };
+        }
+        said.and(self.verdict_by(reading, target, &limits))
     }
 
     /// What targets say together at a reading. (SUBSET-026-3 3.13.10; own)
@@ -220,7 +241,7 @@ impl Line {
     {
         let mut verdict = Verdict::of_none();
         for target in targets {
-            verdict = verdict.and(self.verdict_for(reading, target));
+            verdict = self.verdict_with(verdict, reading, target);
         }
         verdict
     }

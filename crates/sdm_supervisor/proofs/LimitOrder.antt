@@ -1,0 +1,106 @@
+-- The indication limit of a target is the first of its computed limits: each lies so many grains before another one, or is the lesser of two
+-- places. So a front end that is not past it is past none.
+use Rattle.std.proofs.Common.{◌≡◌, ℕ, ℤ, pos, neg_ℤ, Bool, true, false, ◌*◌, ◌+ℤ◌, ◌*ℤ◌, ◌≤ℤ◌, ◌<ℤ◌, int_lt, Option, Some, None, T, refl, sym, subst, ◌∙◌, arith, if◌then◌else◌}
+use Rattle.std.specs.Prelude.{option_map}
+use Rattle.std.specs.Option.{option_map_or}
+use Rattle.std.proofs.lemmas.Bool.{false≢true}
+use Rattle.std.proofs.lemmas.Int.{ints}
+use Rattle.sdm_num.specs.Units.{way_in}
+use Rattle.sdm_num.specs.Fractions.{Fraction, less, lesser, whole}
+use Rattle.sdm_num.specs.Readings.{OdometerReading}
+use Rattle.sdm_num.proofs.Order.{lesser_cases}
+use Rattle.sdm_rules.specs.declared.data.SlopeKind.TheVariants.{Safe, Expected, Normal}
+use Rattle.sdm_rules.specs.declared.data.Times.{Times}
+use Rattle.sdm_rules.specs.declared.targets.Target.{Target}
+use Rattle.sdm_rules.specs.declared.targets.TargetKind.{TargetKind}
+use Rattle.sdm_rules.specs.declared.targets.TargetKind.TheVariants.{Mrsp, Loa, Eoa, Svl}
+use Rattle.sdm_rules.specs.Curves.{stepped}
+use Rattle.sdm_rules.specs.Data.{LineData}
+use Rattle.sdm_rules.specs.Decelerations.{slopes_of}
+use Rattle.sdm_rules.specs.Limits.{SupervisionLimits, computed, d_bec_for, ebd_limits_of, guidance_place, limits_before, limits_of, limits_of_kind, sbd_limits_of, v_bec_for}
+use Rattle.sdm_rules.specs.Reaction.{driver_time, line_times, warning_time}
+use Rattle.sdm_rules.specs.Targets.{foot_speed_of, target_speed}
+use Rattle.sdm_rules.specs.Triggers.{is_past}
+use Rattle.sdm_laws.proofs.Nearness.{int_lt_in}
+
+-- a front end is past none of these limits
+pub record IsPastNone (front : ℤ) (l : SupervisionLimits) : Type 0 where
+  pub ebi : option_map_or (is_past 0 front) l.ebi false ≡ false
+  pub sbi : is_past 0 front l.sbi ≡ false
+  pub warning : is_past 0 front l.warning ≡ false
+  pub permitted : is_past 0 front l.permitted ≡ false
+
+not_true : (b : Bool) → (b ≡ true → ⊥) → b ≡ false
+not_true true h = absurd (h refl)
+not_true false h = refl
+
+-- what is not past a place is not past a later one
+later : (a b front : ℤ) → a ≤ℤ b → int_lt a front ≡ false → int_lt b front ≡ false
+later a b front le ahead = not_true (int_lt b front) (λ past. false≢true (sym ahead ∙ int_lt_in a front (before past)))
+  where
+    before : int_lt b front ≡ true → a <ℤ front
+    before past = let lt : b <ℤ front = record { lt = subst T (sym past) tt } in omega (arith, ints)
+
+-- a place lies past itself less some grains
+of_less : (front : ℤ) (x : Fraction) (k : ℕ) → is_past 0 front (less x k) ≡ false → is_past 0 front x ≡ false
+of_less front x k ahead = later (x.n +ℤ neg_ℤ (pos (k * x.m))) x.n (pos x.m *ℤ (front +ℤ pos 0)) (omega (arith, ints)) ahead
+
+-- the second of two places lies at or past the lesser of both
+of_lesser : (front x y : ℤ) → is_past 0 front (lesser (whole x) (whole y)) ≡ false → is_past 0 front (whole y) ≡ false
+of_lesser front x y =
+    lesser_cases (λ z. is_past 0 front z ≡ false → is_past 0 front (whole y) ≡ false) (whole x) (whole y)
+    (λ le. later x y (pos 1 *ℤ (front +ℤ pos 0)) (omega (arith, ints, le.crossed)))
+    (λ le ahead. ahead)
+
+-- where a front end is not past what the driver's time asks for, it is past none of these
+module _ (front z : ℤ) (times : Times) (v : ℕ) (ebi : Option Fraction) (of_ebi : is_past 0 front (whole z) ≡ false → option_map_or (is_past 0 front) ebi false ≡ false) where
+  of_driver : (guide : Option Fraction) → is_past 0 front (less (whole z) (way_in v driver_time)) ≡ false → is_past 0 front (limits_before times v guide ebi (whole z)).permitted ≡ false →
+      IsPastNone front (limits_before times v guide ebi (whole z))
+  of_driver guide driver permitted =
+      let sbi = of_less front (whole z) (way_in v driver_time) driver in
+      record {
+        ebi = of_ebi sbi;
+        sbi = sbi;
+        warning = later (z +ℤ neg_ℤ (pos (way_in v driver_time * 1))) (z +ℤ neg_ℤ (pos (way_in v warning_time * 1))) (pos 1 *ℤ (front +ℤ pos 0)) (omega (arith, ints)) driver;
+        permitted = permitted;
+      }
+
+  of_indication : (guide : Option ℤ) → is_past 0 front (limits_before times v (option_map whole guide) ebi (whole z)).indication ≡ false →
+      IsPastNone front (limits_before times v (option_map whole guide) ebi (whole z))
+  of_indication None ahead =
+      let driver = of_less front (less (whole z) (way_in v driver_time)) (way_in v times.indication) ahead in
+      of_driver None driver driver
+  of_indication (Some g) ahead =
+      let permitted = of_less front (lesser (whole g) (less (whole z) (way_in v driver_time))) (way_in v times.indication) ahead in
+      of_driver (Some (whole g)) (of_lesser front g (z +ℤ neg_ℤ (pos (way_in v driver_time * 1))) permitted) permitted
+
+-- ---- the limits of a target
+
+module _ (d : LineData) (r : OdometerReading) (t : Target) (front : ℤ) where
+  ebd : (guide : Option ℤ) → is_past 0 front (ebd_limits_of computed d r t (option_map whole guide)).indication ≡ false → IsPastNone front (ebd_limits_of computed d r t (option_map whole guide))
+  ebd guide =
+      let bs = way_in r.speed (line_times d).bs in
+      let ebi = stepped (slopes_of Safe d) t.place (foot_speed_of t) (v_bec_for d r t) +ℤ neg_ℤ (pos (d_bec_for d r t * 1)) in
+      of_indication front (ebi +ℤ neg_ℤ (pos (bs * 1))) (line_times d) r.speed (Some (whole ebi)) (of_less front (whole ebi) bs) guide
+
+  sbd : (guide : Option ℤ) → is_past 0 front (sbd_limits_of computed d r t (option_map whole guide)).indication ≡ false → IsPastNone front (sbd_limits_of computed d r t (option_map whole guide))
+  sbd guide =
+      let sbi = stepped (slopes_of Expected d) t.place 0 r.speed +ℤ neg_ℤ (pos (way_in r.speed (line_times d).bs * 1)) in
+      of_indication front sbi (line_times d) r.speed None (λ _. refl) guide
+
+  -- a guide is at a whole place, where there is one
+  guided : (P : Option Fraction → Type 0) → ((guide : Option ℤ) → P (option_map whole guide)) → P (guidance_place computed d r t)
+  guided P h =
+      let place = stepped (slopes_of Normal d) t.place (target_speed t) r.speed in
+      elim d.national.guidance as (λ b. P (if b then Some (whole place) else None)) [ true ↦ h (Some place) | false ↦ h None ]
+
+  of_kind : (kind : TargetKind) → is_past 0 front (limits_of_kind computed d r t kind).indication ≡ false → IsPastNone front (limits_of_kind computed d r t kind)
+  of_kind Mrsp = guided (λ g. is_past 0 front (ebd_limits_of computed d r t g).indication ≡ false → IsPastNone front (ebd_limits_of computed d r t g)) ebd
+  of_kind Loa = guided (λ g. is_past 0 front (ebd_limits_of computed d r t g).indication ≡ false → IsPastNone front (ebd_limits_of computed d r t g)) ebd
+  of_kind Eoa = guided (λ g. is_past 0 front (sbd_limits_of computed d r t g).indication ≡ false → IsPastNone front (sbd_limits_of computed d r t g)) sbd
+  of_kind Svl = ebd None
+
+  -- up to the indication limit no limit of a target is passed
+  pub past_none : is_past 0 front (limits_of computed d r t).indication ≡ false → IsPastNone front (limits_of computed d r t)
+  unfolding limits_of
+  past_none = of_kind t.kind
