@@ -1,4 +1,5 @@
-//! The columns of a record as numbers in their ranges. Columns count from 1, the kind being column 1.
+//! The columns of a record as numbers in their ranges. Columns count from 1, the kind being column 1. A reading has seven, at each
+//! cycle, so reading one is put in line where it is called: its number then goes into the event by no result in memory.
 
 ghost use Rattle.std.specs.Prelude.{◌≡◌, ◌<◌, ◌≤◌, ◌≤ℤ◌, pos, length, Ok, IfOk, IfErr};
 ghost use Rattle.csv.specs.Records.{fields_of};
@@ -19,6 +20,7 @@ fn field(fields: &ByteRecord, column: u32) -> &[u8]
 }
 
 /// The number of a column, from `least` to `greatest`, or the column's fault. (own)
+#[inline(always)]
 pub fn integer(
     fields: &ByteRecord,
     column: u32,
@@ -38,6 +40,7 @@ pub fn integer(
 }
 
 /// The number of a column whose range has no number below 0, likewise. (own)
+#[inline(always)]
 pub fn natural(
     fields: &ByteRecord,
     column: u32,

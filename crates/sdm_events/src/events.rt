@@ -58,6 +58,7 @@ fn read_event(fields: &ByteRecord) -> Result<Event, EventFault>
 }
 
 // The reading of numbers that are in their ranges.
+#[inline(always)]
 fn reading(
     time: u32,
     est_mm: i32,

@@ -1,20 +1,27 @@
 -- The output of lines, line by line: what was written and the output of the lines that are left are the output of all.
-use Rattle.std.proofs.Common.{◌≡◌, ℕ, suc, ◌+◌, ◌≤◌, List, [], ◌∷◌, ◌++◌, length, take, Option, inl, inr, refl, ap, ◌∙◌, sym, subst, append_assoc, length-append, arith}
+use Rattle.std.proofs.Common.{◌≡◌, ℕ, suc, ◌+◌, ◌≤◌, List, [], ◌∷◌, ◌++◌, length, take, Option, Some, inl, inr, append-nil, refl, ap, ◌∙◌, sym, subst, append_assoc, length-append, arith}
 use Rattle.std.proofs.Math.Seq.{take-append-add}
 use Rattle.std.proofs.lemmas.List.{take-append-le}
 use Rattle.std.specs.Io.KnownBytes.{Appends}
 use Rattle.std.proofs.KnownBytes.{Appends-nil, Appends-trans}
 use Rattle.sdm_io.specs.Told.{AppendsPart}
+use Rattle.sdm_rules.specs.declared.faults.EventCause.TheVariants.{Line}
 use Rattle.sdm_rules.specs.declared.rows.FlatRow.{FlatRow}
+use Rattle.sdm_rules.specs.Input as ends
 use Rattle.sdm_rules.specs.Flat.{FlatSupervision, Output, flat_opening, flat_text, flat_output, flat_output_from, lines_of}
-use Rattle.sdm_report.specs.declared.outcome.Outcome.TheVariants.{WriteFault}
+use Rattle.sdm_report.specs.declared.outcome.Outcome.TheVariants.{BadEvent, WriteFault}
 use Rattle.sdm_run.specs.Answers.{IsAnswer}
-use Rattle.sdm_run.specs.FlatTurns.{IsAccepted}
+use Rattle.sdm_run.specs.FlatTurns.{IsAccepted, IsRefused}
 
 -- the output of an accepted line, and of those after it
 accepted_output : (n : ℕ) (s t : FlatSupervision) (bytes : List ℕ) (more : List (List ℕ)) (row : FlatRow) → IsAccepted s t bytes row →
     flat_output_from n s (bytes ∷ more) ≡ record { text = flat_text row ++ (flat_output_from (suc n) t more).text; end = (flat_output_from (suc n) t more).end }
 accepted_output n s t bytes more row h = rw (h.read, h.in_time, h.row_is, h.after)
+
+-- the output from a refused line on
+refused_output : (n : ℕ) (s : FlatSupervision) (bytes : List ℕ) (more : List (List ℕ)) → IsRefused s bytes → flat_output_from n s (bytes ∷ more) ≡ record { text = []; end = ends.BadEvent n Line }
+refused_output n s bytes more (inl none) = rw none refl
+refused_output n s bytes more (inr h) = rw (h.2, h.3) refl
 
 -- What is left of the whole output is that of the lines that are left, of which the first has the number `n`, after the
 -- state `s`; out took what comes before it
@@ -62,3 +69,12 @@ module _ (old mid new : Option (List ℕ)) (whole : Output) (n : ℕ) (s : FlatS
 
         front : take (length left.done + h.0) whole.text ≡ left.done ++ take h.0 (flat_text row)
         front = rw parts (take-append-add left.done (flat_text row ++ rest) h.0 ∙ ap (λ (x : List ℕ). left.done ++ x) (take-append-le h.0 (flat_text row) rest h.1))
+
+-- the first line that is left is refused
+pub refused_answer : (old mid : Option (List ℕ)) (whole : Output) (n : ℕ) (s : FlatSupervision) (lines more : List (List ℕ)) (bytes : List ℕ) → IsLeft old mid whole n s lines → lines ≡ bytes ∷ more → IsRefused s bytes →
+    IsAnswer whole old mid (BadEvent n Line)
+refused_answer old mid whole n s lines more bytes left first refused =
+    let out = ap (flat_output_from n s) first ∙ refused_output n s bytes more refused in
+    let text : whole.text ≡ left.done = left.text ∙ ap (λ (o : Output). left.done ++ o.text) out ∙ append-nil left.done in
+    let end : whole.end ≡ ends.BadEvent n Line = left.end ∙ ap (λ (o : Output). o.end) out in
+    record { ended = inl (ap Some (sym end)); taken = subst (Appends old mid) (sym text) left.taken }

@@ -1,4 +1,4 @@
-pub mod Cutting
+pub mod FieldByField
 pub mod FlatTexts
 pub mod FlatOrder
 pub mod TrialRuns

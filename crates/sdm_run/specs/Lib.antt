@@ -1,6 +1,6 @@
 pub mod Words
 pub mod Answers
-pub mod Cuts
+pub mod FirstLines
 pub mod FlatTurns
 pub mod FlatRun
 pub mod Journeys

@@ -5,12 +5,10 @@ use Rattle.toml.specs.Data.{Members}
 use Rattle.sdm_rules.specs.declared.authorities.Authority.{Authority}
 use Rattle.sdm_rules.specs.declared.faults.DataFault.TheVariants as data_faults
 use Rattle.sdm_rules.specs.declared.faults.OpenFault.TheVariants as open_faults
-use Rattle.sdm_rules.specs.declared.rows.Row.{Row}
 use Rattle.sdm_rules.specs.Data.{LineData}
 use Rattle.sdm_rules.specs.Opening.{IsAccepted, IsOpenFault}
 use Rattle.sdm_rules.specs.Records.{most_records}
 use Rattle.sdm_rules.specs.Supervision.{Supervision, opening}
-use Rattle.sdm_rules.specs.Text.{row_text}
 use Rattle.sdm_report.specs.declared.outcome.InputFault.TheVariants.{NoSplit, Toml, Data}
 use Rattle.sdm_report.specs.declared.outcome.Outcome.{Outcome}
 use Rattle.sdm_report.specs.declared.outcome.Outcome.TheVariants.{Done, Usage, ReadFault, WriteFault, TooLong, BadData, Refused, BadEvent, Memory}
@@ -52,11 +50,6 @@ IsRefusedBy bytes (BadEvent number cause) = ⊥
 IsRefusedBy bytes Memory = ⊤
 
 -- ---- the records
-
--- the text of a record: that of its row, where it is a reading (own)
-abbrev pub text_of : Option Row → List ℕ
-text_of None = []
-text_of (Some row) = row_text row
 
 -- The record of the number `n` was taken, and its row was written: what it and the records after it define is its text and what
 -- these define from the next state on (own).

@@ -1,14 +1,16 @@
-//! The lines that `flat` reads and the rows that it writes.
+//! The lines that `flat` reads and the rows that it writes. A line is read as it is passed over, number by number, so that no byte
+//! is looked at twice.
 
-ghost use Rattle.std.specs.Prelude.{◌≡◌, []};
-ghost use Rattle.sdm_rules.specs.Flat.{flat_line, flat_text};
+ghost use Rattle.std.specs.Prelude.{◌≡◌, ◌≢◌, ◌<◌, ◌≤ℤ◌, [], ◌∷◌, ℤ, List, ℕ, length, IfSome, IfNone};
+ghost use Rattle.sdm_rules.specs.Flat.{flat_text};
+ghost use Rattle.sdm_text.specs.Leading.{BeginsWithNumber};
 ghost use Rattle.sdm_supervisor.specs.FlatLines.{IsFlatLine};
+ghost use Rattle.sdm_run.specs.FirstLines.{BeginsWithField, BeginsWithLastField, BeginsWithLine, BeginsWithNoLine, EndsLine};
 
-use crate::lines::three_fields;
 use sdm_num::{Place, Speed};
 use sdm_report::fields::{put_count, put_flag, put_number};
 use sdm_rules::FlatRow;
-use sdm_text::{RowBuf, integer_in, natural_in};
+use sdm_text::{Leading, RowBuf, leading_number};
 use std::marker::Model;
 
 /// A line of `flat`: a time in ds, a front end and a speed, each in its range. (own)
@@ -56,20 +58,122 @@ impl Line {
     }
 }
 
-/// The line that bytes write; none where they are not of its form. (own)
-#[tactic(auto, unfolding(sdm_rules::specs::Flat::flat_line))]
-pub fn flat_line(bytes: &[u8]) -> Option<Line>
-    ensures { result ≡ flat_line bytes.now }
+/// A line, and what is left of an input after it. (own)
+#[derive(Clone, Copy)]
+pub struct FirstLine<'a> {
+    pub line: Line,
+    pub after: &'a [u8],
+}
+
+/// The first line of what is left of an input; none where it isn't of its form. Each line is ended by LF; the last LF may be
+/// wanting. (own)
+pub fn first_line<'a>(rest: &'a [u8]) -> Option<FirstLine<'a>>
+    ensures line { IfSome result (λ first. BeginsWithLine rest.now first.line first.after.now) }
+    ensures none { IfNone result (BeginsWithNoLine rest.now) }
+    ensures shorter { IfSome result (λ first. length first.after.now < length rest.now) }
 {
-    let fields = three_fields(bytes)?;
-    let time = natural_in(fields.first, 0, 100_000_000).ok()?;
-    let front = integer_in(fields.second, -10_000_000, 110_000_000).ok()?;
-    let speed = natural_in(fields.third, 0, 138_888).ok()?;
-    Some(Line {
-        time,
-        front: Place::of_mm(front),
-        speed: Speed::of_mm_s(speed),
+    let Some(time) = comma_field(rest, 0, 100_000_000) else {
+        return None;
+    };
+    let Some(front) = comma_field(time.after, -10_000_000, 110_000_000) else {
+        return None;
+    };
+    let Some(speed) = last_field(front.after, 0, 138_888) else {
+        return None;
+    };
+    Some(FirstLine {
+        line: Line {
+            time: time.number as u32,
+            front: Place::of_mm(front.number as i32),
+            speed: Speed::of_mm_s(speed.number as u32),
+        },
+        after: speed.after,
     })
+}
+
+// The number of a field, and the bytes after what ends the field.
+#[derive(Clone, Copy)]
+struct Field<'a> {
+    number: i64,
+    after: &'a [u8],
+}
+
+// A field at the front of bytes that a comma ends; none where it is no number from `least` to `greatest`.
+#[inline]
+fn comma_field<'a>(bytes: &'a [u8], least: i64, greatest: i64) -> Option<Field<'a>>
+    ensures field { IfSome result (λ f. BeginsWithField bytes.now f.number f.after.now) }
+    ensures range { IfSome result (λ f. (least ≤ℤ f.number) × (f.number ≤ℤ greatest)) }
+    ensures none { IfNone result ((number : ℤ) (after : List ℕ) → least ≤ℤ number → number ≤ℤ greatest → BeginsWithField bytes.now number after → ⊥) }
+{
+    let Some(number) = number_in(bytes, least, greatest) else {
+        return None;
+    };
+    let Some(after) = after_comma(number.after) else {
+        return None;
+    };
+    Some(Field {
+        number: number.number,
+        after,
+    })
+}
+
+// The last field of a line, likewise.
+fn last_field<'a>(bytes: &'a [u8], least: i64, greatest: i64) -> Option<Field<'a>>
+    ensures field { IfSome result (λ f. BeginsWithLastField bytes.now f.number f.after.now) }
+    ensures range { IfSome result (λ f. (least ≤ℤ f.number) × (f.number ≤ℤ greatest)) }
+    ensures none { IfNone result ((number : ℤ) (after : List ℕ) → least ≤ℤ number → number ≤ℤ greatest → BeginsWithLastField bytes.now number after → ⊥) }
+{
+    let Some(number) = number_in(bytes, least, greatest) else {
+        return None;
+    };
+    let Some(after) = after_line_end(number.after) else {
+        return None;
+    };
+    Some(Field {
+        number: number.number,
+        after,
+    })
+}
+
+// The number at the front of bytes; none where it isn't from `least` to `greatest`.
+#[inline]
+fn number_in<'a>(bytes: &'a [u8], least: i64, greatest: i64) -> Option<Leading<'a>>
+    ensures number { IfSome result (λ l. BeginsWithNumber bytes.now l.number l.after.now) }
+    ensures range { IfSome result (λ l. (least ≤ℤ l.number) × (l.number ≤ℤ greatest)) }
+    ensures none { IfNone result ((number : ℤ) (after : List ℕ) → least ≤ℤ number → number ≤ℤ greatest → BeginsWithNumber bytes.now number after → ⊥) }
+{
+    let Some(leading) = leading_number(bytes) else {
+        return None;
+    };
+    if leading.number < least {
+        return None;
+    }
+    if leading.number > greatest {
+        return None;
+    }
+    Some(leading)
+}
+
+// The bytes after a comma.
+fn after_comma<'a>(bytes: &'a [u8]) -> Option<&'a [u8]>
+    ensures after { IfSome result (λ after. bytes.now ≡ 44 ∷ after.now) }
+    ensures none { IfNone result ((after : List ℕ) → bytes.now ≢ 44 ∷ after) }
+{
+    let [first, after @ ..] = bytes else {
+        return None;
+    };
+    if *first == b',' { Some(after) } else { None }
+}
+
+// The bytes after a line feed, or none after the end of the input.
+fn after_line_end<'a>(bytes: &'a [u8]) -> Option<&'a [u8]>
+    ensures after { IfSome result (λ after. EndsLine bytes.now after.now) }
+    ensures none { IfNone result ((after : List ℕ) → EndsLine bytes.now after → ⊥) }
+{
+    let [first, after @ ..] = bytes else {
+        return Some(bytes);
+    };
+    if *first == b'\n' { Some(after) } else { None }
 }
 
 /// Puts a row. (own)

@@ -1,30 +1,43 @@
 //! The command `flat`: a row for each line, written before the next line is taken.
 
-ghost use Rattle.std.specs.Prelude.{◌≡◌, ◌≤◌, length, IfSome, IfNone};
+ghost use Rattle.std.specs.Prelude.{◌≡◌, ◌<◌, ◌≤◌, length, IfSome, IfNone};
 ghost use Rattle.std.specs.Io.KnownBytes.{Keeps};
 ghost use Rattle.sdm_io.specs.Causes.{Rose};
 ghost use Rattle.sdm_rules.specs.Input.{most_bytes};
 ghost use Rattle.sdm_rules.specs.Flat.{flat_output};
 ghost use Rattle.sdm_run.specs.Answers.{ComesFirst, IsAnswer, IsFlatOutcome};
-ghost use Rattle.sdm_run.specs.FlatTurns.{IsAccepted, IsRefused};
+ghost use Rattle.sdm_run.specs.FlatTurns.{RefusesLine, TakesLine};
 
-use crate::flat_lines::{flat_line, put_row};
-use crate::lines::first_line;
+use crate::flat_lines::{first_line, put_row};
 use sdm_io::{Sink, write_piece};
 use sdm_report::{EventCause, Outcome};
 use sdm_supervisor::{Flat, FlatRow};
 use sdm_text::RowBuf;
 use std::alloc::Global;
 
-// Takes a line as it is written; none, and nothing changed, where it is refused.
-fn take_line(flat: &mut Flat, bytes: &[u8]) -> Option<FlatRow>
-    ensures accepted { IfSome result (IsAccepted flat.old flat.new bytes.now) }
-    ensures refused { IfNone result (IsRefused flat.old bytes.now) }
+// The row of a line, and the bytes after the line.
+#[derive(Clone, Copy)]
+struct Turn<'a> {
+    row: FlatRow,
+    after: &'a [u8],
+}
+
+// Takes the first line of what is left of the input; none, and nothing changed, where it is refused.
+fn take_line<'a>(flat: &mut Flat, rest: &'a [u8]) -> Option<Turn<'a>>
+    ensures accepted { IfSome result (λ turn. TakesLine flat.old flat.new rest.now turn.row turn.after.now) }
+    ensures refused { IfNone result (RefusesLine flat.old rest.now) }
     ensures unchanged { IfNone result (flat.new ≡ flat.old) }
+    ensures shorter { IfSome result (λ turn. length turn.after.now < length rest.now) }
 {
-    let line = flat_line(bytes)?;
+    let Some(first) = first_line(rest) else {
+        return None;
+    };
+    let line = first.line;
     match flat.cycle(line.time(), line.front(), line.speed()) {
-        Ok(row) => Some(row),
+        Ok(row) => Some(Turn {
+            row,
+            after: first.after,
+        }),
         Err(_) => None,
     }
 }
@@ -55,19 +68,18 @@ pub fn run_flat<O: Sink>(
     let mut rest = bytes;
     'lines: while !rest.is_empty() {
         number += 1;
-        let line = first_line(rest);
-        rest = line.after;
-        let Some(row) = take_line(&mut flat, line.before) else {
+        let Some(turn) = take_line(&mut flat, rest) else {
             return Outcome::BadEvent {
                 number,
                 cause: EventCause::Line,
             };
         };
         row_text.clear();
-        put_row(&row, &mut row_text);
+        put_row(&turn.row, &mut row_text);
         let Ok(()) = write_piece(out, row_text.bytes()) else {
             return Outcome::WriteFault;
         };
+        rest = turn.after;
     }
     Outcome::Done
 }

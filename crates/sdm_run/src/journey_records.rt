@@ -11,7 +11,8 @@ ghost use Rattle.sdm_events.specs.Journey.{IsInForm, records_of};
 ghost use Rattle.sdm_rules.specs.declared.records.Event.TheVariants as record_kinds;
 ghost use Rattle.sdm_run.specs.Answers.{IsAnswer, IsRecordsOutcome};
 ghost use Rattle.sdm_run.specs.Journeys.{output_of_records};
-ghost use Rattle.sdm_run.specs.RunParts.{IsTurn, text_of};
+ghost use Rattle.sdm_rules.specs.Text.{row_text};
+ghost use Rattle.sdm_run.specs.RunParts.{IsTurn};
 
 use sdm_events::{ByteRecord, Event, EventFault, Records, event_of};
 use sdm_io::{Failed, Sink, write_piece};
@@ -80,17 +81,14 @@ fn take_record(
     }
 }
 
-// Writes a row, where there is one.
-fn write_row<O: Sink>(row: Option<Row>, out: &mut O) -> Result<(), Failed>
-    ensures ok { OnOk result (Appends (O.taken out.old) (O.taken out.new) (text_of row)) }
-    ensures err { OnErr result (AppendsPart (O.taken out.old) (O.taken out.new) (text_of row)) }
+// Writes a row, which is put together in a buffer.
+fn write_row<O: Sink>(row: &Row, text: &mut RowBuf, out: &mut O) -> Result<(), Failed>
+    ensures ok { OnOk result (Appends (O.taken out.old) (O.taken out.new) (row_text row.now)) }
+    ensures err { OnErr result (AppendsPart (O.taken out.old) (O.taken out.new) (row_text row.now)) }
     ensures cause { HasCause (O.faults out.old) (O.faults out.new) result }
 {
-    let Some(row) = row else {
-        return Ok(());
-    };
-    let mut text = RowBuf::new();
-    row_bytes(&row, &mut text);
+    text.clear();
+    row_bytes(row, text);
     write_piece(out, text.bytes())
 }
 
@@ -101,6 +99,7 @@ fn turn<O: Sink>(
     records: &mut Records<'_>,
     record: &mut ByteRecord,
     number: u32,
+    text: &mut RowBuf,
     out: &mut O,
 ) -> Result<bool, Outcome>
     requires { 1 ≤ number }
@@ -115,10 +114,11 @@ fn turn<O: Sink>(
         Err(NoMemory) => return Err(Outcome::Memory),
     }
     match take_record(supervisor, number, record) {
-        Ok(row) => match write_row(row, out) {
+        Ok(Some(row)) => match write_row(&row, text, out) {
             Ok(()) => Ok(true),
             Err(_) => Err(Outcome::WriteFault),
         },
+        Ok(None) => Ok(true),
         Err(cause) => Err(Outcome::BadEvent { number, cause }),
     }
 }
@@ -136,9 +136,17 @@ pub fn run_records<O: Sink>(
 {
     let mut records = Records::begin(alloc, bytes);
     let mut record = ByteRecord::new(alloc);
+    let mut text = RowBuf::new();
     let mut number = 1u32;
     'records: loop {
-        match turn(supervisor, &mut records, &mut record, number, out) {
+        match turn(
+            supervisor,
+            &mut records,
+            &mut record,
+            number,
+            &mut text,
+            out,
+        ) {
             Ok(true) => number += 1,
             Ok(false) => return Outcome::Done,
             Err(outcome) => return outcome,

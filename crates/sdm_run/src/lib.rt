@@ -8,7 +8,6 @@ mod flat_run;
 mod journey_openings;
 mod journey_records;
 mod journey_run;
-mod lines;
 mod trial_run;
 pub mod words;
 

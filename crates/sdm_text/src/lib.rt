@@ -7,7 +7,7 @@ pub mod numbers;
 pub mod rows;
 
 pub use keys::{key_name, key_names};
-pub use numbers::{integer_in, natural_in, read_int};
+pub use numbers::{Leading, integer_in, leading_number, natural_in, read_int};
 pub use rows::{ROW_BYTES, RowBuf};
 pub use sdm_rules::{FieldFault, Section};
 

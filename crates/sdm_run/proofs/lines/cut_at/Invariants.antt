@@ -1,6 +1,0 @@
--- So far no byte is the mark.
-use Rattle.std.proofs.Common.{◌≢◌, ℕ, ◌<◌, get_or}
-use Rattle.sdm_run.proofs.lines.cut_at.Given as goal
-
-abbrev pub invariant-loop-at : goal.invariant-loop-at
-invariant-loop-at l = (k : ℕ) → k < l.at → get_or l.bytes k 0 ≢ l.mark
