@@ -1,7 +1,8 @@
 //! Fields at the ends of their forms and ranges, the keys of each section, and rows up to the last byte that they hold.
 
 use crate::{
-    FieldFault, ROW_BYTES, RowBuf, Section, integer_in, key_name, key_names, natural_in, read_int,
+    FieldFault, ROW_BYTES, RowBuf, Section, integer_in, key_name, key_names, leading_number,
+    natural_in, read_int,
 };
 use std::test::Fail;
 
@@ -63,6 +64,47 @@ fn a_field_is_an_optional_minus_sign_and_digits(rt: HostRuntime) -> Result<(), F
             answer(words.next())?,
             "{line}"
         );
+    }
+    Ok(())
+}
+
+/// Bytes, the number that they begin with and the bytes after it, and what the case shows.
+const LEADING: &str = "\
+12,7|12|,7|a comma ends it
+12|12||the end of all ends it
+-12x|-12|x|below zero
+-0,|0|,|a minus sign before zero
+007-|7|-|leading zeros, and a minus sign ends it
+123456789012345678,|123456789012345678|,|eighteen digits
+-123456789012345678|-123456789012345678||eighteen digits below zero
+1234567890123456789,|none||nineteen digits
+000000000000000000001|none||twenty-one digits
+|none||no byte
+,1|none||a comma
+-|none||a minus sign alone
+-,1|none||a minus sign and a comma
+--1|none||two minus signs
++1|none||a plus sign
+ 1|none||a space before";
+
+#[test]
+fn a_number_is_read_up_to_the_first_byte_that_is_no_digit(rt: HostRuntime) -> Result<(), Fail> {
+    for line in LEADING.lines() {
+        let mut words = line.split('|');
+        let bytes = words.next().ok_or("no bytes")?;
+        let number = words.next().ok_or("no number")?;
+        let after = words.next().ok_or("no rest")?;
+        match leading_number(bytes.as_bytes()) {
+            Some(leading) => {
+                assert_eq!(rt;
+                    leading.number,
+                    number.parse::<i64>().map_err(|_| "not a number")?,
+                    "{line}"
+                );
+                assert_eq!(rt; leading.after, after.as_bytes(), "{line}");
+            }
+            None => assert_eq!(rt; number, "none", "{line}"),
+        }
     }
     Ok(())
 }
