@@ -47,6 +47,8 @@ fn is_acceleration(accel: i16) -> bool
 
 impl Reading {
     /// The reading of these numbers; None exactly where one of them is out of its range.
+    // In line a caller's own tests of the ranges serve, and the reading is written once, where it is wanted.
+    #[inline(always)]
     pub fn new(
         time: u32,
         est_mm: i32,
