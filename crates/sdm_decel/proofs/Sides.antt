@@ -1,26 +1,15 @@
 -- The same lies under the train with its front end in two cells, where no border lies past the first up to the second: each
 -- gradient has begun for both or for neither, and each area is in force for both or for neither.
-use Rattle.std.proofs.Common.{◌≡◌, ℕ, suc, ℤ, pos, List, [], ◌∷◌, length, get_or, Bool, true, false, int_le, int_lt, ◌<◌, ◌+ℤ◌, ◌≤ℤ◌, ◌<ℤ◌, refl, sym, ◌∙◌, ap₂, arith, rules}
+use Rattle.std.proofs.Common.{◌≡◌, ℕ, suc, ℤ, pos, List, [], ◌∷◌, length, get_or, Bool, int_le, int_lt, ◌<◌, ◌+ℤ◌, ◌≤ℤ◌, ◌<ℤ◌, refl, sym, ◌∙◌, ap₂, arith}
 use Rattle.std.specs.List.{list_any}
 use Rattle.std.proofs.lemmas.Int.{ints, by_lt_z}
+use Rattle.sdm_num.proofs.Comparisons.{le_is, not_le_is, lt_is, not_lt_is}
 use Rattle.sdm_rules.specs.declared.data.Area.{Area}
 use Rattle.sdm_rules.specs.Cells.{last_at, value_at}
 use Rattle.sdm_rules.specs.Data.{TrackData}
 use Rattle.sdm_rules.specs.Decelerations.{UnderTrain, is_in_force, under_train}
 use Rattle.sdm_track.specs.declared.under_train.Segment.{Segment}
 use Rattle.sdm_decel.specs.Borders.{AreGradientsUnder}
-
-le_is : (a b : ℤ) → a ≤ℤ b → int_le a b ≡ true
-le_is a b h = sym (search (rules, ints))
-
-not_le_is : (a b : ℤ) → b <ℤ a → int_le a b ≡ false
-not_le_is a b h = sym (search (rules, ints))
-
-lt_is : (a b : ℤ) → a <ℤ b → int_lt a b ≡ true
-lt_is a b h = sym (search (rules, ints))
-
-not_lt_is : (a b : ℤ) → b ≤ℤ a → int_lt a b ≡ false
-not_lt_is a b h = sym (search (rules, ints))
 
 -- no border lies past the cell `s` up to the cell `c`
 pub record IsBegun (s c border : ℤ) : Type 0 where

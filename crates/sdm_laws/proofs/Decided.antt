@@ -129,10 +129,11 @@ fault_of_kind : (kind : SlopeKind) (d : LineData) (a : Authority) → AreBefore 
 fault_of_kind kind d a before (inl w) = (TooWeak kind (suc w.0) (pos w.1.0) w.1.1.0, (before, (w.0, refl, (w.1.0, refl, w.1.1.1))))
 fault_of_kind kind d a before (inr w) = (TooVaried kind (suc w.0) w.1.0 w.1.1.0, (before, (w.0, refl, w.1.1.1)))
 
-all_kinds : (d : LineData) → IsAcceptedKind Safe d → IsAcceptedKind Expected d → IsAcceptedKind Normal d → IsUsableLine d
-all_kinds d s e n Safe = s
-all_kinds d s e n Expected = e
-all_kinds d s e n Normal = n
+-- the slopes of all kinds are accepted where those of each are
+pub all_kinds : (d : LineData) → IsAcceptedKind Safe d → IsAcceptedKind Expected d → IsAcceptedKind Normal d → IsUsableLine d
+all_kinds d safe expected normal Safe = safe
+all_kinds d safe expected normal Expected = expected
+all_kinds d safe expected normal Normal = normal
 
 by_authority : (d : LineData) (a : Authority) → IsUsableLine d → (o : Option AuthorityFault) → authority_fault d.track.length_cm a ≡ o → IsAccepted d a ⊎ ((fault : OpenFault) × IsOpenFault d a fault)
 by_authority d a usable None e = inl (usable, e)

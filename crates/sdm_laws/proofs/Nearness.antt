@@ -1,11 +1,12 @@
 -- When a computed place lies just before an exact one: at most a millimetre before it and never past it. A front end is then
 -- past the exact place only where it is past the computed one, and past the computed one only where it is past the exact
 -- place less a millimetre. The operations of limits keep it.
-use Rattle.std.proofs.Common.{◌≡◌, ℕ, ℤ, pos, Bool, true, false, ◌<◌, ◌*◌, ◌+ℤ◌, ◌*ℤ◌, ◌≤ℤ◌, ◌<ℤ◌, int_lt, arith, refl, sym, subst, T, ◌∙◌, ap}
+use Rattle.std.proofs.Common.{◌≡◌, ℕ, ℤ, pos, ◌<◌, ◌*◌, ◌+ℤ◌, ◌*ℤ◌, ◌≤ℤ◌, ◌<ℤ◌, arith}
 use Rattle.std.proofs.lemmas.Int.{ints}
 use Rattle.sdm_num.specs.Units.{millimetre}
 use Rattle.sdm_num.specs.Fractions.{Fraction, IsAtMost, less, lesser, more}
-use Rattle.sdm_num.proofs.Ints.{scales, scale-+ℤ, scale-scale}
+use Rattle.sdm_num.proofs.Comparisons.{lt_is, lt_of}
+use Rattle.sdm_num.proofs.Ints.{scales, scale-+ℤ, scale-swap}
 use Rattle.sdm_num.proofs.Floors.{scale-<_cancel}
 use Rattle.sdm_num.proofs.Order.{scale-<, at_most_refl, at_most_trans, lesser_cases}
 use Rattle.sdm_laws.proofs.TriggerOrder.{IsSooner}
@@ -18,23 +19,6 @@ pub record IsJustBefore (low x : Fraction) : Type 0 where
   pub near : IsAtMost x (more low millimetre)
 
 -- ---- tests of fractions
-
-true_of_T : (b : Bool) → T b → b ≡ true
-true_of_T true t = refl
-true_of_T false t = absurd t
-
-T_of_true : (b : Bool) → b ≡ true → T b
-T_of_true true e = tt
-T_of_true false e = subst T (sym e) tt
-
-int_lt_out : (a b : ℤ) → int_lt a b ≡ true → a <ℤ b
-int_lt_out a b e = record { lt = T_of_true _ e }
-
-pub int_lt_in : (a b : ℤ) → a <ℤ b → int_lt a b ≡ true
-int_lt_in a b h = true_of_T _ h.lt
-
-pub scale-swap : (m k : ℕ) (a : ℤ) → pos m *ℤ (pos k *ℤ a) ≡ pos k *ℤ (pos m *ℤ a)
-scale-swap m k a = scale-scale m k a ∙ (ap (λ (t : ℕ). pos t *ℤ a) (omega arith) ∙ sym (scale-scale k m a))
 
 -- `x < f` gives `low < f`, where `low = a / m` is at most `x = b / k`
 below_low : (m k : ℕ) (a b f : ℤ) → 0 < m → (pos k *ℤ a) ≤ℤ (pos m *ℤ b) → b <ℤ (pos k *ℤ f) → a <ℤ (pos m *ℤ f)
@@ -57,16 +41,16 @@ plus_0 f = omega (arith, ints)
 pub exact_sooner : (low x : Fraction) → IsJustBefore low x → IsSooner 0 x 0 low
 exact_sooner low x h = record {
   passed = λ front e.
-      let lt = int_lt_out x.n (pos x.m *ℤ (front +ℤ pos 0)) e in
-      int_lt_in low.n (pos low.m *ℤ (front +ℤ pos 0)) (below_low low.m x.m low.n x.n (front +ℤ pos 0) h.low_positive h.not_past.crossed lt);
+      let lt = lt_of x.n (pos x.m *ℤ (front +ℤ pos 0)) e in
+      lt_is low.n (pos low.m *ℤ (front +ℤ pos 0)) (below_low low.m x.m low.n x.n (front +ℤ pos 0) h.low_positive h.not_past.crossed lt);
 }
 
 pub low_sooner : (low x : Fraction) → IsJustBefore low x → IsSooner 0 low millimetre x
 low_sooner low x h = record {
   passed = λ front e.
-      let lt = int_lt_out low.n (pos low.m *ℤ (front +ℤ pos 0)) e in
+      let lt = lt_of low.n (pos low.m *ℤ (front +ℤ pos 0)) e in
       let lt' : low.n <ℤ (pos low.m *ℤ front) = rw (← plus_0 front) lt in
-      int_lt_in x.n (pos x.m *ℤ (front +ℤ pos millimetre)) (below_more low.m x.m millimetre low.n x.n front h.positive h.near.crossed lt');
+      lt_is x.n (pos x.m *ℤ (front +ℤ pos millimetre)) (below_more low.m x.m millimetre low.n x.n front h.positive h.near.crossed lt');
 }
 
 -- ---- the same under the operations of limits

@@ -1,9 +1,10 @@
 -- The segment of a cell in starts that rise: the starts at most the cell are the first ones, so their count tells it. In a
 -- segment each band has one slope, so energies go with ways there.
-use Rattle.std.proofs.Common.{◌≡◌, ℕ, ℤ, zero, suc, pos, true, false, cond, List, [], ◌∷◌, length, get_or, slice_index, ◌+◌, ◌-◌, ◌*◌, ◌<◌, ◌≤◌, ◌+ℤ◌, ◌≤ℤ◌, ◌<ℤ◌, int_le, ap, arith, rules, refl, sym, ◌∙◌}
+use Rattle.std.proofs.Common.{◌≡◌, ℕ, ℤ, zero, suc, pos, cond, List, [], ◌∷◌, length, get_or, slice_index, ◌+◌, ◌-◌, ◌*◌, ◌<◌, ◌≤◌, ◌+ℤ◌, ◌≤ℤ◌, ◌<ℤ◌, int_le, ap, arith, refl, ◌∙◌}
 use Rattle.std.proofs.lemmas.Int.{ints, by_lt_z}
 use Rattle.std.proofs.lemmas.List.Sums.{sum_by-cons}
 use Rattle.std.specs.List.{count_by}
+use Rattle.sdm_num.proofs.Comparisons.{le_is, not_le_is}
 use Rattle.sdm_rules.specs.Slopes.{SlopeMap, meaning_of, segment_of}
 use Rattle.sdm_rules.specs.Curves.{cell_at, cell_start}
 use Rattle.sdm_laws.specs.Energy.{energy}
@@ -21,12 +22,6 @@ record IsCut (starts : List ℤ) (c : ℤ) (j : ℕ) : Type 0 where
   known : j ≤ length starts
   low : (k : ℕ) → k < j → get_or starts k (pos 0) ≤ℤ c
   high : (k : ℕ) → j ≤ k → k < length starts → c <ℤ get_or starts k (pos 0)
-
-le_is : (a b : ℤ) → a ≤ℤ b → int_le a b ≡ true
-le_is a b h = sym (search (rules, ints))
-
-not_le_is : (a b : ℤ) → b <ℤ a → int_le a b ≡ false
-not_le_is a b h = sym (search (rules, ints))
 
 count_cut : (xs : List ℤ) (j : ℕ) (c : ℤ) → IsCut xs c j → count_by (λ s. int_le s c) xs ≡ j
 count_cut [] j c h = let k = h.known in omega arith

@@ -1,9 +1,11 @@
 -- From some cell on the slopes of every kind and band stay the same: past all starts of gradients, and past all areas by the
 -- train length, the track under the train changes no more. So what is asked of all cells is asked of finitely many.
-use Rattle.std.proofs.Common.{◌≡◌, ℕ, ℤ, zero, suc, pos, Bool, true, false, ◌&&◌, List, [], ◌∷◌, ◌+◌, ◌≤◌, ◌*◌, ◌+ℤ◌, ◌-ℤ◌, ◌≤ℤ◌, int_le, int_lt, unsigned_abs, refl, ap, sym, ◌∙◌, arith, rules}
+use Rattle.std.proofs.Common.{◌≡◌, ℕ, ℤ, zero, suc, pos, false, List, [], ◌∷◌, ◌+◌, ◌≤◌, ◌*◌, ◌+ℤ◌, ◌-ℤ◌, ◌≤ℤ◌, int_le, unsigned_abs, refl, ap, ◌∙◌, arith}
 use Rattle.std.proofs.lemmas.Int.{ints, clamps}
+use Rattle.std.proofs.Math.Bool.{and-false}
 use Rattle.std.specs.Int.{int_min, int_max}
 use Rattle.std.specs.List.{list_any}
+use Rattle.sdm_num.proofs.Comparisons.{le_is, not_lt_is}
 use Rattle.sdm_rules.specs.declared.data.Area.{Area}
 use Rattle.sdm_rules.specs.declared.data.Gradient.{Gradient}
 use Rattle.sdm_rules.specs.declared.data.SlopeKind.{SlopeKind}
@@ -18,17 +20,11 @@ abbrev past_starts : List Gradient → ℕ
 past_starts [] = 0
 past_starts (e ∷ es) = unsigned_abs e.start + past_starts es
 
-le_true : (a b : ℤ) → a ≤ℤ b → int_le a b ≡ true
-le_true a b h = sym (search (rules, ints))
-
-lt_false : (a b : ℤ) → b ≤ℤ a → int_lt a b ≡ false
-lt_false a b h = sym (search (rules, ints))
-
 last_settled : (es : List Gradient) (c c' : ℤ) (before : ℤ) → pos (past_starts es) ≤ℤ c → pos (past_starts es) ≤ℤ c' → last_at (λ e. e.start) (λ e. e.grad) es c before ≡ last_at (λ e. e.start) (λ e. e.grad) es c' before
 last_settled [] c c' before h h' = refl
 last_settled (e ∷ es) c c' before h h' =
-    let one = le_true e.start c (omega (arith, ints)) in
-    let two = le_true e.start c' (omega (arith, ints)) in
+    let one = le_is e.start c (omega (arith, ints)) in
+    let two = le_is e.start c' (omega (arith, ints)) in
     rw (one, two) (last_settled es c c' e.grad (omega (arith, ints)) (omega (arith, ints)))
 
 gradient_settled : (es : List Gradient) (c c' : ℤ) → pos (past_starts es) ≤ℤ c → pos (past_starts es) ≤ℤ c' → track_gradient es c ≡ track_gradient es c'
@@ -49,15 +45,11 @@ abbrev past_areas : ℤ → List Area → ℕ
 past_areas length_cm [] = 0
 past_areas length_cm (a ∷ more) = unsigned_abs a.end + unsigned_abs length_cm + past_areas length_cm more
 
-and_false : (b : Bool) → (b && false) ≡ false
-and_false true = refl
-and_false false = refl
-
 none_in_force : (length_cm : ℤ) (areas : List Area) (c : ℤ) → pos (past_areas length_cm areas) ≤ℤ c → list_any (is_in_force length_cm c) areas ≡ false
 none_in_force length_cm [] c h = refl
 none_in_force length_cm (a ∷ more) c h =
-    let here = lt_false c (a.end +ℤ length_cm) (omega (arith, ints)) in
-    rw (here, and_false (int_le a.start c)) (none_in_force length_cm more c (omega (arith, ints)))
+    let here = not_lt_is c (a.end +ℤ length_cm) (omega (arith, ints)) in
+    rw (here, and-false (int_le a.start c)) (none_in_force length_cm more c (omega (arith, ints)))
 
 -- ---- slopes
 

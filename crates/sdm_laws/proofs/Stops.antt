@@ -1,9 +1,9 @@
 -- From a covered row every motion stops in time: where the front end is not past a target's computed EBI, all ends of slices
 -- and then all braking points are within the target's curve; where V_bec is at most the foot speed, the train is never
 -- faster.
-use Rattle.std.proofs.Common.{◌≡◌, ℕ, ℤ, pos, neg_ℤ, Bool, true, false, ◌||◌, ◌&&◌, not, nat_le, List, [], ◌∷◌, ◌++◌, ◌<◌, ◌≤◌, ◌*◌, ◌+ℤ◌, ◌*ℤ◌, ◌≤ℤ◌, suc, zero, refl, sym, subst, arith, ◌∙◌, inl, inr}
-use Rattle.std.proofs.lemmas.Int.{ints, by_lt_z}
-use Rattle.std.proofs.lemmas.Bool.{true≢false, false≢true, and_parts, not-true, leb-true}
+use Rattle.std.proofs.Common.{◌≡◌, ℕ, ℤ, pos, neg_ℤ, Bool, true, false, ◌||◌, ◌&&◌, not, nat_le, List, [], ◌∷◌, ◌++◌, ◌<◌, ◌≤◌, ◌*◌, ◌+ℤ◌, ◌*ℤ◌, ◌≤ℤ◌, suc, zero, refl, subst, arith, inl, inr}
+use Rattle.std.proofs.lemmas.Int.{ints}
+use Rattle.std.proofs.lemmas.Bool.{false≢true, and_parts, not-true, leb-true}
 use Rattle.std.proofs.lemmas.List.Elements.{All-from_recursion}
 use Rattle.std.proofs.lemmas.Nat.{mul-le}
 use Rattle.std.proofs.Math.Nat.{mul-le-mul_left}
@@ -13,6 +13,7 @@ use Rattle.std.specs.Option.{option_map_or}
 use Rattle.sdm_num.specs.Fractions.{IsAtMost, whole, less}
 use Rattle.sdm_num.specs.Readings.{OdometerReading}
 use Rattle.sdm_num.proofs.Order.{at_most_trans}
+use Rattle.sdm_num.proofs.Comparisons.{not_lt_of}
 use Rattle.sdm_rules.specs.declared.data.SlopeKind.TheVariants.{Safe}
 use Rattle.sdm_rules.specs.declared.motions.Slice.{Slice}
 use Rattle.sdm_rules.specs.declared.motions.Point.{Point}
@@ -34,7 +35,6 @@ use Rattle.sdm_rules.specs.Triggers.{is_past}
 use Rattle.sdm_rules.specs.Supervision.{Supervision, situation_of, profile_of, row_of, row_in, is_covered_in, is_covered_for, is_met_by_speed}
 use Rattle.sdm_rules.specs.Stop.{IsMotionOn, StopsBySvl, MeetsTarget, IsSpeedTarget, IsSafe}
 use Rattle.sdm_laws.specs.MotionLaws.{IsBounded, IsHeld}
-use Rattle.sdm_laws.proofs.Nearness.{int_lt_in}
 use Rattle.sdm_laws.proofs.CurveNearness.{near_on}
 use Rattle.sdm_laws.proofs.Braking.{within_held, each_held}
 use Rattle.sdm_laws.proofs.MachineOrder.{AreUsable}
@@ -69,8 +69,7 @@ unfolding exact
 not_past on usable f w v bec front e =
     let j = near_on on usable f w v in
     let low = stepped on f w v in
-    let k : (pos 1 *ℤ (front +ℤ pos 0)) ≤ℤ (low +ℤ neg_ℤ (pos (bec * 1))) =
-    by_lt_z (low +ℤ neg_ℤ (pos (bec * 1))) (pos 1 *ℤ (front +ℤ pos 0)) (λ lt. absurd (true≢false (sym (int_lt_in _ _ lt) ∙ e))) (λ le. le) in
+    let k : (pos 1 *ℤ (front +ℤ pos 0)) ≤ℤ (low +ℤ neg_ℤ (pos (bec * 1))) = not_lt_of _ _ e in
     at_most_trans (whole (front +ℤ pos bec)) (whole low) (exact_at on 1 f w (v * v)) j.low_positive (record { crossed = omega (arith, ints) }) j.not_past
 
 pub each : (P Q : Point → Type 0) → ((y : Point) → P y → Q y) → (ys : List Point) → AllByRecursion P ys → AllByRecursion Q ys

@@ -5,9 +5,10 @@ use Rattle.std.proofs.lemmas.Int.{ints, by_lt_z}
 use Rattle.std.proofs.lemmas.Bool.{cases_lt}
 use Rattle.sdm_num.specs.Units.{centimetre}
 use Rattle.sdm_num.proofs.Ints.{scale-+ℤ, scale-≤}
-use Rattle.sdm_num.proofs.Floors.{floor_low, floor_high, scale-<_cancel}
+use Rattle.sdm_num.proofs.Floors.{scale-<_cancel}
 use Rattle.sdm_rules.specs.Curves.{cell_at, cell_start}
 use Rattle.sdm_rules.specs.Motion.{HasPart}
+use Rattle.sdm_laws.proofs.Cells.{cell_low, cell_high}
 use Rattle.sdm_laws.proofs.Segments.{IsInSegment}
 use Rattle.sdm_curve.specs.Maps.{AreStarts}
 use Rattle.sdm_motion.specs.Steps.{Meets}
@@ -20,12 +21,6 @@ start_next m c = rw scale-+ℤ (omega (arith, ints))
 
 start_lt_out : (m : ℕ) (a b : ℤ) → cell_start m a <ℤ cell_start m b → a <ℤ b
 start_lt_out m a b h = scale-<_cancel (m * centimetre) a b h
-
-cell_low : (m : ℕ) (p : ℤ) → 0 < m → cell_start m (cell_at m p) ≤ℤ p
-cell_low m p some = floor_low (m * centimetre) p (omega arith)
-
-cell_high : (m : ℕ) (p : ℤ) → 0 < m → p <ℤ (cell_start m (cell_at m p) +ℤ pos (m * centimetre))
-cell_high m p some = (let h = floor_high (m * centimetre) p (omega arith) in let h' = rw scale-+ℤ at h in omega (arith, ints, h'))
 
 -- a segment with a cell that has a part is met
 pub meets_of : (m : ℕ) (starts : List ℤ) (p p' cell : ℤ) (i : ℕ) → HasPart m cell p p' → IsInSegment starts cell i → Meets m starts i p p'

@@ -1,3 +1,4 @@
+pub mod Comparisons
 pub mod Ints
 pub mod Floors
 pub mod Order

@@ -1,9 +1,10 @@
 -- The order of fractions, each law by scaling cross products, and the lesser and the greater of two.
-use Rattle.std.proofs.Common.{◌≡◌, ℕ, ℤ, pos, true, false, Bool, cond, T, ◌<◌, ◌*ℤ◌, ◌≤ℤ◌, ◌<ℤ◌, int_le, refl, sym, subst, arith}
-use Rattle.std.proofs.lemmas.Int.{ints, by_lt_z}
+use Rattle.std.proofs.Common.{◌≡◌, ℕ, ℤ, pos, true, false, cond, ◌<◌, ◌*ℤ◌, ◌≤ℤ◌, ◌<ℤ◌, int_le, refl, arith}
+use Rattle.std.proofs.lemmas.Int.{ints}
 use Rattle.std.proofs.Math.Nat.{mul-le-mul_left}
 use borrow.Author.Differences.{lt_out}
 use Rattle.sdm_num.specs.Fractions.{Fraction, IsAtMost, IsBefore, whole, lesser, greater}
+use Rattle.sdm_num.proofs.Comparisons.{le_of, not_le_of}
 use Rattle.sdm_num.proofs.Ints.{scales, scale-≤, scale-≤_cancel}
 use Rattle.sdm_num.proofs.Floors.{scale-<_cancel}
 
@@ -50,32 +51,12 @@ whole_at_most a b le = record { crossed = omega (arith, ints) }
 
 -- ---- the lesser and the greater
 
-true_of_T : (b : Bool) → T b → b ≡ true
-true_of_T true t = refl
-true_of_T false t = absurd t
-
-T_of_true : (b : Bool) → b ≡ true → T b
-T_of_true true e = tt
-T_of_true false e = subst T (sym e) tt
-
-le_of_test : (a b : ℤ) → int_le a b ≡ true → a ≤ℤ b
-le_of_test a b e = record { le = T_of_true _ e }
-
-test_of_le : (a b : ℤ) → a ≤ℤ b → int_le a b ≡ true
-test_of_le a b h = true_of_T _ h.le
-
-clash : (b : Bool) → b ≡ true → b ≡ false → ⊥
-clash b e f = cc
-
-le_of_not : (a b : ℤ) → int_le a b ≡ false → b ≤ℤ a
-le_of_not a b e = by_lt_z b a (λ (lt : b <ℤ a). omega (arith, ints)) (λ (le : a ≤ℤ b). absurd (clash _ (test_of_le a b le) e))
-
 -- one of two fractions by the test of their order
 by_order : (P : Fraction → Type 0) (x y a b : Fraction) → (IsAtMost x y → P a) → (IsAtMost y x → P b) → P (cond (int_le (pos y.m *ℤ x.n) (pos x.m *ℤ y.n)) a b)
 by_order P x y a b p q =
     elim (int_le (pos y.m *ℤ x.n) (pos x.m *ℤ y.n)) as (λ t. int_le (pos y.m *ℤ x.n) (pos x.m *ℤ y.n) ≡ t → P (cond t a b)) [
-      | true ↦ λ e. p (record { crossed = le_of_test _ _ e })
-      | false ↦ λ e. q (record { crossed = le_of_not _ _ e })
+      | true ↦ λ e. p (record { crossed = le_of _ _ e })
+      | false ↦ λ e. q (record { crossed = omega (arith, ints, not_le_of (pos y.m *ℤ x.n) (pos x.m *ℤ y.n) e) })
     ] refl
 
 pub lesser_cases : (P : Fraction → Type 0) (x y : Fraction) → (IsAtMost x y → P x) → (IsAtMost y x → P y) → P (lesser x y)

@@ -1,3 +1,4 @@
+pub mod FaultLaws
 pub mod Journeys
 mod ReactionCases
 mod DecelerationCases

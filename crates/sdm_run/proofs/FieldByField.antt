@@ -2,11 +2,11 @@
 -- first line, and where it cannot be read so the first line is none of the form due.
 use Rattle.std.proofs.Common.{◌≡◌, ◌≢◌, ◌⊎◌, inl, inr, ◌≤ℤ◌, ◌<◌, ℕ, ℤ, pos, negsuc, List, [], ◌∷◌, ◌++◌, append-nil, append_assoc, Bool, true, false, eqb, eqb-true, cond, ◌&&◌, length, length-append, Option, Some, None, Result, Ok, Err, int_le, unsigned_abs, refl, ap, ◌∙◌, sym, arith}
 use Rattle.std.proofs.lemmas.Bool.{ne_eqb, and_parts, false≢true}
-use Rattle.std.proofs.lemmas.Int.{ints}
 use Rattle.std.proofs.lemmas.Option.{same_Some}
 use Rattle.std.specs.Char.{is_ascii_digit}
 use Rattle.std.specs.List.{list_all}
 use Rattle.sdm_num.specs.Units.{place_of_mm, notches_of_mm_s}
+use Rattle.sdm_num.proofs.Comparisons.{le_is, le_of}
 use Rattle.sdm_rules.specs.declared.faults.FieldFault.{FieldFault}
 use Rattle.sdm_rules.specs.declared.faults.FieldFault.TheVariants.{OutOfRange}
 use Rattle.sdm_rules.specs.Flat.{FlatLine, before_all, comma_fields, lines_of, flat_line, flat_line_of, with_field}
@@ -169,12 +169,6 @@ last_field (c ∷ cs) field is = by_mark (eqb c 44) (comma_fields cs) refl is (�
 
 -- ---- numbers in their ranges
 
-int_le_from : (a b : ℤ) → a ≤ℤ b → int_le a b ≡ true
-int_le_from a b le = grind (arith, ints)
-
-int_le_true : (a b : ℤ) → int_le a b ≡ true → a ≤ℤ b
-int_le_true a b is = grind (arith, ints)
-
 -- a field that writes a number in a range
 record IsNumberIn (field : List ℕ) (least greatest number : ℤ) : Type 0 where
   writes : number_of field ≡ Some number
@@ -184,7 +178,7 @@ record IsNumberIn (field : List ℕ) (least greatest number : ℤ) : Type 0 wher
 -- what is read of a field whose number lies within the range
 number_read : (field : List ℕ) (least greatest n : ℤ) → IsNumberIn field least greatest n → read_int field least greatest ≡ Ok n
 unfolding read_int
-number_read field least greatest n h = rw h.writes (rw (int_le_from least n h.low, int_le_from n greatest h.high) refl)
+number_read field least greatest n h = rw h.writes (rw (le_is least n h.low, le_is n greatest h.high) refl)
 
 -- a field of which a number is read
 read_number : (field : List ℕ) (least greatest n : ℤ) → read_int field least greatest ≡ Ok n → IsNumberIn field least greatest n
@@ -195,7 +189,7 @@ read_number field least greatest n is = by_number (number_of field) refl is
     by_range m true was within is =
         let same : m ≡ n = cc in
         let bounds = and_parts _ _ within in
-        rw (← same) (record { writes = was; low = int_le_true least m bounds.0; high = int_le_true m greatest bounds.1 })
+        rw (← same) (record { writes = was; low = le_of least m bounds.0; high = le_of m greatest bounds.1 })
     by_range m false was within is = cc
 
     by_number : (o : Option ℤ) → number_of field ≡ o → in_range least greatest o ≡ Ok n → IsNumberIn field least greatest n

@@ -4,10 +4,10 @@ use Rattle.std.proofs.Common.{◌≡◌, ◌⊎◌, ℕ, zero, suc, ℤ, List, [
 use Rattle.std.specs.Option.{option_map_or}
 use Rattle.std.proofs.lemmas.Int.{ints, by_lt_z}
 use Rattle.std.proofs.lemmas.List.{get_or-take, get_or-drop, take-append-drop, map-append}
+use Rattle.sdm_num.proofs.Comparisons.{le_is, not_le_is, lt_is, not_lt_is}
 use Rattle.sdm_rules.specs.Profile.{Zone, capped, covers}
 use Rattle.sdm_speed.specs.declared.steps.Step.{Step}
 use Rattle.sdm_speed.specs.Steps.{AreAfter, AreRising, IsStart, capped_before, capped_step, speeds_of}
-use Rattle.sdm_speed.proofs.ZoneLaws.{le_is, not_le_is, lt_is, not_lt_is}
 use Rattle.sdm_speed.proofs.StepLaws.{first_begun, none_begun, start_after}
 
 -- the starts stay

@@ -1,12 +1,11 @@
 -- A profile of steps falls only where a step starts that is lower than the speed before it.
 use Rattle.std.proofs.Common.{◌≡◌, ℕ, ℤ, pos, List, [], ◌∷◌, Option, Some, None, Bool, true, false, nat_lt, if◌then◌else◌, ◌<◌, ◌≤◌, ◌-ℤ◌, ◌≤ℤ◌, ◌<ℤ◌, refl, sym, ◌∙◌, arith}
 use Rattle.std.proofs.lemmas.Int.{ints, by_lt_z}
-use Rattle.std.proofs.lemmas.Bool.Decides.{nat_tests}
+use Rattle.std.proofs.lemmas.Bool.{le-ltb, lt-ltb, ltb-false, ltb-true}
 use Rattle.sdm_rules.specs.declared.targets.Fall.{Fall}
 use Rattle.sdm_rules.specs.Targets.{is_fall, IsNextFall}
 use Rattle.sdm_speed.specs.declared.steps.Step.{Step}
 use Rattle.sdm_speed.specs.Steps.{AreAfter, IsFallAfter, speeds_of}
-use Rattle.sdm_speed.proofs.StartLaws.{lower, not_lower}
 use Rattle.sdm_speed.proofs.StepLaws.{first_begun, none_begun}
 
 -- the first of the steps that is lower than the speed before it
@@ -15,10 +14,10 @@ first_fall v [] = None
 first_fall v (s ∷ ss) = let next = first_fall s.speed ss in if nat_lt s.speed v then Some (record { cell = s.start; speed = s.speed }) else next
 
 pub falls_first : (v : ℕ) (s : Step) (ss : List Step) → s.speed < v → first_fall v (s ∷ ss) ≡ Some (record { cell = s.start; speed = s.speed })
-falls_first v s ss lt = rw (lower s.speed v lt) refl
+falls_first v s ss lt = rw (lt-ltb s.speed v lt) refl
 
 pub falls_later : (v : ℕ) (s : Step) (ss : List Step) → v ≤ s.speed → first_fall v (s ∷ ss) ≡ first_fall s.speed ss
-falls_later v s ss le = rw (not_lower s.speed v le) refl
+falls_later v s ss le = rw (le-ltb s.speed v le) refl
 
 -- no fall past the cell up to a later one
 abbrev IsQuiet : (ℤ → ℕ) → ℤ → ℤ → Type 0
@@ -56,12 +55,12 @@ module _ (v : ℕ) (s : Step) (ss : List Step) (after : ℤ) (past : after <ℤ 
   at_start = from s.start (omega (arith, ints)) ∙ none_begun s.start s.speed ss s.start later (omega (arith, ints))
 
   quiet_before : (c : ℤ) → c <ℤ s.start → is_fall profile c ≡ false
-  quiet_before c lt = rw (up_to c lt, up_to (c -ℤ pos 1) (omega (arith, ints))) (not_lower v v (omega arith))
+  quiet_before c lt = rw (up_to c lt, up_to (c -ℤ pos 1) (omega (arith, ints))) (le-ltb v v (omega arith))
 
   falls_here : s.speed < v → IsNextFall profile after (record { cell = s.start; speed = s.speed })
   falls_here lt = record {
     beyond = past;
-    falls = rw (at_start, up_to (s.start -ℤ pos 1) (omega (arith, ints))) (lower s.speed v lt);
+    falls = rw (at_start, up_to (s.start -ℤ pos 1) (omega (arith, ints))) (lt-ltb s.speed v lt);
     lower = sym at_start;
     first = λ c a l. quiet_before c l;
   }
@@ -70,15 +69,15 @@ module _ (v : ℕ) (s : Step) (ss : List Step) (after : ℤ) (past : after <ℤ 
   quiet_up_to le c a l =
       by_lt_z c s.start
       (λ (lt : c <ℤ s.start). quiet_before c lt)
-      (λ (ge : s.start ≤ℤ c). let e : c ≡ s.start = omega (arith, ints) in rw (e, at_start, up_to (s.start -ℤ pos 1) (omega (arith, ints))) (not_lower s.speed v le))
+      (λ (ge : s.start ≤ℤ c). let e : c ≡ s.start = omega (arith, ints) in rw (e, at_start, up_to (s.start -ℤ pos 1) (omega (arith, ints))) (le-ltb s.speed v le))
 
   by_speed : (b : Bool) → nat_lt s.speed v ≡ b → IsFallAfter (speeds_of s.speed ss) s.start (first_fall s.speed ss) → IsFallAfter profile after (if b then Some (record { cell = s.start; speed = s.speed }) else first_fall s.speed ss)
-  by_speed true is rest = falls_here (grind (arith, nat_tests))
-  by_speed false is rest = fall_past profile (speeds_of s.speed ss) after s.start (first_fall s.speed ss) (omega (arith, ints)) (quiet_up_to (grind (arith, nat_tests))) from rest
+  by_speed true is rest = falls_here (ltb-true s.speed v is)
+  by_speed false is rest = fall_past profile (speeds_of s.speed ss) after s.start (first_fall s.speed ss) (omega (arith, ints)) (quiet_up_to (ltb-false s.speed v is)) from rest
 
 -- it is the next fall past a cell before them all
 pub first_fall_is : (v : ℕ) (ss : List Step) (after : ℤ) → AreAfter after ss → IsFallAfter (speeds_of v ss) after (first_fall v ss)
-first_fall_is v [] after h = λ c a. not_lower v v (omega arith)
+first_fall_is v [] after h = λ c a. le-ltb v v (omega arith)
 first_fall_is v (s ∷ ss) after h = by_speed v s ss after h.0 h.1 (nat_lt s.speed v) refl (first_fall_is s.speed ss s.start h.1)
 
 -- a profile that is the same from a cell on falls next where this one does

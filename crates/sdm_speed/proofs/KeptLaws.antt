@@ -1,17 +1,19 @@
 -- What the fields of a profile say of its value: how many restrictions there are, and that the steps give the MRSP.
-use Rattle.std.proofs.Common.{◌≡◌, ℕ, ℤ, pos, List, ◌++◌, length, map, Option, Some, None, MatchOption, IfSome, All, true, sym, ap, subst, ◌∙◌, arith}
+use Rattle.std.proofs.Common.{◌≡◌, ℕ, ℤ, pos, List, ◌++◌, length, map, Option, Some, None, MatchOption, IfSome, All, true, ◌≤◌, sym, ap, subst, ◌∙◌, arith}
+use Rattle.std.specs.Ordering.{nat_cmp}
 use Rattle.std.specs.FinMap as finite
 use Rattle.std.proofs.lemmas.Int.{ints}
 use Rattle.std.proofs.lemmas.List.Elements.{All-append, All-map}
 use Rattle.sdm_rules.specs.declared.restrictions.Restriction.{Restriction}
 use Rattle.sdm_rules.specs.declared.targets.Fall.{Fall}
 use Rattle.sdm_rules.specs.Profile.{Zone, lowest_limit, zone_of}
+use Rattle.sdm_rules.specs.Records.{most_restrictions}
 use Rattle.sdm_rules.specs.Targets.{is_fall, IsNextFall, HasNoFall}
 use Rattle.sdm_speed.specs.declared.profiles.Profile.TheInside.{Inside}
 use Rattle.sdm_speed.specs.Held.{IsHeld}
 use Rattle.sdm_speed.specs.Zones.{IsLimit, IsZone, IsFallInRange, limits_of}
 use Rattle.sdm_speed.specs.Steps.{speeds_of}
-use Rattle.sdm_speed.specs.Profiles.{ProfileData, mrsp_of}
+use Rattle.sdm_speed.specs.Profiles.{IsProfile, ProfileData, mrsp_of}
 use Rattle.sdm_speed.specs.ProfileFields.{data_of, static_zones_of, held_zones_of, IsKept}
 use Rattle.sdm_speed.proofs.ZoneLaws.{lowest_limit-append}
 use Rattle.sdm_speed.proofs.StartLaws.{starts_at_fall, start_on_track}
@@ -25,6 +27,10 @@ held_zone length_cm r held = record {
   on_track = λ first is. let same : pos r.start ≡ first = cc in rw (← same) (omega (arith, ints, held.some_cell, held.on_track));
   limited = held.limited;
 }
+
+-- with other restrictions, but not too many, a profile stays in its ranges
+pub with_held : (p : ProfileData) (held : finite.FinMap nat_cmp Restriction) → IsProfile p → finite.len held ≤ most_restrictions → IsProfile (record p { restrictions = held })
+with_held p held h few = record { top = h.top; shortest_train = h.shortest_train; longest_train = h.longest_train; longest_track = h.longest_track; speeds = h.speeds; few = few }
 
 module _ (f : Inside) (kept : IsKept f) where
   -- as many restrictions as are held

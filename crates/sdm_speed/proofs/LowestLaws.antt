@@ -2,10 +2,10 @@
 -- the last.
 use Rattle.std.proofs.Common.{◌≡◌, ℕ, zero, suc, ℤ, pos, List, [], ◌∷◌, min, int_le, if◌then◌else◌, ◌≤◌, ◌+ℤ◌, ◌≤ℤ◌, ◌<ℤ◌, refl, arith}
 use Rattle.std.proofs.lemmas.Int.{ints, by_lt_z}
+use Rattle.sdm_num.proofs.Comparisons.{le_is, not_le_is}
 use Rattle.sdm_rules.specs.Cells.{lowest}
 use Rattle.sdm_speed.specs.declared.steps.Step.{Step}
 use Rattle.sdm_speed.specs.Steps.{AreAfter, speeds_of}
-use Rattle.sdm_speed.proofs.ZoneLaws.{le_is, not_le_is}
 use Rattle.sdm_speed.proofs.StepLaws.{first_begun, none_begun}
 
 -- speeds that are the same from a cell on have the same lowest

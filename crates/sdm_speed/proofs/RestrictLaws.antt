@@ -1,37 +1,29 @@
 -- When a restriction is refused: each cause by what is held, and what holds where there is none.
-use Rattle.std.proofs.Common.{◌≡◌, ℕ, ℤ, pos, Some, None, Bool, true, false, ◌||◌, nat_le, int_lt, if◌then◌else◌, inl, inr, ◌<◌, ◌≤◌, ◌≤ℤ◌, ◌<ℤ◌, refl, arith}
+use Rattle.std.proofs.Common.{◌≡◌, ℕ, ℤ, pos, Some, None, Bool, true, false, ◌||◌, nat_le, int_lt, if◌then◌else◌, ◌<◌, ◌≤◌, ◌≤ℤ◌, ◌<ℤ◌, refl}
 use Rattle.std.specs.Ordering.{nat_cmp}
 use Rattle.std.specs.FinMap as finite
-use Rattle.std.proofs.lemmas.Int.{by_lt_z}
-use Rattle.std.proofs.lemmas.Bool.{cases_lt}
-use Rattle.std.proofs.lemmas.Bool.Decides.{nat_tests}
+use Rattle.std.proofs.lemmas.Bool.{le-leb, lt-leb, leb-false}
+use Rattle.sdm_num.proofs.Comparisons.{lt_is, not_lt_is, not_lt_of}
 use Rattle.sdm_rules.specs.declared.restrictions.Restriction.{Restriction}
 use Rattle.sdm_rules.specs.declared.faults.RestrictFault.TheVariants.{Full, IdInUse, Value}
 use Rattle.sdm_rules.specs.Records.{restrict_fault, most_restrictions}
-use Rattle.sdm_speed.proofs.ZoneLaws.{lt_is, not_lt_is}
-
-le_yes : (a b : ℕ) → a ≤ b → nat_le a b ≡ true
-le_yes a b h = grind (arith, nat_tests)
-
-le_no : (a b : ℕ) → b < a → nat_le a b ≡ false
-le_no a b h = grind (arith, nat_tests)
 
 module _ (track_cm : ℤ) (held : finite.FinMap nat_cmp Restriction) (r : Restriction) where
   pub refused_as_full : most_restrictions ≤ finite.len held → restrict_fault track_cm held r ≡ Some Full
-  refused_as_full full = rw (le_yes most_restrictions (finite.len held) full) refl
+  refused_as_full full = rw (le-leb most_restrictions (finite.len held) full) refl
 
   module _ (room : finite.len held < most_restrictions) where
     pub refused_as_in_use : finite.contains_key held r.id ≡ true → restrict_fault track_cm held r ≡ Some (IdInUse r.id)
-    refused_as_in_use in_use = rw (le_no most_restrictions (finite.len held) room, in_use) refl
+    refused_as_in_use in_use = rw (lt-leb most_restrictions (finite.len held) room, in_use) refl
 
     pub refused_as_empty : finite.contains_key held r.id ≡ false → r.end ≤ r.start → restrict_fault track_cm held r ≡ Some Value
-    refused_as_empty new empty = rw (le_no most_restrictions (finite.len held) room, new, le_yes r.end r.start empty) refl
+    refused_as_empty new empty = rw (lt-leb most_restrictions (finite.len held) room, new, le-leb r.end r.start empty) refl
 
     pub refused_past_end : finite.contains_key held r.id ≡ false → r.start < r.end → track_cm <ℤ pos r.end → restrict_fault track_cm held r ≡ Some Value
-    refused_past_end new some past = rw (le_no most_restrictions (finite.len held) room, new, le_no r.end r.start some, lt_is track_cm (pos r.end) past) refl
+    refused_past_end new some past = rw (lt-leb most_restrictions (finite.len held) room, new, lt-leb r.end r.start some, lt_is track_cm (pos r.end) past) refl
 
     pub not_refused : finite.contains_key held r.id ≡ false → r.start < r.end → pos r.end ≤ℤ track_cm → restrict_fault track_cm held r ≡ None
-    not_refused new some on = rw (le_no most_restrictions (finite.len held) room, new, le_no r.end r.start some, not_lt_is track_cm (pos r.end) on) refl
+    not_refused new some on = rw (lt-leb most_restrictions (finite.len held) room, new, lt-leb r.end r.start some, not_lt_is track_cm (pos r.end) on) refl
 
 -- what holds of a restriction that is not refused
 pub record IsAccepted (track_cm : ℤ) (held : finite.FinMap nat_cmp Restriction) (r : Restriction) : Type 0 where
@@ -51,8 +43,8 @@ pub accepted : (track_cm : ℤ) (held : finite.FinMap nat_cmp Restriction) (r : 
 accepted track_cm held r none =
     let tests = by_tests (nat_le most_restrictions (finite.len held)) (finite.contains_key held r.id) (nat_le r.end r.start) (int_lt track_cm (pos r.end)) r.id none in
     record {
-      room = elim (cases_lt (finite.len held) most_restrictions) [ inl lt ↦ lt | inr ge ↦ (let t = le_yes most_restrictions (finite.len held) ge in let f = tests.0 in absurd cc) ];
+      room = leb-false _ _ tests.0;
       new = tests.1;
-      some = elim (cases_lt r.start r.end) [ inl lt ↦ lt | inr ge ↦ (let t = le_yes r.end r.start ge in let f = tests.2 in absurd cc) ];
-      on_track = by_lt_z track_cm (pos r.end) (λ (l : track_cm <ℤ pos r.end). let t = lt_is track_cm (pos r.end) l in let f = tests.3 in absurd cc) (λ (g : pos r.end ≤ℤ track_cm). g);
+      some = leb-false _ _ tests.2;
+      on_track = not_lt_of _ _ tests.3;
     }

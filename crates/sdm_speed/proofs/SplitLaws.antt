@@ -3,9 +3,9 @@
 use Rattle.std.proofs.Common.{◌≡◌, ℕ, zero, suc, ℤ, List, [], ◌∷◌, length, get_or, Bool, true, false, if◌then◌else◌, int_le, inl, inr, ◌<◌, ◌≤ℤ◌, ◌<ℤ◌, refl, sym, ap, ◌∙◌, arith}
 use Rattle.std.specs.List.{insert}
 use Rattle.std.proofs.lemmas.Int.{ints, by_lt_z}
+use Rattle.sdm_num.proofs.Comparisons.{not_le_is}
 use Rattle.sdm_speed.specs.declared.steps.Step.{Step}
 use Rattle.sdm_speed.specs.Steps.{AreAfter, AreRising, IsStart, KeepsStarts, speed_to, speeds_of}
-use Rattle.sdm_speed.proofs.ZoneLaws.{not_le_is}
 use Rattle.sdm_speed.proofs.StepLaws.{first_begun}
 
 either : (b : Bool) (v : ℕ) → (if b then v else v) ≡ v

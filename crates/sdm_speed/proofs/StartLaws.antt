@@ -1,15 +1,16 @@
 -- A profile falls only where a zone begins: a zone that covers a cell and does not begin there covers the cell before it too.
-use Rattle.std.proofs.Common.{◌≡◌, ℕ, suc, ℤ, pos, List, [], ◌∷◌, Option, Some, None, Bool, true, false, ◌&&◌, ◌||◌, nat_lt, int_le, int_lt, if◌then◌else◌, min, ◌<◌, ◌≤◌, ◌-ℤ◌, ◌≤ℤ◌, ◌<ℤ◌, refl, sym, ap, arith, All}
+use Rattle.std.proofs.Common.{◌≡◌, ℕ, suc, ℤ, pos, List, [], ◌∷◌, Option, Some, None, Bool, true, false, ◌||◌, int_le, int_lt, if◌then◌else◌, min, ◌≤◌, ◌-ℤ◌, ◌≤ℤ◌, ◌<ℤ◌, refl, sym, ap, ◌∙◌, arith, All}
 use Rattle.std.specs.List.{list_any}
 use Rattle.std.specs.Option.{option_map_or}
 use Rattle.std.specs.Ordering.{int_eq}
 use Rattle.std.proofs.lemmas.Int.{ints, by_lt_z}
-use Rattle.std.proofs.lemmas.Bool.Decides.{Decides-int_eq, nat_tests}
+use Rattle.std.proofs.lemmas.Bool.{true≢false, true_from_ne_false, and_from, and_parts, or_parts, le-ltb}
+use Rattle.std.proofs.lemmas.Bool.Decides.{Decides-int_eq}
+use Rattle.sdm_num.proofs.Comparisons.{le_is, le_of, lt_is, lt_of}
 use Rattle.sdm_rules.specs.Profile.{Zone, covers, lowest_limit}
 use Rattle.sdm_rules.specs.Targets.{is_fall}
 use Rattle.sdm_track.specs.Ranges.{longest_track}
 use Rattle.sdm_speed.specs.Zones.{IsZone, limits_of}
-use Rattle.sdm_speed.proofs.ZoneLaws.{le_is, not_le_is, lt_is, not_lt_is}
 
 -- the zone begins at the cell
 abbrev pub starts_at : ℤ → Zone → Bool
@@ -27,77 +28,41 @@ eq_is a b e = (Decides-int_eq a b).1 e
 eq_of : (a b : ℤ) → int_eq a b ≡ true → a ≡ b
 eq_of a b t = (Decides-int_eq a b).0 t
 
-not_both : (b : Bool) → b ≡ true → b ≡ false → ⊥
-not_both b t f = cc
-
-and_first : (a b : Bool) → (a && b) ≡ true → a ≡ true
-and_first true b h = refl
-and_first false b h = h
-
-and_second : (a b : Bool) → (a && b) ≡ true → b ≡ true
-and_second true b h = h
-and_second false b h = cc
-
-and_both : (a b : Bool) → a ≡ true → b ≡ true → (a && b) ≡ true
-and_both a b h k = rw (h, k) refl
-
-or_first : (a b : Bool) → (a || b) ≡ false → a ≡ false
-or_first true b h = h
-or_first false b h = refl
-
-or_second : (a b : Bool) → (a || b) ≡ false → b ≡ false
-or_second true b h = cc
-or_second false b h = h
-
 -- ---- no fall where no zone begins
 
 begun_before : (first : Option ℤ) (c : ℤ) → option_map_or (int_eq c) first false ≡ false → option_map_or (λ f. int_le f c) first true ≡ true → option_map_or (λ f. int_le f (c -ℤ pos 1)) first true ≡ true
 begun_before None c off on = refl
 begun_before (Some f) c off on =
-    by_lt_z c f
-    (λ (l : c <ℤ f). absurd (not_both _ on (not_le_is f c l)))
-    (λ (g : f ≤ℤ c). by_lt_z f c
+    let begun = le_of f c on in
+    by_lt_z f c
     (λ (l : f <ℤ c). le_is f (c -ℤ pos 1) (omega (arith, ints)))
-    (λ (m : c ≤ℤ f). absurd (not_both _ (eq_is c f (omega (arith, ints))) off)))
+    (λ (m : c ≤ℤ f). absurd (true≢false (sym (eq_is c f (omega (arith, ints))) ∙ off)))
 
 goes_on_before : (past : Option ℤ) (c : ℤ) → option_map_or (λ p. int_lt c p) past true ≡ true → option_map_or (λ p. int_lt (c -ℤ pos 1) p) past true ≡ true
 goes_on_before None c on = refl
-goes_on_before (Some p) c on =
-    by_lt_z c p
-    (λ (l : c <ℤ p). lt_is (c -ℤ pos 1) p (omega (arith, ints)))
-    (λ (g : p ≤ℤ c). absurd (not_both _ on (not_lt_is c p g)))
+goes_on_before (Some p) c on = lt_is (c -ℤ pos 1) p (omega (arith, ints, lt_of c p on))
 
 -- a zone that covers the cell and does not begin there
 covers_before : (z : Zone) (c : ℤ) → starts_at c z ≡ false → covers c z ≡ true → covers (c -ℤ pos 1) z ≡ true
-covers_before z c off on = and_both _ _ (begun_before z.first c off (and_first _ _ on)) (goes_on_before z.past c (and_second _ _ on))
+covers_before z c off on = and_from _ _ (begun_before z.first c off (and_parts _ _ on).0) (goes_on_before z.past c (and_parts _ _ on).1)
 
 capped_no_fall : (a b : Bool) (k m n : ℕ) → (b ≡ true → a ≡ true) → m ≤ n → (if a then min k m else m) ≤ (if b then min k n else n)
 capped_no_fall true true k m n both le = omega arith
 capped_no_fall true false k m n both le = omega arith
-capped_no_fall false true k m n both le = absurd (not_both false (both refl) refl)
+capped_no_fall false true k m n both le = absurd (true≢false (sym (both refl)))
 capped_no_fall false false k m n both le = le
 
 no_lower : (top : ℕ) (zs : List Zone) (c : ℤ) → has_start zs c ≡ false → lowest_limit top (c -ℤ pos 1) zs ≤ lowest_limit top c zs
 no_lower top [] c off = omega arith
 no_lower top (z ∷ zs) c off =
-    capped_no_fall (covers (c -ℤ pos 1) z) (covers c z) z.limit _ _ (covers_before z c (or_first _ _ off)) (no_lower top zs c (or_second _ _ off))
-
-pub not_lower : (m n : ℕ) → n ≤ m → nat_lt m n ≡ false
-not_lower m n le = grind (arith, nat_tests)
-
-pub lower : (m n : ℕ) → m < n → nat_lt m n ≡ true
-lower m n lt = grind (arith, nat_tests)
+    capped_no_fall (covers (c -ℤ pos 1) z) (covers c z) z.limit _ _ (covers_before z c (or_parts _ _ off).0) (no_lower top zs c (or_parts _ _ off).1)
 
 pub no_fall : (top : ℕ) (zs : List Zone) (c : ℤ) → has_start zs c ≡ false → is_fall (limits_of top zs) c ≡ false
-no_fall top zs c off = not_lower _ _ (no_lower top zs c off)
+no_fall top zs c off = le-ltb _ _ (no_lower top zs c off)
 
 -- so a fall lies where a zone begins
 pub starts_at_fall : (top : ℕ) (zs : List Zone) (c : ℤ) → is_fall (limits_of top zs) c ≡ true → has_start zs c ≡ true
-starts_at_fall top zs c falls = by_start (has_start zs c) refl
-  where
-    by_start : (b : Bool) → has_start zs c ≡ b → b ≡ true
-    by_start true e = refl
-    by_start false e = absurd (not_both _ falls (no_fall top zs c e))
+starts_at_fall top zs c falls = true_from_ne_false _ (λ off. true≢false (sym falls ∙ no_fall top zs c off))
 
 start_is : (first : Option ℤ) (c : ℤ) → option_map_or (int_eq c) first false ≡ true → first ≡ Some c
 start_is None c here = absurd cc

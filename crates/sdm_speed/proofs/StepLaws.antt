@@ -3,9 +3,9 @@
 use Rattle.std.proofs.Common.{◌≡◌, ℕ, zero, suc, ℤ, pos, List, [], ◌∷◌, length, get_or, drop, int_lt, inl, inr, ◌<◌, ◌≤◌, ◌≤ℤ◌, ◌<ℤ◌, refl, ◌∙◌, arith}
 use Rattle.std.specs.List.Sorted.{IsPartitionedBy}
 use Rattle.std.proofs.lemmas.Int.{ints}
+use Rattle.sdm_num.proofs.Comparisons.{le_is, not_le_is, lt_is, lt_of}
 use Rattle.sdm_speed.specs.declared.steps.Step.{Step}
 use Rattle.sdm_speed.specs.Steps.{AreAfter, AreRising, IsStart, speed_to, speeds_of}
-use Rattle.sdm_speed.proofs.ZoneLaws.{le_is, not_le_is, lt_is, lt_of}
 
 -- stands for a step that there is not
 abbrev pub none : Step

@@ -1,28 +1,8 @@
 -- The lowest limit of zones in a cell, in whatever order they are taken.
-use Rattle.std.proofs.Common.{◌≡◌, ℕ, ℤ, pos, negsuc, List, [], ◌∷◌, ◌++◌, Bool, true, false, int_le, int_lt, if◌then◌else◌, min, ◌+ℤ◌, ◌≤ℤ◌, ◌<ℤ◌, refl, sym, ap, ◌∙◌, arith, rules}
+use Rattle.std.proofs.Common.{◌≡◌, ℕ, ℤ, pos, negsuc, List, [], ◌∷◌, ◌++◌, Bool, true, false, if◌then◌else◌, min, ◌+ℤ◌, ◌≤ℤ◌, refl, sym, ap, ◌∙◌, arith}
 use Rattle.std.specs.Int.{int_gap}
 use Rattle.std.proofs.lemmas.Int.{ints}
 use Rattle.sdm_rules.specs.Profile.{Zone, covers, capped, lowest_limit}
-
--- ---- tests of whole numbers
-
-pub le_is : (a b : ℤ) → a ≤ℤ b → int_le a b ≡ true
-le_is a b h = sym (search (rules, ints))
-
-pub not_le_is : (a b : ℤ) → b <ℤ a → int_le a b ≡ false
-not_le_is a b h = sym (search (rules, ints))
-
-pub lt_is : (a b : ℤ) → a <ℤ b → int_lt a b ≡ true
-lt_is a b h = sym (search (rules, ints))
-
-pub not_lt_is : (a b : ℤ) → b ≤ℤ a → int_lt a b ≡ false
-not_lt_is a b h = sym (search (rules, ints))
-
-pub lt_of : (a b : ℤ) → int_lt a b ≡ true → a <ℤ b
-lt_of a b h = grind (arith, ints)
-
-pub not_lt_of : (a b : ℤ) → int_lt a b ≡ false → b ≤ℤ a
-not_lt_of a b h = grind (arith, ints)
 
 -- ---- one cell
 

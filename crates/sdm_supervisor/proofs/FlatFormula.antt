@@ -6,7 +6,7 @@ use Rattle.std.specs.Int.{int_div_euclid}
 use Rattle.sdm_num.specs.Units.{millimetre, centimetre, notches_of_mm_s}
 use Rattle.sdm_num.specs.Fractions.{Fraction, whole}
 use Rattle.sdm_num.specs.Bounds.{mm_below}
-use Rattle.sdm_num.proofs.Ints.{scales, scale-+ℤ, scale-neg, scale-scale, scale-≤, scale-≤_cancel}
+use Rattle.sdm_num.proofs.Ints.{scales, scale-+ℤ, scale-neg, scale-scale, scale-swap, scale-≤, scale-≤_cancel}
 use Rattle.sdm_num.proofs.Floors.{floor_low, floor_high, floor_is, scale-<_cancel}
 use Rattle.sdm_rules.specs.Cells.{border_of}
 use Rattle.sdm_rules.specs.Curves.{arc_back, back, grain_energy, exact}
@@ -14,7 +14,6 @@ use Rattle.sdm_rules.specs.Flat.{flat_slopes}
 use Rattle.sdm_rules.specs.Supervision.{whole_mm}
 use Rattle.sdm_laws.specs.Energy.{energy}
 use Rattle.sdm_laws.proofs.Energy.{energy_at_most, energy_at_least}
-use Rattle.sdm_laws.proofs.Nearness.{scale-swap}
 use Rattle.sdm_laws.proofs.Walks.{IsBackBy, back-is}
 use Rattle.sdm_supervisor.specs.Flats.{ebi_mm}
 use Rattle.sdm_supervisor.proofs.FlatCurves.{exact_arc}

@@ -3,7 +3,6 @@ mod LimitOrder
 mod SilentLaw
 mod SituationLaws
 mod CeilingLaw
-mod LineLaws
 mod FindLaws
 mod CycleLaws
 pub mod FlatCurves

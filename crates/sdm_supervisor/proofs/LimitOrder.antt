@@ -1,13 +1,13 @@
 -- The indication limit of a target is the first of its computed limits: each lies so many grains before another one, or is the lesser of two
 -- places. So a front end that is not past it is past none.
-use Rattle.std.proofs.Common.{◌≡◌, ℕ, ℤ, pos, neg_ℤ, Bool, true, false, ◌*◌, ◌+ℤ◌, ◌*ℤ◌, ◌≤ℤ◌, ◌<ℤ◌, int_lt, Option, Some, None, T, refl, sym, subst, ◌∙◌, arith, if◌then◌else◌}
+use Rattle.std.proofs.Common.{◌≡◌, ℕ, ℤ, pos, neg_ℤ, true, false, ◌*◌, ◌+ℤ◌, ◌*ℤ◌, ◌≤ℤ◌, int_lt, Option, Some, None, refl, arith, if◌then◌else◌}
 use Rattle.std.specs.Prelude.{option_map}
 use Rattle.std.specs.Option.{option_map_or}
-use Rattle.std.proofs.lemmas.Bool.{false≢true}
 use Rattle.std.proofs.lemmas.Int.{ints}
 use Rattle.sdm_num.specs.Units.{way_in}
 use Rattle.sdm_num.specs.Fractions.{Fraction, less, lesser, whole}
 use Rattle.sdm_num.specs.Readings.{OdometerReading}
+use Rattle.sdm_num.proofs.Comparisons.{not_lt_is, not_lt_of}
 use Rattle.sdm_num.proofs.Order.{lesser_cases}
 use Rattle.sdm_rules.specs.declared.data.SlopeKind.TheVariants.{Safe, Expected, Normal}
 use Rattle.sdm_rules.specs.declared.data.Times.{Times}
@@ -21,7 +21,6 @@ use Rattle.sdm_rules.specs.Limits.{SupervisionLimits, computed, d_bec_for, ebd_l
 use Rattle.sdm_rules.specs.Reaction.{driver_time, line_times, warning_time}
 use Rattle.sdm_rules.specs.Targets.{foot_speed_of, target_speed}
 use Rattle.sdm_rules.specs.Triggers.{is_past}
-use Rattle.sdm_laws.proofs.Nearness.{int_lt_in}
 
 -- a front end is past none of these limits
 pub record IsPastNone (front : ℤ) (l : SupervisionLimits) : Type 0 where
@@ -30,16 +29,9 @@ pub record IsPastNone (front : ℤ) (l : SupervisionLimits) : Type 0 where
   pub warning : is_past 0 front l.warning ≡ false
   pub permitted : is_past 0 front l.permitted ≡ false
 
-not_true : (b : Bool) → (b ≡ true → ⊥) → b ≡ false
-not_true true h = absurd (h refl)
-not_true false h = refl
-
 -- what is not past a place is not past a later one
 later : (a b front : ℤ) → a ≤ℤ b → int_lt a front ≡ false → int_lt b front ≡ false
-later a b front le ahead = not_true (int_lt b front) (λ past. false≢true (sym ahead ∙ int_lt_in a front (before past)))
-  where
-    before : int_lt b front ≡ true → a <ℤ front
-    before past = let lt : b <ℤ front = record { lt = subst T (sym past) tt } in omega (arith, ints)
+later a b front le ahead = not_lt_is b front (omega (arith, ints, not_lt_of a front ahead))
 
 -- a place lies past itself less some grains
 of_less : (front : ℤ) (x : Fraction) (k : ℕ) → is_past 0 front (less x k) ≡ false → is_past 0 front x ≡ false

@@ -1,10 +1,10 @@
 -- What targets say, target by target: a list's verdict is that of its first target and of the rest together, so what was said so far and
 -- what is still to be said make the whole.
-use Rattle.std.proofs.Common.{◌≡◌, ℤ, Bool, true, false, ◌||◌, ◌&&◌, ℕ, suc, List, [], ◌∷◌, length, drop, get_or, ◌+◌, ◌<◌, ◌≤◌, Option, Some, None, refl, ap, sym, ◌∙◌, arith}
+use Rattle.std.proofs.Common.{◌≡◌, ℤ, ℕ, suc, List, [], ◌∷◌, length, drop, get_or, ◌+◌, ◌<◌, ◌≤◌, Option, Some, None, refl, ap, sym, ◌∙◌, arith}
 use Rattle.std.specs.Int.{int_min}
 use Rattle.std.proofs.lemmas.Int.{ints, clamps}
 use Rattle.std.proofs.lemmas.List.{drop_all}
-use Rattle.std.proofs.Math.Bool.{or_assoc, and_assoc}
+use Rattle.std.proofs.Math.Bool.{and-true, and_assoc, or-false, or_assoc}
 use Rattle.std.proofs.Math.Seq.{drop-cons}
 use Rattle.sdm_num.specs.Readings.{OdometerReading}
 use Rattle.sdm_rules.specs.declared.targets.Target.{Target}
@@ -26,14 +26,6 @@ nearer_assoc (Some x) (Some y) (Some z) = ap Some (int_min_assoc x y z)
 nearer_none : (a : Option ℤ) → nearer a None ≡ a
 nearer_none None = refl
 nearer_none (Some x) = refl
-
-or_false : (a : Bool) → (a || false) ≡ a
-or_false true = refl
-or_false false = refl
-
-and_true : (a : Bool) → (a && true) ≡ a
-and_true true = refl
-and_true false = refl
 
 nearer_limits_assoc : (a b c : Nearest) → nearer_limits (nearer_limits a b) c ≡ nearer_limits a (nearer_limits b c)
 nearer_limits_assoc a b c = λ k. record {
@@ -59,12 +51,12 @@ both_assoc a b c = λ k. record {
 pub both_none : (d : LineData) (r : OdometerReading) (a : Verdict) → both a (verdict_of d r []) ≡ a
 unfolding verdict_of
 both_none d r a = λ k. record {
-  over = or_false a.over k;
-  warn = or_false a.warn k;
-  serv = or_false a.serv k;
-  emer = or_false a.emer k;
-  indicated = or_false a.indicated k;
-  covered = and_true a.covered k;
+  over = or-false a.over k;
+  warn = or-false a.warn k;
+  serv = or-false a.serv k;
+  emer = or-false a.emer k;
+  indicated = or-false a.indicated k;
+  covered = and-true a.covered k;
   nearest = record {
     ebi = nearer_none a.nearest.ebi k;
     sbi = nearer_none a.nearest.sbi k;

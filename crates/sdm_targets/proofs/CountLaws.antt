@@ -6,12 +6,12 @@ use Rattle.std.specs.FinMap as finite
 use Rattle.std.proofs.lemmas.Int.{ints, by_lt_z}
 use Rattle.std.proofs.lemmas.Bool.Decides.{Decides-int_eq}
 use Rattle.std.proofs.lemmas.List.{length-map}
+use Rattle.sdm_num.proofs.Comparisons.{le_is, not_le_is}
 use Rattle.sdm_rules.specs.declared.data.SpeedStep.{SpeedStep}
 use Rattle.sdm_rules.specs.declared.targets.Fall.{Fall}
 use Rattle.sdm_rules.specs.Profile.{Zone, static_zones, zones_of_track, zone_of}
 use Rattle.sdm_rules.specs.Targets.{IsNextFall}
 use Rattle.sdm_speed.specs.Profiles.{ProfileData, zones_of, mrsp_of, IsProfile}
-use Rattle.sdm_speed.proofs.ZoneLaws.{le_is, not_le_is}
 use Rattle.sdm_speed.proofs.StartLaws.{starts_at, has_start, starts_at_fall}
 use Rattle.sdm_targets.specs.Lists.{most_falls}
 

@@ -1,9 +1,10 @@
 -- A track that breaks no rule is within its ranges: where each entry, and each pair of neighbours, was tested in turn with no
 -- fault, all of them keep the rule.
-use Rattle.std.proofs.Common.{◌≡◌, ℕ, zero, suc, ℤ, pos, neg_ℤ, ◌<◌, ◌≤◌, ◌+ℤ◌, ◌-ℤ◌, ◌≤ℤ◌, Bool, true, false, int_le, int_lt, nat_le, ◌&&◌, if◌then◌else◌, List, [], ◌∷◌, length, get_or, Option, Some, None, inl, inr, refl, arith}
+use Rattle.std.proofs.Common.{◌≡◌, ℕ, zero, suc, ℤ, pos, neg_ℤ, ◌<◌, ◌≤◌, ◌+ℤ◌, ◌-ℤ◌, ◌≤ℤ◌, Bool, true, false, nat_le, if◌then◌else◌, List, [], ◌∷◌, length, get_or, Option, Some, None, inl, inr, refl, arith}
 use Rattle.std.proofs.lemmas.Int.{ints}
-use Rattle.std.proofs.lemmas.Bool.{cases_lt}
+use Rattle.std.proofs.lemmas.Bool.{and_parts, cases_lt}
 use Rattle.std.proofs.lemmas.Bool.Decides.{nat_tests}
+use Rattle.sdm_num.proofs.Comparisons.{le_of, not_lt_of}
 use Rattle.sdm_rules.specs.declared.data.Gradient.{Gradient}
 use Rattle.sdm_rules.specs.declared.data.SpeedStep.{SpeedStep}
 use Rattle.sdm_rules.specs.declared.data.Area.{Area}
@@ -11,16 +12,12 @@ use Rattle.sdm_rules.specs.declared.faults.TrackFault.TheVariants.{Count, Value}
 use Rattle.sdm_rules.specs.declared.faults.Section.{Section}
 use Rattle.sdm_rules.specs.declared.faults.Section.TheVariants as sections
 use Rattle.sdm_rules.specs.Data.{TrackData}
-use Rattle.sdm_rules.specs.Ranges.{or_else, refused, first_refused, fault_at, is_within, count_fault, value_fault, gap_fault, order_fault, length_fault, gradients_fault, speeds_fault, areas_fault, track_fault, gradient_refused, speed_refused, area_refused, steepest, most_gradients, most_speeds, most_areas}
+use Rattle.sdm_rules.specs.Ranges.{or_else, refused, first_refused, is_within, count_fault, value_fault, gap_fault, order_fault, length_fault, gradients_fault, speeds_fault, areas_fault, track_fault, gradient_refused, speed_refused, area_refused, steepest, most_gradients, most_speeds, most_areas}
+use Rattle.sdm_rules.proofs.FaultLaws.{neither, not_refused}
 use Rattle.sdm_track.specs.Steps.{IsFromZero, IsRising}
 use Rattle.sdm_track.specs.Ranges.{IsGradient, IsSpeedStep, IsArea, AreGradients, AreSpeeds, AreAreas, IsTrack}
 
 -- ---- tests that found no fault
-
--- neither of two faults
-neither : {A : Type 0} (x y : Option A) → or_else x y ≡ None → (x ≡ None) × (y ≡ None)
-neither None y e = (refl, e)
-neither (Some x) y e = cc
 
 -- a test that gives no fault is passed
 passed : {F : Type 0} (test : Bool) (fault : F) → (if test then None else Some fault) ≡ None → test ≡ true
@@ -32,25 +29,9 @@ not_found : {F : Type 0} (test : Bool) (fault : F) (later : Option F) → (if te
 not_found true fault later e = cc
 not_found false fault later e = (refl, e)
 
--- no fault at a key: no key is refused
-not_refused : {F : Type 0} (fault : ℕ → F) (key : Option ℕ) → fault_at fault key ≡ None → key ≡ None
-not_refused fault None e = refl
-not_refused fault (Some key) e = cc
-
--- both tests are passed
-both_true : (a b : Bool) → (a && b) ≡ true → (a ≡ true) × (b ≡ true)
-both_true true b e = (refl, e)
-both_true false b e = cc
-
-le_of : (a b : ℤ) → int_le a b ≡ true → a ≤ℤ b
-le_of a b e = grind (arith, ints)
-
-not_lt_of : (a b : ℤ) → int_lt a b ≡ false → b ≤ℤ a
-not_lt_of a b e = grind (arith, ints)
-
 -- a number within its range
 within : (least greatest n : ℤ) → is_within least greatest n ≡ true → (least ≤ℤ n) × (n ≤ℤ greatest)
-within least greatest n e = (le_of _ _ (both_true _ _ e).0, le_of _ _ (both_true _ _ e).1)
+within least greatest n e = (le_of _ _ (and_parts _ _ e).0, le_of _ _ (and_parts _ _ e).1)
 
 -- a key that is not refused passed its test
 accepted : (key : ℕ) (test : Bool) → refused key test ≡ None → test ≡ true
@@ -117,7 +98,7 @@ from_zero list start (x ∷ xs) e low = record {
 -- there are as many entries as may be
 count_within : {E : Type 0} (list : Section) (least most : ℕ) (es : List E) → count_fault list least most es ≡ None → (least ≤ length es) × (length es ≤ most)
 count_within list least most es e =
-    let counted = both_true (nat_le least (length es)) (nat_le (length es) most) (passed _ (Count list) e) in
+    let counted = and_parts (nat_le least (length es)) (nat_le (length es) most) (passed _ (Count list) e) in
     let low : nat_le least (length es) ≡ true = counted.0 in
     let high : nat_le (length es) most ≡ true = counted.1 in
     (grind (arith, nat_tests), grind (arith, nat_tests))

@@ -1,24 +1,13 @@
 -- Laws of steps of every kind: `start` gives where a step begins, and `value` its value. Where the starts rise, each cell lies
 -- in one step, which has the value in the cell; a step that is added at the end changes the cells from its start on.
-use Rattle.std.proofs.Common.{◌≡◌, ℕ, zero, suc, ℤ, List, [], ◌∷◌, ◌++◌, length, get_or, true, false, int_le, if◌then◌else◌, ◌+◌, ◌-◌, ◌<◌, ◌≤◌, ◌≤ℤ◌, ◌<ℤ◌, inl, inr, refl, sym, ap, ◌∙◌, arith, rules}
+use Rattle.std.proofs.Common.{◌≡◌, ℕ, zero, suc, ℤ, List, [], ◌∷◌, ◌++◌, length, get_or, true, false, int_le, if◌then◌else◌, ◌+◌, ◌-◌, ◌<◌, ◌≤◌, ◌≤ℤ◌, ◌<ℤ◌, inl, inr, refl, sym, ap, ◌∙◌, arith}
 use Rattle.std.proofs.lemmas.Int.{ints, by_lt_z}
 use Rattle.std.proofs.lemmas.Bool.{cases_lt}
 use Rattle.std.proofs.lemmas.List.{get_or_default}
 use Rattle.std.specs.List.Sorted.{IsPartitionedBy, IsPartitionPoint}
+use Rattle.sdm_num.proofs.Comparisons.{le_is, not_le_is, le_of, not_le_of}
 use Rattle.sdm_rules.specs.Cells.{last_at, value_at}
 use Rattle.sdm_track.specs.Steps.{IsRising, LiesIn, IsBeforeNext}
-
-le_is : (a b : ℤ) → a ≤ℤ b → int_le a b ≡ true
-le_is a b h = sym (search (rules, ints))
-
-not_le_is : (a b : ℤ) → b <ℤ a → int_le a b ≡ false
-not_le_is a b h = sym (search (rules, ints))
-
-le_of : (a b : ℤ) → int_le a b ≡ true → a ≤ℤ b
-le_of a b h = grind (arith, ints)
-
-not_le_of : (a b : ℤ) → int_le a b ≡ false → b <ℤ a
-not_le_of a b h = grind (arith, ints)
 
 module _ {E : Type 0} (start : E → ℤ) where
   -- steps after the one in which the cell lies start past the cell

@@ -10,19 +10,8 @@ use Rattle.sdm_rules.specs.declared.faults.TrainFault.TheVariants.{Value}
 use Rattle.sdm_rules.specs.Slopes.{most_bands}
 use Rattle.sdm_rules.specs.Data.{TrainData, AreBands}
 use Rattle.sdm_rules.specs.Ranges.{or_else, is_within_if_any, fault_at, band_refused, train_refused, band_count_fault, band_value_fault, band_order_fault, order_of_last, order_of_next, train_fault}
+use Rattle.sdm_rules.proofs.FaultLaws.{neither, not_refused}
 use Rattle.sdm_train.specs.Trains.{IsBand, IsTrain}
-
--- ---- one rule after another
-
--- where neither of two rules in turn is broken, each holds
-both_none : {A : Type 0} (x y : Option A) → or_else x y ≡ None → (x ≡ None) × (y ≡ None)
-both_none None y h = (refl, h)
-both_none (Some x) y h = absurd (cc)
-
--- where there is no fault, no key was refused
-no_key : (fault : ℕ → TrainFault) (key : Option ℕ) → fault_at fault key ≡ None → key ≡ None
-no_key fault None h = refl
-no_key fault (Some key) h = absurd (cc)
 
 -- ---- numbers
 
@@ -54,8 +43,8 @@ few_of count h = (grind arith, grind arith)
 each_band : (i : ℕ) (bands : List Band) → band_value_fault i bands ≡ None → All IsBand bands
 each_band i [] h = All-nil IsBand
 each_band i (b ∷ more) h =
-    let both = both_none (fault_at (λ key. Value i key) (band_refused b)) (band_value_fault (suc i) more) h in
-    All-cons IsBand b more (IsBand_of b (no_key _ (band_refused b) both.0)) (each_band (suc i) more both.1)
+    let both = neither (fault_at (λ key. Value i key) (band_refused b)) (band_value_fault (suc i) more) h in
+    All-cons IsBand b more (IsBand_of b (not_refused _ (band_refused b) both.0)) (each_band (suc i) more both.1)
 
 -- the last band has no upper speed
 last_has_none : (i : ℕ) (upper : Option ℤ) → order_of_last i upper ≡ None → upper ≡ None
@@ -91,10 +80,10 @@ unfolding train_fault
 no_rule_broken count t h =
     let order = band_order_fault 1 (pos 0) t.bands in
     let values = band_value_fault 1 t.bands in
-    let own = both_none (fault_at (λ key. Value 0 key) (train_refused t)) (or_else (band_count_fault count) (or_else values order)) h in
-    let few = both_none (band_count_fault count) (or_else values order) own.1 in
-    let bands = both_none values order few.1 in
-    record { own_numbers = no_key _ (train_refused t) own.0; few = few_of count few.0; band_numbers = bands.0; band_order = bands.1 }
+    let own = neither (fault_at (λ key. Value 0 key) (train_refused t)) (or_else (band_count_fault count) (or_else values order)) h in
+    let few = neither (band_count_fault count) (or_else values order) own.1 in
+    let bands = neither values order few.1 in
+    record { own_numbers = not_refused _ (train_refused t) own.0; few = few_of count few.0; band_numbers = bands.0; band_order = bands.1 }
 
 -- what callers may rely on follows from what was tested
 pub IsTrain_of : (t : TrainData) → train_fault (length t.bands) t ≡ None → IsTrain t

@@ -2,7 +2,7 @@
 use Rattle.std.proofs.Common.{◌≡◌, ◌≤ℤ◌, ◌<ℤ◌, ◌+◌, get_or, drop, w32, to_z, of_z, sym, ◌∙◌, rules}
 use Rattle.std.proofs.lemmas.Int.{to_z-of_z}
 use Rattle.std.proofs.lemmas.List.{drop_more, drop_all}
-use Rattle.sdm_speed.proofs.ZoneLaws.{lt_of, not_lt_of}
+use Rattle.sdm_num.proofs.Comparisons.{lt_of, not_lt_of}
 use Rattle.sdm_speed.proofs.StepLaws.{none}
 use Rattle.sdm_speed.proofs.LowestLaws.{lowest_of_steps, lowest_on, lowest_end}
 use Rattle.sdm_speed.proofs.steps.lowest_up_to.Goals as goal

@@ -6,7 +6,7 @@ use Rattle.sdm_speed.specs.Held.{AreDistinct, IsHeld}
 use Rattle.sdm_speed.specs.ProfileFields.{static_zones_of}
 use Rattle.sdm_speed.proofs.ZoneLaws.{lowest_limit-after}
 use Rattle.sdm_speed.proofs.HeldLaws.{len_is, contains_is, distinct_less, removed, All-remove}
-use Rattle.sdm_speed.proofs.KeptLaws.{held_count}
+use Rattle.sdm_speed.proofs.KeptLaws.{held_count, with_held}
 use Rattle.sdm_speed.proofs.profiles.Profile.revoke.Goals as goal
 
 pub returns-in_default-clause-refused : goal.returns-in_default-clause-refused
@@ -40,14 +40,7 @@ invariant_of-self c =
     let ok_left = left.ok.0 in
     let lowered = rw c.deref-2.ensures.value at c.lower_anew.ensures.speeds in
     record {
-      in_range = record {
-        top = kept.in_range.top;
-        shortest_train = kept.in_range.shortest_train;
-        longest_train = kept.in_range.longest_train;
-        longest_track = kept.in_range.longest_track;
-        speeds = kept.in_range.speeds;
-        few = rw (len_is left.items distinct) (omega (arith, c.remove.ensures.len, held_count _ kept _ refl, kept.in_range.few));
-      };
+      in_range = with_held _ _ kept.in_range (rw (len_is left.items distinct) (omega (arith, c.remove.ensures.len, held_count _ kept _ refl, kept.in_range.few)));
       distinct = distinct;
       each_static = kept.each_static;
       each_held = rw c.remove.ensures.items (All-remove IsHeld _ _ kept.each_held);

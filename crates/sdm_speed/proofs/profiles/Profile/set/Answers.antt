@@ -11,7 +11,7 @@ use Rattle.sdm_speed.specs.Profiles.{ProfileData, IsProfile}
 use Rattle.sdm_speed.specs.ProfileFields.{data_of, static_zones_of, held_zones_of}
 use Rattle.sdm_speed.proofs.ZoneLaws.{lowest_limit-push}
 use Rattle.sdm_speed.proofs.HeldLaws.{len_is, missing_of, distinct_more, inserted}
-use Rattle.sdm_speed.proofs.KeptLaws.{held_count}
+use Rattle.sdm_speed.proofs.KeptLaws.{held_count, with_held}
 use Rattle.sdm_speed.proofs.RestrictLaws.{IsAccepted, accepted}
 use Rattle.sdm_speed.proofs.profiles.Profile.set.Goals as goal
 
@@ -63,14 +63,7 @@ invariant_of-self c =
     let lowered : (cell : ℤ) → capped cell c.zone_of.result (limits_of c.self.inside.max_speed zones cell) ≡ limits_of c.self.inside.max_speed (static_zones_of c.self.inside ++ map (zone_of length_cm) (held ++ c.args.r ∷ [])) cell = λ cell.
     rw (c.zone_of.ensures, map-append (zone_of length_cm) held (c.args.r ∷ []), ← append_assoc) (sym (lowest_limit-push c.self.inside.max_speed cell zones (zone_of length_cm c.args.r))) in
     record {
-      in_range = record {
-        top = kept.in_range.top;
-        shortest_train = kept.in_range.shortest_train;
-        longest_train = kept.in_range.longest_train;
-        longest_track = kept.in_range.longest_track;
-        speeds = kept.in_range.speeds;
-        few = rw (c.push_reserved.ensures.items, len_is _ distinct, length-append) (omega (arith, ok.room, count));
-      };
+      in_range = with_held _ _ kept.in_range (rw (c.push_reserved.ensures.items, len_is _ distinct, length-append) (omega (arith, ok.room, count)));
       distinct = rw c.push_reserved.ensures.items distinct;
       each_static = kept.each_static;
       each_held = rw c.push_reserved.ensures.items (All-push IsHeld _ _ kept.each_held (held_of (data_of c.self.inside) c.args.r kept.in_range ok c.requires.slowest c.requires.fastest));

@@ -1,8 +1,8 @@
 -- The steps that start before the cell come first.
 use Rattle.std.proofs.Common.{int_lt, arith, rules}
 use Rattle.std.proofs.lemmas.List.Sorted.{IsPartitionPoint-from_clause}
+use Rattle.sdm_num.proofs.Comparisons.{lt_of, not_lt_of}
 use Rattle.sdm_speed.specs.declared.steps.Step.{Step}
-use Rattle.sdm_speed.proofs.ZoneLaws.{lt_of, not_lt_of}
 use Rattle.sdm_speed.proofs.StepLaws.{starts_parted}
 use Rattle.sdm_speed.proofs.steps.Steps.started_before.Goals as goal
 

@@ -1,7 +1,7 @@
 -- The train and the track are within their ranges, and the slopes of each kind were accepted in turn.
 use Rattle.sdm_decel.specs.Slopes.{line_of}
 use Rattle.sdm_supervisor.specs.Lines.{IsLine}
-use Rattle.sdm_supervisor.proofs.LineLaws.{all_kinds}
+use Rattle.sdm_laws.proofs.Decided.{all_kinds}
 use Rattle.sdm_supervisor.proofs.lines.Line.open.Goals as goal
 
 module _ (c : goal.After-length_cm-length) where
