@@ -89,11 +89,12 @@ module _ (s : ℕ) (start : Start) (target : ℕ) (p : ℤ) (v : ℕ) (traction 
 pub reaction : (s : ℕ) (start : Start) (on : Slopes) (target : ℕ) (p : ℤ) (v : ℕ) (xs : List Slice) (first : Point) (more : List Point) →
     IsMotion s start on p v xs first more → v ≤ s * start.speed → All (IsInReach s start target p) (slice_ends p v xs ++ first ∷ [])
 reaction s start on target p v xs first more m slow =
-    let slices : AreSlices start v (m.traction ++ m.build) = subst (λ (zs : List Slice). AreSlices start v zs) m.split m.slices in
-    let ends = ends_in_reach s start target p v m.traction m.build m.in_traction m.in_build m.traction_time m.build_time slices slow in
-    let last = last_in_reach s start target p v m.traction m.build m.in_traction m.in_build m.traction_time m.build_time slices slow in
-    let slices_in_reach : All (IsInReach s start target p) (slice_ends p v xs) = rw m.split ends in
-    let first_in_reach : IsInReach s start target p first = rw (m.begins, m.split) last in
+    let h = m.reaction in
+    let slices : AreSlices start v (h.traction ++ h.build) = subst (λ (zs : List Slice). AreSlices start v zs) h.split h.slices in
+    let ends = ends_in_reach s start target p v h.traction h.build h.in_traction h.in_build h.traction_time h.build_time slices slow in
+    let last = last_in_reach s start target p v h.traction h.build h.in_traction h.in_build h.traction_time h.build_time slices slow in
+    let slices_in_reach : All (IsInReach s start target p) (slice_ends p v xs) = rw h.split ends in
+    let first_in_reach : IsInReach s start target p first = rw (m.begins, h.split) last in
     All-append (IsInReach s start target p) _ _ slices_in_reach (All-from_recursion (IsInReach s start target p) (first ∷ []) (first_in_reach, tt))
 
 -- the same, point by point

@@ -5,8 +5,8 @@ use Rattle.std.proofs.lemmas.Grind.{common_steps}
 use Rattle.sdm_rules.specs.declared.motions.Phase.TheVariants.{Traction, Build}
 use Rattle.sdm_rules.specs.declared.motions.Slice.{Slice}
 use Rattle.sdm_rules.specs.declared.motions.Start.{Start}
-use Rattle.sdm_rules.specs.Motion.{IsIn, time_of}
-use Rattle.sdm_motion.specs.Slices.{IsCut, IsReaction}
+use Rattle.sdm_rules.specs.Motion.{IsIn, IsReaction, time_of}
+use Rattle.sdm_motion.specs.Slices.{IsCut}
 
 -- what reads past the end give
 any_slice : Slice

@@ -4,8 +4,8 @@ use Rattle.sdm_rules.specs.declared.motions.Point.{Point}
 use Rattle.sdm_rules.specs.declared.motions.Slice.{Slice}
 use Rattle.sdm_rules.specs.declared.motions.Start.{Start}
 use Rattle.sdm_rules.specs.Slopes.{Slopes}
+use Rattle.sdm_rules.specs.Motion.{IsReaction}
 use Rattle.sdm_motion.specs.Motions.{first_of, IsInRange, IsKnownMotion}
-use Rattle.sdm_motion.specs.Slices.{IsReaction}
 use Rattle.sdm_motion.specs.Steps.{AreBraking}
 
 pub known_of : (s : ℕ) (start : Start) (on : Slopes) (xs : List Slice) (points : List Point) (x : Point) (p : ℤ) (v : ℕ) → p ≡ pos (s * s) *ℤ start.front → v ≡ s * start.speed →
@@ -20,14 +20,7 @@ known_of s start on xs points x p v p_is v_is at ranges reaction is braking = kn
       more = ys;
       split = refl;
       motion = record {
-        traction = reaction.traction;
-        build = reaction.build;
-        split = reaction.split;
-        in_traction = reaction.in_traction;
-        in_build = reaction.in_build;
-        traction_time = reaction.traction_time;
-        build_time = reaction.build_time;
-        slices = reaction.slices;
+        reaction = reaction;
         begins = (let e : y ≡ x = cc in e ∙ is);
         braking = braking;
       };

@@ -1,26 +1,14 @@
 -- What slices come to (own). Units as in a motion.
-use Rattle.std.specs.Prelude.{◌≡◌, ℕ, List, [], ◌∷◌, ◌++◌, ◌+◌, ◌*◌, ◌<◌, ◌≤◌, take, length, get_or}
+use Rattle.std.specs.Prelude.{◌≡◌, ℕ, List, [], ◌∷◌, ◌+◌, ◌<◌, ◌≤◌, take, length, get_or}
 use Rattle.sdm_rules.specs.declared.motions.Phase.TheVariants.{Traction, Build}
 use Rattle.sdm_rules.specs.declared.motions.Slice.{Slice}
-use Rattle.sdm_rules.specs.declared.motions.Start.{Start}
-use Rattle.sdm_rules.specs.Motion.{AreSlices, IsIn, time_of}
+use Rattle.sdm_rules.specs.Motion.{IsIn}
 
 -- so many slices of traction come first, and no more (own)
 pub record IsCut (xs : List Slice) (k : ℕ) : Type 0 where
   pub known : k ≤ length xs
   pub before : IsIn Traction (take k xs)
   pub next : (d : Slice) → k < length xs → (get_or xs k d).phase ≡ Build
-
--- the part of a motion before braking: slices of traction and then of the build-up, each with its time (own)
-pub record IsReaction (s : ℕ) (start : Start) (v : ℕ) (xs : List Slice) : Type 0 where
-  pub traction : List Slice
-  pub build : List Slice
-  pub split : xs ≡ traction ++ build
-  pub in_traction : IsIn Traction traction
-  pub in_build : IsIn Build build
-  pub traction_time : time_of traction ≡ s * start.traction
-  pub build_time : time_of build ≡ s * start.berem
-  pub slices : AreSlices start v xs
 
 -- the lengths of slices together (own)
 abbrev pub length_of : List Slice → ℕ

@@ -1,8 +1,8 @@
 //! Slices: what a train does before its brakes work.
 
 ghost use Rattle.std.specs.Prelude.{◌≡◌, ◌↔◌, ◌*◌, ◌≤◌, IsTrue, length};
-ghost use Rattle.sdm_rules.specs.Motion.{accel_in, AreSlices, IsIn, IsSlice, time_of};
-ghost use Rattle.sdm_motion.specs.Slices.{IsCut, IsReaction, length_of, speed_after};
+ghost use Rattle.sdm_rules.specs.Motion.{accel_in, AreSlices, IsIn, IsReaction, IsSlice, time_of};
+ghost use Rattle.sdm_motion.specs.Slices.{IsCut, length_of, speed_after};
 
 use sdm_rules::{Phase, Slice, Start};
 

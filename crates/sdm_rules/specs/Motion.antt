@@ -87,9 +87,8 @@ last_point x (y ∷ ys) = last_point y ys
 
 -- ---- a whole motion
 
--- A motion that begins at the place `p` with the speed `v`: traction slices, build-up slices, and then braking from the
--- point `first` on (own)
-pub record IsMotion (s : ℕ) (start : Start) (on : Slopes) (p : ℤ) (v : ℕ) (xs : List Slice) (first : Point) (more : List Point) : Type 0 where
+-- the part of a motion before braking, from the speed `v` on: slices of traction and then of the build-up, each with its time (own)
+pub record IsReaction (s : ℕ) (start : Start) (v : ℕ) (xs : List Slice) : Type 0 where
   pub traction : List Slice
   pub build : List Slice
   pub split : xs ≡ traction ++ build
@@ -98,6 +97,11 @@ pub record IsMotion (s : ℕ) (start : Start) (on : Slopes) (p : ℤ) (v : ℕ) 
   pub traction_time : time_of traction ≡ s * start.traction
   pub build_time : time_of build ≡ s * start.berem
   pub slices : AreSlices start v xs
+
+-- a motion that begins at the place `p` with the speed `v`: slices before braking, and braking from the point `first` on, at which they
+-- end (own)
+pub record IsMotion (s : ℕ) (start : Start) (on : Slopes) (p : ℤ) (v : ℕ) (xs : List Slice) (first : Point) (more : List Point) : Type 0 where
+  pub reaction : IsReaction s start v xs
   pub begins : first ≡ last_point (record { place = p; square = v * v }) (slice_ends p v xs)
   pub braking : IsBraking on (s * s) first more
 
