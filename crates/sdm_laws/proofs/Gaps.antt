@@ -13,11 +13,11 @@ use Rattle.sdm_rules.specs.Data.{LineData}
 use Rattle.sdm_rules.specs.Margins.{ebi_margin}
 use Rattle.sdm_rules.specs.Targets.{at_speed_target}
 use Rattle.sdm_rules.specs.Limits.{computed, limits_of, limits_of_kind, v_bec_for}
-use Rattle.sdm_rules.specs.Triggers.{front_for, is_past, passes, some_ebi_passed, triggers_of, above_ceiling}
+use Rattle.sdm_rules.specs.Triggers.{front_for, is_past, passes}
 use Rattle.sdm_num.specs.Units.{notches}
-use Rattle.sdm_rules.specs.Commands.{commands_after, emergency_after}
-use Rattle.sdm_rules.specs.Supervision.{Supervision, situation_of, row_in, commands_in, is_met_by_speed}
+use Rattle.sdm_rules.specs.Supervision.{Supervision, situation_of, is_met_by_speed}
 use Rattle.sdm_laws.specs.SupervisionLaws.{LawOfGaps}
+use Rattle.sdm_laws.proofs.Ceiling.{no_ebi_passed}
 
 any_false : (p : Target → Bool) (ts : List Target) (t : Target) → list_any p ts ≡ false → Contains ts t → p t ≡ false
 any_false p [] t e (k, lt, is) = absurd (omega arith)
@@ -41,14 +41,9 @@ by_kind s d r t Eoa m bec p c e = absurd (true≢false c)
 by_kind s d r t Svl m bec p c e = let k = core _ _ _ c e in absurd (let h : r.speed ≤ 0 = ltb-false 0 r.speed k.1 in omega arith)
 
 pub gaps : LawOfGaps
-unfolding row_in commands_in commands_after emergency_after triggers_of situation_of limits_of
+unfolding situation_of limits_of
 gaps s r eb moving t is c =
     let now = situation_of s r in
-    let emer = (or_parts (triggers_of (limits_of computed s.line r) 0 now).emer _ eb).0 in
-    let one = (or_parts _ _ emer).0 in
-    let two = (or_parts _ _ one).0 in
-    let three = (or_parts _ _ two).0 in
-    let none = (or_parts (above_ceiling now ebi_margin) (some_ebi_passed now 0 (λ u. (limits_of computed s.line r u).ebi)) three).1 in
-    let e = any_false (λ u. option_map_or (passes now 0 ebi_margin u) (limits_of computed s.line r u).ebi false) now.targets t none is in
+    let e = any_false (λ u. option_map_or (passes now 0 ebi_margin u) (limits_of computed s.line r u).ebi false) now.targets t (no_ebi_passed s r eb).1 is in
     let k = by_kind s s.line r t t.kind (notches t.speed + ebi_margin t.speed) (v_bec_for s.line r t) moving c e in
     record { is_speed = (k.0, k.1); slow = k.2; may_gain = k.3 }

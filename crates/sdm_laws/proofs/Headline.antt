@@ -30,7 +30,7 @@ pub stop : LawOfStop
 stop s r o covered = covered_is_safe s r (open_usable s o) covered
 
 pub release : LawOfReleaseStart
-release s r eoa svl speed o is some = released_at s r eoa svl speed (open_usable s o) is some
+release s r o = λ eoa svl speed is some. released_at s r eoa svl speed (open_usable s o) is some
 
 pub supervision : LawOfSupervision
 supervision s r o = record { order = machines s r o; safe = stop s r o }

@@ -24,6 +24,7 @@ pub mod Nearness
 pub mod CurveNearness
 pub mod MachineOrder
 pub mod JourneyOrder
+pub mod Ceiling
 pub mod Gaps
 pub mod ReleaseStart
 pub mod AcceptedSlopes

@@ -1,20 +1,19 @@
 -- The laws of supervision, as statements over an accepted supervision state alone (own).
-use Rattle.std.specs.Prelude.{◌≡◌, ℕ, ℤ, Bool, false, IsTrue, IfOk, List, Contains, ◌<◌}
+use Rattle.std.specs.Prelude.{◌≡◌, ℕ, ℤ, Bool, false, IsTrue, IfOk, List}
 use Rattle.sdm_num.specs.Bounds.{IsEarlyFor}
 use Rattle.sdm_num.specs.Readings.{OdometerReading}
 use Rattle.sdm_rules.specs.declared.authorities.Authority.{Authority}
-use Rattle.sdm_rules.specs.declared.authorities.Authority.TheVariants.{Stop}
 use Rattle.sdm_rules.specs.declared.data.SlopeKind.{SlopeKind}
 use Rattle.sdm_rules.specs.declared.records.Event.{Event}
-use Rattle.sdm_rules.specs.declared.targets.Target.{Target}
 use Rattle.sdm_rules.specs.Slopes.{IsUsable}
 use Rattle.sdm_rules.specs.Curves.{exact, stepped, most_slack}
 use Rattle.sdm_rules.specs.Data.{LineData, HasBands}
 use Rattle.sdm_rules.specs.Decelerations.{slopes_of}
-use Rattle.sdm_rules.specs.Supervision.{Supervision, opening, situation_of, row_of, is_covered_for}
-use Rattle.sdm_rules.specs.Machines.{KeepsOrder, InOrder, IsReleasedAt, held_after}
+use Rattle.sdm_rules.specs.Supervision.{Supervision, opening, row_of}
+use Rattle.sdm_rules.specs.Machines.{KeepsOrder, InOrder, held_after}
 use Rattle.sdm_rules.specs.Records.{step}
-use Rattle.sdm_rules.specs.Stop.{IsSafe, IsGap}
+use Rattle.sdm_rules.specs.Stop.{IsSafe}
+use Rattle.sdm_rules.specs.Promises.{BeginsRelease, HasOnlyGaps, IsWithinCeiling}
 use Rattle.sdm_rules.specs.Opening.{IsAccepted, IsAcceptedKind, IsOpen}
 use Rattle.sdm_rules.specs.Headline.{IsSupervised, IsSupervisedOver}
 
@@ -43,13 +42,15 @@ LawOfStop = (s : Supervision) (r : OdometerReading) → IsOpen s → IsTrue (row
 
 -- gaps are all that keeps a row from being covered where no emergency brake is commanded and the train moves
 abbrev pub LawOfGaps : Type 0
-LawOfGaps = (s : Supervision) (r : OdometerReading) → let row = row_of s r in
-    row.held.eb ≡ false → 0 < r.speed →
-    (t : Target) → Contains (situation_of s r).targets t → is_covered_for s.line r t ≡ false → IsGap s r t
+LawOfGaps = (s : Supervision) (r : OdometerReading) → (row_of s r).held.eb ≡ false → HasOnlyGaps s r
+
+-- where no emergency brake is commanded, the speed is at most the ceiling with its EBI margin
+abbrev pub LawOfCeiling : Type 0
+LawOfCeiling = (s : Supervision) (r : OdometerReading) → (row_of s r).held.eb ≡ false → IsWithinCeiling r (row_of s r)
 
 -- release speed monitoring begins at its exact start or less than a millimetre before it
 abbrev pub LawOfReleaseStart : Type 0
-LawOfReleaseStart = (s : Supervision) (r : OdometerReading) (eoa svl release : ℕ) → IsOpen s → s.authority ≡ Stop eoa svl release → 0 < release → IsReleasedAt s r eoa svl release
+LawOfReleaseStart = (s : Supervision) (r : OdometerReading) → IsOpen s → BeginsRelease s r
 
 -- THE HEADLINE of one reading
 abbrev pub LawOfSupervision : Type 0

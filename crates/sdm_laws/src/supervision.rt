@@ -1,7 +1,7 @@
 //! The laws of supervision: of every accepted supervision state and reading, and of every list of records. Each function
 //! makes no call and only states its clause.
 
-ghost use Rattle.sdm_laws.specs.SupervisionLaws.{IsKeptOpen, LawOfAcceptedSlopes, LawOfGaps, LawOfJourneys, LawOfMachines, LawOfNearness, LawOfReleaseStart, LawOfStop, LawOfSupervision};
+ghost use Rattle.sdm_laws.specs.SupervisionLaws.{IsKeptOpen, LawOfAcceptedSlopes, LawOfCeiling, LawOfGaps, LawOfJourneys, LawOfMachines, LawOfNearness, LawOfReleaseStart, LawOfStop, LawOfSupervision};
 
 /// The slopes of accepted data are usable: brake curves on them have their laws.
 #[tactic(auto, using(crate::proofs::AcceptedSlopes::accepted_usable))]
@@ -37,6 +37,12 @@ pub fn law_of_stop()
 #[tactic(auto, using(crate::proofs::Gaps::gaps))]
 pub fn law_of_gaps()
     ensures { LawOfGaps }
+{}
+
+/// How fast the train runs where no emergency brake is commanded.
+#[tactic(auto, using(crate::proofs::Ceiling::within_ceiling))]
+pub fn law_of_ceiling()
+    ensures { LawOfCeiling }
 {}
 
 /// When release speed monitoring begins.

@@ -16,6 +16,7 @@ pub mod Supervision
 pub mod Machines
 pub mod Records
 pub mod Stop
+pub mod Promises
 pub mod Opening
 pub mod Headline
 pub mod Numbers

@@ -13,8 +13,9 @@ use Rattle.sdm_rules.specs.Supervision.{Supervision, row_of, row_in, after_readi
 use Rattle.sdm_rules.specs.Machines.{InOrder, must_after, may_after}
 use Rattle.sdm_rules.specs.Opening.{IsOpen}
 use Rattle.sdm_rules.specs.Records.{Journey, authority_fault, restrict_fault, revoke_fault, time_fault, time_cause, unless, quiet, step, step_of, event_at, go_on, journey_from}
-use Rattle.sdm_laws.proofs.Headline.{machines, stop}
+use Rattle.sdm_laws.proofs.Headline.{machines, stop, release}
 use Rattle.sdm_laws.proofs.Gaps.{gaps}
+use Rattle.sdm_laws.proofs.Ceiling.{within_ceiling}
 use Rattle.sdm_run.specs.RunTurns.{Turn, turn_of, turns_of_event, turns_of_record, turns_from, row_of_turn, AreTurnsSafe, AreRowsOfTurns}
 
 -- ---- the rows
@@ -73,7 +74,7 @@ reading_safe : (o : Option CycleFault) (s : Supervision) (r : OdometerReading) (
 unfolding row_in after_reading
 reading_safe None s r must may later opened h rest =
     let order = machines s r opened must may h in (
-      record { order = order; stop = stop s r opened; gaps = gaps s r },
+      record { order = order; stop = stop s r opened; gaps = gaps s r; ceiling = within_ceiling s r; release = release s r opened },
       rest (after_reading s r) (must_after s r must) (may_after s r may) (record { bands = opened.bands; usable = opened.usable }) order,
     )
 reading_safe (Some fault) s r must may later opened h rest = tt

@@ -1,16 +1,16 @@
 -- What is promised of all rows of `run` and of `trial`, over the whole list of their records (own).
-use Rattle.std.specs.Prelude.{◌≡◌, ℕ, suc, Bool, false, IsTrue, List, [], ◌∷◌, Option, Some, None, Result, Ok, Err, Contains, ◌<◌, map, take, drop}
+use Rattle.std.specs.Prelude.{◌≡◌, ℕ, suc, Bool, false, IsTrue, List, [], ◌∷◌, Option, Some, None, Result, Ok, Err, map, take, drop}
 use Rattle.sdm_num.specs.Readings.{OdometerReading}
 use Rattle.sdm_rules.specs.declared.records.Event.{Event}
 use Rattle.sdm_rules.specs.declared.records.Event.TheVariants as record_kinds
 use Rattle.sdm_rules.specs.declared.faults.EventFault.{EventFault}
 use Rattle.sdm_rules.specs.declared.faults.EventCause.{EventCause}
 use Rattle.sdm_rules.specs.declared.rows.Row.{Row}
-use Rattle.sdm_rules.specs.declared.targets.Target.{Target}
-use Rattle.sdm_rules.specs.Supervision.{Supervision, opening, situation_of, row_of, is_covered_for}
+use Rattle.sdm_rules.specs.Supervision.{Supervision, opening, row_of}
 use Rattle.sdm_rules.specs.Machines.{InOrder, must_after, may_after}
 use Rattle.sdm_rules.specs.Records.{Step, event_at, step, journey_from}
-use Rattle.sdm_rules.specs.Stop.{IsSafe, IsGap}
+use Rattle.sdm_rules.specs.Stop.{IsSafe}
+use Rattle.sdm_rules.specs.Promises.{BeginsRelease, HasOnlyGaps, IsWithinCeiling}
 use Rattle.sdm_rules.specs.Forms.{event_of}
 use Rattle.sdm_rules.specs.Trial.{reading_record, readings_from, trial_authority, trial_line}
 use Rattle.sdm_data.specs.Division.{divide}
@@ -61,16 +61,13 @@ must_after_turn t held = must_after t.before t.reading held
 abbrev pub may_after_turn : Turn → Bool → Bool
 may_after_turn t held = may_after t.before t.reading held
 
--- a target that is not covered, at a turn with no emergency command of a moving train, is a gap: one of speed, slow enough (own)
-abbrev pub AreGaps : Turn → Type 0
-AreGaps t = (row_of_turn t).held.eb ≡ false → 0 < t.reading.speed →
-    (target : Target) → Contains (situation_of t.before t.reading).targets target → is_covered_for t.before.line t.reading target ≡ false → IsGap t.before t.reading target
-
 -- what is promised of a turn before which the exact machine holds `must` and the early one `may` (own)
 pub record IsTurnSafe (must may : Bool) (t : Turn) : Type 0 where
   pub order : InOrder (must_after_turn t must) (row_of_turn t).held.eb (may_after_turn t may)
   pub stop : IsTrue (row_of_turn t).covered → IsSafe t.before t.reading
-  pub gaps : AreGaps t
+  pub gaps : (row_of_turn t).held.eb ≡ false → HasOnlyGaps t.before t.reading
+  pub ceiling : (row_of_turn t).held.eb ≡ false → IsWithinCeiling t.reading (row_of_turn t)
+  pub release : BeginsRelease t.before t.reading
 
 -- so of each turn, one after the other (own)
 abbrev pub AreTurnsSafe : Bool → Bool → List Turn → Type 0

@@ -1,25 +1,23 @@
 -- What a cycle promises of its row is what the laws say of the row of the definitions.
-use Rattle.std.proofs.Common.{◌≡◌, ◌+◌, ◌≤◌, Bool, false, Some, ◌∙◌, subst, sym}
+use Rattle.std.proofs.Common.{◌≡◌, Bool, false, Some, ◌∙◌, subst, sym}
 use Rattle.std.specs.Prelude.{IsTrue, ◌==◌}
-use Rattle.sdm_num.specs.Units.{notches}
 use Rattle.sdm_num.specs.Readings.{OdometerReading}
 use Rattle.sdm_rules.specs.declared.commands.Held.{Held}
 use Rattle.sdm_rules.specs.declared.rows.Row.{Row}
-use Rattle.sdm_rules.specs.Margins.{ebi_margin}
 use Rattle.sdm_rules.specs.Machines.{KeepsOrder}
 use Rattle.sdm_rules.specs.Opening.{IsOpen}
 use Rattle.sdm_rules.specs.Stop.{IsSafe}
+use Rattle.sdm_rules.specs.Promises.{BeginsRelease, HasOnlyGaps, IsWithinCeiling}
 use Rattle.sdm_rules.specs.Supervision.{Supervision, situation_of, commands_in, row_in, row_of, after_reading}
 use Rattle.sdm_laws.proofs.Headline.{machines, stop, release}
 use Rattle.sdm_laws.proofs.Gaps.{gaps}
+use Rattle.sdm_laws.proofs.Ceiling.{within_ceiling}
 use Rattle.sdm_supervisor.specs.Lines.{IsLine}
-use Rattle.sdm_supervisor.specs.Promises.{BeginsRelease, HasOnlyGaps}
 use Rattle.sdm_rules.specs.declared.commands.State.{State}
 use Rattle.sdm_rules.specs.declared.commands.Triggers.{Triggers}
 use Rattle.sdm_rules.specs.Commands.{commands_after}
 use Rattle.sdm_supervisor.specs.declared.situations.Situation.{Situation}
 use Rattle.sdm_supervisor.specs.Situations.{IsFoundAt, state_found, triggers_found}
-use Rattle.sdm_supervisor.proofs.CeilingLaw.{within_ceiling}
 use Rattle.sdm_supervisor.proofs.SituationLaws.{commands_are}
 
 -- a state on an accepted line is open
@@ -50,8 +48,8 @@ module _ (s : Supervision) (r : OdometerReading) where
     pub gaps_of : row.held.eb ≡ false → HasOnlyGaps s r
     gaps_of eb = gaps s r (subst (λ (x : Row). x.held.eb ≡ false) is eb)
 
-    pub ceiling_of : row.held.eb ≡ false → r.speed ≤ notches row.ceiling + ebi_margin row.ceiling
-    ceiling_of eb = subst (λ (x : Row). r.speed ≤ notches x.ceiling + ebi_margin x.ceiling) (sym is) (within_ceiling s r (subst (λ (x : Row). x.held.eb ≡ false) is eb))
+    pub ceiling_of : row.held.eb ≡ false → IsWithinCeiling r row
+    ceiling_of eb = subst (λ (x : Row). IsWithinCeiling r x) (sym is) (within_ceiling s r (subst (λ (x : Row). x.held.eb ≡ false) is eb))
 
   pub release_of : IsOpen s → BeginsRelease s r
-  release_of opened = λ eoa svl speed is some. release s r eoa svl speed opened is some
+  release_of opened = release s r opened

@@ -2,6 +2,5 @@ pub mod Lines
 pub mod Verdicts
 pub mod Situations
 pub mod Kept
-pub mod Promises
 pub mod FlatLines
 pub mod Flats

@@ -2,18 +2,16 @@
 //! `cycle`: its emergency command lies between that of a machine with exact limits and that of the same machine with every limit one
 //! millimetre earlier, and from every covered row the train stops before the supervised location.
 
-ghost use Rattle.std.specs.Prelude.{◌≡◌, ◌≤◌, ◌+◌, IsTrue, false, None, Some, IfOk, IfErr, OnOk, OnErr};
+ghost use Rattle.std.specs.Prelude.{◌≡◌, ◌≤◌, IsTrue, false, None, Some, IfOk, IfErr, OnOk, OnErr};
 ghost use Rattle.sdm_num.specs.Readings.{IsReading};
-ghost use Rattle.sdm_num.specs.Units.{notches};
 ghost use Rattle.sdm_rules.specs.Machines.{KeepsOrder};
-ghost use Rattle.sdm_rules.specs.Margins.{ebi_margin};
 ghost use Rattle.sdm_rules.specs.Opening.{IsAccepted, IsOpen};
+ghost use Rattle.sdm_rules.specs.Promises.{BeginsRelease, HasOnlyGaps, IsWithinCeiling};
 ghost use Rattle.sdm_rules.specs.Records.{authority_fault, restrict_fault, revoke_fault, time_fault};
 ghost use Rattle.sdm_rules.specs.Stop.{IsSafe};
 ghost use Rattle.sdm_rules.specs.Supervision.{after_authority, after_reading, after_restriction, after_revocation, opening, row_of};
 ghost use Rattle.sdm_decel.specs.Slopes.{line_of};
 ghost use Rattle.sdm_supervisor.specs.Lines.{IsRefusal};
-ghost use Rattle.sdm_supervisor.specs.Promises.{BeginsRelease, HasOnlyGaps};
 ghost use Rattle.sdm_supervisor.specs.Situations.{IsFoundAt, IsInRange};
 
 use crate::lines::Line;
@@ -206,7 +204,7 @@ impl Supervisor {
         ensures order { IfOk result (λ row. KeepsOrder self.old reading.now row.held.eb) }
         ensures safe { IfOk result (λ row. IsTrue row.covered → IsSafe self.old reading.now) }
         ensures gaps { IfOk result (λ row. row.held.eb ≡ false → HasOnlyGaps self.old reading.now) }
-        ensures ceiling { IfOk result (λ row. row.held.eb ≡ false → reading.now.speed ≤ notches row.ceiling + ebi_margin row.ceiling) }
+        ensures ceiling { IfOk result (λ row. row.held.eb ≡ false → IsWithinCeiling reading.now row) }
         ensures release { OnOk result (BeginsRelease self.old reading.now) }
         ensures time_back { IfErr result (λ fault. time_fault self.old.last_time reading.now.time ≡ Some fault) }
         ensures unchanged { OnErr result (self.new ≡ self.old) }

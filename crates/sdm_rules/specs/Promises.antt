@@ -1,8 +1,11 @@
--- What a cycle promises beside its row, in words of the definitions (own).
-use Rattle.std.specs.Prelude.{◌≡◌, ℕ, false, Contains, ◌<◌}
+-- What is promised of a row beside its order and its safety (own).
+use Rattle.std.specs.Prelude.{◌≡◌, ℕ, false, Contains, ◌<◌, ◌≤◌, ◌+◌}
+use Rattle.sdm_num.specs.Units.{notches}
 use Rattle.sdm_num.specs.Readings.{OdometerReading}
 use Rattle.sdm_rules.specs.declared.authorities.Authority.TheVariants.{Stop}
+use Rattle.sdm_rules.specs.declared.rows.Row.{Row}
 use Rattle.sdm_rules.specs.declared.targets.Target.{Target}
+use Rattle.sdm_rules.specs.Margins.{ebi_margin}
 use Rattle.sdm_rules.specs.Machines.{IsReleasedAt}
 use Rattle.sdm_rules.specs.Stop.{IsGap}
 use Rattle.sdm_rules.specs.Supervision.{Supervision, situation_of, is_covered_for}
@@ -11,6 +14,10 @@ use Rattle.sdm_rules.specs.Supervision.{Supervision, situation_of, is_covered_fo
 -- reaction times (own)
 abbrev pub HasOnlyGaps : Supervision → OdometerReading → Type 0
 HasOnlyGaps s r = 0 < r.speed → (t : Target) → Contains (situation_of s r).targets t → is_covered_for s.line r t ≡ false → IsGap s r t
+
+-- the speed is at most the ceiling of the row with its EBI margin, in notches (SUBSET-026-3 3.13.10.3; own)
+abbrev pub IsWithinCeiling : OdometerReading → Row → Type 0
+IsWithinCeiling r row = r.speed ≤ notches row.ceiling + ebi_margin row.ceiling
 
 -- release speed monitoring begins at its exact start, or less than a millimetre before it (SUBSET-026-3 3.13.9.4; own)
 abbrev pub BeginsRelease : Supervision → OdometerReading → Type 0
