@@ -1,0 +1,90 @@
+"""Checks the pages of the repository: every relative link and picture leads to a file or folder in it, every anchor to a heading, and
+what README shows to paste is the input of examples/approach, with its rows. Links to other hosts are not followed.
+
+    scripts/check-links
+"""
+
+import re
+import subprocess
+import sys
+from pathlib import Path
+from urllib.parse import unquote
+
+ROOT = Path(__file__).resolve().parent.parent
+
+FENCE = re.compile(r"^(```|~~~).*?^\1\s*$", re.M | re.S)
+CODE = re.compile(r"`[^`\n]*`")
+LINK = re.compile(r"\]\(\s*<?([^)\s>]+)>?(?:\s+\"[^\"]*\")?\s*\)")
+HEADING = re.compile(r"^#{1,6}\s+(.*?)\s*#*$", re.M)
+ELSEWHERE = re.compile(r"^[a-z][a-z0-9+.-]*:", re.I)
+
+
+def pages():
+    """The Markdown files that are kept, in order."""
+    words = ["git", "-C", str(ROOT), "ls-files", "--cached", "--others", "--exclude-standard", "*.md"]
+    names = subprocess.run(words, check=True, capture_output=True, text=True).stdout.splitlines()
+    return [ROOT / name for name in sorted(names) if (ROOT / name).exists()]
+
+
+def anchors(page):
+    """The anchors of a page's headings, as the forge makes them."""
+    found = {}
+    for heading in HEADING.findall(FENCE.sub("", page.read_text())):
+        text = re.sub(r"!?\[([^\]]*)\]\([^)]*\)", r"\1", heading).replace("`", "").replace("*", "").lower()
+        slug = re.sub(r"[^\w\- ]", "", text).replace(" ", "-")
+        count = found.get(slug, 0)
+        found[slug] = count + 1
+        if count:
+            found[f"{slug}-{count}"] = 1
+    return set(found)
+
+
+def fault_of(page, target):
+    """What is wrong with a link of a page, if anything is."""
+    path, _, anchor = unquote(target).partition("#")
+    to = (page.parent / path).resolve() if path else page
+    if ROOT not in to.parents and to != ROOT:
+        return "leads out of the repository"
+    if not to.exists():
+        return "leads nowhere"
+    if anchor and (to.suffix != ".md" or anchor not in anchors(to)):
+        return "has no such heading"
+    return None
+
+
+def links_of(page):
+    """The relative links of a page with their lines; code is none."""
+    text = FENCE.sub(lambda block: re.sub(r"[^\n]", " ", block.group()), page.read_text())
+    for number, line in enumerate(text.splitlines(), 1):
+        if not line.startswith("    "):
+            for target in LINK.findall(CODE.sub("", line)):
+                if not ELSEWHERE.match(target):
+                    yield number, target
+
+
+def example_faults():
+    """Where README's example isn't the folder's."""
+    text = (ROOT / "README.md").read_text()
+    example = ROOT / "examples" / "approach"
+    for name, lines in (("input", f"<<'END'\n{(example / 'input').read_text()}END\n"), ("rows", f"```\n{(example / 'rows').read_text()}```\n")):
+        if lines not in text:
+            yield f"README.md: its example has not the {name} of examples/approach"
+
+
+def main():
+    passed, faults = 0, list(example_faults())
+    for page in pages():
+        for number, target in links_of(page):
+            fault = fault_of(page, target)
+            if fault:
+                faults.append(f"{page.relative_to(ROOT)}:{number}: {target} {fault}")
+            else:
+                passed += 1
+    for fault in faults:
+        print(fault)
+    print(f"links: {passed} passed, {len(faults)} failed")
+    return int(bool(faults) or not passed)
+
+
+if __name__ == "__main__":
+    sys.exit(main())
