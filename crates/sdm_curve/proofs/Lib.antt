@@ -2,8 +2,14 @@ pub mod Ranges
 pub mod Rows
 pub mod Meanings
 pub mod Copies
-pub mod Stretches
-pub mod Walks
+pub mod Within
+pub mod Integrals
+pub mod Sums
+pub mod SumRows
+pub mod Wide
 pub mod Reach
+pub mod Points
+pub mod KnotRows
+pub mod CurveKnots
 pub mod Climbs
 pub mod Cells

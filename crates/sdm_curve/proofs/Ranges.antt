@@ -3,7 +3,6 @@ use Rattle.std.proofs.Common.{◌≡◌, Bool, cond, ℕ, ℤ, pos, List, ◌+�
 use Rattle.std.specs.Int.{int_min, int_max}
 use Rattle.std.proofs.lemmas.Int.{ints, clamps}
 use Rattle.std.proofs.lemmas.Bool.{cases_cond}
-use Rattle.sdm_curve.specs.Checks.{IsRangeOf}
 
 -- slopes of the list that are the least and the greatest of the first `n`
 pub record IsRangeSoFar (slopes : List ℤ) (n : ℕ) (least greatest : ℤ) : Type 0 where
@@ -11,14 +10,6 @@ pub record IsRangeSoFar (slopes : List ℤ) (n : ℕ) (least greatest : ℤ) : T
   pub high : (k : ℕ) × (k < length slopes) × (get_or slopes k (pos 0) ≡ greatest)
   pub above : (k : ℕ) → k < n → least ≤ℤ get_or slopes k (pos 0)
   pub below : (k : ℕ) → k < n → get_or slopes k (pos 0) ≤ℤ greatest
-
-pub range_none : (slopes : List ℤ) (x y : ℤ) → 0 < length slopes → x ≡ get_or slopes 0 (pos 0) → y ≡ get_or slopes 0 (pos 0) → IsRangeSoFar slopes 0 x y
-range_none slopes x y some is is' = record {
-  low = (0, some, sym is);
-  high = (0, some, sym is');
-  above = λ k l. absurd (omega arith);
-  below = λ k l. absurd (omega arith);
-}
 
 pub range_more : (slopes : List ℤ) (n : ℕ) (least greatest x least' greatest' : ℤ) → n < length slopes → x ≡ get_or slopes n (pos 0) → least' ≡ int_min least x → greatest' ≡ int_max greatest x →
     IsRangeSoFar slopes n least greatest → IsRangeSoFar slopes (n + 1) least' greatest'
@@ -31,11 +22,3 @@ range_more slopes n least greatest x least' greatest' known is least_is greatest
   where
     of_two : (P : ℤ → Type 0) (b : Bool) (x y z : ℤ) → z ≡ cond b x y → P x → P y → P z
     of_two P b x y z e p q = elim (cases_cond b x y z e) [ inl is ↦ subst P (sym is) p | inr is ↦ subst P (sym is) q ]
-
-pub range_all : (slopes : List ℤ) (n : ℕ) (least greatest : ℤ) → n ≡ length slopes → IsRangeSoFar slopes n least greatest → IsRangeOf slopes least greatest
-range_all slopes n least greatest e h = record {
-  low = h.low;
-  high = h.high;
-  above = λ k l. h.above k (omega arith);
-  below = λ k l. h.below k (omega arith);
-}

@@ -7,7 +7,7 @@ use Rattle.std.proofs.lemmas.Nat.{div-add-mod'}
 use Rattle.std.proofs.lemmas.Bool.{cases_lt}
 use Rattle.std.proofs.Math.Nat.{mul-le-mul_right}
 use Rattle.sdm_rules.specs.Slopes.{bands_of, variation}
-use Rattle.sdm_curve.specs.Maps.{MapData, IsMapData, slope_in, IsStrongSlope, AreStrong, IsEvenBand}
+use Rattle.sdm_curve.specs.Maps.{MapData, IsMapData, slope_in, IsEvenBand}
 use Rattle.sdm_curve.specs.Checks.{IsWeakIndex, IsRangeOf}
 use Rattle.sdm_curve.specs.Faults.{IsFirstWeakSlope, IsBandRange}
 
@@ -74,7 +74,3 @@ first_weak_is d k given h =
       lower_bands = λ b l i m. h.before (b * n + i) (omega (arith, parts, row_known (k / n) n b i l m));
       earlier = λ j l. h.before ((k / n) * n + j) (omega (arith, parts));
     }
-
--- where no slope of the list is weak, none of a band is
-pub strong_all : (d : MapData) → IsMapData d → ((k : ℕ) → k < length d.slopes → IsStrongSlope d.q (get_or d.slopes k (pos 0))) → AreStrong d
-strong_all d given h band l i m = h (band * length d.starts + i) (omega (arith, given.lengths, row_known (bands_of d.uppers) (length d.starts) band i l m))

@@ -2,13 +2,15 @@
 //! How the place of a curve is found is known here alone: contracts speak of what a map stands for.
 #![tactic(auto)]
 
-mod bands;
+pub mod asked;
 mod checks;
 pub mod curve;
 pub mod faults;
+mod knots;
+mod levels;
 pub mod map;
-mod walk;
 
+pub use asked::AskedSpeed;
 pub use curve::Curve;
 pub use faults::CurveFault;
 pub use map::BandMap;

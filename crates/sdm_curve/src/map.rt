@@ -1,9 +1,9 @@
 //! Slope maps. One is made once for each kind of slope and then only read; its type keeps that its slopes were accepted.
 
-ghost use Rattle.std.specs.Prelude.{◌≡◌, ℕ, pos, ◌+◌, ◌*◌, ◌^◌, ◌<◌, ◌≤◌, ◌≤ℤ◌, length, map, unsigned_abs, slice_index, slice_index_or, IfOk, IfErr};
+ghost use Rattle.std.specs.Prelude.{◌≡◌, ℕ, pos, ◌+◌, ◌*◌, ◌/◌, ◌^◌, ◌<◌, ◌≤◌, ◌+ℤ◌, ◌≤ℤ◌, length, map, unsigned_abs, slice_index, slice_index_or, IfOk, IfErr};
 ghost use Rattle.sdm_rules.specs.Slopes.{SlopeMap, meaning_of, bands_of, IsUsable};
-ghost use Rattle.sdm_rules.specs.Curves.{cell_start};
 ghost use Rattle.sdm_curve.specs.Maps.{map_data, handed_in, AreStarts, IsMapData, AreAccepted, IsKept};
+ghost use Rattle.sdm_curve.specs.Integrals.{AreRates, AreSums, IsSummed, border_at, slope_of, sum_of};
 ghost use Rattle.sdm_curve.specs.Faults.{IsFaultOf};
 
 use crate::checks::fault_of;
@@ -13,7 +13,7 @@ use std::alloc::{AllocError, Global};
 use std::marker::Model;
 
 /// 5,400,000,000 grains: a cell, which is one centimetre.
-const CELL: i128 = 5_400_000_000;
+const CELL: u64 = 5_400_000_000;
 
 /// A slope for each speed band and each segment of the track, in 1/Q m/s² with Q = 2·10⁹·q, in a form that every law of
 /// curves can stand on: at least 0.05 m/s², and in one band not too uneven. (own)
@@ -23,6 +23,8 @@ pub struct BandMap {
     uppers: Vec<Speed>,
     starts: Vec<i32>,
     slopes: Vec<u64>,
+    rates: Vec<u64>,
+    sums: Vec<u128>,
 }
 
 impl Model for BandMap {
@@ -30,7 +32,7 @@ impl Model for BandMap {
 
     ghost view = { λ m. record { q = m.q; uppers = m.uppers.items; starts = m.starts.items; slopes = m.slopes.items } };
 
-    ghost invariant = { λ m. IsKept (handed_in (record { q = m.q; uppers = m.uppers.items; starts = m.starts.items; slopes = m.slopes.items })) };
+    ghost invariant = { λ m. IsSummed (record { q = m.q; uppers = m.uppers.items; starts = m.starts.items; slopes = m.slopes.items }) m.rates.items m.sums.items };
 }
 
 // Slopes that are not below 0, as naturals.
@@ -41,6 +43,64 @@ fn naturals(alloc: Global, slopes: &[i64]) -> Result<Vec<u64>, AllocError>
         .iter()
         .map(|slope| slope.unsigned_abs())
         .collect(alloc)
+}
+
+// The energy of a grain for each slope.
+fn rates_of(alloc: Global, slopes: &[u64]) -> Result<Vec<u64>, AllocError>
+    requires { (k : ℕ) → k < length slopes.now → slice_index slopes.now k ≤ 10 ^ 15 }
+    ensures { IfOk result (λ v. AreRates slopes.now v.items) }
+{
+    let mut rates = Vec::with_capacity(alloc, slopes.len())?;
+    for slope in slopes {
+        rates.push(27 * *slope)?;
+    }
+    Ok(rates)
+}
+
+// The place in grains where a segment begins.
+fn border_at(starts: &[i32], i: usize) -> u64
+    requires rising { AreStarts starts.now }
+    requires known { i < length starts.now }
+    ensures { pos result ≡ border_at starts.now i }
+{
+    CELL * starts[i] as u64
+}
+
+// The length in grains of a segment that is not the last.
+fn length_at(starts: &[i32], i: usize) -> u64
+    requires rising { AreStarts starts.now }
+    requires known { i + 1 < length starts.now }
+    ensures value { border_at starts.now (i + 1) ≡ border_at starts.now i +ℤ pos result }
+    ensures end { border_at starts.now (i + 1) ≤ℤ pos (2 ^ 64) }
+{
+    border_at(starts, i + 1) - border_at(starts, i)
+}
+
+// For each band and segment the energy from cell 0 to the segment's start.
+fn sums_of(
+    alloc: Global,
+    bands: usize,
+    starts: &[i32],
+    slopes: &[u64],
+) -> Result<Vec<u128>, AllocError>
+    requires rising { AreStarts starts.now }
+    requires lengths { length slopes.now ≡ bands * length starts.now }
+    requires small { (k : ℕ) → k < length slopes.now → slice_index slopes.now k ≤ 10 ^ 15 }
+    ensures { IfOk result (λ v. AreSums starts.now slopes.now bands v.items) }
+{
+    let segments = starts.len();
+    let last = segments - 1;
+    let mut sums = Vec::with_capacity(alloc, slopes.len())?;
+    for band in 0..bands {
+        let mut sum = 0;
+        for i in 0..last {
+            sums.push(sum)?;
+            let rate = 27 * u128::from(slopes[band * segments + i]);
+            sum += rate * u128::from(length_at(starts, i));
+        }
+        sums.push(sum)?;
+    }
+    Ok(sums)
 }
 
 // The map of what was handed in.
@@ -57,11 +117,15 @@ fn kept(
     let uppers = uppers.to_vec(alloc)?;
     let starts = starts.to_vec(alloc)?;
     let slopes = naturals(alloc, slopes)?;
+    let rates = rates_of(alloc, &slopes)?;
+    let sums = sums_of(alloc, uppers.len() + 1, &starts, &slopes)?;
     Ok(BandMap {
         q,
         uppers,
         starts,
         slopes,
+        rates,
+        sums,
     })
 }
 
@@ -118,7 +182,7 @@ impl BandMap {
     pub fn segments(&self) -> usize
         ensures value { result ≡ length self.now.starts }
         ensures some { 0 < result }
-        ensures rising { AreStarts self.now.starts }
+        ensures kept { IsKept (handed_in self.now) }
     {
         self.starts.len()
     }
@@ -145,7 +209,7 @@ impl BandMap {
     fn natural_slope(&self, band: usize, i: usize) -> u64
         requires known_band { band < bands_of self.now.uppers }
         requires known { i < length self.now.starts }
-        ensures value { result ≡ slice_index self.now.slopes (band * length self.now.starts + i) }
+        ensures value { result ≡ slope_of self.now band i }
         ensures some { 0 < result }
         ensures small { result ≤ 10 ^ 15 }
     {
@@ -153,22 +217,54 @@ impl BandMap {
     }
 
     /// The energy of a grain in a band and a segment, both counted from 0: 27 times the slope.
-    pub(crate) fn rate(&self, band: usize, i: usize) -> u128
+    pub(crate) fn rate(&self, band: usize, i: usize) -> u64
         requires known_band { band < bands_of self.now.uppers }
         requires known { i < length self.now.starts }
-        ensures value { result ≡ 27 * slice_index self.now.slopes (band * length self.now.starts + i) }
+        ensures value { result ≡ 27 * slope_of self.now band i }
         ensures some { 0 < result }
         ensures small { result ≤ 27 * 10 ^ 15 }
     {
-        27 * u128::from(self.natural_slope(band, i))
+        self.rates[band * self.segments() + i]
+    }
+
+    /// The energy of a grain in a band before cell 0, where the slope is that of the first segment.
+    pub(crate) fn rate_before_0(&self, band: usize) -> u64
+        requires { band < bands_of self.now.uppers }
+        ensures value { result ≡ 27 * slope_of self.now band 0 }
+        ensures some { 0 < result }
+        ensures kept { IsKept (handed_in self.now) }
+    {
+        let segments = self.segments();
+        prove!(0 < segments);
+        self.rate(band, 0)
     }
 
     /// The place in grains where a segment begins.
-    pub(crate) fn border(&self, i: usize) -> i128
+    pub(crate) fn border(&self, i: usize) -> u64
         requires { i < length self.now.starts }
-        ensures value { result ≡ cell_start 1 (slice_index_or self.now.starts i (pos 0)) }
-        ensures within { (pos 0 ≤ℤ result) × (result ≤ℤ pos (2 ^ 64)) }
+        ensures value { pos result ≡ border_at self.now.starts i }
+        ensures kept { IsKept (handed_in self.now) }
     {
-        CELL * i128::from(self.start(i))
+        border_at(&self.starts, i)
+    }
+
+    /// The energy in a band from cell 0 to the start of a segment.
+    pub(crate) fn sum(&self, band: usize, i: usize) -> u128
+        requires known_band { band < bands_of self.now.uppers }
+        requires known { i < length self.now.starts }
+        ensures value { result ≡ sum_of self.now band i }
+        ensures first { i ≡ 0 → result ≡ 0 }
+        ensures small { result ≤ 10 ^ 36 }
+    {
+        self.sums[band * self.segments() + i]
+    }
+
+    /// The high word of that energy, by which a segment is searched.
+    pub(crate) fn key(&self, band: usize, i: usize) -> u64
+        requires known_band { band < bands_of self.now.uppers }
+        requires known { i < length self.now.starts }
+        ensures { result ≡ sum_of self.now band i / 2 ^ 64 }
+    {
+        (self.sum(band, i) >> 64) as u64
     }
 }

@@ -2,8 +2,9 @@
 //! deceleration, and at q = 100 a slope of 200,000,000,000 is 1 m/s².
 
 ghost use Rattle.std.specs.Prelude.{◌≡◌, ℕ, pos, ◌<◌, ◌≤◌, ◌*◌, ◌↔◌, length, slice_index_or, IsTrue};
-ghost use Rattle.sdm_rules.specs.Slopes.{bands_of};
+ghost use Rattle.sdm_rules.specs.Slopes.{bands_of, meaning_of};
 ghost use Rattle.sdm_curve.specs.Maps.{AreUppers, AreStarts, IsBounded};
+ghost use Rattle.sdm_curve.specs.Made.{IsMadeFrom};
 
 use crate::{BandMap, Curve, CurveFault};
 use sdm_num::{Place, Speed};
@@ -74,7 +75,7 @@ fn map_of(
     assert!(rt; are_uppers(uppers));
     assert!(rt; are_starts(starts));
     assert!(rt; are_bounded(slopes));
-    assert!(rt; starts.len() <= 1_000);
+    assert!(rt; starts.len() <= 1_000_000);
     assert!(rt; slopes.len() == (uppers.len() + 1) * starts.len());
     BandMap::new(alloc, q, uppers, starts, slopes)
 }
@@ -150,62 +151,99 @@ fn a_map_keeps_what_was_handed_in(rt: HostRuntime) -> Result<(), CurveFault> {
 
 // ---- places
 
-// A curve: its foot in metres and its foot speed in m/s.
-#[derive(Clone, Copy)]
-struct Foot(i32, u32);
+// A metre in grains, and 1 m/s in notches.
+const METRE: i64 = 540_000_000_000;
 
-// The place in grains where the curve has a speed in m/s.
-fn place_of(rt: &impl Abort, map: &BandMap, foot: Foot, speed_m_s: u32) -> i64 {
-    assert!(rt; -1_000 <= foot.0);
-    assert!(rt; foot.0 <= 110_000);
-    assert!(rt; foot.1 <= 370);
-    assert!(rt; speed_m_s <= 370);
-    let curve = Curve::from_foot(
-        map,
-        Place::of_mm(1_000 * foot.0),
-        Speed::of_mm_s(1_000 * foot.1),
-    );
-    let place = curve.place(map, Speed::of_mm_s(1_000 * speed_m_s));
-    assert!(rt; place.slack() <= 286_331_153);
-    place.at().grains()
+const M_S: u32 = 54_000;
+
+// A curve by its foot in metres and its foot speed in notches, a speed in notches, and the curve's place of that speed in
+// grains.
+#[derive(Clone, Copy)]
+struct Case(i32, u32, u32, i64);
+
+fn curve_of(rt: &impl Abort, map: &BandMap, foot: i32, foot_speed: u32) -> Curve
+    ensures { IsMadeFrom (meaning_of map.now) result }
+{
+    assert!(rt; -1_000 <= foot);
+    assert!(rt; foot <= 110_000);
+    assert!(rt; foot_speed <= 20_000_000);
+    Curve::from_foot(map, Place::of_mm(1_000 * foot), Speed::new(foot_speed))
 }
 
-// A metre in grains.
-const METRE: i64 = 540_000_000_000;
+// Each place is as the case says, asked by its speed and by the speed that was asked of the map.
+fn assert_places(rt: &impl Abort, map: &BandMap, cases: &[Case]) {
+    for case in cases {
+        let curve = curve_of(rt, map, case.0, case.1);
+        assert!(rt; case.2 <= 20_000_000);
+        let asked = map.asked(Speed::new(case.2));
+        assert_eq!(rt; asked.speed().notches(), case.2);
+        let place = curve.place(map, Speed::new(case.2));
+        assert_eq!(rt; place.at().grains(), case.3);
+        assert!(rt; place.slack() <= 286_331_153);
+        assert_eq!(rt; curve.place_asked(map, &asked), place);
+    }
+}
 
 #[test]
 fn places_between_bands_and_segments(rt: HostRuntime) -> Result<(), CurveFault> {
     // 50 m at 1 m/s² up to 36 km/h, then 300 m at 0.5 m/s²
     let slopes = [200_000_000_000, 100_000_000_000];
     let bands = map_of(&rt, rt.alloc(), 100, &[Speed::of_kmh(36)], &[0], &slopes)?;
-    assert_eq!(rt; place_of(&rt, &bands, Foot(1_000, 0), 20), 650 * METRE);
-    assert_eq!(rt; place_of(&rt, &bands, Foot(1_000, 0), 10), 950 * METRE);
-    assert_eq!(rt; place_of(&rt, &bands, Foot(1_000, 10), 20), 700 * METRE);
-    assert_eq!(rt; place_of(&rt, &bands, Foot(1_000, 10), 0), 1_050 * METRE);
-    assert_eq!(rt; place_of(&rt, &bands, Foot(1_000, 10), 10), 1_000 * METRE);
+    let cases = [
+        Case(1_000, 0, 20 * M_S, 650 * METRE),
+        Case(1_000, 0, 10 * M_S, 950 * METRE),
+        Case(1_000, 10 * M_S, 20 * M_S, 700 * METRE),
+        Case(1_000, 10 * M_S, 0, 1_050 * METRE),
+        Case(1_000, 10 * M_S, 10 * M_S, 1_000 * METRE),
+    ];
+    assert_places(&rt, &bands, &cases);
     // 200 m at 0.5 m/s² back to 800 m, then 100 m at 1 m/s²
     let segments = map_of(&rt, rt.alloc(), 100, &[], &[0, 80_000], &slopes)?;
-    assert_eq!(rt; place_of(&rt, &segments, Foot(1_000, 0), 20), 700 * METRE);
+    assert_places(&rt, &segments, &[Case(1_000, 0, 20 * M_S, 700 * METRE)]);
+    Ok(())
+}
+
+#[test]
+fn places_at_the_border_of_a_segment(rt: HostRuntime) -> Result<(), CurveFault> {
+    // 1 m/s² up to 900 m, and then 0.5 m/s². At 10 m/s a notch takes 100,000,000 grains at 1 m/s² and twice as many at
+    // 0.5 m/s²; the square of a notch takes 92.6 grains at 1 m/s²
+    let slopes = [200_000_000_000, 100_000_000_000];
+    let map = map_of(&rt, rt.alloc(), 100, &[], &[0, 90_000], &slopes)?;
+    let cases = [
+        Case(1_000, 0, 10 * M_S - 1, 486_000_199_999_814),
+        Case(1_000, 0, 10 * M_S, 900 * METRE),
+        Case(1_000, 0, 10 * M_S + 1, 485_999_899_999_907),
+        Case(850, 10 * M_S, 1, 485_999_999_999_907),
+        Case(850, 10 * M_S, 0, 900 * METRE),
+        Case(900, 10 * M_S, 0, 1_000 * METRE),
+        Case(900, 0, 10 * M_S, 850 * METRE),
+    ];
+    assert_places(&rt, &map, &cases);
     Ok(())
 }
 
 #[test]
 fn below_the_foot_speed_a_curve_runs_on_past_its_foot(rt: HostRuntime) -> Result<(), CurveFault> {
     let flat = map_of(&rt, rt.alloc(), 100, &[], &[0], &[200_000_000_000])?;
-    assert_eq!(rt; place_of(&rt, &flat, Foot(1_000, 20), 10), 1_150 * METRE);
+    assert_places(
+        &rt,
+        &flat,
+        &[Case(1_000, 20 * M_S, 10 * M_S, 1_150 * METRE)],
+    );
     // 125 m at 2 m/s² to 20 m/s, 150 m at 1 m/s² to 10 m/s and 100 m at 0.5 m/s²
     let uppers = [Speed::of_kmh(36), Speed::of_kmh(72)];
     let slopes = [100_000_000_000, 200_000_000_000, 400_000_000_000];
     let bands = map_of(&rt, rt.alloc(), 100, &uppers, &[0], &slopes)?;
-    assert_eq!(rt; place_of(&rt, &bands, Foot(0, 30), 0), 375 * METRE);
-    assert_eq!(rt; place_of(&rt, &bands, Foot(0, 30), 20), 125 * METRE);
+    let cases = [
+        Case(0, 30 * M_S, 0, 375 * METRE),
+        Case(0, 30 * M_S, 20 * M_S, 125 * METRE),
+    ];
+    assert_places(&rt, &bands, &cases);
     // 100 m at 1 m/s² up to the last segment, then 600 m at 0.5 m/s²
     let slopes = [200_000_000_000, 100_000_000_000];
     let segments = map_of(&rt, rt.alloc(), 100, &[], &[0, 110_000], &slopes)?;
-    assert_eq!(rt;
-        place_of(&rt, &segments, Foot(1_000, 30), 10),
-        1_700 * METRE
-    );
+    let cases = [Case(1_000, 30 * M_S, 10 * M_S, 1_700 * METRE)];
+    assert_places(&rt, &segments, &cases);
     Ok(())
 }
 
@@ -213,11 +251,17 @@ fn below_the_foot_speed_a_curve_runs_on_past_its_foot(rt: HostRuntime) -> Result
 fn the_first_and_the_last_slope_go_on_without_end(rt: HostRuntime) -> Result<(), CurveFault> {
     let slopes = [200_000_000_000, 100_000_000_000];
     let near = map_of(&rt, rt.alloc(), 100, &[], &[0, 10_000], &slopes)?;
-    assert_eq!(rt; place_of(&rt, &near, Foot(-500, 0), 20), -700 * METRE);
-    assert_eq!(rt; place_of(&rt, &near, Foot(-500, 20), 0), -300 * METRE);
+    let cases = [
+        Case(-500, 0, 20 * M_S, -700 * METRE),
+        Case(-500, 20 * M_S, 0, -300 * METRE),
+    ];
+    assert_places(&rt, &near, &cases);
     let far = map_of(&rt, rt.alloc(), 100, &[], &[0, i32::MAX], &slopes)?;
-    assert_eq!(rt; place_of(&rt, &far, Foot(1_000, 20), 0), 1_200 * METRE);
-    assert_eq!(rt; place_of(&rt, &far, Foot(110_000, 0), 20), 109_800 * METRE);
+    let cases = [
+        Case(1_000, 20 * M_S, 0, 1_200 * METRE),
+        Case(110_000, 0, 20 * M_S, 109_800 * METRE),
+    ];
+    assert_places(&rt, &far, &cases);
     Ok(())
 }
 
@@ -227,16 +271,123 @@ fn places_are_rounded_down_at_each_border_and_at_the_end(
 ) -> Result<(), CurveFault> {
     // 20² / (2 · 0.91) m before 1000 m
     let flat = map_of(&rt, rt.alloc(), 109, &[], &[0], &[198_380_000_000])?;
-    assert_eq!(rt;
-        place_of(&rt, &flat, Foot(1_000, 0), 20),
-        421_318_681_318_681
-    );
+    let cases = [Case(1_000, 0, 20 * M_S, 421_318_681_318_681)];
+    assert_places(&rt, &flat, &cases);
     // the exact place is 860 m; the stepped one is a grain earlier, since the place of 5 m/s is rounded down first
     let slopes = [140_000_000_000, 140_000_000_000];
     let bands = map_of(&rt, rt.alloc(), 100, &[Speed::of_kmh(18)], &[0], &slopes)?;
-    assert_eq!(rt;
-        place_of(&rt, &bands, Foot(1_000, 0), 14),
-        464_399_999_999_999
-    );
+    let cases = [Case(1_000, 0, 14 * M_S, 464_399_999_999_999)];
+    assert_places(&rt, &bands, &cases);
+    Ok(())
+}
+
+// ---- many segments
+
+// Segments with their first cells and slopes.
+#[derive(Drop)]
+struct Segments {
+    starts: Vec<i32>,
+    slopes: Vec<i64>,
+}
+
+// Segments of equal length, whose slopes go by turns.
+fn by_turns(
+    alloc: Global,
+    count: i32,
+    cells: i32,
+    even: i64,
+    odd: i64,
+) -> Result<Segments, CurveFault> {
+    let mut starts = Vec::new(alloc);
+    let mut slopes = Vec::new(alloc);
+    for i in 0..count {
+        starts
+            .push(cells.wrapping_mul(i))
+            .map_err(|_| CurveFault::Memory)?;
+        let slope = if i % 2 == 0 { even } else { odd };
+        slopes.push(slope).map_err(|_| CurveFault::Memory)?;
+    }
+    Ok(Segments { starts, slopes })
+}
+
+// 640 uneven segments over some 9.6 km: segment `i` begins at cell 1500 i + (37 i mod 500), and in band `b`, counted from
+// 0, has the slope of 5 · (1 + (7 i + 3 b) mod 15) cm/s².
+fn uneven(alloc: Global) -> Result<Segments, CurveFault> {
+    let mut starts = Vec::new(alloc);
+    let mut slopes = Vec::new(alloc);
+    for i in 0u32..640 {
+        let start = 1_500 * i + 37 * i % 500;
+        starts.push(start as i32).map_err(|_| CurveFault::Memory)?;
+    }
+    for band in 0u32..8 {
+        for i in 0u32..640 {
+            let slope = 10_000_000_000 * i64::from(1 + (7 * i + 3 * band) % 15);
+            slopes.push(slope).map_err(|_| CurveFault::Memory)?;
+        }
+    }
+    Ok(Segments { starts, slopes })
+}
+
+#[test]
+fn a_place_among_a_thousand_segments(rt: HostRuntime) -> Result<(), CurveFault> {
+    let turns = by_turns(rt.alloc(), 1_000, 100, 200_000_000_000, 100_000_000_000)?;
+    let map = map_of(&rt, rt.alloc(), 100, &[], &turns.starts, &turns.slopes)?;
+    assert_places(&rt, &map, &[Case(1_000, 0, 20 * M_S, 733 * METRE)]);
+    Ok(())
+}
+
+// The places were worked out segment by segment and band by band in whole fractions, by a program apart from this one.
+#[test]
+fn places_among_640_segments_in_eight_bands(rt: HostRuntime) -> Result<(), CurveFault> {
+    let uppers = [
+        Speed::of_kmh(36),
+        Speed::of_kmh(72),
+        Speed::of_kmh(108),
+        Speed::of_kmh(144),
+        Speed::of_kmh(180),
+        Speed::of_kmh(216),
+        Speed::of_kmh(252),
+    ];
+    let uneven = uneven(rt.alloc())?;
+    let map = map_of(
+        &rt,
+        rt.alloc(),
+        100,
+        &uppers,
+        &uneven.starts,
+        &uneven.slopes,
+    )?;
+    let cases = [
+        Case(8_000, 0, 100 * M_S, -2_720_213_106_733_825),
+        Case(8_000, 0, 30 * M_S, 3_751_297_439_062_500),
+        Case(9_500, 90 * M_S, 0, 15_143_682_685_054_943),
+        Case(5_000, 50 * M_S, 20 * M_S, 4_115_970_180_000_000),
+        Case(5_000, 50 * M_S, 75 * M_S, 602_159_670_000_000),
+        Case(5_000, 50 * M_S, 50 * M_S, 2_700_000_000_000_000),
+        Case(5_000, 45 * M_S, 50 * M_S - 1, 2_398_192_549_999_768),
+        Case(5_000, 45 * M_S, 50 * M_S, 2_398_191_300_000_000),
+        Case(5_000, 45 * M_S, 50 * M_S + 1, 2_398_190_390_908_922),
+        Case(5_000, 55 * M_S, 50 * M_S - 1, 3_060_441_113_333_179),
+        Case(5_000, 55 * M_S, 50 * M_S, 3_060_440_280_000_000),
+        Case(5_000, 55 * M_S, 50 * M_S + 1, 3_060_439_613_333_209),
+        Case(-500, 0, 60 * M_S, -8_292_560_439_560_440),
+        Case(-500, 60 * M_S, 0, 2_366_831_472_167_831),
+    ];
+    assert_places(&rt, &map, &cases);
+    Ok(())
+}
+
+#[test]
+fn a_million_places_among_a_million_segments(rt: HostRuntime) -> Result<(), CurveFault> {
+    let turns = by_turns(rt.alloc(), 1_000_000, 10, 20_000_000_000, 10_000_000_000)?;
+    let map = map_of(&rt, rt.alloc(), 100, &[], &turns.starts, &turns.slopes)?;
+    let curve = Curve::from_foot(&map, Place::of_mm(100_000_000), Speed::new(0));
+    let mut last = Place::of_mm(100_000_000).grains();
+    for notches in 5_480_001..6_480_001 {
+        let at = curve.place(&map, Speed::new(notches)).at().grains();
+        assert!(rt; at < last);
+        last = at;
+    }
+    assert_eq!(rt; last, 4_000 * METRE);
     Ok(())
 }

@@ -5,18 +5,18 @@ use Rattle.sdm_num.specs.Bounds.{Bound, IsEarlyFor}
 use Rattle.sdm_rules.specs.declared.data.Times.{Times}
 use Rattle.sdm_rules.specs.Slopes.{SlopeMap, meaning_of}
 use Rattle.sdm_rules.specs.Limits.{CurvePlaces, SupervisionLimits, ebd_limits_at, sbd_limits_at}
-use Rattle.sdm_curve.specs.Made.{Foot}
+use Rattle.sdm_curve.specs.Made.{BrakeCurve}
 use Rattle.sdm_limits.specs.declared.limits.Limits.{Limits}
 use Rattle.sdm_limits.specs.declared.reaction.Reaction.{Reaction}
 
 -- the limits on an EBD with a foot, on the slopes of a map, for any way to find the places of a curve
 -- (SUBSET-026-3 3.13.9.3)
-abbrev pub ebd_limits_by : CurvePlaces → SlopeMap → Foot → Option Fraction → Times → ℕ → Reaction → SupervisionLimits
+abbrev pub ebd_limits_by : CurvePlaces → SlopeMap → BrakeCurve → Option Fraction → Times → ℕ → Reaction → SupervisionLimits
 ebd_limits_by P map ebd guide times v reaction =
     ebd_limits_at times v guide reaction.d_bec (P (meaning_of map) ebd.place ebd.speed reaction.v_bec)
 
 -- the same on an SBD, which gives no EBI (SUBSET-026-3 3.13.9.3)
-abbrev pub sbd_limits_by : CurvePlaces → SlopeMap → Foot → Option Fraction → Times → ℕ → SupervisionLimits
+abbrev pub sbd_limits_by : CurvePlaces → SlopeMap → BrakeCurve → Option Fraction → Times → ℕ → SupervisionLimits
 sbd_limits_by P map sbd guide times v = sbd_limits_at times v guide (P (meaning_of map) sbd.place sbd.speed v)
 
 -- the place of a bound, as a fraction

@@ -7,8 +7,8 @@ pub mod limits;
 pub mod reaction;
 pub mod times;
 
-pub use limits::{Limits, ebd_limits, sbd_limits};
-pub use reaction::{Reaction, reaction_of};
+pub use limits::{Limits, ebd_limits, ebd_limits_at, sbd_limits};
+pub use reaction::{BuildUp, Reaction, reaction_of};
 pub use sdm_rules::Times;
 pub use times::OfTrain;
 

@@ -7,9 +7,10 @@ ghost use Rattle.std.specs.Option.{option_map_or};
 ghost use Rattle.sdm_num.specs.Units.{notches};
 ghost use Rattle.sdm_num.specs.Bounds.{IsEarlyFor};
 ghost use Rattle.sdm_num.specs.Fractions.{Fraction, lesser};
-ghost use Rattle.sdm_rules.specs.Limits.{computed, exact_places, limits_before};
+ghost use Rattle.sdm_rules.specs.Limits.{computed, ebd_limits_at, exact_places, limits_before};
+ghost use Rattle.sdm_rules.specs.Slopes.{meaning_of};
 ghost use Rattle.sdm_curve.specs.Made.{IsMadeFrom};
-ghost use Rattle.sdm_limits.specs.Ranges.{AreTimes, IsGuide, IsWithin, reach};
+ghost use Rattle.sdm_limits.specs.Ranges.{AreTimes, IsGuide, IsWithin, curve_reach, reach};
 ghost use Rattle.sdm_limits.specs.Sides.{IsEarlyWhere, StandFor, ebd_limits_by, place_of, place_where, places_of, sbd_limits_by};
 
 use crate::reaction::{Reaction, way};
@@ -45,7 +46,7 @@ pub fn ebd_limits(
     v: Speed,
     reaction: &Reaction,
 ) -> Limits
-    requires made { IsMadeFrom safe.now ebd.now }
+    requires made { IsMadeFrom (meaning_of safe.now) ebd.now }
     requires guide { IsGuide guide }
     requires times { AreTimes times.now }
     requires speed { v ≤ notches 500 }
@@ -55,8 +56,30 @@ pub fn ebd_limits(
     ensures stands { (g : Option Fraction) → IsEarlyWhere guide g →
         StandFor result (ebd_limits_by exact_places safe.now ebd.now g times.now v reaction.now) }
 {
+    let place = ebd.place(safe, reaction.v_bec);
+    ebd_limits_at(place, guide, times, v, reaction.d_bec)
+}
+
+/// The limits on an EBD by its place at V_bec, which lies within 9·10¹⁷ grains of the origin; the other conditions are those of
+/// `ebd_limits`. (SUBSET-026-3 3.13.9.3; ranges own)
+pub fn ebd_limits_at(
+    place: Early,
+    guide: Option<Early>,
+    times: &Times,
+    v: Speed,
+    d_bec: u64,
+) -> Limits
+    requires place { IsWithin curve_reach place.at }
+    requires guide { IsGuide guide }
+    requires times { AreTimes times.now }
+    requires speed { v ≤ notches 500 }
+    requires way { d_bec ≤ 10 ^ 16 }
+    ensures at { places_of result ≡ ebd_limits_at times.now v (place_where guide) d_bec (place_of place) }
+    ensures stands { (g : Option Fraction) (x : Fraction) → IsEarlyWhere guide g → IsEarlyFor place x →
+        StandFor result (ebd_limits_at times.now v g d_bec x) }
+{
     // d_EBI = d_EBD(V_bec) - D_bec (SUBSET-026-3 3.13.9.3.2)
-    let ebi = ebd.place(safe, reaction.v_bec).less(reaction.d_bec);
+    let ebi = place.less(d_bec);
     // d_SBI = d_EBI - V_est * T_bs (SUBSET-026-3 3.13.9.3.3; form own)
     let sbi = ebi.less(way(v.notches(), times.bs));
     limits_from_sbi(times, v, guide, Some(ebi), sbi)
@@ -71,7 +94,7 @@ pub fn sbd_limits(
     times: &Times,
     v: Speed,
 ) -> Limits
-    requires made { IsMadeFrom expected.now sbd.now }
+    requires made { IsMadeFrom (meaning_of expected.now) sbd.now }
     requires guide { IsGuide guide }
     requires times { AreTimes times.now }
     requires speed { v ≤ notches 500 }

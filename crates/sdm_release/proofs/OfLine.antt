@@ -9,11 +9,11 @@ use Rattle.sdm_rules.specs.Decelerations.{slopes_of}
 use Rattle.sdm_rules.specs.Limits.{CurvePlaces, release_start, release_start_at}
 use Rattle.sdm_rules.specs.Reaction.{line_times}
 use Rattle.sdm_rules.specs.Slopes.{Slopes}
-use Rattle.sdm_curve.specs.Made.{Foot}
+use Rattle.sdm_curve.specs.Made.{BrakeCurve}
 
 -- with EOA and SvL in cm and the release speed in km/h
 pub start_found :
-    (P : CurvePlaces) (d : LineData) (eoa svl release : ℕ) (safe expected : Slopes) (ebd sbd : Foot) (times : Times) (v : ℕ) →
+    (P : CurvePlaces) (d : LineData) (eoa svl release : ℕ) (safe expected : Slopes) (ebd sbd : BrakeCurve) (times : Times) (v : ℕ) →
     safe ≡ slopes_of Safe d →
     expected ≡ slopes_of Expected d →
     ebd.place ≡ border_of (pos svl) →

@@ -1,6 +1,5 @@
 -- The earlier of two places, each so many whole grains before a whole one, is found as for fractions.
-use Rattle.std.proofs.Common.{◌≡◌, ℕ, ℤ, pos, neg_ℤ, ◌*◌, ◌+ℤ◌, ◌∙◌, arith, ap}
-use Rattle.std.proofs.lemmas.Int.{ints}
+use Rattle.std.proofs.Common.{◌≡◌, ℕ, ℤ, pos, neg_ℤ, ◌+ℤ◌, ◌∙◌, ap}
 use Rattle.sdm_num.specs.Bounds.{Bound, earlier_of}
 use Rattle.sdm_num.specs.Fractions.{less, lesser, whole}
 use Rattle.sdm_limits.specs.Sides.{place_of}

@@ -27,8 +27,8 @@ pub fn release_start(
     times: &Times,
     release: Speed,
 ) -> Early
-    requires ebd { IsMadeFrom safe.now ebd.now }
-    requires sbd { IsMadeFrom expected.now sbd.now }
+    requires ebd { IsMadeFrom (meaning_of safe.now) ebd.now }
+    requires sbd { IsMadeFrom (meaning_of expected.now) sbd.now }
     requires times { AreTimes times.now }
     requires speed { release ≤ notches 500 }
     ensures at { place_of result ≡ release_start_at times.now release

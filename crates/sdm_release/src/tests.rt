@@ -1,6 +1,7 @@
 //! Starts worked by hand in m/s and m: the way to brake from V_rel is V_rel² by twice the deceleration.
 
 ghost use Rattle.std.specs.Prelude.{◌≤◌, IfOk};
+ghost use Rattle.sdm_curve.specs.Made.{IsFootPlace};
 ghost use Rattle.sdm_limits.specs.Ranges.{AreTimes};
 
 use crate::release_start;
@@ -45,12 +46,20 @@ fn times_of_row(rt: &impl Abort, line: &str) -> Result<Times, &'static str>
     })
 }
 
+// The place of so many metres.
+fn place_of(metres: u32) -> Place
+    requires { metres ≤ 100_000 }
+    ensures { IsFootPlace result }
+{
+    Place::of_cm(100 * metres as i32)
+}
+
 // The start of a row, with the EOA at 1000 m.
 fn start_of_row(rt: &impl Abort, alloc: Global, line: &str) -> Result<Early, &'static str> {
     let safe = level(alloc, natural(rt, line, 0, 400)?)?;
     let expected = level(alloc, natural(rt, line, 1, 400)?)?;
-    let svl = Place::of_cm(100 * natural(rt, line, 2, 100_000)? as i32);
-    let eoa = Place::of_cm(100_000);
+    let svl = place_of(natural(rt, line, 2, 100_000)?);
+    let eoa = place_of(1000);
     let none = Speed::of_kmh(0);
     let ebd = Curve::from_foot(&safe, svl, none);
     let sbd = Curve::from_foot(&expected, eoa, none);

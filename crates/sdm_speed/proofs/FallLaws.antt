@@ -20,11 +20,11 @@ pub falls_later : (v : ℕ) (s : Step) (ss : List Step) → v ≤ s.speed → fi
 falls_later v s ss le = rw (le-ltb s.speed v le) refl
 
 -- no fall past the cell up to a later one
-abbrev IsQuiet : (ℤ → ℕ) → ℤ → ℤ → Type 0
+abbrev pub IsQuiet : (ℤ → ℕ) → ℤ → ℤ → Type 0
 IsQuiet profile after at = (c : ℤ) → after <ℤ c → c ≤ℤ at → is_fall profile c ≡ false
 
 -- what is past a quiet stretch of one profile is past its beginning in another, which is the same from there on
-fall_past : (f g : ℤ → ℕ) (after at : ℤ) (next : Option Fall) → after ≤ℤ at → IsQuiet f after at → ((c : ℤ) → at ≤ℤ c → f c ≡ g c) → IsFallAfter g at next → IsFallAfter f after next
+pub fall_past : (f g : ℤ → ℕ) (after at : ℤ) (next : Option Fall) → after ≤ℤ at → IsQuiet f after at → ((c : ℤ) → at ≤ℤ c → f c ≡ g c) → IsFallAfter g at next → IsFallAfter f after next
 fall_past f g after at None le quiet same h = λ c a.
     by_lt_z at c
     (λ (l : at <ℤ c). rw (same c (omega (arith, ints)), same (c -ℤ pos 1) (omega (arith, ints))) (h c l))

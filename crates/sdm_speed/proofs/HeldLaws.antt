@@ -27,10 +27,10 @@ tie_is a b = grind (arith, nat_tests)
 tie_both_ways : (a b : ℕ) → eq_by_cmp nat_cmp a b ≡ eq_by_cmp nat_cmp b a
 tie_both_ways a b = grind (arith, nat_tests)
 
-tied : (a b : ℕ) → eq_by_cmp nat_cmp a b ≡ true → a ≡ b
+pub tied : (a b : ℕ) → eq_by_cmp nat_cmp a b ≡ true → a ≡ b
 tied a b t = grind (arith, nat_tests)
 
-tie_self : (a : ℕ) → eq_by_cmp nat_cmp a a ≡ true
+pub tie_self : (a : ℕ) → eq_by_cmp nat_cmp a a ≡ true
 tie_self a = grind (arith, nat_tests)
 
 same_id : {a b : ℕ} → (a == b) ≡ true → a ≡ b
@@ -73,7 +73,7 @@ found_from id (x ∷ xs) i =
 pub contains_is : (rs : List Restriction) (id : ℕ) → finite.contains_key (by_identity rs) id ≡ is_some (position (has_id id) rs)
 contains_is rs id = rw (get_is rs id) (found_from id rs 0 ∙ ap is_some (sym (position_from-zero (has_id id) rs)))
 
-no_value : (o : Option Restriction) → is_some o ≡ false → o ≡ None
+pub no_value : (o : Option Restriction) → is_some o ≡ false → o ≡ None
 no_value None e = refl
 no_value (Some r) e = absurd cc
 
@@ -93,6 +93,22 @@ distinct_more (x ∷ xs) r h missing =
 
 pub inserted : (rs : List Restriction) (r : Restriction) → finite.find nat_cmp r.id (map keyed rs) ≡ None → by_identity (rs ++ r ∷ []) ≡ finite.insert (by_identity rs) r.id r
 inserted rs r missing = rw (map-append keyed rs (r ∷ [])) (finite.from_entries_push nat_cmp_total finite.nat_cmp-IsAntisymmetric (map keyed rs) r.id r missing)
+
+-- a restriction is found by its identity
+found_at : (rs : List Restriction) (id i : ℕ) (d : Restriction) → i < length rs → (get_or rs i d).id ≡ id → ((k : ℕ) → k < i → (get_or rs k d).id ≢ id) → finite.find nat_cmp id (map keyed rs) ≡ Some (get_or rs i d)
+found_at [] id i d known here before = absurd (omega arith)
+found_at (x ∷ xs) id zero d known here before = rw (← here, tie_self x.id) refl
+found_at (x ∷ xs) id (suc i) d known here before =
+    first (eq_by_cmp nat_cmp id x.id) (λ t. before 0 (omega arith) (sym (tied id x.id t))) (found_at xs id i d (omega arith) here (λ k l. before (suc k) (omega arith)))
+  where
+    first : (b : Bool) → (b ≡ true → ⊥) → finite.find nat_cmp id (map keyed xs) ≡ Some (get_or xs i d) → cond b (Some x) (finite.find nat_cmp id (map keyed xs)) ≡ Some (get_or xs i d)
+    first true apart rest = absurd (apart refl)
+    first false apart rest = rest
+
+pub get_at : (rs : List Restriction) (id i : ℕ) (d : Restriction) → position (has_id id) rs ≡ Some i → (i < length rs) × (finite.get (by_identity rs) id ≡ Some (get_or rs i d))
+get_at rs id i d place =
+    let at = position-Some (has_id id) rs i d place in
+    (at.0, get_is rs id ∙ found_at rs id i d at.0 (same_id at.1) (λ k l e. not_here (at.2 k l) e))
 
 -- one restriction less
 found_less : (rs : List Restriction) (id i : ℕ) (d : Restriction) (q : ℕ) → AreDistinct rs → i < length rs → (get_or rs i d).id ≡ id → ((k : ℕ) → k < i → (get_or rs k d).id ≢ id) →
@@ -142,20 +158,20 @@ lowest_of top cell length_cm es = lowest_limit top cell (map (zone_of length_cm)
 
 module _ (top : ℕ) (cell length_cm : ℤ) where
   -- an entry that is put among the others counts as if it stood before them
-  put_at : (o : Ordering) (r : Restriction) (e : ℕ × Restriction) (es : List (ℕ × Restriction)) → cond (is_eq o) (Some e.1) (finite.find nat_cmp r.id es) ≡ None →
-      (finite.find nat_cmp r.id es ≡ None → lowest_of top cell length_cm (put nat_cmp r.id r es) ≡ capped cell (zone_of length_cm r) (lowest_of top cell length_cm es)) →
-      lowest_of top cell length_cm (by_order o ((r.id, r) ∷ e ∷ es) ((e.0, r) ∷ es) (e ∷ put nat_cmp r.id r es)) ≡ capped cell (zone_of length_cm r) (lowest_of top cell length_cm (e ∷ es))
-  put_at Less r e es missing rest = refl
-  put_at Equal r e es missing rest = absurd cc
-  put_at Greater r e es missing rest = rw (rest missing) (capped_in_any_order cell (zone_of length_cm e.1) (zone_of length_cm r) (lowest_of top cell length_cm es))
+  put_at : (o : Ordering) (k : ℕ) (r : Restriction) (e : ℕ × Restriction) (es : List (ℕ × Restriction)) → cond (is_eq o) (Some e.1) (finite.find nat_cmp k es) ≡ None →
+      (finite.find nat_cmp k es ≡ None → lowest_of top cell length_cm (put nat_cmp k r es) ≡ capped cell (zone_of length_cm r) (lowest_of top cell length_cm es)) →
+      lowest_of top cell length_cm (by_order o ((k, r) ∷ e ∷ es) ((e.0, r) ∷ es) (e ∷ put nat_cmp k r es)) ≡ capped cell (zone_of length_cm r) (lowest_of top cell length_cm (e ∷ es))
+  put_at Less k r e es missing rest = refl
+  put_at Equal k r e es missing rest = absurd cc
+  put_at Greater k r e es missing rest = rw (rest missing) (capped_in_any_order cell (zone_of length_cm e.1) (zone_of length_cm r) (lowest_of top cell length_cm es))
 
-  put_among : (r : Restriction) (es : List (ℕ × Restriction)) → finite.find nat_cmp r.id es ≡ None → lowest_of top cell length_cm (put nat_cmp r.id r es) ≡ capped cell (zone_of length_cm r) (lowest_of top cell length_cm es)
-  put_among r [] missing = refl
-  put_among r (e ∷ es) missing = put_at (nat_cmp r.id e.0) r e es missing (put_among r es)
+  pub put_among : (k : ℕ) (r : Restriction) (es : List (ℕ × Restriction)) → finite.find nat_cmp k es ≡ None → lowest_of top cell length_cm (put nat_cmp k r es) ≡ capped cell (zone_of length_cm r) (lowest_of top cell length_cm es)
+  put_among k r [] missing = refl
+  put_among k r (e ∷ es) missing = put_at (nat_cmp k e.0) k r e es missing (put_among k r es)
 
   -- so the order of the map changes nothing
   pub lowest_by_identity : (rs : List Restriction) → AreDistinct rs → lowest_limit top cell (map (zone_of length_cm) (finite.values (by_identity rs))) ≡ lowest_limit top cell (map (zone_of length_cm) rs)
   lowest_by_identity [] h = ap (lowest_of top cell length_cm) (nil_from_length (finite.entries (by_identity [])) (sym (finite.len-entries (by_identity [])) ∙ len_is [] tt))
   lowest_by_identity (r ∷ rs) h =
       let missing = sym (finite.get-entries (by_identity rs) r.id) ∙ get_is rs r.id ∙ h.0 in
-      rw (finite.entries-insert nat_cmp_total (by_identity rs) r.id r) (put_among r (finite.entries (by_identity rs)) missing ∙ ap (capped cell (zone_of length_cm r)) (lowest_by_identity rs h.1))
+      rw (finite.entries-insert nat_cmp_total (by_identity rs) r.id r) (put_among r.id r (finite.entries (by_identity rs)) missing ∙ ap (capped cell (zone_of length_cm r)) (lowest_by_identity rs h.1))

@@ -9,4 +9,6 @@ pub mod SplitLaws
 pub mod CapLaws
 pub mod LowestLaws
 pub mod FallLaws
+pub mod FallLists
 pub mod KeptLaws
+pub mod ChangeLaws

@@ -1,6 +1,5 @@
 -- A profile falls only where a zone begins: a zone that covers a cell and does not begin there covers the cell before it too.
 use Rattle.std.proofs.Common.{◌≡◌, ℕ, suc, ℤ, pos, List, [], ◌∷◌, Option, Some, None, Bool, true, false, ◌||◌, int_le, int_lt, if◌then◌else◌, min, ◌≤◌, ◌-ℤ◌, ◌≤ℤ◌, ◌<ℤ◌, refl, sym, ap, ◌∙◌, arith, All}
-use Rattle.std.specs.List.{list_any}
 use Rattle.std.specs.Option.{option_map_or}
 use Rattle.std.specs.Ordering.{int_eq}
 use Rattle.std.proofs.lemmas.Int.{ints, by_lt_z}
@@ -10,15 +9,7 @@ use Rattle.sdm_num.proofs.Comparisons.{le_is, le_of, lt_is, lt_of}
 use Rattle.sdm_rules.specs.Profile.{Zone, covers, lowest_limit}
 use Rattle.sdm_rules.specs.Targets.{is_fall}
 use Rattle.sdm_track.specs.Ranges.{longest_track}
-use Rattle.sdm_speed.specs.Zones.{IsZone, limits_of}
-
--- the zone begins at the cell
-abbrev pub starts_at : ℤ → Zone → Bool
-starts_at cell z = option_map_or (int_eq cell) z.first false
-
--- one of the zones begins at the cell
-abbrev pub has_start : List Zone → ℤ → Bool
-has_start zones cell = list_any (starts_at cell) zones
+use Rattle.sdm_speed.specs.Zones.{IsZone, limits_of, starts_at, has_start}
 
 -- ---- tests
 

@@ -34,7 +34,7 @@ int_gap_is (negsuc a) (negsuc b) le = omega (arith, ints)
 
 -- ---- zones after zones
 
-capped_first : (c : ℤ) (y : Zone) (n : ℕ) (zs : List Zone) → lowest_limit (capped c y n) c zs ≡ capped c y (lowest_limit n c zs)
+pub capped_first : (c : ℤ) (y : Zone) (n : ℕ) (zs : List Zone) → lowest_limit (capped c y n) c zs ≡ capped c y (lowest_limit n c zs)
 capped_first c y n [] = refl
 capped_first c y n (z ∷ zs) = ap (capped c z) (capped_first c y n zs) ∙ capped_in_any_order c z y (lowest_limit n c zs)
 

@@ -1,5 +1,7 @@
 pub mod Zones
 pub mod Steps
+pub mod Falls
 pub mod Held
+pub mod Changes
 pub mod Profiles
 pub mod ProfileFields

@@ -2,11 +2,13 @@
 //! temporary restrictions, which come and go. All room is taken when a profile begins.
 #![tactic(auto)]
 
+mod changes;
 mod profiles;
 mod steps;
 mod zones;
 
-pub use profiles::Profile;
+pub use changes::Changed;
+pub use profiles::{MOST_RESTRICTIONS, Profile};
 pub use sdm_rules::{Fall, RestrictFault, Restriction, RevokeFault};
 
 #[cfg(test)]

@@ -1,5 +1,6 @@
 //! The speed profile of a train on a track. Its speeds are kept as steps, found anew where a restriction comes or goes: one that comes
-//! lowers them, and after one has gone the static speeds are lowered by those that are left.
+//! lowers them, and after one has gone the static speeds are lowered by those that are left. Both tell the cells whose speed may be
+//! another now, so that what is kept elsewhere of the other cells can stay.
 
 ghost use Rattle.std.specs.Prelude.{◌≡◌, ℤ, pos, ◌+◌, ◌*◌, ◌≤◌, ◌≤ℤ◌, All, Some, None, IfOk, IfErr, IfSome, MatchOption, OnOk, OnErr, length, map, min, position, vec_len, vec_capacity};
 ghost use Rattle.std.specs.FinMap as finite;
@@ -12,8 +13,10 @@ ghost use Rattle.sdm_track.specs.Ranges.{AreSpeeds, longest_track};
 ghost use Rattle.sdm_speed.specs.Zones.{IsLimit, IsZone, IsFallInRange, limits_of};
 ghost use Rattle.sdm_speed.specs.Steps.{AreRising, speeds_of};
 ghost use Rattle.sdm_speed.specs.Held.{IsHeld, has_id};
+ghost use Rattle.sdm_speed.specs.Changes.{AreSameOutside, IsChangedInRange, cells_of};
 ghost use Rattle.sdm_speed.specs.Profiles.{mrsp_of, new_profile, IsProfile};
 
+use crate::changes::Changed;
 use crate::steps::Steps;
 use crate::zones::Zone;
 use sdm_num::NoMemory;
@@ -23,7 +26,7 @@ use std::alloc::Global;
 use std::marker::Model;
 
 /// The most restrictions that are held. (own)
-const MOST_RESTRICTIONS: usize = 32;
+pub const MOST_RESTRICTIONS: usize = 32;
 
 /// The MRSP of a train on a track, with at most 32 temporary restrictions by identity. (SUBSET-026-3 3.13.7)
 #[derive(Debug, Drop)]
@@ -120,15 +123,28 @@ fn steps_of(alloc: Global, zones: &[Zone], top: u16) -> Result<Steps, NoMemory>
     Ok(steps)
 }
 
+/// The cells that a temporary restriction covers.
+fn cells_of(r: Restriction, length_cm: u32) -> Changed
+    requires track { IsHeld r }
+    requires train { length_cm ≤ 150_000 }
+    ensures { result ≡ cells_of (pos length_cm) r }
+{
+    Changed {
+        first: r.start as i32,
+        past: end_for(length_cm, r.delayed, i64::from(r.end)),
+    }
+}
+
 /// The zone of a temporary restriction.
 fn zone_of(r: Restriction, length_cm: u32) -> Zone
     requires track { IsHeld r }
     requires train { length_cm ≤ 150_000 }
     ensures { result ≡ zone_of (pos length_cm) r }
 {
+    let cells = cells_of(r, length_cm);
     Zone {
-        first: Some(r.start as i32),
-        past: Some(end_for(length_cm, r.delayed, i64::from(r.end))),
+        first: Some(cells.first),
+        past: Some(cells.past),
         limit: r.speed,
     }
 }
@@ -201,6 +217,14 @@ impl Profile {
         self.track_cm
     }
 
+    /// How many entries the static speed profile has: 1 to 128.
+    pub fn speed_count(&self) -> usize
+        ensures value { result ≡ length self.now.speeds }
+        ensures in_range { IsProfile self.now }
+    {
+        self.speeds.len()
+    }
+
     // Whether a restriction with this identity is held.
     fn is_held(&self, id: u16) -> bool
         ensures { result ≡ finite.contains_key self.now.restrictions id }
@@ -225,6 +249,47 @@ impl Profile {
         None
     }
 
+    /// Puts a restriction into force, and tells the cells that it covers: in no others is the MRSP another. Its speed is 1 to
+    /// 500 km/h. Refused where 32 are held, where one with its identity is held, and where it ends at or before its start or past
+    /// the track's end; the profile is then as it was. (SUBSET-026-3 3.11.5; refusals own)
+    pub fn impose(&mut self, r: Restriction) -> Result<Changed, RestrictFault>
+        requires slowest { 1 ≤ r.speed }
+        requires fastest { r.speed ≤ 500 }
+        ensures accepted { OnOk result (restrict_fault self.old.track_cm self.old.restrictions r ≡ None) }
+        ensures added { OnOk result (self.new ≡ record self.old { restrictions = finite.insert self.old.restrictions r.id r }) }
+        ensures outside { IfOk result (AreSameOutside (mrsp_of self.old) (mrsp_of self.new)) }
+        ensures in_range { IfOk result IsChangedInRange }
+        ensures profile_in_range { IsProfile self.old }
+        ensures refused { IfErr result (λ fault. restrict_fault self.old.track_cm self.old.restrictions r ≡ Some fault) }
+        ensures unchanged { OnErr result (self.new ≡ self.old) }
+    {
+        if let Some(fault) = self.restrict_fault(r) {
+            return Err(fault);
+        }
+        self.held.push_reserved(r);
+        self.steps.lower(zone_of(r, self.length_cm));
+        Ok(cells_of(r, self.length_cm))
+    }
+
+    /// Takes a restriction out of force, and tells the cells that it covered: in no others is the MRSP another. Refused where none
+    /// with this identity is held; the profile is then as it was. (own)
+    pub fn lift(&mut self, id: u16) -> Result<Changed, RevokeFault>
+        ensures accepted { OnOk result (revoke_fault self.old.restrictions id ≡ None) }
+        ensures removed { OnOk result (self.new ≡ record self.old { restrictions = finite.remove self.old.restrictions id }) }
+        ensures outside { IfOk result (AreSameOutside (mrsp_of self.old) (mrsp_of self.new)) }
+        ensures in_range { IfOk result IsChangedInRange }
+        ensures profile_in_range { IsProfile self.old }
+        ensures refused { IfErr result (λ fault. revoke_fault self.old.restrictions id ≡ Some fault) }
+        ensures unchanged { OnErr result (self.new ≡ self.old) }
+    {
+        let Some(place) = place_of(&self.held, id) else {
+            return Err(RevokeFault::Unknown { id });
+        };
+        let lifted = self.held.remove(place);
+        lower_anew(&mut self.steps, &self.statics, &self.held, self.length_cm);
+        Ok(cells_of(lifted, self.length_cm))
+    }
+
     /// Puts a restriction into force; its speed is 1 to 500 km/h. Refused where 32 are held, where one with its identity is held,
     /// and where it ends at or before its start or past the track's end; the profile is then as it was. (SUBSET-026-3 3.11.5;
     /// refusals own)
@@ -236,11 +301,7 @@ impl Profile {
         ensures refused { IfErr result (λ fault. restrict_fault self.old.track_cm self.old.restrictions r ≡ Some fault) }
         ensures unchanged { OnErr result (self.new ≡ self.old) }
     {
-        if let Some(fault) = self.restrict_fault(r) {
-            return Err(fault);
-        }
-        self.held.push_reserved(r);
-        self.steps.lower(zone_of(r, self.length_cm));
+        self.impose(r)?;
         Ok(())
     }
 
@@ -251,11 +312,7 @@ impl Profile {
         ensures refused { IfErr result (λ fault. revoke_fault self.old.restrictions id ≡ Some fault) }
         ensures unchanged { OnErr result (self.new ≡ self.old) }
     {
-        let Some(place) = place_of(&self.held, id) else {
-            return Err(RevokeFault::Unknown { id });
-        };
-        self.held.remove(place);
-        lower_anew(&mut self.steps, &self.statics, &self.held, self.length_cm);
+        self.lift(id)?;
         Ok(())
     }
 

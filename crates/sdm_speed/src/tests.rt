@@ -3,6 +3,8 @@
 use crate::{Profile, Restriction};
 use sdm_track::{SpeedStep, Track};
 use std::alloc::Global;
+use std::process::Abort;
+use std::str::SplitWhitespace;
 use std::test::Fail;
 
 /// What is asked, and the answer.
@@ -10,8 +12,10 @@ use std::test::Fail;
 /// - `track`: a new profile, of the length of a track and of a train, a maximum speed, and the static profile as
 ///   `start:speed:delayed` of each entry
 /// - `set`: identity, start, end, speed, whether the end is delayed
+/// - `impose`: the same; the first cell that changed, and the one past the last
 /// - `fill`: sets restrictions of the identities 1 to 32
 /// - `revoke`: identity
+/// - `lift`: the same; the first cell that changed, and the one past the last
 /// - `lowest`: first and last cell
 /// - `end`: the length of the track
 /// - `fall`: the cell after which the next fall is looked for
@@ -127,6 +131,31 @@ set 7 3000 4000 40 0 = set
 lowest 0 5000 = 40
 set 33 3000 4000 40 0 = too many restrictions";
 
+/// The same, of the cells that change. A delayed end lies one length of the train further on.
+const CHANGES: &str = "\
+track 200000 10000 160 0:160:1
+impose 1 50000 60000 80 1 = 50000 70000
+impose 2 50000 60000 80 0 = 50000 60000
+impose 3 0 200000 200 1 = 0 210000
+impose 4 199999 200000 40 0 = 199999 200000
+impose 4 0 200000 60 0 = identity 4 in use
+impose 5 60000 60000 60 0 = restriction value
+lowest 199999 199999 = 40
+lift 5 = identity 5 unknown
+lift 2 = 50000 60000
+lowest 50000 59999 = 80
+lift 1 = 50000 70000
+lowest 50000 59999 = 160
+lift 1 = identity 1 unknown
+lift 4 = 199999 200000
+lift 3 = 0 210000
+track 10000000 150000 500 0:500:1
+impose 9 9999999 10000000 5 1 = 9999999 10150000
+lift 9 = 9999999 10150000
+fill = set
+impose 33 3000 4000 40 0 = too many restrictions
+lift 32 = 1000 2000";
+
 fn length(word: Option<&str>) -> Result<u32, Fail> {
     Ok(word.ok_or("a length is wanting")?.parse::<u32>()?)
 }
@@ -173,6 +202,17 @@ fn begun(alloc: Global, text: &str) -> Result<Profile, Fail> {
     Ok(Profile::begin(alloc, &track, max_speed, length_cm)?)
 }
 
+// A restriction as it is given.
+fn restriction(words: &mut SplitWhitespace<'_>) -> Result<Restriction, Fail> {
+    Ok(Restriction {
+        id: identity(words.next())?,
+        start: length(words.next())?,
+        end: length(words.next())?,
+        speed: identity(words.next())?,
+        delayed: delayed(words.next())?,
+    })
+}
+
 // The text of the fault, or `set`.
 fn set(alloc: Global, profile: &mut Profile, r: Restriction) -> Result<String, Fail> {
     if r.speed < 1 || 500 < r.speed {
@@ -184,20 +224,23 @@ fn set(alloc: Global, profile: &mut Profile, r: Restriction) -> Result<String, F
     }
 }
 
+// The text of the fault, or of the cells that changed.
+fn imposed(alloc: Global, profile: &mut Profile, r: Restriction) -> Result<String, Fail> {
+    if r.speed < 1 || 500 < r.speed {
+        return Err("no speed")?;
+    }
+    match profile.impose(r) {
+        Ok(cells) => Ok(format!(in alloc; "{} {}", cells.first, cells.past)?),
+        Err(fault) => Ok(format!(in alloc; "{fault}")?),
+    }
+}
+
 // The answer to what is asked.
 fn answer(alloc: Global, profile: &mut Profile, asked: &str) -> Result<String, Fail> {
     let mut words = asked.split_whitespace();
     match words.next() {
-        Some("set") => {
-            let r = Restriction {
-                id: identity(words.next())?,
-                start: length(words.next())?,
-                end: length(words.next())?,
-                speed: identity(words.next())?,
-                delayed: delayed(words.next())?,
-            };
-            set(alloc, profile, r)
-        }
+        Some("set") => set(alloc, profile, restriction(&mut words)?),
+        Some("impose") => imposed(alloc, profile, restriction(&mut words)?),
         Some("fill") => {
             for id in 1..32 {
                 set(alloc, profile, at(id))?;
@@ -206,6 +249,10 @@ fn answer(alloc: Global, profile: &mut Profile, asked: &str) -> Result<String, F
         }
         Some("revoke") => match profile.revoke(identity(words.next())?) {
             Ok(()) => Ok(format!(in alloc; "revoked")?),
+            Err(fault) => Ok(format!(in alloc; "{fault}")?),
+        },
+        Some("lift") => match profile.lift(identity(words.next())?) {
+            Ok(cells) => Ok(format!(in alloc; "{} {}", cells.first, cells.past)?),
             Err(fault) => Ok(format!(in alloc; "{fault}")?),
         },
         Some("lowest") => {
@@ -235,18 +282,28 @@ fn at(id: u16) -> Restriction {
     }
 }
 
-#[test]
-fn the_lowest_restriction_counts(rt: HostRuntime) -> Result<(), Fail> {
-    let mut profile = begun(rt.alloc(), "200000 10000 160 0:160:0")?;
-    for line in CASES.lines() {
+// Each line of a table, asked of the profile that the lines before it have made.
+fn ask(rt: &impl Abort, alloc: Global, table: &str) -> Result<(), Fail> {
+    let mut profile = begun(alloc, "200000 10000 160 0:160:0")?;
+    for line in table.lines() {
         match line.strip_prefix("track ") {
-            Some(text) => profile = begun(rt.alloc(), text)?,
+            Some(text) => profile = begun(alloc, text)?,
             None => {
                 let (asked, expected) = line.split_once(" = ").ok_or("no answer")?;
-                let found = answer(rt.alloc(), &mut profile, asked)?;
+                let found = answer(alloc, &mut profile, asked)?;
                 assert_eq!(rt; found.as_str(), expected, "{line}");
             }
         }
     }
     Ok(())
+}
+
+#[test]
+fn the_lowest_restriction_counts(rt: HostRuntime) -> Result<(), Fail> {
+    ask(&rt, rt.alloc(), CASES)
+}
+
+#[test]
+fn the_cells_of_a_restriction_change(rt: HostRuntime) -> Result<(), Fail> {
+    ask(&rt, rt.alloc(), CHANGES)
 }

@@ -12,7 +12,7 @@ use Rattle.sdm_rules.specs.Supervision.{Supervision, situation_of, commands_in, 
 use Rattle.sdm_laws.proofs.Headline.{machines, stop, release}
 use Rattle.sdm_laws.proofs.Gaps.{gaps}
 use Rattle.sdm_laws.proofs.Ceiling.{within_ceiling}
-use Rattle.sdm_supervisor.specs.Lines.{IsLine}
+use Rattle.sdm_braking.specs.Lines.{IsLine}
 use Rattle.sdm_rules.specs.declared.commands.State.{State}
 use Rattle.sdm_rules.specs.declared.commands.Triggers.{Triggers}
 use Rattle.sdm_rules.specs.Commands.{commands_after}

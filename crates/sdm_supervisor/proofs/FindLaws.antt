@@ -1,42 +1,20 @@
--- What a supervisor finds is what the definitions say: the profile that it keeps gives the MRSP of its state, and the release speed that it
--- keeps is the one of its authority.
-use Rattle.std.proofs.Common.{◌≡◌, ℕ, ℤ, Option, Some, None, min, ◌≤◌, ◌∙◌, ap, refl, sym, is_some, arith}
-use Rattle.std.specs.Prelude.{IfSome}
+-- What a supervisor finds is what the definitions say: the profile that it keeps gives the MRSP of its state.
+use Rattle.std.proofs.Common.{◌≡◌, ℕ, Option, min, ◌∙◌, ap, sym, is_some}
 use Rattle.std.specs.Int.{int_gap}
-use Rattle.std.proofs.lemmas.Bool.{cond_both, lt-ltb}
 use Rattle.sdm_num.specs.Readings.{OdometerReading}
 use Rattle.sdm_rules.specs.declared.authorities.Authority.{Authority}
-use Rattle.sdm_rules.specs.declared.authorities.Authority.TheVariants.{Stop, Limit}
 use Rattle.sdm_rules.specs.declared.commands.Held.{Held}
 use Rattle.sdm_rules.specs.Cells.{cell_of, lowest}
 use Rattle.sdm_rules.specs.Data.{LineData}
 use Rattle.sdm_rules.specs.Reaction.{service_in_use}
 use Rattle.sdm_rules.specs.Supervision.{Supervision, situation_of, is_past_end, release_of}
 use Rattle.sdm_rules.specs.Targets.{targets_of}
-use Rattle.sdm_rules.specs.Triggers.{is_past}
-use Rattle.sdm_limits.specs.Sides.{place_of}
 use Rattle.sdm_speed.specs.Profiles.{ProfileData, mrsp_of}
 use Rattle.sdm_speed.proofs.MrspLaws.{mrsp_is}
 use Rattle.sdm_supervisor.specs.declared.situations.Situation.{Situation}
-use Rattle.sdm_supervisor.specs.declared.releases.Release.{Release}
-use Rattle.sdm_supervisor.specs.Kept.{IsProfileOf, IsReleaseOf, released}
+use Rattle.sdm_supervisor.specs.Supervised.{IsProfileOf}
 use Rattle.sdm_supervisor.specs.Situations.{IsFoundAt}
 use Rattle.sdm_supervisor.specs.Verdicts.{verdict_of}
-
--- the release speed that is kept is monitored where the definitions say
-pub released_is : (d : LineData) (a : Authority) (kept : Option Release) (front : ℤ) → IsReleaseOf d a kept → released kept front ≡ release_of d a front
-released_is d (Stop eoa svl speed) (Some release) front is = rw (lt-ltb 0 speed is.some, ← is.start, is.speed) refl
-released_is d (Stop eoa svl speed) None front is = rw is refl
-released_is d (Limit loa speed) (Some release) front is = absurd is
-released_is d (Limit loa speed) None front is = refl
-
--- it is at most 500 km/h
-pub released_in_range : (d : LineData) (a : Authority) (kept : Option Release) (front : ℤ) → IsReleaseOf d a kept → IfSome (released kept front) (λ kmh. kmh ≤ 500)
-released_in_range d (Stop eoa svl speed) (Some release) front is =
-    cond_both (is_past 0 front (place_of release.start)) (Some release.speed_kmh) None (λ kmh. IfSome kmh (λ n. n ≤ 500)) (λ _. omega (arith, is.speed, is.range)) (λ _. tt)
-released_in_range d (Stop eoa svl speed) None front is = tt
-released_in_range d (Limit loa speed) (Some release) front is = absurd is
-released_in_range d (Limit loa speed) None front is = tt
 
 -- the state of a supervisor, by what it keeps
 abbrev pub state_of : LineData → Authority → ProfileData → Option ℕ → Held → Supervision

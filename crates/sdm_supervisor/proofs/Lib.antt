@@ -4,5 +4,6 @@ mod SilentLaw
 mod SituationLaws
 mod FindLaws
 mod CycleLaws
+mod CurveLaws
 pub mod FlatCurves
 pub mod FlatFormula

@@ -1,15 +1,16 @@
 -- What targets say, target by target: a list's verdict is that of its first target and of the rest together, so what was said so far and
 -- what is still to be said make the whole.
-use Rattle.std.proofs.Common.{◌≡◌, ℤ, ℕ, suc, List, [], ◌∷◌, length, drop, get_or, ◌+◌, ◌<◌, ◌≤◌, Option, Some, None, refl, ap, sym, ◌∙◌, arith}
+use Rattle.std.proofs.Common.{◌≡◌, ℤ, ℕ, List, [], ◌∷◌, ◌++◌, map, length, take, get_or, ◌+◌, ◌<◌, Option, Some, None, refl, ap, sym, ◌∙◌, arith, append_assoc}
 use Rattle.std.specs.Int.{int_min}
 use Rattle.std.proofs.lemmas.Int.{ints, clamps}
-use Rattle.std.proofs.lemmas.List.{drop_all}
+use Rattle.std.proofs.lemmas.List.{map-append, take_more}
 use Rattle.std.proofs.Math.Bool.{and-true, and_assoc, or-false, or_assoc}
-use Rattle.std.proofs.Math.Seq.{drop-cons}
 use Rattle.sdm_num.specs.Readings.{OdometerReading}
 use Rattle.sdm_rules.specs.declared.targets.Target.{Target}
 use Rattle.sdm_rules.specs.Data.{LineData}
 use Rattle.sdm_rules.specs.Limits.{computed, limits_of}
+use Rattle.sdm_braking.specs.declared.kept_falls.KeptFall.{KeptFall}
+use Rattle.sdm_braking.specs.KeptFalls.{target_of}
 use Rattle.sdm_supervisor.specs.declared.verdicts.Nearest.{Nearest}
 use Rattle.sdm_supervisor.specs.declared.verdicts.Verdict.{Verdict}
 use Rattle.sdm_supervisor.specs.Verdicts.{nearer, nearer_limits, both, verdict_at, verdict_of}
@@ -70,25 +71,29 @@ first_of : (d : LineData) (r : OdometerReading) (t : Target) (ts : List Target) 
 unfolding verdict_of verdict_at
 first_of d r t ts = refl
 
--- what the next target says is added to what was said so far
-pub said_next : (d : LineData) (r : OdometerReading) (t : Target) (ts : List Target) (a v : Verdict) → v ≡ both a (verdict_of d r (t ∷ ts)) → v ≡ both (both a (verdict_at d r (limits_of computed d r t) t)) (verdict_of d r ts)
-said_next d r t ts a v e = e ∙ ap (both a) (first_of d r t ts) ∙ sym (both_assoc a (verdict_at d r (limits_of computed d r t) t) (verdict_of d r ts))
+-- what a target behind the others says is added to what they said
+pub said_push : (d : LineData) (r : OdometerReading) (ts : List Target) (t : Target) → verdict_of d r (ts ++ t ∷ []) ≡ both (verdict_of d r ts) (verdict_at d r (limits_of computed d r t) t)
+unfolding verdict_of verdict_at
+said_push d r [] t = first_of d r t [] ∙ both_none d r (verdict_at d r (limits_of computed d r t) t)
+said_push d r (x ∷ ts) t =
+    first_of d r x (ts ++ t ∷ []) ∙ ap (both (verdict_at d r (limits_of computed d r x) x)) (said_push d r ts t)
+    ∙ sym (both_assoc (verdict_at d r (limits_of computed d r x) x) (verdict_of d r ts) (verdict_at d r (limits_of computed d r t) t))
+    ∙ ap (λ v. both v (verdict_at d r (limits_of computed d r t) t)) (sym (first_of d r x ts))
 
--- before the first target nothing is said
-pub said_first : (d : LineData) (r : OdometerReading) (ts : List Target) → verdict_of d r ts ≡ both (verdict_of d r []) (verdict_of d r ts)
-unfolding verdict_of
-said_first d r ts = refl
+-- and of a kept fall likewise: the falls up to the place `i`, and the one there
+pub said_more : (d : LineData) (r : OdometerReading) (ks : List KeptFall) (i : ℕ) (k : KeptFall) (a next : Verdict) → i < length ks → k ≡ get_or ks i k → a ≡ verdict_of d r (map target_of (take i ks)) →
+    next ≡ both a (verdict_at d r (limits_of computed d r k.kept.value.target) k.kept.value.target) → next ≡ verdict_of d r (map target_of (take (i + 1) ks))
+said_more d r ks i k a next known here so_far next_is =
+    next_is ∙ ap (λ v. both v (verdict_at d r (limits_of computed d r k.kept.value.target) k.kept.value.target)) so_far
+    ∙ sym (said_push d r (map target_of (take i ks)) (target_of k))
+    ∙ ap (verdict_of d r) (sym (map-append target_of (take i ks) (k ∷ [])) ∙ ap (map target_of) (ap (λ (x : KeptFall). take i ks ++ x ∷ []) here ∙ sym (take_more ks i k known)))
 
--- what the target at the place `i` says is added to what those before it said
-pub said_more : (d : LineData) (r : OdometerReading) (ts : List Target) (i : ℕ) (t : Target) (v a next said : Verdict) →
-    i < length ts → t ≡ get_or ts i t → v ≡ both a (verdict_of d r (drop i ts)) → next ≡ verdict_at d r (limits_of computed d r t) t → said ≡ both a next →
-    v ≡ both said (verdict_of d r (drop (i + 1) ts))
-said_more d r ts i t v a next said lt here so_far next_is said_is =
-    let one : i + 1 ≡ suc i = omega arith in
-    let cut : drop i ts ≡ t ∷ drop (suc i) ts = drop-cons ts i t lt ∙ ap (λ u. u ∷ drop (suc i) ts) (sym here) in
-    let step = said_next d r t (drop (suc i) ts) a v (so_far ∙ ap (λ us. both a (verdict_of d r us)) cut) in
-    rw (one, said_is, next_is) step
+-- two more targets
+pub said_two : (d : LineData) (r : OdometerReading) (ts : List Target) (t u : Target) (a v w : Verdict) → a ≡ verdict_of d r ts → v ≡ both a (verdict_at d r (limits_of computed d r t) t) → w ≡ both v (verdict_at d r (limits_of computed d r u) u) → w ≡ verdict_of d r (ts ++ t ∷ u ∷ [])
+said_two d r ts t u a v w a_is v_is w_is =
+    w_is ∙ ap (λ x. both x (verdict_at d r (limits_of computed d r u) u)) (v_is ∙ ap (λ x. both x (verdict_at d r (limits_of computed d r t) t)) a_is ∙ sym (said_push d r ts t))
+    ∙ sym (said_push d r (ts ++ t ∷ []) u) ∙ ap (verdict_of d r) (append_assoc ts (t ∷ []) (u ∷ []))
 
--- after the last target all is said
-pub said_last : (d : LineData) (r : OdometerReading) (ts : List Target) (i : ℕ) (v a : Verdict) → length ts ≤ i → v ≡ both a (verdict_of d r (drop i ts)) → a ≡ v
-said_last d r ts i v a past so_far = sym (so_far ∙ ap (λ us. both a (verdict_of d r us)) (drop_all i ts past) ∙ both_none d r a)
+-- one more
+pub said_one : (d : LineData) (r : OdometerReading) (ts : List Target) (t : Target) (a v : Verdict) → a ≡ verdict_of d r ts → v ≡ both a (verdict_at d r (limits_of computed d r t) t) → v ≡ verdict_of d r (ts ++ t ∷ [])
+said_one d r ts t a v a_is v_is = v_is ∙ ap (λ x. both x (verdict_at d r (limits_of computed d r t) t)) a_is ∙ sym (said_push d r ts t)

@@ -1,25 +1,23 @@
 -- What the flat supervisor keeps beside its state: the slope map and the curve that its numbers give (own).
 use Rattle.std.specs.Prelude.{◌≡◌, ℕ, ℤ, pos, neg_ℤ, [], ◌∷◌, ◌*◌, ◌+ℤ◌, ◌≤◌}
 use Rattle.std.specs.Int.{int_div_euclid}
-use Rattle.sdm_rules.specs.Slopes.{SlopeMap}
+use Rattle.sdm_rules.specs.Slopes.{SlopeMap, meaning_of}
 use Rattle.sdm_rules.specs.Cells.{border_of}
-use Rattle.sdm_curve.specs.Made.{Foot}
+use Rattle.sdm_curve.specs.Made.{BrakeCurve, IsMadeFrom}
 
 -- one band and one segment, for q = 100 (own)
 abbrev pub flat_map : ℕ → SlopeMap
 flat_map decel = record { q = 100; uppers = []; starts = pos 0 ∷ []; slopes = 2_000_000_000 * decel ∷ [] }
 
--- the curve ends at standstill at the end (own)
-abbrev pub flat_foot : ℕ → Foot
-flat_foot end = record { place = border_of (pos end); speed = 0 }
-
--- the map and the curve of a deceleration in cm/s² and an end in cm, both in their ranges (own)
-pub record IsFlatCurve (decel end : ℕ) (map : SlopeMap) (curve : Foot) : Type 0 where
+-- the map of a deceleration in cm/s², and the curve that ends at standstill at an end in cm, both in their ranges (own)
+pub record IsFlatCurve (decel end : ℕ) (map : SlopeMap) (curve : BrakeCurve) : Type 0 where
   pub low : 5 ≤ decel
   pub high : decel ≤ 400
   pub near : end ≤ 10_000_000
   pub map_is : map ≡ flat_map decel
-  pub curve_is : curve ≡ flat_foot end
+  pub place_is : curve.place ≡ border_of (pos end)
+  pub speed_is : curve.speed ≡ 0
+  pub made : IsMadeFrom (meaning_of map) curve
 
 -- END - v² / (2A) in mm, rounded down, where A is in cm/s², END in cm and v in mm/s: 10 END - v² / (20 A) (own)
 abbrev pub ebi_mm : ℕ → ℕ → ℕ → ℤ

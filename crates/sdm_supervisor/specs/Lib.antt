@@ -1,6 +1,5 @@
-pub mod Lines
 pub mod Verdicts
 pub mod Situations
-pub mod Kept
+pub mod Supervised
 pub mod FlatLines
 pub mod Flats

@@ -3,11 +3,7 @@
 #![tactic(auto)]
 
 pub mod flat;
-pub mod limits;
-pub mod lines;
-pub mod releases;
 pub mod situations;
-pub mod speeds;
 pub mod supervisors;
 pub mod verdicts;
 

@@ -4,8 +4,8 @@ ghost use Rattle.std.specs.Prelude.{◌≡◌, ◌&&◌, ◌||◌, not, option_m
 ghost use Rattle.sdm_num.specs.Bounds.{mm_below};
 ghost use Rattle.sdm_supervisor.specs.Situations.{is_above_release, row_found, state_found, triggers_found, IsInRange};
 
-use crate::speeds::SpeedLimits;
 use crate::verdicts::Verdict;
+use sdm_braking::SpeedLimits;
 use sdm_num::{Place, Speed};
 use sdm_rules::Row;
 use sdm_state::{Held, State, Triggers};

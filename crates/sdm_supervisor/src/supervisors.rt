@@ -2,27 +2,30 @@
 //! `cycle`: its emergency command lies between that of a machine with exact limits and that of the same machine with every limit one
 //! millimetre earlier, and from every covered row the train stops before the supervised location.
 
-ghost use Rattle.std.specs.Prelude.{◌≡◌, ◌≤◌, IsTrue, false, None, Some, IfOk, IfErr, OnOk, OnErr};
+ghost use Rattle.std.specs.Prelude.{◌≡◌, ◌≤◌, ◌≤ℤ◌, pos, MatchOption, IsTrue, false, None, Some, IfOk, IfErr, OnOk, OnErr};
 ghost use Rattle.sdm_num.specs.Readings.{IsReading};
 ghost use Rattle.sdm_rules.specs.Machines.{KeepsOrder};
 ghost use Rattle.sdm_rules.specs.Opening.{IsAccepted, IsOpen};
 ghost use Rattle.sdm_rules.specs.Promises.{BeginsRelease, HasOnlyGaps, IsWithinCeiling};
 ghost use Rattle.sdm_rules.specs.Records.{authority_fault, restrict_fault, revoke_fault, time_fault};
 ghost use Rattle.sdm_rules.specs.Stop.{IsSafe};
-ghost use Rattle.sdm_rules.specs.Supervision.{after_authority, after_reading, after_restriction, after_revocation, opening, row_of};
+ghost use Rattle.sdm_rules.specs.Supervision.{after_authority, after_reading, after_restriction, after_revocation, opening, profile_of, row_of};
+ghost use Rattle.sdm_rules.specs.Targets.{is_fall};
 ghost use Rattle.sdm_decel.specs.Slopes.{line_of};
-ghost use Rattle.sdm_supervisor.specs.Lines.{IsRefusal};
+ghost use Rattle.sdm_supervisor.specs.Supervised.{IsAuthorityCurve, IsFallCurve};
+ghost use Rattle.sdm_braking.specs.Lines.{IsRefusal};
 ghost use Rattle.sdm_supervisor.specs.Situations.{IsFoundAt, IsInRange};
 
-use crate::lines::Line;
-use crate::releases::{Release, released_kmh};
 use crate::situations::Situation;
+use crate::verdicts::Verdict;
+use sdm_braking::{Kept, Line, released_kmh};
+use sdm_curve::Curve;
 use sdm_national::National;
 use sdm_num::Reading;
 use sdm_rules::{CycleFault, OpenFault, RestrictFault, Restriction, RevokeFault, Row};
 use sdm_speed::Profile;
 use sdm_state::{Held, Status, next};
-use sdm_targets::{Authority, AuthorityFault, TargetList, check_authority, targets_of};
+use sdm_targets::{Authority, AuthorityFault, check_authority};
 use sdm_track::Track;
 use sdm_train::Train;
 use std::alloc::Global;
@@ -34,11 +37,9 @@ use std::marker::Model;
 pub struct Supervisor {
     line: Line,
     authority: Authority,
-    /// Kept between records: what the authority says of release speed monitoring on the line.
-    release: Option<Release>,
     profile: Profile,
-    /// Room for the targets of the reading in hand.
-    targets: TargetList,
+    /// Kept between records: the targets of the profile and the authority with their curves.
+    kept: Kept,
     last_time: Option<u32>,
     held: Held,
 }
@@ -47,7 +48,7 @@ impl Model for Supervisor {
     ghost use Rattle.std.specs.Coded.{codes};
     ghost use Rattle.sdm_rules.specs.Codes.{coded_restrictions};
     ghost use Rattle.sdm_rules.specs.Supervision.{Supervision};
-    ghost use Rattle.sdm_supervisor.specs.Kept.{IsKept};
+    ghost use Rattle.sdm_supervisor.specs.Supervised.{IsSupervised};
 
     ghost Value = { Supervision };
 
@@ -55,7 +56,7 @@ impl Model for Supervisor {
 
     ghost view = { λ s. record { line = s.line; authority = s.authority; restrictions = s.profile.restrictions; last_time = s.last_time; commands = s.held } };
 
-    ghost invariant = { λ s. IsKept s.line s.profile s.authority s.release };
+    ghost invariant = { λ s. IsSupervised s.line s.profile s.authority s.kept };
 }
 
 /// Before the first reading no command is held. (own)
@@ -101,16 +102,14 @@ impl Supervisor {
         else {
             return Err(OpenFault::Memory);
         };
-        let Ok(targets) = TargetList::begin(alloc) else {
+        let Ok(kept) = Kept::begin(alloc, &line, &profile, &authority) else {
             return Err(OpenFault::Memory);
         };
-        let release = line.release(&authority);
         Ok(Supervisor {
             line,
             authority,
-            release,
             profile,
-            targets,
+            kept,
             last_time: None,
             held: NOTHING_HELD,
         })
@@ -125,7 +124,7 @@ impl Supervisor {
         ensures unchanged { OnErr result (self.new ≡ self.old) }
     {
         check_authority(&a, self.line.track_cm())?;
-        self.release = self.line.release(&a);
+        self.kept.take_authority(&self.line, &a);
         self.authority = a;
         Ok(())
     }
@@ -140,7 +139,9 @@ impl Supervisor {
         ensures refused { IfErr result (λ fault. restrict_fault self.old.line.track.length_cm self.old.restrictions r ≡ Some fault) }
         ensures unchanged { OnErr result (self.new ≡ self.old) }
     {
-        self.profile.set(r)
+        let changed = self.profile.impose(r)?;
+        self.kept.take_profile(&self.line, &self.profile, changed);
+        Ok(())
     }
 
     /// Takes a temporary restriction out of force. Refused where none with this identity is held; nothing is then changed. (own)
@@ -150,33 +151,52 @@ impl Supervisor {
         ensures refused { IfErr result (λ fault. revoke_fault self.old.restrictions id ≡ Some fault) }
         ensures unchanged { OnErr result (self.new ≡ self.old) }
     {
-        self.profile.revoke(id)
+        let changed = self.profile.lift(id)?;
+        self.kept.take_profile(&self.line, &self.profile, changed);
+        Ok(())
     }
 
-    /// What is found at a reading, before the commands are decided. Only the room for targets changes.
-    fn find(&mut self, reading: &Reading) -> Situation
+    /// The EBD of the fall of the MRSP at the border where a cell begins; none where the MRSP does not fall there. (SUBSET-026-3
+    /// 3.13.8.3; own)
+    pub fn fall_curve(&self, cell: i32) -> Option<&Curve>
+        requires { pos 0 ≤ℤ cell }
+        ensures { MatchOption result
+            (is_fall (profile_of self.now) cell ≡ false) (λ curve. IsFallCurve self.now cell curve.now) }
+    {
+        match self.kept.falls.at(cell) {
+            Some(kept) => Some(&kept.kept.brake),
+            None => None,
+        }
+    }
+
+    /// The EBD of the SvL or of the LOA of the authority. (SUBSET-026-3 3.13.8.3; own)
+    pub fn authority_curve(&self) -> &Curve
+        ensures { IsAuthorityCurve self.now result.now }
+    {
+        self.kept.end.brake_curve()
+    }
+
+    /// What is found at a reading, before the commands are decided.
+    fn find(&self, reading: &Reading) -> Situation
         requires { IsReading reading.now }
-        ensures found { IsFoundAt self.old reading.now result }
+        ensures found { IsFoundAt self.now reading.now result }
         ensures range { IsInRange result }
-        ensures accepted { IsOpen self.old }
-        ensures unchanged { self.new ≡ self.old }
+        ensures accepted { IsOpen self.now }
     {
         let front = reading.max_mm();
-        let release_kmh = released_kmh(self.release, front);
-        targets_of(
-            &self.profile,
-            &self.authority,
-            front,
-            release_kmh.is_some(),
-            &mut self.targets,
-        );
+        let cell = front.cell();
+        let release_kmh = released_kmh(self.kept.release, front);
+        let released = release_kmh.is_some();
+        let end = self.line.end_of(&self.authority);
+        let falls = self.kept.falls.ahead(cell, end);
+        let asked = self.line.asked(reading);
         Situation {
             speed: reading.speed_mm_s(),
-            ceiling_kmh: self.profile.lowest(reading.min_mm().cell(), front.cell()),
-            past_end: self.line.is_past_end(&self.authority, reading.min_mm()),
+            ceiling_kmh: self.profile.lowest(reading.min_mm().cell(), cell),
+            past_end: self.kept.end.is_passed_by(reading.min_mm()),
             release_kmh,
             in_use: self.line.is_service_in_use(),
-            verdict: self.line.verdict(reading, self.targets.get()),
+            verdict: Verdict::of(&self.line, &asked, falls, &self.kept.end, released),
         }
     }
 

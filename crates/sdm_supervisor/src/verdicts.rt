@@ -1,21 +1,23 @@
 //! What the targets of a reading say together. Each target is looked at once, and what it says is added to what the others said.
 
-ghost use Rattle.std.specs.Prelude.{◌≡◌, ◌≤◌, ◌&&◌, All, [], true, nat_lt, not};
+ghost use Rattle.std.specs.Prelude.{◌≡◌, ◌≤◌, ◌&&◌, ◌++◌, All, List, [], map, true, nat_lt, not};
 ghost use Rattle.std.specs.Option.{option_map_or};
-ghost use Rattle.sdm_num.specs.Readings.{IsReading, OdometerReading};
+ghost use Rattle.sdm_num.specs.Readings.{OdometerReading};
 ghost use Rattle.sdm_rules.specs.Limits.{computed, limits_of};
 ghost use Rattle.sdm_rules.specs.Supervision.{is_covered_for};
 ghost use Rattle.sdm_rules.specs.Margins.{ebi_margin};
 ghost use Rattle.sdm_rules.specs.Data.{LineData};
+ghost use Rattle.sdm_rules.specs.declared.targets.Target.{Target};
 ghost use Rattle.sdm_rules.specs.Targets.{target_speed, with_margin};
 ghost use Rattle.sdm_rules.specs.Triggers.{is_past};
 ghost use Rattle.sdm_limits.specs.Sides.{place_of, place_where, places_of};
 ghost use Rattle.sdm_targets.specs.Lists.{IsTarget};
+ghost use Rattle.sdm_braking.specs.Asked.{IsAsked};
+ghost use Rattle.sdm_braking.specs.KeptCurves.{AreKept, AreSpeedsOf, IsKeptTarget, targets_in};
+ghost use Rattle.sdm_braking.specs.KeptFalls.{IsKeptFall, target_of};
 ghost use Rattle.sdm_supervisor.specs.Verdicts.{both, front_of, nearer, nearer_limits, nearest_at, passes_ebi_at, verdict_at, verdict_of};
 
-use crate::limits::target_speed;
-use crate::lines::Line;
-use crate::speeds::SpeedLimits;
+use sdm_braking::{AskedReading, KeptEnd, KeptFall, KeptTarget, Line};
 use sdm_limits::Limits;
 use sdm_num::{Early, Place, Reading, Speed};
 use sdm_targets::{Target, TargetKind};
@@ -141,12 +143,13 @@ fn is_past(front: Place, limit: Early) -> bool
 
 /// Whether a reading passes a limit of a target: the speed is above the one given, and the target's front end is past the limit.
 fn passes(reading: &Reading, target: &Target, above: Speed, limit: Early) -> bool
-    ensures { result ≡ (nat_lt above reading.now.speed && is_past 0 (front_of reading.now target.now.kind) (place_of limit)) }
+    ensures { result ≡
+        (nat_lt above reading.now.speed && is_past 0 (front_of reading.now target.now.kind) (place_of limit)) }
 {
     above < reading.speed_mm_s() && is_past(front_of(reading, target.kind), limit)
 }
 
-/// So by an EBI, where the target has one.
+/// Whether a reading passes the EBI of a target, where it has one: the speed is above the one given, and the front end past the EBI.
 fn passes_ebi(reading: &Reading, target: &Target, above: Speed, ebi: Option<Early>) -> bool
     requires { above ≡ with_margin ebi_margin target.now }
     ensures { result ≡ passes_ebi_at reading.now target.now (place_where ebi) }
@@ -167,82 +170,124 @@ fn is_before(reading: &Reading, ebi: Option<Early>) -> bool
     }
 }
 
-impl Line {
-    /// Whether a target above the train's speed is covered: it is met by speed, as most such targets are, or the max safe front end is at
-    /// or before its EBI. (own)
-    fn is_covered_above(&self, reading: &Reading, target: &Target) -> bool
-        requires reading { IsReading reading.now }
-        requires target { IsTarget target.now }
-        ensures { result ≡ is_covered_for self.now reading.now target.now }
-    {
-        self.is_met_by_speed(reading, target) || is_before(reading, self.ebi(reading, target))
-    }
+/// Whether a target above the train's speed is covered: it is met by speed, as most such targets are, or the max safe front end is at or
+/// before its EBI. (own)
+fn is_covered_above(line: &Line, asked: &AskedReading, kept: &KeptTarget) -> bool
+    requires asked { IsAsked line.now asked.now }
+    requires kept { IsKeptTarget line.now kept.now }
+    ensures { result ≡ is_covered_for line.now asked.now.reading kept.now.target }
+{
+    asked.is_met_by_speed(kept) || is_before(&asked.reading, line.ebi(asked, kept))
+}
 
-    /// Whether a target is covered: the max safe front end is at or before its EBI, if it has one, or it is met by speed. (own)
-    fn is_covered_for(&self, reading: &Reading, target: &Target, ebi: Option<Early>) -> bool
-        requires reading { IsReading reading.now }
-        requires target { IsTarget target.now }
-        requires ebi { place_where ebi ≡ (limits_of computed self.now reading.now target.now).ebi }
-        ensures { result ≡ is_covered_for self.now reading.now target.now }
-    {
-        is_before(reading, ebi) || self.is_met_by_speed(reading, target)
-    }
+/// Whether a target is covered: the max safe front end is at or before its EBI, if it has one, or it is met by speed. (own)
+fn is_covered_for(asked: &AskedReading, kept: &KeptTarget, ebi: Option<Early>) -> bool
+    requires target { IsTarget kept.now.target }
+    requires speeds { AreSpeedsOf kept.now.target kept.now.speeds }
+    ensures { (d : LineData) → IsAsked d asked.now →
+        place_where ebi ≡ (limits_of computed d asked.now.reading kept.now.target).ebi →
+        result ≡ is_covered_for d asked.now.reading kept.now.target }
+{
+    is_before(&asked.reading, ebi) || asked.is_met_by_speed(kept)
+}
 
-    /// What a target says whose speed is at most the train's, by its limits. (SUBSET-026-3 3.13.10; own)
-    #[tactic(auto, unfolding(crate::specs::Verdicts::verdict_at))]
-    fn verdict_by(&self, reading: &Reading, target: &Target, limits: &Limits) -> Verdict
-        requires reading { IsReading reading.now }
-        requires target { IsTarget target.now }
-        requires limits { places_of limits.now ≡ limits_of computed self.now reading.now target.now }
-        requires counts { target_speed target.now ≤ reading.now.speed }
-        ensures { result ≡ verdict_at self.now reading.now (limits_of computed self.now reading.now target.now) target.now }
-    {
-        let speeds = SpeedLimits::of_target(target);
-        Verdict {
-            over: passes(reading, target, speeds.permitted, limits.permitted),
-            warn: passes(reading, target, speeds.warning, limits.warning),
-            serv: passes(reading, target, speeds.sbi, limits.sbi),
-            emer: passes_ebi(reading, target, speeds.ebi, limits.ebi),
-            indicated: passes(reading, target, speeds.permitted, limits.indication),
-            covered: self.is_covered_for(reading, target, limits.ebi),
-            nearest: Nearest::of(limits),
-        }
+/// What a target says that is no faster than the train, by its limits. (SUBSET-026-3 3.13.10; own)
+#[tactic(auto, unfolding(crate::specs::Verdicts::verdict_at))]
+fn verdict_by(asked: &AskedReading, kept: &KeptTarget, limits: &Limits) -> Verdict
+    requires target { IsTarget kept.now.target }
+    requires speeds { AreSpeedsOf kept.now.target kept.now.speeds }
+    requires counts { target_speed kept.now.target ≤ asked.now.reading.speed }
+    ensures { (d : LineData) → IsAsked d asked.now →
+        places_of limits.now ≡ limits_of computed d asked.now.reading kept.now.target →
+        result ≡ verdict_at d asked.now.reading
+        (limits_of computed d asked.now.reading kept.now.target) kept.now.target }
+{
+    let reading = &asked.reading;
+    let target = &kept.target;
+    let speeds = &kept.speeds;
+    Verdict {
+        over: passes(reading, target, speeds.permitted, limits.permitted),
+        warn: passes(reading, target, speeds.warning, limits.warning),
+        serv: passes(reading, target, speeds.sbi, limits.sbi),
+        emer: passes_ebi(reading, target, speeds.ebi, limits.ebi),
+        indicated: passes(reading, target, speeds.permitted, limits.indication),
+        covered: is_covered_for(asked, kept, limits.ebi),
+        nearest: Nearest::of(limits),
     }
+}
 
-    /// What was said so far with what a target says. (SUBSET-026-3 3.13.10; own)
-    fn verdict_with(&self, said: Verdict, reading: &Reading, target: &Target) -> Verdict
-        requires reading { IsReading reading.now }
-        requires target { IsTarget target.now }
-        ensures { result ≡ both said (verdict_at self.now reading.now (limits_of computed self.now reading.now target.now) target.now) }
+impl Verdict {
+    /// Adds what a target says. (SUBSET-026-3 3.13.10; own)
+    fn add(&mut self, line: &Line, asked: &AskedReading, kept: &KeptTarget)
+        requires asked { IsAsked line.now asked.now }
+        requires kept { IsKeptTarget line.now kept.now }
+        ensures { self.new ≡ both self.old (verdict_at line.now asked.now.reading
+            (limits_of computed line.now asked.now.reading kept.now.target) kept.now.target) }
     {
         // A target above the train's speed is not passed, and none of its limits counts.
-        if reading.speed_mm_s() < target_speed(target) {
-            return Verdict {
-                covered: said.covered && self.is_covered_above(reading, target),
-                ..said
-            };
+        if asked.reading.speed_mm_s() < kept.speeds.permitted {
+            self.covered = self.covered && is_covered_above(line, asked, kept);
+            return;
         }
-        let limits = self.limits(reading, target);
+        let limits = line.limits(asked, kept);
+        let front = front_of(&asked.reading, kept.target.kind);
         // No limit lies before the indication limit: up to there none is passed.
-        if !is_past(front_of(reading, target.kind), limits.indication) {
-            return Verdict {
-                nearest: said.nearest.and(Nearest::of(&limits)),
-                ..said
-            };
+        if !is_past(front, limits.indication) {
+            self.nearest = self.nearest.and(Nearest::of(&limits));
+            return;
         }
-        said.and(self.verdict_by(reading, target, &limits))
+        *self = self.and(verdict_by(asked, kept, &limits));
     }
 
-    /// What targets say together at a reading. (SUBSET-026-3 3.13.10; own)
-    pub fn verdict(&self, reading: &Reading, targets: &[Target]) -> Verdict
-        requires reading { IsReading reading.now }
-        requires targets { All IsTarget targets.now }
-        ensures { result ≡ verdict_of self.now reading.now targets.now }
+    /// Adds what falls say, where nothing was said before. (SUBSET-026-3 3.13.10; own)
+    fn add_falls(&mut self, line: &Line, asked: &AskedReading, falls: &[KeptFall])
+        requires asked { IsAsked line.now asked.now }
+        requires falls { All (IsKeptFall line.now) falls.now }
+        requires none { self.old ≡ verdict_of line.now asked.now.reading [] }
+        ensures { self.new ≡ verdict_of line.now asked.now.reading (map target_of falls.now) }
     {
-        let mut verdict = Verdict::of_none();
-        for target in targets {
-            verdict = self.verdict_with(verdict, reading, target);
+        for fall in falls {
+            self.add(line, asked, &fall.kept);
         }
-        verdict
+    }
+
+    /// Adds what the targets at the end of the authority say; in release speed monitoring the EOA and the SvL are none.
+    /// (SUBSET-026-3 3.13.10; own)
+    fn add_end(&mut self, line: &Line, asked: &AskedReading, end: &KeptEnd, released: bool)
+        requires asked { IsAsked line.now asked.now }
+        requires end { AreKept line.now end.now }
+        ensures { (ts : List Target) → self.old ≡ verdict_of line.now asked.now.reading ts →
+            self.new ≡ verdict_of line.now asked.now.reading (ts ++ targets_in end.now released) }
+    {
+        match end {
+            KeptEnd::Stop { eoa, svl } => {
+                if released {
+                    return;
+                }
+                self.add(line, asked, eoa);
+                self.add(line, asked, svl);
+            }
+            KeptEnd::Limit { loa } => self.add(line, asked, loa),
+        }
+    }
+
+    /// What falls and the targets at the end of the authority say together at a reading. (SUBSET-026-3 3.13.10; own)
+    pub fn of(
+        line: &Line,
+        asked: &AskedReading,
+        falls: &[KeptFall],
+        end: &KeptEnd,
+        released: bool,
+    ) -> Verdict
+        requires asked { IsAsked line.now asked.now }
+        requires falls { All (IsKeptFall line.now) falls.now }
+        requires end { AreKept line.now end.now }
+        ensures { result ≡
+            verdict_of line.now asked.now.reading (map target_of falls.now ++ targets_in end.now released) }
+    {
+        let mut said = Verdict::of_none();
+        said.add_falls(line, asked, falls);
+        said.add_end(line, asked, end, released);
+        said
     }
 }

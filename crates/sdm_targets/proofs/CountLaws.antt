@@ -1,5 +1,5 @@
 -- A profile has no more falls than entries and restrictions: each lies where a zone begins that none of the earlier ones has.
-use Rattle.std.proofs.Common.{◌≡◌, ℕ, suc, ℤ, List, [], ◌∷◌, length, map, Option, Some, None, Bool, true, false, ◌||◌, if◌then◌else◌, int_le, ◌+◌, ◌≤◌, ◌≤ℤ◌, ◌<ℤ◌, refl, ap, arith, length-append}
+use Rattle.std.proofs.Common.{◌≡◌, ℕ, zero, suc, ℤ, List, [], ◌∷◌, length, get_or, map, Option, Some, None, Bool, true, false, ◌||◌, if◌then◌else◌, int_le, ◌+◌, ◌<◌, ◌≤◌, ◌≤ℤ◌, ◌<ℤ◌, refl, ap, arith, length-append}
 use Rattle.std.specs.Option.{option_map_or}
 use Rattle.std.specs.Ordering.{int_eq}
 use Rattle.std.specs.FinMap as finite
@@ -10,9 +10,12 @@ use Rattle.sdm_num.proofs.Comparisons.{le_is, not_le_is}
 use Rattle.sdm_rules.specs.declared.data.SpeedStep.{SpeedStep}
 use Rattle.sdm_rules.specs.declared.targets.Fall.{Fall}
 use Rattle.sdm_rules.specs.Profile.{Zone, static_zones, zones_of_track, zone_of}
-use Rattle.sdm_rules.specs.Targets.{IsNextFall}
+use Rattle.sdm_rules.specs.Records.{most_restrictions}
+use Rattle.sdm_rules.specs.Targets.{is_fall, IsNextFall}
+use Rattle.sdm_speed.specs.Falls.{AreAtFalls}
 use Rattle.sdm_speed.specs.Profiles.{ProfileData, zones_of, mrsp_of, IsProfile}
-use Rattle.sdm_speed.proofs.StartLaws.{starts_at, has_start, starts_at_fall}
+use Rattle.sdm_speed.specs.Zones.{starts_at, has_start}
+use Rattle.sdm_speed.proofs.StartLaws.{starts_at_fall}
 use Rattle.sdm_targets.specs.Lists.{most_falls}
 
 -- ---- how many zones have begun
@@ -74,14 +77,31 @@ track_count : (length_cm : ℤ) (es : List SpeedStep) → length (zones_of_track
 track_count length_cm [] = refl
 track_count length_cm (e ∷ es) = static_count length_cm None e es
 
-zones_few : (p : ProfileData) → IsProfile p → length (zones_of p) ≤ most_falls
+pub zones_few : (p : ProfileData) → IsProfile p → length (zones_of p) ≤ length p.speeds + most_restrictions
 zones_few p h =
     rw (length-append (zones_of_track p.length_cm p.speeds) (map (zone_of p.length_cm) (finite.values p.restrictions)), track_count p.length_cm p.speeds, length-map (finite.values p.restrictions) (zone_of p.length_cm), length-map (finite.entries p.restrictions) (λ e. e.1), ← finite.len-entries p.restrictions)
-    (omega (arith, h.speeds.few, h.few))
+    (omega (arith, h.few))
 
 pub falls_few : (p : ProfileData) (at : ℤ) (n : ℕ) → IsProfile p → n ≤ passed (zones_of p) at → n ≤ most_falls
-falls_few p at n h le = omega (arith, passed_most (zones_of p) at, zones_few p h)
+falls_few p at n h le = omega (arith, passed_most (zones_of p) at, zones_few p h, h.speeds.few)
 
 -- one fall more
 pub fall_counts : (p : ProfileData) (at : ℤ) (fall : Fall) → IsNextFall (mrsp_of p) at fall → passed (zones_of p) at + 1 ≤ passed (zones_of p) fall.cell
 fall_counts p at fall next = passed_more (zones_of p) at fall.cell next.beyond (starts_at_fall p.max_speed (zones_of p) fall.cell next.falls)
+
+module _ {A : Type 0} (fall : A → Fall) (p : ℤ → ℕ) (zs : List Zone) (starts : (c : ℤ) → is_fall p c ≡ true → has_start zs c ≡ true) where
+  step : (at : ℤ) (x : A) → IsNextFall p at (fall x) → passed zs at + 1 ≤ passed zs (fall x).cell
+  step at x next = passed_more zs at (fall x).cell next.beyond (starts (fall x).cell next.falls)
+
+  -- what stands at falls up to a cell is no more than the zones that have begun there
+  pub falls_up_to_few : (after at : ℤ) (xs : List A) (i : ℕ) → after ≤ℤ at → i ≤ length xs → ((k : ℕ) (d : A) → k < i → k < length xs → (fall (get_or xs k d)).cell ≤ℤ at) → AreAtFalls fall p after xs → i + passed zs after ≤ passed zs at
+  falls_up_to_few after at xs zero le known reached h = omega (arith, passed_rises zs after at le)
+  falls_up_to_few after at [] (suc i) le known reached h = absurd (omega arith)
+  falls_up_to_few after at (x ∷ xs) (suc i) le known reached h =
+      let rest = falls_up_to_few (fall x).cell at xs i (reached 0 x (omega arith) (omega arith)) (omega arith) (λ k d l m. reached (suc k) d (omega arith) (omega arith)) h.1 in
+      omega (arith, step after x h.0, rest)
+
+  -- and what stands at those past it no more than the others
+  pub falls_past_few : (at : ℤ) (xs : List A) → AreAtFalls fall p at xs → length xs + passed zs at ≤ length zs
+  falls_past_few at [] h = omega (arith, passed_most zs at)
+  falls_past_few at (x ∷ xs) h = omega (arith, step at x h.0, falls_past_few (fall x).cell xs h.1)

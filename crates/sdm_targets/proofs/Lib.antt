@@ -1,3 +1,4 @@
 pub mod FallLaws
+pub mod FallLists
 pub mod CountLaws
 pub mod RangeLaws

@@ -3,7 +3,9 @@ use Rattle.std.specs.Prelude.{ℕ, ℤ, pos, List, ◌+ℤ◌, ◌≤◌, ◌≤
 use Rattle.std.specs.Int.{int_gap}
 use Rattle.sdm_rules.specs.declared.authorities.Authority.{Authority}
 use Rattle.sdm_rules.specs.declared.authorities.Authority.TheVariants.{Stop, Limit}
+use Rattle.sdm_rules.specs.declared.targets.Fall.{Fall}
 use Rattle.sdm_rules.specs.declared.targets.Target.{Target}
+use Rattle.sdm_rules.specs.declared.targets.TargetKind.TheVariants.{Mrsp}
 use Rattle.sdm_rules.specs.Cells.{cells, border_of}
 use Rattle.sdm_rules.specs.Ranges.{most_speeds}
 use Rattle.sdm_rules.specs.Records.{most_restrictions}
@@ -33,3 +35,7 @@ falls_past profile after end = map (fall_at profile) (filter (is_fall profile) (
 abbrev pub IsOnTrack : Authority → Type 0
 IsOnTrack (Stop eoa svl release) = (pos eoa ≤ℤ longest_track) × (pos svl ≤ℤ longest_track)
 IsOnTrack (Limit loa speed) = (pos loa ≤ℤ longest_track) × (speed ≤ 500)
+
+-- the target at a fall (SUBSET-026-3 3.13.8.2; own cell form)
+abbrev pub target_at : Fall → Target
+target_at fall = record { kind = Mrsp; place = border_of fall.cell; speed = fall.speed }

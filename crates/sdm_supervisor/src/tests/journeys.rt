@@ -233,6 +233,19 @@ read,2,500000,500000,500000,25000,0,0 = 2,C,X,1,1,1,1,80,1687500,1687500,1637500
 revoke,7 = taken
 read,3,500000,500000,500000,25000,0,0 = 3,C,X,0,0,1,1,160,1687500,1687500,1637500,1587500,1362500
 
+# after a restriction has come and gone the target at its fall is none
+train emergency_time 20
+end 200000 200000 0
+restrict,1,50000,60000,80,1 = taken
+revoke,1 = taken
+read,0,460000,460000,460000,24305,0,0 = 0,C,N,0,0,0,1,160,1656023,1656023,1607413,1558803,1340058
+
+# nor is it when it has come and gone 1,000 times
+train emergency_time 20
+end 200000 200000 0
+come and go,1000,1,50000,60000,80,1 = taken
+read,0,460000,460000,460000,24305,0,0 = 0,C,N,0,0,0,1,160,1656023,1656023,1607413,1558803,1340058
+
 # several restrictions: the nearest limits are those of 80 km/h at 500 m
 end 200000 200000 0
 restrict,1,50000,60000,80,1 = taken

@@ -113,6 +113,22 @@ fn restrict_all(alloc: Global, supervisor: &mut Supervisor, fields: &str) -> Res
     Ok(format!(in alloc; "taken")?)
 }
 
+// A restriction that comes and goes so many times.
+fn restrict_and_revoke(
+    alloc: Global,
+    supervisor: &mut Supervisor,
+    fields: &str,
+) -> Result<String, Fail> {
+    let (times, fields) = fields.split_once(',').ok_or("no number of times")?;
+    let times = times.parse::<u32>()?;
+    let restriction = restriction(fields)?;
+    for _ in 0..times {
+        supervisor.restrict(restriction)?;
+        supervisor.revoke(restriction.id)?;
+    }
+    Ok(format!(in alloc; "taken")?)
+}
+
 fn revoke(alloc: Global, supervisor: &mut Supervisor, fields: &str) -> Result<String, Fail> {
     match supervisor.revoke(small(Some(fields))?) {
         Ok(()) => Ok(format!(in alloc; "taken")?),
@@ -128,6 +144,7 @@ pub fn answer(alloc: Global, supervisor: &mut Supervisor, record: &str) -> Resul
         "end" | "limit" => authorize(alloc, supervisor, kind, fields),
         "restrict" => restrict(alloc, supervisor, fields),
         "up to" => restrict_all(alloc, supervisor, fields),
+        "come and go" => restrict_and_revoke(alloc, supervisor, fields),
         "revoke" => revoke(alloc, supervisor, fields),
         _ => Err("no such record")?,
     }

@@ -1,23 +1,7 @@
--- A limit stands for the exact one, since each is as many grains before its place as the exact one is before its own.
-use Rattle.std.proofs.Common.{Some, rules}
-use Rattle.sdm_num.specs.Fractions.{less}
-use Rattle.sdm_num.specs.Units.{way_in}
+-- The place is the computed one, and stands for the exact one.
 use Rattle.sdm_rules.specs.Slopes.{meaning_of}
-use Rattle.sdm_rules.specs.Curves.{exact, stepped}
-use Rattle.sdm_limits.specs.Sides.{place_where}
-use Rattle.sdm_limits.proofs.Places.{ebd_places, early_before}
+use Rattle.sdm_rules.specs.Curves.{exact}
 use Rattle.sdm_limits.proofs.limits.ebd_limits.Goals as goal
 
-pub returns-clause-at : goal.returns-clause-at
-returns-clause-at c =
-    let place = stepped (meaning_of c.args.safe.now) c.args.ebd.now.place c.args.ebd.now.speed c.args.reaction.now.v_bec in
-    ebd_places c.limits_from_sbi.result c.args.times.now c.args.v (place_where c.args.guide) c.less-ebi.result c.less-sbi.result c.args.reaction.now.d_bec c.way.result place
-    c.limits_from_sbi.ensures.at (search rules) (search rules) (search rules)
-
 pub returns-clause-stands : goal.returns-clause-stands
-returns-clause-stands c = λ g guided.
-    let x = exact (meaning_of c.args.safe.now) c.args.ebd.now.place c.args.ebd.now.speed c.args.reaction.now.v_bec in
-    let ebi = less x c.args.reaction.now.d_bec in
-    let at_ebi = c.less-ebi.ensures.stands x c.place.ensures.stands in
-    let at_sbi = early_before c.less-sbi.result ebi c.way.result c.args.v c.args.times.now.bs (search rules) (c.less-sbi.ensures.stands ebi at_ebi) in
-    c.limits_from_sbi.ensures.stands g (Some ebi) (less ebi (way_in c.args.v c.args.times.now.bs)) guided at_ebi at_sbi
+returns-clause-stands c = λ g guided. c.ebd_limits_at.ensures.stands g (exact (meaning_of c.args.safe.now) c.args.ebd.now.place c.args.ebd.now.speed c.args.reaction.now.v_bec) guided c.place-place.ensures.stands

@@ -34,7 +34,7 @@ module _ (c : goal.After-is_passed_by) where
   held_is = ap (λ (s : FlatSupervision). s.eb) (sym c.self.view_is)
 
   at_is : c.place-limit.result.at ≡ stepped (flat_slopes c.args.self.now.decel) (border_of (pos c.args.self.now.end)) 0 c.args.speed
-  at_is = rw (decel_is, end_is, ← same_stepped c.self.inside.decel (border_of (pos c.self.inside.end_cm)) c.args.speed) (rw (c.self.invariant.map_is, c.self.invariant.curve_is) at c.place-limit.ensures.at)
+  at_is = rw (decel_is, end_is, ← same_stepped c.self.inside.decel (border_of (pos c.self.inside.end_cm)) c.args.speed) (rw (c.self.invariant.map_is, c.self.invariant.place_is, c.self.invariant.speed_is) at c.place-limit.ensures.at)
 
   place_is : c.of_cm-end.result ≡ border_of (pos c.args.self.now.end)
   place_is =

@@ -13,7 +13,7 @@ module _ (c : goal.After-row) where
   state = state_of c.self.inside.line c.self.inside.authority c.self.inside.profile c.self.inside.last_time c.self.inside.held
 
   same : state ≡ c.args.self.now
-  same = c.self.view_is ∙ c.find-found.ensures.unchanged
+  same = c.self.view_is
 
   found : IsFoundAt state c.args.reading.now c.find-found.result
   found = subst (λ (s : Supervision). IsFoundAt s c.args.reading.now c.find-found.result) (sym same) c.find-found.ensures.found

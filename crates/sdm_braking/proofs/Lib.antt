@@ -1,0 +1,4 @@
+pub mod EbdLaws
+pub mod KeptFallLaws
+pub mod ReleaseLaws
+pub mod WalkLaws

@@ -1,0 +1,20 @@
+-- Those at or before a cell come first.
+use Rattle.std.proofs.Common.{◌≡◌, int_le, w32, w64, to_z, of_z, arith, rules}
+use Rattle.std.proofs.lemmas.Int.{to_z-of_z}
+use Rattle.std.proofs.lemmas.List.Sorted.{IsPartitionPoint-from_clause}
+use Rattle.sdm_num.proofs.Comparisons.{le_of, not_le_of}
+use Rattle.sdm_speed.proofs.FallLists.{falls_parted, not_past}
+use Rattle.sdm_braking.specs.declared.kept_falls.KeptFall.{KeptFall}
+use Rattle.sdm_braking.specs.KeptFalls.{fall_of}
+use Rattle.sdm_braking.proofs.kept_falls.reached.Goals as goal
+
+pub returns-clause-parted : goal.returns-clause-parted
+returns-clause-parted c p after h =
+    let ks = c.args.list.now in
+    let last = c.args.last in
+    let i = c.partition_point.result in
+    let parts = IsPartitionPoint-from_clause (λ (k : KeptFall). int_le k.fall.cell last) ks i c.partition_point.ensures.partitioned (falls_parted fall_of p (λ a. int_le a last) (not_past last) after ks h) (λ a r f called. search rules) in
+    record {
+      reached = λ k d l m. le_of _ _ (parts.0 k d (omega arith) l);
+      past = λ k d l m. not_le_of _ _ (parts.1 k d l m);
+    }

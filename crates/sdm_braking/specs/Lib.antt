@@ -1,0 +1,6 @@
+pub mod Lines
+pub mod KeptCurves
+pub mod KeptFalls
+pub mod Asked
+pub mod Releases
+pub mod Kept

@@ -1,0 +1,84 @@
+//! A reading with what every target's limits ask of it. For a target that is no faster than the train V_bec and D_bec do not depend on the
+//! target, since the greater of both speeds is the train's: so they are worked out once a reading.
+
+ghost use Rattle.std.specs.Prelude.{◌≡◌};
+ghost use Rattle.sdm_num.specs.Readings.{IsReading};
+ghost use Rattle.sdm_rules.specs.Data.{LineData};
+ghost use Rattle.sdm_rules.specs.Limits.{v_bec_for};
+ghost use Rattle.sdm_rules.specs.Supervision.{is_met_by_speed};
+ghost use Rattle.sdm_rules.specs.Targets.{foot_speed_of};
+ghost use Rattle.sdm_targets.specs.Lists.{IsTarget};
+ghost use Rattle.sdm_braking.specs.Asked.{IsAsked, IsGuidanceAsked};
+ghost use Rattle.sdm_braking.specs.KeptCurves.{AreSpeedsOf};
+
+use crate::kept_targets::KeptTarget;
+use crate::lines::Line;
+use sdm_curve::AskedSpeed;
+use sdm_limits::BuildUp;
+use sdm_num::{Reading, Speed};
+use sdm_targets::TargetKind;
+
+/// A reading with what the limits of targets ask of it. (SUBSET-026-3 3.13.9.3; own)
+#[derive(Debug, Drop)]
+pub struct AskedReading {
+    pub reading: Reading,
+    /// What the train may do until its emergency brake works, whichever the target.
+    pub build_up: BuildUp,
+    /// V_bec on the map of A_safe, for every target that is no faster than the train.
+    pub v_bec: AskedSpeed,
+    /// D_bec in grains, for the same targets.
+    pub d_bec: u64,
+    /// V_est on the map of A_normal_service, where guidance curves are permitted.
+    pub guided_v_est: Option<AskedSpeed>,
+}
+
+impl Line {
+    /// What guidance curves are asked for at an estimated speed, where they are permitted. (SUBSET-026-3 3.13.8.5)
+    fn asked_guidance(&self, v: Speed) -> Option<AskedSpeed>
+        ensures { IsGuidanceAsked self.now v result }
+    {
+        if self.has_guidance() {
+            Some(self.normal().asked(v))
+        } else {
+            None
+        }
+    }
+
+    /// A reading with what limits on this line ask of it.
+    pub fn asked(&self, reading: &Reading) -> AskedReading
+        requires { IsReading reading.now }
+        ensures reading { result.reading ≡ reading.now }
+        ensures asked { IsAsked self.now result }
+    {
+        let v_est = reading.speed_mm_s();
+        let v_delta0 = self.v_delta0(reading.under_mm_s());
+        let build_up = BuildUp::of(self.times(), v_est, v_delta0, reading.accel());
+        // the slowest of the targets stands for all that are no faster than the train
+        let reaction = build_up.reaction(Speed::new(0));
+        AskedReading {
+            reading: *reading,
+            build_up,
+            v_bec: self.safe().asked(reaction.v_bec),
+            d_bec: reaction.d_bec,
+            guided_v_est: self.asked_guidance(v_est),
+        }
+    }
+}
+
+impl AskedReading {
+    /// Whether the train needs no way to brake for a target: it is one of speed, and V_bec is at most its foot speed. (own)
+    pub fn is_met_by_speed(&self, kept: &KeptTarget) -> bool
+        requires target { IsTarget kept.now.target }
+        requires speeds { AreSpeedsOf kept.now.target kept.now.speeds }
+        ensures { (d : LineData) → IsAsked d self.now →
+            result ≡ is_met_by_speed kept.now.target.kind
+            (v_bec_for d self.now.reading kept.now.target) (foot_speed_of kept.now.target) }
+    {
+        match kept.target.kind {
+            TargetKind::Mrsp | TargetKind::Loa => {
+                self.build_up.v_bec(kept.speeds.permitted) <= kept.speeds.ebi
+            }
+            TargetKind::Eoa | TargetKind::Svl => false,
+        }
+    }
+}

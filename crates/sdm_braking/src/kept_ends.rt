@@ -1,0 +1,95 @@
+//! The targets at the end of the authority with their curves, as a supervisor keeps them between records. They follow from the line and
+//! the authority alone.
+
+ghost use Rattle.std.specs.Prelude.{◌≡◌, ◌≤◌, None, pos};
+ghost use Rattle.sdm_rules.specs.Cells.{border_of};
+ghost use Rattle.sdm_rules.specs.declared.authorities.Authority.{Authority};
+ghost use Rattle.sdm_rules.specs.Data.{LineData};
+ghost use Rattle.sdm_rules.specs.Records.{authority_fault};
+ghost use Rattle.sdm_rules.specs.Supervision.{is_past_end};
+ghost use Rattle.sdm_rules.specs.Targets.{end_of};
+ghost use Rattle.sdm_braking.specs.KeptCurves.{IsKeptAt, IsKeptEnd, brake_of};
+ghost use Rattle.sdm_braking.specs.Lines.{IsLine};
+
+use crate::kept_targets::KeptTarget;
+use crate::lines::Line;
+use sdm_curve::Curve;
+use sdm_num::Place;
+use sdm_targets::{Authority, Target, TargetKind};
+
+/// The targets at the end of an authority: the EOA and the SvL, or the LOA. (SUBSET-026-3 3.13.8.2; own)
+#[derive(Clone, Copy, Debug)]
+pub enum KeptEnd {
+    Stop { eoa: KeptTarget, svl: KeptTarget },
+    Limit { loa: KeptTarget },
+}
+
+impl Line {
+    /// The target of a kind at a border in cm, with its curves.
+    fn keep_at(&self, kind: TargetKind, cm: u32, speed: u16) -> KeptTarget
+        requires place { cm ≤ 10_000_000 }
+        requires speed { speed ≤ 500 }
+        ensures { IsKeptAt self.now (record { kind = kind; place = border_of (pos cm); speed = speed }) result }
+    {
+        self.keep(Target {
+            kind,
+            place: Place::of_cm(cm as i32),
+            speed,
+        })
+    }
+
+    /// The EOA or the LOA in cm.
+    pub fn end_of(&self, authority: &Authority) -> u32
+        requires { authority_fault self.now.track.length_cm authority.now ≡ None }
+        ensures value { result ≡ end_of authority.now }
+        ensures on_track { result ≤ 10_000_000 }
+        ensures line { IsLine self.now }
+    {
+        // `track` says that the track, on which the authority lies, is not longer than it may be.
+        let _track = self.track();
+        match *authority {
+            Authority::Stop { eoa, .. } => eoa,
+            Authority::Limit { loa, .. } => loa,
+        }
+    }
+
+    /// The targets at the end of an authority, with their curves.
+    pub fn keep_end(&self, authority: &Authority) -> KeptEnd
+        requires { authority_fault self.now.track.length_cm authority.now ≡ None }
+        ensures { IsKeptEnd self.now authority.now result }
+    {
+        // `track` says that the track, on which the authority lies, is not longer than it may be.
+        let _track = self.track();
+        match *authority {
+            Authority::Stop { eoa, svl, .. } => KeptEnd::Stop {
+                eoa: self.keep_at(TargetKind::Eoa, eoa, 0),
+                svl: self.keep_at(TargetKind::Svl, svl, 0),
+            },
+            Authority::Limit { loa, speed } => KeptEnd::Limit {
+                loa: self.keep_at(TargetKind::Loa, loa, speed),
+            },
+        }
+    }
+}
+
+impl KeptEnd {
+    /// Whether there is an EOA, and the min safe front end is past it. (SUBSET-026-3 3.13.10; own)
+    pub fn is_passed_by(&self, min: Place) -> bool
+        ensures { (d : LineData) (a : Authority) → IsKeptEnd d a self.now → result ≡ is_past_end a min }
+    {
+        match self {
+            KeptEnd::Stop { eoa, .. } => eoa.target.place < min,
+            KeptEnd::Limit { .. } => false,
+        }
+    }
+
+    /// The EBD of the SvL or of the LOA.
+    pub fn brake_curve(&self) -> &Curve
+        ensures { result.now ≡ brake_of self.now }
+    {
+        match self {
+            KeptEnd::Stop { svl, .. } => &svl.brake,
+            KeptEnd::Limit { loa } => &loa.brake,
+        }
+    }
+}

@@ -1,0 +1,76 @@
+//! A target as a supervisor keeps it between records: with the speeds above which it is passed, and with its brake curves. All follow from
+//! the line and the target alone.
+
+ghost use Rattle.std.specs.Prelude.{◌≡◌};
+ghost use Rattle.sdm_rules.specs.declared.data.SlopeKind.TheVariants.{Normal};
+ghost use Rattle.sdm_rules.specs.Decelerations.{slopes_of};
+ghost use Rattle.sdm_rules.specs.Targets.{foot_speed_of};
+ghost use Rattle.sdm_targets.specs.Lists.{IsTarget};
+ghost use Rattle.sdm_braking.specs.KeptCurves.{AreSpeedsOf, IsCurveOn, IsGuideOf, IsKeptTarget, brake_kind};
+
+use crate::lines::Line;
+use crate::speeds::SpeedLimits;
+use sdm_curve::Curve;
+use sdm_targets::{Target, TargetKind};
+
+/// A target with its speeds and its curves. (SUBSET-026-3 3.13.8.3 to 3.13.8.5, 3.13.9.2; own)
+#[derive(Clone, Copy, Debug)]
+pub struct KeptTarget {
+    pub target: Target,
+    /// The speeds above which it is passed: the target speed, and with each of its margins.
+    pub speeds: SpeedLimits,
+    /// The EBD; of an EOA the SBD.
+    pub brake: Curve,
+    /// The guidance curve, where guidance is permitted; none of the SvL.
+    pub guide: Option<Curve>,
+}
+
+impl Line {
+    /// The curve by which the brake supervises a target: an SBD for the EOA, else an EBD. Its foot speed is the target speed with its EBI
+    /// margin. (SUBSET-026-3 3.13.8.3, 3.13.8.4)
+    fn brake_curve(&self, target: &Target, speeds: &SpeedLimits) -> Curve
+        requires target { IsTarget target.now }
+        requires speeds { AreSpeedsOf target.now speeds.now }
+        ensures { IsCurveOn (slopes_of (brake_kind target.now.kind) self.now)
+            target.now.place (foot_speed_of target.now) result }
+    {
+        match target.kind {
+            TargetKind::Mrsp | TargetKind::Loa | TargetKind::Svl => {
+                Curve::from_foot(self.safe(), target.place, speeds.ebi)
+            }
+            TargetKind::Eoa => Curve::from_foot(self.expected(), target.place, speeds.ebi),
+        }
+    }
+
+    /// The guidance curve of a target, where it has one: its foot is at the target place, with the target speed. (SUBSET-026-3
+    /// 3.13.8.5; own feet)
+    fn guidance_curve(&self, target: &Target, speeds: &SpeedLimits) -> Option<Curve>
+        requires target { IsTarget target.now }
+        requires speeds { AreSpeedsOf target.now speeds.now }
+        ensures { IsGuideOf self.now target.now result }
+    {
+        let guided = match target.kind {
+            TargetKind::Mrsp | TargetKind::Loa | TargetKind::Eoa => self.has_guidance(),
+            TargetKind::Svl => false,
+        };
+        if !guided {
+            return None;
+        }
+        Some(Curve::from_foot(self.normal(), target.place, speeds.permitted))
+    }
+
+    /// A target with its speeds and its curves.
+    pub fn keep(&self, target: Target) -> KeptTarget
+        requires { IsTarget target }
+        ensures target { result.target ≡ target }
+        ensures kept { IsKeptTarget self.now result }
+    {
+        let speeds = SpeedLimits::of_target(&target);
+        KeptTarget {
+            target,
+            speeds,
+            brake: self.brake_curve(&target, &speeds),
+            guide: self.guidance_curve(&target, &speeds),
+        }
+    }
+}

@@ -1,0 +1,23 @@
+//! How the train of a journey is braked on its track: the slope maps and times that follow from the data, the targets with their curves as
+//! they are kept between records, their limits at a reading, and where release speed monitoring starts. Of a journey no crate above this
+//! one makes a brake curve.
+#![tactic(auto)]
+
+pub mod asked;
+pub mod kept;
+pub mod kept_ends;
+pub mod kept_falls;
+pub mod kept_targets;
+pub mod limits;
+pub mod lines;
+pub mod releases;
+pub mod speeds;
+
+pub use asked::AskedReading;
+pub use kept::Kept;
+pub use kept_ends::KeptEnd;
+pub use kept_falls::{KeptFall, KeptFalls};
+pub use kept_targets::KeptTarget;
+pub use lines::Line;
+pub use releases::{Release, released_kmh};
+pub use speeds::SpeedLimits;

@@ -1,0 +1,64 @@
+//! The speeds above which a speed in km/h is passed: itself, and with each of its margins.
+
+ghost use Rattle.std.specs.Prelude.{◌≡◌, ◌≤◌, ◌+◌};
+ghost use Rattle.sdm_num.specs.Units.{notches};
+ghost use Rattle.sdm_rules.specs.Margins.{ebi_margin, sbi_margin, warning_margin};
+ghost use Rattle.sdm_rules.specs.Triggers.{no_margin};
+ghost use Rattle.sdm_braking.specs.KeptCurves.{AreSpeedsOf};
+
+use sdm_ceiling::{dv_ebi, dv_sbi, dv_warning};
+use sdm_num::Speed;
+use sdm_targets::{Target, TargetKind};
+
+/// A speed and the same with its margins. (SUBSET-026-3 3.13.9.2)
+#[derive(Clone, Copy, Debug, PartialEq, Eq)]
+pub struct SpeedLimits {
+    pub permitted: Speed,
+    pub warning: Speed,
+    pub sbi: Speed,
+    pub ebi: Speed,
+}
+
+/// A speed with a margin of it, both at most 500 km/h.
+fn raised(kmh: u16, margin: Speed) -> Speed
+    requires speed { kmh ≤ 500 }
+    requires margin { margin ≤ notches 500 }
+    ensures { result ≡ notches kmh + margin }
+{
+    Speed::new(Speed::of_kmh(kmh).notches() + margin.notches())
+}
+
+impl SpeedLimits {
+    /// Those of a speed in km/h, at most 500.
+    pub fn of_kmh(kmh: u16) -> SpeedLimits
+        requires { kmh ≤ 500 }
+        ensures permitted { result.permitted ≡ notches kmh + no_margin kmh }
+        ensures warning { result.warning ≡ notches kmh + warning_margin kmh }
+        ensures sbi { result.sbi ≡ notches kmh + sbi_margin kmh }
+        ensures ebi { result.ebi ≡ notches kmh + ebi_margin kmh }
+    {
+        SpeedLimits {
+            permitted: Speed::of_kmh(kmh),
+            warning: raised(kmh, dv_warning(kmh)),
+            sbi: raised(kmh, dv_sbi(kmh)),
+            ebi: raised(kmh, dv_ebi(kmh)),
+        }
+    }
+
+    /// Those of a target; at the EOA and the SvL its speed and every margin count as 0. With its EBI margin the target speed is the foot
+    /// speed of its EBD. (SUBSET-026-3 3.13.8.3, 3.13.10; own)
+    pub fn of_target(target: &Target) -> SpeedLimits
+        requires { target.now.speed ≤ 500 }
+        ensures { AreSpeedsOf target.now result }
+    {
+        match target.kind {
+            TargetKind::Mrsp | TargetKind::Loa => SpeedLimits::of_kmh(target.speed),
+            TargetKind::Eoa | TargetKind::Svl => SpeedLimits {
+                permitted: Speed::new(0),
+                warning: Speed::new(0),
+                sbi: Speed::new(0),
+                ebi: Speed::new(0),
+            },
+        }
+    }
+}

@@ -1,0 +1,163 @@
+//! The energy integral of a band: its value at a grain, and the last grain where it is at most a level. A segment is found
+//! by halving; then one product gives the value, and one division the grain.
+
+ghost use Rattle.std.specs.Prelude.{◌≡◌, pos, neg_ℤ, suc, ◌*◌, ◌/◌, ◌^◌, ◌<◌, ◌≤◌, ◌*ℤ◌, ◌≤ℤ◌, ◌<ℤ◌, length};
+ghost use Rattle.sdm_num.specs.Units.{IsPlace};
+ghost use Rattle.sdm_rules.specs.Slopes.{meaning_of, bands_of};
+ghost use Rattle.sdm_curve.specs.Maps.{handed_in, IsKept};
+ghost use Rattle.sdm_curve.specs.Integrals.{integral, sum_of, IsLastAtMost, IsLevelIn, IsPlaceIn};
+
+use crate::map::BandMap;
+use sdm_num::Place;
+
+/// A grain, and the segment that holds it.
+#[derive(Clone, Copy)]
+pub struct Spot {
+    pub segment: usize,
+    pub grain: i128,
+}
+
+impl Spot {
+    /// The grain as a place.
+    pub fn place(self) -> Place
+        requires { IsPlace self.grain }
+        ensures { result ≡ self.grain }
+    {
+        Place::new(self.grain as i64)
+    }
+}
+
+// The segment that holds a grain.
+fn segment_of_grain(map: &BandMap, grain: i128) -> usize
+    ensures { IsPlaceIn map.now result grain }
+{
+    let mut low = 0;
+    let mut high = map.segments();
+    while high - low > 1 {
+        let middle = low + (high - low) / 2;
+        if i128::from(map.border(middle)) <= grain {
+            low = middle;
+        } else {
+            high = middle;
+        }
+    }
+    low
+}
+
+/// A place with its segment.
+pub fn spot_at(map: &BandMap, place: Place) -> Spot
+    ensures grain { result.grain ≡ place }
+    ensures fits { IsPlace result.grain }
+    ensures segment { IsPlaceIn map.now result.segment result.grain }
+{
+    let grain = i128::from(place.grains());
+    Spot {
+        segment: segment_of_grain(map, grain),
+        grain,
+    }
+}
+
+// A segment, found by high words alone: the next one begins past every level with this high word.
+fn segment_of_key(map: &BandMap, band: usize, key: u64) -> usize
+    requires known_band { band < bands_of map.now.uppers }
+    ensures known { result < length map.now.starts }
+    ensures next_past { suc result < length map.now.starts → key < sum_of map.now band (suc result) / 2 ^ 64 }
+{
+    let mut low = 0;
+    let mut high = map.segments();
+    while high - low > 1 {
+        let middle = low + (high - low) / 2;
+        if map.key(band, middle) <= key {
+            low = middle;
+        } else {
+            high = middle;
+        }
+    }
+    low
+}
+
+// The segment that holds the last grain at a level of a band.
+fn segment_of_level(map: &BandMap, band: usize, level: u128) -> usize
+    requires known_band { band < bands_of map.now.uppers }
+    ensures { IsLevelIn map.now band result level }
+{
+    let mut segment = segment_of_key(map, band, (level >> 64) as u64);
+    while level < map.sum(band, segment) {
+        segment -= 1;
+    }
+    segment
+}
+
+// The same for a level below 0, which lies before cell 0: the first segment has no beginning.
+fn last_before_0(map: &BandMap, band: usize, level: i128) -> Spot
+    requires known_band { band < bands_of map.now.uppers }
+    requires low { neg_ℤ (pos (10 ^ 37)) ≤ℤ level }
+    requires before { level <ℤ pos 0 }
+    ensures last { IsLastAtMost (meaning_of map.now) band level result.grain }
+    ensures segment { IsPlaceIn map.now result.segment result.grain }
+    ensures kept { IsKept (handed_in map.now) }
+{
+    Spot {
+        segment: 0,
+        grain: level.div_euclid(i128::from(map.rate_before_0(band))),
+    }
+}
+
+// The last grain at a level of a band that is not below 0.
+fn last_from_0(map: &BandMap, band: usize, level: u128) -> Spot
+    requires known_band { band < bands_of map.now.uppers }
+    requires high { level ≤ 10 ^ 37 }
+    ensures last { IsLastAtMost (meaning_of map.now) band (pos level) result.grain }
+    ensures segment { IsPlaceIn map.now result.segment result.grain }
+    ensures kept { IsKept (handed_in map.now) }
+{
+    let segment = segment_of_level(map, band, level);
+    let rest = level - map.sum(band, segment);
+    let rate = u128::from(map.rate(band, segment));
+    let grains = rest / rate;
+    Spot {
+        segment,
+        grain: (u128::from(map.border(segment)) + grains) as i128,
+    }
+}
+
+/// The last grain where the integral of a band is at most a level.
+pub fn last_at_most(map: &BandMap, band: usize, level: i128) -> Spot
+    requires known_band { band < bands_of map.now.uppers }
+    requires low { neg_ℤ (pos (10 ^ 37)) ≤ℤ level }
+    requires high { level ≤ℤ pos (10 ^ 37) }
+    ensures last { IsLastAtMost (meaning_of map.now) band level result.grain }
+    ensures segment { IsPlaceIn map.now result.segment result.grain }
+    ensures kept { IsKept (handed_in map.now) }
+{
+    if level < 0 {
+        last_before_0(map, band, level)
+    } else {
+        last_from_0(map, band, level as u128)
+    }
+}
+
+// The energy of a way of so many grains, with the way's sign.
+fn energy_over(rate: u64, way: i128) -> i128
+    requires rate { rate ≤ 27 * 10 ^ 15 }
+    requires low { neg_ℤ (pos (2 ^ 65)) ≤ℤ way }
+    requires high { way ≤ℤ pos (2 ^ 65) }
+    ensures value { result ≡ pos rate *ℤ way }
+    ensures low { neg_ℤ (pos (10 ^ 36)) ≤ℤ result }
+    ensures high { result ≤ℤ pos (10 ^ 36) }
+{
+    i128::from(rate) * way
+}
+
+/// The integral of a band at a spot.
+pub fn integral_at(map: &BandMap, band: usize, spot: Spot) -> i128
+    requires known_band { band < bands_of map.now.uppers }
+    requires fits { IsPlace spot.grain }
+    requires segment { IsPlaceIn map.now spot.segment spot.grain }
+    ensures value { result ≡ integral (meaning_of map.now) band spot.grain }
+    ensures low { neg_ℤ (pos (2 * 10 ^ 36)) ≤ℤ result }
+    ensures high { result ≤ℤ pos (2 * 10 ^ 36) }
+{
+    let way = spot.grain - i128::from(map.border(spot.segment));
+    map.sum(band, spot.segment) as i128 + energy_over(map.rate(band, spot.segment), way)
+}

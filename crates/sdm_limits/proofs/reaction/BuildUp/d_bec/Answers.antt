@@ -1,0 +1,11 @@
+-- Each part of the sum is one of the gains, maxima and ways that the formula names.
+use Rattle.std.proofs.Common.{◌+◌, rules}
+use Rattle.sdm_limits.proofs.Ways.{d_bec_is}
+use Rattle.sdm_limits.proofs.reaction.BuildUp.d_bec.Goals as goal
+
+pub returns-clause-value : goal.returns-clause-value
+returns-clause-value c =
+    d_bec_is c.args.self.now c.args.target c.self.inside.v_delta1 c.self.inside.v_delta2 c.max-v_mean.result c.v_cut_off-v_cut_off.result c.way.result c.way-2.result
+    (search rules) (search rules) (search rules) (search rules)
+    (rw (← c.self.view_is) c.way.ensures.value)
+    (rw (← c.self.view_is) c.way-2.ensures.value)

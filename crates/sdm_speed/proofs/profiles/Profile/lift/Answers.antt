@@ -1,0 +1,82 @@
+-- The restriction is taken out, and the steps are lowered anew by those that are left.
+use Rattle.std.proofs.Common.{pos, Some, map, refl, sym, ap, subst, ◌∙◌, arith}
+use Rattle.std.proofs.lemmas.Int.{ints}
+use Rattle.sdm_rules.specs.Profile.{lowest_limit, zone_of}
+use Rattle.sdm_speed.specs.Held.{AreDistinct, IsHeld}
+use Rattle.sdm_speed.specs.ProfileFields.{data_of, static_zones_of}
+use Rattle.sdm_speed.proofs.ZoneLaws.{lowest_limit-after}
+use Rattle.sdm_speed.proofs.ChangeLaws.{lifted_outside, cells_in_range}
+use Rattle.sdm_speed.proofs.HeldLaws.{get_at, len_is, contains_is, distinct_less, removed, All-remove}
+use Rattle.sdm_speed.proofs.KeptLaws.{held_count, with_held}
+use Rattle.sdm_speed.proofs.profiles.Profile.lift.Goals as goal
+
+pub returns-in_default-clause-refused : goal.returns-in_default-clause-refused
+returns-in_default-clause-refused c =
+    let place = rw c.deref.ensures.value at c.in_default.ensures in
+    rw (← c.self.view_is, contains_is c.self.inside.held.items c.args.id, ← place) refl
+
+pub lower_anew-requires : goal.lower_anew-requires
+lower_anew-requires c =
+    let kept = c.self.invariant in
+    let ok_held = c.self.inside.held.ok.0 in
+    let count = held_count _ kept _ refl in
+    let longest = kept.in_range.longest_train in
+    record {
+      held = rw (c.deref-2.ensures.value, c.remove-lifted.ensures.items) (All-remove IsHeld _ _ kept.each_held);
+      few = omega (arith, c.deref-2.ensures.len, c.remove-lifted.ensures.len, count, kept.in_range.few);
+      train = omega (arith, ints);
+      rising = kept.statics_rising;
+      room = omega (arith, c.deref-2.ensures.len, c.remove-lifted.ensures.len, count, kept.in_range.few, kept.steps_room);
+    }
+
+pub invariant_of-self : goal.invariant_of-self
+invariant_of-self c =
+    let kept = c.self.invariant in
+    let held = c.self.inside.held.items in
+    let length_cm = pos c.self.inside.length_cm in
+    let top = c.self.inside.max_speed in
+    let left = c.remove-lifted.new.self in
+    let distinct : AreDistinct left.items = rw c.remove-lifted.ensures.items (distinct_less held c.in-Some.place kept.distinct) in
+    let ok_held = c.self.inside.held.ok.0 in
+    let ok_left = left.ok.0 in
+    let lowered = rw c.deref-2.ensures.value at c.lower_anew.ensures.speeds in
+    record {
+      in_range = with_held _ _ kept.in_range (rw (len_is left.items distinct) (omega (arith, c.remove-lifted.ensures.len, held_count _ kept _ refl, kept.in_range.few)));
+      distinct = distinct;
+      each_static = kept.each_static;
+      each_held = rw c.remove-lifted.ensures.items (All-remove IsHeld _ _ kept.each_held);
+      statics = kept.statics;
+      statics_rising = kept.statics_rising;
+      steps = λ cell.
+          lowered cell ∙ ap (λ n. lowest_limit n cell (map (zone_of length_cm) left.items)) (kept.statics cell)
+          ∙ sym (lowest_limit-after top cell (static_zones_of c.self.inside) (map (zone_of length_cm) left.items));
+      steps_rising = c.lower_anew.ensures.rising;
+      steps_few = omega (arith, c.lower_anew.ensures.few, c.deref-2.ensures.len);
+      held_room = omega (arith, kept.held_room, c.remove-lifted.ensures.capacity);
+      steps_room = omega (arith, kept.steps_room, c.lower_anew.ensures.room);
+    }
+
+pub returns-clause-accepted : goal.returns-clause-accepted
+returns-clause-accepted c =
+    let place = rw c.deref.ensures.value at c.in-Some.ensures in
+    rw (← c.self.view_is, contains_is c.self.inside.held.items c.args.id, ← place) refl
+
+pub returns-clause-removed : goal.returns-clause-removed
+returns-clause-removed c =
+    let place = rw c.deref.ensures.value at c.in-Some.ensures in
+    rw (← c.self.view_is, c.remove-lifted.ensures.items, removed c.self.inside.held.items c.args.id c.in-Some.place c.self.invariant.distinct (sym place)) refl
+
+pub returns-clause-outside : goal.returns-clause-outside
+returns-clause-outside c =
+    let place = rw c.deref.ensures.value at c.in-Some.ensures in
+    let here = get_at c.self.inside.held.items c.args.id c.in-Some.place c.remove-lifted.result (sym place) in
+    rw (returns-clause-removed c, c.cells_of.ensures, ← c.self.view_is)
+    (lifted_outside (data_of c.self.inside) c.args.id c.remove-lifted.result (here.1 ∙ ap Some (sym c.remove-lifted.ensures.value)))
+
+pub returns-clause-in_range : goal.returns-clause-in_range
+returns-clause-in_range c =
+    let kept = c.self.invariant in
+    let place = rw c.deref.ensures.value at c.in-Some.ensures in
+    let here = get_at c.self.inside.held.items c.args.id c.in-Some.place c.remove-lifted.result (sym place) in
+    let held = subst IsHeld (sym c.remove-lifted.ensures.value) (kept.each_held c.in-Some.place c.remove-lifted.result here.0) in
+    rw c.cells_of.ensures (cells_in_range (pos c.self.inside.length_cm) c.remove-lifted.result (omega (arith, ints)) kept.in_range.longest_train held)

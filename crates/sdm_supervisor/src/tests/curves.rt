@@ -1,0 +1,122 @@
+//! The curves that a supervisor lends, asked for places that were worked by hand. A train that brakes at 1 m/s² needs half the difference of
+//! the squares of two speeds in m/s, as metres, from one to the other.
+
+ghost use Rattle.std.specs.Prelude.{◌≡◌, ◌≤ℤ◌, IfOk, pos};
+ghost use Rattle.sdm_rules.specs.declared.data.SlopeKind.TheVariants.{Safe};
+ghost use Rattle.sdm_rules.specs.Decelerations.{slopes_of};
+ghost use Rattle.sdm_rules.specs.Slopes.{meaning_of};
+
+use crate::Supervisor;
+use crate::tests::data::{base, set_line};
+use sdm_curve::BandMap;
+use sdm_decel::safe;
+use sdm_national::National;
+use sdm_num::Speed;
+use sdm_speed::Restriction;
+use sdm_targets::Authority;
+use sdm_track::{SpeedStep, Track};
+use sdm_train::Train;
+use std::alloc::Global;
+use std::test::Fail;
+
+/// 80 km/h from 500 m to 600 m, until the train's end has left it at 700 m.
+const SLOW: Restriction = Restriction {
+    id: 1,
+    start: 50_000,
+    end: 60_000,
+    speed: 80,
+    delayed: true,
+};
+
+/// Where the fall at a border in cm has a speed on its EBD, in mm; none where there is no fall.
+fn on_fall(supervisor: &Supervisor, map: &BandMap, cell: i32, v: Speed) -> Option<i64>
+    requires cell { pos 0 ≤ℤ cell }
+    requires map { meaning_of map.now ≡ slopes_of Safe supervisor.now.line }
+{
+    let curve = supervisor.fall_curve(cell)?;
+    Some(curve.place(map, v).whole_mm())
+}
+
+/// Where the EBD of the end of the authority has a speed, in mm.
+fn on_end(supervisor: &Supervisor, map: &BandMap, v: Speed) -> i64
+    requires { meaning_of map.now ≡ slopes_of Safe supervisor.now.line }
+{
+    let curve = supervisor.authority_curve();
+    curve.place(map, v).whole_mm()
+}
+
+/// With the EOA and the SvL at 2000 m, and no restriction.
+fn is_at_2_km(supervisor: &Supervisor, map: &BandMap) -> bool
+    requires { meaning_of map.now ≡ slopes_of Safe supervisor.now.line }
+{
+    on_fall(supervisor, map, 50_000, Speed::of_kmh(80)).is_none()
+        && on_end(supervisor, map, Speed::of_mm_s(0)) == 2_000_000
+        && on_end(supervisor, map, Speed::of_mm_s(20_000)) == 1_800_000
+}
+
+/// With the restriction in force: 80 km/h has 7.5 km/h of EBI margin, and from 30 m/s it is (900 − 24.3055…²) / 2 = 154.62 m to there.
+fn is_restricted(supervisor: &Supervisor, map: &BandMap) -> bool
+    requires { meaning_of map.now ≡ slopes_of Safe supervisor.now.line }
+{
+    on_fall(supervisor, map, 50_000, Speed::new(1_312_500)) == Some(500_000)
+        && on_fall(supervisor, map, 50_000, Speed::of_mm_s(30_000)) == Some(345_380)
+}
+
+/// Whether the profile falls at none of the borders about the restriction but the one where it begins.
+fn falls_once(supervisor: &Supervisor) -> bool {
+    supervisor.fall_curve(0).is_none()
+        && supervisor.fall_curve(49_999).is_none()
+        && supervisor.fall_curve(50_001).is_none()
+        && supervisor.fall_curve(60_000).is_none()
+        && supervisor.fall_curve(70_000).is_none()
+        && supervisor.fall_curve(10_200_000).is_none()
+}
+
+/// With the LOA of 60 km/h at 1500 m, where the foot speed is 67.5 km/h.
+fn is_limited(supervisor: &Supervisor, map: &BandMap) -> bool
+    requires { meaning_of map.now ≡ slopes_of Safe supervisor.now.line }
+{
+    on_end(supervisor, map, Speed::new(1_012_500)) == 1_500_000
+}
+
+/// A supervisor with 160 km/h on 2 km, up to an EOA at their end, and the map of A_safe of its data.
+fn begun(alloc: Global) -> Result<(Supervisor, BandMap), Fail>
+    ensures { IfOk result (λ both. meaning_of both.1 ≡ slopes_of Safe both.0.line) }
+{
+    let mut data = base(alloc);
+    set_line(alloc, &mut data, "end 200000 200000 0")?;
+    data.speeds.push(SpeedStep {
+        start: 0,
+        speed: 160,
+        delayed: true,
+    })?;
+    let train = Train::new(data.train)?;
+    let national = National::new(data.national)?;
+    let track = Track::new(data.track_cm, data.gradients, data.speeds, data.areas)?;
+    let map = safe(alloc, &train, &national, &track)?;
+    let supervisor = Supervisor::begin(alloc, train, national, track, data.authority)?;
+    Ok((supervisor, map))
+}
+
+#[test]
+fn lent_curves_are_those_of_the_present_falls_and_authority(rt: HostRuntime) -> Result<(), Fail> {
+    let (mut supervisor, map) = begun(rt.alloc())?;
+    assert!(rt; is_at_2_km(&supervisor, &map));
+    supervisor.restrict(SLOW)?;
+    assert!(rt; is_restricted(&supervisor, &map));
+    assert!(rt; falls_once(&supervisor));
+    supervisor.authority(Authority::Limit {
+        loa: 150_000,
+        speed: 60,
+    })?;
+    assert!(rt; is_restricted(&supervisor, &map));
+    assert!(rt; is_limited(&supervisor, &map));
+    supervisor.authority(Authority::Stop {
+        eoa: 200_000,
+        svl: 200_000,
+        release: 0,
+    })?;
+    supervisor.revoke(1)?;
+    assert!(rt; is_at_2_km(&supervisor, &map));
+    Ok(())
+}
