@@ -2,29 +2,38 @@
 #![tactic(auto)]
 
 use sdm_io::{StdSink, StdSource};
-use sdm_run::{Outcome, sdm_main};
+use sdm_run::{Outcome, sdm_main, told};
 use std::env;
 use std::io::ErrorKind;
 use std::process::ExitCode;
 
-fn main(rt: HostRuntime) -> ExitCode {
-    let no_memory = ExitCode::from(Outcome::Memory.code());
+// The words after the program's name; none where memory for them is wanting. Where one of them is not UTF-8, the program goes on
+// with no words, which is Usage.
+fn words_of(rt: &HostRuntime) -> Option<Vec<String>> {
     let mut words = Vec::new(rt.alloc());
-    match env::args(&rt) {
+    match env::args(rt) {
         Ok(args) => {
             for word in args.skip(1) {
                 if words.push(word).is_err() {
-                    return no_memory;
+                    return None;
                 }
             }
         }
-        Err(error) if error.kind() == ErrorKind::OutOfMemory => return no_memory,
-        // A word that is not UTF-8: the program goes on with no words, which is Usage.
+        Err(error) if error.kind() == ErrorKind::OutOfMemory => return None,
         Err(_) => {}
     }
-    let mut input = StdSource::new(rt.stdin());
-    let mut out = StdSink::new(rt.stdout());
+    Some(words)
+}
+
+fn main(rt: HostRuntime) -> ExitCode {
     let mut err = StdSink::new(rt.stderr());
-    let outcome = sdm_main(rt.alloc(), &words, &mut input, &mut out, &mut err);
+    let outcome = match words_of(&rt) {
+        Some(words) => {
+            let mut input = StdSource::new(rt.stdin());
+            let mut out = StdSink::new(rt.stdout());
+            sdm_main(rt.alloc(), &words, &mut input, &mut out, &mut err)
+        }
+        None => told(Outcome::Memory, &mut err),
+    };
     ExitCode::from(outcome.code())
 }

@@ -66,11 +66,19 @@ impl NullSink {
 impl Sink for NullSink {
     ghost taken = { λ _. None };
 
+    ghost held = { λ _. None };
+
     ghost faults = { λ _. 0 };
 
     fn write(&mut self, piece: &[u8]) -> Result<usize, Failed>
         ensures whole { result ≡ Ok (length piece.now) }
     {
         Ok(piece.len())
+    }
+
+    fn flush(&mut self) -> Result<(), Failed>
+        ensures never_fails { result ≡ Ok tt }
+    {
+        Ok(())
     }
 }

@@ -19,7 +19,7 @@ pub use memory::{MemSink, MemSource};
 pub use reading::{Unread, read_to_end};
 pub use sinks::Sink;
 pub use sources::Source;
-pub use standard::{StdSink, StdSource};
+pub use standard::{BlockSink, StdSink, StdSource};
 pub use writing::write_piece;
 
 #[cfg(test)]

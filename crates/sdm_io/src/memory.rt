@@ -3,7 +3,7 @@
 
 ghost use Rattle.std.specs.Prelude.{◌≡◌, ◌↔◌, ◌⊎◌, ◌<◌, ◌≤◌, ◌++◌, Some, [], take, drop, length, min, vec_len, vec_capacity, is_err, IfOk, IsErr, IsTrue};
 ghost use Rattle.std.specs.Io.{ReadsAtMost, WritesAtMost};
-ghost use Rattle.std.specs.Io.KnownBytes.{ReadConsumes, WriteAppends};
+ghost use Rattle.std.specs.Io.KnownBytes.{Keeps, ReadConsumes, WriteAppends};
 ghost use Rattle.sdm_io.specs.Causes.{HasCause};
 ghost use Rattle.sdm_io.specs.Memory.{FailsNext, MeetsNoRoom, MemoryInput, MemoryOutput, after_call, fresh_plan, readable, writable};
 
@@ -103,7 +103,7 @@ impl Model for MemSink {
 
 impl MemSink {
     /// Takes memory for `room` bytes. At most `step` bytes a call; a call fails exactly where its number, from 1, stands in
-    /// `failing`, or a piece that is not empty meets no free room.
+    /// `failing`, or a piece that is not empty meets no free room. A flush is a call too, and finds nothing to give on.
     pub fn new(
         alloc: Global,
         room: usize,
@@ -137,6 +137,8 @@ fn meets_no_room(piece: &[u8], free: usize) -> bool
 impl Sink for MemSink {
     ghost taken = { λ s. Some s.taken };
 
+    ghost held = { λ _. Some [] };
+
     ghost faults = { λ s. s.plan.faults };
 
     fn write(&mut self, piece: &[u8]) -> Result<usize, Failed>
@@ -162,5 +164,21 @@ impl Sink for MemSink {
         let n = self.plan.step().min(piece.len().min(free));
         self.bytes.extend_from_slice(&piece[..n]).unwrap();
         Ok(n)
+    }
+
+    // Nothing is held back. The call is one of those that the plan numbers.
+    fn flush(&mut self) -> Result<(), Failed>
+        ensures bytes { Keeps (Some self.old.taken) (Some self.new.taken) }
+        ensures cause { HasCause self.old.plan.faults self.new.plan.faults result }
+
+        ensures fails { IsErr result ↔ FailsNext self.old.plan }
+        ensures plan { self.new.plan ≡ after_call self.old.plan (is_err result) }
+        ensures room { self.new.room ≡ self.old.room }
+    {
+        if self.plan.next_fails() {
+            self.plan.count_fault();
+            return Err(Failed);
+        }
+        Ok(())
     }
 }

@@ -1,9 +1,10 @@
 //! What each call moves at short steps, at chosen failures and at want of room, as tables; and what no clause says: how the
-//! adapters answer a stream that fails. `F` stands for a failure, `.` for the end of a source, `-` for nothing.
+//! adapters answer a stream that fails. `F` stands for a failure, `.` for the end of a source, `-` for nothing, and `!` for a
+//! flush.
 
 use crate::{
-    Failed, FixedSource, MemSink, MemSource, NullSink, Sink, Source, StdSink, StdSource, Unread,
-    read_to_end, write_piece,
+    BlockSink, Failed, FixedSource, MemSink, MemSource, NullSink, Sink, Source, StdSink, StdSource,
+    Unread, read_to_end, write_piece,
 };
 use std::alloc::Global;
 use std::io;
@@ -84,8 +85,26 @@ fn a_source_over_memory_gives_its_bytes_by_its_plan(rt: HostRuntime) -> Result<(
     Ok(())
 }
 
+// What a sink answers to one piece, or to a flush.
+fn write_answer(alloc: Global, sink: &mut MemSink, piece: &str) -> Result<String, Fail> {
+    if piece == "!" {
+        return Ok(match sink.flush() {
+            Ok(()) => String::from_str(alloc, "ok")?,
+            Err(Failed) => String::from_str(alloc, "F")?,
+        });
+    }
+    Ok(match sink.write(bytes_of(piece)) {
+        Ok(n) => format!(in alloc; "{n}")?,
+        Err(Failed) => String::from_str(alloc, "F")?,
+    })
+}
+
 // room | step | failing | pieces | answers | taken
 const WRITES: &str = "\
+    9 | 9 | - | abc ! de ! | 3 ok 2 ok | abcde
+    9 | 9 | 2 | abc ! ! de | 3 F ok 2 | abcde
+    9 | 9 | 1 3 | ! abc de ! | F 3 F ok | abc
+    0 | 9 | 2 | ! ! | ok F | -
     9 | 9 | - | abc de | 3 2 | abcde
     9 | 2 | - | abc c de | 2 1 2 | abcde
     4 | 9 | - | abc def ef | 3 1 F | abcd
@@ -104,10 +123,8 @@ fn a_sink_over_memory_takes_by_its_plan_and_its_room(rt: HostRuntime) -> Result<
         };
         let mut sink = sink_of(alloc, room, step, failing)?;
         for (piece, answer) in pieces.split_whitespace().zip(answers.split_whitespace()) {
-            match sink.write(bytes_of(piece)) {
-                Ok(n) => assert_eq!(rt; n, answer.parse::<usize>()?, "{piece} of {line}"),
-                Err(Failed) => assert_eq!(rt; answer, "F", "{piece} of {line}"),
-            }
+            let got = write_answer(alloc, &mut sink, piece)?;
+            assert_eq!(rt; got.as_str(), answer, "{piece} of {line}");
         }
         assert!(rt; sink.bytes() == bytes_of(taken), "{line}");
     }
@@ -122,6 +139,7 @@ fn a_fixed_source_and_a_null_sink_never_fail(rt: HostRuntime) {
     assert!(rt; read_answer(&mut source, &mut buf) == b"c".as_slice());
     assert!(rt; read_answer(&mut source, &mut buf) == b".".as_slice());
     assert_eq!(rt; NullSink::new().write(b"abc"), Ok(3));
+    assert_eq!(rt; NullSink::new().flush(), Ok(()));
 }
 
 // room | step | failing | piece | answer | taken
@@ -200,14 +218,14 @@ fn an_input_is_read_to_its_end_or_to_one_byte_above_the_limit(rt: HostRuntime) -
 fn an_input_of_several_chunks_is_read_whole(rt: HostRuntime) -> Result<(), Fail> {
     let alloc = rt.alloc();
     let mut bytes = Vec::new(alloc);
-    for i in 0..9000u32 {
+    for i in 0..150_000u32 {
         bytes.push((i % 251) as u8)?;
     }
-    let read = read_to_end(alloc, &mut FixedSource::new(&bytes), 9000)?;
+    let read = read_to_end(alloc, &mut FixedSource::new(&bytes), 150_000)?;
     assert!(rt; read == bytes);
     let read = read_to_end(alloc, &mut FixedSource::new(&bytes), usize::MAX)?;
     assert!(rt; read == bytes);
-    let too_long = read_to_end(alloc, &mut FixedSource::new(&bytes), 8999);
+    let too_long = read_to_end(alloc, &mut FixedSource::new(&bytes), 149_999);
     assert!(rt; matches!(too_long, Err(Unread::TooLong)));
     Ok(())
 }
@@ -218,13 +236,14 @@ fn an_input_of_several_chunks_is_read_whole(rt: HostRuntime) -> Result<(), Fail>
 struct Unsteady<'a> {
     bytes: &'a [u8],
     calls: u8,
+    failure: io::ErrorKind,
 }
 
 impl<'a> Unsteady<'a> {
     fn call(&mut self) -> io::Result<u8> {
         self.calls = self.calls.saturating_add(1);
         if self.calls % 2 == 1 {
-            return Err(io::Error::from(io::ErrorKind::TimedOut));
+            return Err(io::Error::from(self.failure));
         }
         Ok(self.calls)
     }
@@ -249,34 +268,124 @@ impl<'a> io::Write for Unsteady<'a> {
     }
 
     fn flush(&mut self) -> io::Result<()> {
+        self.call()?;
         Ok(())
     }
 }
 
-#[test]
-fn a_reader_that_fails_is_a_fault_and_never_an_end(rt: HostRuntime) {
+// What the calls of an unsteady source answer.
+fn unsteady_reads(alloc: Global, failure: io::ErrorKind, calls: u8) -> Result<String, Fail> {
     let mut source = StdSource::new(Unsteady {
         bytes: b"ab",
         calls: 0,
+        failure,
     });
-    let mut buf = [0u8; 8];
-    for answer in ["F", "a", "F", "b", "F", ".", "F"] {
-        assert!(rt; read_answer(&mut source, &mut buf) == answer.as_bytes());
+    let mut answers = String::new(alloc);
+    for _ in 0..calls {
+        let mut buf = [0u8; 8];
+        let answer = read_answer(&mut source, &mut buf);
+        answers.push_str(std::str::from_utf8(answer)?)?;
     }
+    Ok(answers)
+}
+
+#[test]
+fn a_reader_that_fails_is_a_fault_and_never_an_end(rt: HostRuntime) -> Result<(), Fail> {
+    let answers = unsteady_reads(rt.alloc(), io::ErrorKind::TimedOut, 7)?;
+    assert_eq!(rt; answers.as_str(), "FaFbF.F");
+    Ok(())
+}
+
+#[test]
+fn an_interrupted_read_is_made_again(rt: HostRuntime) -> Result<(), Fail> {
+    let answers = unsteady_reads(rt.alloc(), io::ErrorKind::Interrupted, 4)?;
+    assert_eq!(rt; answers.as_str(), "ab..");
+    Ok(())
+}
+
+fn unsteady_sink(failure: io::ErrorKind) -> StdSink<Unsteady<'static>> {
+    StdSink::new(Unsteady {
+        bytes: b"",
+        calls: 0,
+        failure,
+    })
 }
 
 #[test]
 fn a_writer_that_fails_or_takes_nothing_is_a_fault(rt: HostRuntime) {
-    let mut sink = StdSink::new(Unsteady {
-        bytes: b"",
-        calls: 0,
-    });
+    let mut sink = unsteady_sink(io::ErrorKind::TimedOut);
     assert_eq!(rt; sink.write(b"ab"), Err(Failed));
     assert_eq!(rt; sink.write(b"ab"), Ok(1));
     assert_eq!(rt; sink.write(b"ab"), Err(Failed));
     assert_eq!(rt; sink.write(b"ab"), Err(Failed));
     assert_eq!(rt; sink.write(b"ab"), Err(Failed));
     assert_eq!(rt; sink.write(b""), Ok(0));
+    assert_eq!(rt; sink.flush(), Err(Failed));
+    assert_eq!(rt; sink.flush(), Ok(()));
+}
+
+#[test]
+fn an_interrupted_write_or_flush_is_made_again(rt: HostRuntime) {
+    let mut sink = unsteady_sink(io::ErrorKind::Interrupted);
+    assert_eq!(rt; sink.write(b"ab"), Ok(1));
+    assert_eq!(rt; sink.write(b"ab"), Err(Failed));
+    assert_eq!(rt; sink.write(b"ab"), Ok(1));
+    assert_eq!(rt; sink.flush(), Ok(()));
+}
+
+// What reaches a writer of pieces that go over a block: of a flush at the end, or of none.
+fn blocked(alloc: Global, pieces: &[&[u8]], is_flushed: bool) -> Result<Vec<u8>, Fail> {
+    let mut written = Vec::new(alloc);
+    let mut sink = BlockSink::new(alloc, &mut written)?;
+    for piece in pieces {
+        write_piece(&mut sink, piece)?;
+    }
+    if is_flushed {
+        sink.flush()?;
+    }
+    drop(sink);
+    Ok(written)
+}
+
+#[test]
+fn a_block_is_written_when_it_is_full_or_flushed(rt: HostRuntime) -> Result<(), Fail> {
+    let alloc = rt.alloc();
+    let pieces = [b"abc".as_slice(), b"de".as_slice()];
+    assert!(rt; blocked(alloc, &pieces, false)?.is_empty());
+    assert!(rt; blocked(alloc, &pieces, true)?.as_slice() == b"abcde".as_slice());
+    let large = [b'a'; 65_535];
+    let pieces = [large.as_slice(), b"de".as_slice()];
+    assert!(rt; blocked(alloc, &pieces, false)?.as_slice() == large.as_slice());
+    assert_eq!(rt; blocked(alloc, &pieces, true)?.len(), 65_537);
+    Ok(())
+}
+
+// A writer that fails, and counts its calls.
+#[derive(Drop)]
+struct Full<'a> {
+    calls: &'a mut u32,
+}
+
+impl<'a> io::Write for Full<'a> {
+    fn write(&mut self, _piece: &[u8]) -> io::Result<usize> {
+        *self.calls = self.calls.saturating_add(1);
+        Err(io::Error::from(io::ErrorKind::StorageFull))
+    }
+
+    fn flush(&mut self) -> io::Result<()> {
+        Ok(())
+    }
+}
+
+#[test]
+fn what_a_failed_flush_left_is_not_written_again(rt: HostRuntime) -> Result<(), Fail> {
+    let mut calls = 0;
+    let mut sink = BlockSink::new(rt.alloc(), Full { calls: &mut calls })?;
+    assert_eq!(rt; sink.write(b"abc"), Ok(3));
+    assert_eq!(rt; sink.flush(), Err(Failed));
+    drop(sink);
+    assert_eq!(rt; calls, 1);
+    Ok(())
 }
 
 #[test]

@@ -8,3 +8,4 @@ pub mod RunData
 pub mod RunTexts
 pub mod RunAnswers
 pub mod OutputLaws
+pub mod Flushes

@@ -16,7 +16,7 @@ use Rattle.sdm_report.specs.declared.outcome.Outcome.{Outcome}
 use Rattle.sdm_report.specs.declared.outcome.Outcome.TheVariants.{Done, Usage, ReadFault, WriteFault, TooLong, BadData, Refused, BadEvent, Memory}
 use Rattle.sdm_data.specs.Division.{divide}
 use Rattle.sdm_events.specs.Journey.{records_of}
-use Rattle.sdm_run.specs.Answers.{ComesBefore, ComesFirst, IsAnswer, IsRecordsOutcome}
+use Rattle.sdm_run.specs.Answers.{ComesBefore, ComesFirst, IsAnswer, IsRecordsOutcome, IsRunOutcome}
 use Rattle.sdm_run.specs.Journeys.{run_reader, output_of_records, IsRunOutput}
 use Rattle.sdm_run.specs.RunParts.{IsOpeningOf, IsRefusedBy}
 use Rattle.sdm_run.specs.RunTurns.{AreRunRowsSafe}
@@ -59,7 +59,7 @@ pub no_split : (bytes : List ℕ) (old : Option (List ℕ)) → length bytes ≤
 no_split bytes old short none = answers_all bytes [] ends.NoSplit old old (BadData NoSplit) (run_of_parts bytes [] ends.NoSplit short (rw none (refl, refl))) (record { ended = inl refl; taken = Appends-nil old })
 
 -- want of memory before the first row
-memory_first : (old : Option (List ℕ)) (output : Output) → IsAnswer output old old Memory
+pub memory_first : (old : Option (List ℕ)) (output : Output) → IsAnswer output old old Memory
 memory_first old output = record { ended = inr (inr (inr refl)); taken = record { front = []; rest = output.text; parts = refl; whole_lines = inl refl; taken = Appends-nil old } }
 
 -- a data part that opens no supervisor
@@ -132,3 +132,15 @@ flat_not_before (BadData fault) h b = b
 flat_not_before (Refused fault) h b = b
 flat_not_before (BadEvent number cause) h b = b
 flat_not_before Memory h b = b
+
+-- an outcome that records may have is one that `run` may have
+pub records_possible : (outcome : Outcome) → IsRecordsOutcome outcome → IsRunOutcome outcome
+records_possible Done h = h
+records_possible Usage h = h
+records_possible ReadFault h = absurd h
+records_possible WriteFault h = h
+records_possible TooLong h = absurd h
+records_possible (BadData fault) h = absurd h
+records_possible (Refused fault) h = absurd h
+records_possible (BadEvent number cause) h = h
+records_possible Memory h = h

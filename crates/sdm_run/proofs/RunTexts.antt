@@ -1,6 +1,6 @@
 -- The output of records, record by record: what was written and the output of the records that are left are the output of all.
 use Rattle.std.proofs.Common.{◌≡◌, ℕ, suc, ◌+◌, ◌≤◌, List, [], ◌∷◌, ◌++◌, length, take, Option, Some, None, inl, inr, refl, ap, ◌∙◌, sym, subst, append_assoc, length-append, arith}
-use Rattle.std.specs.Prelude.{Result, Ok, Err, ◌≢◌}
+use Rattle.std.specs.Prelude.{Result, Ok, Err, ◌≢◌, ◌⊎◌}
 use Rattle.std.proofs.Math.Seq.{take-append-add}
 use Rattle.std.proofs.lemmas.List.{append-nil}
 use Rattle.std.specs.Io.KnownBytes.{Appends}
@@ -149,3 +149,8 @@ not_first (BadData fault) possible first = possible
 not_first (Refused fault) possible first = possible
 not_first (BadEvent number cause) possible first = first
 not_first Memory possible first = first
+
+-- what was left alone so far, and by a turn that did not fail, is left alone
+pub left_alone : {S : Type 0} (start old new : S) (Before Failed : Type 0) → (Before → old ≡ start) → (Failed → ⊥) → (Before × (new ≡ old)) ⊎ Failed → new ≡ start
+left_alone start old new Before Failed so_far never (inl (before, same)) = same ∙ so_far before
+left_alone start old new Before Failed so_far never (inr failed) = absurd (never failed)

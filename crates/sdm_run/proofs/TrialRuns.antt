@@ -15,7 +15,7 @@ use Rattle.sdm_rules.specs.Records.{journey_from, time_fault}
 use Rattle.sdm_rules.specs.Supervision.{Supervision, after_reading, opening, row_of}
 use Rattle.sdm_rules.specs.Trial.{reading_in_cycle, reading_record, readings_from, summary_text, trial_authority, trial_journey, trial_line, trial_output}
 use Rattle.sdm_laws.proofs.OneFault.{not_both}
-use Rattle.sdm_supervisor.specs.Lines.{IsRefusal}
+use Rattle.sdm_braking.specs.Lines.{IsRefusal}
 use Rattle.sdm_trial.specs.Made.{MadeReadings, TakesCycle}
 use Rattle.sdm_trial.specs.Summaries.{Counts, counts_of}
 use Rattle.sdm_trial.proofs.Accepted.{accepted}

@@ -65,6 +65,10 @@ pub record IsAnswer (output : Output) (old new : Option (List ℕ)) (outcome : O
   pub ended : IsOutcomeOf output.end outcome
   pub taken : TakesFor outcome old new output.text
 
+-- the outcome is that of the defined end, and out took the whole text; or memory was wanting (own)
+abbrev pub IsComplete : Output → Option (List ℕ) → Option (List ℕ) → Outcome → Type 0
+IsComplete output old new outcome = ((told_end outcome ≡ Some output.end) × Appends old new output.text) ⊎ (outcome ≡ Memory)
+
 -- an outcome that comes before any row, whatever the input tells (own)
 abbrev pub ComesFirst : Outcome → Type 0
 ComesFirst Done = ⊥

@@ -1,17 +1,18 @@
 //! The top call: from the words and the bytes of an input to the bytes of out and of the fault stream, and an outcome.
 
-ghost use Rattle.std.specs.Prelude.{◌≡◌, ◌⊎◌, ◌↔◌, ◌+◌, ◌<◌, ◌≤◌, ℕ, List, length, Some, Err, IsNone, IfSome, IfOk, OnOk, OnErr};
-ghost use Rattle.std.specs.Io.KnownBytes.{Appends, IsAtEnd, Keeps};
+ghost use Rattle.std.specs.Prelude.{◌≡◌, ◌≢◌, ◌⊎◌, ◌↔◌, ◌+◌, ◌<◌, ◌≤◌, ℕ, List, length, false, Some, Err, IsNone, IfSome, IfOk, OnOk, OnErr};
+ghost use Rattle.std.specs.Io.KnownBytes.{Appends, IsAtEnd};
 ghost use Rattle.sdm_io.specs.Causes.{Rose};
-ghost use Rattle.sdm_io.specs.Told.{AppendsPart, ReadsExactly, ReadsWithin, Told};
+ghost use Rattle.sdm_io.specs.Told.{AppendsPart, HoldsNothing, ReadsExactly, ReadsWithin, Told};
 ghost use Rattle.sdm_report.specs.OutcomeLines.{outcome_line};
 ghost use Rattle.sdm_rules.specs.Flat.{Output};
 ghost use Rattle.sdm_rules.specs.Input.{most_bytes};
 ghost use Rattle.sdm_run.specs.declared.words.Command.{Command};
-ghost use Rattle.sdm_run.specs.Answers.{ComesBefore, ComesFirst, ComesLast, IsAnswer, IsPossible, ReadsInput, told_end};
+ghost use Rattle.sdm_run.specs.Answers.{ComesBefore, ComesFirst, ComesLast, IsAnswer, IsComplete, IsPossible, ReadsInput, told_end};
 ghost use Rattle.sdm_run.specs.Commands.{AreRowsSafe, HasOneOutput, IsOutputOf, OfInput, ReadsNothing, TakesMemoryFirst};
 ghost use Rattle.sdm_run.specs.Words.{IsInRange, asked_by};
 
+use crate::endings::Ended;
 use crate::flat_run::run_flat;
 use crate::journey_run::run_journey;
 use crate::trial_run::run_trial;
@@ -24,8 +25,8 @@ use std::alloc::Global;
 /// The most bytes of an input. (own)
 const MOST_BYTES: usize = 16_777_216;
 
-/// The program. Each command writes what it defines for the bytes of the input, which `trial` leaves unread; for each outcome but
-/// Done its line goes to the fault stream, whose faults change no outcome. (own)
+/// The program. Each command writes what it defines for the bytes of the input, which `trial` leaves unread, and out is flushed where
+/// it was handed a byte; then, for each outcome but Done, its line goes to the fault stream, whose faults change no outcome. (own)
 pub fn sdm_main<I: Source, O: Sink, E: Sink>(
     alloc: Global,
     words: &[String],
@@ -36,11 +37,21 @@ pub fn sdm_main<I: Source, O: Sink, E: Sink>(
     ensures usage { (result ≡ Outcome.Usage) ↔ IsNone (asked_by words.now) }
 
     // what the command defines for the bytes of the input, and what out took of it
-    ensures answer { IfSome (asked_by words.now) (λ command. OfInput command (I.left input.old) (λ bytes. (output : Output) → IsOutputOf command bytes output → IsAnswer output (O.taken out.old) (O.taken out.new) result)) }
+    ensures answer { IfSome (asked_by words.now) (λ command. OfInput command (I.left input.old) (λ bytes.
+        (output : Output) → IsOutputOf command bytes output
+        → IsAnswer output (O.taken out.old) (O.taken out.new) result)) }
     ensures rows { IfSome (asked_by words.now) (λ command. OfInput command (I.left input.old) (AreRowsSafe command)) }
     ensures possible { IfSome (asked_by words.now) (λ command. IsPossible command result) }
-    ensures first { ComesFirst result → Keeps (O.taken out.old) (O.taken out.new) }
-    ensures memory { IfSome (asked_by words.now) (λ command. TakesMemoryFirst command → result ≡ Outcome.Memory → Keeps (O.taken out.old) (O.taken out.new)) }
+    ensures complete { IfSome (asked_by words.now) (λ command. OfInput command (I.left input.old) (λ bytes.
+        (output : Output) → IsOutputOf command bytes output
+        → (Rose (I.faults input.old) (I.faults input.new) → ⊥) → (Rose (O.faults out.old) (O.faults out.new) → ⊥)
+        → IsComplete output (O.taken out.old) (O.taken out.new) result)) }
+
+    // what comes before any row leaves out as it is; else out gave on all that it took, unless it failed
+    ensures first { ComesFirst result → out.new ≡ out.old }
+    ensures memory { IfSome (asked_by words.now) (λ command.
+        TakesMemoryFirst command → result ≡ Outcome.Memory → out.new ≡ out.old) }
+    ensures given_on { result ≢ Outcome.WriteFault → (out.new ≡ out.old) ⊎ HoldsNothing (O.held out.new) }
 
     // how much of the input was read
     ensures within { ReadsWithin (I.left input.old) (I.left input.new) (most_bytes + 1) }
@@ -60,7 +71,7 @@ pub fn sdm_main<I: Source, O: Sink, E: Sink>(
         return told(Outcome::Usage, err);
     };
     match bytes_for(alloc, command, input) {
-        Ok(bytes) => told(run_command(alloc, command, &bytes, out), err),
+        Ok(bytes) => told(outcome_to(alloc, command, &bytes, out), err),
         Err(Unread::Fault) => told(Outcome::ReadFault, err),
         Err(Unread::TooLong) => told(Outcome::TooLong, err),
         Err(Unread::Memory) => told(Outcome::Memory, err),
@@ -87,16 +98,20 @@ fn bytes_for<I: Source>(alloc: Global, command: Command, input: &mut I) -> Resul
 
 // Answers the bytes of an input that is not too long.
 #[tactic(auto, using(crate::proofs::CommandFacts::rows_safe))]
-fn run_command<O: Sink>(alloc: Global, command: Command, bytes: &[u8], out: &mut O) -> Outcome
+fn run_command<O: Sink>(alloc: Global, command: Command, bytes: &[u8], out: &mut O) -> Ended
     requires short { length bytes.now ≤ most_bytes }
     requires range { IsInRange command }
-    ensures answer { (output : Output) → IsOutputOf command bytes.now output → IsAnswer output (O.taken out.old) (O.taken out.new) result }
+    ensures answer { (output : Output) → IsOutputOf command bytes.now output
+        → IsAnswer output (O.taken out.old) (O.taken out.new) result.outcome }
     ensures rows { AreRowsSafe command bytes.now }
-    ensures possible { IsPossible command result }
-    ensures not_before { ComesBefore result → ⊥ }
-    ensures first { ComesFirst result → Keeps (O.taken out.old) (O.taken out.new) }
-    ensures memory { TakesMemoryFirst command → result ≡ Outcome.Memory → Keeps (O.taken out.old) (O.taken out.new) }
-    ensures write { result ≡ Outcome.WriteFault → Rose (O.faults out.old) (O.faults out.new) }
+    ensures possible { IsPossible command result.outcome }
+    ensures not_before { ComesBefore result.outcome → ⊥ }
+    ensures first { ComesFirst result.outcome → (result.is_flush_due ≡ false) × (out.new ≡ out.old) }
+    ensures memory { TakesMemoryFirst command → result.outcome ≡ Outcome.Memory
+        → (result.is_flush_due ≡ false) × (out.new ≡ out.old) }
+    ensures due { result.is_flush_due ≡ false → (out.new ≡ out.old) ⊎ (result.outcome ≡ Outcome.WriteFault) }
+    ensures later { O.faults out.old ≤ O.faults out.new }
+    ensures write { result.outcome ≡ Outcome.WriteFault → Rose (O.faults out.old) (O.faults out.new) }
 {
     match command {
         Command::Flat { decel, end_cm } => run_flat(alloc, decel, end_cm, bytes, out),
@@ -105,8 +120,26 @@ fn run_command<O: Sink>(alloc: Global, command: Command, bytes: &[u8], out: &mut
     }
 }
 
-// The outcome, once its line is written to the fault stream.
-fn told<E: Sink>(outcome: Outcome, err: &mut E) -> Outcome
+// The outcome of a command, once out gave on what it was handed.
+fn outcome_to<O: Sink>(alloc: Global, command: Command, bytes: &[u8], out: &mut O) -> Outcome
+    requires short { length bytes.now ≤ most_bytes }
+    requires range { IsInRange command }
+    ensures answer { (output : Output) → IsOutputOf command bytes.now output
+        → IsAnswer output (O.taken out.old) (O.taken out.new) result }
+    ensures rows { AreRowsSafe command bytes.now }
+    ensures possible { IsPossible command result }
+    ensures not_before { ComesBefore result → ⊥ }
+    ensures first { ComesFirst result → out.new ≡ out.old }
+    ensures memory { TakesMemoryFirst command → result ≡ Outcome.Memory → out.new ≡ out.old }
+    ensures given_on { result ≢ Outcome.WriteFault → (out.new ≡ out.old) ⊎ HoldsNothing (O.held out.new) }
+    ensures write { result ≡ Outcome.WriteFault → Rose (O.faults out.old) (O.faults out.new) }
+{
+    let ended = run_command(alloc, command, bytes, out);
+    ended.flushed(out)
+}
+
+/// The outcome, once its line is written to the fault stream, whose faults change nothing. (own)
+pub fn told<E: Sink>(outcome: Outcome, err: &mut E) -> Outcome
     ensures same { result ≡ outcome }
     ensures line { AppendsPart (E.taken err.old) (E.taken err.new) (outcome_line outcome) }
     ensures whole_line { Rose (E.faults err.old) (E.faults err.new) ⊎ Appends (E.taken err.old) (E.taken err.new) (outcome_line outcome) }

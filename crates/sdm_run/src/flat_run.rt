@@ -1,13 +1,13 @@
 //! The command `flat`: a row for each line, written before the next line is taken.
 
-ghost use Rattle.std.specs.Prelude.{◌≡◌, ◌<◌, ◌≤◌, length, IfSome, IfNone};
-ghost use Rattle.std.specs.Io.KnownBytes.{Keeps};
+ghost use Rattle.std.specs.Prelude.{◌≡◌, ◌⊎◌, ◌<◌, ◌≤◌, length, false, IfSome, IfNone};
 ghost use Rattle.sdm_io.specs.Causes.{Rose};
 ghost use Rattle.sdm_rules.specs.Input.{most_bytes};
 ghost use Rattle.sdm_rules.specs.Flat.{flat_output};
 ghost use Rattle.sdm_run.specs.Answers.{ComesFirst, IsAnswer, IsFlatOutcome};
 ghost use Rattle.sdm_run.specs.FlatTurns.{RefusesLine, TakesLine};
 
+use crate::endings::Ended;
 use crate::flat_lines::{first_line, put_row};
 use sdm_io::{Sink, write_piece};
 use sdm_report::{EventCause, Outcome};
@@ -42,44 +42,52 @@ fn take_line<'a>(flat: &mut Flat, rest: &'a [u8]) -> Option<Turn<'a>>
     }
 }
 
-/// Answers the lines of an input. Memory comes only before out took anything; WriteFault only where out failed. (own)
-pub fn run_flat<O: Sink>(
-    alloc: Global,
-    decel: u16,
-    end_cm: u32,
-    bytes: &[u8],
-    out: &mut O,
-) -> Outcome
+/// Answers the lines of an input. Memory comes only before out was handed anything; WriteFault only where out failed. (own)
+pub fn run_flat<O: Sink>(alloc: Global, decel: u16, end_cm: u32, bytes: &[u8], out: &mut O) -> Ended
     requires low { 5 ≤ decel }
     requires high { decel ≤ 400 }
     requires end { end_cm ≤ 10_000_000 }
     requires short { length bytes.now ≤ most_bytes }
-    ensures answer { IsAnswer (flat_output decel end_cm bytes.now) (O.taken out.old) (O.taken out.new) result }
-    ensures possible { IsFlatOutcome result }
-    ensures not_first { ComesFirst result → ⊥ }
-    ensures memory { result ≡ Outcome.Memory → Keeps (O.taken out.old) (O.taken out.new) }
-    ensures write { result ≡ Outcome.WriteFault → Rose (O.faults out.old) (O.faults out.new) }
+    ensures answer { IsAnswer (flat_output decel end_cm bytes.now) (O.taken out.old) (O.taken out.new) result.outcome }
+    ensures possible { IsFlatOutcome result.outcome }
+    ensures not_first { ComesFirst result.outcome → ⊥ }
+    ensures memory { result.outcome ≡ Outcome.Memory → (result.is_flush_due ≡ false) × (out.new ≡ out.old) }
+    ensures due { result.is_flush_due ≡ false → (out.new ≡ out.old) ⊎ (result.outcome ≡ Outcome.WriteFault) }
+    ensures later { O.faults out.old ≤ O.faults out.new }
+    ensures write { result.outcome ≡ Outcome.WriteFault → Rose (O.faults out.old) (O.faults out.new) }
 {
     let Ok(mut flat) = Flat::begin(alloc, decel, end_cm) else {
-        return Outcome::Memory;
+        return Ended {
+            outcome: Outcome::Memory,
+            is_flush_due: false,
+        };
     };
     let mut row_text = RowBuf::new();
     let mut number = 0u32;
     let mut rest = bytes;
+    let mut is_flush_due = false;
     'lines: while !rest.is_empty() {
         number += 1;
         let Some(turn) = take_line(&mut flat, rest) else {
-            return Outcome::BadEvent {
-                number,
-                cause: EventCause::Line,
+            let cause = EventCause::Line;
+            return Ended {
+                outcome: Outcome::BadEvent { number, cause },
+                is_flush_due,
             };
         };
         row_text.clear();
         put_row(&turn.row, &mut row_text);
         let Ok(()) = write_piece(out, row_text.bytes()) else {
-            return Outcome::WriteFault;
+            return Ended {
+                outcome: Outcome::WriteFault,
+                is_flush_due: false,
+            };
         };
+        is_flush_due = true;
         rest = turn.after;
     }
-    Outcome::Done
+    Ended {
+        outcome: Outcome::Done,
+        is_flush_due,
+    }
 }

@@ -1,6 +1,6 @@
 //! The records of `run`: each is taken, and its row written, before the next one is read.
 
-ghost use Rattle.std.specs.Prelude.{◌≡◌, ◌≤◌, Ok, Err, IfOk, IfErr, OnOk, OnErr};
+ghost use Rattle.std.specs.Prelude.{◌≡◌, ◌⊎◌, ◌≤◌, false, Ok, Err, IfOk, IfErr, OnOk, OnErr, is_ok};
 ghost use Rattle.std.specs.Io.KnownBytes.{Appends};
 ghost use Rattle.csv.specs.Records.{fields_of};
 ghost use Rattle.sdm_io.specs.Causes.{HasCause, Rose};
@@ -14,6 +14,7 @@ ghost use Rattle.sdm_run.specs.Journeys.{output_of_records};
 ghost use Rattle.sdm_rules.specs.Text.{row_text};
 ghost use Rattle.sdm_run.specs.RunParts.{IsTurn};
 
+use crate::endings::Ended;
 use sdm_events::{ByteRecord, Event, EventFault, Records, event_of};
 use sdm_io::{Failed, Sink, write_piece};
 use sdm_num::{NoMemory, Reading};
@@ -81,15 +82,37 @@ fn take_record(
     }
 }
 
-// Writes a row, which is put together in a buffer.
-fn write_row<O: Sink>(row: &Row, text: &mut RowBuf, out: &mut O) -> Result<(), Failed>
-    ensures ok { OnOk result (Appends (O.taken out.old) (O.taken out.new) (row_text row.now)) }
-    ensures err { OnErr result (AppendsPart (O.taken out.old) (O.taken out.new) (row_text row.now)) }
-    ensures cause { HasCause (O.faults out.old) (O.faults out.new) result }
-{
-    text.clear();
-    row_bytes(row, text);
-    write_piece(out, text.bytes())
+// What puts rows together and writes them. Out is to be flushed once it took a row and did not fail.
+#[derive(Drop)]
+struct RowWriter {
+    text: RowBuf,
+    is_flush_due: bool,
+}
+
+impl RowWriter {
+    // Nothing is written yet.
+    fn new() -> RowWriter
+        ensures { result.is_flush_due ≡ false }
+    {
+        RowWriter {
+            text: RowBuf::new(),
+            is_flush_due: false,
+        }
+    }
+
+    // Writes a row.
+    fn write<O: Sink>(&mut self, row: &Row, out: &mut O) -> Result<(), Failed>
+        ensures ok { OnOk result (Appends (O.taken out.old) (O.taken out.new) (row_text row.now)) }
+        ensures err { OnErr result (AppendsPart (O.taken out.old) (O.taken out.new) (row_text row.now)) }
+        ensures cause { HasCause (O.faults out.old) (O.faults out.new) result }
+        ensures due { self.new.is_flush_due ≡ is_ok result }
+    {
+        self.text.clear();
+        row_bytes(row, &mut self.text);
+        let written = write_piece(out, self.text.bytes());
+        self.is_flush_due = written.is_ok();
+        written
+    }
 }
 
 // Takes the next record, which has this number, and writes its row: true. False where no record is left. Else the outcome that the
@@ -99,11 +122,13 @@ fn turn<O: Sink>(
     records: &mut Records<'_>,
     record: &mut ByteRecord,
     number: u32,
-    text: &mut RowBuf,
+    rows: &mut RowWriter,
     out: &mut O,
 ) -> Result<bool, Outcome>
     requires { 1 ≤ number }
     ensures turn { IsTurn (O.taken out.old) (O.taken out.new) number supervisor.old supervisor.new records.old records.new result }
+    ensures due { rows.new.is_flush_due ≡ false
+        → ((rows.old.is_flush_due ≡ false) × (out.new ≡ out.old)) ⊎ (result ≡ Err Outcome.WriteFault) }
     ensures later { O.faults out.old ≤ O.faults out.new }
     ensures write { result ≡ Err Outcome.WriteFault → Rose (O.faults out.old) (O.faults out.new) }
     ensures possible { IfErr result IsRecordsOutcome }
@@ -114,7 +139,7 @@ fn turn<O: Sink>(
         Err(NoMemory) => return Err(Outcome::Memory),
     }
     match take_record(supervisor, number, record) {
-        Ok(Some(row)) => match write_row(&row, text, out) {
+        Ok(Some(row)) => match rows.write(&row, out) {
             Ok(()) => Ok(true),
             Err(_) => Err(Outcome::WriteFault),
         },
@@ -129,14 +154,16 @@ pub fn run_records<O: Sink>(
     supervisor: &mut Supervisor,
     bytes: &[u8],
     out: &mut O,
-) -> Outcome
-    ensures answer { IsAnswer (output_of_records 1 supervisor.old (records_of bytes.now)) (O.taken out.old) (O.taken out.new) result }
-    ensures write { result ≡ Outcome.WriteFault → Rose (O.faults out.old) (O.faults out.new) }
-    ensures possible { IsRecordsOutcome result }
+) -> Ended
+    ensures answer { IsAnswer (output_of_records 1 supervisor.old (records_of bytes.now)) (O.taken out.old) (O.taken out.new) result.outcome }
+    ensures due { result.is_flush_due ≡ false → (out.new ≡ out.old) ⊎ (result.outcome ≡ Outcome.WriteFault) }
+    ensures later { O.faults out.old ≤ O.faults out.new }
+    ensures write { result.outcome ≡ Outcome.WriteFault → Rose (O.faults out.old) (O.faults out.new) }
+    ensures possible { IsRecordsOutcome result.outcome }
 {
     let mut records = Records::begin(alloc, bytes);
     let mut record = ByteRecord::new(alloc);
-    let mut text = RowBuf::new();
+    let mut rows = RowWriter::new();
     let mut number = 1u32;
     'records: loop {
         match turn(
@@ -144,12 +171,22 @@ pub fn run_records<O: Sink>(
             &mut records,
             &mut record,
             number,
-            &mut text,
+            &mut rows,
             out,
         ) {
             Ok(true) => number += 1,
-            Ok(false) => return Outcome::Done,
-            Err(outcome) => return outcome,
+            Ok(false) => {
+                return Ended {
+                    outcome: Outcome::Done,
+                    is_flush_due: rows.is_flush_due,
+                };
+            }
+            Err(outcome) => {
+                return Ended {
+                    outcome,
+                    is_flush_due: rows.is_flush_due,
+                };
+            }
         }
     }
 }

@@ -1,13 +1,13 @@
 //! The command `run`: about the dividing line the data part, which opens a supervisor, and the records.
 
-ghost use Rattle.std.specs.Prelude.{◌≡◌, ◌≤◌, length};
-ghost use Rattle.std.specs.Io.KnownBytes.{Keeps};
+ghost use Rattle.std.specs.Prelude.{◌≡◌, ◌⊎◌, ◌≤◌, length, false};
 ghost use Rattle.sdm_io.specs.Causes.{Rose};
 ghost use Rattle.sdm_rules.specs.Flat.{Output};
 ghost use Rattle.sdm_rules.specs.Input.{most_bytes};
 ghost use Rattle.sdm_run.specs.Answers.{ComesBefore, ComesFirst, IsAnswer, IsRunOutcome};
 ghost use Rattle.sdm_run.specs.Journeys.{IsRunOutput};
 
+use crate::endings::Ended;
 use crate::journey_openings::opened;
 use crate::journey_records::run_records;
 use sdm_data::split;
@@ -17,19 +17,27 @@ use std::alloc::Global;
 
 /// Answers an input: the rows of its readings, each written before the next record is taken. WriteFault comes only where out failed;
 /// Memory may come at any time, and leaves whole rows written. (own)
-pub fn run_journey<O: Sink>(alloc: Global, bytes: &[u8], out: &mut O) -> Outcome
+pub fn run_journey<O: Sink>(alloc: Global, bytes: &[u8], out: &mut O) -> Ended
     requires short { length bytes.now ≤ most_bytes }
-    ensures answer { (output : Output) → IsRunOutput bytes.now output → IsAnswer output (O.taken out.old) (O.taken out.new) result }
-    ensures possible { IsRunOutcome result }
-    ensures not_before { ComesBefore result → ⊥ }
-    ensures first { ComesFirst result → Keeps (O.taken out.old) (O.taken out.new) }
-    ensures write { result ≡ Outcome.WriteFault → Rose (O.faults out.old) (O.faults out.new) }
+    ensures answer { (output : Output) → IsRunOutput bytes.now output → IsAnswer output (O.taken out.old) (O.taken out.new) result.outcome }
+    ensures possible { IsRunOutcome result.outcome }
+    ensures not_before { ComesBefore result.outcome → ⊥ }
+    ensures first { ComesFirst result.outcome → (result.is_flush_due ≡ false) × (out.new ≡ out.old) }
+    ensures due { result.is_flush_due ≡ false → (out.new ≡ out.old) ⊎ (result.outcome ≡ Outcome.WriteFault) }
+    ensures later { O.faults out.old ≤ O.faults out.new }
+    ensures write { result.outcome ≡ Outcome.WriteFault → Rose (O.faults out.old) (O.faults out.new) }
 {
     let Some((data_end, records_start)) = split(bytes) else {
-        return Outcome::BadData(InputFault::NoSplit);
+        return Ended {
+            outcome: Outcome::BadData(InputFault::NoSplit),
+            is_flush_due: false,
+        };
     };
     match opened(alloc, &bytes[..data_end]) {
         Ok(mut supervisor) => run_records(alloc, &mut supervisor, &bytes[records_start..], out),
-        Err(outcome) => outcome,
+        Err(outcome) => Ended {
+            outcome,
+            is_flush_due: false,
+        },
     }
 }

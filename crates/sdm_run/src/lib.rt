@@ -3,6 +3,7 @@
 #![tactic(auto)]
 
 pub mod answers;
+mod endings;
 mod flat_lines;
 mod flat_run;
 mod journey_openings;
@@ -11,7 +12,7 @@ mod journey_run;
 mod trial_run;
 pub mod words;
 
-pub use answers::{law_of_outputs, outcome_of, sdm_main};
+pub use answers::{law_of_outputs, outcome_of, sdm_main, told};
 pub use sdm_report::{EventCause, InputFault, Outcome};
 pub use sdm_supervisor::{CycleFault, Flat, FlatRow};
 pub use words::Command;

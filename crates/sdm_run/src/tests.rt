@@ -6,7 +6,7 @@ mod journeys;
 mod trials;
 
 use crate::{EventCause, Outcome, outcome_of, sdm_main};
-use journeys::{BASE, PARTS, REFUSALS, RUN_FAULTS, RUNS};
+use journeys::{BASE, CUTS, PARTS, REFUSALS, RUN_FAULTS, RUNS};
 use sdm_io::{FixedSource, MemSink, MemSource, NullSink};
 use std::alloc::Global;
 use std::process::Abort;
@@ -233,6 +233,55 @@ fn a_journey_without_its_parts_is_refused(rt: HostRuntime) -> Result<(), Fail> {
 }
 
 #[test]
+fn a_journey_may_be_cut_off_anywhere(rt: HostRuntime) -> Result<(), Fail> {
+    let alloc = rt.alloc();
+    for line in CUTS.lines() {
+        let fields = fields_of(alloc, line)?;
+        let [after, rows, code, told] = fields.as_slice() else {
+            return Err("no row".into());
+        };
+        let mut input = BASE.as_bytes().to_vec(alloc)?;
+        input.push(b'\n')?;
+        input.extend_from_slice(&bytes_of(alloc, after)?)?;
+        let answer = answer_to(alloc, "run", &input, &STEADY)?;
+        assert_eq!(rt; answer.code, code.parse::<u8>()?, "{line}");
+        assert!(rt; answer.out == bytes_of(alloc, rows)?, "{line}");
+        assert!(rt; answer.err == bytes_of(alloc, told)?, "{line}");
+    }
+    Ok(())
+}
+
+// words | failing writes of the line | code | line
+const UNTOLD: &str = "\
+    - | - | 1 | sdm: bad words/
+    - | 1 | 1 | -
+    - | 2 | 1 | sdm: bad words/
+    run | 1 | 5 | -
+    run | 2 | 5 | sdm: bad data: no %% line/";
+
+#[test]
+fn a_fault_of_the_fault_stream_changes_no_outcome(rt: HostRuntime) -> Result<(), Fail> {
+    let alloc = rt.alloc();
+    for line in UNTOLD.lines() {
+        let fields = fields_of(alloc, line)?;
+        let [words, lines, code, told] = fields.as_slice() else {
+            return Err("no row".into());
+        };
+        let streams = Streams {
+            step: "1000",
+            failing_reads: "-",
+            failing_writes: "-",
+            failing_lines: lines,
+        };
+        let answer = answer_of(alloc, words, "-", &streams)?;
+        assert_eq!(rt; answer.code, code.parse::<u8>()?, "{line}");
+        assert!(rt; answer.out.is_empty(), "{line}");
+        assert!(rt; answer.err == bytes_of(alloc, told)?, "{line}");
+    }
+    Ok(())
+}
+
+#[test]
 fn a_fault_ends_a_journey_where_it_comes(rt: HostRuntime) -> Result<(), Fail> {
     let alloc = rt.alloc();
     for line in RUN_FAULTS.lines() {
@@ -272,25 +321,58 @@ fn the_limit_of_an_input_is_not_past_it(rt: HostRuntime) -> Result<(), Fail> {
     assert_eq!(rt; outcome_of(alloc, &words, b"0,0,0\n"), Outcome::Done);
     assert_eq!(rt; outcome_of(alloc, &[], b"0,0,0\n"), Outcome::Usage);
 
-    let mut err = MemSink::new(alloc, 1000, 1000, &[])?;
-    let mut input = FixedSource::new(&line_feeds);
-    let outcome = sdm_main(alloc, &words, &mut input, &mut NullSink::new(), &mut err);
-    assert_eq!(rt; outcome.code(), 4);
-    assert!(rt; err.bytes() == b"sdm: input too long\n".as_slice());
+    for words in [&words, &run] {
+        let mut err = MemSink::new(alloc, 1000, 1000, &[])?;
+        let mut input = FixedSource::new(&line_feeds);
+        let outcome = sdm_main(alloc, words, &mut input, &mut NullSink::new(), &mut err);
+        assert_eq!(rt; outcome.code(), 4);
+        assert!(rt; err.bytes() == b"sdm: input too long\n".as_slice());
+    }
     Ok(())
 }
+
+// The base data with so many records, of which the odd ones and the even ones are alike.
+fn many_records(alloc: Global, count: u32, odd: &str, even: &str) -> Result<Vec<u8>, Fail> {
+    let mut input = BASE.as_bytes().to_vec(alloc)?;
+    input.extend_from_slice(b"\n%%\n")?;
+    for i in 0..count {
+        let record = if i % 2 == 0 { odd } else { even };
+        input.extend_from_slice(record.as_bytes())?;
+    }
+    Ok(input)
+}
+
+// odd records | even records
+const PAST_THE_LAST: &str = "\
+    limit,0,1 | limit,0,1
+    restrict,1,0,1,1,0 | revoke,1";
 
 #[test]
 fn a_record_past_the_hundred_thousandth_is_too_many(rt: HostRuntime) -> Result<(), Fail> {
     let alloc = rt.alloc();
-    let mut input = bytes_of(alloc, BASE)?;
-    input.extend_from_slice(b"\n%%\n")?;
-    for _ in 0..100_001u32 {
-        input.extend_from_slice(b"limit,0,1\n")?;
+    for line in PAST_THE_LAST.lines() {
+        let fields = fields_of(alloc, line)?;
+        let [odd, even] = fields.as_slice() else {
+            return Err("no row".into());
+        };
+        let odd = format!(in alloc; "{odd}\n")?;
+        let even = format!(in alloc; "{even}\n")?;
+        let input = many_records(alloc, 100_001, odd.as_str(), even.as_str())?;
+        let answer = answer_to(alloc, "run", &input, &STEADY)?;
+        assert_eq!(rt; answer.code, 7, "{line}");
+        assert!(rt; answer.out.is_empty(), "{line}");
+        let told = b"sdm: bad event 100001: too many events\n";
+        assert!(rt; answer.err.as_slice() == told.as_slice(), "{line}");
     }
-    let answer = answer_to(alloc, "run", &input, &STEADY)?;
-    assert_eq!(rt; answer.code, 7);
-    assert!(rt; answer.out.is_empty());
-    assert!(rt; answer.err.as_slice() == b"sdm: bad event 100001: too many events\n".as_slice());
+    Ok(())
+}
+
+#[test]
+fn ten_thousand_readings_are_done(rt: HostRuntime) -> Result<(), Fail> {
+    let alloc = rt.alloc();
+    let reading = "read,0,0,0,0,0,0,0\n";
+    let input = many_records(alloc, 10_000, reading, reading)?;
+    let words = words_of(alloc, "run")?;
+    assert_eq!(rt; outcome_of(alloc, &words, &input), Outcome::Done);
     Ok(())
 }

@@ -1,14 +1,14 @@
 //! The command `trial`: a supervisor over made readings, and the summary of its rows. It reads no input, and nothing of it is
 //! refused.
 
-ghost use Rattle.std.specs.Prelude.{◌≡◌, ◌≤◌, IfOk};
-ghost use Rattle.std.specs.Io.KnownBytes.{Keeps};
+ghost use Rattle.std.specs.Prelude.{◌≡◌, ◌⊎◌, ◌≤◌, false, IfOk};
 ghost use Rattle.sdm_io.specs.Causes.{Rose};
 ghost use Rattle.sdm_rules.specs.Supervision.{opening};
 ghost use Rattle.sdm_rules.specs.Trial.{trial_authority, trial_journey, trial_line, trial_output};
 ghost use Rattle.sdm_trial.specs.Summaries.{counts_of};
 ghost use Rattle.sdm_run.specs.Answers.{ComesFirst, IsAnswer, IsTrialOutcome};
 
+use crate::endings::Ended;
 use sdm_io::{Sink, write_piece};
 use sdm_num::NoMemory;
 use sdm_report::Outcome;
@@ -56,23 +56,34 @@ fn summary_of(supervisor: &mut Supervisor, seed: u16, cycles: u32) -> Summary
     summary
 }
 
-/// Answers a number and a count of cycles: the summary, in one piece. Memory comes only before out took anything; WriteFault only
-/// where out failed. (own)
-pub fn run_trial<O: Sink>(alloc: Global, seed: u16, cycles: u32, out: &mut O) -> Outcome
+/// Answers a number and a count of cycles: the summary, in one piece. Memory comes only before out was handed anything; WriteFault
+/// only where out failed. (own)
+pub fn run_trial<O: Sink>(alloc: Global, seed: u16, cycles: u32, out: &mut O) -> Ended
     requires { cycles ≤ 100_000 }
-    ensures answer { IsAnswer (trial_output seed cycles) (O.taken out.old) (O.taken out.new) result }
-    ensures possible { IsTrialOutcome result }
-    ensures not_first { ComesFirst result → ⊥ }
-    ensures memory { result ≡ Outcome.Memory → Keeps (O.taken out.old) (O.taken out.new) }
-    ensures write { result ≡ Outcome.WriteFault → Rose (O.faults out.old) (O.faults out.new) }
+    ensures answer { IsAnswer (trial_output seed cycles) (O.taken out.old) (O.taken out.new) result.outcome }
+    ensures possible { IsTrialOutcome result.outcome }
+    ensures not_first { ComesFirst result.outcome → ⊥ }
+    ensures memory { result.outcome ≡ Outcome.Memory → (result.is_flush_due ≡ false) × (out.new ≡ out.old) }
+    ensures due { result.is_flush_due ≡ false → (out.new ≡ out.old) ⊎ (result.outcome ≡ Outcome.WriteFault) }
+    ensures later { O.faults out.old ≤ O.faults out.new }
+    ensures write { result.outcome ≡ Outcome.WriteFault → Rose (O.faults out.old) (O.faults out.new) }
 {
     let Ok(mut supervisor) = begin(alloc) else {
-        return Outcome::Memory;
+        return Ended {
+            outcome: Outcome::Memory,
+            is_flush_due: false,
+        };
     };
     let mut text = RowBuf::new();
     summary_of(&mut supervisor, seed, cycles).put(&mut text);
     match write_piece(out, text.bytes()) {
-        Ok(()) => Outcome::Done,
-        Err(_) => Outcome::WriteFault,
+        Ok(()) => Ended {
+            outcome: Outcome::Done,
+            is_flush_due: true,
+        },
+        Err(_) => Ended {
+            outcome: Outcome::WriteFault,
+            is_flush_due: false,
+        },
     }
 }

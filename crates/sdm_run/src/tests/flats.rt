@@ -51,7 +51,7 @@ fn each_journey_has_its_rows_and_its_end(rt: HostRuntime) -> Result<(), Fail> {
     Ok(())
 }
 
-// step | failing reads | failing writes | failing writes of the line | rows | code | line
+// step | failing reads | failing calls of out | failing writes of the line | rows | code | line
 const FAULTS: &str = "\
     1000 | - | - | - | 0,800000,1,0/5,800000,0,1/ | 0 | -
     1 | - | - | - | 0,800000,1,0/5,800000,0,1/ | 0 | -
@@ -63,7 +63,9 @@ const FAULTS: &str = "\
     1 | 32 | - | - | 0,800000,1,0/5,800000,0,1/ | 0 | -
     1000 | - | 1 | - | - | 3 | sdm: write fault/
     1000 | - | 2 | - | 0,800000,1,0/ | 3 | sdm: write fault/
-    1000 | - | 3 | - | 0,800000,1,0/5,800000,0,1/ | 0 | -
+    1000 | - | 3 | - | 0,800000,1,0/5,800000,0,1/ | 3 | sdm: write fault/
+    1000 | - | 4 | - | 0,800000,1,0/5,800000,0,1/ | 0 | -
+    1 | - | 5 | - | 0,80 | 3 | sdm: write fault/
     1 | - | 3 | - | 0, | 3 | sdm: write fault/
     3 | - | 6 | - | 0,800000,1,0/ | 3 | sdm: write fault/
     3 | - | 7 | - | 0,800000,1,0/5,8 | 3 | sdm: write fault/

@@ -5,12 +5,14 @@ use super::journeys::REALISTIC;
 use super::{STEADY, Streams, answer_of, answer_to, bytes_of, fields_of};
 use std::test::Fail;
 
-// words | failing reads | failing writes | out | code | line
+// words | failing reads | failing calls of out | out | code | line
 const TRIALS: &str = "\
     trial 7 3 | - | - | rows 3/covered 3/emergency 0/service 0/ebi 14668789/ | 0 | -
     trial 007 0003 | - | - | rows 3/covered 3/emergency 0/service 0/ebi 14668789/ | 0 | -
     trial 7 3 | 1 2 3 | - | rows 3/covered 3/emergency 0/service 0/ebi 14668789/ | 0 | -
     trial 7 3 | - | 1 | - | 3 | sdm: write fault/
+    trial 7 3 | - | 2 | rows 3/covered 3/emergency 0/service 0/ebi 14668789/ | 3 | sdm: write fault/
+    trial 7 3 | - | 3 | rows 3/covered 3/emergency 0/service 0/ebi 14668789/ | 0 | -
     trial 7 1 | - | - | rows 1/covered 1/emergency 0/service 0/ebi 4879778/ | 0 | -
     trial 7 2 | - | - | rows 2/covered 2/emergency 0/service 0/ebi 9905175/ | 0 | -
     trial 7 100000 | - | - | rows 100000/covered 97025/emergency 99691/service 6321/ebi 887606629/ | 0 | -

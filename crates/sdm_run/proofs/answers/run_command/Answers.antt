@@ -7,4 +7,4 @@ pub returns-in-Flat-clause-answer : goal.returns-in-Flat-clause-answer
 returns-in-Flat-clause-answer g c = rw c.in-Flat.is (within_answer _ _ _ _ _ c.requires.short c.run_flat.ensures.answer)
 
 pub returns-in-Flat-clause-not_before : goal.returns-in-Flat-clause-not_before
-returns-in-Flat-clause-not_before g c = flat_not_before c.run_flat.result c.run_flat.ensures.not_first
+returns-in-Flat-clause-not_before g c = flat_not_before c.run_flat.result.outcome c.run_flat.ensures.not_first

@@ -1,12 +1,28 @@
 -- The promises of a command's rows and of an input that is too long, at the command that the words ask for; and what the bytes that
 -- were read are to the input.
-use Rattle.std.proofs.Common.{Err, ap, sym}
+use Rattle.std.proofs.Common.{◌∙◌, Err, ap, sym}
+use Rattle.sdm_report.specs.declared.outcome.Outcome.TheVariants.{Memory}
+use Rattle.sdm_run.specs.Answers.{IsAnswer}
 use Rattle.sdm_run.proofs.CommandFacts.{answer_told, rows_told, too_long_told}
+use Rattle.sdm_run.proofs.Flushes.{complete_told, told_of_all}
+use Rattle.sdm_run.proofs.RunAnswers.{memory_first}
 use Rattle.sdm_run.proofs.answers.sdm_main.Goals as goal
 
 pub returns-in-Ok-clause-answer : goal.returns-in-Ok-clause-answer
 returns-in-Ok-clause-answer g c =
-    rw c.told-in-Ok.ensures.same (answer_told _ _ _ _ _ _ (sym c.in-Some.ensures.value) c.in-Ok.ensures.whole c.deref.ensures.value c.run_command.ensures.answer)
+    rw c.told-in-Ok.ensures.same (answer_told _ _ _ _ _ _ (sym c.in-Some.ensures.value) c.in-Ok.ensures.whole c.deref.ensures.value c.outcome_to.ensures.answer)
+
+pub returns-in-Ok-clause-complete : goal.returns-in-Ok-clause-complete
+returns-in-Ok-clause-complete g c =
+    let same = c.told-in-Ok.ensures.same in
+    complete_told _ _ _ _ _ _ _
+    (λ is. absurd (c.outcome_to.ensures.not_before (rw (sym same ∙ is) tt)))
+    (λ is. c.outcome_to.ensures.write (sym same ∙ is))
+    (returns-in-Ok-clause-answer g c)
+
+pub returns-in-Err-Memory-clause-answer : goal.returns-in-Err-Memory-clause-answer
+returns-in-Err-Memory-clause-answer g c =
+    rw c.told-in-Err-Memory.ensures.same (told_of_all (λ output. IsAnswer output (g.O.Sink.taken c.args.out.now) (g.O.Sink.taken c.args.out.now) Memory) (memory_first _) _ _)
 
 pub returns-in-Err-TooLong-clause-answer : goal.returns-in-Err-TooLong-clause-answer
 returns-in-Err-TooLong-clause-answer g c =

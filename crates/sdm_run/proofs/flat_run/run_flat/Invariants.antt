@@ -1,5 +1,5 @@
 -- So far out took the rows of the lines before, and what is left gives the rest of the output.
-use Rattle.std.proofs.Common.{suc, ◌+◌, ◌≤◌, length}
+use Rattle.std.proofs.Common.{◌≡◌, suc, ◌+◌, ◌≤◌, false, length}
 use Rattle.sdm_rules.specs.Input.{most_bytes}
 use Rattle.sdm_rules.specs.Flat.{flat_output, lines_of}
 use Rattle.sdm_run.proofs.FlatTexts.{IsLeft}
@@ -10,6 +10,7 @@ invariant-lines g l = record {
   left : IsLeft (g.O.Sink.taken l.fn.out) (g.O.Sink.taken l.out) (flat_output l.decel l.end_cm l.bytes) (suc l.number) l.flat (lines_of l.rest);
   few : l.number + length l.rest ≤ most_bytes;
   later : g.O.Sink.faults l.fn.out ≤ g.O.Sink.faults l.out;
+  due : l.is_flush_due ≡ false → l.out ≡ l.fn.out;
 }
 
 -- each turn takes a byte

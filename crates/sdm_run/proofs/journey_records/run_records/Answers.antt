@@ -1,10 +1,19 @@
 -- Each turn takes the first record that is left, or ends the run with the outcome of what is left.
-use Rattle.std.proofs.Common.{◌≡◌, suc, ◌+◌, Bool, Ok, ap, subst, ◌∙◌, arith}
+use Rattle.std.proofs.Common.{◌≡◌, suc, ◌+◌, Bool, Ok, ap, refl, subst, ◌∙◌, arith}
 use Rattle.std.specs.Prelude.{Result}
 use Rattle.sdm_report.specs.declared.outcome.Outcome.{Outcome}
 use Rattle.sdm_run.specs.RunParts.{IsTurn}
-use Rattle.sdm_run.proofs.RunTexts.{took_more, cut_off}
+use Rattle.sdm_run.proofs.RunTexts.{all_left_of, left_alone, took_more, cut_off}
 use Rattle.sdm_run.proofs.journey_records.run_records.Goals as goal
+
+pub records-init : goal.records-init
+records-init g c = record {
+  left = rw c.begin-records.ensures (all_left_of _ 1 _ _);
+  from_1 = omega arith;
+  counted = omega arith;
+  later = omega arith;
+  due = λ _. refl;
+}
 
 pub records-preserved : goal.records-preserved
 records-preserved g c =
@@ -16,6 +25,7 @@ records-preserved g c =
       from_1 = omega arith;
       counted = omega (arith, step.counted);
       later = omega (arith, c.records.invariant.later, c.turn.ensures.later);
+      due = λ is. left_alone _ _ _ _ _ c.records.invariant.due (λ failed. cc (c.in-Ok-true.is, failed)) (c.turn.ensures.due is);
     }
 
 pub returns-in-Err-clause-answer : goal.returns-in-Err-clause-answer

@@ -1,5 +1,5 @@
 -- So far out took the rows of the records before, and the records that are left give the rest of the output.
-use Rattle.std.proofs.Common.{◌≤◌, length}
+use Rattle.std.proofs.Common.{◌≡◌, ◌≤◌, false, length}
 use Rattle.sdm_events.specs.Journey.{records_of}
 use Rattle.sdm_run.specs.Journeys.{output_of_records}
 use Rattle.sdm_run.proofs.RunTexts.{IsLeftOf}
@@ -11,6 +11,7 @@ invariant-records g l = record {
   from_1 : 1 ≤ l.number;
   counted : l.number ≤ 100_001;
   later : g.O.Sink.faults l.fn.out ≤ g.O.Sink.faults l.out;
+  due : l.rows.is_flush_due ≡ false → l.out ≡ l.fn.out;
 }
 
 -- each turn takes a record

@@ -1,0 +1,144 @@
+-- What out took stands when it gives on what it holds back, so an answer is one of a write fault where that fails. An answer with no
+-- fault is complete.
+use Rattle.std.proofs.Common.{◌≡◌, ◌∙◌, ℕ, List, [], ◌++◌, Option, None, Some, length, length-append, take, inl, inr, refl, sym, subst, append-nil, arith}
+use Rattle.std.specs.Prelude.{IfSome}
+use Rattle.std.proofs.lemmas.List.{take_all, take-append-le}
+use Rattle.std.specs.Io.KnownBytes.{Appends, Keeps}
+use Rattle.sdm_io.specs.Told.{AppendsPart}
+use Rattle.sdm_rules.specs.Input as ends
+use Rattle.sdm_rules.specs.Flat.{Output}
+use Rattle.sdm_report.specs.declared.outcome.Outcome.{Outcome}
+use Rattle.sdm_report.specs.declared.outcome.Outcome.TheVariants.{Done, Usage, ReadFault, WriteFault, TooLong, BadData, Refused, BadEvent, Memory}
+use Rattle.sdm_run.specs.declared.words.Command.{Command}
+use Rattle.sdm_run.specs.declared.words.Command.TheVariants.{Flat, Run, Trial}
+use Rattle.sdm_run.specs.Answers.{IsAnswer, IsComplete, IsOutcomeOf, TakesFor, told_end}
+use Rattle.sdm_run.specs.Commands.{IsOutputOf, OfInput}
+
+-- ---- what out took stands
+
+-- what was appended stays appended
+appends_kept : (old mid new : Option (List ℕ)) (text : List ℕ) → Keeps mid new → Appends old mid text → Appends old new text
+appends_kept None mid new text k h = tt
+appends_kept (Some xs) None new text k h = absurd h
+appends_kept (Some xs) (Some ys) None text k h = absurd k
+appends_kept (Some xs) (Some ys) (Some zs) text k h = k ∙ h
+
+-- what was kept stays kept
+keeps_kept : (old mid new : Option (List ℕ)) → Keeps mid new → Keeps old mid → Keeps old new
+keeps_kept None mid new k h = tt
+keeps_kept (Some xs) None new k h = absurd h
+keeps_kept (Some xs) (Some ys) None k h = absurd k
+keeps_kept (Some xs) (Some ys) (Some zs) k h = k ∙ h
+
+-- what out took for an outcome
+takes_kept : (outcome : Outcome) (old mid new : Option (List ℕ)) (text : List ℕ) → Keeps mid new → TakesFor outcome old mid text → TakesFor outcome old new text
+takes_kept Done old mid new text k h = appends_kept old mid new text k h
+takes_kept Usage old mid new text k h = keeps_kept old mid new k h
+takes_kept ReadFault old mid new text k h = keeps_kept old mid new k h
+takes_kept WriteFault old mid new text k h = (h.0, h.1, appends_kept old mid new (take h.0 text) k h.2)
+takes_kept TooLong old mid new text k h = appends_kept old mid new text k h
+takes_kept (BadData fault) old mid new text k h = appends_kept old mid new text k h
+takes_kept (Refused fault) old mid new text k h = appends_kept old mid new text k h
+takes_kept (BadEvent number cause) old mid new text k h = appends_kept old mid new text k h
+takes_kept Memory old mid new text k h =
+    record { front = h.front; rest = h.rest; parts = h.parts; whole_lines = h.whole_lines; taken = appends_kept old mid new h.front k h.taken }
+
+-- ---- what out took for any outcome is a front of the text
+
+-- a front is a part
+part_of_front : (old new : Option (List ℕ)) (front rest text : List ℕ) → text ≡ front ++ rest → Appends old new front → AppendsPart old new text
+part_of_front old new front rest text parts h =
+    (length front, rw (parts, length-append) (omega arith), subst (Appends old new) (sym is) h)
+  where
+    is : take (length front) text ≡ front
+    is = rw parts (take-append-le (length front) front rest (omega arith) ∙ take_all (length front) front (omega arith))
+
+-- so are all of it, and nothing
+part_of_all : (old new : Option (List ℕ)) (text : List ℕ) → Appends old new text → AppendsPart old new text
+part_of_all old new text h = part_of_front old new text [] text (sym (append-nil text)) h
+
+none_appended : (old new : Option (List ℕ)) → Keeps old new → Appends old new []
+none_appended None new k = tt
+none_appended (Some xs) None k = absurd k
+none_appended (Some xs) (Some ys) k = k ∙ sym (append-nil xs)
+
+part_of_none : (old new : Option (List ℕ)) (text : List ℕ) → Keeps old new → AppendsPart old new text
+part_of_none old new text k = part_of_front old new [] text text refl (none_appended old new k)
+
+part_of : (outcome : Outcome) (old new : Option (List ℕ)) (text : List ℕ) → TakesFor outcome old new text → AppendsPart old new text
+part_of Done old new text h = part_of_all old new text h
+part_of Usage old new text h = part_of_none old new text h
+part_of ReadFault old new text h = part_of_none old new text h
+part_of WriteFault old new text h = h
+part_of TooLong old new text h = part_of_all old new text h
+part_of (BadData fault) old new text h = part_of_all old new text h
+part_of (Refused fault) old new text h = part_of_all old new text h
+part_of (BadEvent number cause) old new text h = part_of_all old new text h
+part_of Memory old new text h = part_of_front old new h.front h.rest text h.parts h.taken
+
+-- a fault of out after an answer is answered as such
+pub answer_failed : (output : Output) (old mid new : Option (List ℕ)) (outcome : Outcome) → Keeps mid new → IsAnswer output old mid outcome → IsAnswer output old new WriteFault
+answer_failed output old mid new outcome k h =
+    record { ended = inr (inr (inl refl)); taken = takes_kept WriteFault old mid new output.text k (part_of outcome old mid output.text h.taken) }
+
+-- ---- completeness
+
+-- what tells an end took the whole text
+all_taken : (outcome : Outcome) (end : ends.End) (old new : Option (List ℕ)) (text : List ℕ) → told_end outcome ≡ Some end → TakesFor outcome old new text → Appends old new text
+all_taken Done end old new text is h = h
+all_taken Usage end old new text is h = absurd cc
+all_taken ReadFault end old new text is h = absurd cc
+all_taken WriteFault end old new text is h = absurd cc
+all_taken TooLong end old new text is h = h
+all_taken (BadData fault) end old new text is h = h
+all_taken (Refused fault) end old new text is h = h
+all_taken (BadEvent number cause) end old new text is h = h
+all_taken Memory end old new text is h = absurd cc
+
+complete_end : (output : Output) (old new : Option (List ℕ)) (outcome : Outcome) → TakesFor outcome old new output.text → (outcome ≡ ReadFault → ⊥) → (outcome ≡ WriteFault → ⊥) → IsOutcomeOf output.end outcome →
+    IsComplete output old new outcome
+complete_end output old new outcome taken read write (inl told) = inl (told, all_taken outcome output.end old new output.text told taken)
+complete_end output old new outcome taken read write (inr (inl is)) = absurd (read is)
+complete_end output old new outcome taken read write (inr (inr (inl is))) = absurd (write is)
+complete_end output old new outcome taken read write (inr (inr (inr is))) = inr is
+
+complete : (output : Output) (old new : Option (List ℕ)) (outcome : Outcome) → IsAnswer output old new outcome → (outcome ≡ ReadFault → ⊥) → (outcome ≡ WriteFault → ⊥) → IsComplete output old new outcome
+complete output old new outcome h read write = complete_end output old new outcome h.taken read write h.ended
+
+-- a fact of the output of the command that the words ask for, whatever the input tells
+abbrev OfAsked : Option Command → Option (List ℕ) → (Output → Type 0) → Type 0
+OfAsked asked left P = IfSome asked (λ command. OfInput command left (λ bytes. (output : Output) → IsOutputOf command bytes output → P output))
+
+module _ (A B : Output → Type 0) (so : (output : Output) → A output → B output) where
+  of_bytes : (command : Command) (left : Option (List ℕ)) → OfAsked (Some command) left A → OfAsked (Some command) left B
+  of_bytes (Flat decel end) None h = tt
+  of_bytes (Flat decel end) (Some bytes) h = λ output is. so output (h output is)
+  of_bytes Run None h = tt
+  of_bytes Run (Some bytes) h = λ output is. so output (h output is)
+  of_bytes (Trial seed cycles) left h = λ bytes output is. so output (h bytes output is)
+
+  -- what follows of every output follows of that one
+  of_command : (asked : Option Command) (left : Option (List ℕ)) → OfAsked asked left A → OfAsked asked left B
+  of_command None left h = tt
+  of_command (Some command) left h = of_bytes command left h
+
+-- an answer is complete where neither the input nor out failed
+pub complete_told :
+    (asked : Option Command) (left old new : Option (List ℕ)) (outcome : Outcome) (Read Write : Type 0) →
+    (outcome ≡ ReadFault → Read) →
+    (outcome ≡ WriteFault → Write) →
+    OfAsked asked left (λ output. IsAnswer output old new outcome) →
+    OfAsked asked left (λ output. (Read → ⊥) → (Write → ⊥) → IsComplete output old new outcome)
+complete_told asked left old new outcome Read Write read write h =
+    of_command (λ output. IsAnswer output old new outcome) (λ output. (Read → ⊥) → (Write → ⊥) → IsComplete output old new outcome)
+    (λ output answer no_read no_write. complete output old new outcome answer (λ is. no_read (read is)) (λ is. no_write (write is)))
+    asked left h
+
+-- what holds of every output holds of that of the command that the words ask for
+pub told_of_all : (B : Output → Type 0) → ((output : Output) → B output) → (asked : Option Command) (left : Option (List ℕ)) → OfAsked asked left B
+told_of_all B h None left = tt
+told_of_all B h (Some (Flat decel end)) None = tt
+told_of_all B h (Some (Flat decel end)) (Some bytes) = λ output is. h output
+told_of_all B h (Some Run) None = tt
+told_of_all B h (Some Run) (Some bytes) = λ output is. h output
+told_of_all B h (Some (Trial seed cycles)) left = λ bytes output is. h output
