@@ -1,34 +1,34 @@
-"""A journey of `sdm` as a picture shows it: its readings with their rows, its authorities and its restrictions.
+"""A journey of `sdm` as a picture shows it: its readings with their rows, what was in force, and the curves that counted.
 
-The input and the rows are those of docs/FORMATS.md. Units change here: a reading has m, km/h and s; zones keep the track's
-cm, so that their borders are whole numbers.
+The input is read by tools/model, and the curves are the model's; the rows are those that are handed in. Units change here: a
+reading has m, km/h and s; zones keep the track's cm, so that their borders are whole numbers.
 """
 
-import csv
-import io
+import collections
 import math
 import re
-import tomllib
-from dataclasses import dataclass
+from dataclasses import dataclass, field
+from fractions import Fraction
 
-LIMITS = "ebi sbi warning permitted indication".split()
-ROWS = {
-    # command: names of a row's columns, form of the row
-    "run": (["time", "state", "status", "tco", "sb", "eb", "covered", "ceiling", *LIMITS],
-            r"\d+,[CTR],[NIOWX],[01],[01],[01],[01],\d+(,(-|-?\d+)){5}"),
-    "flat": (["time", "ebi", "covered", "eb"], r"\d+,-?\d+,[01],[01]"),
-}
-FIELDS = {"read": 7, "end": 3, "limit": 2, "restrict": 5, "revoke": 1}
-CM_PER_M = 100
+from laboratory.program import Fault
+from laboratory.rows import LIMITS, rows_of
+from laboratory.texts import short
+from laboratory.walk import Walk, at_speed
+from model.curves import BrakeCurve
+from model.data import Limit
+from model.decelerations import Brake
+from model.flat import numbers_of
+from model.speeds import restriction_zone, static_zones
+from model.units import GRAINS_PER_CM, GRAINS_PER_MM, NOTCHES_PER_KM_H
 
-
-class Fault(Exception):
-    """Why no picture can be drawn, in one line."""
+CM_PER_M, GRAINS_PER_M = 100, 1000 * GRAINS_PER_MM
+FIELDS = dict(zip(LIMITS, "d_EBI d_SBI d_W d_P d_I".split()))  # the model's names
+FLAT_ROW = re.compile(r"\d+,-?\d+,[01],[01]", re.ASCII)
 
 
 @dataclass
 class Reading:
-    """A reading with its row. A series of limits is joined between readings alone that have the same `counted`."""
+    """A reading with its row, and the target that its permitted limit is of."""
 
     time: float  # s
     front: float  # m, the estimated front end
@@ -37,8 +37,8 @@ class Reading:
     speed: float  # km/h
     row: dict
     limits: dict  # m
-    counted: object = None
     release: int = None  # km/h, in release speed monitoring
+    counts: str = ""
 
 
 @dataclass
@@ -51,48 +51,25 @@ class Held:
 
 
 @dataclass(frozen=True)
-class Target:
+class End:
     """What ends an authority: its name, and its place in m."""
 
     name: str
     place: float
 
 
-@dataclass(frozen=True)
-class Authority:
-    """What ends an authority, and its release speed in km/h, 0 for none."""
-
-    targets: tuple
-    release: int = 0
-
-
-@dataclass(frozen=True)
-class Zone:
-    """A speed in km/h that is allowed at most, from a cm up to, but not including, another."""
-
-    start: float
-    end: float
-    speed: int
-
-
 @dataclass
 class Journey:
-    """All that a picture shows. `profile` is the static speed profile with the maximum train speed."""
+    """All that a picture shows. `curves` has for each name the whole lines of all that counted, as points of m and km/h."""
 
     readings: list
-    targets: list  # of Held, each a Target
-    restrictions: list  # of Held, each a Zone
-    profile: list  # of Zone
-
-
-def journey_of(words, source, rows):
-    """The journey of an input and its rows, for the words that the program ran with."""
-    try:
-        if words[0] == "run":
-            return run_journey(source, rows)
-        return flat_journey(source, rows, int(words[2]))
-    except csv.Error as why:
-        raise Fault(f"the input is not read: {why}") from None
+    ends: list = field(default_factory=list)  # of Held, each an End
+    restrictions: list = field(default_factory=list)  # of Held, each a Zone
+    profile: list = field(default_factory=list)  # of Zone: the static profile and the maximum train speed
+    gradients: list = field(default_factory=list)  # of (from m, to m, per mille)
+    areas: list = field(default_factory=list)  # of (from m, to m)
+    curves: dict = field(default_factory=dict)
+    note: str = ""
 
 
 def steps(zones):
@@ -101,174 +78,95 @@ def steps(zones):
     return [(b, min(z.speed for z in zones if z.start <= b < z.end)) for b in borders]
 
 
-# ---- texts
-
-def is_number(text):
-    """Whether a text is a number as the program's texts write it."""
-    return re.fullmatch(r"-?[0-9]{1,18}", text) is not None
-
-
-def numbers(fields, what):
-    """The numbers that the fields of a record write."""
-    wrong = next((field for field in fields if not is_number(field)), None)
-    if wrong is not None:
-        raise Fault(f"{what} of the input: {wrong!r} is no number")
-    return [int(field) for field in fields]
+def highest(readings):
+    """The greatest speed that the picture has room for: what the train and the ceilings near it come to, in km/h."""
+    fastest = max(r.speed for r in readings)
+    tops = [int(r.row["ceiling"]) * 1.12 for r in readings if "ceiling" in r.row and int(r.row["ceiling"]) <= 1.6 * fastest]
+    return max([1.3 * fastest, 10, *tops])
 
 
-def whole(section, key):
-    """The number of a key."""
-    if type(section[key]) is not int:
-        raise TypeError(key)
-    return section[key]
-
-
-def records_of(text):
-    """The records of a text, each with its number; empty lines are none."""
-    lines = (fields for fields in csv.reader(io.StringIO(text, newline="")) if fields)
-    return enumerate(lines, 1)
-
-
-def parts_of(source):
-    """The two parts of an input: the table that its TOML part writes, and the text of its records."""
-    line = re.search(rb"^%%(?:\r?\n|\Z)", source, re.MULTILINE)
-    if not line:
-        raise Fault("the input has no %% line")
-    try:
-        table = tomllib.loads(source[: line.start()].decode("utf-8-sig"))
-    except ValueError as why:
-        raise Fault(f"the data part of the input is not read: {why}") from None
-    return table, source[line.end() :].decode("utf-8-sig", "replace")
-
-
-def rows_of(command, text, count):
-    """The rows that the program wrote, as texts by the names of their columns; as many as there are readings."""
-    names, form = ROWS[command]
-    lines = text.splitlines()
-    for n, line in enumerate(lines, 1):
-        if not re.fullmatch(form, line, re.ASCII):
-            raise Fault(f"line {n} of the rows is no row of {command}")
-    if len(lines) != count:
-        raise Fault(f"the rows are not those of the input: {len(lines)} rows, {count} readings")
-    if not lines:
-        raise Fault("the journey has no readings")
-    return [dict(zip(names, line.split(","))) for line in lines]
-
-
-def reading_of(n, time, ends, speed, row):
-    """A reading with its row, from ds, mm and mm/s."""
-    if int(row["time"]) != time:
-        raise Fault(f"the rows are not those of the input: row {n} has the time {row['time']}, its reading {time}")
+def reading_of(n, event, row):
+    """A reading with its row."""
+    if int(row["time"]) != event.time:
+        raise Fault(f"The rows are not those of the input: row {n} has the time {row['time']}, its reading {event.time}.")
     limits = {name: int(row[name]) / 1000 for name in LIMITS if row.get(name, "-") != "-"}
-    return Reading(time / 10, *(end / 1000 for end in ends), speed * 0.0036, row, limits)
+    return Reading(event.time / 10, *(getattr(event, which) / 1000 for which in ("est", "min", "max")), event.speed * 0.0036, row, limits)
 
 
-# ---- a journey of `flat`
-
-def flat_journey(source, text, end):
-    """The journey of an input of `flat` towards an END in cm, and its rows."""
-    lines = []
-    for n, fields in records_of(source.decode("utf-8", "replace")):
-        if len(fields) != 3:
-            raise Fault(f"line {n} of the input is not of the form due")
-        lines.append(numbers(fields, f"line {n}"))
-    rows = rows_of("flat", text, len(lines))
-    readings = [
-        reading_of(n, time, [front] * 3, speed, row) for n, ((time, front, speed), row) in enumerate(zip(lines, rows), 1)
-    ]
-    return Journey(readings, [Held(Target("END", end / CM_PER_M), 0, len(readings))], [], [])
+def counted(rows, readings, fault):
+    """Refuses rows that are not as many as the readings."""
+    if len(rows) != readings:
+        end = f" before {fault}" if fault else ""
+        raise Fault(f"The rows are not those of the input: {len(rows)} rows, {readings} readings{end}.")
+    if not rows:
+        raise Fault("The journey has no readings.")
 
 
 # ---- a journey of `run`
 
-def run_journey(source, text):
-    """The journey of an input of `run` and its rows."""
-    data, records = parts_of(source)
-    try:
-        course, profile = course_of(data, records), profile_of(data)
-    except (KeyError, TypeError, AttributeError) as why:
-        raise Fault(f"the data part of the input has no such key, or one of another kind: {why}") from None
-    rows = rows_of("run", text, len(course.readings))
-    falls = {zones: falls_of(profile + list(zones)) for _, zones in course.counted}
-    readings = []
-    for n, (values, row, counted) in enumerate(zip(course.readings, rows, course.counted), 1):
-        time, *ends, speed, _, _ = values
-        reading = reading_of(n, time, ends, speed, row)
-        reading.counted = (counted, row["state"] == "R", falls_counted(reading, falls[counted[1]]))
-        if row["state"] == "R":
-            reading.release = counted[0].release
-        readings.append(reading)
-    targets = targets_held(seen(course.authorities, len(readings)))
-    return Journey(readings, targets, seen(course.restrictions, len(readings)), profile)
-
-
-def course_of(data, records):
-    """Goes through the records of a journey."""
-    course = Course(opening_of(data["authority"]), whole(data["train"], "length"))
-    for n, (kind, *fields) in records_of(records):
-        if len(fields) != FIELDS.get(kind):
-            raise Fault(f"record {n} of the input is not of the form due")
-        course.take(kind, numbers(fields, f"record {n}"))
-    return course
-
-
 class Course:
-    """What counts at each point of the records: the readings so far, the authority, the restrictions by identity."""
+    """Goes through the records of an input, and keeps what counts at each reading."""
 
-    def __init__(self, opening, length):
-        self.length = length
-        self.readings, self.counted = [], []
-        self.authorities, self.restrictions, self.in_force = [Held(opening, 0)], [], {}
+    def __init__(self, source):
+        self.walk = Walk(source)
+        self.supervisor = self.walk.supervisor
+        self.readings, self.authorities, self.restrictions, self.in_force = [], [Held(self.supervisor.authority, 0)], [], {}
+        for event, cycle in self.walk:
+            self.take(event, cycle)
 
-    def take(self, kind, values):
-        """Takes the next record."""
+    def take(self, event, cycle):
         now = len(self.readings)
-        if kind == "read":
-            zones = tuple(held.what for held in self.in_force.values())
-            self.readings.append(values)
-            self.counted.append((self.authorities[-1].what, zones))
-        elif kind in ("end", "limit"):
+        if cycle is not None:
+            self.readings.append((event, cycle))
+        elif self.supervisor.authority is event:
             self.authorities[-1].until = now
-            self.authorities.append(Held(authority_of(kind, values), now))
-        elif kind == "restrict":
-            identity, start, end, speed, delayed = values
-            zone = Zone(start, end_for(self.length, delayed, end), speed)
-            self.in_force[identity] = Held(zone, now)
-            self.restrictions.append(self.in_force[identity])
-        elif values[0] in self.in_force:
-            self.in_force.pop(values[0]).until = now
+            self.authorities.append(Held(event, now))
+        elif event.identity in self.supervisor.restrictions:
+            self.in_force[event.identity] = Held(restriction_zone(self.supervisor.data, event), now)
+            self.restrictions.append(self.in_force[event.identity])
+        else:
+            self.in_force.pop(event.identity).until = now
 
 
-def end_for(length, delayed, end):
-    """Where a zone ends for the front end: a delayed one when the rear end has passed its end (SUBSET-026-3 3.13.7)."""
-    return end + length if delayed else end
+def run_journey(source, text, times):
+    """The journey of an input of `run` and its rows, up to a record that is refused; those readings alone whose times count."""
+    course, rows = Course(source), rows_of(text)
+    counted(rows, len(course.readings), course.walk.fault)
+    readings, differ = [], []
+    for n, ((event, cycle), row) in enumerate(zip(course.readings, rows), 1):
+        reading = reading_of(n, event, row)
+        reading.counts = counts_of(cycle.situation)
+        reading.release = cycle.situation.authority.release if cycle.situation.in_release else None
+        readings.append(reading)
+        if cycle.row.text().rstrip("\n") != ",".join(row.values()):
+            differ.append(n)
+    kept = [n for n, reading in enumerate(readings) if times[0] <= reading.time <= times[1]]
+    if not kept:
+        raise Fault("No reading lies within these times.")
+    first, last = kept[0], kept[-1] + 1
+    note = f"rows that the model has otherwise: {', '.join(map(str, differ[:10]))}{' ...' if differ[10:] else ''}" if differ else ""
+    ends = ends_held(seen(course.authorities, len(readings))) + release_starts(course.readings)
+    cut = lambda helds: within(seen(helds, len(readings)), first, last)
+    journey = Journey(readings[first:last], cut(ends), cut(course.restrictions), note=note)
+    return with_track(journey, course.supervisor.data, curves_of(course.supervisor, course.readings[first:last], highest(journey.readings)))
 
 
-def profile_of(data):
-    """The static speed profile (SUBSET-026-3 3.11.3) with the maximum train speed."""
-    train, entries = data["train"], data["track"]["speed"]
-    zones = [Zone(-math.inf, math.inf, whole(train, "max_speed"))]
-    for i, entry in enumerate(entries):
-        start, end = (whole(entry, "start") if i else -math.inf), math.inf
-        if i + 1 < len(entries):
-            end = end_for(whole(train, "length"), entry.get("delayed", True), whole(entries[i + 1], "start"))
-        zones.append(Zone(start, end, whole(entry, "speed")))
-    return zones
+def with_track(journey, data, curves):
+    """The journey with what the data part tells of the track."""
+    train = type(static_zones(data)[0])(data.train.max_speed, -math.inf, math.inf)
+    journey.profile, journey.curves = [train, *static_zones(data)], curves
+    starts = [entry.start / CM_PER_M for entry in data.track.gradient]
+    journey.gradients = list(zip([-math.inf, *starts[1:]], [*starts[1:], math.inf], [entry.grad for entry in data.track.gradient]))
+    journey.areas = [(area.start / CM_PER_M, area.end / CM_PER_M) for area in data.track.adhesion]
+    return journey
 
 
-def authority_of(kind, values):
-    """An authority, from the numbers of its record."""
-    if kind == "limit":
-        return Authority((Target(f"LOA {values[1]} km/h", values[0] / CM_PER_M),))
-    eoa, svl, release = values
-    return Authority((Target("EOA", eoa / CM_PER_M), Target("SvL", svl / CM_PER_M)), release)
-
-
-def opening_of(data):
-    """The authority of the data part."""
-    if data["kind"] == "limit":
-        return authority_of("limit", [whole(data, "loa"), whole(data, "speed")])
-    return authority_of("end", [whole(data, "eoa"), whole(data, "svl"), whole({"release": 0} | data, "release")])
+def counts_of(situation):
+    """The target that the least permitted limit is of."""
+    V = situation.reading.V_est
+    slower = [each for each in situation.targets if each.target.V_target * NOTCHES_PER_KM_H <= V]
+    least = min(slower, key=lambda each: each.d_P, default=None)
+    return "" if least is None else short(least.target)
 
 
 def seen(helds, count):
@@ -278,25 +176,119 @@ def seen(helds, count):
     return [held for held in helds if held.since < held.until]
 
 
-def targets_held(authorities):
-    """The targets of authorities that follow each other, each once for as long as it stands unchanged."""
-    targets, last = [], {}
+def within(helds, first, last):
+    """What is held, by the numbers of a part of the readings."""
+    part = [Held(held.what, max(held.since - first, 0), min(held.until, last) - first) for held in helds]
+    return [held for held in part if held.since < held.until]
+
+
+def ends_of(authority):
+    """What ends an authority."""
+    if isinstance(authority, Limit):
+        return (End(f"LOA {authority.speed} km/h", authority.loa / CM_PER_M),)
+    return End("EOA", authority.eoa / CM_PER_M), End("SvL", authority.svl / CM_PER_M)
+
+
+def ends_held(authorities):
+    """The ends of authorities that follow each other, each once for as long as it stands unchanged."""
+    ends, last = [], {}
     for authority in authorities:
-        now = {target: last.get(target) or Held(target, authority.since) for target in authority.what.targets}
-        targets += [held for target, held in now.items() if target not in last]
+        now = {end: last.get(end) or Held(end, authority.since) for end in ends_of(authority.what)}
+        ends += [held for end, held in now.items() if end not in last]
         for held in now.values():
             held.until = authority.until
         last = now
-    return targets
+    return ends
 
 
-def falls_of(zones):
-    """Where the lowest speed of the zones falls, and to what."""
-    pairs = steps(zones)
-    return [after for before, after in zip(pairs, pairs[1:]) if after[1] < before[1]]
+def release_starts(readings):
+    """The starts of release speed monitoring, each for as long as it stands."""
+    starts = []
+    for n, (_, cycle) in enumerate(readings):
+        start = cycle.situation.release_start
+        end = None if start is None else End("start of R", float(start / GRAINS_PER_M))
+        if end and starts and starts[-1].what == end and starts[-1].until == n:
+            starts[-1].until = n + 1
+        elif end:
+            starts.append(Held(end, n, n + 1))
+    return starts
 
 
-def falls_counted(reading, falls):
-    """The falls that a row's limits may come from: those ahead, and to no more than the train's speed."""
-    ahead = reading.most * CM_PER_M
-    return tuple((cm, kmh) for cm, kmh in falls if cm > ahead and kmh <= reading.speed)
+# ---- whole curves
+
+def curves_of(supervisor, readings, highest_kmh):
+    """EBD, SBD and all limits of each set of targets that counted, over all speeds, as lines of (m, km/h).
+
+    They are those of the acceleration and the under-reading amount that most of the readings with these targets have.
+    """
+    sets = collections.defaultdict(list)
+    for event, cycle in readings:
+        sets[tuple(each.target for each in cycle.situation.targets)].append(event)
+    curves = collections.defaultdict(list)
+    for targets, events in sets.items():
+        (accel, under), _ = collections.Counter((event.accel, event.under) for event in events).most_common(1)[0]
+        probe = events[0]._replace(accel=accel, under=under)
+        for name, line in set_lines(supervisor, targets, probe, highest_kmh):
+            if line not in curves[name]:
+                curves[name].append(line)
+    return curves
+
+
+def set_lines(supervisor, targets, probe, highest_kmh):
+    """The lines of a set of targets: at each speed the least place, broken where a target or its brake curve begins to count."""
+    top, foot = math.ceil(highest_kmh), {each: Fraction(each.foot_speed, NOTCHES_PER_KM_H) for each in targets}
+    begins = sorted({0, top, *(kmh for each in targets for kmh in (each.V_target, foot[each]) if kmh < top)})
+    for low, high in zip(begins, begins[1:]):
+        slower = [each for each in targets if each.V_target <= low]
+        braked = [each for each in slower if foot[each] <= low]
+        count = max(math.ceil(high - low), 8)
+        speeds = [low + (high - low) * Fraction(i, count) for i in range(count + 1)]
+        found = [(float(kmh), places_at(supervisor, slower, braked, at_speed(probe, kmh))) for kmh in speeds]
+        for name in found[0][1]:
+            points = [(places[name], kmh) for kmh, places in found if places[name] is not None]
+            if points:
+                yield name, points
+
+
+def places_at(supervisor, slower, braked, reading):
+    """The least place of each limit of the slower targets, and of each curve of those that are braked, at a speed, in m."""
+    places = collections.defaultdict(list)
+    for target in slower:
+        each = supervisor.limits(reading, target)
+        for name, field_name in FIELDS.items():
+            places[name].append(getattr(each, field_name))
+    for target in braked:
+        curve = supervisor.curves.d_SBD if target.kind == "Eoa" else supervisor.curves.d_EBD
+        places["SBD" if target.kind == "Eoa" else "EBD"].append(curve(target.place, target.foot_speed, reading.V_est))
+    least = lambda name: min((place for place in places[name] if place is not None), default=None)
+    return {name: None if least(name) is None else float(least(name) / GRAINS_PER_M) for name in (*FIELDS, "EBD", "SBD")}
+
+
+# ---- a journey of `flat`
+
+def flat_journey(source, text, A, END, times):
+    """The journey of an input of `flat` for its words, and its rows."""
+    lines, given = [], source.split(b"\n")
+    for line in given if given[-1] else given[:-1]:
+        numbers = numbers_of(line, lines[-1][0] if lines else 0)
+        if numbers is None:
+            break
+        lines.append(numbers)
+    rows = []
+    for number, line in enumerate(text.splitlines(), 1):
+        if not FLAT_ROW.fullmatch(line):
+            raise Fault(f"Line {number} of the rows is no row of sdm flat: {line!r}.")
+        rows.append(dict(zip(["time", "ebi", "covered", "eb"], line.split(","))))
+    counted(rows, len(lines), "")
+    readings = []
+    for n, ((time, front, speed), row) in enumerate(zip(lines, rows), 1):
+        if int(row["time"]) != time:
+            raise Fault(f"The rows are not those of the input: row {n} has the time {row['time']}, its line {time}.")
+        readings.append(Reading(time / 10, *[front / 1000] * 3, speed * 0.0036, row, {"ebi": int(row["ebi"]) / 1000}))
+    readings = [reading for reading in readings if times[0] <= reading.time <= times[1]]
+    if not readings:
+        raise Fault("No reading lies within these times.")
+    curve = BrakeCurve(Brake("flat", 100, (), (), ((A * 2 * 10**9,),)), END * GRAINS_PER_CM, 0, exact=True)
+    top = math.ceil(highest(readings))
+    points = [(float(curve.place(kmh * NOTCHES_PER_KM_H) / GRAINS_PER_M), kmh) for kmh in range(top + 1)]
+    return Journey(readings, [Held(End("END", END / CM_PER_M), 0, len(readings))], curves={"ebi": [points]})

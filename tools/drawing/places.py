@@ -1,4 +1,4 @@
-"""The upper panel: speed over place, as the figures of SUBSET-026-3 3.13 show it.
+"""The upper panel: speed over place, as the figures of SUBSET-026-3 3.13 show it, and the strip of the track below it.
 
 Each series has a dash and a mark of its own beside its colour. A mark of the train has the colour of its status, so that the
 upper panel and the strips are read together.
@@ -7,8 +7,11 @@ upper panel and the strips are read together.
 import math
 from dataclasses import dataclass, replace
 
-from .journey import CM_PER_M, steps
-from .sheet import (ABOVE, BLACK, COMMAND, GREY, HEIGHT, LEFT, LETTER, LEVEL, PALE, RIGHT, SMALL, STATUSES, WHITE, WIDTH,
+from model.speeds import dV_ebi, dV_sbi, dV_warning
+from model.units import NOTCHES_PER_KM_H
+
+from .journey import CM_PER_M, highest, steps
+from .sheet import (ABOVE, BLACK, COMMAND, GREY, HEIGHT, LEFT, LETTER, LEVEL, PALE, RIGHT, SMALL, STATUSES, STRIP, WHITE, WIDTH,
                     Shade, across, block, frame, label, rgb, seconds, spot, up)
 
 # Limits and targets farther from the train than this many m, or than twice the way that it runs, are left out.
@@ -17,6 +20,8 @@ LEAST_WIDTH = 100
 
 # At most so many levels of labels stand above the plot; names that lie nearer than so many pixels share a label.
 LEVELS, NEAR = 5, 12
+
+GRADES = {-1: "#F3C9B1", 0: "#EEEEEE", 1: "#CFE6D2", "adhesion": "#A9D3EE"}  # downhill, level, uphill
 
 LIMITS = {
     # limit: name, colour, dash, mark
@@ -28,31 +33,75 @@ LIMITS = {
 }
 
 
-def place_panel(journey, low_edge):
-    """The panel's part of the script, above a height."""
-    low, high = reach_of(journey)
+# The curves on which the limits stand: name, colour.
+CURVES = {"EBD": ("EBD", "#D55E00"), "SBD": ("SBD", "#777777")}
+# The limits that are speeds over the ceiling as well.
+MARGINS = {"ebi": dV_ebi, "sbi": dV_sbi, "warning": dV_warning}
+COMMANDS = ("tco", "sb", "eb")
+MOST_CHANGES = 24  # of commands, that are named
+
+
+def place_panel(journey, low_edge, places=None, speeds=None):
+    """The panel's part of the script, above a height; for places and speeds of its own where they are given."""
+    low, high = places or reach_of(journey)
+    track = track_strip(journey, low, high, low_edge)
+    low_edge += STRIP * len(track_rows(journey, low, high))
     labels = placed(wanted_labels(journey, low, high))
     high_edge = HEIGHT - ABOVE - LEVEL * (1 + max((at.level for at in labels), default=0))
-    data = series_data(journey, low, high)
-    speeds = [line.split()[1] for name in ("train", "profile", "ceiling", "release") for line in data.get(name, []) if line]
+    bottom, top = speeds or (0, highest(journey.readings))
+    data = within_speeds(series_data(journey, low, high), top)
     lines = [line for name in data for line in block(name, data[name])]
-    lines += frame(low_edge, high_edge) + target_lines(journey) + label_lines(labels, high_edge)
+    lines += frame(low_edge, high_edge) + end_lines(journey) + label_lines(labels, high_edge) + change_lines(journey, (high - low) / (RIGHT - LEFT))
     lines += [
-        f"set xrange [{low:.3f}:{high:.3f}]; set yrange [0:{max(1.08 * max(map(float, speeds)), 10):.3f}]",
-        "set xlabel 'place (m)' offset 0,0.4; set ylabel 'speed (km/h)' offset 0.5,0",
+        f"set xrange [{low:.3f}:{high:.3f}]; set yrange [{bottom:.3f}:{top:.3f}]",
+        "set ylabel 'speed (km/h)' offset 0.5,0" + ("; set format x ''" if track else "; set xlabel 'place (m)' offset 0,0.4"),
         f"set grid lc rgb '{PALE}' lt 1 lw 0.6",
-        f"set key at {spot(RIGHT + 10, high_edge + 6)} left top Left reverse samplen 3.2 spacing 1.25 {SMALL}",
+        f"set key at {spot(RIGHT + 10, high_edge - 2)} left top Left reverse samplen 3.2 spacing 1.2 {SMALL}",
     ]
     series = drawn_series(data, len(journey.readings)) + key_of(data, "status" in journey.readings[0].row)
+    return lines + ["plot " + ", ".join(series)] + track
+
+
+# ---- the strip of the track
+
+def track_rows(journey, low, high):
+    """The rows of the strip: what the track tells within these places."""
+    areas = any(start < high and end > low for start, end in journey.areas)
+    return ["gradient"] * any(grad for _, _, grad in journey.gradients) + ["adhesion"] * areas
+
+
+def track_strip(journey, low, high, edge):
+    """The strip's part of the script: gradients in per mille, and areas of reduced adhesion, over the same places."""
+    rows = track_rows(journey, low, high)
+    if not rows:
+        return []
+    boxes, letters, scale = [], [], (RIGHT - LEFT) / (high - low)
+    parts = [("gradient", start, end, f"{grad}" if grad else "0", GRADES[(grad > 0) - (grad < 0)]) for start, end, grad in journey.gradients]
+    parts += [("adhesion", start, end, "reduced", GRADES["adhesion"]) for start, end in journey.areas]
+    for row, start, end, text, colour in parts:
+        start, end = max(start, low), min(end, high)
+        if row in rows and start < end:
+            y = len(rows) - rows.index(row) - 0.5
+            boxes.append(f"{start:.3f} {y} {start:.3f} {end:.3f} {y - 0.42:.2f} {y + 0.42:.2f} {rgb(colour)}")
+            if (end - start) * scale > LETTER * len(text) + 4:
+                letters.append(f'{(start + end) / 2:.3f} {y} "{text}"')
+    names = ", ".join(f'"{"gradient (‰)" if row == "gradient" else row}" {len(rows) - k - 0.5}' for k, row in enumerate(rows))
+    lines = block("track", boxes) + (block("tracktext", letters) if letters else [])
+    lines += ["unset arrow; unset label; unset key; unset ylabel; unset grid; set format x; set xlabel 'place (m)' offset 0,0.4"]
+    lines += frame(edge, edge + STRIP * len(rows)) + [f"set yrange [0:{len(rows)}]; set ytics scale 0 {SMALL} ({names})"]
+    series = ["$track using 1:2:3:4:5:6:7 with boxxyerror fs solid noborder lc rgb variable notitle"]
+    series += [f"$tracktext using 1:2:3 with labels font ',10' tc rgb '{BLACK}' notitle"] if letters else []
     return lines + ["plot " + ", ".join(series)]
 
+
+# ---- the places that are shown
 
 def reach_of(journey):
     """The places from and to which the picture reaches."""
     readings = journey.readings
     low, high = min(r.least for r in readings), max(r.most for r in readings)
     reach = max(LEAST_REACH, 2 * (high - low))
-    places = [low, high] + [p for r in readings for p in r.limits.values()] + [t.what.place for t in journey.targets]
+    places = [low, high] + [p for r in readings for p in r.limits.values()] + [t.what.place for t in journey.ends]
     places += [cm / CM_PER_M for held in journey.restrictions for cm in (held.what.start, held.what.end)]
     near = [p for p in places if low - reach <= p <= high + reach]
     width = max(near) - min(near)
@@ -112,7 +161,7 @@ def wanted_labels(journey, low, high):
     def label_of(name, held, place):
         return Label(name, period(held, journey.readings), held.until, place, LEFT + (place - low) * scale)
 
-    for held in sorted(journey.targets, key=lambda target: (-target.until, target.what.place)):
+    for held in sorted(journey.ends, key=lambda end: (-end.until, end.what.place)):
         wanted, last = label_of(held.what.name, held, held.what.place), labels[-1] if labels else None
         if last and last.when == wanted.when and wanted.line - last.line < NEAR:
             last.name += ", " + wanted.name
@@ -158,13 +207,39 @@ def label_lines(labels, edge):
     return lines
 
 
-def target_lines(journey):
+def end_lines(journey):
     """The ends of authorities, as upright lines: dashed where another authority has taken their place."""
     lines = []
-    for held in journey.targets:
+    for held in journey.ends:
         style = "lw 1.6" if held.until == len(journey.readings) else "lw 1 dt (6,4)"
+        colour = "#56B4E9" if held.what.name == "start of R" else BLACK
         x = f"{held.what.place:.3f}"
-        lines.append(f"set arrow from {x},graph 0 to {x},graph 1 nohead {style} lc rgb '{BLACK}' back")
+        lines.append(f"set arrow from {x},graph 0 to {x},graph 1 nohead {style} lc rgb '{colour}' back")
+    return lines
+
+
+def changes_of(journey, near):
+    """Where commands come and go: places in m and what changes there, those as near as a label's height together."""
+    last, changes = {}, []
+    for reading in journey.readings:
+        now = {name: reading.row[name] == "1" for name in COMMANDS if name in reading.row}
+        words = [f"{'+' if now[name] else '-'}{name}" for name in now if now[name] != last.get(name, False)]
+        last = now
+        if words and changes and abs(reading.front - changes[-1][0]) < near:
+            changes[-1][1].extend(words)
+        elif words:
+            changes.append((reading.front, words))
+    return changes
+
+
+def change_lines(journey, scale):
+    """A thin upright line where commands come and go, with their names; `scale` is the way of a pixel."""
+    lines, changes = [], changes_of(journey, 13 * scale)
+    for front, words in changes:
+        x = f"{front:.3f}"
+        lines.append(f"set arrow from {x},graph 0 to {x},graph 1 nohead lw 0.7 dt (1,3) lc rgb '#444444' back")
+        if len(changes) <= MOST_CHANGES:
+            lines.append(f'set label "{" ".join(words)}" at {x},graph 0.02 left rotate by 90 offset -0.5,0 font \',9\' tc rgb \'#444444\' front')
     return lines
 
 
@@ -179,12 +254,33 @@ def series_data(journey, low, high):
         "release": broken_lines((r.front, r.release) for r in readings),
         "profile": profile_lines(journey, low, high),
         "train": [f"{r.front:.3f} {r.speed:.4f} {rgb(colour_of(r.row))}" for r in readings],
+        "most": [f"{r.most:.3f} {r.speed:.4f}" for r in readings] if any(r.front < r.most for r in readings) else [],
         "bars": [f"{r.least:.3f} {r.speed:.4f} {r.most - r.least:.3f}" for r in readings if r.least < r.most],
     }
+    for limit, margin in MARGINS.items():
+        over = [(r.front, int(r.row["ceiling"])) for r in readings if "ceiling" in r.row]
+        data["over_" + limit] = [f"{front:.3f} {M + margin(M) / NOTCHES_PER_KM_H:.4f}" for front, M in over]
+    for name in (*CURVES, *LIMITS):
+        data["curve_" + name] = curve_lines(journey.curves.get(name, []), low, high)
     for limit in LIMITS:
-        seen = any(low <= r.limits.get(limit, math.inf) <= high for r in readings)
-        data[limit] = broken_lines(limit_points(readings, limit)) if seen else []
+        points = [(r.limits.get(limit, math.inf), r.speed) for r in readings]
+        data[limit] = [f"{x:.3f} {y:.4f}" for x, y in points if low <= x <= high]
     return {name: lines for name, lines in data.items() if lines}
+
+
+def within_speeds(data, top):
+    """The series that have a point below the highest speed of the picture."""
+    lowest = lambda name, lines: min(float(line.split()[4 if name == "restrictions" else 1]) for line in lines if line)
+    return {name: lines for name, lines in data.items() if lowest(name, lines) < top}
+
+
+def curve_lines(lines, low, high):
+    """The data of whole curves, a break between two, without what lies far from the picture."""
+    width, found = high - low, []
+    for line in lines:
+        points = [f"{x:.3f} {y:.3f}" for x, y in line if low - width <= x <= high + width]
+        found += ([""] if found and points else []) + points
+    return found
 
 
 def colour_of(row):
@@ -215,16 +311,6 @@ def restriction_lines(journey, low, high):
     return [f"{start:.3f} {kmh} {start:.3f} {end:.3f} {speed} {kmh}" for start, end, speed, kmh in fields]
 
 
-def limit_points(readings, limit):
-    """The places of a limit at the speeds of the readings, with a break where the limit comes from other targets."""
-    last = readings[0].counted
-    for reading in readings:
-        if reading.counted != last:
-            yield None, None
-        last = reading.counted
-        yield reading.limits.get(limit), reading.speed
-
-
 def broken_lines(points):
     """The data of points, broken where one has no place or no height."""
     lines = []
@@ -243,10 +329,16 @@ def mark_size(count):
     return 0.7 if count <= 60 else 0.4
 
 
-def limit_style(limit, count):
-    """The line and the marks of a limit; where readings are many, some of them have marks."""
-    _, colour, dash, mark = LIMITS[limit]
-    return f"linespoints lw 1.6 lc rgb '{colour}' dt {dash} pt {mark} ps {mark_size(count)} pi {max(1, count // 30)}"
+def limit_style(limit):
+    """The line of a limit's curve."""
+    _, colour, dash, _ = LIMITS[limit]
+    return f"lines lw 1.5 lc rgb '{colour}' dt {dash}"
+
+
+def mark_style(limit, count):
+    """The marks of a limit's places in the rows."""
+    _, colour, _, mark = LIMITS[limit]
+    return f"points lc rgb '{colour}' pt {mark} ps {mark_size(count)}"
 
 
 def drawn_series(data, count):
@@ -255,9 +347,13 @@ def drawn_series(data, count):
     series = [
         ("restrictions", "1:2:3:4:5:6", f"boxxyerror lc rgb '{GREY}' fs solid 0.25 border lc rgb '{GREY}'"),
         ("ceiling", "1:2", "steps lw 4 lc rgb '#BBBBBB'"),
+        *(("over_" + limit, "1:2", f"steps lw 0.9 lc rgb '{LIMITS[limit][1]}' dt {LIMITS[limit][2]}") for limit in MARGINS),
         ("release", "1:2", "steps lw 4 lc rgb '#56B4E9'"),
         ("profile", "1:2", f"steps lw 1 lc rgb '{BLACK}'"),
-        *((limit, "1:2", limit_style(limit, count)) for limit in LIMITS),
+        *(("curve_" + name, "1:2", f"lines lw 0.8 lc rgb '{CURVES[name][1]}' dt (2,2)") for name in CURVES),
+        *(("curve_" + limit, "1:2", limit_style(limit)) for limit in LIMITS),
+        *((limit, "1:2", mark_style(limit, count)) for limit in LIMITS),
+        ("most", "1:2", f"lines lw 0.9 lc rgb '{GREY}' dt (4,3)"),
         ("bars", "1:2:3:(0)", f"vectors nohead lw 1 lc rgb '{GREY}'"),
         ("train", "1:2", f"lines lw 1.4 lc rgb '{BLACK}'"),
         ("train", "1:2", f"points pt 6 ps {1.4 * marks:.2f} lc rgb '{BLACK}'"),
@@ -270,11 +366,14 @@ def key_of(data, has_status):
     """The lines of the key from top to bottom."""
     keys = [
         ("train", f"linespoints lw 1.4 pt 7 ps 0.8 lc rgb '{BLACK}'", "train, by status" if has_status else "train"),
+        ("most", f"lines lw 0.9 lc rgb '{GREY}' dt (4,3)", "max safe front end"),
         ("bars", f"lines lw 1 lc rgb '{GREY}'", "safe front ends"),
-        ("ceiling", "lines lw 4 lc rgb '#BBBBBB'", "ceiling"),
+        ("ceiling", "lines lw 4 lc rgb '#BBBBBB'", "ceiling, its margins"),
         ("release", "lines lw 4 lc rgb '#56B4E9'", "release speed"),
         ("profile", f"lines lw 1 lc rgb '{BLACK}'", "static profile"),
         ("restrictions", f"boxes lc rgb '{GREY}' fs solid 0.25 border lc rgb '{GREY}'", "restriction"),
-        *((limit, limit_style(limit, 1), LIMITS[limit][0]) for limit in LIMITS),
+        *(("curve_" + name, f"lines lw 0.8 lc rgb '{CURVES[name][1]}' dt (2,2)", CURVES[name][0]) for name in CURVES),
+        *((limit, limit_style(limit).replace("lines", "linespoints", 1) + f" pt {LIMITS[limit][3]} ps 0.7", LIMITS[limit][0]) for limit in LIMITS),
     ]
-    return [f"keyentry with {style} title '{title}'" for name, style, title in keys if name in data]
+    shown = {name.removeprefix("curve_") if name.removeprefix("curve_") in LIMITS else name for name in data}
+    return [f"keyentry with {style} title '{title}'" for name, style, title in keys if name in shown]

@@ -4,7 +4,7 @@ from dataclasses import dataclass
 
 # In pixels, from the lower left corner: the sides of both panels, the foot of the lower one, the height of a strip, the room
 # between the panels and above them.
-WIDTH, HEIGHT = 900, 600
+WIDTH, HEIGHT = 900, 660
 LEFT, RIGHT = 116, 720
 FOOT, STRIP, BETWEEN, ABOVE = 62, 18, 58, 14
 
@@ -38,6 +38,7 @@ STATUSES = {
     "W": Shade("#D55E00", WHITE, "warning"),
     "X": Shade("#6B0000", WHITE, "intervention"),
 }
+TARGETS = {"EOA": "#E5D3EA", "SvL": "#F2D9C4", "LOA": "#D5E6C8", "fall": "#F6EFC1"}
 COMMAND, COVERED = {"1": Shade("#444444")}, {"1": Shade("#009E73")}
 
 

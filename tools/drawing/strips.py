@@ -4,8 +4,8 @@ The strips lie over time and not over place, since a train that stands has many 
 axis tell both.
 """
 
-from .sheet import (BLACK, COMMAND, COVERED, FOOT, GREY, LEFT, RIGHT, SMALL, STATES, STATUSES, STRIP, block, frame, label, rgb,
-                    seconds, spot)
+from .sheet import (BLACK, COMMAND, COVERED, FOOT, GREY, LEFT, RIGHT, SMALL, STATES, STATUSES, STRIP, TARGETS, WHITE, Shade, block,
+                    frame, label, rgb, seconds, spot)
 
 STRIPS = {
     # column of the row: name, how its values are shown
@@ -15,6 +15,7 @@ STRIPS = {
     "sb": ("service brake", COMMAND),
     "eb": ("emergency brake", COMMAND),
     "covered": ("covered", COVERED),
+    "counts": ("target of P", None),
 }
 
 # Labels of the time axis are at least so many pixels apart; a letter needs a run of at least so many.
@@ -28,7 +29,21 @@ def height_of(journey):
 
 def columns_of(journey):
     """The columns of the rows that have a strip, from top to bottom."""
-    return [column for column in STRIPS if column in journey.readings[0].row]
+    return [column for column in STRIPS if any(value_of(reading, column) for reading in journey.readings)]
+
+
+def value_of(reading, column):
+    """What a reading has in a strip: a value of its row, or the target that its permitted limit is of."""
+    return reading.counts if column == "counts" else reading.row.get(column, "")
+
+
+def shade_of(column, value):
+    """How a value is shown; nothing where it isn't."""
+    if column == "counts":
+        return Shade(TARGETS.get(value.split(" ")[0], WHITE), BLACK, value) if value else None
+    if column == "covered" and value == "R":
+        return Shade("#EEEEEE", BLACK, "none is promised")
+    return STRIPS[column][1].get(value)
 
 
 def strip_panel(journey):
@@ -37,7 +52,7 @@ def strip_panel(journey):
     end = end_of(readings)
     boxes, letters = strip_lines(readings, columns, end)
     names = ", ".join(f'"{STRIPS[column][0]}" {len(columns) - k - 0.5}' for k, column in enumerate(columns))
-    lines = ["unset arrow; unset label; unset grid; unset xlabel; unset ylabel; unset key", *frame(FOOT, edge)]
+    lines = ["unset arrow; unset label; unset grid; unset xlabel; unset ylabel; unset key; set format x", *frame(FOOT, edge)]
     lines += key_of(edge) if "status" in columns else []
     lines += block("boxes", boxes) + block("letters", letters)
     lines += [
@@ -61,8 +76,11 @@ def runs_of(readings, column, end):
     """The runs of readings with one value of a column: since when, until when, the value."""
     runs = []
     for reading in readings:
-        if not runs or runs[-1][1] != reading.row[column]:
-            runs.append((reading.time, reading.row[column]))
+        value = value_of(reading, column)
+        if column == "covered" and reading.release is not None:
+            value = "R"
+        if not runs or runs[-1][1] != value:
+            runs.append((reading.time, value))
     ends = [since for since, _ in runs[1:]] + [end]
     return [(since, until, value) for (since, value), until in zip(runs, ends)]
 
@@ -72,14 +90,15 @@ def strip_lines(readings, columns, end):
     boxes, letters = [], []
     scale = (RIGHT - LEFT) / (end - readings[0].time)
     for k, column in enumerate(columns):
-        y, shades = len(columns) - k - 0.5, STRIPS[column][1]
+        y = len(columns) - k - 0.5
         for since, until, value in runs_of(readings, column, end):
-            if value not in shades:
+            shade = shade_of(column, value)
+            if shade is None:
                 continue
-            shade = shades[value]
             boxes.append(f"{since:.1f} {y} {since:.1f} {until:.3f} {y - 0.4:.1f} {y + 0.4:.1f} {rgb(shade.colour)}")
-            if shade.name and (until - since) * scale > ROOM:
-                letters.append(f"{(since + until) / 2:.3f} {y} {value} {rgb(shade.ink)}")
+            text = value if column != "covered" else shade.name
+            if text and shade.name and (until - since) * scale > max(ROOM, 6 * len(text)):
+                letters.append(f'{(since + until) / 2:.3f} {y} "{text}" {rgb(shade.ink)}')
     return boxes, letters
 
 

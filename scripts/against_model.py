@@ -1,0 +1,100 @@
+"""Holds the built program against the model: over examples/, over vectors/, and over journeys made from a seed.
+
+    scripts/check-model                             what the gate runs, after the model's own tests
+    scripts/check-model --seed 5000 --journeys 9000 the journeys of the seeds 5000 to 13999 alone
+    scripts/check-model --program PATH              another program than crates/sdm/out/sdm
+
+Of each difference it tells the input, the first row or line that differs, and both texts. The journey of a seed is
+written by `python3 tools/model/journeys.py input SEED`.
+"""
+
+import argparse
+import collections
+import subprocess
+import sys
+import time
+from pathlib import Path
+
+TOP = Path(__file__).resolve().parents[1]
+sys.path.insert(0, str(TOP / "tools"))
+
+from laboratory.cases import Case, cases_under, difference  # noqa: E402
+from laboratory.program import Fault, Result, add_program, built, run  # noqa: E402
+from model.journeys import make  # noqa: E402
+from model.words import collect  # noqa: E402
+
+GATE_JOURNEYS = 1000
+PROGRESS = 2000  # journeys between two lines of progress
+
+
+def own_tests():
+    """Whether the model passes its own tests."""
+    words = [sys.executable, "-B", "-m", "unittest", "discover", "-s", "model/tests", "-t", "."]
+    done = subprocess.run(words, cwd=TOP / "tools", capture_output=True, text=True)
+    print("the model's own tests: " + (done.stderr.splitlines() or ["nothing was told"])[-1])
+    if done.returncode:
+        print(done.stderr)
+    return done.returncode == 0
+
+
+def made(first, count):
+    """The journeys of some seeds, as cases with nothing due."""
+    for seed in range(first, first + count):
+        words, name, data = make(seed)
+        yield Case(f"seed {seed} ({name})", words, data, None)
+
+
+def differences(program, case):
+    """Where model, program and, for a stored journey, its files differ: all that differs from the model, in lines."""
+    model = Result(*collect(case.words, case.data))
+    lines = difference(("model", "program"), model, run(program, case.words, case.data))
+    if case.due:
+        lines += difference(("model", "stored"), model, case.due)
+    return lines, model.status
+
+
+def compare(title, program, cases, count):
+    """Compares all cases and tells each that differs; how many differ, where there are none that is one."""
+    done, differ, ends, begun = 0, 0, collections.Counter(), time.monotonic()
+    for done, case in enumerate(cases, 1):
+        lines, status = differences(program, case)
+        ends[status] += 1
+        if lines:
+            differ += 1
+            print("\n".join([f"{case.name}: {' '.join(case.words) or '(no words)'}", *lines]), flush=True)
+        if done % PROGRESS == 0:
+            print(f"  {done} of {count}, {differ} differ, {time.monotonic() - begun:.0f} s", flush=True)
+    by_end = ", ".join(f"{ends[status]} with {status}" for status in sorted(ends))
+    print(f"{title}: {done - differ} the same, {differ} differ ({by_end or 'none was found'})", flush=True)
+    return differ if done else 1
+
+
+def words_of(args):
+    parser = argparse.ArgumentParser(prog="scripts/check-model", description=__doc__.split("\n\n")[0])
+    parser.add_argument("--seed", type=int, metavar="N", help="made journeys alone, from this seed on")
+    parser.add_argument("--journeys", type=int, metavar="N", default=GATE_JOURNEYS,
+                        help=f"how many journeys are made, one a seed; {GATE_JOURNEYS} where it isn't said")
+    add_program(parser)
+    return parser.parse_args(args)
+
+
+def main(args):
+    words = words_of(args)
+    try:
+        program = built(words.program.resolve())
+        bad = 0
+        if words.seed is None:
+            bad += not own_tests()
+            for folder in ("examples", "vectors"):
+                bad += compare(folder, program, cases_under(TOP / folder), 0)
+        first = words.seed or 0
+        title = f"made journeys, seeds {first} to {first + words.journeys - 1}"
+        bad += compare(title, program, made(first, words.journeys), words.journeys)
+    except Fault as why:
+        print(f"check-model: {why}", file=sys.stderr)
+        return 1
+    return int(bad > 0)
+
+
+if __name__ == "__main__":
+    sys.exit(main(sys.argv[1:]))

@@ -1,0 +1,19 @@
+"""The rows of `sdm run` as text: their columns, and what a column counts in."""
+import re
+
+from .program import Fault
+
+LIMITS = "ebi sbi warning permitted indication".split()
+COLUMNS = ["time", "state", "status", "tco", "sb", "eb", "covered", "ceiling", *LIMITS]
+FORM = re.compile(r"\d+,[CTR],[NIOWX],[01],[01],[01],[01],\d+(,(-|-?\d+)){5}", re.ASCII)
+UNITS = {"time": "ds", "ceiling": "km/h"} | dict.fromkeys(LIMITS, "mm")  # the columns that are numbers with a tolerance
+
+
+def rows_of(text):
+    """The rows of a text, each as its values by the names of the columns."""
+    rows = []
+    for number, line in enumerate(text.splitlines(), 1):
+        if not FORM.fullmatch(line):
+            raise Fault(f"Line {number} of the rows is no row of sdm run: {line!r}.")
+        rows.append(dict(zip(COLUMNS, line.split(","))))
+    return rows

@@ -1,0 +1,59 @@
+"""campaign runs what is left, tells the ends, and shows where expected rows differ."""
+import shutil
+import tempfile
+import unittest
+from pathlib import Path
+
+from .tool import program, tool
+
+# A program whose rows are its input, and which ends with 7 where it reads a row `bad`.
+COPIES = 'cat > "$0.$$"; cat "$0.$$"; if grep -q bad "$0.$$"; then echo "sdm: bad event 2: line" >&2; exit 7; fi; rm "$0.$$"'
+JOURNEYS = {"a": ("1\n", ""), "b": ("2\n3\n", ""), "c": ("4\nbad\n", "sdm: bad event 2: line\n")}
+
+
+@unittest.skipUnless(shutil.which("parallel"), "GNU parallel is not installed; scripts/setup installs it")
+class Campaign(unittest.TestCase):
+    def setUp(self):
+        room = tempfile.TemporaryDirectory()
+        self.addCleanup(room.cleanup)
+        self.room, self.folder = Path(room.name), Path(room.name) / "journeys"
+        for name, (text, fault) in JOURNEYS.items():
+            place = self.folder / "group" / name
+            place.mkdir(parents=True)
+            for file, content in (("input", text), ("rows", text), ("fault", fault)):
+                if content:
+                    (place / file).write_text(content)
+
+    def campaign(self, *words):
+        return tool("campaign", self.folder, "--program", program(self.room, COPIES), "--jobs", "1", *words)
+
+    def test_all_are_run_and_then_what_is_left(self):
+        code, told, _ = self.campaign()
+        self.assertEqual(code, 0)
+        self.assertIn("3 as due, 0 differ, 0 with nothing due, 0 not run", told)
+        self.assertRegex(told, r"\n0 +2  done\n7 +1  bad event\n")
+        self.assertEqual((self.folder / "group/b/got.rows").read_text(), "2\n3\n")
+        (self.folder / "group/a/got.status").write_text("")
+        (self.folder / "group/c/got.status").unlink()
+        self.assertIn("3 journeys, 2 to run\n2 journeys were run", self.campaign()[1])
+        self.assertIn("3 journeys, 0 to run", self.campaign()[1])
+
+    def test_differences_and_parts(self):
+        (self.folder / "group/b/rows").write_text("2\n4\n")
+        (self.folder / "group/a/rows").unlink()
+        self.assertIn("1 journeys, 1 to run", self.campaign("--part", "2/2")[1])
+        code, told, _ = self.campaign()
+        self.assertEqual(code, 1)
+        self.assertIn("3 journeys, 2 to run", told)
+        self.assertIn("group/b differs\n  row 2 differs\n    due      4\n    made     3\n", told)
+        self.assertIn("1 as due, 1 differ, 1 with nothing due, 0 not run", told)
+
+    def test_what_can_t_be_run(self):
+        self.assertIn("There is no program at", tool("campaign", self.folder, "--program", self.room / "none")[2])
+        self.assertIn("a part is K/N", tool("campaign", self.folder, "--part", "3/2")[2])
+        (self.room / "empty").mkdir()
+        self.assertIn("has no journey in it", tool("campaign", self.room / "empty")[2])
+
+
+if __name__ == "__main__":
+    unittest.main()

@@ -1,0 +1,89 @@
+"""The journey (PROFILE "What a record does"): the supervisor, which takes record after record."""
+from collections import namedtuple
+
+from .curves import Curves
+from .data import Stop
+from .decelerations import brakes_of
+from .limits import limits_of, situation_of, times_of
+from .outcome import Outcome, Refused
+from .records import Reading, Restriction, Revocation, event_of, records
+from .rows import row_of
+from .speeds import mrsp
+from .triggers import NOTHING, decide, triggers_of
+
+MOST_RECORDS, MOST_RESTRICTIONS = 100_000, 32
+Cycle = namedtuple("Cycle", "situation triggers decision row")     # all that a reading led to
+
+def refuse_authority(data, authority):
+    """PROFILE "What a record does": `end`, `limit` and the opening's authority."""
+    if isinstance(authority, Stop) and authority.svl < authority.eoa:
+        raise Refused("supervised location before end")
+    if (authority.svl if isinstance(authority, Stop) else authority.loa) > data.track.length:
+        raise Refused("beyond track")
+
+class Supervisor:
+    """PROFILE "What a record does": holds data, authority, restrictions, last time, commands with the status."""
+
+    def __init__(self, data):
+        """The opening, refused by its slopes first and then by its authority."""
+        self.data, self.times, self.curves = data, times_of(data), Curves(brakes_of(data))
+        refuse_authority(data, data.authority)
+        self.authority, self.restrictions, self.time, self.commands = data.authority, {}, 0, NOTHING
+        self.profile = mrsp(data, ())
+
+    def take(self, event):
+        """A record, taken whole or refused. A reading gives a Cycle, another record None."""
+        if isinstance(event, Reading):
+            return self.read(event)
+        if isinstance(event, Restriction):
+            self.restrict(event)
+        elif isinstance(event, Revocation):
+            if event.identity not in self.restrictions:
+                raise Refused("identity unknown")
+            del self.restrictions[event.identity]
+        else:
+            refuse_authority(self.data, event)
+            self.authority = event
+            return None
+        self.profile = mrsp(self.data, self.restrictions.values())
+        return None
+
+    def restrict(self, event):
+        """PROFILE "What a record does", `restrict`."""
+        if len(self.restrictions) == MOST_RESTRICTIONS:
+            raise Refused("too many restrictions")
+        if event.identity in self.restrictions:
+            raise Refused("identity in use")
+        if event.end <= event.start or event.end > self.data.track.length:
+            raise Refused("restriction value")
+        self.restrictions[event.identity] = event
+
+    def situation(self, reading, exact=False):
+        """What a reading would be decided on now, by stepped or exact limits. It changes nothing."""
+        return situation_of(self.data, self.times, self.curves, self.profile, self.authority, reading, exact)
+
+    def limits(self, reading, target, exact=False):
+        """The limits of any target, stepped or exact, at a reading. It changes nothing."""
+        return limits_of(self.data, self.times, self.curves, reading, target, exact)
+
+    def read(self, reading):
+        """PROFILE "What a record does", `read`: decided by what is in force."""
+        if reading.time < self.time:
+            raise Refused("time back")
+        situation = self.situation(reading)
+        triggers = triggers_of(situation)
+        decision = decide(self.data, situation, triggers, self.commands)
+        self.time, self.commands = reading.time, decision.commands
+        return Cycle(situation, triggers, decision, row_of(situation, decision))
+
+def cycles(supervisor, data):
+    """The cycles of the records behind the dividing line, up to the first record that is refused."""
+    for number, fields in enumerate(records(data), 1):
+        try:
+            if number > MOST_RECORDS:
+                raise Refused("too many events")
+            cycle = supervisor.take(event_of(fields))
+        except Refused as refused:
+            raise Outcome(7, f"bad event {number}: {refused}") from None
+        if cycle is not None:
+            yield cycle

@@ -1,0 +1,109 @@
+"""Limits (PROFILE "Targets", "Times", "Until the emergency brake works", "Limits of a target", "Release speed ...")."""
+from collections import namedtuple
+
+from .data import Limit, Stop
+from .speeds import ceiling, dV_ebi, falls
+from .units import GRAINS_PER_CM, NOTCHES_PER_CM_S2_DS, NOTCHES_PER_KM_H, NOTCHES_PER_MM_S, way
+
+T_warning, T_driver, A_EST2_MOST = 20, 40, 40  # ds, ds, cm/s²
+
+class Target(namedtuple("Target", "kind place V_target")):
+    """PROFILE "Targets": kind "Mrsp", "Loa", "Eoa" or "Svl"; place in grains; speed in km/h."""
+    __slots__ = ()
+
+    @property
+    def is_stop(self):
+        return self.kind in ("Eoa", "Svl")
+
+    @property
+    def foot_speed(self):
+        """w in notches: V_target + dV_ebi(V_target), and 0 for Eoa and Svl."""
+        return 0 if self.is_stop else self.V_target * NOTCHES_PER_KM_H + dV_ebi(self.V_target)
+
+    @property
+    def compared(self):
+        """The front end that is compared."""
+        return "est" if self.kind == "Eoa" else "max"
+
+# PROFILE "Times", in ds. `in_use` is said of the service brake.
+Times = namedtuple("Times", "in_use T_bs T_traction T_berem T_indication")
+
+def times_of(data):
+    """PROFILE "Times"."""
+    train = data.train
+    in_use = train.service_brake and data.national.service_in_target
+    T_bs = train.service_time if in_use else 0
+    T_traction = train.traction_cutoff_time
+    if train.traction_cutoff_interface:
+        T_traction = max(T_traction - (T_warning + T_bs), 0)
+    return Times(in_use, T_bs, T_traction, max(train.emergency_time - T_traction, 0), max(4 * T_bs // 5, 50) + T_driver)
+
+def until_the_emergency_brake_works(data, times, reading, V_target):
+    """PROFILE "Until the emergency brake works": V_bec in notches, D_bec in grains."""
+    V_delta0 = 0 if data.national.inhibit_under_reading else reading.under * NOTCHES_PER_MM_S
+    A_est1 = max(reading.accel, 0)
+    A_est2 = min(A_est1, A_EST2_MOST)
+    V_delta1 = A_est1 * times.T_traction * NOTCHES_PER_CM_S2_DS
+    V_delta2 = A_est2 * times.T_berem * NOTCHES_PER_CM_S2_DS
+    V_target *= NOTCHES_PER_KM_H
+    V_after_traction = max(reading.V_est + V_delta0 + V_delta1, V_target)
+    V_bec = V_after_traction + V_delta2
+    D_bec = (way(max(reading.V_est + V_delta0 + V_delta1 // 2, V_target), times.T_traction)
+             + way(V_after_traction + V_delta2 // 2, times.T_berem))
+    return V_bec, D_bec
+
+# PROFILE "Limits of a target". x is the front end that is compared; `curve` is d_EBD(V_bec), for Eoa d_SBD(V_est);
+# `guide` is d_guide(V_est). All places are in grains (fractions by exact curves); None is none.
+TargetLimits = namedtuple("TargetLimits", "target x V_bec D_bec curve guide d_EBI d_SBI d_W d_P d_I")
+
+def limits_of(data, times, curves, reading, target, exact=False):
+    """PROFILE "Limits of a target", by the stepped curves or the exact ones."""
+    V_est, f, w = reading.V_est, target.place, target.foot_speed
+    if target.kind == "Eoa":
+        V_bec = D_bec = d_EBI = None
+        curve = curves.d_SBD(f, w, V_est, exact)
+        d_SBI = curve - way(V_est, times.T_bs)
+    else:
+        V_bec, D_bec = until_the_emergency_brake_works(data, times, reading, target.V_target)
+        curve = curves.d_EBD(f, w, V_bec, exact)
+        d_EBI = curve - D_bec
+        d_SBI = d_EBI - way(V_est, times.T_bs)
+    d_P, guide = d_SBI - way(V_est, T_driver), None
+    if data.national.guidance and target.kind != "Svl":
+        guide = curves.d_guide(f, target.V_target * NOTCHES_PER_KM_H, V_est, exact)
+        d_P = min(d_P, guide)
+    return TargetLimits(target, reading.front_end(target.compared), V_bec, D_bec, curve, guide,
+                        d_EBI, d_SBI, d_SBI - way(V_est, T_warning), d_P, d_P - way(V_est, times.T_indication))
+
+def release_start(times, curves, authority, exact=False):
+    """PROFILE "Release speed monitoring": the start of it, None where there is no release speed."""
+    if not (isinstance(authority, Stop) and authority.release > 0):
+        return None
+    V_rel = authority.release * NOTCHES_PER_KM_H
+    d_SBD = curves.d_SBD(authority.eoa * GRAINS_PER_CM, 0, V_rel, exact)
+    d_EBD = curves.d_EBD(authority.svl * GRAINS_PER_CM, 0, V_rel, exact)
+    return min(d_SBD - way(V_rel, times.T_bs), d_EBD - way(V_rel, times.T_traction + times.T_berem + times.T_bs))
+
+def targets_of(profile, authority, reading, in_release):
+    """PROFILE "Targets", at a reading: the falls by their places, then the ends of the authority."""
+    end, x = authority.loa if isinstance(authority, Limit) else authority.eoa, reading.front_end("max")
+    targets = [Target("Mrsp", cell * GRAINS_PER_CM, speed) for cell, speed in falls(profile)
+               if cell * GRAINS_PER_CM > x and cell <= end]
+    if isinstance(authority, Limit):
+        targets.append(Target("Loa", authority.loa * GRAINS_PER_CM, authority.speed))
+    elif not in_release:
+        targets.append(Target("Eoa", authority.eoa * GRAINS_PER_CM, 0))
+        targets.append(Target("Svl", authority.svl * GRAINS_PER_CM, 0))
+    return targets
+
+# What a reading is decided on: M in km/h, the start of release speed monitoring or None, whether the reading is in it,
+# and the TargetLimits of its targets in order.
+Situation = namedtuple("Situation", "reading authority times M release_start in_release targets")
+
+def situation_of(data, times, curves, profile, authority, reading, exact=False):
+    """The situation at a reading. Release speed monitoring is the supervisor's (stepped) for exact limits too."""
+    start = release_start(times, curves, authority)
+    in_release = start is not None and reading.front_end("max") > start
+    targets = [limits_of(data, times, curves, reading, target, exact)
+               for target in targets_of(profile, authority, reading, in_release)]
+    return Situation(reading, authority, times, ceiling(profile, reading), start, in_release, targets)

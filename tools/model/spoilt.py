@@ -1,0 +1,151 @@
+"""Breaks rules of the data part, of its text and of records, for journeys.py."""
+from .data import ADHESION, BAND, GRADIENT, KIND, LIMIT, NATIONAL, ROOT, SPEED, STOP, TRACK, TRAIN, Stop
+from .toml_text import Raw
+
+OTHER_KINDS = [Raw("1.0"), Raw('"1"'), Raw("true"), Raw("1"), Raw("[]"), Raw("[1]"), Raw("{}"), Raw("[{}, 1]"), Raw("inf"),
+               Raw("1979-05-27"), Raw("07:32:00"), Raw("1979-05-27T07:32:00Z"), Raw("'''end'''"), Raw("[[]]")]
+EXTREMES = [-1, 0, 2**63 - 1, -2**63, Raw("9223372036854775808"), Raw("-9223372036854775809"), Raw("0x8000000000000000")]
+
+
+def sections_of(document):
+    """All sections that are tables, with the rows of their keys."""
+    found, tables = [(document, ROOT)], lambda value: value if isinstance(value, list) else []
+    train, national, track, authority = (document.get(name) for name in ("train", "national", "track", "authority"))
+    if isinstance(train, dict):
+        found += [(train, TRAIN)] + [(each, BAND) for each in tables(train.get("band")) if isinstance(each, dict)]
+    if isinstance(national, dict):
+        found.append((national, NATIONAL))
+    if isinstance(track, dict):
+        found.append((track, TRACK))
+        for name, keys in (("gradient", GRADIENT), ("speed", SPEED), ("adhesion", ADHESION)):
+            found += [(each, keys) for each in tables(track.get(name)) if isinstance(each, dict)]
+    if isinstance(authority, dict):
+        found.append((authority, [KIND] + (STOP if authority.get("kind") == "end" else LIMIT)))
+    return found
+
+
+def spoil_data(rng, document):
+    """One rule broken (or, seldom, none): its name."""
+    table, keys = rng.choice(sections_of(document))
+    key, how = rng.choice(keys), rng.choice(["missing", "unknown", "kind", "value", "value", "value", "list", "list"])
+    if how == "missing":
+        table.pop(key.name, None)
+    elif how == "unknown":
+        table[rng.choice(["more", "loa", "eoa", "Length", "name", "upper", "start"])] = 1
+    elif how == "kind":
+        table[key.name] = rng.choice(OTHER_KINDS)
+    elif how == "value" and key is KIND:
+        table["kind"] = rng.choice(["End", "limits", "", "end", "limit"])
+    elif how == "value" and key.kind is int:
+        if key.name in ("start", "end"):
+            length = document.get("track", {}).get("length", 1) if isinstance(document.get("track"), dict) else 1
+            table[key.name] = rng.choice([length - 1, length, length + 1, -1, 0] if isinstance(length, int) else [0])
+        elif key.name == "service_time":
+            table[key.name] = rng.choice([1, 4, 299, 300, 305, -5])
+        else:
+            table[key.name] = rng.choice([key.least - 1, key.least, key.most, key.most + 1, rng.choice(EXTREMES)])
+    elif how == "list":
+        return spoil_list(rng, document)
+    return f"{how} {key.name}"
+
+
+def spoil_list(rng, document):
+    """Counts, orders and gaps of the lists, and of the bands."""
+    train, track = document.get("train"), document.get("track")
+    what = rng.choice(["bands", "upper", "counts", "gap", "equal", "overlap", "kind", "swap"])
+    if not (isinstance(train, dict) and isinstance(track, dict) and isinstance(track.get("length"), int)):
+        return "list none"
+    bands, length = train.get("band"), track["length"]
+    if what in ("bands", "upper") and isinstance(bands, list) and bands and isinstance(bands[0], dict):
+        if what == "bands":
+            count = rng.choice([0, 2, 3, 5, 8, 8, 9, 12])
+            same = rng.choice([0, rng.randint(1, max(count, 2) - 1)])      # one band not above the one before
+            train["band"] = [dict(bands[0], upper=i + 1 - (i == same > 0)) for i in range(count)]
+            if count and rng.random() < .7:
+                del train["band"][-1]["upper"]
+        else:
+            rng.choice([each for each in bands if isinstance(each, dict)])["upper"] = rng.choice([1, 100, 500])
+    elif what == "counts":
+        name, most = rng.choice([("gradient", 512), ("speed", 128), ("adhesion", 64)])
+        count = most + rng.choice([0, 1])
+        more = {"gradient": {"grad": 0}, "speed": {"speed": 50}, "adhesion": {}}[name]
+        track["length"] = length = max(length, 4 * count)
+        track[name] = [dict(more, start=2 * i, **({"end": 2 * i + rng.choice([1, 2])} if name == "adhesion" else {}))
+                       for i in range(count)]
+        if rng.random() < .2:
+            track[name] = []
+    elif what == "kind":
+        track[rng.choice(["gradient", "speed", "adhesion"])] = rng.choice(OTHER_KINDS)
+    elif what == "overlap":
+        a = rng.randrange(length)
+        track["adhesion"] = [{"start": a, "end": rng.choice([a, a + 1, length])},
+                             {"start": min(length - 1, a + rng.choice([0, 1])), "end": rng.choice([length, length + 1])}]
+    else:
+        entries = track.get(rng.choice(["gradient", "speed"]))
+        if isinstance(entries, list) and entries and all(isinstance(each, dict) for each in entries):
+            if what == "gap":
+                entries[0]["start"] = rng.choice([1, 0, length - 1])
+            elif what == "equal":
+                entries.append(dict(entries[-1]))
+            else:
+                entries.reverse()
+    return f"list {what}"
+
+
+def spoil_text(rng, data):
+    """The text of an input is spoilt."""
+    what = rng.choice(["no line", "space", "lone CR", "mark", "twice", "bytes", "cut", "table twice", "early", "CR"])
+    if what == "no line":
+        data = data.replace(b"%%", b"%")
+    elif what == "space":
+        data = data.replace(b"%%", rng.choice([b" %%", b"%% ", b"%%%"]))
+    elif what == "lone CR":
+        data = data.split(b"%%")[0] + b"%%\r"
+    elif what == "mark":
+        data = data.replace(b"%%", b"\xef\xbb\xbf%%")
+    elif what == "twice":
+        data = data.replace(b"version", b"version = 1\nversion", 1)
+    elif what == "bytes":
+        data = rng.choice([b"# \xff\n", b"# \xc0\x80\n", b"# \xed\xa0\x80\n", b"#\x00\n", b"a = \n"]) + data
+    elif what == "cut":
+        data = data[:rng.randrange(len(data))]
+    elif what == "table twice":
+        data = data.replace(b"%%", b"[track]\n%%", 1)
+    elif what == "early":
+        data = rng.choice([b"%%\n", b"%%\r\n", b"\n%%\n"]) + data
+    else:
+        data = data.replace(b"\n", b"\r", 1)
+    return what, data
+
+
+def spoilt_record(rng, supervisor, time):
+    """A record that is refused, of a cause that is named."""
+    length, held = supervisor.data.track.length, sorted(supervisor.restrictions)
+    free = next(identity for identity in range(40) if identity not in held)
+    end, some = min(10_000_000, length + 1), ["read", str(time), "0", "0", "0", "0", "0", "0"]
+    found = {
+        "unknown kind": rng.choice([[""], ["Read"], ["read "], ["x", "1"], ['"\nread', "1"], ["\ufeffrevoke", "1"]]),
+        "field count": rng.choice([["read"], some[:-1], some + ["0"], ["end", "1", "1"], ["revoke"], ["limit", "1", "1", ""]]),
+        "not a number": ["read"] + rng.choice([["", "0"], ["1.0", "0"], ["+1", "0"], [" 1", "0"], ["0", "--1"],
+                                               ["0", "1" * 19], ["0", "0x1"]]) + ["0"] * 5,
+        "out of range": rng.choice([
+            ["read", "100000001"] + some[2:], ["read", "-1"] + some[2:], some[:2] + ["110000001"] + some[3:],
+            some[:2] + ["5", "6", "5"] + some[5:], some[:2] + ["5", "5", "4"] + some[5:], some[:5] + ["138889", "0", "0"],
+            some[:6] + ["301", "0"], some[:7] + ["10001"], some[:7] + ["-1"], some[:6] + ["-301", "x"],
+            ["end", "10000001", "0", "0"], ["end", "0", "0", "501"], ["limit", "0", "0"], ["limit", "0", "501"],
+            ["restrict", "65536", "0", "1", "5", "0"], ["restrict", "0", "0", "1", "0", "0"],
+            ["restrict", "0", "0", "1", "5", "2"], ["revoke", "-1"], ["end", "9" * 18, "0", "0"]]),
+        "time back": ["read", str(max(time - 1, 0))] + some[2:],
+        "before end": rng.choice([["end", "1", "0", "0"], ["end", str(length), str(length - 1), "5"], ["end", "10000000", "0", "0"]]),
+        "beyond track": rng.choice([["end", "0", str(end), "0"], ["limit", str(end), "5"], ["end", str(end), str(end), "0"]]),
+        "restriction value": rng.choice([["restrict", str(free), "5", "5", "5", "0"], ["restrict", str(free), "6", "5", "5", "1"],
+                                         ["restrict", str(free), "0", str(end), "5", "0"]]),
+        "identity unknown": ["revoke", str(free)],
+        "identity in use": ["restrict", str(rng.choice(held)), "0", rng.choice(["0", "1"]), "5", "0"] if held else ["revoke", "9"],
+    }
+    name = rng.choice(list(found))
+    return name, found[name]
+
+
+RECORD_FAULTS = ("unknown kind", "field count", "not a number", "out of range", "time back", "before end", "beyond track",
+                 "restriction value", "identity unknown", "identity in use")

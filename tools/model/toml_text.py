@@ -1,0 +1,80 @@
+"""Writes a table as TOML, plainly as the examples are or in odd spellings (FORMATS "The data part")."""
+
+
+class Raw(str):
+    """A value that is written as it is."""
+
+
+def number(value, rng):
+    if rng is None or value < 0 or rng.random() < .5:
+        return str(value)
+    digits = str(value)
+    return rng.choice([hex(value), bin(value), oct(value), "0x" + f"{value:X}", "+" + digits,
+                       digits[:1] + "_" + digits[1:] if len(digits) > 1 else digits])
+
+
+def value_text(value, rng):
+    if isinstance(value, Raw):
+        return str(value)
+    if isinstance(value, bool):
+        return "true" if value else "false"
+    if isinstance(value, int):
+        return number(value, rng)
+    if isinstance(value, str):
+        return f"'{value}'" if rng and rng.random() < .5 else f'"{value}"'
+    many = rng is not None and rng.random() < .3
+    blank, last = ("\n  ", rng.choice([",", ", # a comment", ""])) if many else (" ", "")
+    if isinstance(value, list):
+        inner = ("," + blank).join(value_text(each, rng) for each in value)
+        return f"[{blank}{inner}{last if value else ''}{chr(10) if many else ''}]"
+    inner = ("," + blank).join(f"{key_text(key, rng)} = {value_text(each, rng)}" for key, each in value.items())
+    return f"{{{blank}{inner}{last if value else ''}{chr(10) if many else ' '}}}"
+
+
+def key_text(key, rng):
+    return key if rng is None or rng.random() < .8 else f'"{key}"'
+
+
+def pairs(table, rng):
+    found = list(table.items())
+    if rng is not None:
+        rng.shuffle(found)
+    return found
+
+
+def is_tables(value):
+    return type(value) is list and value and all(type(each) is dict for each in value)
+
+
+def section(name, table, rng, lines):
+    """A table with its header, its own keys first, and then its arrays of tables."""
+    lines.append(f"[{name}]")
+    later = []
+    for key, value in pairs(table, rng):
+        if is_tables(value) and (rng is None or rng.random() < .7):
+            later.append((key, value))
+        else:
+            lines.append(f"{key_text(key, rng)} = {value_text(value, rng)}")
+    for key, tables in later:
+        for each in tables:
+            lines.append(f"\n[[{name}.{key}]]")
+            lines += [f"{key_text(inner, rng)} = {value_text(value, rng)}" for inner, value in pairs(each, rng)]
+    lines.append("")
+
+
+def toml(document, rng=None):
+    """The text of a table; rng None is plain."""
+    own, headed, top = [], [], pairs(document, rng)
+    for key, value in top:
+        if type(value) is not dict:
+            own.append(f"{key_text(key, rng)} = {value_text(value, rng)}")
+        elif rng is None or rng.random() < .6:
+            headed.append((key, value))
+        elif rng.random() < .5 and value:
+            own += [f"{key_text(key, rng)}.{key_text(inner, rng)} = {value_text(each, rng)}" for inner, each in value.items()]
+        else:
+            own.append(f"{key_text(key, rng)} = {value_text(value, rng)}")
+    lines = (["# made"] if rng is not None and rng.random() < .5 else []) + own + [""]
+    for key, value in headed:
+        section(key, value, rng, lines)
+    return "\n".join(lines) + "\n"

@@ -1,0 +1,32 @@
+"""Units (PROFILE "Units"): places in grains, speeds in notches, times in ds; all of them whole numbers."""
+from bisect import bisect_right
+from collections import namedtuple
+
+GRAINS_PER_MM, GRAINS_PER_CM = 540_000_000, 5_400_000_000     # a centimetre is a cell
+NOTCHES_PER_MM_S, NOTCHES_PER_KM_H = 54, 15_000
+NOTCHES_PER_CM_S2_DS, GRAINS_PER_NOTCH_DS = 54, 1_000_000     # 1 cm/s² for 1 ds; a notch for 1 ds
+
+def way(speed, time):
+    """PROFILE "Units": the grains that a speed in notches takes in a time in ds."""
+    return speed * time * GRAINS_PER_NOTCH_DS
+
+def printed(place):
+    """PROFILE "The row": a place in grains (or a fraction of them) rounded down to a whole millimetre, None for none."""
+    return None if place is None else int(place // GRAINS_PER_MM)
+
+class Steps(namedtuple("Steps", "starts values")):
+    """A value for each cell of the track: values[i] from the cell starts[i] on, and values[0] before it too."""
+
+    def index(self, cell):
+        return max(bisect_right(self.starts, cell) - 1, 0)
+
+    @classmethod
+    def of(cls, starts, value):
+        """The steps of a function of cells that changes at some of the starts and nowhere else."""
+        kept, values = [], []
+        for start in sorted(starts):
+            here = value(start)
+            if not kept or here != values[-1]:
+                kept.append(start)
+                values.append(here)
+        return cls(tuple(kept), tuple(values))
