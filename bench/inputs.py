@@ -13,6 +13,7 @@ ROOT = Path(__file__).resolve().parent.parent
 RECORDS = 100_000  # the most records of a journey
 FLAT_LINES = 500_000
 GREATEST_READINGS = 2_000
+GREATEST_ENDS = 2_000
 
 TRACK_CM = 10_000_000  # the longest track
 GRADIENTS = 512
@@ -23,14 +24,15 @@ RESTRICTIONS = 32
 
 @dataclass
 class Input:
-    """An input with all its lines, and the same with the first of them alone; `head` comes before the lines of both."""
+    """An input with all its lines, and the same with the first of them alone; `head` comes before the lines of both. `counted`
+    are the readings among the lines, or the records where there is no reading."""
 
     name: str
     words: list
     words_of_one: list
     head: str
     lines: list
-    readings: int
+    counted: int
 
     def whole(self):
         """The bytes with all lines."""
@@ -157,14 +159,18 @@ def greatest_restrictions():
         yield f"restrict,{entry},{start},{start + 20_000},{100 - entry},1\n"
 
 
+def greatest_data(numbers, guidance="false"):
+    """The data part of the greatest data, with the dividing line."""
+    text = "version = 1\n" + greatest_train()
+    text += f"[national]\navadh = 10\nadhesion_max = 60\nguidance = {guidance}\nservice_in_target = true\n"
+    text += "early_release = false\ninhibit_under_reading = false\n" + greatest_track(numbers)
+    return text + f'[authority]\nkind = "end"\neoa = {TRACK_CM - 10_000}\nsvl = {TRACK_CM}\nrelease = 40\n%%\n'
+
+
 def greatest_of(name, seed, guidance):
     """The greatest data, with readings at random over their track, up to 500 km/h."""
     numbers = Numbers(seed)
-    head = "version = 1\n" + greatest_train()
-    head += f"[national]\navadh = 10\nadhesion_max = 60\nguidance = {guidance}\nservice_in_target = true\n"
-    head += "early_release = false\ninhibit_under_reading = false\n" + greatest_track(numbers)
-    head += f'[authority]\nkind = "end"\neoa = {TRACK_CM - 10_000}\nsvl = {TRACK_CM}\nrelease = 40\n%%\n'
-    head += "".join(greatest_restrictions())
+    head = greatest_data(numbers, guidance) + "".join(greatest_restrictions())
     lines = list(islice(scattered_readings(numbers, 100_000_000, 138_888), GREATEST_READINGS))
     return Input(name, ["run"], ["run"], head, lines, len(lines))
 
@@ -177,6 +183,30 @@ def greatest(seed):
 def greatest_guided(seed):
     """The greatest data with guidance curves."""
     return greatest_of("greatest-guided", seed, "true")
+
+
+def greatest_restrict(seed):
+    """The greatest data without restrictions, and then each of them."""
+    lines = list(greatest_restrictions())
+    return Input("greatest-restrict", ["run"], ["run"], greatest_data(Numbers(seed)), lines, len(lines))
+
+
+def greatest_revoke(seed):
+    """The greatest data with all restrictions, each of which is then revoked, the first one first."""
+    head = greatest_data(Numbers(seed)) + "".join(greatest_restrictions())
+    lines = [f"revoke,{entry}\n" for entry in range(RESTRICTIONS)]
+    return Input("greatest-revoke", ["run"], ["run"], head, lines, len(lines))
+
+
+def greatest_end(seed):
+    """The greatest data with all restrictions, and authorities that end at random over the track, each with a release speed."""
+    numbers = Numbers(seed)
+    head = greatest_data(numbers) + "".join(greatest_restrictions())
+    lines = []
+    for _ in range(GREATEST_ENDS):
+        end = numbers.draw(100_000, TRACK_CM - 10_000)
+        lines.append(f"end,{end},{end + 10_000},40\n")
+    return Input("greatest-end", ["run"], ["run"], head, lines, len(lines))
 
 
 def authority(numbers):
@@ -229,6 +259,9 @@ MAKERS = {
     "scattered": scattered,
     "greatest": greatest,
     "greatest-guided": greatest_guided,
+    "greatest-restrict": greatest_restrict,
+    "greatest-revoke": greatest_revoke,
+    "greatest-end": greatest_end,
     "mixed": mixed,
     "flat": flat,
     "trial": trial,
