@@ -84,6 +84,8 @@ def release(bands=None, train=(), release_kmh=18, beyond=5_000, track=()):
         for v in speeds_around(release_kmh * NOTCHES_PER_KM_H):
             journey.rest().read(v, max=start + by)
     journey.read(0, max=start + 1).read(1_000, max=start - 1).read(1_000, max=start + 1)
+    fast = release_kmh * 2500 // 9 + 3_000         # a service brake that is held into it, by over alone
+    journey.rest().at("Eoa", "d_SBI", fast, 1).read(fast, max=start + 1).read(fast - 2_999, max=start + 2).read(fast - 3_000, max=start + 2)
     for by in (-1, 0, 1):
         for v in (0, 100, release_kmh * 2500 // 9, release_kmh * 2500 // 9 + 1):
             journey.rest().read(v, min=5_000_000 + by)

@@ -78,6 +78,7 @@ def lists():
         ("speed-gap", "speeds that don't begin at 0", {"speed": [{"start": 1, "speed": 9}]}),
         ("gradient-order", "two gradients that begin at one place", {"gradient": level[:2] + [{"start": 1, "grad": 5}]}),
         ("speed-order", "speeds in falling order", {"speed": [{"start": s, "speed": 9} for s in (0, 9, 8)]}),
+        ("area-empty", "an area that ends where it begins", {"adhesion": [{"start": 5, "end": 5}]}),
         ("area-order", "an area that begins before the end of the one before", {"adhesion": [
             {"start": 5, "end": 9}, {"start": 8, "end": 12}]}),
     ]:

@@ -78,6 +78,15 @@ def covered_by_speed(kind, track, authority):
     return journey
 
 
+def faster_targets(kind, track, authority):
+    """A target of 100 km/h ahead of a slower train: its EBI by V_target and what the train gains until it brakes."""
+    journey = Journey(plain({"traction_cutoff_time": 30, "emergency_time": 130}, track=track, authority=authority))
+    for v, a in ((20_000, 40), (20_000, 25), (26_000, 41), (27_778, 40), (20_000, 15)):
+        for by in (0, 1):
+            journey.rest().at(kind, "d_EBI", v, by, a=a)
+    return journey
+
+
 def guidance(kind, bands, track, authority, speeds, permitted=True):
     return limits(kind, bands, track, authority, speeds, {"service_time": 20}, {"guidance": permitted})
 
@@ -119,6 +128,9 @@ def vectors():
     yield "which-falls", "falls before, at and behind the EOA and the max safe front end; by restrictions", which_falls()
     yield "mrsp-equal-speed", "a fall to 72 km/h is in the columns at 20 m/s and not below", equal_speeds("Mrsp", slow, stop(9 * KM))
     yield "loa-equal-speed", "an LOA of 72 km/h is in the columns at 20 m/s and not below", equal_speeds("Loa", {}, limit(5 * KM, 72))
+    fast = {"speed": [{"start": 0, "speed": 160}, {"start": 4 * KM, "speed": 100}]}
+    yield "mrsp-faster", "a fall to more than the train's speed is covered or not, and in no column", faster_targets("Mrsp", fast, stop(9 * KM))
+    yield "loa-faster", "the same of an LOA", faster_targets("Loa", {}, limit(5 * KM, 100))
     yield "mrsp-covered-by-speed", "covered by V_bec at the foot speed, before and past the EBI", \
         covered_by_speed("Mrsp", slower, stop(9 * KM))
     yield "loa-covered-by-speed", "the same of an LOA", covered_by_speed("Loa", {}, limit(5 * KM, 78))
