@@ -28,7 +28,7 @@ FLAT_ROW = re.compile(r"\d+,-?\d+,[01],[01]", re.ASCII)
 
 @dataclass
 class Reading:
-    """A reading with its row, and the target that its permitted limit is of."""
+    """A reading with its row, the target that its permitted limit is of, and whether the model has another row ("1")."""
 
     time: float  # s
     front: float  # m, the estimated front end
@@ -39,6 +39,7 @@ class Reading:
     limits: dict  # m
     release: int = None  # km/h, in release speed monitoring
     counts: str = ""
+    differs: str = ""
 
 
 @dataclass
@@ -140,6 +141,7 @@ def run_journey(source, text, times):
         readings.append(reading)
         if cycle.row.text().rstrip("\n") != ",".join(row.values()):
             differ.append(n)
+            reading.differs = "1"
     kept = [n for n, reading in enumerate(readings) if times[0] <= reading.time <= times[1]]
     if not kept:
         raise Fault("No reading lies within these times.")

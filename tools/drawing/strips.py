@@ -16,6 +16,7 @@ STRIPS = {
     "eb": ("emergency brake", COMMAND),
     "covered": ("covered", COVERED),
     "counts": ("target of P", None),
+    "differs": ("not the model's", {"1": Shade("#CC0000")}),
 }
 
 # Labels of the time axis are at least so many pixels apart; a letter needs a run of at least so many.
@@ -33,8 +34,8 @@ def columns_of(journey):
 
 
 def value_of(reading, column):
-    """What a reading has in a strip: a value of its row, or the target that its permitted limit is of."""
-    return reading.counts if column == "counts" else reading.row.get(column, "")
+    """What a reading has in a strip: a value of its row, the target that its permitted limit is of, whether the model's row differs."""
+    return getattr(reading, column) if column in ("counts", "differs") else reading.row.get(column, "")
 
 
 def shade_of(column, value):
