@@ -1,145 +1,156 @@
 """The data part (FORMATS "The data part"): its quantities by the names of their keys, and the rules of refusal.
 
-A table that was accepted becomes Data, with Train, National, Track and Stop or Limit in it; units as in FORMATS.
+Python's reader of TOML 1.0 makes a table of it. A table that is accepted becomes Data, with Train, National, Track
+and Stop or Limit in it; units as in FORMATS.
 """
+import re
+import tomllib
 from collections import namedtuple
 
 from .outcome import bad_data
 
 MOST_CM, REFUSED = 10_000_000, object()        # REFUSED stands where an absent key is refused
+DIVIDING_LINE = re.compile(rb"^%%(?:\r?\n|\Z)", re.MULTILINE)
+MOST_DEEP = 80                                 # of arrays and tables
 
-# A row of the tables in FORMATS: name, kind, range, what counts where it is absent.
-Key = namedtuple("Key", "name kind least most absent", defaults=(0, 0, REFUSED))
-ROOT = [Key("version", int, 1, 1), Key("train", dict), Key("national", dict), Key("track", dict),
-        Key("authority", dict)]
-TRAIN = [Key("length", int, 1, 150_000), Key("max_speed", int, 1, 500), Key("rotating_mass", int, 0, 50, None),
-         Key("traction_cutoff_time", int, 0, 300), Key("traction_cutoff_interface", bool),
-         Key("emergency_time", int, 0, 300), Key("service_time", int, 0, 300), Key("service_brake", bool),
-         Key("band", list)]
-BAND = [Key("upper", int, 1, 500, None), Key("emergency", int, 1, 400), Key("service", int, 1, 400),
-        Key("normal", int, 1, 400), Key("kdry", int, 1, 1000), Key("kwet", int, 1, 1000),
-        Key("kn_up", int, 0, 1000), Key("kn_down", int, 0, 1000)]
-NATIONAL = [Key("avadh", int, 0, 20), Key("adhesion_max", int, 1, 400), Key("guidance", bool),
-            Key("service_in_target", bool), Key("early_release", bool), Key("inhibit_under_reading", bool)]
-TRACK = [Key("length", int, 1, MOST_CM), Key("gradient", list, absent=()), Key("speed", list),
-         Key("adhesion", list, absent=())]
-GRADIENT = [Key("start", int), Key("grad", int, -80, 80)]
-SPEED = [Key("start", int), Key("speed", int, 1, 500), Key("delayed", bool, absent=True)]
-ADHESION = [Key("start", int), Key("end", int)]
+# A row of the tables in FORMATS: name, kind, range (of a list how many entries), what counts where it is absent, the
+# step of its values, and the section that it holds, or that each entry of its list is.
+Key = namedtuple("Key", "name kind least most absent step of", defaults=(0, 0, REFUSED, 1, None))
+
+def section(name, *keys):
+    made = namedtuple(name, [key.name for key in keys])
+    made.keys = keys
+    return made
+
+Band = section(
+    "Band", Key("upper", int, 1, 500, None), Key("emergency", int, 1, 400), Key("service", int, 1, 400),
+    Key("normal", int, 1, 400), Key("kdry", int, 1, 1000), Key("kwet", int, 1, 1000), Key("kn_up", int, 0, 1000),
+    Key("kn_down", int, 0, 1000))
+Train = section(
+    "Train", Key("length", int, 1, 150_000), Key("max_speed", int, 1, 500), Key("rotating_mass", int, 0, 50, None),
+    Key("traction_cutoff_time", int, 0, 300), Key("traction_cutoff_interface", bool),
+    Key("emergency_time", int, 0, 300), Key("service_time", int, 0, 300, step=5), Key("service_brake", bool),
+    Key("band", list, 1, 8, of=Band))
+National = section(
+    "National", Key("avadh", int, 0, 20), Key("adhesion_max", int, 1, 400), Key("guidance", bool),
+    Key("service_in_target", bool), Key("early_release", bool), Key("inhibit_under_reading", bool))
+Gradient = section("Gradient", Key("start", int), Key("grad", int, -80, 80))
+StaticSpeed = section("StaticSpeed", Key("start", int), Key("speed", int, 1, 500), Key("delayed", bool, absent=True))
+Area = section("Area", Key("start", int), Key("end", int))
+Track = section(
+    "Track", Key("length", int, 1, MOST_CM), Key("gradient", list, 0, 512, (), of=Gradient),
+    Key("speed", list, 1, 128, of=StaticSpeed), Key("adhesion", list, 0, 64, (), of=Area))
 KIND = Key("kind", str)
-STOP = [Key("eoa", int, 0, MOST_CM), Key("svl", int, 0, MOST_CM), Key("release", int, 0, 500, 0)]
-LIMIT = [Key("loa", int, 0, MOST_CM), Key("speed", int, 1, 500)]
-
-def kind_of_fact(name, keys):
-    return namedtuple(name, [key.name for key in keys])
-
+Stop = section("Stop", Key("eoa", int, 0, MOST_CM), Key("svl", int, 0, MOST_CM), Key("release", int, 0, 500, 0))
+Limit = section("Limit", Key("loa", int, 0, MOST_CM), Key("speed", int, 1, 500))
+Root = section("Root", Key("version", int, 1, 1), Key("train", dict, of=Train), Key("national", dict, of=National),
+               Key("track", dict, of=Track), Key("authority", dict))
 Data = namedtuple("Data", "train national track authority")
-Train, Band, National = kind_of_fact("Train", TRAIN), kind_of_fact("Band", BAND), kind_of_fact("National", NATIONAL)
-Track, Gradient = kind_of_fact("Track", TRACK), kind_of_fact("Gradient", GRADIENT)
-StaticSpeed, Area = kind_of_fact("StaticSpeed", SPEED), kind_of_fact("Area", ADHESION)
-Stop, Limit = kind_of_fact("Stop", STOP), kind_of_fact("Limit", LIMIT)
 
-def path(section, key):
-    return key.name if section == "root" else f"{section}.{key.name}"
+def path(name, key):
+    return key.name if name == "root" else f"{name}.{key.name}"
 
-def is_of_kind(value, kind):
-    """FORMATS "Which rule is named", 2: an array that holds anything but tables is a wrong kind. A flag is no integer."""
-    return type(value) is kind and (kind is not list or all(type(each) is dict for each in value))
-
-def known(section, table, keys):
-    """FORMATS "Which rule is named", 2: a key that is not listed comes first."""
-    if set(table) - {key.name for key in keys}:
-        raise bad_data(f"unknown key in {section}")
-
-def take(section, table, key):
-    """FORMATS "Which rule is named", 2: the key is missing, its value is of another kind."""
+def take(name, table, key, at_once):
+    """FORMATS "Which rule is named", 2 and 4: the key is missing, its value is of another kind (a flag is no integer),
+    or outside its range, where that comes at once."""
     if key.name not in table:
         if key.absent is REFUSED:
-            raise bad_data(f"missing {path(section, key)}")
+            raise bad_data(f"missing {path(name, key)}")
         return key.absent
-    if not is_of_kind(table[key.name], key.kind):
-        raise bad_data(f"wrong kind {path(section, key)}")
-    return table[key.name]
+    value = table[key.name]
+    if type(value) is not key.kind or key.kind is list and any(type(each) is not dict for each in value):
+        raise bad_data(f"wrong kind {path(name, key)}")
+    if at_once:
+        check(name, key, value, key.least, key.most)
+    return value
 
-def check(section, key, value, least=None, most=None):
-    """A number outside its range, that of the key or one handed in. One that may be absent is in range then."""
-    least, most = key.least if least is None else least, key.most if most is None else most
-    if key.kind is int and value is not None and not least <= value <= most:
-        raise bad_data(f"value {path(section, key)}")
+def check(name, key, value, least, most):
+    """A number outside its range or between its steps. One that may be absent is in range then."""
+    if key.kind is int and value is not None and not (least <= value <= most and value % key.step == 0):
+        raise bad_data(f"value {path(name, key)}")
 
-def read_section(section, table, keys, made):
-    known(section, table, keys)
-    return made(*[take(section, table, key) for key in keys])
-
-def read_list(name, tables, keys, made):
-    return tuple(read_section(f"{name}[{i}]", table, keys, made) for i, table in enumerate(tables, 1))
-
-def read_at_once(section, table, keys, made):
-    """FORMATS "Which rule is named", 4: a value outside its range comes right after the wrong kind."""
-    values = []
-    for key in keys:
-        values.append(take(section, table, key))
-        check(section, key, values[-1])
+def read_section(name, table, made, at_once=False):
+    """FORMATS "Which rule is named", 1 and 2: an unknown key, then key by key, then the sections in this one."""
+    if set(table) - {key.name for key in made.keys}:
+        raise bad_data(f"unknown key in {name}")
+    values = [take(name, table, key, at_once) for key in made.keys]
+    for i, key in enumerate(made.keys):
+        if key.of and key.kind is dict:
+            values[i] = read_section(path(name, key), values[i], key.of)
+        elif key.of:
+            values[i] = tuple(read_section(f"{path(name, key)}[{number}]", each, key.of)
+                              for number, each in enumerate(values[i], 1))
     return made(*values)
 
 def read_authority(table):
     """FORMATS "Which rule is named", 3 and 4: `kind` before all else, and each range at once."""
-    kind = take("authority", table, KIND)
+    kind, rest = take("authority", table, KIND, False), {name: value for name, value in table.items() if name != "kind"}
     if kind not in ("end", "limit"):
         raise bad_data("value authority.kind")
-    keys, made = (STOP, Stop) if kind == "end" else (LIMIT, Limit)
-    known("authority", table, [KIND] + keys)
-    return read_at_once("authority", table, keys, made)
+    return read_section("authority", rest, Stop if kind == "end" else Limit, at_once=True)
 
-def check_train(train):
-    """FORMATS "Which rule is named", 5: own numbers, count of bands, their numbers, their order."""
-    for key, value in zip(TRAIN, train):
-        check("train", key, value)
-        if key.name == "service_time" and value % 5:
-            raise bad_data("value train.service_time")
-    if not 1 <= len(train.band) <= 8:
+def check_section(name, values, **ranges):
+    """FORMATS "Which rule is named", 5: the numbers of a section, with other ranges where they are handed in."""
+    for key, value in zip(values.keys, values):
+        check(name, key, value, *ranges.get(key.name, (key.least, key.most)))
+
+def check_bands(bands):
+    """FORMATS "Which rule is named", 5: count of bands, their numbers, their order."""
+    if not 1 <= len(bands) <= 8:
         raise bad_data("band count")
-    for i, band in enumerate(train.band, 1):
-        for key, value in zip(BAND, band):
-            check(f"train.band[{i}]", key, value)
-    before = 0
-    for i, band in enumerate(train.band, 1):
-        last = i == len(train.band)
-        if (band.upper is not None) if last else (band.upper is None or band.upper <= before):
+    for i, band in enumerate(bands, 1):
+        check_section(f"train.band[{i}]", band)
+    uppers = [band.upper for band in bands]
+    for i, (before, upper) in enumerate(zip([0] + uppers, uppers), 1):
+        if (upper is None) != (i == len(uppers)) or upper is not None and upper <= before:
             raise bad_data(f"band order train.band[{i}]")
-        before = band.upper
 
-def check_list(name, entries, keys, least, most, length):
+def check_list(key, entries, length):
     """FORMATS "Which rule is named", 5: count, values, a first start that is not 0, order."""
-    if not least <= len(entries) <= most:
+    name = f"track.{key.name}"
+    if not key.least <= len(entries) <= key.most:
         raise bad_data(f"count {name}")
     for i, entry in enumerate(entries, 1):
-        ranges = {"start": (0, length - 1), "end": (entry.start + 1, length)}
-        for key, value in zip(keys, entry):
-            check(f"{name}[{i}]", key, value, *ranges.get(key.name, ()))
-    if entries and entries[0].start != 0 and keys is not ADHESION:
+        check_section(f"{name}[{i}]", entry, start=(0, length - 1), end=(entry.start + 1, length))
+    if entries and entries[0].start != 0 and key.of is not Area:
         raise bad_data(f"gap {name}")
-    for i in range(1, len(entries)):
-        if entries[i].start < (entries[i - 1].end if keys is ADHESION else entries[i - 1].start + 1):
-            raise bad_data(f"order {name}[{i + 1}]")
+    for i, (before, entry) in enumerate(zip(entries, entries[1:]), 2):
+        if entry.start < (before.end if key.of is Area else before.start + 1):
+            raise bad_data(f"order {name}[{i}]")
 
 def data_of(table):
     """FORMATS "Which rule is named", 1 and 5: all sections in their order, and then the ranges."""
-    known("root", table, ROOT)
-    root = read_at_once("root", table, ROOT, kind_of_fact("Root", ROOT))
-    train = read_section("train", root.train, TRAIN, Train)
-    train = train._replace(band=read_list("train.band", train.band, BAND, Band))
-    national = read_section("national", root.national, NATIONAL, National)
-    track = read_section("track", root.track, TRACK, Track)
-    track = Track(track.length, read_list("track.gradient", track.gradient, GRADIENT, Gradient),
-                  read_list("track.speed", track.speed, SPEED, StaticSpeed),
-                  read_list("track.adhesion", track.adhesion, ADHESION, Area))
-    authority = read_authority(root.authority)
-    check_train(train)
-    for key, value in zip(NATIONAL, national):
-        check("national", key, value)
-    check("track", TRACK[0], track.length)
-    check_list("track.gradient", track.gradient, GRADIENT, 0, 512, track.length)
-    check_list("track.speed", track.speed, SPEED, 1, 128, track.length)
-    check_list("track.adhesion", track.adhesion, ADHESION, 0, 64, track.length)
-    return Data(train, national, track, authority)
+    root = read_section("root", table, Root, at_once=True)
+    data = Data(root.train, root.national, root.track, read_authority(root.authority))
+    check_section("train", data.train)
+    check_bands(data.train.band)
+    check_section("national", data.national)
+    check_section("track", data.track)
+    for key, entries in zip(Track.keys, data.track):
+        if key.kind is list:
+            check_list(key, entries, data.track.length)
+    return data
+
+def split(data):
+    """FORMATS "The input of `run`": the data part, and the records behind the first line that is exactly `%%`."""
+    line = DIVIDING_LINE.search(data)
+    if line is None:
+        raise bad_data("no %% line")
+    return data[:line.start()], data[line.end():]
+
+def is_in_bounds(value, deep=0):
+    """FORMATS "The data part": numbers of 64 bits at most, arrays and tables not too deep. The root isn't counted."""
+    if isinstance(value, (dict, list)):
+        inner = value.values() if isinstance(value, dict) else value
+        return deep <= MOST_DEEP and all(is_in_bounds(each, deep + 1) for each in inner)
+    return not isinstance(value, int) or -2**63 <= value < 2**63
+
+def read_document(data):
+    """FORMATS "The data part": the table of the bytes before the dividing line."""
+    try:
+        table = tomllib.loads(data.decode("utf-8").removeprefix("\ufeff"))
+        if is_in_bounds(table):
+            return table
+    except (ValueError, RecursionError):
+        pass
+    raise bad_data("not TOML")

@@ -1,21 +1,19 @@
 """Decelerations (PROFILE "The track under the train", "Decelerations", "Slopes that are refused")."""
-from bisect import bisect_right
 from collections import namedtuple
 from fractions import Fraction
 
 from .outcome import Refused
-from .units import GRAINS_PER_CM, NOTCHES_PER_KM_H, Steps
+from .units import GRAINS_PER_CM, NOTCHES_PER_KM_H, Steps, steps_of
 
-def lowest_gradient(data, cell):
-    """PROFILE "The track under the train": the lowest gradient of the cells x − L to x, in per mille."""
-    entries = data.track.gradient
-    first = max(bisect_right(entries, cell - data.train.length, key=lambda entry: entry.start) - 1, 0)
-    last = max(bisect_right(entries, cell, key=lambda entry: entry.start) - 1, 0)
-    return min((entry.grad for entry in entries[first:last + 1]), default=0)
-
-def on_reduced_adhesion(data, cell):
-    """PROFILE "The track under the train": in force in the cells `start` to `end` + L − 1 of an area."""
-    return any(area.start <= cell < area.end + data.train.length for area in data.track.adhesion)
+def under_the_train(data):
+    """PROFILE "The track under the train", by the front end's cell x, from 0 on: the lowest gradient of the cells x − L
+    to x in per mille, and whether adhesion is reduced, as in the cells `start` to `end` + L − 1 of an area."""
+    L, entries, areas = data.train.length, data.track.gradient, data.track.adhesion
+    gradient = Steps([entry.start for entry in entries] or [0], [entry.grad for entry in entries] or [0])
+    def under(x):
+        return gradient.lowest(x - L, x), any(area.start <= x < area.end + L for area in areas)
+    starts, ends = [each.start for each in entries + areas], [area.end for area in areas]
+    return steps_of({0, *starts} | {cell + L for cell in starts + ends}, under)
 
 def A_brake_safe(data, band, reduced):
     """PROFILE "Decelerations", in m/s², exact."""
@@ -49,29 +47,22 @@ class Brake(namedtuple("Brake", "kind q uppers borders slopes")):
     The stretches meet at `borders`, in grains; the first one is also what counts before cell 0, the last has no end.
     `uppers` are the upper speeds of the bands but the last, in notches.
     """
-    __slots__ = ()
 
     def square(self, speed):
         """PROFILE "Curves": the square of a speed in notches, times 5·10¹²·q."""
         return 5 * 10**12 * self.q * speed * speed
 
-def q_of(data):
-    """PROFILE "Decelerations": q, with Q = 2·10⁹ · q."""
-    return 11_730 if data.train.rotating_mass is None else 100 + data.train.rotating_mass
-
-def brake_of(data, kind):
-    """PROFILE "Decelerations": the slopes of a kind in all bands and cells from 0 on."""
-    Q, L, worked = 2 * 10**9 * q_of(data), data.train.length, {}
-    def slopes(cell):
-        under = lowest_gradient(data, cell), on_reduced_adhesion(data, cell)
-        if under not in worked:
-            worked[under] = tuple(int(FORMULAS[kind](data, band, *under) * Q) for band in data.train.band)
-        return worked[under]
-    ends = [area.end for area in data.track.adhesion]
-    starts = [each.start for each in data.track.gradient + data.track.adhesion]
-    steps = Steps.of({0, *starts} | {cell + L for cell in starts + ends}, slopes)
-    uppers = tuple(band.upper * NOTCHES_PER_KM_H for band in data.train.band[:-1])
-    return Brake(kind, q_of(data), uppers, tuple(cell * GRAINS_PER_CM for cell in steps.starts[1:]), steps.values)
+def brakes_of(data):
+    """PROFILE "Decelerations": all slopes, by their kind. q is 11,730 where no mass is given."""
+    bands, mass, stretches, brakes = data.train.band, data.train.rotating_mass, under_the_train(data), {}
+    q = 11_730 if mass is None else 100 + mass
+    uppers = tuple(band.upper * NOTCHES_PER_KM_H for band in bands[:-1])
+    borders = tuple(cell * GRAINS_PER_CM for cell in stretches.starts[1:])
+    for kind, A in FORMULAS.items():
+        slopes = {under: tuple(int(A(data, band, *under) * 2 * 10**9 * q) for band in bands)
+                  for under in set(stretches.values)}
+        brakes[kind] = Brake(kind, q, uppers, borders, tuple(slopes[under] for under in stretches.values))
+    return brakes
 
 def refuse_slopes(brake):
     """PROFILE "Slopes that are refused": too weak (below 0.05 m/s²), then too varied (more than sixteenfold)."""
@@ -83,11 +74,3 @@ def refuse_slopes(brake):
     for number, slopes in bands:
         if max(slopes) > 16 * min(slopes):
             raise Refused(f"too varied: {brake.kind} band {number}")
-
-def brakes_of(data):
-    """PROFILE "Slopes that are refused": kind by kind, each whole before the next. The brakes by their kind."""
-    brakes = {}
-    for kind in FORMULAS:
-        brakes[kind] = brake_of(data, kind)
-        refuse_slopes(brakes[kind])
-    return brakes

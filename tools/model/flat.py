@@ -2,22 +2,20 @@
 from .curves import BrakeCurve
 from .decelerations import Brake
 from .outcome import Outcome
-from .records import read_int
+from .records import PLACE, SPEED, TIME, read_int
 from .units import GRAINS_PER_CM, GRAINS_PER_MM, NOTCHES_PER_MM_S, printed
-
-RANGES = ((0, 100_000_000), (-10_000_000, 110_000_000), (0, 138_888))
 
 def numbers_of(line, before):
     """FORMATS "flat": time, front, speed of a line; None where it isn't of the form due, or its time goes back."""
     numbers = [read_int(field) for field in line.split(b",")]
     if len(numbers) != 3 or None in numbers or numbers[0] < before:
         return None
-    return numbers if all(a <= n <= b for n, (a, b) in zip(numbers, RANGES)) else None
+    return numbers if all(a <= n <= b for n, (a, b) in zip(numbers, (TIME, PLACE, SPEED))) else None
 
 def flat_rows(A, END, data):
     """PROFILE "flat": the rows of all lines, up to the first that is refused. LF alone ends a line."""
-    q, end, time, eb = 100, END * GRAINS_PER_CM, 0, False
-    brake = Brake("flat", q, (), (), ((A * 2 * 10**9 * q // 100,),))
+    end, time, eb = END * GRAINS_PER_CM, 0, False
+    brake = Brake("flat", 100, (), (), ((A * 2 * 10**9,),))           # A cm/s² with q = 100
     exact, stepped = BrakeCurve(brake, end, 0, exact=True), BrakeCurve(brake, end, 0)
     lines = data.split(b"\n")
     for number, line in enumerate(lines if lines[-1] else lines[:-1], 1):

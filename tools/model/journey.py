@@ -3,12 +3,12 @@ from collections import namedtuple
 
 from .curves import Curves
 from .data import Stop
-from .decelerations import brakes_of
-from .limits import limits_of, situation_of, times_of
+from .decelerations import brakes_of, refuse_slopes
+from .limits import Situation, limits_of, release_start, targets_of, times_of
 from .outcome import Outcome, Refused
 from .records import Reading, Restriction, Revocation, event_of, records
 from .rows import row_of
-from .speeds import mrsp
+from .speeds import ceiling, mrsp
 from .triggers import NOTHING, decide, triggers_of
 
 MOST_RECORDS, MOST_RESTRICTIONS = 100_000, 32
@@ -27,6 +27,8 @@ class Supervisor:
     def __init__(self, data):
         """The opening, refused by its slopes first and then by its authority."""
         self.data, self.times, self.curves = data, times_of(data), Curves(brakes_of(data))
+        for brake in self.curves.brakes.values():
+            refuse_slopes(brake)
         refuse_authority(data, data.authority)
         self.authority, self.restrictions, self.time, self.commands = data.authority, {}, 0, NOTHING
         self.profile = mrsp(data, ())
@@ -38,13 +40,11 @@ class Supervisor:
         if isinstance(event, Restriction):
             self.restrict(event)
         elif isinstance(event, Revocation):
-            if event.identity not in self.restrictions:
+            if self.restrictions.pop(event.identity, None) is None:
                 raise Refused("identity unknown")
-            del self.restrictions[event.identity]
         else:
             refuse_authority(self.data, event)
             self.authority = event
-            return None
         self.profile = mrsp(self.data, self.restrictions.values())
         return None
 
@@ -59,8 +59,13 @@ class Supervisor:
         self.restrictions[event.identity] = event
 
     def situation(self, reading, exact=False):
-        """What a reading would be decided on now, by stepped or exact limits. It changes nothing."""
-        return situation_of(self.data, self.times, self.curves, self.profile, self.authority, reading, exact)
+        """What a reading would be decided on now, by stepped or exact limits; it is in release speed monitoring by the
+        stepped start. It changes nothing."""
+        start, M = release_start(self.times, self.curves, self.authority), ceiling(self.profile, reading)
+        in_release = start is not None and reading.front_end("max") > start
+        targets = [self.limits(reading, target, exact)
+                   for target in targets_of(self.profile, self.authority, reading, in_release)]
+        return Situation(reading, self.authority, self.times, M, start, in_release, targets)
 
     def limits(self, reading, target, exact=False):
         """The limits of any target, stepped or exact, at a reading. It changes nothing."""

@@ -498,8 +498,7 @@ def specials():
             ("records 100001", head + reading + limit * 99_999 + reading * 2),
             ("bytes 16777216", head + reading + b"\n" * (most - len(head + reading))),
             ("bytes 16777217", head + reading + b"\n" * (most + 1 - len(head + reading))),
-            ("nested 79", deep(79)), ("nested 82", deep(82)),
-            ("key of 80 parts", b"a." * 79 + b"a = 1\n" + head), ("key of 81 parts", b"a." * 80 + b"a = 1\n" + head)]
+            ("nested 80", deep(80)), ("nested 81", deep(81)), ("key of 80 parts", b"a." * 79 + b"a = 1\n" + head)]
 
 
 def write_folder(folder, words, name, data):

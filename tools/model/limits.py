@@ -2,23 +2,26 @@
 from collections import namedtuple
 
 from .data import Limit, Stop
-from .speeds import ceiling, dV_ebi, falls
+from .speeds import dV_ebi, falls
 from .units import GRAINS_PER_CM, NOTCHES_PER_CM_S2_DS, NOTCHES_PER_KM_H, NOTCHES_PER_MM_S, way
 
 T_warning, T_driver, A_EST2_MOST = 20, 40, 40  # ds, ds, cm/s²
 
 class Target(namedtuple("Target", "kind place V_target")):
     """PROFILE "Targets": kind "Mrsp", "Loa", "Eoa" or "Svl"; place in grains; speed in km/h."""
-    __slots__ = ()
 
     @property
     def is_stop(self):
         return self.kind in ("Eoa", "Svl")
 
+    def speed_with(self, margin):
+        """V_target with one of its margins, in notches; both count as 0 for Eoa and Svl."""
+        return 0 if self.is_stop else self.V_target * NOTCHES_PER_KM_H + margin(self.V_target)
+
     @property
     def foot_speed(self):
-        """w in notches: V_target + dV_ebi(V_target), and 0 for Eoa and Svl."""
-        return 0 if self.is_stop else self.V_target * NOTCHES_PER_KM_H + dV_ebi(self.V_target)
+        """w in notches."""
+        return self.speed_with(dV_ebi)
 
     @property
     def compared(self):
@@ -99,11 +102,3 @@ def targets_of(profile, authority, reading, in_release):
 # What a reading is decided on: M in km/h, the start of release speed monitoring or None, whether the reading is in it,
 # and the TargetLimits of its targets in order.
 Situation = namedtuple("Situation", "reading authority times M release_start in_release targets")
-
-def situation_of(data, times, curves, profile, authority, reading, exact=False):
-    """The situation at a reading. Release speed monitoring is the supervisor's (stepped) for exact limits too."""
-    start = release_start(times, curves, authority)
-    in_release = start is not None and reading.front_end("max") > start
-    targets = [limits_of(data, times, curves, reading, target, exact)
-               for target in targets_of(profile, authority, reading, in_release)]
-    return Situation(reading, authority, times, ceiling(profile, reading), start, in_release, targets)

@@ -7,7 +7,6 @@ COLUMNS = ("d_EBI", "d_SBI", "d_W", "d_P", "d_I")
 
 class Row(namedtuple("Row", "time state commands covered ceiling limits")):
     """PROFILE "The row": `commands` has the status with it; `limits` are the columns ebi to indication, mm or None."""
-    __slots__ = ()
 
     def text(self):
         """FORMATS "The row of a reading"."""
@@ -21,14 +20,10 @@ def is_covered(situation):
         each.x <= each.d_EBI or (not each.target.is_stop and each.V_bec <= each.target.foot_speed)
         for each in situation.targets if each.target.kind != "Eoa")
 
-def least_limits(situation):
-    """PROFILE "The row": the least limit of each name over the targets with V_target ≤ V_est, in grains, or None."""
+def row_of(situation, decision):
+    """PROFILE "The row": its places are the least limit of each name over the targets with V_target ≤ V_est."""
     V = situation.reading.V_est
     slower = [each for each in situation.targets if each.target.V_target * NOTCHES_PER_KM_H <= V]
     found = [[getattr(each, name) for each in slower if getattr(each, name) is not None] for name in COLUMNS]
-    return [min(places, default=None) for places in found]
-
-def row_of(situation, decision):
-    """PROFILE "The row"."""
     return Row(situation.reading.time, decision.state, decision.commands, is_covered(situation), situation.M,
-               [printed(place) for place in least_limits(situation)])
+               [printed(min(places, default=None)) for places in found])

@@ -1,8 +1,9 @@
 """Profile of speeds (PROFILE "Speed profile and ceiling"): zones, MRSP, falls, ceiling, margins over a limit."""
 from collections import namedtuple
+from fractions import Fraction
 from math import inf
 
-from .units import NOTCHES_PER_KM_H, Steps
+from .units import NOTCHES_PER_KM_H, steps_of
 
 Zone = namedtuple("Zone", "speed start end")   # km/h; the cells from `start` up to but not including `end`
 
@@ -23,7 +24,7 @@ def mrsp(data, restrictions):
     """PROFILE "Speed profile and ceiling": the MRSP of each cell, in km/h. Cell -1 stands for all before cell 0."""
     zones = static_zones(data) + [restriction_zone(data, each) for each in restrictions]
     borders = {border for zone in zones for border in (zone.start, zone.end)} - {-inf, inf} | {-1}
-    return Steps.of(borders, lambda cell: min([data.train.max_speed] + [
+    return steps_of(borders, lambda cell: min([data.train.max_speed] + [
         zone.speed for zone in zones if zone.start <= cell < zone.end]))
 
 def falls(profile):
@@ -33,16 +34,14 @@ def falls(profile):
 
 def ceiling(profile, reading):
     """PROFILE "Speed profile and ceiling": M, the lowest MRSP from the min to the max safe front end's cell."""
-    return min(profile.values[profile.index(reading.cell("min")):profile.index(reading.cell("max")) + 1])
+    return profile.lowest(reading.cell("min"), reading.cell("max"))
 
-def dV_ebi(v):
-    """PROFILE "Margins over a limit", in notches, of a limit in km/h: 7.5 km/h, and 0.075 of what is over 110."""
-    return min(7_500 * 15 + 75 * 15 * max(v - 110, 0), 15 * NOTCHES_PER_KM_H)
+def margin_over(least, rise, most):
+    """PROFILE "Margins over a limit", in notches by a limit in km/h: up to 110 km/h, the rise over that, at most."""
+    least, rise, most = (int(Fraction(km_h) * NOTCHES_PER_KM_H) for km_h in (least, rise, most))
+    return lambda v: min(least + rise * max(v - 110, 0), most)
 
-def dV_sbi(v):
-    """PROFILE "Margins over a limit": 5.5 km/h, and 0.045 of what is over 110, at most 10."""
-    return min(5_500 * 15 + 45 * 15 * max(v - 110, 0), 10 * NOTCHES_PER_KM_H)
-
-def dV_warning(v):
-    """PROFILE "Margins over a limit": 4 km/h, and a thirtieth of what is over 110, at most 5."""
-    return min(4 * NOTCHES_PER_KM_H + 500 * max(v - 110, 0), 5 * NOTCHES_PER_KM_H)
+no_margin = margin_over("0", "0", "0")
+dV_ebi = margin_over("7.5", "0.075", "15")
+dV_sbi = margin_over("5.5", "0.045", "10")
+dV_warning = margin_over("4", "1/30", "5")

@@ -1,5 +1,5 @@
 """Breaks rules of the data part, of its text and of records, for journeys.py."""
-from .data import ADHESION, BAND, GRADIENT, KIND, LIMIT, NATIONAL, ROOT, SPEED, STOP, TRACK, TRAIN, Stop
+from .data import KIND, Area, Band, Gradient, Limit, National, Root, StaticSpeed, Stop, Track, Train
 from .toml_text import Raw
 
 OTHER_KINDS = [Raw("1.0"), Raw('"1"'), Raw("true"), Raw("1"), Raw("[]"), Raw("[1]"), Raw("{}"), Raw("[{}, 1]"), Raw("inf"),
@@ -9,18 +9,18 @@ EXTREMES = [-1, 0, 2**63 - 1, -2**63, Raw("9223372036854775808"), Raw("-92233720
 
 def sections_of(document):
     """All sections that are tables, with the rows of their keys."""
-    found, tables = [(document, ROOT)], lambda value: value if isinstance(value, list) else []
+    found, tables = [(document, Root.keys)], lambda value: value if isinstance(value, list) else []
     train, national, track, authority = (document.get(name) for name in ("train", "national", "track", "authority"))
     if isinstance(train, dict):
-        found += [(train, TRAIN)] + [(each, BAND) for each in tables(train.get("band")) if isinstance(each, dict)]
+        found += [(train, Train.keys)] + [(each, Band.keys) for each in tables(train.get("band")) if isinstance(each, dict)]
     if isinstance(national, dict):
-        found.append((national, NATIONAL))
+        found.append((national, National.keys))
     if isinstance(track, dict):
-        found.append((track, TRACK))
-        for name, keys in (("gradient", GRADIENT), ("speed", SPEED), ("adhesion", ADHESION)):
+        found.append((track, Track.keys))
+        for name, keys in (("gradient", Gradient.keys), ("speed", StaticSpeed.keys), ("adhesion", Area.keys)):
             found += [(each, keys) for each in tables(track.get(name)) if isinstance(each, dict)]
     if isinstance(authority, dict):
-        found.append((authority, [KIND] + (STOP if authority.get("kind") == "end" else LIMIT)))
+        found.append((authority, [KIND, *(Stop if authority.get("kind") == "end" else Limit).keys]))
     return found
 
 

@@ -27,8 +27,8 @@ def value_text(value, rng):
     if isinstance(value, list):
         inner = ("," + blank).join(value_text(each, rng) for each in value)
         return f"[{blank}{inner}{last if value else ''}{chr(10) if many else ''}]"
-    inner = ("," + blank).join(f"{key_text(key, rng)} = {value_text(each, rng)}" for key, each in value.items())
-    return f"{{{blank}{inner}{last if value else ''}{chr(10) if many else ' '}}}"
+    inner = ", ".join(f"{key_text(key, rng)} = {value_text(each, rng)}" for key, each in value.items())
+    return f"{{ {inner} }}"                    # on one line, as TOML 1.0 has it
 
 
 def key_text(key, rng):

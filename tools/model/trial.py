@@ -12,14 +12,13 @@ REALISTIC = Data(
 
 def trial_lines(number, cycles):
     """FORMATS "trial": the five lines."""
-    supervisor, count, x = Supervisor(REALISTIC), dict.fromkeys(("rows", "covered", "emergency", "service", "ebi"), 0), number
+    supervisor, x = Supervisor(REALISTIC), number
+    count = dict.fromkeys(("rows", "covered", "emergency", "service", "ebi"), 0)
     for i in range(1, cycles + 1):
         x = (25173 * x + 13849) % 65536
         est = 3_000_000 + 20 * x
         row = supervisor.read(Reading(5 * i, est, est - 5_000, est + 5_000, x % 44_001, x % 101 - 50, 500)).row
-        count["rows"] += 1
-        count["covered"] += row.covered
-        count["emergency"] += row.commands.eb
-        count["service"] += row.commands.sb
-        count["ebi"] = (count["ebi"] + (row.limits[0] or 0)) % 1_000_000_000
+        more = {"rows": 1, "covered": row.covered, "emergency": row.commands.eb, "service": row.commands.sb,
+                "ebi": row.limits[0] or 0}
+        count = {word: (count[word] + more[word]) % 1_000_000_000 for word in count}
     return [f"{word} {n}\n" for word, n in count.items()]

@@ -11,22 +11,18 @@ def way(speed, time):
     return speed * time * GRAINS_PER_NOTCH_DS
 
 def printed(place):
-    """PROFILE "The row": a place in grains (or a fraction of them) rounded down to a whole millimetre, None for none."""
+    """PROFILE "The row": a place in grains, or a fraction of them, rounded down to whole millimetres; None for none."""
     return None if place is None else int(place // GRAINS_PER_MM)
 
 class Steps(namedtuple("Steps", "starts values")):
     """A value for each cell of the track: values[i] from the cell starts[i] on, and values[0] before it too."""
 
-    def index(self, cell):
-        return max(bisect_right(self.starts, cell) - 1, 0)
+    def lowest(self, first, last):
+        """The lowest value in the cells from the first to the last, both included."""
+        at_first, at_last = (max(bisect_right(self.starts, cell) - 1, 0) for cell in (first, last))
+        return min(self.values[at_first:at_last + 1])
 
-    @classmethod
-    def of(cls, starts, value):
-        """The steps of a function of cells that changes at some of the starts and nowhere else."""
-        kept, values = [], []
-        for start in sorted(starts):
-            here = value(start)
-            if not kept or here != values[-1]:
-                kept.append(start)
-                values.append(here)
-        return cls(tuple(kept), tuple(values))
+def steps_of(starts, value):
+    """The steps of a function of cells that changes at some of the starts and nowhere else."""
+    pairs = [(start, value(start)) for start in sorted(starts)]
+    return Steps(*zip(*(pair for i, pair in enumerate(pairs) if i == 0 or pair[1] != pairs[i - 1][1])))

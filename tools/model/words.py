@@ -1,8 +1,7 @@
 """Words, outcomes, input and output (FORMATS "Commands", "How a run ends")."""
 import os
 
-from .data import data_of
-from .document import read_document, split
+from .data import data_of, read_document, split
 from .flat import flat_rows
 from .journey import Supervisor, cycles
 from .outcome import Outcome, Refused
@@ -33,59 +32,53 @@ def not_too_long(data):
 
 def rows_of(words, read):
     """FORMATS "Commands": the lines that these words write, one after the other."""
-    if words == ["run"]:
-        return (cycle.row.text() for cycle in cycles(*open_run(not_too_long(read()))))
-    if len(words) == 3 and words[0] == "flat":
-        A, END = number_word(words[1], 5, 400), number_word(words[2], 0, 10_000_000)
-        return flat_rows(A, END, not_too_long(read()))
-    if len(words) == 3 and words[0] == "trial":
-        return trial_lines(number_word(words[1], 0, 65_535), number_word(words[2], 1, 100_000))
+    match words:
+        case ["run"]:
+            return (cycle.row.text() for cycle in cycles(*open_run(not_too_long(read()))))
+        case ["flat", A, END]:
+            return flat_rows(number_word(A, 5, 400), number_word(END, 0, 10_000_000), not_too_long(read()))
+        case ["trial", number, count]:
+            return trial_lines(number_word(number, 0, 65_535), number_word(count, 1, 100_000))
     raise Outcome(1, "bad words")
 
-def end_of(words, read, write):
-    """FORMATS "How a run ends": runs the words; the code, and the line that tells the outcome ("" for done)."""
+def run(words, read):
+    """FORMATS "How a run ends": the rows, the line that tells the outcome ("" for done), and the code."""
+    rows = []
     try:
         for row in rows_of(words, read):
-            write(row)
+            rows.append(row)
     except Outcome as outcome:
-        return outcome.code, f"sdm: {outcome.line}\n"
+        return "".join(rows), f"sdm: {outcome.line}\n", outcome.code
     except MemoryError:
-        return 8, "sdm: no memory\n"
-    return 0, ""
+        return "".join(rows), "sdm: no memory\n", 8
+    return "".join(rows), "", 0
 
 def collect(words, data=b""):
-    """A whole run in the memory: its rows, its fault line and its code."""
-    rows = []
-    code, fault = end_of(words, lambda: data, rows.append)
-    return "".join(rows), fault, code
+    """A run over an input in the memory."""
+    return run(words, lambda: data)
 
 def read_input():
-    """FORMATS "How a run ends": standard input to its end, too long as the bytes come."""
-    parts, count = [], 0
+    """FORMATS "How a run ends": standard input to its end, or until it is too long."""
     try:
-        while part := os.read(0, 1 << 20):
-            parts.append(part)
-            count += len(part)
-            if count > MOST_BYTES:
-                break
+        with open(0, "rb", closefd=False) as source:
+            return source.read(MOST_BYTES + 1)
     except OSError:
         raise Outcome(2, "read fault") from None
-    return b"".join(parts)
 
-def write_row(text):
-    """FORMATS "How a run ends": a row to standard output, whole."""
+def is_written(stream, text):
+    """FORMATS "How a run ends": whether a standard stream took a text whole."""
     rest = text.encode()
     try:
         while rest:
-            rest = rest[os.write(1, rest):]
+            rest = rest[os.write(stream, rest):]
     except OSError:
-        raise Outcome(3, "write fault") from None
+        return False
+    return True
 
 def main(words):
     """FORMATS "Commands": runs the words over the standard streams and returns the code."""
-    code, fault = end_of(words, read_input, write_row)
-    try:
-        os.write(2, fault.encode())
-    except OSError:
-        pass                                   # a fault of standard error changes no code
+    rows, fault, code = run(words, read_input)
+    if not is_written(1, rows):
+        fault, code = "sdm: write fault\n", 3
+    is_written(2, fault)                       # a fault of standard error changes no code
     return code

@@ -1,7 +1,7 @@
 """data/, openings/, records/, texts/ and words/: each refusal, what is just accepted, and other spellings."""
 import copy
 
-from model.data import ADHESION, BAND, GRADIENT, KIND, LIMIT, NATIONAL, REFUSED, ROOT, SPEED, STOP, TRACK, TRAIN
+from model.data import KIND, REFUSED, Area, Band, Gradient, Limit, National, Root, StaticSpeed, Stop, Track, Train
 from model.toml_text import Raw, toml
 
 from .plain import KM, Journey, limit, plain, stop
@@ -35,16 +35,16 @@ def spoilt(path, value, authority=None):
     return text(document)
 
 
-PLACES = [((), ROOT), (("train",), TRAIN), (("train", "band", 1), BAND), (("national",), NATIONAL), (("track",), TRACK),
-          (("track", "gradient", 1), GRADIENT), (("track", "speed", 1), SPEED), (("track", "adhesion", 0), ADHESION),
-          (("authority",), [KIND] + STOP), (("authority",), LIMIT)]
+PLACES = [((), Root.keys), (("train",), Train.keys), (("train", "band", 1), Band.keys), (("national",), National.keys), (("track",), Track.keys),
+          (("track", "gradient", 1), Gradient.keys), (("track", "speed", 1), StaticSpeed.keys), (("track", "adhesion", 0), Area.keys),
+          (("authority",), [KIND, *Stop.keys]), (("authority",), Limit.keys)]
 OTHER = {int: [Raw("1.0"), Raw('"1"'), True], bool: [1, Raw('"true"')], str: [5], dict: [1, Raw("[]")], list: [1, Raw("{}"), Raw("[1]")]}
 
 
 def keys():
     """For each key one refusal, turning from key to key: out of range to either side, of another kind, missing."""
     for turn, (way, key) in enumerate((way, key) for way, keys in PLACES for key in keys):
-        authority = limit(5 * KM, 60) if key in LIMIT else None
+        authority = limit(5 * KM, 60) if key in Limit.keys else None
         name = "-".join([str(step) for step in way if not isinstance(step, int)] + [key.name])
         most = 10 * KM if key.name in ("start", "end") else key.most
         least = 4 if key.name == "end" else key.least
@@ -60,7 +60,7 @@ def keys():
 def unknown_keys():
     """A key that isn't listed, in each section."""
     for way, section in PLACES:
-        authority = limit(5 * KM, 60) if section is LIMIT else None
+        authority = limit(5 * KM, 60) if section is Limit.keys else None
         name = "-".join([str(step) for step in way if not isinstance(step, int)] or ["root"]) + ("-limit" if authority else "")
         yield f"{name}-unknown-key", "a key that isn't listed", spoilt((*way, "more"), 1, authority)
 

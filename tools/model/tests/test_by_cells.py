@@ -9,7 +9,7 @@ sys.path.insert(0, str(Path(__file__).parent))
 import context  # noqa: F401
 from model.curves import BrakeCurve
 from model.data import Area, Band, Data, Gradient, National, StaticSpeed, Stop, Track, Train
-from model.decelerations import brake_of
+from model.decelerations import brakes_of
 from model.records import Restriction
 from model.speeds import mrsp
 from model.units import GRAINS_PER_CM, NOTCHES_PER_KM_H
@@ -87,7 +87,7 @@ class ByCells(unittest.TestCase):
         for _ in range(60):
             data = small_data(rng)
             for kind in ("safe", "expected", "normal"):
-                brake = brake_of(data, kind)
+                brake = brakes_of(data)[kind]
                 for x in rng.sample(range(-5, 1000), 12) + [0, 1]:
                     stretch = sum(border <= x * CM for border in brake.borders)
                     for number, band in enumerate(data.train.band):
@@ -97,7 +97,7 @@ class ByCells(unittest.TestCase):
         rng, walked = random.Random(2), 0
         while walked < 60:
             data, kind = small_data(rng), rng.choice(["safe", "expected", "normal"])
-            brake = brake_of(data, kind)
+            brake = brakes_of(data)[kind]
             if any(20 * s < 2 * 10**9 * brake.q for stretch in brake.slopes for s in stretch):
                 continue
             speeds = [rng.randint(0, 20 * KMH) for _ in range(2)] + [u for u in brake.uppers] + [0, 3 * KMH]
@@ -122,7 +122,7 @@ class ByCells(unittest.TestCase):
                     if (entry.start <= c or i == 0) and c <= last:
                         speeds.append(entry.speed)
                 speeds += [each.speed for each in held if each.start <= c <= each.end - 1 + (L if each.delayed else 0)]
-                self.assertEqual(profile.values[profile.index(c)], min(speeds))
+                self.assertEqual(profile.lowest(c, c), min(speeds))
 
 
 if __name__ == "__main__":

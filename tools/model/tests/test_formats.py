@@ -83,11 +83,17 @@ class Text(unittest.TestCase):
             with self.subTest(new=new):
                 self.assertEqual(self.fault(old, new), due)
 
-    def test_toml_1_1(self):
+    def test_other_forms_of_toml(self):
         self.assertEqual(self.fault("[[track.speed]]\nstart = 0\nspeed = 160",
-                                    "speed = [{\n start = 0, # here\n speed = 160,\n}]"), "")
-        self.assertEqual(self.fault("kind = \"end\"", "kind = \"\\x65nd\""), "")
-        self.assertEqual(self.fault("version = 1", "version = 07:32"), "bad data: wrong kind version")
+                                    "speed = [\n { start = 0, speed = 160 }, # here\n]"), "")
+        self.assertEqual(self.fault("kind = \"end\"", "kind = \"\\u0065nd\""), "")
+        self.assertEqual(self.fault("version = 1", "version = 07:32:00"), "bad data: wrong kind version")
+
+    def test_bounds_of_toml(self):
+        for more, due in (("9223372036854775807", "unknown key in root"), ("9223372036854775808", "not TOML"),
+                          ("[" * 80 + "]" * 80, "unknown key in root"), ("[" * 81 + "]" * 81, "not TOML"),
+                          ("[" * 5000, "not TOML")):
+            self.assertEqual(self.fault("version = 1", f"more = {more}\nversion = 1"), f"bad data: {due}")
 
     def test_words(self):
         for words in ([], ["run", "x"], ["--help"], ["flat", "4", "1"], ["flat", "+5", "1"], ["trial", "0", "0"]):

@@ -9,7 +9,7 @@ from pathlib import Path
 
 sys.path.insert(0, str(Path(__file__).parent))
 from context import ROOM
-from model.document import read_document
+from model.data import read_document
 from model.journeys import a_document, make
 from model.toml_text import toml
 from model.words import collect
