@@ -9,11 +9,20 @@ FORM = re.compile(r"\d+,[CTR],[NIOWX],[01],[01],[01],[01],\d+(,(-|-?\d+)){5}", r
 UNITS = {"time": "ds", "ceiling": "km/h"} | dict.fromkeys(LIMITS, "mm")  # the columns that are numbers with a tolerance
 
 
+def is_row(line):
+    return FORM.fullmatch(line) is not None
+
+
+def text_of(row):
+    """A row as its line, by its values."""
+    return ",".join(row[name] for name in COLUMNS)
+
+
 def rows_of(text):
     """The rows of a text, each as its values by the names of the columns."""
     rows = []
     for number, line in enumerate(text.splitlines(), 1):
-        if not FORM.fullmatch(line):
+        if not is_row(line):
             raise Fault(f"Line {number} of the rows is no row of sdm run: {line!r}.")
         rows.append(dict(zip(COLUMNS, line.split(","))))
     return rows

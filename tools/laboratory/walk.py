@@ -19,6 +19,14 @@ def read(path):
         raise Fault(f"{path} can't be read: {why.strerror}.") from None
 
 
+def write(path, text):
+    """Writes a text to a file."""
+    try:
+        Path(path).write_text(text)
+    except OSError as why:
+        raise Fault(f"{path} can't be written: {why.strerror}.") from None
+
+
 class Walk:
     """The records of an input that are accepted, one after the other; `fault` tells the end once they are through."""
 

@@ -70,6 +70,22 @@ class Compare(unittest.TestCase):
         self.assertIn("first difference: row 2 at", told)
         self.assertRegex(told, r"sbi +39 +10  39000 mm at row 39")
 
+    def test_rows_as_the_recording_has_them(self):
+        """Only what differs is put in; what no row can have isn't."""
+        def change(number, values):
+            values[1] = "CSM" if number == 3 else "SB" if number == 4 else values[1]
+            values[4] = "n/a" if number == 6 else f"{float(values[4]) + 0.0031:.4f}" if number == 9 else f"{float(values[4]) + 0.001:.3f}"
+            return values
+        recording, mapping = self.own_form(change)
+        altered = Path(self.room.name) / "altered"
+        code, told, _ = tool("compare", ROWS, recording, "--mapping", mapping, "--altered", altered)
+        due = rows()
+        due[2][1], due[5][8], due[8][8] = "C", "-", str(int(due[8][8]) + 3)
+        self.assertEqual(code, 1)
+        self.assertIn("rows that differ (4): 3, 4, 6, 9\n", told)
+        self.assertIn("\nnot compared: status, tco, sb, covered, sbi, warning, permitted, indication\n", told)
+        self.assertEqual([line.split(",") for line in altered.read_text().splitlines()], due)
+
     def test_tolerances(self):
         lines = rows()
         lines[4][8] = str(int(lines[4][8]) + 7)
@@ -89,7 +105,7 @@ class Compare(unittest.TestCase):
     def test_a_mapping(self):
         recording, mapping = self.own_form(lambda number, values: values)
         code, told, _ = tool("compare", ROWS, recording, "--mapping", mapping)
-        self.assertEqual((code, "covered" in told, "39 rows compared" in told), (0, False, True))
+        self.assertEqual((code, "\ncovered " in told, "39 rows compared" in told), (0, False, True))
         recording, mapping = self.own_form(lambda number, values: values[:1] + ["CSM"] + values[2:] if number == 8 else values)
         self.assertIn("row 8 at 12 s, line 9: state is T, in the recording C", tool("compare", ROWS, recording, "--mapping", mapping)[1])
 
