@@ -3,9 +3,9 @@ import sys
 from fractions import Fraction
 from pathlib import Path
 
-from model.journey import MOST_RECORDS
-from model.outcome import Outcome, Refused
-from model.records import Reading, event_of, records
+from model.journey import walk
+from model.outcome import Outcome
+from model.records import Reading
 from model.words import open_run
 
 from .program import Fault
@@ -39,15 +39,10 @@ class Walk:
 
     def __iter__(self):
         """For each record: the event, and its cycle where it is a reading. The supervisor stands right behind it."""
-        for number, fields in enumerate(records(self.events), 1):
-            try:
-                if number > MOST_RECORDS:
-                    raise Refused("too many events")
-                event = event_of(fields)
-                yield event, self.supervisor.take(event)
-            except Refused as refused:
-                self.fault = f"bad event {number}: {refused}"
-                return
+        try:
+            yield from walk(self.supervisor, self.events)
+        except Outcome as outcome:
+            self.fault = outcome.line
 
 
 def at_row(data, number):

@@ -81,14 +81,17 @@ class Supervisor:
         self.time, self.commands = reading.time, decision.commands
         return Cycle(situation, triggers, decision, row_of(situation, decision))
 
-def cycles(supervisor, data):
-    """The cycles of the records behind the dividing line, up to the first record that is refused."""
+def walk(supervisor, data):
+    """Each event behind the dividing line with its cycle, None of no reading, up to the first record that is refused."""
     for number, fields in enumerate(records(data), 1):
         try:
             if number > MOST_RECORDS:
                 raise Refused("too many events")
-            cycle = supervisor.take(event_of(fields))
+            event = event_of(fields)
+            cycle = supervisor.take(event)
         except Refused as refused:
             raise Outcome(7, f"bad event {number}: {refused}") from None
-        if cycle is not None:
-            yield cycle
+        yield event, cycle
+
+def cycles(supervisor, data):
+    return (cycle for _, cycle in walk(supervisor, data) if cycle is not None)
