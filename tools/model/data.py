@@ -18,6 +18,7 @@ MOST_DEEP = 80                                 # of arrays and tables
 Key = namedtuple("Key", "name kind least most absent step of", defaults=(0, 0, REFUSED, 1, None))
 
 def section(name, *keys):
+    """A kind of section: a tuple of the values of its keys."""
     made = namedtuple(name, [key.name for key in keys])
     made.keys = keys
     return made
@@ -96,7 +97,7 @@ def check_section(name, values, **ranges):
 
 def check_bands(bands):
     """FORMATS "Which rule is named", 5: count of bands, their numbers, their order."""
-    if not 1 <= len(bands) <= 8:
+    if not Train.keys[-1].least <= len(bands) <= Train.keys[-1].most:
         raise bad_data("band count")
     for i, band in enumerate(bands, 1):
         check_section(f"train.band[{i}]", band)
