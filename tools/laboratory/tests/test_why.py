@@ -27,6 +27,9 @@ class Why(unittest.TestCase):
         self.assertIn("tco 1 before, 0 now: released by the permitted speed", why("approach", 3))
         self.assertIn("eb  1 before, 0 now: released by standstill", why("approach", 4))
 
+    def test_an_acceleration_is_told_exactly(self):
+        self.assertIn("A_est -0.3 m/s², under-reading 500 mm/s", why("interventions", 13))
+
     def test_a_grain_is_told(self):
         self.assertIn("EBI 860 m, printed 859999, computed 1 grain earlier; the front end is past it", why("band-border", 2))
 
