@@ -11,11 +11,16 @@ from collections import defaultdict
 
 import specs
 from citations import Graph
+from pages import Part
 from specs import CRATES, ROOT
 
-DOC = ROOT / "docs" / "ASSUMPTIONS.md"
-BEGIN = "<!-- The list from here on is written by scripts/believed. -->"
-END = "<!-- The list ends here. -->"
+PART = Part(
+    "believed",
+    ROOT / "docs" / "ASSUMPTIONS.md",
+    "<!-- The list from here on is written by scripts/believed. -->",
+    "<!-- The list ends here. -->",
+    "scripts/believed write",
+)
 
 TOP = [
     ("sdm_run", "", "sdm_main"),
@@ -99,25 +104,5 @@ def listed():
     return "\n".join(out) + "\n"
 
 
-def written(text):
-    """The document with its list anew."""
-    return text[: text.index(BEGIN) + len(BEGIN)] + "\n" + listed() + text[text.index(END) :]
-
-
-def main(words):
-    if words == ["write"]:
-        DOC.write_text(written(DOC.read_text()))
-        return 0
-    if words == ["check"]:
-        text = DOC.read_text()
-        stale = BEGIN not in text or END not in text or written(text) != text
-        if stale:
-            print("docs/ASSUMPTIONS.md: its list of files to believe is stale: run scripts/believed write")
-        print(f"believed: {int(not stale)} passed, {int(stale)} failed")
-        return int(stale)
-    print(listed(), end="")
-    return 0
-
-
 if __name__ == "__main__":
-    sys.exit(main(sys.argv[1:]))
+    sys.exit(PART.main(sys.argv[1:], listed(), []))

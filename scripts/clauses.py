@@ -10,11 +10,17 @@ import re
 import sys
 from pathlib import Path
 
-ROOT = Path(__file__).resolve().parent.parent
+from pages import Part
+from specs import ROOT
+
 SOURCES = ROOT / "docs" / "DEFINITIONS.md"
-DOC = ROOT / "docs" / "SAFETY.md"
-BEGIN = "<!-- The index from here on is written by scripts/clauses. -->"
-END = "<!-- The index ends here. -->"
+PART = Part(
+    "clauses",
+    ROOT / "docs" / "SAFETY.md",
+    "<!-- The index from here on is written by scripts/clauses. -->",
+    "<!-- The index ends here. -->",
+    "scripts/clauses write",
+)
 
 CLAUSE = re.compile(r"(?<![\w.])((?:A|\d+)(?:\.\d+)+)(\*?)")
 
@@ -73,25 +79,5 @@ def listed():
     return "\n".join([*lines, ""]) + "\n"
 
 
-def written(text):
-    """The document with its index anew."""
-    return text[: text.index(BEGIN) + len(BEGIN)] + "\n" + listed() + text[text.index(END) :]
-
-
-def main(words):
-    if words == ["write"]:
-        DOC.write_text(written(DOC.read_text()))
-        return 0
-    if words == ["check"]:
-        text = DOC.read_text()
-        stale = BEGIN not in text or END not in text or written(text) != text
-        if stale:
-            print("docs/SAFETY.md: its index by clause is stale: run scripts/clauses write")
-        print(f"clauses: {int(not stale)} passed, {int(stale)} failed")
-        return int(stale)
-    print(listed(), end="")
-    return 0
-
-
 if __name__ == "__main__":
-    sys.exit(main(sys.argv[1:]))
+    sys.exit(PART.main(sys.argv[1:], listed(), []))

@@ -2,7 +2,8 @@
 the contract that cites it, and the case, test or must-fail edit that shows it.
 
 `scripts/write-definitions` writes them. `scripts/check-definitions` fails where a definition has no source or no comment, where
-the document lacks its line or names one that is gone, where own definitions have no reason, and where a line is stale.
+the document lacks its line or names one that is gone, where own definitions have no reason, and where the tables aren't, to the
+byte, what `scripts/write-definitions` would write.
 """
 
 import re
@@ -12,11 +13,17 @@ import believed
 import specs
 from citations import Graph
 from evidence import Cases, Tests
+from pages import Part, told
 from specs import ROOT, meaning_of, source_of
 
-DOC = ROOT / "docs" / "DEFINITIONS.md"
+PART = Part(
+    "definitions",
+    ROOT / "docs" / "DEFINITIONS.md",
+    "<!-- The tables from here on are written by scripts/write-definitions. -->",
+    "",
+    "scripts/write-definitions",
+)
 REASONS = ROOT / "scripts" / "own-reasons.txt"
-BEGIN = "<!-- The tables from here on are written by scripts/write-definitions. -->"
 
 PARTS = [
     (
@@ -169,15 +176,11 @@ class Matrix:
                 out += self.section(path)
         return "\n".join(out) + "\n"
 
-    def written(self, text):
-        """The document with its tables anew."""
-        return text[: text.index(BEGIN)] + BEGIN + "\n" + self.tables()
-
 
 def named_in(text):
     """The (file, definition) of each line of the document."""
     found, where = set(), None
-    for line in text[text.index(BEGIN) :].splitlines():
+    for line in text.partition(PART.begin)[2].splitlines():
         heading = re.match(r"#### (\S+)", line)
         if heading:
             where = heading.group(1)
@@ -203,39 +206,24 @@ def comment_problems(matrix):
 
 
 def document_problems(matrix):
-    """Lines that are wanting, lines of what is gone, and else a text that is stale."""
-    text = DOC.read_text()
-    if BEGIN not in text:
-        yield "docs/DEFINITIONS.md: the line before its tables is gone"
-        return
+    """Lines that are wanting and lines of what is gone, by their names; where there are none, where else the tables are stale."""
     there = {(p.relative_to(ROOT).as_posix(), d.name) for p in specs.all_spec_files() for d in specs.definitions(p)}
-    named = named_in(text)
-    for where, name in sorted(there - named):
-        yield f"docs/DEFINITIONS.md: no line for {name} of {where}"
-    for where, name in sorted(named - there):
-        yield f"docs/DEFINITIONS.md: names {name} of {where}, which is gone"
-    for where in sorted(matrix.reasons):
-        if not (ROOT / where).exists():
-            yield f"scripts/own-reasons.txt: {where} is gone"
-    if there == named:
-        new, old = set(matrix.written(text).splitlines()), set(text.splitlines())
-        for line in sorted(new - old)[:5] or sorted(old - new)[:5]:
-            yield f"docs/DEFINITIONS.md: stale, run scripts/write-definitions: {line[:100]}"
+    named = named_in(PART.text())
+    found = [f"docs/DEFINITIONS.md: no line for {name} of {where}" for where, name in sorted(there - named)]
+    found += [f"docs/DEFINITIONS.md: names {name} of {where}, which is gone" for where, name in sorted(named - there)]
+    found += [f"scripts/own-reasons.txt: {where} is gone" for where in sorted(matrix.reasons) if not (ROOT / where).exists()]
+    return found or PART.faults(matrix.tables())
 
 
 def main(words):
     matrix = Matrix()
     if words == ["write"]:
-        DOC.write_text(matrix.written(DOC.read_text()))
+        PART.write(matrix.tables())
         return 0
-    found = [*comment_problems(matrix), *document_problems(matrix)]
-    for problem in found:
-        print(problem)
     for path, name in matrix.uncited():
         print(f"note: nothing cites {name} of {path.relative_to(ROOT).as_posix()}")
-    count = len(matrix.graph.definitions)
-    print(f"definitions: {max(count - len(found), 0)} passed, {len(found)} failed")
-    return 1 if found else 0
+    found = [*comment_problems(matrix), *document_problems(matrix)]
+    return told("definitions", len(matrix.graph.definitions), found)
 
 
 if __name__ == "__main__":

@@ -7,10 +7,10 @@ what README shows to paste is the input of examples/approach, with its rows. Lin
 import re
 import subprocess
 import sys
-from pathlib import Path
 from urllib.parse import unquote
 
-ROOT = Path(__file__).resolve().parent.parent
+from pages import told
+from specs import ROOT
 
 FENCE = re.compile(r"^(```|~~~).*?^\1\s*$", re.M | re.S)
 CODE = re.compile(r"`[^`\n]*`")
@@ -71,19 +71,17 @@ def example_faults():
             yield f"README.md: its example has not the {name} of examples/approach"
 
 
+def link_faults(links):
+    """What is wrong with links, each a page, a line and where it leads."""
+    for page, number, target in links:
+        fault = fault_of(page, target)
+        if fault:
+            yield f"{page.relative_to(ROOT)}:{number}: {target} {fault}"
+
+
 def main():
-    passed, faults = 0, list(example_faults())
-    for page in pages():
-        for number, target in links_of(page):
-            fault = fault_of(page, target)
-            if fault:
-                faults.append(f"{page.relative_to(ROOT)}:{number}: {target} {fault}")
-            else:
-                passed += 1
-    for fault in faults:
-        print(fault)
-    print(f"links: {passed} passed, {len(faults)} failed")
-    return int(bool(faults) or not passed)
+    links = [(page, number, target) for page in pages() for number, target in links_of(page)]
+    return told("links", len(links), [*example_faults(), *link_faults(links)])
 
 
 if __name__ == "__main__":

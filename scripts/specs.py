@@ -39,12 +39,18 @@ class Definition:
         return re.findall(r"^\s+([A-Za-z_]\w*)\s*:", self.text, re.M)
 
 
+def crates_with_libraries():
+    """The crates in the order of crates.txt, each with the libraries that it stands on."""
+    for line in (ROOT / "crates.txt").read_text().splitlines():
+        name, colon, below = line.partition("#")[0].partition(":")
+        if colon:
+            yield name.split()[0], below.split()
+
+
 def crates():
     """The crates in the order of crates.txt."""
-    for line in (ROOT / "crates.txt").read_text().splitlines():
-        name = line.split(":")[0].split("#")[0].split()
-        if name:
-            yield name[0]
+    for name, _ in crates_with_libraries():
+        yield name
 
 
 def spec_files(crate):
