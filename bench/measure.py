@@ -14,7 +14,7 @@ TOOLS = ["hyperfine", "valgrind", "/usr/bin/time"]
 
 
 def tools_missing():
-    """The tools that are not there; scripts/setup installs them."""
+    """The tools that are not there; `scripts/setup tools` installs them."""
     return [tool for tool in TOOLS if not shutil.which(tool)]
 
 

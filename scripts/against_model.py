@@ -81,7 +81,7 @@ def words_of(args):
 def main(args):
     words = words_of(args)
     try:
-        program = built(words.program.resolve())
+        program = built(words.program)
         bad = 0
         if words.seed is None:
             bad += not own_tests()

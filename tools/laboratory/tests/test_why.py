@@ -40,7 +40,7 @@ class Why(unittest.TestCase):
             self.assertIn("The program's row is the same.", why("approach", 2, *words))
             words = ("--program", program(Path(scratch), f"sed s/^5,T,X,1/5,T,X,0/ {rows}"))
             self.assertIn("The program's row differs: 5,T,X,0", why("approach", 2, *words))
-        self.assertIn("The program isn't built", why("approach", 2))
+        self.assertIn("This row is the model's alone. There is no program at /nowhere", why("approach", 2))
 
     def test_standard_input_and_faults(self):
         data = (EXAMPLES / "approach" / "input").read_bytes()

@@ -1,0 +1,75 @@
+"""Copies of the repository, in which faults are planted, and a program that stands in for the built one there."""
+
+import os
+import re
+import shutil
+import subprocess
+import sys
+import tempfile
+from contextlib import contextmanager
+from pathlib import Path
+from typing import Iterator
+
+TOP = Path(__file__).resolve().parents[2]
+JOURNEY = re.compile(r"vectors/\w+/[\w-]+/")
+SECONDS = 300  # the longest that a script may take
+
+
+@contextmanager
+def a_copy(with_vectors: bool = False) -> Iterator[Path]:
+    """A copy of the files that are kept, as a repository of its own; with the journeys of vectors/ where they are asked for."""
+    words = ["git", "-C", str(TOP), "ls-files", "-z", "--cached", "--others", "--exclude-standard"]
+    names = subprocess.run(words, check=True, capture_output=True, text=True).stdout.split("\0")
+    with tempfile.TemporaryDirectory() as scratch:
+        top = Path(scratch)
+        for name in filter(None, names):
+            if (TOP / name).is_file() and (with_vectors or not JOURNEY.match(name)):
+                (top / name).parent.mkdir(parents=True, exist_ok=True)
+                shutil.copy2(TOP / name, top / name)
+        subprocess.run(["git", "init", "-q", str(top)], check=True)
+        yield top
+
+
+def ended(top: Path, *words: str, path: str | None = None) -> tuple[int, str]:
+    """The exit status of a script of a copy, and all that it told."""
+    more = {"PATH": path} if path else {}
+    done = subprocess.run(
+        [str(top / words[0]), *words[1:]], cwd=top, env={**os.environ, **more}, stdin=subprocess.DEVNULL,
+        stdout=subprocess.PIPE, stderr=subprocess.STDOUT, text=True, errors="replace", timeout=SECONDS, check=False,
+    )
+    return done.returncode, done.stdout
+
+
+def keep_examples(top: Path, names: set[str]) -> None:
+    """Takes all other examples out of a copy, so that a script has less to do."""
+    for example in (top / "examples").iterdir():
+        if example.is_dir() and example.name not in names:
+            shutil.rmtree(example)
+
+
+def alter(top: Path, file: str, pattern: str, new: str) -> None:
+    """Puts another text in the place of the first that a pattern finds in a file of a copy."""
+    text, count = re.subn(pattern, new, (top / file).read_text(), count=1, flags=re.M)
+    if not count:
+        raise ValueError(f"{file} has nothing like {pattern}")
+    (top / file).write_text(text)
+
+
+def stand_in(top: Path, filtered: str = "cat", status: str = "") -> None:
+    """A program in a copy that does as the model of this repository, its rows through a filter, or with another exit status."""
+    built = top / "crates" / "sdm" / "out" / "sdm"
+    built.parent.mkdir(exist_ok=True)
+    model = f"{sys.executable} -B {TOP / 'tools' / 'model'}"
+    built.write_text(f'#!/bin/bash\n{model} "$@" | {filtered}\nexit ${{PIPESTATUS[0]}}{status}\n')
+    built.chmod(0o755)
+
+
+def mark(top: Path) -> tuple[int, str]:
+    """Marks the program of a copy as of its sources."""
+    return ended(top, "scripts/program", "mark", ended(top, "scripts/program", "sources")[1].strip())
+
+
+def marked_as_it_is(top: Path) -> None:
+    """Marks the program of a copy, whatever it answers."""
+    code = "import laboratory.program as p; p.MARK.write_text(f'sources {p.sum_of_sources()}\\nprogram {p.sum_of(p.BUILT)}\\n')"
+    subprocess.run([sys.executable, "-B", "-c", code], cwd=top / "tools", check=True)

@@ -1,0 +1,137 @@
+"""The scripts over the built program take it only where its mark holds, and tell where it does otherwise than it should."""
+
+import re
+import sys
+import unittest
+from pathlib import Path
+
+from . import copies
+
+sys.path[:0] = [str(copies.TOP / "vectors"), str(copies.TOP / "tools")]
+
+from maker.misreadings import MISREADINGS  # noqa: E402
+
+EXAMPLE = "examples/approach"
+KEPT_EXAMPLES = {"approach", "flat", "realistic", "refused-data", "refused-record"}  # for the stand-in is slow
+MADE = ["scripts/check-model", "--seed", "0", "--journeys", "10"]
+
+
+class OverACopy(unittest.TestCase):
+    def setUp(self):
+        copy = copies.a_copy()
+        self.top = copy.__enter__()
+        self.addCleanup(copy.__exit__, None, None, None)
+
+    def told(self, *words: str, status: int = 1) -> str:
+        """What a script tells that ends with a status."""
+        ended, told = copies.ended(self.top, *words)
+        self.assertEqual(ended, status, told)
+        return told
+
+
+class Marks(OverACopy):
+    def setUp(self):
+        super().setUp()
+        copies.stand_in(self.top)
+
+    def test_a_marked_program_is_taken(self):
+        self.assertEqual(copies.mark(self.top)[0], 0)
+        self.assertEqual(self.told("scripts/program", status=0).strip(), str(self.top / "crates/sdm/out/sdm"))
+
+    def test_without_a_mark_none_is_taken(self):
+        for words in (["scripts/program"], ["scripts/examples"], MADE, ["bench/run"]):
+            self.assertIn("has no mark", self.told(*words))
+
+    def test_another_program_is_not_taken(self):
+        copies.mark(self.top)
+        copies.stand_in(self.top, "cat -u")
+        self.assertIn("another program than the one that was marked", self.told("scripts/examples"))
+
+    def test_other_sources_are_seen(self):
+        copies.mark(self.top)
+        for file in ("crates/sdm/src/main.rt", "crates/sdm_rules/specs/Commands.antt", "crates.txt"):
+            with self.subTest(file):
+                whole = (self.top / file).read_bytes()
+                (self.top / file).write_bytes(whole + b"\n")
+                self.assertIn("built from other sources", self.told("scripts/examples"))
+                (self.top / file).write_bytes(whole)
+        (self.top / "crates/sdm/src/more.rt").write_text("")
+        self.assertIn("built from other sources", self.told(*MADE))
+
+    def test_sources_that_change_during_the_build_give_no_mark(self):
+        before = self.told("scripts/program", "sources", status=0).strip()
+        copies.alter(self.top, "crates/sdm/src/main.rt", r"\Z", "\n")
+        self.assertIn("The sources changed", self.told("scripts/program", "mark", before))
+
+    def test_a_program_that_answers_wrongly_gets_no_mark(self):
+        copies.stand_in(self.top, "sed 's/^25,T,I/25,T,N/'")
+        self.assertIn("doesn't write what crates/sdm/stdout has", copies.mark(self.top)[1])
+        copies.stand_in(self.top, status="1")
+        self.assertIn("doesn't write what crates/sdm/stdout has", copies.mark(self.top)[1])
+
+
+class Answers(OverACopy):
+    def setUp(self):
+        super().setUp()
+        copies.stand_in(self.top)
+        copies.marked_as_it_is(self.top)
+        copies.keep_examples(self.top, KEPT_EXAMPLES)
+
+    def test_a_program_that_does_as_the_model_passes(self):
+        self.assertIn("0 failed", self.told("scripts/examples", status=0))
+        self.assertIn("10 the same, 0 differ", self.told(*MADE, status=0))
+
+    def test_another_row_of_an_example_is_told(self):
+        copies.alter(self.top, f"{EXAMPLE}/rows", "^0,T,W", "0,T,X")
+        self.assertIn("approach: the rows differ", self.told("scripts/examples"))
+
+    def test_another_fault_line_or_status_of_an_example_is_told(self):
+        copies.alter(self.top, "examples/refused-data/fault", "$", ".")
+        copies.alter(self.top, "examples/refused-record/status", r"\d", "5")
+        told = self.told("scripts/examples")
+        self.assertIn("refused-data: the fault line differs", told)
+        self.assertIn("refused-record: the status is", told)
+
+    def test_an_example_without_its_files_is_told(self):
+        (self.top / EXAMPLE / "rows").unlink()
+        (self.top / "examples/realistic/rows").write_text("")
+        told = self.told("scripts/examples")
+        self.assertIn("approach: has no args, no input or no rows", told)
+        self.assertIn("realistic: has neither rows nor a fault", told)
+
+    def test_a_program_that_differs_from_the_model_is_told(self):
+        copies.stand_in(self.top, "sed 's/,C,/,T,/'")
+        copies.marked_as_it_is(self.top)
+        self.assertRegex(self.told("scripts/examples"), "the rows differ")
+        self.assertRegex(self.told(*MADE), r"row \d+ differs")
+
+    def test_a_model_that_differs_from_the_program_is_told(self):
+        module, text, misread = next(each for each in MISREADINGS if each[0] == "triggers")
+        copies.alter(self.top, f"tools/model/{module}.py", re.escape(text), misread.replace("\\", r"\\"))
+        self.assertRegex(self.told(*MADE), r"row \d+ differs")
+
+
+class Gate(OverACopy):
+    def test_a_check_that_is_gone_or_in_no_list_is_told(self):
+        (self.top / "scripts/check-more").write_text("exit 0\n")
+        self.assertIn("> scripts/check-more", self.told(".ci/run"))
+        (self.top / "scripts/check-more").unlink()
+        (self.top / "scripts/check-links").unlink()
+        self.assertIn("< scripts/check-links", self.told(".ci/run"))
+
+    def test_setup_tells_what_it_can_not_install(self):
+        tools = self.top / "tools-there"
+        tools.mkdir()
+        self.assertIn("rt, the toolchain's command", self.set_up(tools, {}))
+        there = dict.fromkeys(["rt", "gnuplot", "parallel"], "exit 0") | {"python3": "echo Python 3.9; exit 1"}
+        self.assertIn("Python from 3.11 on is needed", self.set_up(tools, there))
+
+    def set_up(self, folder: Path, programs: dict[str, str]) -> str:
+        """What scripts/setup tells where only some programs are there."""
+        for name, does in programs.items():
+            (folder / name).write_text(f"#!/bin/bash\n{does}\n")
+            (folder / name).chmod(0o755)
+        (folder / "bash").exists() or (folder / "bash").symlink_to("/bin/bash")
+        status, told = copies.ended(self.top, "scripts/setup", path=str(folder))
+        self.assertEqual(status, 1, told)
+        return told
