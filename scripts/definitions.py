@@ -1,5 +1,5 @@
 """Writes and checks the tables of docs/DEFINITIONS.md: each definition of the specs/ folders with its source, its meaning,
-the contract that cites it, and the case, test or must-fail edit that shows it.
+the contract that cites it, and the case, test or proof that shows it.
 
 `scripts/write-definitions` writes them. `scripts/check-definitions` fails where a definition has no source or no comment, where
 the document lacks its line or names one that is gone, where own definitions have no reason, and where the tables aren't, to the
@@ -57,16 +57,6 @@ def kind(source):
     return f"own ({rest})" if rest else "own"
 
 
-def reasons():
-    """file -> why its own definitions are own."""
-    found = {}
-    for line in REASONS.read_text().splitlines():
-        if line and not line.startswith("#"):
-            path, _, reason = line.partition(": ")
-            found[path] = reason
-    return found
-
-
 class Matrix:
     """The lines of the document."""
 
@@ -74,7 +64,7 @@ class Matrix:
         self.graph = Graph()
         self.cases, self.tests = Cases(self.graph), Tests(self.graph)
         self.reached = believed.reached_by_file(self.graph)
-        self.reasons = reasons()
+        self.reasons = specs.noted(REASONS)
 
     def ranked(self, key):
         """The contracts that cite a definition, the most direct first."""
@@ -118,34 +108,21 @@ class Matrix:
         shown = list(dict.fromkeys(contract.shown() for contract in found))
         return shown[0] + (f" and {len(shown) - 1} more" if len(shown) > 1 else ""), found
 
-    def nearest_above(self, key, find, levels):
-        """What `find` finds for the nearest definition that stands on this one; a claim counts where it stands on it at once."""
-        level, seen = [key], {key}
-        for depth in range(levels):
-            level = sorted({up for k in level for up in self.graph.above[k]} - seen)
-            seen.update(level)
-            for up in level:
-                found = None if depth and self.is_claim(up) else find(up)
-                if found:
-                    return f"{found} through `{up[1]}`"
+    def case_above(self, key):
+        """A case of a definition that names this one, where that is a value too."""
+        for up in sorted(self.graph.above[key]):
+            found = None if self.is_claim(up) else self.cases.of(up)
+            if found:
+                return f"{found} through `{up[1]}`"
         return None
 
     def shown_by(self, key, found):
-        """The cell that names what shows a definition: a case of it; a test or an edit of a function whose contract cites it; what
-        shows a definition that stands on it. Of a claim no far test counts: what shows it is the proof."""
-        if not found:
-            return self.cases.of(key) or self.nearest_above(key, self.cases.of, 1) or "none"
-        about, through = f"{key[1]} {self.graph.definitions[key].comment}", self.through(key)
-
-        def tested(up):
-            return self.tests.of_any(self.contract(up)[1], about, near_only=True)
-
-        ways = [lambda: self.cases.of(key), lambda: tested(key) if through == key else None]
-        ways += [lambda: self.nearest_above(key, self.cases.of, 1)]
-        if not self.is_claim(key) and not self.is_claim(through):
-            ways += [lambda: self.nearest_above(key, tested, 1), lambda: self.tests.of_any(found, about)]
-            ways += [lambda: self.nearest_above(key, self.cases.of, 9)]
-        return next((shown for shown in (way() for way in ways) if shown), "the proof of the contract")
+        """The cell that names what shows a definition: a case of it and a test of it; else a case of a value that names it; else the
+        proof of what the column of contracts names."""
+        shown = [each for each in (self.cases.of(key), self.tests.of(key)) if each] or [self.case_above(key)]
+        if shown[0] or not found:
+            return "; ".join(filter(None, shown)) or "none"
+        return "the proof of that contract" if found[0].is_function() else "the proofs over that type"
 
     def line(self, definition, source):
         cell, found = self.contract(definition.key())
@@ -212,6 +189,7 @@ def document_problems(matrix):
     found = [f"docs/DEFINITIONS.md: no line for {name} of {where}" for where, name in sorted(there - named)]
     found += [f"docs/DEFINITIONS.md: names {name} of {where}, which is gone" for where, name in sorted(named - there)]
     found += [f"scripts/own-reasons.txt: {where} is gone" for where in sorted(matrix.reasons) if not (ROOT / where).exists()]
+    found += matrix.tests.faults(matrix.graph)
     return found or PART.faults(matrix.tables())
 
 

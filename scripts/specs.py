@@ -70,6 +70,12 @@ def all_spec_files():
         yield from spec_files(crate)
 
 
+def noted(path):
+    """What a file notes, a line each: `name: text`; lines with # are comments."""
+    lines = [line for line in path.read_text().splitlines() if line and not line.startswith("#")]
+    return dict(line.split(": ", 1) for line in lines)
+
+
 def head_of(path):
     """The comment at the head of a file."""
     head = []

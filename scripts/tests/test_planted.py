@@ -30,6 +30,7 @@ PLANTED = [
     Planted("definitions", "docs/DEFINITIONS.md", r"^Own because this is the program's interface\.\n", "", "stale"),
     Planted("definitions", "docs/DEFINITIONS.md", r"^\| `is_released` .*\n", "", "no line for is_released"),
     Planted("definitions", "crates/sdm_rules/specs/Commands.antt", r"^-- the last status was .*\n", "", "is_alarm has no comment"),
+    Planted("definitions", "scripts/shown-by.txt", r" train_fault: sdm_train::", " train_fault: sdm_track::", "is no test of a function"),
     Planted("laboratory", "vectors/flat/curve/rows", r"\d$", "x", "changed: flat/curve/rows"),
     Planted("laboratory", "tools/why", "The program's row is the same", "The row is the same", "FAIL: test_the_program_s_row"),
     Planted("links", "docs/SAFETY.md", r"\(PROMISES\.md\)", "(PROMISE.md)", "PROMISE.md leads nowhere"),
