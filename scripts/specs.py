@@ -39,9 +39,9 @@ class Definition:
         return re.findall(r"^\s+([A-Za-z_]\w*)\s*:", self.text, re.M)
 
 
-def crates_with_libraries():
+def crates_with_libraries(top=ROOT):
     """The crates in the order of crates.txt, each with the libraries that it stands on."""
-    for line in (ROOT / "crates.txt").read_text().splitlines():
+    for line in (top / "crates.txt").read_text().splitlines():
         name, colon, below = line.partition("#")[0].partition(":")
         if colon:
             yield name.split()[0], below.split()
