@@ -15,7 +15,10 @@ CODES = {"": 0, "bad words": 1, "read fault": 2, "write fault": 3, "input too lo
 
 def text_of(path, absent):
     """The text of a file, or what counts where there is none."""
-    return path.read_bytes().decode(errors="replace") if path.exists() else absent
+    try:
+        return path.read_bytes().decode(errors="replace")
+    except FileNotFoundError:
+        return absent
 
 
 def code_of(fault):
