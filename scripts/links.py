@@ -66,7 +66,8 @@ def example_faults():
     """Where README's example isn't the folder's."""
     text = (ROOT / "README.md").read_text()
     example = ROOT / "examples" / "approach"
-    for name, lines in (("input", f"<<'END'\n{(example / 'input').read_text()}END\n"), ("rows", f"```\n{(example / 'rows').read_text()}```\n")):
+    shown = {"input": f"<<'END'\n{(example / 'input').read_text()}END\n", "rows": f"```\n{(example / 'rows').read_text()}```\n"}
+    for name, lines in shown.items():
         if lines not in text:
             yield f"README.md: its example has not the {name} of examples/approach"
 

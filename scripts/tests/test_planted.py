@@ -8,61 +8,75 @@ from typing import NamedTuple
 from . import copies
 
 
-class Planted(NamedTuple):
+class Fault(NamedTuple):
     """A text of a file, what is put in its place, and what the script must tell then."""
 
-    script: str
     file: str
     pattern: str
     new: str
     told: str
 
 
+STALE = "stale, run scripts/"
+DEFINITIONS, COMMANDS = "docs/DEFINITIONS.md", "crates/sdm_rules/specs/Commands.antt"
 PLANTED = [
-    Planted("believed", "docs/ASSUMPTIONS.md", r"^(\| `crates/\S+/specs/\S+` \| )\d+", r"\g<1>7", "stale, run scripts/believed"),
-    Planted("believed", "crates/sdm_rules/specs/Commands.antt", r"\Z", "-- one line more\n", "stale, run scripts/believed"),
-    Planted("clauses", "docs/SAFETY.md", r"^\| 3\.13\.10 .*\n", "", "stale, run scripts/clauses"),
-    Planted("clauses", "docs/DEFINITIONS.md", r"\| as 3\.13\.10 \|", "| as 3.13.11 |", "stale, run scripts/clauses"),
-    Planted("crates", "crates.txt", r"^sdm_limits: ", "sdm_limits: itoa ", "stale, run scripts/crates"),
-    Planted("crates", "docs/ARCHITECTURE.md", r"^(\| `sdm_limits` \|)[^|]*\|", r"\1  |", "says nothing of what sdm_limits does"),
-    Planted("crates", "docs/ARCHITECTURE.md", r"^<!-- The table ends here. -->\n", "", "marks"),
-    Planted("definitions", "docs/DEFINITIONS.md", r"^(\| `\w+` .*\n)(\| `\w+` .*\n)", r"\2\1", "stale"),
-    Planted("definitions", "docs/DEFINITIONS.md", r"^Own because this is the program's interface\.\n", "", "stale"),
-    Planted("definitions", "docs/DEFINITIONS.md", r"^\| `is_released` .*\n", "", "no line for is_released"),
-    Planted("definitions", "crates/sdm_rules/specs/Commands.antt", r"^-- the last status was .*\n", "", "is_alarm has no comment"),
-    Planted("definitions", "scripts/shown-by.txt", r" train_fault: sdm_train::", " train_fault: sdm_track::", "is no test of a function"),
-    Planted("laboratory", "vectors/flat/curve/rows", r"\d$", "x", "changed: flat/curve/rows"),
-    Planted("laboratory", "tools/why", "The program's row is the same", "The row is the same", "FAIL: test_the_program_s_row"),
-    Planted("links", "docs/SAFETY.md", r"\(PROMISES\.md\)", "(PROMISE.md)", "PROMISE.md leads nowhere"),
-    Planted("links", "docs/ASSUMPTIONS.md", "^## The files to believe", "## The believed files", "has no such heading"),
-    Planted("links", "README.md", "^5,T,X,1,1,1", "5,T,X,1,1,0", "has not the rows of examples/approach"),
-    Planted("links", "examples/approach/input", "^length = 10000$", "length = 10001", "has not the input of examples/approach"),
-    Planted("pictures", "examples/approach/rows", "^10,T,X,0,0,1,1,160,887500", "10,T,X,0,0,1,1,160,887000", "approach: the picture is stale"),
-    Planted("pictures", "examples/flat/README.md", r"picture\.svg", "other.svg", "flat: its page doesn't show"),
-    Planted("plot", "examples/approach/rows", "^10,T,X,0,0,1,1,160,887500", "10,T,X,0,0,1,1,160,880000", "marks lie in their places"),
-    Planted("plot", "tools/drawing/places.py", r"speed \(km/h\)", "speed (m/s)", "has the text 'speed (km/h)'"),
+    # the check, and the faults that are planted at once
+    ("believed", [Fault("docs/ASSUMPTIONS.md", r"^(\| `crates/\S+/specs/\S+` \| )\d+", r"\g<1>7", STALE)]),
+    ("believed", [Fault(COMMANDS, r"\Z", "-- one line more\n", STALE)]),
+    ("clauses", [Fault("docs/SAFETY.md", r"^\| 3\.13\.10 .*\n", "", STALE)]),
+    ("clauses", [Fault(DEFINITIONS, r"\| as 3\.13\.10 \|", "| as 3.13.11 |", STALE)]),
+    ("crates", [Fault("crates.txt", "^sdm_limits: ", "sdm_limits: itoa ", STALE)]),
+    ("crates", [Fault("docs/ARCHITECTURE.md", r"^(\| `sdm_limits` \|)[^|]*\|", r"\1  |", "says nothing of what sdm_limits does")]),
+    ("crates", [Fault("docs/ARCHITECTURE.md", r"^<!-- The table ends here. -->\n", "", "the marks of what")]),
+    ("definitions", [Fault(DEFINITIONS, r"^(\| `\w+` .*\n)(\| `\w+` .*\n)", r"\2\1", STALE)]),
+    ("definitions", [Fault(DEFINITIONS, r"^Own because this is the program's interface\.\n", "", STALE)]),
+    ("definitions", [
+        Fault(DEFINITIONS, r"^\| `is_released` .*\n", "", "no line for is_released"),
+        Fault(COMMANDS, r"^-- the last status was .*\n", "", "is_alarm has no comment"),
+        Fault("scripts/own-reasons.txt", r"^\S+/Commands\.antt: .*\n", "", "no reason for what is own in"),
+        Fault("scripts/shown-by.txt", " train_fault: sdm_train::", " train_fault: sdm_track::", "is no test of a function"),
+    ]),
+    ("laboratory", [Fault("vectors/flat/curve/rows", r"\d$", "x", "changed: flat/curve/rows")]),
+    ("laboratory", [Fault("tools/why", "The program's row is the same", "It is the same", "FAIL: test_the_program_s_row")]),
+    ("links", [
+        Fault("docs/SAFETY.md", r"\(PROMISES\.md\)", "(PROMISE.md)", "PROMISE.md leads nowhere"),
+        Fault("docs/ASSUMPTIONS.md", "^## The files to believe", "## The believed files", "has no such heading"),
+        Fault("README.md", "^5,T,X,1,1,1", "5,T,X,1,1,0", "has not the rows of examples/approach"),
+        Fault("examples/approach/input", "^length = 10000$", "length = 10001", "has not the input of examples/approach"),
+    ]),
+    ("pictures", [
+        Fault("examples/approach/rows", "^10,T,X,0,0,1,1,160,887500", "10,T,X,0,0,1,1,160,887000", "approach: the picture is stale"),
+        Fault("examples/flat/README.md", r"picture\.svg", "other.svg", "flat: its page doesn't show"),
+    ]),
+    ("plot", [
+        Fault("examples/approach/rows", "^10,T,X,0,0,1,1,160,887500", "10,T,X,0,0,1,1,160,880000", "failed: its marks lie in their places"),
+        Fault("tools/drawing/places.py", r"speed \(km/h\)", "speed (m/s)", "failed: the picture has the text 'speed (km/h)'"),
+    ]),
 ]
 
 
-def tried(planted: Planted) -> tuple[int, str]:
-    """How a check ends over a copy with a fault."""
-    with copies.a_copy(planted.script == "laboratory") as top:
-        if planted.script == "pictures":
+def tried(planted: tuple[str, list[Fault]]) -> tuple[int, str]:
+    """How a check ends over a copy with faults."""
+    script, faults = planted
+    with copies.a_copy(with_vectors=script == "laboratory") as top:
+        if script == "pictures":
             copies.keep_examples(top, {"approach", "flat"})
-        copies.alter(top, planted.file, planted.pattern, planted.new)
-        return copies.ended(top, f"scripts/check-{planted.script}")
+        for fault in faults:
+            copies.alter(top, fault.file, fault.pattern, fault.new)
+        return copies.ended(top, f"scripts/check-{script}")
 
 
 class Checks(unittest.TestCase):
     def test_each_fault_is_told(self):
         with ThreadPoolExecutor(len(os.sched_getaffinity(0))) as threads:
-            for planted, (status, told) in zip(PLANTED, threads.map(tried, PLANTED)):
-                with self.subTest(planted.script, file=planted.file, new=planted.new):
-                    self.assertEqual(status, 1, told)
-                    self.assertIn(planted.told, told)
+            for (script, faults), (status, told) in zip(PLANTED, threads.map(tried, PLANTED)):
+                for fault in faults:
+                    with self.subTest(script, file=fault.file, new=fault.new):
+                        self.assertEqual(status, 1, told)
+                        self.assertIn(fault.told, told)
 
     def test_each_check_has_two_faults(self):
         elsewhere = {"model", "refused", "scripts"}  # test_program.py; the prover, so by hand; these tests
         names = {path.name.removeprefix("check-") for path in (copies.TOP / "scripts").glob("check-*")} - elsewhere
-        few = {name for name in names if sum(planted.script == name for planted in PLANTED) < 2}
+        few = {name for name in names if sum(len(faults) for script, faults in PLANTED if script == name) < 2}
         self.assertEqual(few, set())
