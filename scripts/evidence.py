@@ -10,7 +10,7 @@ from specs import CRATES
 LEMMA = re.compile(r"^(?:unfoldable |abbrev )?(?:pub )?([a-z_]\w*) :", re.M)
 CLAIM = re.compile(r"≡|\b(?:Is|Are|Has|Keeps|Stops|Slows|Meets)[A-Z]")
 TEST = re.compile(r"(#\[test\]\s*(?:#\[[^\n]*\]\s*)*)?\bfn\s+(\w+)")
-CALL = re.compile(r"(?<!fn )\b(?:(\w+)::)?(\w+)\(")
+CALL = re.compile(r"(?<![.\w])(?<!fn )(?:(\w+)::)?(\w+)\(")
 SHOWN_BY = specs.ROOT / "scripts" / "shown-by.txt"
 
 
