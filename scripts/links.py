@@ -1,5 +1,6 @@
-"""Checks the pages of the repository: every relative link and picture leads to a file or folder in it, every anchor to a heading, and
-what README shows to paste is the input of examples/approach, with its rows. Links to other hosts are not followed.
+"""Checks the pages of the repository: every relative link and picture leads to a file or folder in it, every anchor to a heading;
+what README shows to paste is the input of examples/approach, with its rows; and the code that docs/INTEGRATION.md shows stands in
+crates/sdm_onboard. Links to other hosts are not followed.
 
     scripts/check-links
 """
@@ -72,6 +73,18 @@ def example_faults():
             yield f"README.md: its example has not the {name} of examples/approach"
 
 
+def code_faults():
+    """Where code of docs/INTEGRATION.md isn't that of the crate that it shows."""
+    text = (ROOT / "docs" / "INTEGRATION.md").read_text()
+    sources = [path.read_text() for path in (ROOT / "crates" / "sdm_onboard" / "src").glob("*.rt")]
+    blocks = re.findall(r"^```rust\n(.*?)^```$", text, re.M | re.S)
+    for block in blocks:
+        if not any(block in source for source in sources):
+            yield f"docs/INTEGRATION.md: crates/sdm_onboard has no such code: {block.splitlines()[0].strip()}"
+    if not blocks:
+        yield "docs/INTEGRATION.md: it shows no code"
+
+
 def link_faults(links):
     """What is wrong with links, each a page, a line and where it leads."""
     for page, number, target in links:
@@ -82,7 +95,7 @@ def link_faults(links):
 
 def main():
     links = [(page, number, target) for page in pages() for number, target in links_of(page)]
-    return told("links", len(links), [*example_faults(), *link_faults(links)])
+    return told("links", len(links), [*example_faults(), *code_faults(), *link_faults(links)])
 
 
 if __name__ == "__main__":

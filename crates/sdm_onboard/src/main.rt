@@ -1,0 +1,24 @@
+//! An onboard computer's loop in small, as the model of how the supervisor is called: data are made, a supervisor is opened over them, and
+//! each message of the odometer and the radio is handed to it. What comes of an answer stands in `onboard` and `orders`; every refusal
+//! has one. The messages are a fixed list here, where a computer has its buses, and the interfaces of the train are lines of text.
+#![tactic(auto)]
+
+mod messages;
+mod onboard;
+mod opening;
+mod orders;
+
+use messages::journey;
+use std::io;
+
+fn main(rt: HostRuntime) -> io::Result<()> {
+    let mut onboard = match opening::open(rt.alloc()) {
+        Ok(onboard) => onboard,
+        Err(fault) => return println!(rt; "no supervisor, so brake: {fault}"),
+    };
+    for message in journey() {
+        let news = onboard.take(&message);
+        println!(rt; "{message}: {news}; {}", onboard.orders())?;
+    }
+    Ok(())
+}

@@ -1,0 +1,210 @@
+//! The computer: a supervisor, what was refused and so isn't supervised, and what stands at the interfaces. A call that is refused
+//! changes nothing in the supervisor; what it asked is missing there, so the brake is commanded until it is there.
+
+ghost use Rattle.std.specs.Prelude.{◌≡◌, ◌⊎◌, IsTrue, OnOk, IfOk, false};
+ghost use Rattle.sdm_rules.specs.declared.commands.State.TheVariants.{R};
+ghost use Rattle.sdm_rules.specs.Supervision.{after_authority, after_reading, after_restriction, after_revocation};
+
+use crate::messages::{Message, Odometry};
+use crate::orders::Orders;
+use sdm_num::Reading;
+use sdm_rules::{
+    Authority, AuthorityFault, CycleFault, RestrictFault, Restriction, RevokeFault, Row,
+};
+use sdm_supervisor::Supervisor;
+use std::fmt;
+use thiserror::Error;
+
+/// Why a reading isn't judged.
+#[derive(Clone, Copy, Debug, Error)]
+pub enum ReadingFault {
+    #[error("out of range")]
+    Range,
+    #[error("{0}")]
+    Time(CycleFault),
+}
+
+/// Why a restriction isn't in force.
+#[derive(Clone, Copy, Debug, Error)]
+pub enum RestrictionFault {
+    /// Its speed isn't from 1 to 500 km/h, which the supervisor asks of its caller.
+    #[error("speed {0}")]
+    Speed(u16),
+    #[error("{0}")]
+    Refused(RestrictFault),
+}
+
+/// What came of a message.
+#[derive(Clone, Copy, Debug)]
+pub enum News {
+    Row(Row),
+    NotJudged(ReadingFault),
+    Overdue,
+    Taken,
+    AuthorityRefused(AuthorityFault),
+    RestrictionRefused(RestrictionFault),
+    RevocationRefused(RevokeFault),
+}
+
+/// The computer.
+#[derive(Drop)]
+pub struct Onboard {
+    supervisor: Supervisor,
+    /// The last authority was refused.
+    is_authority_missing: bool,
+    /// A restriction was refused. This small computer keeps none to be set again, so it takes a new supervisor to run on.
+    is_restriction_missing: bool,
+    orders: Orders,
+}
+
+impl Onboard {
+    /// The computer over a supervisor that was just opened. Before the first reading no row promises anything, so it brakes.
+    pub fn over(supervisor: Supervisor) -> Onboard
+        ensures { result.supervisor ≡ supervisor }
+    {
+        Onboard {
+            supervisor,
+            is_authority_missing: false,
+            is_restriction_missing: false,
+            orders: Orders::BRAKE,
+        }
+    }
+
+    /// What stands at the interfaces.
+    pub fn orders(&self) -> Orders
+        ensures { result ≡ self.now.orders }
+    {
+        self.orders
+    }
+
+    /// Takes a message.
+    pub fn take(&mut self, message: &Message) -> News {
+        match message {
+            Message::Odometry(odometry) => self.take_odometry(odometry),
+            Message::Overdue => self.overdue(),
+            Message::Authority(authority) => self.take_authority(*authority),
+            Message::Restriction(restriction) => self.take_restriction(*restriction),
+            Message::Revocation(id) => self.revoke(*id),
+        }
+    }
+
+    // A reading that can't be judged leaves the train without supervision, so it brakes.
+    fn take_odometry(&mut self, odometry: &Odometry) -> News {
+        let judged = match odometry.reading() {
+            Some(reading) => self.judge(&reading).map_err(ReadingFault::Time),
+            None => Err(ReadingFault::Range),
+        };
+        match judged {
+            Ok(row) => News::Row(row),
+            Err(fault) => {
+                self.orders = Orders::BRAKE;
+                News::NotJudged(fault)
+            }
+        }
+    }
+
+    fn judge(&mut self, reading: &Reading) -> Result<Row, CycleFault>
+        ensures judged { OnOk result (self.new.supervisor ≡ after_reading self.old.supervisor reading.now) }
+        ensures handed_on { IfOk result (λ row. IsTrue row.held.eb → IsTrue self.new.orders.emergency) }
+        ensures uncovered { IfOk result (λ row. row.covered ≡ false → IsTrue self.new.orders.emergency ⊎ row.state ≡ R) }
+        ensures unsupervised { OnOk result (IsTrue self.old.is_authority_missing ⊎ IsTrue self.old.is_restriction_missing → IsTrue self.new.orders.emergency) }
+    {
+        let row = self.supervisor.cycle(reading)?;
+        let is_unsupervised = self.is_authority_missing || self.is_restriction_missing;
+        self.orders = Orders::of(&row, is_unsupervised);
+        Ok(row)
+    }
+
+    // The commands of the last row are too old to be relied on.
+    fn overdue(&mut self) -> News
+        ensures { IsTrue self.new.orders.emergency }
+    {
+        self.orders = Orders::BRAKE;
+        News::Overdue
+    }
+
+    // The old authority stays in force where the new one is refused, and may be the longer or the faster one.
+    fn take_authority(&mut self, authority: Authority) -> News
+        ensures taken { result ≡ News.Taken → self.new.supervisor ≡ after_authority self.old.supervisor authority }
+        ensures refused { result ≡ News.Taken ⊎ (IsTrue self.new.is_authority_missing × IsTrue self.new.orders.emergency) }
+    {
+        match self.supervisor.authority(authority) {
+            Ok(()) => {
+                self.is_authority_missing = false;
+                News::Taken
+            }
+            Err(fault) => {
+                self.is_authority_missing = true;
+                self.orders = Orders::BRAKE;
+                News::AuthorityRefused(fault)
+            }
+        }
+    }
+
+    fn take_restriction(&mut self, restriction: Restriction) -> News
+        ensures taken { result ≡ News.Taken → self.new.supervisor ≡ after_restriction self.old.supervisor restriction }
+        ensures refused { result ≡ News.Taken ⊎ (IsTrue self.new.is_restriction_missing × IsTrue self.new.orders.emergency) }
+    {
+        match self.restrict(restriction) {
+            Ok(()) => News::Taken,
+            Err(fault) => {
+                self.is_restriction_missing = true;
+                self.orders = Orders::BRAKE;
+                News::RestrictionRefused(fault)
+            }
+        }
+    }
+
+    // The supervisor asks its caller for a speed from 1 to 500 km/h.
+    fn restrict(&mut self, restriction: Restriction) -> Result<(), RestrictionFault>
+        ensures { OnOk result (self.new.supervisor ≡ after_restriction self.old.supervisor restriction) }
+    {
+        if restriction.speed < 1 || restriction.speed > 500 {
+            return Err(RestrictionFault::Speed(restriction.speed));
+        }
+        self.supervisor
+            .restrict(restriction)
+            .map_err(RestrictionFault::Refused)
+    }
+
+    // Where it is refused, the restriction stays in force, which brakes sooner and never later.
+    fn revoke(&mut self, id: u16) -> News
+        ensures taken { result ≡ News.Taken → self.new.supervisor ≡ after_revocation self.old.supervisor id }
+    {
+        match self.supervisor.revoke(id) {
+            Ok(()) => News::Taken,
+            Err(fault) => News::RevocationRefused(fault),
+        }
+    }
+}
+
+impl fmt::Display for News {
+    fn fmt<W: fmt::Write>(&self, f: &mut fmt::Formatter<W>) -> fmt::Result {
+        match self {
+            News::Row(row) => write_row(f, row),
+            News::NotJudged(fault) => write!(f, "not judged, {fault}"),
+            News::Overdue => write!(f, "overdue"),
+            News::Taken => write!(f, "taken"),
+            News::AuthorityRefused(fault) => write!(f, "refused, {fault}"),
+            News::RestrictionRefused(fault) => write!(f, "refused, {fault}"),
+            News::RevocationRefused(fault) => write!(f, "refused, {fault}"),
+        }
+    }
+}
+
+fn write_row<W: fmt::Write>(f: &mut fmt::Formatter<W>, row: &Row) -> fmt::Result {
+    write!(f, "{:?} {:?}, ", row.state, row.held.status)?;
+    write!(
+        f,
+        "{}",
+        if row.covered {
+            "covered"
+        } else {
+            "not covered"
+        }
+    )?;
+    match row.ebi {
+        Some(mm) => write!(f, ", EBI {mm}"),
+        None => Ok(()),
+    }
+}
