@@ -20,10 +20,10 @@ IsGuidanceAsked d v (Some asked) = (d.national.guidance ≡ true) × (asked.spee
 -- band on the safe slopes and D_bec in grains, of every target that is no faster than the train; and V_est on the normal slopes, where
 -- guidance is permitted (SUBSET-026-3 3.13.8.5, 3.13.9.3.2; own)
 pub record IsAsked (d : LineData) (a : AskedReading) : Type 0 where
-  pub reading : IsReading a.reading
-  pub build_up : a.build_up ≡ build_up_from d a.reading
-  pub v_bec : (t : Target) → target_speed t ≤ a.reading.speed → a.v_bec.speed ≡ v_bec_for d a.reading t
+  pub reading : IsReading a.reading.now
+  pub build_up : a.build_up ≡ build_up_from d a.reading.now
+  pub v_bec : (t : Target) → target_speed t ≤ a.reading.now.speed → a.v_bec.speed ≡ v_bec_for d a.reading.now t
   pub v_bec_asked : IsAskedOf (slopes_of Safe d) a.v_bec
-  pub d_bec : (t : Target) → target_speed t ≤ a.reading.speed → a.d_bec ≡ d_bec_for d a.reading t
+  pub d_bec : (t : Target) → target_speed t ≤ a.reading.now.speed → a.d_bec ≡ d_bec_for d a.reading.now t
   pub small : a.d_bec < 10 ^ 16
-  pub guided : IsGuidanceAsked d a.reading.speed a.guided_v_est
+  pub guided : IsGuidanceAsked d a.reading.now.speed a.guided_v_est

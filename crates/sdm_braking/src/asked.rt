@@ -8,7 +8,7 @@ ghost use Rattle.sdm_rules.specs.Limits.{v_bec_for};
 ghost use Rattle.sdm_rules.specs.Supervision.{is_met_by_speed};
 ghost use Rattle.sdm_rules.specs.Targets.{foot_speed_of};
 ghost use Rattle.sdm_targets.specs.Lists.{IsTarget};
-ghost use Rattle.sdm_braking.specs.Asked.{IsAsked, IsGuidanceAsked};
+ghost use Rattle.sdm_braking.specs.Asked.{IsAsked};
 ghost use Rattle.sdm_braking.specs.KeptCurves.{AreSpeedsOf};
 
 use crate::kept_targets::KeptTarget;
@@ -20,8 +20,8 @@ use sdm_targets::TargetKind;
 
 /// A reading with what the limits of targets ask of it. (SUBSET-026-3 3.13.9.3; own)
 #[derive(Debug, Drop)]
-pub struct AskedReading {
-    pub reading: Reading,
+pub struct AskedReading<'a> {
+    pub reading: &'a Reading,
     /// What the train may do until its emergency brake works, whichever the target.
     pub build_up: BuildUp,
     /// V_bec on the map of A_safe, for every target that is no faster than the train.
@@ -33,21 +33,10 @@ pub struct AskedReading {
 }
 
 impl Line {
-    /// What guidance curves are asked for at an estimated speed, where they are permitted. (SUBSET-026-3 3.13.8.5)
-    fn asked_guidance(&self, v: Speed) -> Option<AskedSpeed>
-        ensures { IsGuidanceAsked self.now v result }
-    {
-        if self.has_guidance() {
-            Some(self.normal().asked(v))
-        } else {
-            None
-        }
-    }
-
     /// A reading with what limits on this line ask of it.
-    pub fn asked(&self, reading: &Reading) -> AskedReading
+    pub fn asked<'a>(&self, reading: &'a Reading) -> AskedReading<'a>
         requires { IsReading reading.now }
-        ensures reading { result.reading ≡ reading.now }
+        ensures reading { result.reading.now ≡ reading.now }
         ensures asked { IsAsked self.now result }
     {
         let v_est = reading.speed_mm_s();
@@ -55,24 +44,28 @@ impl Line {
         let build_up = BuildUp::of(self.times(), v_est, v_delta0, reading.accel());
         // the slowest of the targets stands for all that are no faster than the train
         let reaction = build_up.reaction(Speed::new(0));
-        AskedReading {
-            reading: *reading,
+        let mut asked = AskedReading {
+            reading,
             build_up,
             v_bec: self.safe().asked(reaction.v_bec),
             d_bec: reaction.d_bec,
-            guided_v_est: self.asked_guidance(v_est),
+            guided_v_est: None,
+        };
+        if self.has_guidance() {
+            asked.guided_v_est = Some(self.normal().asked(v_est));
         }
+        asked
     }
 }
 
-impl AskedReading {
+impl AskedReading<'_> {
     /// Whether the train needs no way to brake for a target: it is one of speed, and V_bec is at most its foot speed. (own)
     pub fn is_met_by_speed(&self, kept: &KeptTarget) -> bool
         requires target { IsTarget kept.now.target }
         requires speeds { AreSpeedsOf kept.now.target kept.now.speeds }
         ensures { (d : LineData) → IsAsked d self.now →
             result ≡ is_met_by_speed kept.now.target.kind
-            (v_bec_for d self.now.reading kept.now.target) (foot_speed_of kept.now.target) }
+            (v_bec_for d self.now.reading.now kept.now.target) (foot_speed_of kept.now.target) }
     {
         match kept.target.kind {
             TargetKind::Mrsp | TargetKind::Loa => {

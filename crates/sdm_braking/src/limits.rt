@@ -25,7 +25,7 @@ impl Line {
     fn guide(&self, asked: &AskedReading, kept: &KeptTarget) -> Option<Early>
         requires asked { IsAsked self.now asked.now }
         requires kept { IsKeptTarget self.now kept.now }
-        ensures place { place_where result ≡ guide_at self.now asked.now.reading kept.now.target }
+        ensures place { place_where result ≡ guide_at self.now asked.now.reading.now kept.now.target }
         ensures range { IsGuide result }
     {
         match (&kept.guide, &asked.guided_v_est) {
@@ -37,12 +37,12 @@ impl Line {
     /// The limits on a target's EBD. (SUBSET-026-3 3.13.8.3, 3.13.9.3)
     fn ebd_limits(&self, asked: &AskedReading, kept: &KeptTarget, guide: Option<Early>) -> Limits
         requires asked { IsAsked self.now asked.now }
-        requires no_faster { target_speed kept.now.target ≤ asked.now.reading.speed }
+        requires no_faster { target_speed kept.now.target ≤ asked.now.reading.now.speed }
         requires ebd { IsCurveOn (slopes_of Safe self.now)
             kept.now.target.place (foot_speed_of kept.now.target) kept.now.brake }
         requires guide { IsGuide guide }
         ensures { places_of result ≡
-            ebd_limits_of computed self.now asked.now.reading kept.now.target (place_where guide) }
+            ebd_limits_of computed self.now asked.now.reading.now kept.now.target (place_where guide) }
     {
         let place = kept.brake.place_asked(self.safe(), &asked.v_bec);
         let v = asked.reading.speed_mm_s();
@@ -55,7 +55,7 @@ impl Line {
         requires sbd { IsCurveOn (slopes_of Expected self.now) kept.now.target.place 0 kept.now.brake }
         requires guide { IsGuide guide }
         ensures { places_of result ≡
-            sbd_limits_of computed self.now asked.now.reading kept.now.target (place_where guide) }
+            sbd_limits_of computed self.now asked.now.reading.now kept.now.target (place_where guide) }
     {
         let v = asked.reading.speed_mm_s();
         sbd_limits(self.expected(), &kept.brake, guide, self.times(), v)
@@ -66,8 +66,8 @@ impl Line {
     pub fn limits(&self, asked: &AskedReading, kept: &KeptTarget) -> Limits
         requires asked { IsAsked self.now asked.now }
         requires kept { IsKeptTarget self.now kept.now }
-        requires no_faster { target_speed kept.now.target ≤ asked.now.reading.speed }
-        ensures { places_of result ≡ limits_of computed self.now asked.now.reading kept.now.target }
+        requires no_faster { target_speed kept.now.target ≤ asked.now.reading.now.speed }
+        ensures { places_of result ≡ limits_of computed self.now asked.now.reading.now kept.now.target }
     {
         let guide = self.guide(asked, kept);
         match kept.target.kind {
@@ -85,7 +85,7 @@ impl Line {
         requires ebd { IsCurveOn (slopes_of Safe self.now)
             kept.now.target.place (foot_speed_of kept.now.target) kept.now.brake }
         ensures { (guide : Option Fraction) → Some (place_of result) ≡
-            (ebd_limits_of computed self.now asked.now.reading kept.now.target guide).ebi }
+            (ebd_limits_of computed self.now asked.now.reading.now kept.now.target guide).ebi }
     {
         let reaction = asked.build_up.reaction(kept.speeds.permitted);
         kept.brake
@@ -98,7 +98,7 @@ impl Line {
     pub fn ebi(&self, asked: &AskedReading, kept: &KeptTarget) -> Option<Early>
         requires asked { IsAsked self.now asked.now }
         requires kept { IsKeptTarget self.now kept.now }
-        ensures { place_where result ≡ (limits_of computed self.now asked.now.reading kept.now.target).ebi }
+        ensures { place_where result ≡ (limits_of computed self.now asked.now.reading.now kept.now.target).ebi }
     {
         match kept.target.kind {
             TargetKind::Mrsp | TargetKind::Loa | TargetKind::Svl => {

@@ -1,11 +1,10 @@
 -- What is left unsaid. A target above the train's speed only says whether it is covered: no margin makes its speed lower, so it is not passed,
 -- and none of its limits counts. A target whose indication limit is not passed only says where its limits lie.
 use Rattle.std.proofs.Common.{◌≡◌, ℕ, ℤ, Bool, true, false, not, ◌||◌, ◌&&◌, nat_lt, ◌+◌, ◌≤◌, ◌<◌, Option, Some, None, refl, arith}
-use Rattle.std.specs.Prelude.{option_map}
 use Rattle.std.specs.Option.{option_map_or}
 use Rattle.std.proofs.lemmas.Bool.{le-leb, le-ltb, lt-leb}
 use Rattle.std.proofs.Math.Bool.{and-false, and-true, or-false}
-use Rattle.sdm_num.specs.Fractions.{Fraction, floor}
+use Rattle.sdm_num.specs.Fractions.{Fraction}
 use Rattle.sdm_num.specs.Units.{notches}
 use Rattle.sdm_num.specs.Readings.{OdometerReading}
 use Rattle.sdm_rules.specs.declared.targets.Target.{Target}
@@ -17,8 +16,9 @@ use Rattle.sdm_rules.specs.Margins.{ebi_margin, sbi_margin, warning_margin}
 use Rattle.sdm_rules.specs.Supervision.{is_covered_for, is_met_by_speed}
 use Rattle.sdm_rules.specs.Targets.{at_speed_target, foot_speed_of, target_speed, with_margin}
 use Rattle.sdm_rules.specs.Triggers.{is_past, no_margin}
+use Rattle.sdm_supervisor.specs.declared.verdicts.Nearest.{Nearest}
 use Rattle.sdm_supervisor.specs.declared.verdicts.Verdict.{Verdict}
-use Rattle.sdm_supervisor.specs.Verdicts.{both, counted, front_of, nearer, nearer_limits, nearest_at, passes_at, passes_ebi_at, verdict_at}
+use Rattle.sdm_supervisor.specs.Verdicts.{both, counted, front_of, nearer_where, nearest_at, passes_at, passes_ebi_at, verdict_at}
 use Rattle.sdm_supervisor.proofs.LimitOrder.{IsPastNone, past_none}
 
 -- no margin makes a target's speed lower
@@ -39,16 +39,16 @@ ebi_not_passed : (r : OdometerReading) (t : Target) (ebi : Option Fraction) → 
 ebi_not_passed r t None slower = refl
 ebi_not_passed r t (Some ebi) slower = not_passed r ebi_margin t ebi slower
 
--- above the train's speed no limit of a target counts
-not_counted : (r : OdometerReading) (t : Target) (limit : Option Fraction) → r.speed < target_speed t → counted r t limit ≡ None
-not_counted r t limit slower = rw (lt-leb (target_speed t) r.speed slower)
+-- above the train's speed a target's limits don't count
+not_counted : (r : OdometerReading) (t : Target) (l : SupervisionLimits) → r.speed < target_speed t → counted r t l ≡ None
+not_counted r t l slower = rw (lt-leb (target_speed t) r.speed slower)
 
 -- ---- what was said so far
 
 or_unless : (a b : Bool) → b ≡ false → (a || b) ≡ a
 or_unless a b not = rw not (or-false a)
 
-nearer_unless : (a b : Option ℤ) → b ≡ None → nearer a b ≡ a
+nearer_unless : (a b : Option Nearest) → b ≡ None → nearer_where a b ≡ a
 nearer_unless None b none = none
 nearer_unless (Some x) b none = rw none refl
 
@@ -63,13 +63,7 @@ says_if_covered d r l t said slower = λ k. record {
   emer = or_unless said.emer _ (ebi_not_passed r t l.ebi slower) k;
   indicated = or_unless said.indicated _ (not_passed r no_margin t l.indication slower) k;
   covered = said.covered && is_covered_for d r t;
-  nearest = record {
-    ebi = nearer_unless said.nearest.ebi _ (not_counted r t l.ebi slower) k;
-    sbi = nearer_unless said.nearest.sbi _ (not_counted r t (Some l.sbi) slower) k;
-    warning = nearer_unless said.nearest.warning _ (not_counted r t (Some l.warning) slower) k;
-    permitted = nearer_unless said.nearest.permitted _ (not_counted r t (Some l.permitted) slower) k;
-    indication = nearer_unless said.nearest.indication _ (not_counted r t (Some l.indication) slower) k;
-  };
+  nearest = nearer_unless said.nearest _ (not_counted r t l slower) k;
 }
 
 -- ---- up to the indication limit
@@ -94,12 +88,18 @@ and_where : (a b : Bool) → b ≡ true → (a && b) ≡ a
 and_where a b is = rw is (and-true a)
 
 -- at or above its speed, a target's limits count
-all_counted : (r : OdometerReading) (t : Target) (limit : Option Fraction) → target_speed t ≤ r.speed → counted r t limit ≡ option_map floor limit
-all_counted r t limit reached = rw (le-leb (target_speed t) r.speed reached) refl
+all_counted : (r : OdometerReading) (t : Target) (l : SupervisionLimits) → target_speed t ≤ r.speed → counted r t l ≡ Some (nearest_at l)
+all_counted r t l reached = rw (le-leb (target_speed t) r.speed reached) refl
+
+-- a target that is not above the train's speed says where its limits lie
+pub says_all : (d : LineData) (r : OdometerReading) (l : SupervisionLimits) (t : Target) (said : Verdict) → target_speed t ≤ r.speed →
+    both said (verdict_at d r l t) ≡ record (both said (verdict_at d r l t)) { nearest = nearer_where said.nearest (Some (nearest_at l)) }
+unfolding verdict_at
+says_all d r l t said reached = λ k. record (both said (verdict_at d r l t)) { nearest = nearer_where said.nearest (all_counted r t l reached k) }
 
 -- up to its indication limit, a target that is not above the train's speed says only where its limits lie
 pub says_where : (d : LineData) (r : OdometerReading) (t : Target) (said : Verdict) → target_speed t ≤ r.speed → is_past 0 (front_of r t.kind) (limits_of computed d r t).indication ≡ false →
-    both said (verdict_at d r (limits_of computed d r t) t) ≡ record said { nearest = nearer_limits said.nearest (nearest_at (limits_of computed d r t)) }
+    both said (verdict_at d r (limits_of computed d r t) t) ≡ record said { nearest = nearer_where said.nearest (Some (nearest_at (limits_of computed d r t))) }
 unfolding verdict_at limits_of
 says_where d r t said reached ahead =
     let l = limits_of computed d r t in
@@ -111,11 +111,5 @@ says_where d r t said reached ahead =
       emer = or_unless said.emer _ (ebi_not_passed_yet r t l.ebi none.ebi) k;
       indicated = or_unless said.indicated _ (not_passed_yet r no_margin t l.indication ahead) k;
       covered = and_where said.covered _ (covered_yet d r t t.kind (is_met_by_speed t.kind (v_bec_for d r t) (foot_speed_of t)) none) k;
-      nearest = record {
-        ebi = nearer said.nearest.ebi (all_counted r t l.ebi reached k);
-        sbi = nearer said.nearest.sbi (all_counted r t (Some l.sbi) reached k);
-        warning = nearer said.nearest.warning (all_counted r t (Some l.warning) reached k);
-        permitted = nearer said.nearest.permitted (all_counted r t (Some l.permitted) reached k);
-        indication = nearer said.nearest.indication (all_counted r t (Some l.indication) reached k);
-      };
+      nearest = nearer_where said.nearest (all_counted r t l reached k);
     }

@@ -13,7 +13,7 @@ use Rattle.sdm_rules.specs.declared.commands.Held.{Held}
 use Rattle.sdm_rules.specs.declared.targets.Target.{Target}
 use Rattle.sdm_rules.specs.declared.targets.TargetKind.{TargetKind}
 use Rattle.sdm_rules.specs.declared.targets.TargetKind.TheVariants.{Mrsp, Loa, Eoa, Svl}
-use Rattle.sdm_rules.specs.Limits.{computed, limits_of}
+use Rattle.sdm_rules.specs.Limits.{SupervisionLimits, computed, limits_of}
 use Rattle.sdm_rules.specs.Margins.{ebi_margin, sbi_margin, warning_margin}
 use Rattle.sdm_rules.specs.Targets.{target_speed, with_margin}
 use Rattle.sdm_rules.specs.Triggers.{front_for, is_past, passes, some_passed, some_ebi_passed, no_margin, triggers_of, above_ceiling, above_release, is_indicated, is_service}
@@ -22,9 +22,10 @@ use Rattle.sdm_num.specs.Units.{notches}
 use Rattle.sdm_rules.specs.declared.commands.State.TheVariants.{C, T, R}
 use Rattle.sdm_rules.specs.Supervision.{Supervision, situation_of, state_in, row_in, commands_in, row_of, least_of, whole_mm, shown_limit, is_covered_in}
 use Rattle.sdm_supervisor.specs.declared.situations.Situation.{Situation}
-use Rattle.sdm_supervisor.specs.Verdicts.{front_of, nearer, nearest_of, passes_at, passes_ebi_at, verdict_of}
-use Rattle.sdm_supervisor.specs.Situations.{IsFoundAt, is_above, is_above_release, is_service_found, triggers_found, state_found, row_found}
-use Rattle.sdm_supervisor.proofs.VerdictLaws.{int_min_assoc}
+use Rattle.sdm_supervisor.specs.declared.verdicts.Nearest.{Nearest}
+use Rattle.sdm_supervisor.specs.Verdicts.{front_of, nearer, nearer_limits, nearer_where, nearest_at, nearest_of, passes_at, passes_ebi_at, verdict_of}
+use Rattle.sdm_supervisor.specs.Situations.{IsFoundAt, is_above, is_above_release, is_service_found, triggers_found, state_found, row_found, shown_ebi}
+use Rattle.sdm_supervisor.proofs.VerdictLaws.{int_min_assoc, nearer_none}
 use Rattle.sdm_num.proofs.Floors.{floor_low, floor_high}
 
 -- ---- the nearest limits
@@ -57,21 +58,54 @@ least_first : (x : ℤ) (xs : List ℤ) → least_of (x ∷ xs) ≡ nearer (Some
 least_first x [] = refl
 least_first x (y ∷ ys) = ap Some (fold_first x y ys)
 
--- one more target in front
-shown_first : (f : Target → Option ℤ) (counts : Bool) (x : Option Fraction) (t : Target) (ts : List Target) (near : Option ℤ) →
-    f t ≡ option_map whole_mm x → option_map mm_below near ≡ least_of (filter_map f ts) →
-    option_map mm_below (nearer (if counts then option_map floor x else None) near) ≡ least_of (filter_map f (if counts then t ∷ ts else ts))
-shown_first f false x t ts near is e = e
-shown_first f true None t ts near is e = rw is e
-shown_first f true (Some z) t ts near is e =
-    rw is (mm_of_nearer (Some (floor z)) near ∙ ap (nearer (Some (whole_mm z))) e ∙ sym (least_first (whole_mm z) (filter_map f ts)))
+-- one more place in front, where there is one
+first_in_front : (f : Target → Option ℤ) (x : Option ℤ) (t : Target) (ts : List Target) → f t ≡ x → nearer x (least_of (filter_map f ts)) ≡ least_of (filter_map f (t ∷ ts))
+first_in_front f None t ts is = rw is refl
+first_in_front f (Some z) t ts is = rw is (sym (least_first z (filter_map f ts)))
 
--- the nearest limit in whole millimetres is the least of those in whole millimetres
-shown_is : (r : OdometerReading) (limit : Target → Option Fraction) (ts : List Target) →
-    option_map mm_below (nearest_of r limit ts) ≡ least_of (filter_map (λ t. option_map whole_mm (limit t)) (filter (λ t. nat_le (target_speed t) r.speed) ts))
-shown_is r limit [] = refl
-shown_is r limit (t ∷ ts) =
-    shown_first (λ u. option_map whole_mm (limit u)) (nat_le (target_speed t) r.speed) (limit t) t (filter (λ u. nat_le (target_speed u) r.speed) ts) (nearest_of r limit ts) refl (shown_is r limit ts)
+-- what is shown of the nearest limits is a place of one target's limits, and of two targets the lesser
+record IsShownOf (shown : Option Nearest → Option ℤ) (limit : SupervisionLimits → Option Fraction) : Type 0 where
+  none : shown None ≡ None
+  one : (l : SupervisionLimits) → shown (Some (nearest_at l)) ≡ option_map whole_mm (limit l)
+  two : (a b : Option Nearest) → shown (nearer_where a b) ≡ nearer (shown a) (shown b)
+
+module _ (shown : Option Nearest → Option ℤ) (limit : SupervisionLimits → Option Fraction) (is_shown : IsShownOf shown limit) where
+  -- one more target in front
+  shown_first : (f : Target → Option ℤ) (counts : Bool) (l : SupervisionLimits) (t : Target) (ts : List Target) (near : Option Nearest) →
+      f t ≡ option_map whole_mm (limit l) → shown near ≡ least_of (filter_map f ts) →
+      shown (nearer_where (if counts then Some (nearest_at l) else None) near) ≡ least_of (filter_map f (if counts then t ∷ ts else ts))
+  shown_first f false l t ts near is e = e
+  shown_first f true l t ts near is e =
+      is_shown.two (Some (nearest_at l)) near ∙ (λ k. nearer (is_shown.one l k) (e k)) ∙ first_in_front f (option_map whole_mm (limit l)) t ts is
+
+  -- the nearest limit in whole millimetres is the least of those in whole millimetres
+  shown_is : (r : OdometerReading) (limits : Target → SupervisionLimits) (ts : List Target) →
+      shown (nearest_of r limits ts) ≡ least_of (filter_map (λ t. option_map whole_mm (limit (limits t))) (filter (λ t. nat_le (target_speed t) r.speed) ts))
+  shown_is r limits [] = is_shown.none
+  shown_is r limits (t ∷ ts) =
+      shown_first (λ u. option_map whole_mm (limit (limits u))) (nat_le (target_speed t) r.speed) (limits t) t (filter (λ u. nat_le (target_speed u) r.speed) ts) (nearest_of r limits ts) refl (shown_is r limits ts)
+
+mm_of_floor : (x : Option Fraction) → option_map mm_below (option_map floor x) ≡ option_map whole_mm x
+mm_of_floor None = refl
+mm_of_floor (Some x) = refl
+
+ebi_of_two : (a b : Option Nearest) → shown_ebi (nearer_where a b) ≡ nearer (shown_ebi a) (shown_ebi b)
+ebi_of_two None b = refl
+ebi_of_two (Some x) None = sym (nearer_none (option_map mm_below x.ebi))
+ebi_of_two (Some x) (Some y) = mm_of_nearer x.ebi y.ebi
+
+ebi_shown : IsShownOf shown_ebi (λ l. l.ebi)
+ebi_shown = record { none = refl; one = λ l. mm_of_floor l.ebi; two = ebi_of_two }
+
+-- of the other limits, by their place among the nearest ones and among those of a target
+module _ (place : Nearest → ℤ) (limit : SupervisionLimits → Fraction) (lesser : (a b : Nearest) → place (nearer_limits a b) ≡ int_min (place a) (place b)) where
+  place_of_two : (a b : Option Nearest) → option_map (λ n. mm_below (place n)) (nearer_where a b) ≡ nearer (option_map (λ n. mm_below (place n)) a) (option_map (λ n. mm_below (place n)) b)
+  place_of_two None b = refl
+  place_of_two (Some x) None = refl
+  place_of_two (Some x) (Some y) = ap Some (ap mm_below (lesser x y) ∙ mm_of_lesser (place x) (place y))
+
+  place_shown : ((l : SupervisionLimits) → place (nearest_at l) ≡ floor (limit l)) → IsShownOf (λ n. option_map (λ m. mm_below (place m)) n) (λ l. Some (limit l))
+  place_shown at = record { none = refl; one = λ l. ap (λ z. Some (mm_below z)) (at l); two = place_of_two }
 
 -- ---- the triggers over targets
 
@@ -154,20 +188,25 @@ module _ (s : Supervision) (r : OdometerReading) where
     unfolding commands_in
     commands_are held stopped e = λ k. commands_after held (triggers_are k) (state_is k) (e k) s.line.national.early_release (is.in_use k)
 
-    shown_limit_is : (limit : Target → Option Fraction) (near : Option ℤ) → near ≡ nearest_of r limit (situation_of s r).targets → option_map mm_below near ≡ shown_limit (situation_of s r) limit
-    unfolding situation_of
-    shown_limit_is limit near e = ap (option_map mm_below) e ∙ shown_is r limit _
+    shown_limit_is : (shown : Option Nearest → Option ℤ) (limit : SupervisionLimits → Option Fraction) → IsShownOf shown limit →
+        shown found.verdict.nearest ≡ shown_limit (situation_of s r) (λ t. limit (limits_of computed s.line r t))
+    unfolding situation_of verdict_of
+    shown_limit_is shown limit is_shown = ap shown (λ k. (is.verdict k).nearest) ∙ shown_is shown limit is_shown r (limits_of computed s.line r) _
+
+    place_is : (place : Nearest → ℤ) (limit : SupervisionLimits → Fraction) → ((a b : Nearest) → place (nearer_limits a b) ≡ int_min (place a) (place b)) →
+        ((l : SupervisionLimits) → place (nearest_at l) ≡ floor (limit l)) →
+        option_map (λ n. mm_below (place n)) found.verdict.nearest ≡ shown_limit (situation_of s r) (λ t. Some (limit (limits_of computed s.line r t)))
+    place_is place limit lesser at = shown_limit_is (λ n. option_map (λ m. mm_below (place m)) n) (λ l. Some (limit l)) (place_shown place limit lesser at)
 
     -- so is the row
     pub row_is : (held : Held) → held ≡ commands_in s.line s.commands r (situation_of s r) → row_found found r.time held ≡ row_of s r
     unfolding row_found row_in is_covered_in verdict_of
     row_is held e =
-        let l = limits_of computed s.line r in
-        let ebi = shown_limit_is (λ t. (l t).ebi) found.verdict.nearest.ebi (λ k. (is.verdict k).nearest.ebi) in
-        let sbi = shown_limit_is (λ t. Some (l t).sbi) found.verdict.nearest.sbi (λ k. (is.verdict k).nearest.sbi) in
-        let warning = shown_limit_is (λ t. Some (l t).warning) found.verdict.nearest.warning (λ k. (is.verdict k).nearest.warning) in
-        let permitted = shown_limit_is (λ t. Some (l t).permitted) found.verdict.nearest.permitted (λ k. (is.verdict k).nearest.permitted) in
-        let indication = shown_limit_is (λ t. Some (l t).indication) found.verdict.nearest.indication (λ k. (is.verdict k).nearest.indication) in
+        let ebi = shown_limit_is shown_ebi (λ l. l.ebi) ebi_shown in
+        let sbi = place_is (λ n. n.sbi) (λ l. l.sbi) (λ a b. refl) (λ l. refl) in
+        let warning = place_is (λ n. n.warning) (λ l. l.warning) (λ a b. refl) (λ l. refl) in
+        let permitted = place_is (λ n. n.permitted) (λ l. l.permitted) (λ a b. refl) (λ l. refl) in
+        let indication = place_is (λ n. n.indication) (λ l. l.indication) (λ a b. refl) (λ l. refl) in
         λ k. record {
           time = r.time;
           state = state_is k;

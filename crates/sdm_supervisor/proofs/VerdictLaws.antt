@@ -13,29 +13,39 @@ use Rattle.sdm_braking.specs.declared.kept_falls.KeptFall.{KeptFall}
 use Rattle.sdm_braking.specs.KeptFalls.{target_of}
 use Rattle.sdm_supervisor.specs.declared.verdicts.Nearest.{Nearest}
 use Rattle.sdm_supervisor.specs.declared.verdicts.Verdict.{Verdict}
-use Rattle.sdm_supervisor.specs.Verdicts.{nearer, nearer_limits, both, verdict_at, verdict_of}
+use Rattle.sdm_supervisor.specs.Verdicts.{nearer, nearer_limits, nearer_where, both, verdict_at, verdict_of}
 
 pub int_min_assoc : (a b c : ℤ) → int_min (int_min a b) c ≡ int_min a (int_min b c)
 int_min_assoc a b c = omega (arith, ints, clamps)
 
-pub nearer_assoc : (a b c : Option ℤ) → nearer (nearer a b) c ≡ nearer a (nearer b c)
+nearer_assoc : (a b c : Option ℤ) → nearer (nearer a b) c ≡ nearer a (nearer b c)
 nearer_assoc None b c = refl
 nearer_assoc (Some x) None c = refl
 nearer_assoc (Some x) (Some y) None = refl
 nearer_assoc (Some x) (Some y) (Some z) = ap Some (int_min_assoc x y z)
 
-nearer_none : (a : Option ℤ) → nearer a None ≡ a
+pub nearer_none : (a : Option ℤ) → nearer a None ≡ a
 nearer_none None = refl
 nearer_none (Some x) = refl
 
-nearer_limits_assoc : (a b c : Nearest) → nearer_limits (nearer_limits a b) c ≡ nearer_limits a (nearer_limits b c)
-nearer_limits_assoc a b c = λ k. record {
+limits_assoc : (a b c : Nearest) → nearer_limits (nearer_limits a b) c ≡ nearer_limits a (nearer_limits b c)
+limits_assoc a b c = λ k. record {
   ebi = nearer_assoc a.ebi b.ebi c.ebi k;
-  sbi = nearer_assoc a.sbi b.sbi c.sbi k;
-  warning = nearer_assoc a.warning b.warning c.warning k;
-  permitted = nearer_assoc a.permitted b.permitted c.permitted k;
-  indication = nearer_assoc a.indication b.indication c.indication k;
+  sbi = int_min_assoc a.sbi b.sbi c.sbi k;
+  warning = int_min_assoc a.warning b.warning c.warning k;
+  permitted = int_min_assoc a.permitted b.permitted c.permitted k;
+  indication = int_min_assoc a.indication b.indication c.indication k;
 }
+
+where_assoc : (a b c : Option Nearest) → nearer_where (nearer_where a b) c ≡ nearer_where a (nearer_where b c)
+where_assoc None b c = refl
+where_assoc (Some x) None c = refl
+where_assoc (Some x) (Some y) None = refl
+where_assoc (Some x) (Some y) (Some z) = ap Some (limits_assoc x y z)
+
+where_none : (a : Option Nearest) → nearer_where a None ≡ a
+where_none None = refl
+where_none (Some x) = refl
 
 both_assoc : (a b c : Verdict) → both (both a b) c ≡ both a (both b c)
 both_assoc a b c = λ k. record {
@@ -45,7 +55,7 @@ both_assoc a b c = λ k. record {
   emer = or_assoc a.emer b.emer c.emer k;
   indicated = or_assoc a.indicated b.indicated c.indicated k;
   covered = and_assoc a.covered b.covered c.covered k;
-  nearest = nearer_limits_assoc a.nearest b.nearest c.nearest k;
+  nearest = where_assoc a.nearest b.nearest c.nearest k;
 }
 
 -- with no target left nothing more is said
@@ -58,13 +68,7 @@ both_none d r a = λ k. record {
   emer = or-false a.emer k;
   indicated = or-false a.indicated k;
   covered = and-true a.covered k;
-  nearest = record {
-    ebi = nearer_none a.nearest.ebi k;
-    sbi = nearer_none a.nearest.sbi k;
-    warning = nearer_none a.nearest.warning k;
-    permitted = nearer_none a.nearest.permitted k;
-    indication = nearer_none a.nearest.indication k;
-  };
+  nearest = where_none a.nearest k;
 }
 
 first_of : (d : LineData) (r : OdometerReading) (t : Target) (ts : List Target) → verdict_of d r (t ∷ ts) ≡ both (verdict_at d r (limits_of computed d r t) t) (verdict_of d r ts)

@@ -1,5 +1,5 @@
 -- What a supervisor finds at a reading before it decides, and what follows from it (SUBSET-026-3 3.13.10; own).
-use Rattle.std.specs.Prelude.{◌≡◌, ℕ, Bool, false, not, ◌&&◌, ◌||◌, IfSome, nat_lt, ◌≤◌, is_some, option_map, ◌+◌, if◌then◌else◌}
+use Rattle.std.specs.Prelude.{◌≡◌, ℕ, ℤ, Bool, false, not, Option, Some, None, ◌&&◌, ◌||◌, IfSome, nat_lt, ◌≤◌, is_some, option_map, ◌+◌, if◌then◌else◌}
 use Rattle.std.specs.Option.{option_map_or}
 use Rattle.sdm_num.specs.Units.{notches}
 use Rattle.sdm_num.specs.Bounds.{mm_below}
@@ -13,6 +13,7 @@ use Rattle.sdm_rules.specs.Margins.{ebi_margin, sbi_margin, warning_margin}
 use Rattle.sdm_rules.specs.Triggers.{no_margin}
 use Rattle.sdm_rules.specs.Supervision.{Supervision, situation_of}
 use Rattle.sdm_supervisor.specs.declared.situations.Situation.{Situation}
+use Rattle.sdm_supervisor.specs.declared.verdicts.Nearest.{Nearest}
 use Rattle.sdm_supervisor.specs.Verdicts.{verdict_of}
 
 -- what was found is what the definitions say of the state and the reading (own)
@@ -37,6 +38,15 @@ is_above found margin = nat_lt (notches found.ceiling_kmh + margin found.ceiling
 abbrev pub is_above_release : Situation → Bool
 is_above_release found = option_map_or (λ kmh. nat_lt (notches kmh) found.speed) found.release_kmh false
 
+-- what the ceiling triggers (SUBSET-026-3 3.13.10.3)
+abbrev pub ceiling_found : Situation → Triggers
+ceiling_found found = record {
+  over = is_above found no_margin;
+  warn = is_above found warning_margin;
+  serv = is_above found sbi_margin;
+  emer = is_above found ebi_margin;
+}
+
 -- the service brake intervention is triggered (SUBSET-026-3 3.13.10; own table)
 abbrev pub is_service_found : Situation → Bool
 is_service_found found = is_above found sbi_margin || found.verdict.serv
@@ -59,6 +69,11 @@ triggers_found found = record {
 unfoldable pub state_found : Situation → State
 state_found found = if is_some found.release_kmh then R else if found.verdict.indicated then T else C
 
+-- the EBI of the nearest limits in whole millimetres, rounded down, where there is one (own)
+abbrev pub shown_ebi : Option Nearest → Option ℤ
+shown_ebi None = None
+shown_ebi (Some nearest) = option_map mm_below nearest.ebi
+
 -- the row of a time by what was found, with the commands after it (own)
 unfoldable pub row_found : Situation → ℕ → Held → Row
 row_found found time held = record {
@@ -67,9 +82,9 @@ row_found found time held = record {
   held = held;
   covered = not (is_some found.release_kmh) && found.verdict.covered;
   ceiling = found.ceiling_kmh;
-  ebi = option_map mm_below found.verdict.nearest.ebi;
-  sbi = option_map mm_below found.verdict.nearest.sbi;
-  warning = option_map mm_below found.verdict.nearest.warning;
-  permitted = option_map mm_below found.verdict.nearest.permitted;
-  indication = option_map mm_below found.verdict.nearest.indication;
+  ebi = shown_ebi found.verdict.nearest;
+  sbi = option_map (λ n. mm_below n.sbi) found.verdict.nearest;
+  warning = option_map (λ n. mm_below n.warning) found.verdict.nearest;
+  permitted = option_map (λ n. mm_below n.permitted) found.verdict.nearest;
+  indication = option_map (λ n. mm_below n.indication) found.verdict.nearest;
 }

@@ -39,24 +39,40 @@ nearer None y = y
 nearer (Some x) None = Some x
 nearer (Some x) (Some y) = Some (int_min x y)
 
--- a limit counts for the nearest where the target's speed is at most the train's (own)
-abbrev pub counted : OdometerReading → Target → Option Fraction → Option ℤ
-counted r t limit = if nat_le (target_speed t) r.speed then option_map floor limit else None
+-- the nearest limits of two lists of targets (own)
+abbrev pub nearer_limits : Nearest → Nearest → Nearest
+nearer_limits a b = record {
+  ebi = nearer a.ebi b.ebi;
+  sbi = int_min a.sbi b.sbi;
+  warning = int_min a.warning b.warning;
+  permitted = int_min a.permitted b.permitted;
+  indication = int_min a.indication b.indication;
+}
+
+-- so where the limits of any of their targets count (own)
+abbrev pub nearer_where : Option Nearest → Option Nearest → Option Nearest
+nearer_where None y = y
+nearer_where (Some x) None = Some x
+nearer_where (Some x) (Some y) = Some (nearer_limits x y)
 
 -- the limits of one target, in grains (own)
 abbrev pub nearest_at : SupervisionLimits → Nearest
 nearest_at l = record {
   ebi = option_map floor l.ebi;
-  sbi = Some (floor l.sbi);
-  warning = Some (floor l.warning);
-  permitted = Some (floor l.permitted);
-  indication = Some (floor l.indication);
+  sbi = floor l.sbi;
+  warning = floor l.warning;
+  permitted = floor l.permitted;
+  indication = floor l.indication;
 }
 
--- the nearest limit of a name over targets, in grains (own)
-abbrev pub nearest_of : OdometerReading → (Target → Option Fraction) → List Target → Option ℤ
-nearest_of r limit [] = None
-nearest_of r limit (t ∷ ts) = nearer (counted r t (limit t)) (nearest_of r limit ts)
+-- a target's limits count for the nearest ones where its speed is at most the train's (own)
+abbrev pub counted : OdometerReading → Target → SupervisionLimits → Option Nearest
+counted r t l = if nat_le (target_speed t) r.speed then Some (nearest_at l) else None
+
+-- the nearest limits over targets, in grains, where any count (own)
+abbrev pub nearest_of : OdometerReading → (Target → SupervisionLimits) → List Target → Option Nearest
+nearest_of r limits [] = None
+nearest_of r limits (t ∷ ts) = nearer_where (counted r t (limits t)) (nearest_of r limits ts)
 
 -- what one target says at a reading, by its limits (SUBSET-026-3 3.13.10; own)
 unfoldable pub verdict_at : LineData → OdometerReading → SupervisionLimits → Target → Verdict
@@ -67,13 +83,7 @@ verdict_at d r l t = record {
   emer = passes_ebi_at r t l.ebi;
   indicated = passes_at r no_margin t l.indication;
   covered = is_covered_for d r t;
-  nearest = record {
-    ebi = counted r t l.ebi;
-    sbi = counted r t (Some l.sbi);
-    warning = counted r t (Some l.warning);
-    permitted = counted r t (Some l.permitted);
-    indication = counted r t (Some l.indication);
-  };
+  nearest = counted r t l;
 }
 
 -- what targets say at a reading (SUBSET-026-3 3.13.10; own)
@@ -87,24 +97,8 @@ verdict_of d r ts =
       emer = list_any (λ t. passes_ebi_at r t (limits t).ebi) ts;
       indicated = list_any (λ t. passes_at r no_margin t (limits t).indication) ts;
       covered = list_all (is_covered_for d r) ts;
-      nearest = record {
-        ebi = nearest_of r (λ t. (limits t).ebi) ts;
-        sbi = nearest_of r (λ t. Some (limits t).sbi) ts;
-        warning = nearest_of r (λ t. Some (limits t).warning) ts;
-        permitted = nearest_of r (λ t. Some (limits t).permitted) ts;
-        indication = nearest_of r (λ t. Some (limits t).indication) ts;
-      };
+      nearest = nearest_of r limits ts;
     }
-
--- the nearest limits of two lists of targets (own)
-abbrev pub nearer_limits : Nearest → Nearest → Nearest
-nearer_limits a b = record {
-  ebi = nearer a.ebi b.ebi;
-  sbi = nearer a.sbi b.sbi;
-  warning = nearer a.warning b.warning;
-  permitted = nearer a.permitted b.permitted;
-  indication = nearer a.indication b.indication;
-}
 
 -- what two lists of targets say together (own)
 abbrev pub both : Verdict → Verdict → Verdict
@@ -115,5 +109,5 @@ both a b = record {
   emer = a.emer || b.emer;
   indicated = a.indicated || b.indicated;
   covered = a.covered && b.covered;
-  nearest = nearer_limits a.nearest b.nearest;
+  nearest = nearer_where a.nearest b.nearest;
 }

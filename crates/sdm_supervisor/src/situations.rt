@@ -1,12 +1,11 @@
 //! What a reading is judged by, once everything is found: the triggers, the type of supervision, and the row.
 
-ghost use Rattle.std.specs.Prelude.{◌≡◌, ◌&&◌, ◌||◌, not, option_map};
-ghost use Rattle.sdm_num.specs.Bounds.{mm_below};
-ghost use Rattle.sdm_supervisor.specs.Situations.{is_above_release, row_found, state_found, triggers_found, IsInRange};
+ghost use Rattle.std.specs.Prelude.{◌≡◌, ◌&&◌, ◌||◌, not};
+ghost use Rattle.sdm_supervisor.specs.Situations.{ceiling_found, is_above_release, row_found, state_found, triggers_found, IsInRange};
 
 use crate::verdicts::Verdict;
 use sdm_braking::SpeedLimits;
-use sdm_num::{Place, Speed};
+use sdm_num::Speed;
 use sdm_rules::Row;
 use sdm_state::{Held, State, Triggers};
 
@@ -25,13 +24,6 @@ pub struct Situation {
     pub in_use: bool,
     /// What the targets say.
     pub verdict: Verdict,
-}
-
-/// A place in whole millimetres, rounded down, where there is one.
-fn shown(place: Option<Place>) -> Option<i64>
-    ensures { result ≡ option_map mm_below place }
-{
-    place.map(|place| place.mm_below())
 }
 
 impl Situation {
@@ -55,18 +47,41 @@ impl Situation {
         ebi || self.past_end || self.is_above_release() || (serv && !self.in_use)
     }
 
+    /// What the ceiling triggers. (SUBSET-026-3 3.13.10.3)
+    fn above_ceiling(&self) -> Triggers
+        requires { IsInRange self.now }
+        ensures { result ≡ ceiling_found self.now }
+    {
+        // No margin makes the ceiling lower.
+        if self.speed <= Speed::of_kmh(self.ceiling_kmh) {
+            return Triggers {
+                over: false,
+                warn: false,
+                serv: false,
+                emer: false,
+            };
+        }
+        let ceiling = SpeedLimits::of_kmh(self.ceiling_kmh);
+        Triggers {
+            over: true,
+            warn: ceiling.warning < self.speed,
+            serv: ceiling.sbi < self.speed,
+            emer: ceiling.ebi < self.speed,
+        }
+    }
+
     /// The triggers. (SUBSET-026-3 3.13.10; own tables)
     #[tactic(auto, unfolding(crate::specs::Situations::triggers_found))]
     pub fn triggers(&self) -> Triggers
         requires { IsInRange self.now }
         ensures { result ≡ triggers_found self.now }
     {
-        let ceiling = SpeedLimits::of_kmh(self.ceiling_kmh);
-        let serv = ceiling.sbi < self.speed || self.verdict.serv;
-        let ebi = ceiling.ebi < self.speed || self.verdict.emer;
+        let above = self.above_ceiling();
+        let serv = above.serv || self.verdict.serv;
+        let ebi = above.emer || self.verdict.emer;
         Triggers {
-            over: ceiling.permitted < self.speed || self.verdict.over || self.is_above_release(),
-            warn: ceiling.warning < self.speed || self.verdict.warn,
+            over: above.over || self.verdict.over || self.is_above_release(),
+            warn: above.warn || self.verdict.warn,
             serv,
             emer: self.is_emergency(ebi, serv),
         }
@@ -91,18 +106,25 @@ impl Situation {
     pub fn row(&self, time: u32, held: Held) -> Row
         ensures { result ≡ row_found self.now time held }
     {
-        let nearest = &self.verdict.nearest;
-        Row {
+        let mut row = Row {
             time,
             state: self.state(),
             held,
             covered: self.release_kmh.is_none() && self.verdict.covered,
             ceiling: self.ceiling_kmh,
-            ebi: shown(nearest.ebi),
-            sbi: shown(nearest.sbi),
-            warning: shown(nearest.warning),
-            permitted: shown(nearest.permitted),
-            indication: shown(nearest.indication),
+            ebi: None,
+            sbi: None,
+            warning: None,
+            permitted: None,
+            indication: None,
+        };
+        if let Some(nearest) = &self.verdict.nearest {
+            row.ebi = nearest.ebi.map(|ebi| ebi.mm_below());
+            row.sbi = Some(nearest.sbi.mm_below());
+            row.warning = Some(nearest.warning.mm_below());
+            row.permitted = Some(nearest.permitted.mm_below());
+            row.indication = Some(nearest.indication.mm_below());
         }
+        row
     }
 }

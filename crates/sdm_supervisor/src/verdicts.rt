@@ -1,6 +1,7 @@
 //! What the targets of a reading say together. Each target is looked at once, and what it says is added to what the others said.
 
 ghost use Rattle.std.specs.Prelude.{◌≡◌, ◌≤◌, ◌&&◌, ◌++◌, All, List, [], map, true, nat_lt, not};
+ghost use Rattle.std.specs.Int.{int_min};
 ghost use Rattle.std.specs.Option.{option_map_or};
 ghost use Rattle.sdm_num.specs.Readings.{OdometerReading};
 ghost use Rattle.sdm_rules.specs.Limits.{computed, limits_of};
@@ -15,21 +16,21 @@ ghost use Rattle.sdm_targets.specs.Lists.{IsTarget};
 ghost use Rattle.sdm_braking.specs.Asked.{IsAsked};
 ghost use Rattle.sdm_braking.specs.KeptCurves.{AreKept, AreSpeedsOf, IsKeptTarget, targets_in};
 ghost use Rattle.sdm_braking.specs.KeptFalls.{IsKeptFall, target_of};
-ghost use Rattle.sdm_supervisor.specs.Verdicts.{both, front_of, nearer, nearer_limits, nearest_at, passes_ebi_at, verdict_at, verdict_of};
+ghost use Rattle.sdm_supervisor.specs.Verdicts.{both, front_of, nearer, nearer_limits, nearer_where, nearest_at, passes_ebi_at, verdict_at, verdict_of};
 
 use sdm_braking::{AskedReading, KeptEnd, KeptFall, KeptTarget, Line};
 use sdm_limits::Limits;
 use sdm_num::{Early, Place, Reading, Speed};
 use sdm_targets::{Target, TargetKind};
 
-/// The nearest limit of each name over the targets whose speed is at most the train's. (own)
+/// The nearest limit of each name over targets whose speed is at most the train's; no EBI where they are EOAs alone. (own)
 #[derive(Clone, Copy, Debug, PartialEq, Eq)]
 pub struct Nearest {
     pub ebi: Option<Place>,
-    pub sbi: Option<Place>,
-    pub warning: Option<Place>,
-    pub permitted: Option<Place>,
-    pub indication: Option<Place>,
+    pub sbi: Place,
+    pub warning: Place,
+    pub permitted: Place,
+    pub indication: Place,
 }
 
 /// What targets say at a reading: whether the train is above the speed of one of them and past its permitted, warning, service brake
@@ -43,7 +44,14 @@ pub struct Verdict {
     pub emer: bool,
     pub indicated: bool,
     pub covered: bool,
-    pub nearest: Nearest,
+    pub nearest: Option<Nearest>,
+}
+
+/// The lesser of two places.
+fn lesser(a: Place, b: Place) -> Place
+    ensures { result ≡ int_min a b }
+{
+    if b.grains() < a.grains() { b } else { a }
 }
 
 /// The nearer of two places, where there are any.
@@ -53,7 +61,7 @@ fn nearer(a: Option<Place>, b: Option<Place>) -> Option<Place>
     match (a, b) {
         (None, _) => b,
         (Some(x), None) => Some(x),
-        (Some(x), Some(y)) => Some(if y.grains() < x.grains() { y } else { x }),
+        (Some(x), Some(y)) => Some(lesser(x, y)),
     }
 }
 
@@ -64,10 +72,10 @@ impl Nearest {
     {
         Nearest {
             ebi: nearer(self.ebi, other.ebi),
-            sbi: nearer(self.sbi, other.sbi),
-            warning: nearer(self.warning, other.warning),
-            permitted: nearer(self.permitted, other.permitted),
-            indication: nearer(self.indication, other.indication),
+            sbi: lesser(self.sbi, other.sbi),
+            warning: lesser(self.warning, other.warning),
+            permitted: lesser(self.permitted, other.permitted),
+            indication: lesser(self.indication, other.indication),
         }
     }
 
@@ -77,11 +85,22 @@ impl Nearest {
     {
         Nearest {
             ebi: limits.ebi.map(|ebi| ebi.at()),
-            sbi: Some(limits.sbi.at()),
-            warning: Some(limits.warning.at()),
-            permitted: Some(limits.permitted.at()),
-            indication: Some(limits.indication.at()),
+            sbi: limits.sbi.at(),
+            warning: limits.warning.at(),
+            permitted: limits.permitted.at(),
+            indication: limits.indication.at(),
         }
+    }
+}
+
+/// The nearest limits of two lists of targets, where any of their limits count.
+fn nearer_where(a: Option<Nearest>, b: Option<Nearest>) -> Option<Nearest>
+    ensures { result ≡ nearer_where a b }
+{
+    match (a, b) {
+        (None, _) => b,
+        (Some(x), None) => Some(x),
+        (Some(x), Some(y)) => Some(x.and(y)),
     }
 }
 
@@ -98,28 +117,7 @@ impl Verdict {
             emer: false,
             indicated: false,
             covered: true,
-            nearest: Nearest {
-                ebi: None,
-                sbi: None,
-                warning: None,
-                permitted: None,
-                indication: None,
-            },
-        }
-    }
-
-    // What both say together.
-    fn and(self, other: Verdict) -> Verdict
-        ensures { result ≡ both self other }
-    {
-        Verdict {
-            over: self.over || other.over,
-            warn: self.warn || other.warn,
-            serv: self.serv || other.serv,
-            emer: self.emer || other.emer,
-            indicated: self.indicated || other.indicated,
-            covered: self.covered && other.covered,
-            nearest: self.nearest.and(other.nearest),
+            nearest: None,
         }
     }
 }
@@ -175,9 +173,9 @@ fn is_before(reading: &Reading, ebi: Option<Early>) -> bool
 fn is_covered_above(line: &Line, asked: &AskedReading, kept: &KeptTarget) -> bool
     requires asked { IsAsked line.now asked.now }
     requires kept { IsKeptTarget line.now kept.now }
-    ensures { result ≡ is_covered_for line.now asked.now.reading kept.now.target }
+    ensures { result ≡ is_covered_for line.now asked.now.reading.now kept.now.target }
 {
-    asked.is_met_by_speed(kept) || is_before(&asked.reading, line.ebi(asked, kept))
+    asked.is_met_by_speed(kept) || is_before(asked.reading, line.ebi(asked, kept))
 }
 
 /// Whether a target is covered: the max safe front end is at or before its EBI, if it has one, or it is met by speed. (own)
@@ -185,44 +183,43 @@ fn is_covered_for(asked: &AskedReading, kept: &KeptTarget, ebi: Option<Early>) -
     requires target { IsTarget kept.now.target }
     requires speeds { AreSpeedsOf kept.now.target kept.now.speeds }
     ensures { (d : LineData) → IsAsked d asked.now →
-        place_where ebi ≡ (limits_of computed d asked.now.reading kept.now.target).ebi →
-        result ≡ is_covered_for d asked.now.reading kept.now.target }
+        place_where ebi ≡ (limits_of computed d asked.now.reading.now kept.now.target).ebi →
+        result ≡ is_covered_for d asked.now.reading.now kept.now.target }
 {
-    is_before(&asked.reading, ebi) || asked.is_met_by_speed(kept)
-}
-
-/// What a target says that is no faster than the train, by its limits. (SUBSET-026-3 3.13.10; own)
-#[tactic(auto, unfolding(crate::specs::Verdicts::verdict_at))]
-fn verdict_by(asked: &AskedReading, kept: &KeptTarget, limits: &Limits) -> Verdict
-    requires target { IsTarget kept.now.target }
-    requires speeds { AreSpeedsOf kept.now.target kept.now.speeds }
-    requires counts { target_speed kept.now.target ≤ asked.now.reading.speed }
-    ensures { (d : LineData) → IsAsked d asked.now →
-        places_of limits.now ≡ limits_of computed d asked.now.reading kept.now.target →
-        result ≡ verdict_at d asked.now.reading
-        (limits_of computed d asked.now.reading kept.now.target) kept.now.target }
-{
-    let reading = &asked.reading;
-    let target = &kept.target;
-    let speeds = &kept.speeds;
-    Verdict {
-        over: passes(reading, target, speeds.permitted, limits.permitted),
-        warn: passes(reading, target, speeds.warning, limits.warning),
-        serv: passes(reading, target, speeds.sbi, limits.sbi),
-        emer: passes_ebi(reading, target, speeds.ebi, limits.ebi),
-        indicated: passes(reading, target, speeds.permitted, limits.indication),
-        covered: is_covered_for(asked, kept, limits.ebi),
-        nearest: Nearest::of(limits),
-    }
+    is_before(asked.reading, ebi) || asked.is_met_by_speed(kept)
 }
 
 impl Verdict {
+    /// Adds what a target says that is no faster than the train, but for where its limits lie. (SUBSET-026-3 3.13.10; own)
+    #[tactic(auto, unfolding(crate::specs::Verdicts::verdict_at))]
+    fn add_passed(&mut self, asked: &AskedReading, kept: &KeptTarget, limits: &Limits)
+        requires target { IsTarget kept.now.target }
+        requires speeds { AreSpeedsOf kept.now.target kept.now.speeds }
+        ensures { (d : LineData) → IsAsked d asked.now →
+            places_of limits.now ≡ limits_of computed d asked.now.reading.now kept.now.target →
+            self.new ≡ record (both self.old (verdict_at d asked.now.reading.now
+            (limits_of computed d asked.now.reading.now kept.now.target) kept.now.target)) { nearest = self.old.nearest } }
+    {
+        let reading = asked.reading;
+        let target = &kept.target;
+        let speeds = &kept.speeds;
+        *self = Verdict {
+            over: self.over | passes(reading, target, speeds.permitted, limits.permitted),
+            warn: self.warn | passes(reading, target, speeds.warning, limits.warning),
+            serv: self.serv | passes(reading, target, speeds.sbi, limits.sbi),
+            emer: self.emer | passes_ebi(reading, target, speeds.ebi, limits.ebi),
+            indicated: self.indicated | passes(reading, target, speeds.permitted, limits.indication),
+            covered: self.covered & is_covered_for(asked, kept, limits.ebi),
+            nearest: self.nearest,
+        };
+    }
+
     /// Adds what a target says. (SUBSET-026-3 3.13.10; own)
     fn add(&mut self, line: &Line, asked: &AskedReading, kept: &KeptTarget)
         requires asked { IsAsked line.now asked.now }
         requires kept { IsKeptTarget line.now kept.now }
-        ensures { self.new ≡ both self.old (verdict_at line.now asked.now.reading
-            (limits_of computed line.now asked.now.reading kept.now.target) kept.now.target) }
+        ensures { self.new ≡ both self.old (verdict_at line.now asked.now.reading.now
+            (limits_of computed line.now asked.now.reading.now kept.now.target) kept.now.target) }
     {
         // A target above the train's speed is not passed, and none of its limits counts.
         if asked.reading.speed_mm_s() < kept.speeds.permitted {
@@ -230,21 +227,21 @@ impl Verdict {
             return;
         }
         let limits = line.limits(asked, kept);
-        let front = front_of(&asked.reading, kept.target.kind);
+        self.nearest = nearer_where(self.nearest, Some(Nearest::of(&limits)));
+        let front = front_of(asked.reading, kept.target.kind);
         // No limit lies before the indication limit: up to there none is passed.
         if !is_past(front, limits.indication) {
-            self.nearest = self.nearest.and(Nearest::of(&limits));
             return;
         }
-        *self = self.and(verdict_by(asked, kept, &limits));
+        self.add_passed(asked, kept, &limits);
     }
 
     /// Adds what falls say, where nothing was said before. (SUBSET-026-3 3.13.10; own)
     fn add_falls(&mut self, line: &Line, asked: &AskedReading, falls: &[KeptFall])
         requires asked { IsAsked line.now asked.now }
         requires falls { All (IsKeptFall line.now) falls.now }
-        requires none { self.old ≡ verdict_of line.now asked.now.reading [] }
-        ensures { self.new ≡ verdict_of line.now asked.now.reading (map target_of falls.now) }
+        requires none { self.old ≡ verdict_of line.now asked.now.reading.now [] }
+        ensures { self.new ≡ verdict_of line.now asked.now.reading.now (map target_of falls.now) }
     {
         for fall in falls {
             self.add(line, asked, &fall.kept);
@@ -256,8 +253,8 @@ impl Verdict {
     fn add_end(&mut self, line: &Line, asked: &AskedReading, end: &KeptEnd, released: bool)
         requires asked { IsAsked line.now asked.now }
         requires end { AreKept line.now end.now }
-        ensures { (ts : List Target) → self.old ≡ verdict_of line.now asked.now.reading ts →
-            self.new ≡ verdict_of line.now asked.now.reading (ts ++ targets_in end.now released) }
+        ensures { (ts : List Target) → self.old ≡ verdict_of line.now asked.now.reading.now ts →
+            self.new ≡ verdict_of line.now asked.now.reading.now (ts ++ targets_in end.now released) }
     {
         match end {
             KeptEnd::Stop { eoa, svl } => {
@@ -283,7 +280,7 @@ impl Verdict {
         requires falls { All (IsKeptFall line.now) falls.now }
         requires end { AreKept line.now end.now }
         ensures { result ≡
-            verdict_of line.now asked.now.reading (map target_of falls.now ++ targets_in end.now released) }
+            verdict_of line.now asked.now.reading.now (map target_of falls.now ++ targets_in end.now released) }
     {
         let mut said = Verdict::of_none();
         said.add_falls(line, asked, falls);

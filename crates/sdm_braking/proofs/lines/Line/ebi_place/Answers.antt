@@ -11,6 +11,6 @@ use Rattle.sdm_braking.proofs.lines.Line.ebi_place.Goals as goal
 pub returns : goal.returns
 returns c guide =
     let d = c.args.self.now in
-    let r = c.args.asked.now.reading in
+    let r = c.args.asked.now.reading.now in
     let t = c.args.kept.now.target in
     ap Some (whole_less c.less.result.at (stepped (slopes_of Safe d) t.place (foot_speed_of t) (v_bec_for d r t)) (d_bec_for d r t) (search rules))
