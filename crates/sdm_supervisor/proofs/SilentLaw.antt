@@ -1,6 +1,6 @@
 -- What is left unsaid. A target above the train's speed only says whether it is covered: no margin makes its speed lower, so it is not passed,
 -- and none of its limits counts. A target whose indication limit is not passed only says where its limits lie.
-use Rattle.std.proofs.Common.{◌≡◌, ℕ, ℤ, Bool, true, false, not, ◌||◌, ◌&&◌, nat_lt, ◌+◌, ◌≤◌, ◌<◌, Option, Some, None, refl, arith}
+use Rattle.std.proofs.Common.{◌≡◌, ℕ, Bool, true, false, not, ◌||◌, ◌&&◌, nat_lt, ◌+◌, ◌≤◌, ◌<◌, Option, Some, None, refl, arith}
 use Rattle.std.specs.Option.{option_map_or}
 use Rattle.std.proofs.lemmas.Bool.{le-leb, le-ltb, lt-leb}
 use Rattle.std.proofs.Math.Bool.{and-false, and-true, or-false}

@@ -203,15 +203,12 @@ impl Verdict {
         let reading = asked.reading;
         let target = &kept.target;
         let speeds = &kept.speeds;
-        *self = Verdict {
-            over: self.over | passes(reading, target, speeds.permitted, limits.permitted),
-            warn: self.warn | passes(reading, target, speeds.warning, limits.warning),
-            serv: self.serv | passes(reading, target, speeds.sbi, limits.sbi),
-            emer: self.emer | passes_ebi(reading, target, speeds.ebi, limits.ebi),
-            indicated: self.indicated | passes(reading, target, speeds.permitted, limits.indication),
-            covered: self.covered & is_covered_for(asked, kept, limits.ebi),
-            nearest: self.nearest,
-        };
+        self.over |= passes(reading, target, speeds.permitted, limits.permitted);
+        self.warn |= passes(reading, target, speeds.warning, limits.warning);
+        self.serv |= passes(reading, target, speeds.sbi, limits.sbi);
+        self.emer |= passes_ebi(reading, target, speeds.ebi, limits.ebi);
+        self.indicated |= passes(reading, target, speeds.permitted, limits.indication);
+        self.covered &= is_covered_for(asked, kept, limits.ebi);
     }
 
     /// Adds what a target says. (SUBSET-026-3 3.13.10; own)

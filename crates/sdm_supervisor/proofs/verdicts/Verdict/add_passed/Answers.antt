@@ -3,7 +3,6 @@ use Rattle.std.proofs.Common.{◌≡◌, ◌&&◌, ◌||◌, ◌∙◌, nat_lt, 
 use Rattle.sdm_rules.specs.Limits.{computed, limits_of}
 use Rattle.sdm_rules.specs.Targets.{at_speed_target, with_margin}
 use Rattle.sdm_rules.specs.Triggers.{is_past, no_margin}
-use Rattle.sdm_limits.specs.Sides.{places_of}
 use Rattle.sdm_supervisor.specs.Verdicts.{both, front_of, passes_ebi_at, verdict_at}
 use Rattle.sdm_supervisor.proofs.verdicts.Verdict.add_passed.Goals as goal
 
