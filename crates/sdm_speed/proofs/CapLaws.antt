@@ -94,39 +94,53 @@ capped_speeds z v (s ∷ ss) c rising first past =
 
 -- ---- the steps that are covered, one after the other
 
--- steps that are not covered stay
-uncovered : (z : Zone) (ss : List Step) → ((k : ℕ) (d : Step) → k < length ss → covers (get_or ss k d).start z ≡ false) → map (capped_step z) ss ≡ ss
-uncovered z [] off = refl
-uncovered z (s ∷ ss) off = ap (λ (x : Step). x ∷ map (capped_step z) ss) (stays s (off 0 s (omega arith))) ∙ ap (λ (xs : List Step). s ∷ xs) (uncovered z ss (λ k d l. off (suc k) d (omega arith)))
-  where
-    stays : (x : Step) → covers x.start z ≡ false → capped_step z x ≡ x
-    stays x apart = rw apart refl
-
-module _ (z : Zone) (ss : List Step) (i : ℕ) where
-  -- those before the first that is covered
-  pub front_stays : ((k : ℕ) (d : Step) → k < i → k < length ss → covers (get_or ss k d).start z ≡ false) → map (capped_step z) (take i ss) ++ drop i ss ≡ ss
-  front_stays off =
-      ap (λ (front : List Step). front ++ drop i ss) (uncovered z (take i ss) (λ k d l. let known : k < i = omega (arith, length-take i ss) in rw (get_or-take i ss k d known) (off k d known (omega (arith, length-take i ss)))))
-      ∙ take-append-drop i ss
-
-  -- those past the last that is covered
-  pub rest_stays : ((k : ℕ) (d : Step) → i ≤ k → k < length ss → covers (get_or ss k d).start z ≡ false) → map (capped_step z) (take i ss) ++ drop i ss ≡ map (capped_step z) ss
-  rest_stays off =
-      ap (λ (rest : List Step). map (capped_step z) (take i ss) ++ rest) (sym (uncovered z (drop i ss) (λ k d l. rw (get_or-drop i ss k d) (off (i + k) d (omega arith) (omega (arith, length-drop i ss))))))
-      ∙ sym (map-append (capped_step z) (take i ss) (drop i ss))
-      ∙ ap (map (capped_step z)) (take-append-drop i ss)
+-- a step that is not covered stays
+pub stays : (z : Zone) (s : Step) → covers s.start z ≡ false → capped_step z s ≡ s
+stays z s apart = rw apart refl
 
 -- one that is covered takes the limit
 pub lowered_is : (z : Zone) (s : Step) → covers s.start z ≡ true → record { start = s.start; speed = min z.limit s.speed } ≡ capped_step z s
 lowered_is z s on = rw on refl
 
--- of the steps the first `i` are capped, and then the next one is
-pub one_more : (z : Zone) (ss : List Step) (i : ℕ) (d : Step) → i < length ss → set (map (capped_step z) (take i ss) ++ drop i ss) i (capped_step z (get_or ss i d)) ≡ map (capped_step z) (take (suc i) ss) ++ drop (suc i) ss
-one_more z [] i d known = absurd (omega arith)
-one_more z (s ∷ ss) zero d known = refl
-one_more z (s ∷ ss) (suc i) d known = ap (λ (rest : List Step). capped_step z s ∷ rest) (one_more z ss i d (omega arith))
+-- what is done to each step, and leaves those as they are that it doesn't mean
+module _ (change : Step → Step) where
+  unchanged : (ss : List Step) → ((k : ℕ) (d : Step) → k < length ss → change (get_or ss k d) ≡ get_or ss k d) → map change ss ≡ ss
+  unchanged [] off = refl
+  unchanged (s ∷ ss) off = ap (λ (x : Step). x ∷ map change ss) (off 0 s (omega arith)) ∙ ap (λ (xs : List Step). s ∷ xs) (unchanged ss (λ k d l. off (suc k) d (omega arith)))
 
-pub not_yet : (z : Zone) (ss : List Step) (i : ℕ) (d : Step) → i < length ss → get_or (map (capped_step z) (take i ss) ++ drop i ss) i d ≡ get_or ss i d
-not_yet z [] i d known = absurd (omega arith)
-not_yet z (s ∷ ss) zero d known = refl
-not_yet z (s ∷ ss) (suc i) d known = not_yet z ss i d (omega arith)
+  module _ (ss : List Step) (i : ℕ) where
+    -- those before the first that is meant
+    pub front_stays : ((k : ℕ) (d : Step) → k < i → k < length ss → change (get_or ss k d) ≡ get_or ss k d) → map change (take i ss) ++ drop i ss ≡ ss
+    front_stays off =
+        ap (λ (front : List Step). front ++ drop i ss) (unchanged (take i ss) (λ k d l. let known : k < i = omega (arith, length-take i ss) in rw (get_or-take i ss k d known) (off k d known (omega (arith, length-take i ss)))))
+        ∙ take-append-drop i ss
+
+    -- those past the last that is meant
+    pub rest_stays : ((k : ℕ) (d : Step) → i ≤ k → k < length ss → change (get_or ss k d) ≡ get_or ss k d) → map change (take i ss) ++ drop i ss ≡ map change ss
+    rest_stays off =
+        ap (λ (rest : List Step). map change (take i ss) ++ rest) (sym (unchanged (drop i ss) (λ k d l. rw (get_or-drop i ss k d) (off (i + k) d (omega arith) (omega (arith, length-drop i ss))))))
+        ∙ sym (map-append change (take i ss) (drop i ss))
+        ∙ ap (map change) (take-append-drop i ss)
+
+  -- of the steps the first `i` are changed, and then the next one is
+  pub one_more : (ss : List Step) (i : ℕ) (d : Step) → i < length ss → set (map change (take i ss) ++ drop i ss) i (change (get_or ss i d)) ≡ map change (take (suc i) ss) ++ drop (suc i) ss
+  one_more [] i d known = absurd (omega arith)
+  one_more (s ∷ ss) zero d known = refl
+  one_more (s ∷ ss) (suc i) d known = ap (λ (rest : List Step). change s ∷ rest) (one_more ss i d (omega arith))
+
+  pub not_yet : (ss : List Step) (i : ℕ) (d : Step) → i < length ss → get_or (map change (take i ss) ++ drop i ss) i d ≡ get_or ss i d
+  not_yet [] i d known = absurd (omega arith)
+  not_yet (s ∷ ss) zero d known = refl
+  not_yet (s ∷ ss) (suc i) d known = not_yet ss i d (omega arith)
+
+-- ---- starts
+
+pub cap_starts : (z : Zone) (c : ℤ) (ss : List Step) → IsStart c ss → IsStart c (map (capped_step z) ss)
+cap_starts z c [] start = start
+cap_starts z c (s ∷ ss) (inl e) = inl e
+cap_starts z c (s ∷ ss) (inr later) = inr (cap_starts z c ss later)
+
+pub cap_only : (z : Zone) (c : ℤ) (ss : List Step) → IsStart c (map (capped_step z) ss) → IsStart c ss
+cap_only z c [] start = start
+cap_only z c (s ∷ ss) (inl e) = inl e
+cap_only z c (s ∷ ss) (inr later) = inr (cap_only z c ss later)

@@ -16,7 +16,7 @@ use Rattle.sdm_speed.specs.Changes.{AreSameOutside, IsChangedInRange, cells_of}
 use Rattle.sdm_speed.specs.Held.{IsHeld}
 use Rattle.sdm_speed.specs.Profiles.{ProfileData, mrsp_of, zones_of}
 use Rattle.sdm_speed.specs.Zones.{starts_at, has_start}
-use Rattle.sdm_speed.proofs.ZoneLaws.{capped_first, lowest_limit-append}
+use Rattle.sdm_speed.proofs.ZoneLaws.{capped_first, lowest_limit-append, not_capped}
 use Rattle.sdm_speed.proofs.HeldLaws.{no_value, put_among, tied, tie_self}
 
 -- ---- the MRSP with and without a restriction
@@ -109,9 +109,6 @@ ended past c b after = rw (not_lt_is c past after) (off b)
     off : (b : Bool) → (b && false) ≡ false
     off true = refl
     off false = refl
-
-not_capped : (c : ℤ) (z : Zone) (n : ℕ) → covers c z ≡ false → capped c z n ≡ n
-not_capped c z n off = rw off refl
 
 module _ (length_cm : ℤ) (r : Restriction) (p q : ℤ → ℕ) (caps : (c : ℤ) → q c ≡ capped c (zone_of length_cm r) (p c)) where
   pub same_outside : AreSameOutside p q (cells_of length_cm r)

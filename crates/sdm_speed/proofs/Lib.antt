@@ -7,6 +7,9 @@ pub mod MrspLaws
 pub mod StepLaws
 pub mod SplitLaws
 pub mod CapLaws
+pub mod SteadyLaws
+pub mod JoinLaws
+pub mod BorderLaws
 pub mod LowestLaws
 pub mod FallLaws
 pub mod FallLists

@@ -1,6 +1,6 @@
 -- A step that is put where it starts, with the speed that holds there, changes no speed: before its start it says nothing, and from there
 -- on it says what held.
-use Rattle.std.proofs.Common.{◌≡◌, ℕ, zero, suc, ℤ, List, [], ◌∷◌, length, get_or, Bool, true, false, if◌then◌else◌, int_le, inl, inr, ◌<◌, ◌≤ℤ◌, ◌<ℤ◌, refl, sym, ap, ◌∙◌, arith}
+use Rattle.std.proofs.Common.{◌≡◌, ◌⊎◌, ℕ, zero, suc, ℤ, List, [], ◌∷◌, length, get_or, Bool, true, false, if◌then◌else◌, int_le, inl, inr, ◌<◌, ◌≤ℤ◌, ◌<ℤ◌, refl, sym, ap, ◌∙◌, arith}
 use Rattle.std.specs.List.{insert}
 use Rattle.std.proofs.lemmas.Int.{ints, by_lt_z}
 use Rattle.sdm_num.proofs.Comparisons.{not_le_is}
@@ -67,6 +67,16 @@ module _ (x : Step) where
   insert_keeps (s ∷ ss) zero cell start = inr start
   insert_keeps (s ∷ ss) (suc i) cell (inl e) = inl e
   insert_keeps (s ∷ ss) (suc i) cell (inr later) = inr (insert_keeps ss i cell later)
+
+  pub insert_only : (ss : List Step) (i : ℕ) (c : ℤ) → IsStart c (insert ss i x) → (c ≡ x.start) ⊎ IsStart c ss
+  insert_only [] zero c (inl e) = inl (sym e)
+  insert_only [] zero c (inr none) = absurd none
+  insert_only [] (suc i) c (inl e) = inl (sym e)
+  insert_only [] (suc i) c (inr none) = absurd none
+  insert_only (s ∷ ss) zero c (inl e) = inl (sym e)
+  insert_only (s ∷ ss) zero c (inr later) = inr later
+  insert_only (s ∷ ss) (suc i) c (inl e) = inr (inl e)
+  insert_only (s ∷ ss) (suc i) c (inr later) = elim (insert_only ss i c later) [ inl e ↦ inl e | inr rest ↦ inr (inr rest) ]
 
 -- each step has a start
 pub start_of : (ss : List Step) (i : ℕ) (d : Step) → i < length ss → IsStart (get_or ss i d).start ss

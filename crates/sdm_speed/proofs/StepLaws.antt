@@ -5,7 +5,7 @@ use Rattle.std.specs.List.Sorted.{IsPartitionedBy}
 use Rattle.std.proofs.lemmas.Int.{ints}
 use Rattle.sdm_num.proofs.Comparisons.{le_is, not_le_is, lt_is, lt_of}
 use Rattle.sdm_speed.specs.declared.steps.Step.{Step}
-use Rattle.sdm_speed.specs.Steps.{AreAfter, AreRising, IsStart, speed_to, speeds_of}
+use Rattle.sdm_speed.specs.Steps.{AreAfter, AreRising, ArePartedAt, IsStart, speed_to, speeds_of}
 
 -- stands for a step that there is not
 abbrev pub none : Step
@@ -22,7 +22,7 @@ pub after_earlier : (cell c : ℤ) (ss : List Step) → AreAfter cell ss → c �
 after_earlier cell c [] after le = tt
 after_earlier cell c (s ∷ ss) after le = (let past = after.0 in omega (arith, ints), after.1)
 
-after_all : (cell : ℤ) (ss : List Step) (j : ℕ) (d : Step) → AreAfter cell ss → j < length ss → cell <ℤ (get_or ss j d).start
+pub after_all : (cell : ℤ) (ss : List Step) (j : ℕ) (d : Step) → AreAfter cell ss → j < length ss → cell <ℤ (get_or ss j d).start
 after_all cell [] j d after known = absurd (omega arith)
 after_all cell (s ∷ ss) zero d after known = after.0
 after_all cell (s ∷ ss) (suc j) d after known = let first = after.0 in let rest = after_all s.start ss j d after.1 (omega arith) in omega (arith, ints)
@@ -78,3 +78,25 @@ pub speed_to_next : (v : ℕ) (ss : List Step) (i : ℕ) (d : Step) → i < leng
 speed_to_next v [] i d known = absurd (omega arith)
 speed_to_next v (s ∷ ss) zero d known = refl
 speed_to_next v (s ∷ ss) (suc i) d known = speed_to_next s.speed ss i d (omega arith)
+
+-- a step has the speed of its start
+pub speed_at_start : (v : ℕ) (ss : List Step) (k : ℕ) (d : Step) → AreRising ss → k < length ss → speeds_of v ss (get_or ss k d).start ≡ (get_or ss k d).speed
+speed_at_start v [] k d rising known = absurd (omega arith)
+speed_at_start v (s ∷ ss) zero d rising known = first_begun v s ss s.start (omega (arith, ints)) ∙ none_begun s.start s.speed ss s.start rising (omega (arith, ints))
+speed_at_start v (s ∷ ss) (suc k) d rising known =
+    let past = after_all s.start ss k d rising (omega arith) in
+    first_begun v s ss (get_or ss k d).start (omega (arith, ints)) ∙ speed_at_start s.speed ss k d (rising_of s.start ss rising) (omega arith)
+
+-- where a step starts at the cell, it is the first that does not start before it
+pub start_here : (ss : List Step) (i : ℕ) (cell : ℤ) (d : Step) → AreRising ss → ArePartedAt cell ss i → IsStart cell ss → (i < length ss) × ((get_or ss i d).start ≡ cell)
+start_here [] i cell d rising parted start = absurd start
+start_here (s ∷ ss) zero cell d rising parted (inl e) = (omega arith, e)
+start_here (s ∷ ss) zero cell d rising parted (inr later) =
+    let past = start_after s.start cell ss rising later in
+    let from = parted.from 0 s (omega arith) (omega arith) in
+    absurd (omega (arith, ints))
+start_here (s ∷ ss) (suc i) cell d rising parted (inl e) = let before = parted.before 0 s (omega arith) in absurd (omega (arith, ints))
+start_here (s ∷ ss) (suc i) cell d rising parted (inr later) =
+    let bound = parted.bound in
+    let rest = start_here ss i cell d (rising_of s.start ss rising) (record { bound = omega arith; before = λ k e l. parted.before (suc k) e (omega arith); from = λ k e l m. parted.from (suc k) e (omega arith) (omega arith) }) later in
+    (omega (arith, rest.0), rest.1)

@@ -12,6 +12,10 @@ either_first true false k m n = refl
 either_first false true k m n = refl
 either_first false false k m n = refl
 
+-- a zone that does not cover the cell
+pub not_capped : (c : ℤ) (z : Zone) (n : ℕ) → covers c z ≡ false → capped c z n ≡ n
+not_capped c z n off = rw off refl
+
 -- it does not matter which of two zones is taken first
 pub capped_in_any_order : (c : ℤ) (y z : Zone) (n : ℕ) → capped c y (capped c z n) ≡ capped c z (capped c y n)
 capped_in_any_order c y z n = either_first (covers c y) (covers c z) y.limit z.limit n

@@ -3,6 +3,7 @@ use Rattle.std.specs.Prelude.{◌≡◌, ℤ, pos, List, ◌++◌, All, map, vec
 use Rattle.sdm_rules.specs.Profile.{Zone, zones_of_track, zone_of}
 use Rattle.sdm_rules.specs.Records.{most_restrictions}
 use Rattle.sdm_speed.specs.declared.profiles.Profile.TheInside.{Inside}
+use Rattle.sdm_speed.specs.Borders.{AreAtBorders}
 use Rattle.sdm_speed.specs.Held.{AreDistinct, IsHeld, by_identity}
 use Rattle.sdm_speed.specs.Zones.{IsZone, limits_of}
 use Rattle.sdm_speed.specs.Steps.{AreRising, speeds_of}
@@ -36,6 +37,7 @@ pub record IsKept (f : Inside) : Type 0 where
   pub statics_rising : AreRising f.statics.list.items
   pub steps : (c : ℤ) → speeds_of f.steps.before f.steps.list.items c ≡ limits_of f.max_speed (static_zones_of f ++ held_zones_of f) c
   pub steps_rising : AreRising f.steps.list.items
-  pub steps_few : vec_len f.steps.list ≤ vec_len f.statics.list + 2 * vec_len f.held
+  pub steps_before : f.steps.before ≡ f.statics.before
+  pub borders : AreAtBorders (pos f.length_cm) f.statics.list.items f.held.items f.steps.list.items
   pub held_room : most_restrictions ≤ vec_capacity f.held
   pub steps_room : vec_len f.statics.list + 2 * most_restrictions ≤ vec_capacity f.steps.list

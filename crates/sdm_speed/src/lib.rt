@@ -3,6 +3,8 @@
 #![tactic(auto)]
 
 mod changes;
+mod ends;
+mod lifts;
 mod profiles;
 mod steps;
 mod zones;

@@ -1,22 +1,24 @@
-//! The speed profile of a train on a track. Its speeds are kept as steps, found anew where a restriction comes or goes: one that comes
-//! lowers them, and after one has gone the static speeds are lowered by those that are left. Both tell the cells whose speed may be
-//! another now, so that what is kept elsewhere of the other cells can stay.
+//! The speed profile of a train on a track. Its speeds are kept as steps: a restriction that comes lowers those in its zone, and one that
+//! goes leaves them to what is left. Both tell the cells whose speed may be another now, so that what is kept elsewhere of the other cells
+//! can stay.
 
-ghost use Rattle.std.specs.Prelude.{◌≡◌, ℤ, pos, ◌+◌, ◌*◌, ◌≤◌, ◌≤ℤ◌, All, Some, None, IfOk, IfErr, IfSome, MatchOption, OnOk, OnErr, length, map, min, position, vec_len, vec_capacity};
+ghost use Rattle.std.specs.Prelude.{◌≡◌, ℤ, pos, ◌*◌, ◌≤◌, ◌≤ℤ◌, All, Some, None, IfOk, IfErr, IfSome, MatchOption, OnOk, OnErr, length, min, position, vec_len};
 ghost use Rattle.std.specs.FinMap as finite;
 ghost use Rattle.std.specs.Int.{int_gap};
 ghost use Rattle.sdm_rules.specs.Cells.{lowest};
-ghost use Rattle.sdm_rules.specs.Profile.{lowest_limit, zones_of_track, zone_of, end_for};
+ghost use Rattle.sdm_rules.specs.Profile.{zones_of_track};
 ghost use Rattle.sdm_rules.specs.Records.{restrict_fault, revoke_fault};
 ghost use Rattle.sdm_rules.specs.Targets.{IsNextFall, HasNoFall};
 ghost use Rattle.sdm_track.specs.Ranges.{AreSpeeds, longest_track};
 ghost use Rattle.sdm_speed.specs.Zones.{IsLimit, IsZone, IsFallInRange, limits_of};
 ghost use Rattle.sdm_speed.specs.Steps.{AreRising, speeds_of};
-ghost use Rattle.sdm_speed.specs.Held.{IsHeld, has_id};
-ghost use Rattle.sdm_speed.specs.Changes.{AreSameOutside, IsChangedInRange, cells_of};
+ghost use Rattle.sdm_speed.specs.Held.{has_id};
+ghost use Rattle.sdm_speed.specs.Changes.{AreSameOutside, IsChangedInRange};
 ghost use Rattle.sdm_speed.specs.Profiles.{mrsp_of, new_profile, IsProfile};
 
 use crate::changes::Changed;
+use crate::ends::{cells_of, end_for, zone_of};
+use crate::lifts::raise;
 use crate::steps::Steps;
 use crate::zones::Zone;
 use sdm_num::NoMemory;
@@ -67,20 +69,6 @@ fn speeds_of(alloc: Global, track: &Track) -> Result<Vec<SpeedStep>, NoMemory>
     Ok(speeds)
 }
 
-/// Where a speed limit ends for the front end, with a train of this length in cm.
-fn end_for(length_cm: u32, delayed: bool, end: i64) -> i32
-    requires train { length_cm ≤ 150_000 }
-    requires not_before { pos 0 ≤ℤ end }
-    requires on_track { end ≤ℤ longest_track }
-    ensures { result ≡ end_for (pos length_cm) delayed end }
-{
-    if delayed {
-        (end + i64::from(length_cm)) as i32
-    } else {
-        end as i32
-    }
-}
-
 /// The zones of the static speed profile. Each border closes a zone and opens the next.
 fn static_zones(alloc: Global, speeds: &[SpeedStep], length_cm: u32) -> Result<Vec<Zone>, NoMemory>
     requires speeds { AreSpeeds longest_track speeds.now }
@@ -121,50 +109,6 @@ fn steps_of(alloc: Global, zones: &[Zone], top: u16) -> Result<Steps, NoMemory>
         steps.lower(*zone);
     }
     Ok(steps)
-}
-
-/// The cells that a temporary restriction covers.
-fn cells_of(r: Restriction, length_cm: u32) -> Changed
-    requires track { IsHeld r }
-    requires train { length_cm ≤ 150_000 }
-    ensures { result ≡ cells_of (pos length_cm) r }
-{
-    Changed {
-        first: r.start as i32,
-        past: end_for(length_cm, r.delayed, i64::from(r.end)),
-    }
-}
-
-/// The zone of a temporary restriction.
-fn zone_of(r: Restriction, length_cm: u32) -> Zone
-    requires track { IsHeld r }
-    requires train { length_cm ≤ 150_000 }
-    ensures { result ≡ zone_of (pos length_cm) r }
-{
-    let cells = cells_of(r, length_cm);
-    Zone {
-        first: Some(cells.first),
-        past: Some(cells.past),
-        limit: r.speed,
-    }
-}
-
-/// Makes the speeds those of the static profile, lowered by the restrictions held.
-fn lower_anew(steps: &mut Steps, statics: &Steps, held: &[Restriction], length_cm: u32)
-    requires held { All IsHeld held.now }
-    requires few { length held.now ≤ 32 }
-    requires train { length_cm ≤ 150_000 }
-    requires rising { AreRising statics.now.list.items }
-    requires room { vec_len statics.now.list + 2 * length held.now ≤ vec_capacity steps.old.list }
-    ensures speeds { (c : ℤ) → speeds_of steps.new.before steps.new.list.items c ≡ lowest_limit (speeds_of statics.now.before statics.now.list.items c) c (map (zone_of (pos length_cm)) held.now) }
-    ensures rising { AreRising steps.new.list.items }
-    ensures few { vec_len steps.new.list ≤ vec_len statics.now.list + 2 * length held.now }
-    ensures room { vec_capacity steps.old.list ≤ vec_capacity steps.new.list }
-{
-    steps.reset(statics);
-    for r in held {
-        steps.lower(zone_of(*r, length_cm));
-    }
 }
 
 /// At which place the restriction with this identity stands.
@@ -286,7 +230,13 @@ impl Profile {
             return Err(RevokeFault::Unknown { id });
         };
         let lifted = self.held.remove(place);
-        lower_anew(&mut self.steps, &self.statics, &self.held, self.length_cm);
+        raise(
+            &mut self.steps,
+            lifted,
+            &self.statics,
+            &self.held,
+            self.length_cm,
+        );
         Ok(cells_of(lifted, self.length_cm))
     }
 

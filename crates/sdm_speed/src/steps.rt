@@ -1,11 +1,12 @@
 //! Speeds of all cells as steps. They change only where a step starts, so a look at the step in which a cell lies answers for the
 //! cell, and the falls are among the starts. A zone lowers them in place: its ends become starts, and each step that it covers takes
-//! its limit.
+//! its limit. A step can take another speed, and go again, where a restriction has gone.
 
-ghost use Rattle.std.specs.Prelude.{◌≡◌, ◌+◌, ◌<◌, ◌≤◌, ◌+ℤ◌, ◌≤ℤ◌, ℕ, ℤ, pos, [], Some, IfOk, length, map, min, vec_len, vec_capacity};
+ghost use Rattle.std.specs.Prelude.{◌≡◌, ◌⊎◌, ◌+◌, ◌<◌, ◌≤◌, ◌+ℤ◌, ◌≤ℤ◌, ℕ, ℤ, pos, [], Some, true, IfOk, length, map, min, set, slice_index_or, vec_len, vec_capacity};
 ghost use Rattle.std.specs.Int.{int_gap};
 ghost use Rattle.sdm_rules.specs.Cells.{lowest};
 ghost use Rattle.sdm_rules.specs.Profile.{capped};
+ghost use Rattle.sdm_speed.specs.Borders.{AreSpeedsAt, HasStartsOf};
 ghost use Rattle.sdm_speed.specs.Steps.{AreAfter, AreCovered, AreRising, ArePartedAt, IsFallAfter, IsStart, KeepsStarts, capped_before, capped_step, speed_to, speeds_of};
 
 use crate::zones::Zone;
@@ -34,11 +35,11 @@ struct Rest<'a> {
     later: &'a [Step],
 }
 
-// The places of steps in their list: from the first one up to, but not including, the second.
+/// The places of steps in their list: from the first one up to, but not including, the second.
 #[derive(Clone, Copy)]
-struct Places {
-    from: usize,
-    to: usize,
+pub struct Places {
+    pub from: usize,
+    pub to: usize,
 }
 
 // The step with at most this speed.
@@ -120,6 +121,43 @@ impl Steps {
         };
     }
 
+    /// The speed of a cell.
+    pub fn speed_at(&self, cell: i32) -> u16
+        requires { AreRising self.now.list.items }
+        ensures { result ≡ speeds_of self.now.before self.now.list.items cell }
+    {
+        self.from_cell(cell).speed
+    }
+
+    /// Whether a step starts at a cell.
+    pub fn starts_at(&self, cell: i32) -> bool
+        requires { AreRising self.now.list.items }
+        ensures yes { result ≡ true → IsStart cell self.now.list.items }
+        ensures no { IsStart cell self.now.list.items → result ≡ true }
+    {
+        let i = self.started_before(i64::from(cell));
+        i < self.list.len() && self.list[i].start == cell
+    }
+
+    /// The cell where the step at this place starts.
+    pub fn start(&self, i: usize) -> i32
+        requires { i < length self.now.list.items }
+        ensures { (d : Step) → result ≡ (slice_index_or self.now.list.items i d).start }
+    {
+        self.list[i].start
+    }
+
+    /// Gives the step at this place a speed.
+    pub fn set_speed(&mut self, i: usize, speed: u16)
+        requires { i < length self.old.list.items }
+        ensures before { self.new.before ≡ self.old.before }
+        ensures list { (d : Step) → self.new.list.items ≡ set self.old.list.items i (record { start = (slice_index_or self.old.list.items i d).start; speed = speed }) }
+        ensures len { vec_len self.new.list ≡ vec_len self.old.list }
+        ensures room { vec_capacity self.new.list ≡ vec_capacity self.old.list }
+    {
+        self.list[i].speed = speed;
+    }
+
     // How many steps start before a cell.
     fn started_before(&self, cell: i64) -> usize
         requires { AreRising self.now.list.items }
@@ -154,13 +192,32 @@ impl Steps {
         }
     }
 
+    /// Takes out the step that starts at a cell, if one does.
+    pub fn join(&mut self, cell: i32)
+        requires { AreRising self.old.list.items }
+        ensures before { self.new.before ≡ self.old.before }
+        ensures rising { AreRising self.new.list.items }
+        ensures speeds { (speed : ℤ → ℕ) → AreSpeedsAt speed self.old.list.items → AreSpeedsAt speed self.new.list.items }
+        ensures fewer { (c : ℤ) → IsStart c self.new.list.items → IsStart c self.old.list.items }
+        ensures gone { IsStart cell self.new.list.items → ⊥ }
+        ensures others { (c : ℤ) → IsStart c self.old.list.items → (c ≡ cell) ⊎ IsStart c self.new.list.items }
+        ensures room { vec_capacity self.new.list ≡ vec_capacity self.old.list }
+    {
+        let i = self.started_before(i64::from(cell));
+        if i < self.list.len() && self.list[i].start == cell {
+            self.list.remove(i);
+        }
+    }
+
     // Lets a step start at a cell, for which there is room. No speed changes.
     fn split(&mut self, cell: i32)
         requires rising { AreRising self.old.list.items }
         requires room { vec_len self.old.list < vec_capacity self.old.list }
         ensures speeds { (c : ℤ) → speeds_of self.new.before self.new.list.items c ≡ speeds_of self.old.before self.old.list.items c }
+        ensures before { self.new.before ≡ self.old.before }
         ensures start { IsStart cell self.new.list.items }
         ensures starts { KeepsStarts self.old.list.items self.new.list.items }
+        ensures only { (c : ℤ) → IsStart c self.new.list.items → (c ≡ cell) ⊎ IsStart c self.old.list.items }
         ensures rising { AreRising self.new.list.items }
         ensures few { vec_len self.new.list ≤ vec_len self.old.list + 1 }
         ensures room { vec_capacity self.new.list ≡ vec_capacity self.old.list }
@@ -181,8 +238,10 @@ impl Steps {
         requires rising { AreRising self.old.list.items }
         requires room { vec_len self.old.list < vec_capacity self.old.list }
         ensures speeds { (c : ℤ) → speeds_of self.new.before self.new.list.items c ≡ speeds_of self.old.before self.old.list.items c }
+        ensures before { self.new.before ≡ self.old.before }
         ensures start { (b : ℤ) → border ≡ Some b → IsStart b self.new.list.items }
         ensures starts { KeepsStarts self.old.list.items self.new.list.items }
+        ensures only { (c : ℤ) → IsStart c self.new.list.items → (border ≡ Some c) ⊎ IsStart c self.old.list.items }
         ensures rising { AreRising self.new.list.items }
         ensures few { vec_len self.new.list ≤ vec_len self.old.list + 1 }
         ensures room { vec_capacity self.new.list ≡ vec_capacity self.old.list }
@@ -192,8 +251,8 @@ impl Steps {
         }
     }
 
-    // The places of the steps whose starts the zone covers.
-    fn covered(&self, zone: Zone) -> Places
+    /// The places of the steps whose starts the zone covers.
+    pub fn covered(&self, zone: Zone) -> Places
         requires { AreRising self.now.list.items }
         ensures { AreCovered zone self.now.list.items result.from result.to }
     {
@@ -230,6 +289,8 @@ impl Steps {
         requires rising { AreRising self.old.list.items }
         requires room { vec_len self.old.list + 2 ≤ vec_capacity self.old.list }
         ensures speeds { (c : ℤ) → speeds_of self.new.before self.new.list.items c ≡ capped c zone (speeds_of self.old.before self.old.list.items c) }
+        ensures before { self.new.before ≡ capped_before zone self.old.before }
+        ensures starts { HasStartsOf zone self.old.list.items self.new.list.items }
         ensures rising { AreRising self.new.list.items }
         ensures few { vec_len self.new.list ≤ vec_len self.old.list + 2 }
         ensures room { vec_capacity self.new.list ≡ vec_capacity self.old.list }

@@ -2,7 +2,7 @@
 //! profile and temporary restrictions are zones alike.
 
 ghost use Rattle.std.specs.Prelude.{◌≡◌};
-ghost use Rattle.sdm_rules.specs.Profile.{covers};
+ghost use Rattle.sdm_rules.specs.Profile.{capped, covers};
 
 use std::marker::Model;
 
@@ -39,5 +39,16 @@ impl Zone {
             Some(past) => cell < past,
         };
         begun && goes_on
+    }
+
+    /// A speed of a cell, which is at most the zone's limit where the zone covers the cell.
+    pub fn capped(self, cell: i32, speed: u16) -> u16
+        ensures { result ≡ capped cell self speed }
+    {
+        if self.covers(cell) {
+            speed.min(self.limit)
+        } else {
+            speed
+        }
     }
 }

@@ -5,6 +5,7 @@ use Rattle.std.proofs.lemmas.List.{append-nil}
 use Rattle.std.proofs.lemmas.List.Elements.{All-nil}
 use Rattle.sdm_speed.specs.declared.steps.Step.{Step}
 use Rattle.sdm_speed.specs.Held.{IsHeld}
+use Rattle.sdm_speed.proofs.BorderLaws.{borders_none}
 use Rattle.sdm_speed.proofs.HeldLaws.{len_is}
 use Rattle.sdm_speed.proofs.profiles.Profile.begin.Goals as goal
 
@@ -37,7 +38,8 @@ invariant_of-result c =
       statics_rising = c.in_ok-statics.ensures.rising;
       steps = λ cell. rw (c.reset.ensures.before, c.reset.ensures.list, held_is, append-nil) (statics cell);
       steps_rising = rw c.reset.ensures.list c.in_ok-statics.ensures.rising;
-      steps_few = let same = ap (λ (steps : List Step). length steps) c.reset.ensures.list in omega arith;
+      steps_before = c.reset.ensures.before;
+      borders = rw (c.reset.ensures.list, held_is) (borders_none _ _);
       held_room = omega (arith, c.in_ok-held.ensures.exact);
       steps_room = omega (arith, c.reset.ensures.room, c.in_ok-steps.ensures.room, c.in_ok-statics.ensures.few, c.deref-2.ensures.len, c.len.ensures);
     }

@@ -1,4 +1,4 @@
--- The restriction is taken out, and the steps are lowered anew by those that are left.
+-- The restriction is taken out, and the steps in its zone are raised to what is left.
 use Rattle.std.proofs.Common.{pos, Some, map, refl, sym, ap, subst, ◌∙◌, arith}
 use Rattle.std.proofs.lemmas.Int.{ints}
 use Rattle.sdm_rules.specs.Profile.{lowest_limit, zone_of}
@@ -6,7 +6,8 @@ use Rattle.sdm_speed.specs.Held.{AreDistinct, IsHeld}
 use Rattle.sdm_speed.specs.ProfileFields.{data_of, static_zones_of}
 use Rattle.sdm_speed.proofs.ZoneLaws.{lowest_limit-after}
 use Rattle.sdm_speed.proofs.ChangeLaws.{lifted_outside, cells_in_range}
-use Rattle.sdm_speed.proofs.HeldLaws.{get_at, len_is, contains_is, distinct_less, removed, All-remove}
+use Rattle.sdm_speed.proofs.BorderLaws.{each_left, limit_less, no_other_left}
+use Rattle.sdm_speed.proofs.HeldLaws.{get_at, len_is, contains_is, distinct_less, none, removed, All-remove}
 use Rattle.sdm_speed.proofs.KeptLaws.{held_count, with_held}
 use Rattle.sdm_speed.proofs.profiles.Profile.lift.Goals as goal
 
@@ -15,19 +16,28 @@ returns-in_default-clause-refused c =
     let place = rw c.deref.ensures.value at c.in_default.ensures in
     rw (← c.self.view_is, contains_is c.self.inside.held.items c.args.id, ← place) refl
 
-pub lower_anew-requires : goal.lower_anew-requires
-lower_anew-requires c =
+pub raise-requires : goal.raise-requires
+raise-requires c =
     let kept = c.self.invariant in
-    let ok_held = c.self.inside.held.ok.0 in
-    let count = held_count _ kept _ refl in
+    let held = c.self.inside.held.items in
+    let length_cm = pos c.self.inside.length_cm in
     let longest = kept.in_range.longest_train in
-    record {
-      held = rw (c.deref-2.ensures.value, c.remove-lifted.ensures.items) (All-remove IsHeld _ _ kept.each_held);
-      few = omega (arith, c.deref-2.ensures.len, c.remove-lifted.ensures.len, count, kept.in_range.few);
+    let place = rw c.deref.ensures.value at c.in-Some.ensures in
+    let known = (get_at held c.args.id c.in-Some.place none (sym place)).0 in
+    rw (c.deref-2.ensures.value, c.remove-lifted.ensures.items) (record {
+      rising = kept.steps_rising;
+      speeds = λ cell.
+          kept.steps cell ∙ lowest_limit-after c.self.inside.max_speed cell (static_zones_of c.self.inside) (map (zone_of length_cm) held)
+          ∙ ap (λ n. lowest_limit n cell (map (zone_of length_cm) held)) (sym (kept.statics cell))
+          ∙ rw c.remove-lifted.ensures.value (limit_less _ cell length_cm held c.in-Some.place c.remove-lifted.result known);
+      before = kept.steps_before;
+      each = λ cell. each_left length_cm _ held c.in-Some.place _ kept.borders cell;
+      no_other = λ cell start. rw c.remove-lifted.ensures.value (no_other_left length_cm _ held c.in-Some.place _ kept.borders cell c.remove-lifted.result start);
+      statics = kept.statics_rising;
+      held = All-remove IsHeld _ _ kept.each_held;
+      lifted = rw c.remove-lifted.ensures.value (kept.each_held c.in-Some.place c.remove-lifted.result known);
       train = omega (arith, ints);
-      rising = kept.statics_rising;
-      room = omega (arith, c.deref-2.ensures.len, c.remove-lifted.ensures.len, count, kept.in_range.few, kept.steps_room);
-    }
+    })
 
 pub invariant_of-self : goal.invariant_of-self
 invariant_of-self c =
@@ -39,7 +49,7 @@ invariant_of-self c =
     let distinct : AreDistinct left.items = rw c.remove-lifted.ensures.items (distinct_less held c.in-Some.place kept.distinct) in
     let ok_held = c.self.inside.held.ok.0 in
     let ok_left = left.ok.0 in
-    let lowered = rw c.deref-2.ensures.value at c.lower_anew.ensures.speeds in
+    let raised = rw c.deref-2.ensures.value at c.raise.ensures in
     record {
       in_range = with_held _ _ kept.in_range (rw (len_is left.items distinct) (omega (arith, c.remove-lifted.ensures.len, held_count _ kept _ refl, kept.in_range.few)));
       distinct = distinct;
@@ -48,12 +58,13 @@ invariant_of-self c =
       statics = kept.statics;
       statics_rising = kept.statics_rising;
       steps = λ cell.
-          lowered cell ∙ ap (λ n. lowest_limit n cell (map (zone_of length_cm) left.items)) (kept.statics cell)
+          raised.speeds cell ∙ ap (λ n. lowest_limit n cell (map (zone_of length_cm) left.items)) (kept.statics cell)
           ∙ sym (lowest_limit-after top cell (static_zones_of c.self.inside) (map (zone_of length_cm) left.items));
-      steps_rising = c.lower_anew.ensures.rising;
-      steps_few = omega (arith, c.lower_anew.ensures.few, c.deref-2.ensures.len);
+      steps_before = raised.before;
+      steps_rising = raised.rising;
+      borders = raised.borders;
       held_room = omega (arith, kept.held_room, c.remove-lifted.ensures.capacity);
-      steps_room = omega (arith, kept.steps_room, c.lower_anew.ensures.room);
+      steps_room = omega (arith, kept.steps_room, raised.room);
     }
 
 pub returns-clause-accepted : goal.returns-clause-accepted

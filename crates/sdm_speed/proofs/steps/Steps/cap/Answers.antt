@@ -2,13 +2,13 @@
 use Rattle.std.proofs.Common.{◌≡◌, ◌<◌, length, get_or, refl, sym, ap, ◌∙◌, add-one, arith}
 use Rattle.sdm_rules.specs.Profile.{Zone}
 use Rattle.sdm_speed.specs.Steps.{capped_step}
-use Rattle.sdm_speed.proofs.CapLaws.{front_stays, rest_stays, lowered_is, one_more, not_yet}
+use Rattle.sdm_speed.proofs.CapLaws.{front_stays, rest_stays, lowered_is, one_more, not_yet, stays}
 use Rattle.sdm_speed.proofs.steps.Steps.cap.Goals as goal
 
 pub loop-i-init : goal.loop-i-init
 loop-i-init c = record {
   before = refl;
-  list = sym (front_stays c.args.zone c.args.self.now.list.items c.covered-covered.result.from c.covered-covered.ensures.before);
+  list = sym (front_stays (capped_step c.args.zone) c.args.self.now.list.items c.covered-covered.result.from (λ k d l m. stays c.args.zone _ (c.covered-covered.ensures.before k d l m)));
   len = refl;
   room = refl;
 }
@@ -22,17 +22,17 @@ loop-i-preserved c =
     let inv = c.loop-i.invariant in
     let covered = c.covered-covered.ensures in
     let known : i < length steps = omega (arith, covered.bound) in
-    let read : step ≡ get_or steps i step = (rw inv.list at c.index.ensures) ∙ not_yet zone steps i step known in
+    let read : step ≡ get_or steps i step = (rw inv.list at c.index.ensures) ∙ not_yet (capped_step zone) steps i step known in
     let limit_is = ap (λ (z : Zone). z.limit) c.zone.view_is in
     let on = rw (← read) at (covered.within i step c.loop-i.auto.i c.loop-i-test.true) in
     let capped : c.lowered.result ≡ capped_step zone (get_or steps i step) = (rw limit_is at c.lowered.ensures) ∙ lowered_is zone step on ∙ ap (capped_step zone) read in
     record {
       before = inv.before;
-      list = rw (inv.list, capped, add-one) (one_more zone steps i step known);
+      list = rw (inv.list, capped, add-one) (one_more (capped_step zone) steps i step known);
       len = inv.len;
       room = inv.room;
     }
 
 pub returns-clause-list : goal.returns-clause-list
 returns-clause-list c =
-    c.loop-i.invariant.list ∙ rest_stays c.args.zone c.args.self.now.list.items c.loop-i.i (λ k d l m. c.covered-covered.ensures.past k d (omega (arith, c.loop-i-test.false)) m)
+    c.loop-i.invariant.list ∙ rest_stays (capped_step c.args.zone) c.args.self.now.list.items c.loop-i.i (λ k d l m. stays c.args.zone _ (c.covered-covered.ensures.past k d (omega (arith, c.loop-i-test.false)) m))

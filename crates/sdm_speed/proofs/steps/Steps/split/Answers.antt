@@ -3,7 +3,7 @@ use Rattle.std.proofs.Common.{◌≡◌, ◌<◌, ◌<ℤ◌, ◌≤ℤ◌, w32,
 use Rattle.std.proofs.lemmas.Int.{ints, to_z-of_z, by_lt_z}
 use Rattle.std.proofs.lemmas.List.{get_or_default}
 use Rattle.sdm_speed.specs.declared.steps.Step.{Step}
-use Rattle.sdm_speed.proofs.SplitLaws.{insert_same, insert_rising, insert_start, insert_keeps, start_of}
+use Rattle.sdm_speed.proofs.SplitLaws.{insert_same, insert_rising, insert_start, insert_keeps, insert_only, start_of}
 use Rattle.sdm_speed.proofs.steps.Steps.split.Goals as goal
 use Rattle.sdm_speed.proofs.steps.Steps.split.Goals.{else-i-len-via-then-i-len+else-index-cell, else-i-len-via-else-i-len}
 
@@ -52,3 +52,8 @@ returns-clause-rising c =
       | else-i-len-via-else-i-len w ↦ absurd (omega (arith, w.if-i-len.false, c.len.ensures))
     ] in
     rw (c.insert.ensures.items, c.in-Ok.is, cell_is) (insert_rising (record { start = c.args.cell; speed = c.speed_to-speed.result }) list i c.requires.rising (λ k d l m. parted.before k d l) past)
+
+pub returns-clause-only : goal.returns-clause-only
+returns-clause-only c x start =
+    let cell_is : to_z w32 (of_z w32 c.args.cell) ≡ c.args.cell = to_z-of_z w32 c.args.cell c.ranges.cell in
+    insert_only (record { start = c.args.cell; speed = c.speed_to-speed.result }) c.args.self.now.list.items c.started_before-i.result x (rw (c.insert.ensures.items, c.in-Ok.is, cell_is) at start)

@@ -1,0 +1,51 @@
+//! Where speed limits end, and the cells that a temporary restriction covers.
+
+ghost use Rattle.std.specs.Prelude.{◌≡◌, ◌≤◌, ◌≤ℤ◌, pos};
+ghost use Rattle.sdm_rules.specs.Profile.{end_for, zone_of};
+ghost use Rattle.sdm_track.specs.Ranges.{longest_track};
+ghost use Rattle.sdm_speed.specs.Changes.{cells_of};
+ghost use Rattle.sdm_speed.specs.Held.{IsHeld};
+
+use crate::changes::Changed;
+use crate::zones::Zone;
+use sdm_rules::Restriction;
+
+/// Where a speed limit ends for the front end, with a train of this length in cm.
+pub fn end_for(length_cm: u32, delayed: bool, end: i64) -> i32
+    requires train { length_cm ≤ 150_000 }
+    requires not_before { pos 0 ≤ℤ end }
+    requires on_track { end ≤ℤ longest_track }
+    ensures { result ≡ end_for (pos length_cm) delayed end }
+{
+    if delayed {
+        (end + i64::from(length_cm)) as i32
+    } else {
+        end as i32
+    }
+}
+
+/// The cells that a temporary restriction covers.
+pub fn cells_of(r: Restriction, length_cm: u32) -> Changed
+    requires track { IsHeld r }
+    requires train { length_cm ≤ 150_000 }
+    ensures { result ≡ cells_of (pos length_cm) r }
+{
+    Changed {
+        first: r.start as i32,
+        past: end_for(length_cm, r.delayed, i64::from(r.end)),
+    }
+}
+
+/// The zone of a temporary restriction.
+pub fn zone_of(r: Restriction, length_cm: u32) -> Zone
+    requires track { IsHeld r }
+    requires train { length_cm ≤ 150_000 }
+    ensures { result ≡ zone_of (pos length_cm) r }
+{
+    let cells = cells_of(r, length_cm);
+    Zone {
+        first: Some(cells.first),
+        past: Some(cells.past),
+        limit: r.speed,
+    }
+}

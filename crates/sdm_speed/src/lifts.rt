@@ -1,0 +1,132 @@
+//! What a restriction that is lifted leaves. Only the steps in its zone may have another speed, so these take those of the static profile
+//! and of the restrictions that are left; then a step goes that started at an end of the zone alone.
+
+ghost use Rattle.std.specs.Prelude.{◌≡◌, ◌⊎◌, ◌≤◌, ℕ, ℤ, pos, true, All, map, vec_capacity};
+ghost use Rattle.sdm_rules.specs.Profile.{capped, zone_of};
+ghost use Rattle.sdm_speed.specs.Borders.{AreAtBorders, AreSpeedsAt, IsBorder, IsEnd, IsEndOfOne, retaken, speed_under};
+ghost use Rattle.sdm_speed.specs.Held.{IsHeld};
+ghost use Rattle.sdm_speed.specs.Steps.{AreRising, IsStart, speeds_of};
+
+use crate::ends::{cells_of, zone_of};
+use crate::steps::Steps;
+use sdm_rules::Restriction;
+
+/// The speed of a cell: the static one, lowered by restrictions.
+fn speed_under(statics: &Steps, held: &[Restriction], length_cm: u32, cell: i32) -> u16
+    requires rising { AreRising statics.now.list.items }
+    requires held { All IsHeld held.now }
+    requires train { length_cm ≤ 150_000 }
+    ensures { result ≡ speed_under (pos length_cm) statics.now.before statics.now.list.items held.now cell }
+{
+    let mut speed = statics.speed_at(cell);
+    for r in held {
+        speed = zone_of(*r, length_cm).capped(cell, speed);
+    }
+    speed
+}
+
+/// Whether the zone of a restriction begins or ends at a cell.
+fn is_end_of_one(held: &[Restriction], length_cm: u32, cell: i32) -> bool
+    requires held { All IsHeld held.now }
+    requires train { length_cm ≤ 150_000 }
+    ensures yes { result ≡ true → IsEndOfOne (pos length_cm) cell held.now }
+    ensures no { IsEndOfOne (pos length_cm) cell held.now → result ≡ true }
+{
+    for r in held {
+        let cells = cells_of(*r, length_cm);
+        if cells.first == cell || cells.past == cell {
+            return true;
+        }
+    }
+    false
+}
+
+/// Whether a static step starts at a cell, or the zone of a restriction begins or ends there.
+fn is_border(statics: &Steps, held: &[Restriction], length_cm: u32, cell: i32) -> bool
+    requires rising { AreRising statics.now.list.items }
+    requires held { All IsHeld held.now }
+    requires train { length_cm ≤ 150_000 }
+    ensures yes { result ≡ true → IsBorder (pos length_cm) statics.now.list.items held.now cell }
+    ensures no { IsBorder (pos length_cm) statics.now.list.items held.now cell → result ≡ true }
+{
+    statics.starts_at(cell) || is_end_of_one(held, length_cm, cell)
+}
+
+/// Gives the steps in the zone of a restriction that is no longer held the speeds that are left.
+fn retake(
+    steps: &mut Steps,
+    lifted: Restriction,
+    statics: &Steps,
+    held: &[Restriction],
+    length_cm: u32,
+)
+    requires rising { AreRising steps.old.list.items }
+    requires speeds { (c : ℤ) → speeds_of steps.old.before steps.old.list.items c ≡ capped c (zone_of (pos length_cm) lifted) (speed_under (pos length_cm) statics.now.before statics.now.list.items held.now c) }
+    requires statics { AreRising statics.now.list.items }
+    requires held { All IsHeld held.now }
+    requires lifted { IsHeld lifted }
+    requires train { length_cm ≤ 150_000 }
+    ensures before { steps.new.before ≡ steps.old.before }
+    ensures list { steps.new.list.items ≡ map (retaken (speed_under (pos length_cm) statics.now.before statics.now.list.items held.now)) steps.old.list.items }
+    ensures room { vec_capacity steps.new.list ≡ vec_capacity steps.old.list }
+{
+    let covered = steps.covered(zone_of(lifted, length_cm));
+    for i in covered.from..covered.to {
+        let speed = speed_under(statics, held, length_cm, steps.start(i));
+        steps.set_speed(i, speed);
+    }
+}
+
+/// Takes out the step that starts at a cell, where that is no border of what is left.
+fn join_unless_border(
+    steps: &mut Steps,
+    cell: i32,
+    statics: &Steps,
+    held: &[Restriction],
+    length_cm: u32,
+)
+    requires rising { AreRising steps.old.list.items }
+    requires statics { AreRising statics.now.list.items }
+    requires held { All IsHeld held.now }
+    requires train { length_cm ≤ 150_000 }
+    ensures before { steps.new.before ≡ steps.old.before }
+    ensures rising { AreRising steps.new.list.items }
+    ensures speeds { (speed : ℤ → ℕ) → AreSpeedsAt speed steps.old.list.items → AreSpeedsAt speed steps.new.list.items }
+    ensures fewer { (c : ℤ) → IsStart c steps.new.list.items → IsStart c steps.old.list.items }
+    ensures here { IsStart cell steps.new.list.items → IsBorder (pos length_cm) statics.now.list.items held.now cell }
+    ensures others { (c : ℤ) → IsBorder (pos length_cm) statics.now.list.items held.now c → IsStart c steps.old.list.items → IsStart c steps.new.list.items }
+    ensures room { vec_capacity steps.new.list ≡ vec_capacity steps.old.list }
+{
+    if !is_border(statics, held, length_cm, cell) {
+        steps.join(cell);
+    }
+}
+
+/// Raises the speeds of steps to what is left when a restriction is lifted.
+pub fn raise(
+    steps: &mut Steps,
+    lifted: Restriction,
+    statics: &Steps,
+    held: &[Restriction],
+    length_cm: u32,
+)
+    requires rising { AreRising steps.old.list.items }
+    requires speeds { (c : ℤ) → speeds_of steps.old.before steps.old.list.items c ≡ capped c (zone_of (pos length_cm) lifted) (speed_under (pos length_cm) statics.now.before statics.now.list.items held.now c) }
+    requires before { steps.old.before ≡ statics.now.before }
+    requires each { (c : ℤ) → IsBorder (pos length_cm) statics.now.list.items held.now c → IsStart c steps.old.list.items }
+    requires no_other { (c : ℤ) → IsStart c steps.old.list.items → IsBorder (pos length_cm) statics.now.list.items held.now c ⊎ IsEnd (pos length_cm) c lifted }
+    requires statics { AreRising statics.now.list.items }
+    requires held { All IsHeld held.now }
+    requires lifted { IsHeld lifted }
+    requires train { length_cm ≤ 150_000 }
+    ensures before { steps.new.before ≡ statics.now.before }
+    ensures speeds { (c : ℤ) → speeds_of steps.new.before steps.new.list.items c ≡ speed_under (pos length_cm) statics.now.before statics.now.list.items held.now c }
+    ensures rising { AreRising steps.new.list.items }
+    ensures borders { AreAtBorders (pos length_cm) statics.now.list.items held.now steps.new.list.items }
+    ensures room { vec_capacity steps.new.list ≡ vec_capacity steps.old.list }
+{
+    let cells = cells_of(lifted, length_cm);
+    retake(steps, lifted, statics, held, length_cm);
+    join_unless_border(steps, cells.first, statics, held, length_cm);
+    join_unless_border(steps, cells.past, statics, held, length_cm);
+}
