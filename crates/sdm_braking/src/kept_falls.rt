@@ -182,7 +182,7 @@ impl KeptFalls {
         let Some(mut kept) = self.spare.pop() else {
             unreachable!()
         };
-        *kept = line.keep(target_at(fall));
+        line.keep_in_place(&mut kept, target_at(fall));
         let Ok(()) = self.list.insert(i, KeptFall { fall, kept }) else {
             unreachable!()
         };

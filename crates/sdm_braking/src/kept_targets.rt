@@ -73,4 +73,17 @@ impl Line {
             guide: self.guidance_curve(&target, &speeds),
         }
     }
+
+    /// Makes what is kept of a target that of another, where it stands: nothing so large is moved then.
+    pub fn keep_in_place(&self, kept: &mut KeptTarget, target: Target)
+        requires { IsTarget target }
+        ensures target { kept.new.target ≡ target }
+        ensures kept { IsKeptTarget self.now kept.new }
+    {
+        let speeds = SpeedLimits::of_target(&target);
+        kept.target = target;
+        kept.speeds = speeds;
+        kept.brake = self.brake_curve(&target, &speeds);
+        kept.guide = self.guidance_curve(&target, &speeds);
+    }
 }
