@@ -1,7 +1,7 @@
 //! Numbers as they stand in fields and words: an optional minus sign and 1 to 18 decimal digits. So many digits fit an
 //! i64 whatever they are, so that a number too large for its field and a field that is no number are told apart.
 
-ghost use Rattle.std.specs.Prelude.{◌≡◌, ◌==◌, ◌^◌, ◌<◌, ◌≤◌, ◌≤ℤ◌, ℤ, ℕ, List, pos, true, take, drop, length, slice_index, IfOk, IfErr, IfSome, IfNone, Some, None, if◌then◌else◌};
+ghost use Rattle.std.specs.Prelude.{◌≡◌, ◌==◌, ◌^◌, ◌-◌, ◌<◌, ◌≤◌, ◌≤ℤ◌, ℤ, ℕ, List, pos, false, true, take, drop, length, slice_index, IfOk, IfErr, IfSome, IfNone, Some, None, if◌then◌else◌};
 ghost use Rattle.std.specs.Char.{is_ascii_digit};
 ghost use Rattle.std.specs.List.{list_all};
 ghost use Rattle.std.specs.Str.Parse.{digits_value};
@@ -169,14 +169,24 @@ fn first_digits(bytes: &[u8]) -> Run
 {
     let front = &bytes[..bytes.len().min(MOST_DIGITS)];
     let mut number = 0u64;
-    for (count, digit) in front.iter().enumerate() {
-        if !digit.is_ascii_digit() {
+    for (count, byte) in front.iter().enumerate() {
+        let digit = digit_of(*byte);
+        if digit > 9 {
             return Run { count, number };
         }
-        number = 10 * number + u64::from(digit - b'0');
+        number = 10 * number + digit;
     }
     Run {
         count: front.len(),
         number,
     }
+}
+
+// The digit that a byte writes, and more than 9 where it writes none: a byte below `0` wraps, so that a caller needs one test.
+#[inline]
+fn digit_of(byte: u8) -> u64
+    ensures digit { result ≤ 9 → (is_ascii_digit byte ≡ true) × (result ≡ byte - 48) }
+    ensures none { 9 < result → is_ascii_digit byte ≡ false }
+{
+    u64::from(byte).wrapping_sub(u64::from(b'0'))
 }

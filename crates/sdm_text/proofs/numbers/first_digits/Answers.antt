@@ -1,5 +1,5 @@
 -- After i digits the number is below 10^i, so that it fits after as many as are looked at.
-use Rattle.std.proofs.Common.{◌≡◌, ◌∙◌, ℕ, ◌+◌, ◌-◌, ◌*◌, ◌<◌, ◌≤◌, ◌^◌, true, List, length, length-take, take, get_or, refl, sym, lit<, add-one, arith}
+use Rattle.std.proofs.Common.{◌≡◌, ℕ, ◌+◌, ◌-◌, ◌*◌, ◌<◌, ◌≤◌, ◌^◌, true, List, length, length-take, take, get_or, refl, lit<, add-one, arith}
 use Rattle.std.proofs.Math.Nat.{pow-le-pow_right, pow-suc}
 use Rattle.std.proofs.lemmas.Bool.{and_from}
 use Rattle.std.proofs.lemmas.Bool.Decides.{nat_tests}
@@ -40,8 +40,8 @@ overflow_mul-number c = omega (arith, below_greater_power _ _ most_digits c.loop
 pub overflow_add-number : goal.overflow_add-number
 overflow_add-number c = omega (arith, below_greater_power _ _ most_digits c.loop-count.invariant.small (omega (arith, c.min.ensures, length-take c.min.result c.args.bytes.now)))
 
-pub returns-then-not-is_ascii_digit-clause-fits : goal.returns-then-not-is_ascii_digit-clause-fits
-returns-then-not-is_ascii_digit-clause-fits c = below_greater_power _ _ most_digits c.loop-count.invariant.small (omega (arith, c.min.ensures, length-take c.min.result c.args.bytes.now))
+pub returns-then-digit-gt9-clause-fits : goal.returns-then-digit-gt9-clause-fits
+returns-then-digit-gt9-clause-fits c = below_greater_power _ _ most_digits c.loop-count.invariant.small (omega (arith, c.min.ensures, length-take c.min.result c.args.bytes.now))
 
 pub returns-clause-fits : goal.returns-clause-fits
 returns-clause-fits c = below_greater_power _ _ most_digits c.loop-count.invariant.small (omega (arith, c.min.ensures, length-take c.min.result c.args.bytes.now))
@@ -49,6 +49,6 @@ returns-clause-fits c = below_greater_power _ _ most_digits c.loop-count.invaria
 pub loop-count-preserved : goal.loop-count-preserved
 loop-count-preserved c =
     let h = c.loop-count.invariant in
-    let is = sym c.is_ascii_digit.ensures.value ∙ c.if-not-is_ascii_digit.false in
-    let next = one_more _ _ _ _ _ c.loop-count-test.true refl is c.from.ensures h.digits h.writes h.small in
+    let digit = c.digit_of-digit.ensures.digit c.if-digit-gt9.false in
+    let next = one_more _ _ _ _ _ c.loop-count-test.true refl digit.0 digit.1 h.digits h.writes h.small in
     record { digits = next.0; writes = next.1; small = next.2 }
