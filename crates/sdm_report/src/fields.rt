@@ -7,6 +7,8 @@ ghost use Rattle.sdm_rules.specs.Text.{flag_text, place_text};
 use sdm_text::{ROW_BYTES, RowBuf};
 
 /// Puts a number: at most 20 bytes. (own)
+// Put in line, with `RowBuf::number`, wherever a number is put.
+#[inline(always)]
 pub fn put_number(number: i64, into: &mut RowBuf)
     requires room { length into.old + 20 ≤ ROW_BYTES }
     ensures text { into.new ≡ into.old ++ signed_decimal number }
@@ -16,6 +18,7 @@ pub fn put_number(number: i64, into: &mut RowBuf)
 }
 
 /// Puts a number of 32 bits: at most 10 bytes. (own)
+#[inline(always)]
 pub fn put_count(number: u32, into: &mut RowBuf)
     requires room { length into.old + 10 ≤ ROW_BYTES }
     ensures text { into.new ≡ into.old ++ decimal number }
@@ -25,6 +28,7 @@ pub fn put_count(number: u32, into: &mut RowBuf)
 }
 
 /// Puts a place in mm, `-` where there is none: at most 20 bytes. (own)
+#[inline(always)]
 pub fn put_place(place: Option<i64>, into: &mut RowBuf)
     requires room { length into.old + 20 ≤ ROW_BYTES }
     ensures text { into.new ≡ into.old ++ place_text place }

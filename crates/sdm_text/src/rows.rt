@@ -34,6 +34,7 @@ impl Model for RowBuf {
 }
 
 // Writes a number so that it ends before byte 20, and answers where it starts.
+#[inline(always)]
 fn write_number(n: i64, text: &mut [u8; 40]) -> usize
     ensures start { result + length (signed_decimal n) ≡ 20 }
     ensures text { take (20 - result) (drop result text.new) ≡ signed_decimal n }
@@ -73,6 +74,8 @@ impl RowBuf {
     }
 
     /// Puts a number in decimal digits with no leading zeros, a minus sign before a negative one: at most 20 bytes.
+    // In line the numbers of a row have no calls between them, so that its length stays in a register.
+    #[inline(always)]
     pub fn number(&mut self, n: i64)
         requires { length self.old + length (signed_decimal n) ≤ ROW_BYTES }
         ensures { self.new ≡ self.old ++ signed_decimal n }
