@@ -5,6 +5,7 @@ use Rattle.sdm_rules.specs.declared.authorities.Authority.TheVariants.{Stop, Lim
 use Rattle.sdm_rules.specs.Data.{LineData}
 use Rattle.sdm_rules.specs.Limits.{computed, release_start}
 use Rattle.sdm_rules.specs.Triggers.{is_past}
+use Rattle.sdm_rules.specs.Ranges.{top_kmh}
 use Rattle.sdm_limits.specs.Sides.{place_of}
 use Rattle.sdm_braking.specs.declared.releases.Release.{Release}
 
@@ -12,7 +13,7 @@ use Rattle.sdm_braking.specs.declared.releases.Release.{Release}
 pub record IsStartOf (d : LineData) (eoa svl speed_kmh : ℕ) (release : Release) : Type 0 where
   pub speed : release.speed_kmh ≡ speed_kmh
   pub some : 0 < speed_kmh
-  pub range : speed_kmh ≤ 500
+  pub range : speed_kmh ≤ top_kmh
   pub start : place_of release.start ≡ release_start computed d eoa svl speed_kmh
 
 -- what is kept of an authority's release speed; none where the authority has no release speed (SUBSET-026-3 3.13.9.4; own)

@@ -8,6 +8,7 @@ ghost use Rattle.sdm_rules.specs.Data.{LineData};
 ghost use Rattle.sdm_rules.specs.Records.{authority_fault};
 ghost use Rattle.sdm_rules.specs.Supervision.{is_past_end};
 ghost use Rattle.sdm_rules.specs.Targets.{end_of};
+ghost use Rattle.sdm_rules.specs.Ranges.{longest_track, top_kmh};
 ghost use Rattle.sdm_braking.specs.KeptCurves.{IsKeptAt, IsKeptEnd, brake_of};
 ghost use Rattle.sdm_braking.specs.Lines.{IsLine};
 
@@ -27,8 +28,8 @@ pub enum KeptEnd {
 impl Line {
     /// The target of a kind at a border in cm, with its curves.
     fn keep_at(&self, kind: TargetKind, cm: u32, speed: u16) -> KeptTarget
-        requires place { cm ≤ 10_000_000 }
-        requires speed { speed ≤ 500 }
+        requires place { cm ≤ longest_track }
+        requires speed { speed ≤ top_kmh }
         ensures { IsKeptAt self.now (record { kind = kind; place = border_of (pos cm); speed = speed }) result }
     {
         self.keep(Target {
@@ -42,7 +43,7 @@ impl Line {
     pub fn end_of(&self, authority: &Authority) -> u32
         requires { authority_fault self.now.track.length_cm authority.now ≡ None }
         ensures value { result ≡ end_of authority.now }
-        ensures on_track { result ≤ 10_000_000 }
+        ensures on_track { result ≤ longest_track }
         ensures line { IsLine self.now }
     {
         // `track` says that the track, on which the authority lies, is not longer than it may be.

@@ -8,6 +8,7 @@ ghost use Rattle.std.specs.List.{remove};
 ghost use Rattle.sdm_rules.specs.Data.{LineData};
 ghost use Rattle.sdm_rules.specs.Records.{most_restrictions};
 ghost use Rattle.sdm_rules.specs.Targets.{is_fall, IsNextFall};
+ghost use Rattle.sdm_rules.specs.Ranges.{longest_track};
 ghost use Rattle.sdm_speed.specs.Changes.{IsChangedInRange};
 ghost use Rattle.sdm_speed.specs.Falls.{AreAtFalls};
 ghost use Rattle.sdm_speed.specs.Profiles.{mrsp_of, IsProfile};
@@ -130,7 +131,7 @@ fn past(list: &[KeptFall], after: i32) -> &[KeptFall]
 
 /// Those of a list up to and with the fall at a border in cm.
 fn up_to(list: &[KeptFall], end: u32) -> &[KeptFall]
-    requires { end ≤ 10_000_000 }
+    requires { end ≤ longest_track }
     ensures each { (d : LineData) → All (IsKeptFall d) list.now → All (IsKeptFall d) result.now }
     ensures falls { (p : ℤ → ℕ) (after : ℤ) → AreAtFalls fall_of p after list.now →
         falls_past p after (pos end) ≡ map at_fall result.now }
@@ -253,7 +254,7 @@ impl KeptFalls {
 
     /// What is kept of the falls past the border of the cell `after`, up to and with that of a border in cm.
     pub fn ahead(&self, after: i32, end: u32) -> &[KeptFall]
-        requires { end ≤ 10_000_000 }
+        requires { end ≤ longest_track }
         ensures each { (d : LineData) → All (IsKeptFall d) self.now.list → All (IsKeptFall d) result.now }
         ensures falls { (p : ℤ → ℕ) → AreAtFalls fall_of p first_cell self.now.list →
             falls_past p after (pos end) ≡ map at_fall result.now }

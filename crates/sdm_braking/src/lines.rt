@@ -9,6 +9,7 @@ ghost use Rattle.sdm_rules.specs.Data.{LineData};
 ghost use Rattle.sdm_rules.specs.Decelerations.{slopes_of};
 ghost use Rattle.sdm_rules.specs.Reaction.{line_times, service_in_use, v_delta0};
 ghost use Rattle.sdm_rules.specs.Slopes.{meaning_of};
+ghost use Rattle.sdm_rules.specs.Ranges.{longest_train, top_kmh};
 ghost use Rattle.sdm_decel.specs.Slopes.{line_of, IsFaultOfKind};
 ghost use Rattle.sdm_limits.specs.Ranges.{AreTimes};
 ghost use Rattle.sdm_braking.specs.Lines.{IsLine, IsRefusal};
@@ -200,7 +201,7 @@ impl Line {
     pub fn max_speed_kmh(&self) -> u16
         ensures value { result ≡ unsigned_abs self.now.train.max_speed }
         ensures least { 1 ≤ result }
-        ensures greatest { result ≤ 500 }
+        ensures greatest { result ≤ top_kmh }
     {
         self.train.max_speed() as u16
     }
@@ -209,7 +210,7 @@ impl Line {
     pub fn train_cm(&self) -> u32
         ensures value { pos result ≡ self.now.train.length_cm }
         ensures least { 1 ≤ result }
-        ensures greatest { result ≤ 150_000 }
+        ensures greatest { result ≤ longest_train }
     {
         self.train.length() as u32
     }

@@ -7,6 +7,7 @@ ghost use Rattle.sdm_rules.specs.Cells.{border_of};
 ghost use Rattle.sdm_rules.specs.Decelerations.{slopes_of};
 ghost use Rattle.sdm_rules.specs.Limits.{computed, release_start};
 ghost use Rattle.sdm_rules.specs.Records.{authority_fault};
+ghost use Rattle.sdm_rules.specs.Ranges.{top_kmh};
 ghost use Rattle.sdm_curve.specs.Made.{IsMadeFrom};
 ghost use Rattle.sdm_limits.specs.Sides.{place_of};
 ghost use Rattle.sdm_braking.specs.Releases.{IsReleaseOf, released};
@@ -45,7 +46,7 @@ impl Line {
     fn release_start(&self, ebd: &Curve, sbd: &Curve, release_kmh: u16) -> Early
         requires ebd { IsMadeFrom (slopes_of Safe self.now) ebd.now }
         requires sbd { IsMadeFrom (slopes_of Expected self.now) sbd.now }
-        requires release { release_kmh ≤ 500 }
+        requires release { release_kmh ≤ top_kmh }
         ensures { (eoa svl : ℕ) →
             IsCurveOn (slopes_of Safe self.now) (border_of (pos svl)) 0 ebd.now →
             IsCurveOn (slopes_of Expected self.now) (border_of (pos eoa)) 0 sbd.now →

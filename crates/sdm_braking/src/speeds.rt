@@ -4,6 +4,7 @@ ghost use Rattle.std.specs.Prelude.{◌≡◌, ◌≤◌, ◌+◌};
 ghost use Rattle.sdm_num.specs.Units.{notches};
 ghost use Rattle.sdm_rules.specs.Margins.{ebi_margin, sbi_margin, warning_margin};
 ghost use Rattle.sdm_rules.specs.Triggers.{no_margin};
+ghost use Rattle.sdm_rules.specs.Ranges.{top_kmh};
 ghost use Rattle.sdm_braking.specs.KeptCurves.{AreSpeedsOf};
 
 use sdm_ceiling::{dv_ebi, dv_sbi, dv_warning};
@@ -31,7 +32,7 @@ fn raised(kmh: u16, margin: Speed) -> Speed
 impl SpeedLimits {
     /// Those of a speed in km/h, at most 500.
     pub fn of_kmh(kmh: u16) -> SpeedLimits
-        requires { kmh ≤ 500 }
+        requires { kmh ≤ top_kmh }
         ensures permitted { result.permitted ≡ notches kmh + no_margin kmh }
         ensures warning { result.warning ≡ notches kmh + warning_margin kmh }
         ensures sbi { result.sbi ≡ notches kmh + sbi_margin kmh }
@@ -48,7 +49,7 @@ impl SpeedLimits {
     /// Those of a target; at the EOA and the SvL its speed and every margin count as 0. With its EBI margin the target speed is the foot
     /// speed of its EBD. (SUBSET-026-3 3.13.8.3, 3.13.10; own)
     pub fn of_target(target: &Target) -> SpeedLimits
-        requires { target.now.speed ≤ 500 }
+        requires { target.now.speed ≤ top_kmh }
         ensures { AreSpeedsOf target.now result }
     {
         match target.kind {

@@ -15,6 +15,7 @@ use Rattle.sdm_rules.specs.declared.faults.DataFault.{DataFault}
 use Rattle.sdm_rules.specs.declared.faults.DataFault.TheVariants.{Value}
 use Rattle.sdm_rules.specs.Data.{TrainData, TrackData}
 use Rattle.sdm_rules.specs.FaultLines.{key_names}
+use Rattle.sdm_rules.specs.Ranges.{longest_track, top_kmh}
 use Rattle.sdm_data.specs.declared.versions.Version.{Version}
 use Rattle.sdm_data.specs.Versions.{version_of, known_keys, end_keys, limit_keys}
 use Rattle.sdm_data.specs.Members.{◌>>=◌, SectionMembers, section_of, at, or_fault, known, required, optional, within, number, as_tables, entries_from}
@@ -162,18 +163,18 @@ track_in version members = do
 unfoldable pub end_in : SectionMembers → Result Authority DataFault
 end_in authority = do
   _ ← known authority end_keys
-  eoa ← number authority 2 0 10_000_000
-  svl ← number authority 3 0 10_000_000
+  eoa ← number authority 2 0 longest_track
+  svl ← number authority 3 0 longest_track
   kmh ← optional as_integer authority 4
-  release ← within authority 4 0 500 (unwrap_or kmh (pos 0))
+  release ← within authority 4 0 top_kmh (unwrap_or kmh (pos 0))
   Ok (Stop eoa svl release)
 
 -- an authority to a limit (own)
 unfoldable pub limit_in : SectionMembers → Result Authority DataFault
 limit_in authority = do
   _ ← known authority limit_keys
-  loa ← number authority 5 0 10_000_000
-  speed ← number authority 6 1 500
+  loa ← number authority 5 0 longest_track
+  speed ← number authority 6 1 top_kmh
   Ok (Limit loa speed)
 
 -- the authority: its kind comes first, since the other keys depend on it (own)

@@ -7,14 +7,8 @@ ghost use Rattle.sdm_data.specs.Views.{members_of};
 
 use crate::section_tables::SectionTable;
 use crate::versions::{end_keys, limit_keys};
-use sdm_rules::{Authority, DataFault, Section};
+use sdm_rules::{Authority, DataFault, LONGEST_TRACK_CM, Section, TOP_KMH};
 use toml::Table;
-
-// The furthest place of an authority, in cm.
-const MOST_CM: u32 = 10_000_000;
-
-// The highest speed of an authority, in km/h.
-const MOST_KMH: u32 = 500;
 
 /// The authority that a table holds, or the first rule that it breaks. (own)
 #[tactic(auto, unfolding(crate::specs::Sections::authority_in))]
@@ -35,10 +29,10 @@ fn end_in(authority: &SectionTable) -> Result<Authority, DataFault>
     ensures { result ≡ end_in (members_of authority.now) }
 {
     authority.known(end_keys())?;
-    let eoa = authority.number(2, 0, MOST_CM)?;
-    let svl = authority.number(3, 0, MOST_CM)?;
+    let eoa = authority.number(2, 0, LONGEST_TRACK_CM)?;
+    let svl = authority.number(3, 0, LONGEST_TRACK_CM)?;
     let kmh = authority.integer_if_any(4)?.unwrap_or(0);
-    let release = authority.within(4, 0, MOST_KMH, kmh)?;
+    let release = authority.within(4, 0, TOP_KMH, kmh)?;
     Ok(Authority::Stop {
         eoa,
         svl,
@@ -52,8 +46,8 @@ fn limit_in(authority: &SectionTable) -> Result<Authority, DataFault>
     ensures { result ≡ limit_in (members_of authority.now) }
 {
     authority.known(&limit_keys())?;
-    let loa = authority.number(5, 0, MOST_CM)?;
-    let speed = authority.number(6, 1, MOST_KMH)?;
+    let loa = authority.number(5, 0, LONGEST_TRACK_CM)?;
+    let speed = authority.number(6, 1, TOP_KMH)?;
     Ok(Authority::Limit {
         loa,
         speed: speed as u16,

@@ -13,6 +13,7 @@ use Rattle.sdm_rules.specs.declared.data.Area.{Area}
 use Rattle.sdm_rules.specs.Data.{TrackData}
 use Rattle.sdm_rules.specs.Decelerations.{under_train}
 use Rattle.sdm_rules.specs.Slopes.{segment_of}
+use Rattle.sdm_rules.specs.Ranges.{longest_track, longest_train}
 use Rattle.sdm_laws.proofs.Segments.{in_segment, IsInSegment}
 use Rattle.sdm_track.specs.declared.under_train.Segment.{Segment}
 use Rattle.sdm_track.specs.Ranges.{IsTrack, IsArea}
@@ -59,7 +60,7 @@ IsNear x = x ≤ 10_200_000
 near_gradients : (segments : List Segment) → AreSegments segments → All IsNear (gradient_borders segments)
 near_gradients segments h = All-map IsNear (λ (s : Segment). unsigned_abs s.start) segments (λ k d l. let s = h.each k d l in nat_near _ 10_200_000 s.not_before (let past = s.not_past in omega (arith, ints)))
 
-near_areas : (track_cm : ℤ) (length_cm : ℕ) (areas : List Area) → track_cm ≤ℤ pos 10_000_000 → length_cm ≤ 150_000 → All (IsArea track_cm) areas → All IsNear (area_borders length_cm areas)
+near_areas : (track_cm : ℤ) (length_cm : ℕ) (areas : List Area) → track_cm ≤ℤ pos longest_track → length_cm ≤ longest_train → All (IsArea track_cm) areas → All IsNear (area_borders length_cm areas)
 near_areas track_cm length_cm [] long short each = All-nil IsNear
 near_areas track_cm length_cm (a ∷ more) long short each =
     let here = All-head (IsArea track_cm) a more each in
@@ -108,7 +109,7 @@ pub gathered : (none first gradients all : List ℕ) (segments : List Segment) (
     all ≡ (0 ∷ []) ++ gradient_borders segments ++ area_borders length_cm areas
 gathered none first gradients all segments length_cm areas none_is first_is gradients_is all_is = rw (all_is, gradients_is, first_is, none_is) refl
 
-module _ (track : TrackData) (length_cm : ℕ) (segments : List Segment) (all cells : List ℕ) (given : AreGradientsUnder track length_cm segments) (in_range : IsTrack track) (short : length_cm ≤ 150_000)
+module _ (track : TrackData) (length_cm : ℕ) (segments : List Segment) (all cells : List ℕ) (given : AreGradientsUnder track length_cm segments) (in_range : IsTrack track) (short : length_cm ≤ longest_train)
     (all_is : all ≡ (0 ∷ []) ++ gradient_borders segments ++ area_borders length_cm track.areas) where
   near_all : All IsNear all
   near_all = rw all_is (All-append IsNear ((0 ∷ []) ++ gradient_borders segments) _ (All-append IsNear (0 ∷ []) _ (All-cons IsNear 0 [] (omega arith) (All-nil IsNear)) (near_gradients segments given.in_range)) (near_areas track.length_cm length_cm track.areas in_range.longest short in_range.areas.each))

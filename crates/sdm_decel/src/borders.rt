@@ -3,6 +3,7 @@
 
 ghost use Rattle.std.specs.Prelude.{◌≡◌, ℕ, ℤ, pos, ◌++◌, map, All, Contains, IfOk, OnOk, length, ◌≤◌};
 ghost use Rattle.std.specs.List.Sorted.{IsStrictlyIncreasing};
+ghost use Rattle.sdm_rules.specs.Ranges.{longest_train};
 ghost use Rattle.sdm_track.specs.Ranges.{IsTrack};
 ghost use Rattle.sdm_decel.specs.Borders.{AreGradientsUnder, gradient_borders, area_borders, AreStretches};
 
@@ -22,7 +23,7 @@ fn push_gradients(borders: &mut Vec<u32>, segments: &Segments) -> Result<(), NoM
 
 // Adds where areas come into force and where the rear end of a train of this length in cm has left them.
 fn push_areas(borders: &mut Vec<u32>, track: &Track, length_cm: u32) -> Result<(), NoMemory>
-    requires { length_cm ≤ 150_000 }
+    requires { length_cm ≤ longest_train }
     ensures in_range { IsTrack track.now }
     ensures added { OnOk result (borders.new.items ≡ borders.old.items ++ area_borders length_cm track.now.areas) }
 {
@@ -64,7 +65,7 @@ pub fn stretches(
     segments: &Segments,
     length_cm: u32,
 ) -> Result<Vec<i32>, NoMemory>
-    requires length { length_cm ≤ 150_000 }
+    requires length { length_cm ≤ longest_train }
     requires segments { AreGradientsUnder track.now length_cm segments.now }
     ensures { IfOk result (λ starts. AreStretches track.now (pos length_cm) starts.items) }
 {

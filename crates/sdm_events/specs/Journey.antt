@@ -2,6 +2,7 @@
 use Rattle.std.specs.Prelude.{ℕ, List, ◌≤◌, ⊤}
 use Rattle.sdm_rules.specs.declared.records.Event.{Event}
 use Rattle.sdm_rules.specs.declared.records.Event.TheVariants.{Read, Authority, Restrict, Revoke}
+use Rattle.sdm_rules.specs.Ranges.{top_kmh}
 use Rattle.csv.specs.Reading.{default_config, records, strip_bom}
 
 -- a record is the list of its fields, of any bytes (own)
@@ -16,5 +17,5 @@ records_of bytes = records default_config (strip_bom bytes)
 abbrev pub IsInForm : Event → Type 0
 IsInForm (Read r) = ⊤
 IsInForm (Authority a) = ⊤
-IsInForm (Restrict r) = (1 ≤ r.speed) × (r.speed ≤ 500)
+IsInForm (Restrict r) = (1 ≤ r.speed) × (r.speed ≤ top_kmh)
 IsInForm (Revoke id) = ⊤

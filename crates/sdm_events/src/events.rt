@@ -10,7 +10,7 @@ ghost use Rattle.sdm_rules.specs.Forms.{end_form, event_of, limit_form, read_for
 use crate::columns::{integer, natural};
 use csv::ByteRecord;
 use sdm_num::Reading;
-use sdm_rules::{Authority, Event, EventFault, Restriction};
+use sdm_rules::{Authority, Event, EventFault, LONGEST_TRACK_CM, Restriction, TOP_KMH};
 
 /// The event that a record writes. It is refused by UnknownKind where its first field names no kind; else by FieldCount
 /// where it has another count of fields than its kind; else by Field where a column is no number in its range, with the
@@ -91,9 +91,9 @@ fn end_event(fields: &ByteRecord) -> Result<Event, EventFault>
     if fields.len() != 4 {
         return Err(EventFault::FieldCount);
     }
-    let eoa = natural(fields, 2, 0, 10_000_000)?;
-    let svl = natural(fields, 3, 0, 10_000_000)?;
-    let release = natural(fields, 4, 0, 500)?;
+    let eoa = natural(fields, 2, 0, LONGEST_TRACK_CM)?;
+    let svl = natural(fields, 3, 0, LONGEST_TRACK_CM)?;
+    let release = natural(fields, 4, 0, TOP_KMH)?;
     Ok(Event::Authority(Authority::Stop {
         eoa,
         svl,
@@ -110,8 +110,8 @@ fn limit_event(fields: &ByteRecord) -> Result<Event, EventFault>
     if fields.len() != 3 {
         return Err(EventFault::FieldCount);
     }
-    let loa = natural(fields, 2, 0, 10_000_000)?;
-    let speed = natural(fields, 3, 1, 500)?;
+    let loa = natural(fields, 2, 0, LONGEST_TRACK_CM)?;
+    let speed = natural(fields, 3, 1, TOP_KMH)?;
     Ok(Event::Authority(Authority::Limit {
         loa,
         speed: speed as u16,
@@ -128,9 +128,9 @@ fn restrict_event(fields: &ByteRecord) -> Result<Event, EventFault>
         return Err(EventFault::FieldCount);
     }
     let id = natural(fields, 2, 0, 65_535)?;
-    let start = natural(fields, 3, 0, 10_000_000)?;
-    let end = natural(fields, 4, 0, 10_000_000)?;
-    let speed = natural(fields, 5, 1, 500)?;
+    let start = natural(fields, 3, 0, LONGEST_TRACK_CM)?;
+    let end = natural(fields, 4, 0, LONGEST_TRACK_CM)?;
+    let speed = natural(fields, 5, 1, TOP_KMH)?;
     let delayed = natural(fields, 6, 0, 1)?;
     Ok(Event::Restrict(Restriction {
         id: id as u16,

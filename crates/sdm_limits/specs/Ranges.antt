@@ -5,6 +5,7 @@ use Rattle.sdm_num.specs.Bounds.{Bound}
 use Rattle.sdm_num.specs.Units.{notches, notches_of_mm_s}
 use Rattle.sdm_rules.specs.declared.data.Times.{Times}
 use Rattle.sdm_rules.specs.Reaction.{BuildUp}
+use Rattle.sdm_rules.specs.Ranges.{top_kmh}
 
 -- no time of a train is longer, in ds: 30 s
 abbrev pub most_time : ℕ
@@ -20,7 +21,7 @@ pub record AreTimes (t : Times) : Type 0 where
 -- a build-up with V_delta1 and V_delta2, the gains of speed until the traction is cut off and after that (SUBSET-026-3 3.13.9.3.2). No part
 -- is too great: the speed is at most 500 km/h and an under-reading of 10,000 mm/s (ranges own)
 pub record IsBuildUp (b : BuildUp) (v_delta1 v_delta2 : ℕ) : Type 0 where
-  pub speed : b.speed ≤ notches 500 + notches_of_mm_s 10_000
+  pub speed : b.speed ≤ notches top_kmh + notches_of_mm_s 10_000
   pub accel1 : b.accel1 ≤ 300
   pub accel2 : b.accel2 ≤ 40
   pub traction : b.traction ≤ most_time

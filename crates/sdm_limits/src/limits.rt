@@ -9,6 +9,7 @@ ghost use Rattle.sdm_num.specs.Bounds.{IsEarlyFor};
 ghost use Rattle.sdm_num.specs.Fractions.{Fraction, lesser};
 ghost use Rattle.sdm_rules.specs.Limits.{computed, ebd_limits_at, exact_places, limits_before};
 ghost use Rattle.sdm_rules.specs.Slopes.{meaning_of};
+ghost use Rattle.sdm_rules.specs.Ranges.{top_kmh};
 ghost use Rattle.sdm_curve.specs.Made.{IsMadeFrom};
 ghost use Rattle.sdm_limits.specs.Ranges.{AreTimes, IsGuide, IsWithin, curve_reach, reach};
 ghost use Rattle.sdm_limits.specs.Sides.{IsEarlyWhere, StandFor, ebd_limits_by, place_of, place_where, places_of, sbd_limits_by};
@@ -49,7 +50,7 @@ pub fn ebd_limits(
     requires made { IsMadeFrom (meaning_of safe.now) ebd.now }
     requires guide { IsGuide guide }
     requires times { AreTimes times.now }
-    requires speed { v ≤ notches 500 }
+    requires speed { v ≤ notches top_kmh }
     requires way { reaction.now.d_bec ≤ 10 ^ 16 }
     ensures at { places_of result ≡
         ebd_limits_by computed safe.now ebd.now (place_where guide) times.now v reaction.now }
@@ -72,7 +73,7 @@ pub fn ebd_limits_at(
     requires place { IsWithin curve_reach place.at }
     requires guide { IsGuide guide }
     requires times { AreTimes times.now }
-    requires speed { v ≤ notches 500 }
+    requires speed { v ≤ notches top_kmh }
     requires way { d_bec ≤ 10 ^ 16 }
     ensures at { places_of result ≡ ebd_limits_at times.now v (place_where guide) d_bec (place_of place) }
     ensures stands { (g : Option Fraction) (x : Fraction) → IsEarlyWhere guide g → IsEarlyFor place x →
@@ -97,7 +98,7 @@ pub fn sbd_limits(
     requires made { IsMadeFrom (meaning_of expected.now) sbd.now }
     requires guide { IsGuide guide }
     requires times { AreTimes times.now }
-    requires speed { v ≤ notches 500 }
+    requires speed { v ≤ notches top_kmh }
     ensures at { places_of result ≡
         sbd_limits_by computed expected.now sbd.now (place_where guide) times.now v }
     ensures stands { (g : Option Fraction) → IsEarlyWhere guide g →
@@ -118,7 +119,7 @@ fn limits_from_sbi(
 ) -> Limits
     requires guide { IsGuide guide }
     requires times { AreTimes times.now }
-    requires speed { v ≤ notches 500 }
+    requires speed { v ≤ notches top_kmh }
     requires near { IsWithin reach sbi.at }
     ensures at { places_of result ≡
         limits_before times.now v (place_where guide) (place_where ebi) (place_of sbi) }

@@ -3,6 +3,7 @@
 ghost use Rattle.std.specs.Prelude.{◌≡◌, ◌+◌, ◌*◌, ◌^◌, ◌<◌, ◌≤◌, ◌≤ℤ◌, pos, negsuc};
 ghost use Rattle.sdm_num.specs.Units.{notches, notches_of_mm_s, top_speed, way_in};
 ghost use Rattle.sdm_rules.specs.Reaction.{a_est1, a_est2, build_up, d_bec, v_bec, v_cut_off};
+ghost use Rattle.sdm_rules.specs.Ranges.{top_kmh};
 ghost use Rattle.sdm_limits.specs.Ranges.{AreTimes, most_time};
 
 use sdm_num::Speed;
@@ -67,7 +68,7 @@ impl BuildUp {
     /// (SUBSET-026-3 3.13.9.3.2; ranges own)
     pub fn of(times: &Times, v: Speed, under: Speed, accel: i16) -> BuildUp
         requires times { AreTimes times.now }
-        requires speed { v ≤ notches 500 }
+        requires speed { v ≤ notches top_kmh }
         requires under { under ≤ notches_of_mm_s 10_000 }
         requires slowing { negsuc 299 ≤ℤ accel }
         requires gaining { accel ≤ℤ pos 300 }
@@ -90,7 +91,7 @@ impl BuildUp {
 
     // The greatest speed in notches at the end of T_traction, and at least that of the target.
     fn v_cut_off(&self, target: Speed) -> u32
-        requires { target ≤ notches 500 }
+        requires { target ≤ notches top_kmh }
         ensures value { result ≡ v_cut_off self.now target }
         ensures small { result ≤ 30_000_000 }
     {
@@ -99,7 +100,7 @@ impl BuildUp {
 
     /// V_bec for a target with a speed of at most 500 km/h. (SUBSET-026-3 3.13.9.3.2)
     pub fn v_bec(&self, target: Speed) -> Speed
-        requires { target ≤ notches 500 }
+        requires { target ≤ notches top_kmh }
         ensures { result ≡ v_bec self.now target }
     {
         // V_bec = max(V_est + V_delta0 + V_delta1, V_target) + V_delta2 (SUBSET-026-3 3.13.9.3.2)
@@ -108,7 +109,7 @@ impl BuildUp {
 
     // D_bec for a target with a speed of at most 500 km/h.
     fn d_bec(&self, target: Speed) -> u64
-        requires { target ≤ notches 500 }
+        requires { target ≤ notches top_kmh }
         ensures value { result ≡ d_bec self.now target }
         ensures small { result < 10 ^ 16 }
     {
@@ -122,7 +123,7 @@ impl BuildUp {
 
     /// V_bec and D_bec for a target with a speed of at most 500 km/h. (SUBSET-026-3 3.13.9.3.2)
     pub fn reaction(&self, target: Speed) -> Reaction
-        requires { target ≤ notches 500 }
+        requires { target ≤ notches top_kmh }
         ensures v_bec { result.v_bec ≡ v_bec self.now target }
         ensures d_bec { result.d_bec ≡ d_bec self.now target }
         ensures small { result.d_bec < 10 ^ 16 }
@@ -139,11 +140,11 @@ impl BuildUp {
 /// at most 10,000 mm/s, and the estimated acceleration from −300 to 300 cm/s². (SUBSET-026-3 3.13.9.3.2; ranges own)
 pub fn reaction_of(times: &Times, v: Speed, under: Speed, accel: i16, target: Speed) -> Reaction
     requires times { AreTimes times.now }
-    requires speed { v ≤ notches 500 }
+    requires speed { v ≤ notches top_kmh }
     requires under { under ≤ notches_of_mm_s 10_000 }
     requires slowing { negsuc 299 ≤ℤ accel }
     requires gaining { accel ≤ℤ pos 300 }
-    requires target { target ≤ notches 500 }
+    requires target { target ≤ notches top_kmh }
     ensures v_bec { result.v_bec ≡ v_bec (build_up times.now (v + under) accel) target }
     ensures d_bec { result.d_bec ≡ d_bec (build_up times.now (v + under) accel) target }
     ensures small { result.d_bec < 10 ^ 16 }

@@ -5,7 +5,7 @@ ghost use Rattle.std.specs.Result.{result_err};
 ghost use Rattle.sdm_rules.specs.Ranges.{national_fault};
 ghost use Rattle.sdm_national.specs.Values.{IsNational};
 
-use sdm_rules::{NationalFault, NationalFields};
+use sdm_rules::{NationalFault, NationalFields, is_within};
 use std::marker::Model;
 
 /// National values, each number within its range. (SUBSET-026-3 3.13.2.3; ranges own)
@@ -35,10 +35,10 @@ impl National {
         ensures fault { result_err result ≡ national_fault fields }
         ensures kept { IfOk result (λ national. national ≡ fields) }
     {
-        if fields.avadh < 0 || 20 < fields.avadh {
+        if !is_within(0, 20, fields.avadh) {
             return Err(NationalFault::Value { key: 1 });
         }
-        if fields.adhesion_max < 1 || 400 < fields.adhesion_max {
+        if !is_within(1, 400, fields.adhesion_max) {
             return Err(NationalFault::Value { key: 2 });
         }
         Ok(National { fields })

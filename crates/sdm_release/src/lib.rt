@@ -8,6 +8,7 @@ ghost use Rattle.sdm_num.specs.Bounds.{IsEarlyFor};
 ghost use Rattle.sdm_num.specs.Units.{notches, way_in};
 ghost use Rattle.sdm_rules.specs.Limits.{computed, exact_places, release_start_at};
 ghost use Rattle.sdm_rules.specs.Slopes.{meaning_of};
+ghost use Rattle.sdm_rules.specs.Ranges.{top_kmh};
 ghost use Rattle.sdm_curve.specs.Made.{IsMadeFrom};
 ghost use Rattle.sdm_limits.specs.Ranges.{AreTimes};
 ghost use Rattle.sdm_limits.specs.Sides.{place_of};
@@ -30,7 +31,7 @@ pub fn release_start(
     requires ebd { IsMadeFrom (meaning_of safe.now) ebd.now }
     requires sbd { IsMadeFrom (meaning_of expected.now) sbd.now }
     requires times { AreTimes times.now }
-    requires speed { release ≤ notches 500 }
+    requires speed { release ≤ notches top_kmh }
     ensures at { place_of result ≡ release_start_at times.now release
         (computed (meaning_of safe.now) ebd.now.place ebd.now.speed release)
         (computed (meaning_of expected.now) sbd.now.place sbd.now.speed release) }

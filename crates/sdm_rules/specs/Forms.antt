@@ -9,6 +9,7 @@ use Rattle.sdm_rules.specs.declared.faults.FieldFault.{FieldFault}
 use Rattle.sdm_rules.specs.declared.faults.EventFault.{EventFault}
 use Rattle.sdm_rules.specs.declared.faults.EventFault.TheVariants.{UnknownKind, FieldCount, Field}
 use Rattle.sdm_rules.specs.Numbers.{read_int}
+use Rattle.sdm_rules.specs.Ranges.{longest_track, top_kmh}
 
 -- the rest with the number of a column, or why that column is refused; columns count from 1, the kind being column 1 (own)
 abbrev pub with_number : ℕ → Result ℤ FieldFault → (ℤ → Result Event EventFault) → Result Event EventFault
@@ -35,17 +36,17 @@ read_form _ = Err FieldCount
 -- `end`: EOA and SvL in cm, release speed in km/h (own)
 unfoldable pub end_form : List (List ℕ) → Result Event EventFault
 end_form (eoa ∷ svl ∷ release ∷ []) =
-    column 2 eoa (pos 0) (pos 10_000_000) (λ eoa.
-    column 3 svl (pos 0) (pos 10_000_000) (λ svl.
-    column 4 release (pos 0) (pos 500) (λ release.
+    column 2 eoa (pos 0) (pos longest_track) (λ eoa.
+    column 3 svl (pos 0) (pos longest_track) (λ svl.
+    column 4 release (pos 0) (pos top_kmh) (λ release.
     Ok (record_kinds.Authority (Stop (unsigned_abs eoa) (unsigned_abs svl) (unsigned_abs release))))))
 end_form _ = Err FieldCount
 
 -- `limit`: LOA in cm, speed in km/h (own)
 unfoldable pub limit_form : List (List ℕ) → Result Event EventFault
 limit_form (loa ∷ speed ∷ []) =
-    column 2 loa (pos 0) (pos 10_000_000) (λ loa.
-    column 3 speed (pos 1) (pos 500) (λ speed.
+    column 2 loa (pos 0) (pos longest_track) (λ loa.
+    column 3 speed (pos 1) (pos top_kmh) (λ speed.
     Ok (record_kinds.Authority (Limit (unsigned_abs loa) (unsigned_abs speed)))))
 limit_form _ = Err FieldCount
 
@@ -53,9 +54,9 @@ limit_form _ = Err FieldCount
 unfoldable pub restrict_form : List (List ℕ) → Result Event EventFault
 restrict_form (id ∷ start ∷ end ∷ speed ∷ delayed ∷ []) =
     column 2 id (pos 0) (pos 65_535) (λ id.
-    column 3 start (pos 0) (pos 10_000_000) (λ start.
-    column 4 end (pos 0) (pos 10_000_000) (λ end.
-    column 5 speed (pos 1) (pos 500) (λ speed.
+    column 3 start (pos 0) (pos longest_track) (λ start.
+    column 4 end (pos 0) (pos longest_track) (λ end.
+    column 5 speed (pos 1) (pos top_kmh) (λ speed.
     column 6 delayed (pos 0) (pos 1) (λ delayed.
     Ok (record_kinds.Restrict (record { id = unsigned_abs id; start = unsigned_abs start; end = unsigned_abs end; speed = unsigned_abs speed; delayed = unsigned_abs delayed == 1 })))))))
 restrict_form _ = Err FieldCount

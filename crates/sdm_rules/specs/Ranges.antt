@@ -1,6 +1,6 @@
 -- Which data are accepted, and the first rule that others break: a number outside its range, too many or too few entries,
 -- entries out of order (ranges own). Keys have the numbers of docs/FORMATS.md; indices count from 1.
-use Rattle.std.specs.Prelude.{ℕ, suc, ℤ, pos, neg_ℤ, Bool, true, ◌&&◌, List, [], ◌∷◌, Option, Some, None, ◌-ℤ◌, ◌+ℤ◌, ◌%◌, ◌==◌, int_le, int_lt, nat_lt, nat_le, length, unsigned_abs, if◌then◌else◌}
+use Rattle.std.specs.Prelude.{ℕ, suc, ℤ, pos, neg_ℤ, Bool, true, ◌&&◌, List, [], ◌∷◌, Option, Some, None, ◌-ℤ◌, ◌+ℤ◌, ◌/◌, ◌%◌, ◌==◌, int_le, int_lt, nat_lt, nat_le, length, unsigned_abs, if◌then◌else◌}
 use Rattle.sdm_rules.specs.declared.data.Band.{Band}
 use Rattle.sdm_rules.specs.declared.data.Gradient.{Gradient}
 use Rattle.sdm_rules.specs.declared.data.SpeedStep.{SpeedStep}
@@ -52,8 +52,8 @@ fault_at fault (Some key) = Some (fault key)
 -- the first of the train's own numbers that is refused (own)
 abbrev pub train_refused : TrainData → Option ℕ
 train_refused t = first_refused
-    (refused 1 (is_within (pos 1) (pos 150_000) t.length_cm)
-    ∷ refused 2 (is_within (pos 1) (pos 500) t.max_speed)
+    (refused 1 (is_within (pos 1) (pos longest_train) t.length_cm)
+    ∷ refused 2 (is_within (pos 1) (pos top_kmh) t.max_speed)
     ∷ refused 3 (is_within_if_any (pos 0) (pos 50) t.rotating_mass)
     ∷ refused 4 (is_within (pos 0) (pos 300) t.cut_off_time)
     ∷ refused 6 (is_within (pos 0) (pos 300) t.emergency_time)
@@ -63,7 +63,7 @@ train_refused t = first_refused
 -- the first of a band's numbers that is refused (own)
 abbrev pub band_refused : Band → Option ℕ
 band_refused b = first_refused
-    (refused 1 (is_within_if_any (pos 1) (pos 500) b.upper)
+    (refused 1 (is_within_if_any (pos 1) (pos top_kmh) b.upper)
     ∷ refused 2 (is_within (pos 1) (pos 400) b.emergency)
     ∷ refused 3 (is_within (pos 1) (pos 400) b.service)
     ∷ refused 4 (is_within (pos 1) (pos 400) b.normal)
@@ -114,17 +114,13 @@ national_fault n = fault_at (λ key. national_faults.Value key)
 
 -- ---- the track
 
--- the steepest gradient, per mille (own)
-abbrev pub steepest : ℤ
-steepest = pos 80
-
 -- the first number of a gradient that is refused, on a track of a length in cm (own)
 abbrev pub gradient_refused : ℤ → Gradient → Option ℕ
 gradient_refused length_cm g = first_refused (refused 1 (is_within (pos 0) (length_cm -ℤ pos 1) g.start) ∷ refused 2 (is_within (neg_ℤ steepest) steepest g.grad) ∷ [])
 
 -- the first number of an entry of the static speed profile that is refused (own)
 abbrev pub speed_refused : ℤ → SpeedStep → Option ℕ
-speed_refused length_cm s = first_refused (refused 1 (is_within (pos 0) (length_cm -ℤ pos 1) s.start) ∷ refused 2 (is_within (pos 1) (pos 500) s.speed) ∷ [])
+speed_refused length_cm s = first_refused (refused 1 (is_within (pos 0) (length_cm -ℤ pos 1) s.start) ∷ refused 2 (is_within (pos 1) (pos top_kmh) s.speed) ∷ [])
 
 -- the first number of an area that is refused: it ends past its start (own)
 abbrev pub area_refused : ℤ → Area → Option ℕ
@@ -162,18 +158,6 @@ speed_order es = order_fault sections.Speed (λ e. e.start) (λ e. e.start +ℤ 
 abbrev pub area_order : List Area → Option TrackFault
 area_order es = order_fault sections.Adhesion (λ e. e.start) (λ e. e.end) 1 es
 
--- the most entries of each list (own)
-abbrev pub most_gradients : ℕ
-most_gradients = 512
-
--- the most entries of the static speed profile (own)
-abbrev pub most_speeds : ℕ
-most_speeds = 128
-
--- the most areas of reduced adhesion (own)
-abbrev pub most_areas : ℕ
-most_areas = 64
-
 -- the first rule that the gradients break; there may be none (own)
 unfoldable pub gradients_fault : ℤ → List Gradient → Option TrackFault
 gradients_fault length_cm es =
@@ -192,7 +176,7 @@ areas_fault length_cm es = or_else (count_fault sections.Adhesion 0 most_areas e
 
 -- the length of the track, in cm (own)
 abbrev pub length_fault : ℤ → Option TrackFault
-length_fault length_cm = if is_within (pos 1) (pos 10_000_000) length_cm then None else Some (Value sections.Track 0 1)
+length_fault length_cm = if is_within (pos 1) (pos longest_track) length_cm then None else Some (Value sections.Track 0 1)
 
 -- the first rule that a track breaks: of its length, then list by list (own)
 unfoldable pub track_fault : TrackData → Option TrackFault

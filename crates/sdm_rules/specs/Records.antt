@@ -21,6 +21,7 @@ use Rattle.sdm_rules.specs.declared.faults.EventCause.{EventCause}
 use Rattle.sdm_rules.specs.declared.faults.EventCause.TheVariants as causes
 use Rattle.sdm_rules.specs.declared.rows.Row.{Row}
 use Rattle.sdm_rules.specs.Supervision.{Supervision, row_of, after_reading, after_authority, after_restriction, after_revocation}
+use Rattle.sdm_rules.specs.Ranges.{top_kmh}
 
 -- ---- refusals
 
@@ -29,11 +30,11 @@ abbrev pub authority_fault : ℤ → Authority → Option AuthorityFault
 authority_fault length_cm (Stop eoa svl release) =
     if nat_lt svl eoa then Some SvlBeforeEoa
     else if int_lt length_cm (pos svl) then Some BeyondTrack
-    else if nat_lt 500 release then Some BadSpeed
+    else if nat_lt top_kmh release then Some BadSpeed
     else None
 authority_fault length_cm (Limit loa speed) =
     if int_lt length_cm (pos loa) then Some BeyondTrack
-    else if (speed == 0) || nat_lt 500 speed then Some BadSpeed
+    else if (speed == 0) || nat_lt top_kmh speed then Some BadSpeed
     else None
 
 -- the most restrictions that are held (own)

@@ -8,6 +8,7 @@ pub mod commands;
 pub mod data;
 pub mod faults;
 pub mod motions;
+pub mod ranges;
 pub mod records;
 pub mod restrictions;
 pub mod rows;

@@ -11,7 +11,7 @@ use Rattle.sdm_rules.specs.declared.rows.Row.{Row}
 use Rattle.sdm_report.specs.declared.outcome.Outcome.TheVariants.{Done}
 use Rattle.sdm_rules.specs.Input.{end_of_journey}
 use Rattle.sdm_rules.specs.Opening.{IsOpen}
-use Rattle.sdm_rules.specs.Records.{journey_from, time_fault}
+use Rattle.sdm_rules.specs.Records.{journey_from, time_fault, most_records}
 use Rattle.sdm_rules.specs.Supervision.{Supervision, after_reading, opening, row_of}
 use Rattle.sdm_rules.specs.Trial.{reading_in_cycle, reading_record, readings_from, summary_text, trial_authority, trial_journey, trial_line, trial_output}
 use Rattle.sdm_laws.proofs.OneFault.{not_both}
@@ -39,7 +39,7 @@ rows_left m s = (journey_from reading_record (suc m.made) s (readings_from m.see
 -- what was counted are the rows of the cycles that were made
 pub record IsCycleOf (seed cycles : ℕ) (m : MadeReadings) (s : Supervision) (counts : Counts) : Type 0 where
   pub seed_is : m.seed ≡ seed
-  pub few : m.made + m.left ≤ 100_000
+  pub few : m.made + m.left ≤ most_records
   pub counted : counts.rows ≡ m.made
   pub in_time : time_fault s.last_time (reading_in_cycle seed (suc m.made)).time ≡ None
   pub done : List Row
@@ -47,7 +47,7 @@ pub record IsCycleOf (seed cycles : ℕ) (m : MadeReadings) (s : Supervision) (c
   pub rows : (trial_journey seed cycles).rows ≡ done ++ rows_left m s
 
 -- at first all cycles are left
-pub first_cycle : (seed cycles : ℕ) → cycles ≤ 100_000 → IsCycleOf seed cycles (record { seed = seed; made = 0; left = cycles }) (opening trial_line trial_authority) (counts_of [])
+pub first_cycle : (seed cycles : ℕ) → cycles ≤ most_records → IsCycleOf seed cycles (record { seed = seed; made = 0; left = cycles }) (opening trial_line trial_authority) (counts_of [])
 first_cycle seed cycles few = record {
   seed_is = refl;
   few = omega (arith, few);
@@ -105,7 +105,7 @@ all_made seed cycles m s counts h none =
     h.counts_are ∙ ap counts_of (sym (h.rows ∙ ap (λ rows. h.done ++ rows) nothing ∙ append-nil h.done))
 
 -- the whole summary answers a trial
-pub trial_done : (seed cycles : ℕ) (old new : Option (List ℕ)) → cycles ≤ 100_000 → Appends old new (summary_text (trial_journey seed cycles).rows) → IsAnswer (trial_output seed cycles) old new Done
+pub trial_done : (seed cycles : ℕ) (old new : Option (List ℕ)) → cycles ≤ most_records → Appends old new (summary_text (trial_journey seed cycles).rows) → IsAnswer (trial_output seed cycles) old new Done
 trial_done seed cycles old new few h = record { ended = inl (ap Some (sym (ap end_of_journey (trial_taken seed cycles few).0))); taken = h }
 
 -- ---- the promises of the rows

@@ -4,6 +4,8 @@ use Rattle.std.specs.Str.{bytes_eq}
 use Rattle.std.specs.declared.alloc.Global.{Global}
 use Rattle.sdm_rules.specs.declared.faults.FieldFault.{FieldFault}
 use Rattle.sdm_rules.specs.Numbers.{read_int}
+use Rattle.sdm_rules.specs.Ranges.{longest_track}
+use Rattle.sdm_rules.specs.Records.{most_records}
 use Rattle.sdm_run.specs.declared.words.Command.{Command}
 use Rattle.sdm_run.specs.declared.words.Command.TheVariants.{Flat, Run, Trial}
 
@@ -15,7 +17,7 @@ flat_of (Err fault) end = None
 
 -- the words after `flat`: A in cm/s², END in cm (own)
 abbrev pub flat_command : List (List ℕ) → Option Command
-flat_command (decel ∷ end ∷ []) = flat_of (read_int decel (pos 5) (pos 400)) (read_int end (pos 0) (pos 10_000_000))
+flat_command (decel ∷ end ∷ []) = flat_of (read_int decel (pos 5) (pos 400)) (read_int end (pos 0) (pos longest_track))
 flat_command _ = None
 
 -- `run` has no words after it (own)
@@ -31,7 +33,7 @@ trial_of (Err fault) cycles = None
 
 -- the words after `trial`: NUMBER and CYCLES (own)
 abbrev pub trial_command : List (List ℕ) → Option Command
-trial_command (seed ∷ cycles ∷ []) = trial_of (read_int seed (pos 0) (pos 65_535)) (read_int cycles (pos 1) (pos 100_000))
+trial_command (seed ∷ cycles ∷ []) = trial_of (read_int seed (pos 0) (pos 65_535)) (read_int cycles (pos 1) (pos most_records))
 trial_command _ = None
 
 -- the shapes of the words, each with its command: `run`, `flat A END`, and `trial NUMBER CYCLES` (own)
@@ -49,6 +51,6 @@ asked_by words = command_of (map string_bytes words)
 
 -- the numbers of a command are in their ranges (own)
 abbrev pub IsInRange : Command → Type 0
-IsInRange (Flat decel end) = (5 ≤ decel) × (decel ≤ 400) × (end ≤ 10_000_000)
+IsInRange (Flat decel end) = (5 ≤ decel) × (decel ≤ 400) × (end ≤ longest_track)
 IsInRange Run = Unit {0}
-IsInRange (Trial seed cycles) = (seed ≤ 65_535) × (1 ≤ cycles) × (cycles ≤ 100_000)
+IsInRange (Trial seed cycles) = (seed ≤ 65_535) × (1 ≤ cycles) × (cycles ≤ most_records)

@@ -4,6 +4,7 @@ ghost use Rattle.std.specs.Prelude.{◌≡◌, ◌⊎◌, ◌<◌, ◌≤◌, le
 ghost use Rattle.sdm_io.specs.Causes.{Rose};
 ghost use Rattle.sdm_rules.specs.Input.{most_bytes};
 ghost use Rattle.sdm_rules.specs.Flat.{flat_output};
+ghost use Rattle.sdm_rules.specs.Ranges.{longest_track};
 ghost use Rattle.sdm_run.specs.Answers.{ComesFirst, IsAnswer, IsFlatOutcome};
 ghost use Rattle.sdm_run.specs.FlatTurns.{RefusesLine, TakesLine};
 
@@ -46,7 +47,7 @@ fn take_line<'a>(flat: &mut Flat, rest: &'a [u8]) -> Option<Turn<'a>>
 pub fn run_flat<O: Sink>(alloc: Global, decel: u16, end_cm: u32, bytes: &[u8], out: &mut O) -> Ended
     requires low { 5 ≤ decel }
     requires high { decel ≤ 400 }
-    requires end { end_cm ≤ 10_000_000 }
+    requires end { end_cm ≤ longest_track }
     requires short { length bytes.now ≤ most_bytes }
     ensures answer { IsAnswer (flat_output decel end_cm bytes.now) (O.taken out.old) (O.taken out.new) result.outcome }
     ensures possible { IsFlatOutcome result.outcome }

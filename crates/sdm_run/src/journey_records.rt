@@ -19,13 +19,10 @@ use sdm_events::{ByteRecord, Event, EventFault, Records, event_of};
 use sdm_io::{Failed, Sink, write_piece};
 use sdm_num::{NoMemory, Reading};
 use sdm_report::{EventCause, Outcome, row_bytes};
-use sdm_rules::{Authority, Restriction};
+use sdm_rules::{Authority, MOST_RECORDS, Restriction};
 use sdm_supervisor::{CycleFault, Row, Supervisor};
 use sdm_text::RowBuf;
 use std::alloc::Global;
-
-/// The most records of a journey. (own)
-const MOST_RECORDS: u32 = 100_000;
 
 // Takes a reading: its row.
 #[tactic(auto, unfolding(sdm_rules::specs::Records::step))]

@@ -5,6 +5,7 @@ ghost use Rattle.std.specs.Prelude.{◌≡◌, ◌⊎◌, ◌≤◌, false, IfOk
 ghost use Rattle.sdm_io.specs.Causes.{Rose};
 ghost use Rattle.sdm_rules.specs.Supervision.{opening};
 ghost use Rattle.sdm_rules.specs.Trial.{trial_authority, trial_journey, trial_line, trial_output};
+ghost use Rattle.sdm_rules.specs.Records.{most_records};
 ghost use Rattle.sdm_trial.specs.Summaries.{counts_of};
 ghost use Rattle.sdm_run.specs.Answers.{ComesFirst, IsAnswer, IsTrialOutcome};
 
@@ -42,7 +43,7 @@ fn begin(alloc: Global) -> Result<Supervisor, NoMemory>
 // The summary of the rows of all cycles.
 fn summary_of(supervisor: &mut Supervisor, seed: u16, cycles: u32) -> Summary
     requires opening { supervisor.old ≡ opening trial_line trial_authority }
-    requires cycles { cycles ≤ 100_000 }
+    requires cycles { cycles ≤ most_records }
     ensures { result ≡ counts_of (trial_journey seed cycles).rows }
 {
     let mut readings = Readings::begin(seed, cycles);
@@ -59,7 +60,7 @@ fn summary_of(supervisor: &mut Supervisor, seed: u16, cycles: u32) -> Summary
 /// Answers a number and a count of cycles: the summary, in one piece. Memory comes only before out was handed anything; WriteFault
 /// only where out failed. (own)
 pub fn run_trial<O: Sink>(alloc: Global, seed: u16, cycles: u32, out: &mut O) -> Ended
-    requires { cycles ≤ 100_000 }
+    requires { cycles ≤ most_records }
     ensures answer { IsAnswer (trial_output seed cycles) (O.taken out.old) (O.taken out.new) result.outcome }
     ensures possible { IsTrialOutcome result.outcome }
     ensures not_first { ComesFirst result.outcome → ⊥ }

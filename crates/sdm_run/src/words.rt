@@ -3,6 +3,7 @@
 ghost use Rattle.std.specs.Prelude.{◌≡◌, map, string_bytes, IfSome};
 ghost use Rattle.sdm_run.specs.Words.{IsInRange, asked_by, flat_command, run_command, trial_command};
 
+use sdm_rules::{LONGEST_TRACK_CM, MOST_RECORDS};
 use sdm_text::natural_in;
 
 /// What the words ask for. (own)
@@ -49,7 +50,7 @@ fn flat_command(words: &[String]) -> Option<Command>
 {
     let [decel, end] = words else { return None };
     let decel = natural_in(decel.as_str().as_bytes(), 5, 400).ok()?;
-    let end_cm = natural_in(end.as_str().as_bytes(), 0, 10_000_000).ok()?;
+    let end_cm = natural_in(end.as_str().as_bytes(), 0, LONGEST_TRACK_CM).ok()?;
     Some(Command::Flat {
         decel: decel as u16,
         end_cm,
@@ -63,7 +64,7 @@ fn trial_command(words: &[String]) -> Option<Command>
 {
     let [seed, cycles] = words else { return None };
     let seed = natural_in(seed.as_str().as_bytes(), 0, 65_535).ok()?;
-    let cycles = natural_in(cycles.as_str().as_bytes(), 1, 100_000).ok()?;
+    let cycles = natural_in(cycles.as_str().as_bytes(), 1, MOST_RECORDS).ok()?;
     Some(Command::Trial {
         seed: seed as u16,
         cycles,

@@ -11,7 +11,7 @@ use Rattle.std.proofs.lemmas.Int.{ints}
 use Rattle.sdm_num.proofs.Comparisons.{not_le_is, not_lt_is}
 use Rattle.sdm_rules.specs.declared.restrictions.Restriction.{Restriction}
 use Rattle.sdm_rules.specs.Profile.{Zone, capped, covers, end_for, lowest_limit, zones_of_track, zone_of}
-use Rattle.sdm_track.specs.Ranges.{longest_train}
+use Rattle.sdm_rules.specs.Ranges.{longest_track, longest_train}
 use Rattle.sdm_speed.specs.Changes.{AreSameOutside, IsChangedInRange, cells_of}
 use Rattle.sdm_speed.specs.Held.{IsHeld}
 use Rattle.sdm_speed.specs.Profiles.{ProfileData, mrsp_of, zones_of}
@@ -127,7 +127,7 @@ pub lifted_outside : (p : ProfileData) (k : ℕ) (r : Restriction) → finite.ge
 lifted_outside p k r here = same_both_ways _ _ p.length_cm r (same_outside p.length_cm r _ _ (λ c. lifted p k r c here))
 
 -- on the longest track, and as far past it as the longest train
-pub cells_in_range : (length_cm : ℤ) (r : Restriction) → pos 0 ≤ℤ length_cm → length_cm ≤ℤ longest_train → IsHeld r → IsChangedInRange (cells_of length_cm r)
+pub cells_in_range : (length_cm : ℤ) (r : Restriction) → pos 0 ≤ℤ length_cm → length_cm ≤ℤ pos longest_train → IsHeld r → IsChangedInRange (cells_of length_cm r)
 cells_in_range length_cm r shortest longest held = record {
   not_before = omega (arith, ints);
   some = past_start r.delayed;
@@ -138,6 +138,6 @@ cells_in_range length_cm r shortest longest held = record {
     past_start true = omega (arith, ints, held.some_cell)
     past_start false = omega (arith, ints, held.some_cell)
 
-    past_end : (b : Bool) → end_for length_cm b (pos r.end) ≤ℤ (pos 10_000_000 +ℤ longest_train)
+    past_end : (b : Bool) → end_for length_cm b (pos r.end) ≤ℤ (pos longest_track +ℤ pos longest_train)
     past_end true = omega (arith, ints, held.on_track)
     past_end false = omega (arith, ints, held.on_track)

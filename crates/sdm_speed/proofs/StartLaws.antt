@@ -8,7 +8,7 @@ use Rattle.std.proofs.lemmas.Bool.Decides.{Decides-int_eq}
 use Rattle.sdm_num.proofs.Comparisons.{le_is, le_of, lt_is, lt_of}
 use Rattle.sdm_rules.specs.Profile.{Zone, covers, lowest_limit}
 use Rattle.sdm_rules.specs.Targets.{is_fall}
-use Rattle.sdm_track.specs.Ranges.{longest_track}
+use Rattle.sdm_rules.specs.Ranges.{longest_track}
 use Rattle.sdm_speed.specs.Zones.{IsZone, limits_of, starts_at, has_start}
 
 -- ---- tests
@@ -59,11 +59,11 @@ start_is : (first : Option ℤ) (c : ℤ) → option_map_or (int_eq c) first fal
 start_is None c here = absurd cc
 start_is (Some f) c here = ap Some (sym (eq_of c f here))
 
-on_track_by : (z : Zone) (zs : List Zone) (c : ℤ) (b : Bool) → starts_at c z ≡ b → (b || has_start zs c) ≡ true → IsZone z → (has_start zs c ≡ true → (pos 0 ≤ℤ c) × (c <ℤ longest_track)) → (pos 0 ≤ℤ c) × (c <ℤ longest_track)
+on_track_by : (z : Zone) (zs : List Zone) (c : ℤ) (b : Bool) → starts_at c z ≡ b → (b || has_start zs c) ≡ true → IsZone z → (has_start zs c ≡ true → (pos 0 ≤ℤ c) × (c <ℤ pos longest_track)) → (pos 0 ≤ℤ c) × (c <ℤ pos longest_track)
 on_track_by z zs c true here either zone rest = let first = start_is z.first c here in (zone.not_before c first, zone.on_track c first)
 on_track_by z zs c false here either zone rest = rest either
 
 -- on the longest track
-pub start_on_track : (zs : List Zone) (c : ℤ) → All IsZone zs → has_start zs c ≡ true → (pos 0 ≤ℤ c) × (c <ℤ longest_track)
+pub start_on_track : (zs : List Zone) (c : ℤ) → All IsZone zs → has_start zs c ≡ true → (pos 0 ≤ℤ c) × (c <ℤ pos longest_track)
 start_on_track [] c each here = absurd cc
 start_on_track (z ∷ zs) c each here = on_track_by z zs c (starts_at c z) refl here (each 0 z (omega arith)) (start_on_track zs c (λ k d l. each (suc k) d (omega arith)))

@@ -5,7 +5,8 @@ use Rattle.std.proofs.lemmas.Int.{ints}
 use Rattle.std.proofs.lemmas.List.{drop_more, drop_all}
 use Rattle.sdm_rules.specs.declared.data.SpeedStep.{SpeedStep}
 use Rattle.sdm_rules.specs.Profile.{Zone, end_for, static_zones, zones_of_track}
-use Rattle.sdm_track.specs.Ranges.{IsSpeedStep, AreSpeeds, longest_track}
+use Rattle.sdm_rules.specs.Ranges.{longest_track}
+use Rattle.sdm_track.specs.Ranges.{IsSpeedStep, AreSpeeds}
 use Rattle.sdm_speed.specs.Zones.{IsZone, IsLimit}
 
 -- stands for an entry that there is not
@@ -38,14 +39,14 @@ step_limit : (length_cm : ℤ) (e : SpeedStep) → IsSpeedStep length_cm e → I
 step_limit length_cm e step = record { least = (let l = step.least in omega (arith, ints)); greatest = (let g = step.greatest in omega (arith, ints)) }
 
 -- a zone that opens where the entry `i` starts, or has no beginning, wherever it ends
-pub static_zone : (es : List SpeedStep) (i : ℕ) (first past : Option ℤ) (e : SpeedStep) → AreSpeeds longest_track es → i < length es → e ≡ get_or es i none → ((f : ℤ) → first ≡ Some f → f ≡ e.start) →
+pub static_zone : (es : List SpeedStep) (i : ℕ) (first past : Option ℤ) (e : SpeedStep) → AreSpeeds (pos longest_track) es → i < length es → e ≡ get_or es i none → ((f : ℤ) → first ≡ Some f → f ≡ e.start) →
     IsZone (record { first = first; past = past; limit = unsigned_abs e.speed })
 static_zone es i first past e speeds known e_is opened =
-    let in_range : IsSpeedStep longest_track e = rw e_is (speeds.each i none known) in
+    let in_range : IsSpeedStep (pos longest_track) e = rw e_is (speeds.each i none known) in
     record {
       not_before = λ f a. rw (opened f a) in_range.not_before;
       on_track = λ f a. rw (opened f a) in_range.on_track;
-      limited = step_limit longest_track e in_range;
+      limited = step_limit (pos longest_track) e in_range;
     }
 
 -- ---- the ranges of a longer track

@@ -2,7 +2,7 @@
 use Rattle.std.specs.Prelude.{◌≡◌, ℕ, ℤ, pos, ◌+ℤ◌, ◌≤ℤ◌, ◌<ℤ◌}
 use Rattle.sdm_rules.specs.declared.restrictions.Restriction.{Restriction}
 use Rattle.sdm_rules.specs.Profile.{end_for}
-use Rattle.sdm_track.specs.Ranges.{longest_track, longest_train}
+use Rattle.sdm_rules.specs.Ranges.{longest_track, longest_train}
 use Rattle.sdm_speed.specs.declared.changes.Changed.{Changed}
 
 -- the cells that a temporary restriction covers, for a train of a length in cm (SUBSET-026-3 3.11.5; own cell form)
@@ -18,4 +18,4 @@ pub record AreSameOutside (p q : ℤ → ℕ) (changed : Changed) : Type 0 where
 pub record IsChangedInRange (changed : Changed) : Type 0 where
   pub not_before : pos 0 ≤ℤ changed.first
   pub some : changed.first <ℤ changed.past
-  pub on_track : changed.past ≤ℤ (longest_track +ℤ longest_train)
+  pub on_track : changed.past ≤ℤ (pos longest_track +ℤ pos longest_train)

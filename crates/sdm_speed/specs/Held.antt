@@ -3,6 +3,7 @@ use Rattle.std.specs.Prelude.{◌≡◌, ℕ, Bool, List, [], ◌∷◌, None, �
 use Rattle.std.specs.Ordering.{nat_cmp}
 use Rattle.std.specs.FinMap as finite
 use Rattle.sdm_rules.specs.declared.restrictions.Restriction.{Restriction}
+use Rattle.sdm_rules.specs.Ranges.{longest_track}
 use Rattle.sdm_speed.specs.Zones.{IsLimit}
 
 -- the restriction has the identity (own)
@@ -20,7 +21,7 @@ by_identity rs = finite.from_entries (map keyed rs)
 -- a restriction that is held covers a cell of the longest track, and has a limit (own)
 pub record IsHeld (r : Restriction) : Type 0 where
   pub some_cell : r.start < r.end
-  pub on_track : r.end ≤ 10_000_000
+  pub on_track : r.end ≤ longest_track
   pub limited : IsLimit r.speed
 
 -- no two of the restrictions have one identity (own)

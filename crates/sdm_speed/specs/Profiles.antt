@@ -9,7 +9,8 @@ use Rattle.sdm_rules.specs.Data.{TrackData}
 use Rattle.sdm_rules.specs.Codes.{coded_restrictions}
 use Rattle.sdm_rules.specs.Profile.{Zone, lowest_limit, zones_of_track, zone_of}
 use Rattle.sdm_rules.specs.Records.{most_restrictions}
-use Rattle.sdm_track.specs.Ranges.{AreSpeeds, longest_track, longest_train}
+use Rattle.sdm_rules.specs.Ranges.{longest_track, longest_train}
+use Rattle.sdm_track.specs.Ranges.{AreSpeeds}
 use Rattle.sdm_speed.specs.Zones.{IsLimit}
 
 -- the maximum train speed in km/h, the lengths of train and track in cm, the static speed profile, and the temporary restrictions in
@@ -44,8 +45,8 @@ mrsp_of p cell = lowest_limit p.max_speed cell (zones_of p)
 pub record IsProfile (p : ProfileData) : Type 0 where
   pub top : IsLimit p.max_speed
   pub shortest_train : pos 1 ≤ℤ p.length_cm
-  pub longest_train : p.length_cm ≤ℤ longest_train
-  pub longest_track : p.track_cm ≤ℤ longest_track
+  pub longest_train : p.length_cm ≤ℤ pos longest_train
+  pub longest_track : p.track_cm ≤ℤ pos longest_track
   pub speeds : AreSpeeds p.track_cm p.speeds
   pub few : finite.len p.restrictions ≤ most_restrictions
 

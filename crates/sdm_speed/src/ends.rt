@@ -2,7 +2,7 @@
 
 ghost use Rattle.std.specs.Prelude.{◌≡◌, ◌≤◌, ◌≤ℤ◌, pos};
 ghost use Rattle.sdm_rules.specs.Profile.{end_for, zone_of};
-ghost use Rattle.sdm_track.specs.Ranges.{longest_track};
+ghost use Rattle.sdm_rules.specs.Ranges.{longest_track, longest_train};
 ghost use Rattle.sdm_speed.specs.Changes.{cells_of};
 ghost use Rattle.sdm_speed.specs.Held.{IsHeld};
 
@@ -12,9 +12,9 @@ use sdm_rules::Restriction;
 
 /// Where a speed limit ends for the front end, with a train of this length in cm.
 pub fn end_for(length_cm: u32, delayed: bool, end: i64) -> i32
-    requires train { length_cm ≤ 150_000 }
+    requires train { length_cm ≤ longest_train }
     requires not_before { pos 0 ≤ℤ end }
-    requires on_track { end ≤ℤ longest_track }
+    requires on_track { end ≤ℤ pos longest_track }
     ensures { result ≡ end_for (pos length_cm) delayed end }
 {
     if delayed {
@@ -27,7 +27,7 @@ pub fn end_for(length_cm: u32, delayed: bool, end: i64) -> i32
 /// The cells that a temporary restriction covers.
 pub fn cells_of(r: Restriction, length_cm: u32) -> Changed
     requires track { IsHeld r }
-    requires train { length_cm ≤ 150_000 }
+    requires train { length_cm ≤ longest_train }
     ensures { result ≡ cells_of (pos length_cm) r }
 {
     Changed {
@@ -39,7 +39,7 @@ pub fn cells_of(r: Restriction, length_cm: u32) -> Changed
 /// The zone of a temporary restriction.
 pub fn zone_of(r: Restriction, length_cm: u32) -> Zone
     requires track { IsHeld r }
-    requires train { length_cm ≤ 150_000 }
+    requires train { length_cm ≤ longest_train }
     ensures { result ≡ zone_of (pos length_cm) r }
 {
     let cells = cells_of(r, length_cm);

@@ -3,6 +3,7 @@
 
 ghost use Rattle.std.specs.Prelude.{◌≡◌, ◌⊎◌, ◌≤◌, ℕ, ℤ, pos, true, All, map, vec_capacity};
 ghost use Rattle.sdm_rules.specs.Profile.{capped, zone_of};
+ghost use Rattle.sdm_rules.specs.Ranges.{longest_train};
 ghost use Rattle.sdm_speed.specs.Borders.{AreAtBorders, AreSpeedsAt, IsBorder, IsEnd, IsEndOfOne, retaken, speed_under};
 ghost use Rattle.sdm_speed.specs.Held.{IsHeld};
 ghost use Rattle.sdm_speed.specs.Steps.{AreRising, IsStart, speeds_of};
@@ -15,7 +16,7 @@ use sdm_rules::Restriction;
 fn speed_under(statics: &Steps, held: &[Restriction], length_cm: u32, cell: i32) -> u16
     requires rising { AreRising statics.now.list.items }
     requires held { All IsHeld held.now }
-    requires train { length_cm ≤ 150_000 }
+    requires train { length_cm ≤ longest_train }
     ensures { result ≡ speed_under (pos length_cm) statics.now.before statics.now.list.items held.now cell }
 {
     let mut speed = statics.speed_at(cell);
@@ -28,7 +29,7 @@ fn speed_under(statics: &Steps, held: &[Restriction], length_cm: u32, cell: i32)
 /// Whether the zone of a restriction begins or ends at a cell.
 fn is_end_of_one(held: &[Restriction], length_cm: u32, cell: i32) -> bool
     requires held { All IsHeld held.now }
-    requires train { length_cm ≤ 150_000 }
+    requires train { length_cm ≤ longest_train }
     ensures yes { result ≡ true → IsEndOfOne (pos length_cm) cell held.now }
     ensures no { IsEndOfOne (pos length_cm) cell held.now → result ≡ true }
 {
@@ -45,7 +46,7 @@ fn is_end_of_one(held: &[Restriction], length_cm: u32, cell: i32) -> bool
 fn is_border(statics: &Steps, held: &[Restriction], length_cm: u32, cell: i32) -> bool
     requires rising { AreRising statics.now.list.items }
     requires held { All IsHeld held.now }
-    requires train { length_cm ≤ 150_000 }
+    requires train { length_cm ≤ longest_train }
     ensures yes { result ≡ true → IsBorder (pos length_cm) statics.now.list.items held.now cell }
     ensures no { IsBorder (pos length_cm) statics.now.list.items held.now cell → result ≡ true }
 {
@@ -65,7 +66,7 @@ fn retake(
     requires statics { AreRising statics.now.list.items }
     requires held { All IsHeld held.now }
     requires lifted { IsHeld lifted }
-    requires train { length_cm ≤ 150_000 }
+    requires train { length_cm ≤ longest_train }
     ensures before { steps.new.before ≡ steps.old.before }
     ensures list { steps.new.list.items ≡ map (retaken (speed_under (pos length_cm) statics.now.before statics.now.list.items held.now)) steps.old.list.items }
     ensures room { vec_capacity steps.new.list ≡ vec_capacity steps.old.list }
@@ -88,7 +89,7 @@ fn join_unless_border(
     requires rising { AreRising steps.old.list.items }
     requires statics { AreRising statics.now.list.items }
     requires held { All IsHeld held.now }
-    requires train { length_cm ≤ 150_000 }
+    requires train { length_cm ≤ longest_train }
     ensures before { steps.new.before ≡ steps.old.before }
     ensures rising { AreRising steps.new.list.items }
     ensures speeds { (speed : ℤ → ℕ) → AreSpeedsAt speed steps.old.list.items → AreSpeedsAt speed steps.new.list.items }
@@ -118,7 +119,7 @@ pub fn raise(
     requires statics { AreRising statics.now.list.items }
     requires held { All IsHeld held.now }
     requires lifted { IsHeld lifted }
-    requires train { length_cm ≤ 150_000 }
+    requires train { length_cm ≤ longest_train }
     ensures before { steps.new.before ≡ statics.now.before }
     ensures speeds { (c : ℤ) → speeds_of steps.new.before steps.new.list.items c ≡ speed_under (pos length_cm) statics.now.before statics.now.list.items held.now c }
     ensures rising { AreRising steps.new.list.items }

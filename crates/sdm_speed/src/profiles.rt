@@ -9,7 +9,8 @@ ghost use Rattle.sdm_rules.specs.Cells.{lowest};
 ghost use Rattle.sdm_rules.specs.Profile.{zones_of_track};
 ghost use Rattle.sdm_rules.specs.Records.{restrict_fault, revoke_fault};
 ghost use Rattle.sdm_rules.specs.Targets.{IsNextFall, HasNoFall};
-ghost use Rattle.sdm_track.specs.Ranges.{AreSpeeds, longest_track};
+ghost use Rattle.sdm_rules.specs.Ranges.{longest_track, longest_train, top_kmh};
+ghost use Rattle.sdm_track.specs.Ranges.{AreSpeeds};
 ghost use Rattle.sdm_speed.specs.Zones.{IsLimit, IsZone, IsFallInRange, limits_of};
 ghost use Rattle.sdm_speed.specs.Steps.{AreRising, speeds_of};
 ghost use Rattle.sdm_speed.specs.Held.{has_id};
@@ -71,8 +72,8 @@ fn speeds_of(alloc: Global, track: &Track) -> Result<Vec<SpeedStep>, NoMemory>
 
 /// The zones of the static speed profile. Each border closes a zone and opens the next.
 fn static_zones(alloc: Global, speeds: &[SpeedStep], length_cm: u32) -> Result<Vec<Zone>, NoMemory>
-    requires speeds { AreSpeeds longest_track speeds.now }
-    requires train { length_cm ≤ 150_000 }
+    requires speeds { AreSpeeds (pos longest_track) speeds.now }
+    requires train { length_cm ≤ longest_train }
     ensures value { IfOk result (λ zones. zones.items ≡ zones_of_track (pos length_cm) speeds.now) }
     ensures in_range { IfOk result (λ zones. All IsZone zones.items) }
     ensures many { IfOk result (λ zones. vec_len zones ≡ length speeds.now) }
@@ -130,9 +131,9 @@ impl Profile {
         length_cm: u32,
     ) -> Result<Profile, NoMemory>
         requires slowest { 1 ≤ max_speed }
-        requires fastest { max_speed ≤ 500 }
+        requires fastest { max_speed ≤ top_kmh }
         requires shortest { 1 ≤ length_cm }
-        requires longest { length_cm ≤ 150_000 }
+        requires longest { length_cm ≤ longest_train }
         ensures { IfOk result (λ profile. profile ≡ new_profile track.now max_speed length_cm) }
     {
         let track_cm = track.length_cm();
@@ -198,7 +199,7 @@ impl Profile {
     /// the track's end; the profile is then as it was. (SUBSET-026-3 3.11.5; refusals own)
     pub fn impose(&mut self, r: Restriction) -> Result<Changed, RestrictFault>
         requires slowest { 1 ≤ r.speed }
-        requires fastest { r.speed ≤ 500 }
+        requires fastest { r.speed ≤ top_kmh }
         ensures accepted { OnOk result (restrict_fault self.old.track_cm self.old.restrictions r ≡ None) }
         ensures added { OnOk result (self.new ≡ record self.old { restrictions = finite.insert self.old.restrictions r.id r }) }
         ensures outside { IfOk result (AreSameOutside (mrsp_of self.old) (mrsp_of self.new)) }
@@ -245,7 +246,7 @@ impl Profile {
     /// refusals own)
     pub fn set(&mut self, r: Restriction) -> Result<(), RestrictFault>
         requires slowest { 1 ≤ r.speed }
-        requires fastest { r.speed ≤ 500 }
+        requires fastest { r.speed ≤ top_kmh }
         ensures accepted { OnOk result (restrict_fault self.old.track_cm self.old.restrictions r ≡ None) }
         ensures added { OnOk result (self.new ≡ record self.old { restrictions = finite.insert self.old.restrictions r.id r }) }
         ensures refused { IfErr result (λ fault. restrict_fault self.old.track_cm self.old.restrictions r ≡ Some fault) }

@@ -3,6 +3,7 @@ use Rattle.std.specs.Prelude.{◌≡◌, ℕ, ℤ, pos, neg_ℤ, [], ◌∷◌, 
 use Rattle.std.specs.Int.{int_div_euclid}
 use Rattle.sdm_rules.specs.Slopes.{SlopeMap, meaning_of}
 use Rattle.sdm_rules.specs.Cells.{border_of}
+use Rattle.sdm_rules.specs.Ranges.{longest_track}
 use Rattle.sdm_curve.specs.Made.{BrakeCurve, IsMadeFrom}
 
 -- one band and one segment, for q = 100 (own)
@@ -13,7 +14,7 @@ flat_map decel = record { q = 100; uppers = []; starts = pos 0 ∷ []; slopes = 
 pub record IsFlatCurve (decel end : ℕ) (map : SlopeMap) (curve : BrakeCurve) : Type 0 where
   pub low : 5 ≤ decel
   pub high : decel ≤ 400
-  pub near : end ≤ 10_000_000
+  pub near : end ≤ longest_track
   pub map_is : map ≡ flat_map decel
   pub place_is : curve.place ≡ border_of (pos end)
   pub speed_is : curve.speed ≡ 0

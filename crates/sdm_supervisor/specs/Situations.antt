@@ -12,6 +12,7 @@ use Rattle.sdm_rules.specs.declared.rows.Row.{Row}
 use Rattle.sdm_rules.specs.Margins.{ebi_margin, sbi_margin, warning_margin}
 use Rattle.sdm_rules.specs.Triggers.{no_margin}
 use Rattle.sdm_rules.specs.Supervision.{Supervision, situation_of}
+use Rattle.sdm_rules.specs.Ranges.{top_kmh}
 use Rattle.sdm_supervisor.specs.declared.situations.Situation.{Situation}
 use Rattle.sdm_supervisor.specs.declared.verdicts.Nearest.{Nearest}
 use Rattle.sdm_supervisor.specs.Verdicts.{verdict_of}
@@ -27,8 +28,8 @@ pub record IsFoundAt (s : Supervision) (r : OdometerReading) (found : Situation)
 
 -- the ceiling and the release speed are at most 500 km/h (ranges own)
 pub record IsInRange (found : Situation) : Type 0 where
-  pub ceiling : found.ceiling_kmh ≤ 500
-  pub release : IfSome found.release_kmh (λ kmh. kmh ≤ 500)
+  pub ceiling : found.ceiling_kmh ≤ top_kmh
+  pub release : IfSome found.release_kmh (λ kmh. kmh ≤ top_kmh)
 
 -- above the ceiling with a margin of it (SUBSET-026-3 3.13.10.3)
 abbrev pub is_above : Situation → (ℕ → ℕ) → Bool

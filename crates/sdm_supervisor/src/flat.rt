@@ -5,6 +5,7 @@ ghost use Rattle.sdm_num.specs.Units.{notches_of_mm_s};
 ghost use Rattle.sdm_rules.specs.Records.{time_fault};
 ghost use Rattle.sdm_rules.specs.Cells.{border_of};
 ghost use Rattle.sdm_rules.specs.Flat.{KeepsFlatOrder, StopsByFlatEnd, after_flat_line, flat_opening, flat_row};
+ghost use Rattle.sdm_rules.specs.Ranges.{longest_track};
 ghost use Rattle.sdm_supervisor.specs.Flats.{ebi_mm, flat_map};
 ghost use Rattle.sdm_supervisor.specs.FlatLines.{IsFlatLine, line_at};
 
@@ -69,7 +70,7 @@ impl Flat {
     pub fn begin(alloc: Global, decel: u16, end_cm: u32) -> Result<Flat, NoMemory>
         requires low { 5 ≤ decel }
         requires high { decel ≤ 400 }
-        requires near { end_cm ≤ 10_000_000 }
+        requires near { end_cm ≤ longest_track }
         ensures { IfOk result (λ f. f ≡ flat_opening decel end_cm) }
     {
         let map = map_of(alloc, decel)?;

@@ -11,6 +11,7 @@ ghost use Rattle.sdm_rules.specs.Records.{authority_fault, restrict_fault, revok
 ghost use Rattle.sdm_rules.specs.Stop.{IsSafe};
 ghost use Rattle.sdm_rules.specs.Supervision.{after_authority, after_reading, after_restriction, after_revocation, opening, profile_of, row_of};
 ghost use Rattle.sdm_rules.specs.Targets.{is_fall};
+ghost use Rattle.sdm_rules.specs.Ranges.{top_kmh};
 ghost use Rattle.sdm_decel.specs.Slopes.{line_of};
 ghost use Rattle.sdm_supervisor.specs.Supervised.{IsAuthorityCurve, IsFallCurve};
 ghost use Rattle.sdm_braking.specs.Lines.{IsRefusal};
@@ -133,7 +134,7 @@ impl Supervisor {
     /// ends at or before its start or past the track's end; nothing is then changed. (SUBSET-026-3 3.11.5; refusals own)
     pub fn restrict(&mut self, r: Restriction) -> Result<(), RestrictFault>
         requires slowest { 1 ≤ r.speed }
-        requires fastest { r.speed ≤ 500 }
+        requires fastest { r.speed ≤ top_kmh }
         ensures accepted { OnOk result (restrict_fault self.old.line.track.length_cm self.old.restrictions r ≡ None) }
         ensures taken { OnOk result (self.new ≡ after_restriction self.old r) }
         ensures refused { IfErr result (λ fault. restrict_fault self.old.line.track.length_cm self.old.restrictions r ≡ Some fault) }

@@ -6,6 +6,7 @@ use Rattle.sdm_rules.specs.declared.targets.Fall.{Fall}
 use Rattle.sdm_rules.specs.declared.targets.Target.{Target}
 use Rattle.sdm_rules.specs.declared.targets.TargetKind.TheVariants.{Mrsp}
 use Rattle.sdm_rules.specs.Cells.{border_of}
+use Rattle.sdm_rules.specs.Ranges.{longest_track}
 use Rattle.sdm_speed.specs.Zones.{IsFallInRange}
 use Rattle.sdm_targets.specs.Lists.{IsTarget}
 
@@ -14,7 +15,7 @@ border_low : (c : ℤ) → pos 0 ≤ℤ c → pos 0 ≤ℤ border_of c
 border_low c h = omega (arith, ints)
 
 -- a cell before the end of the longest track has its border before that end
-border_high : (c : ℤ) → c ≤ℤ pos 10_000_000 → border_of c ≤ℤ border_of (pos 10_000_000)
+border_high : (c : ℤ) → c ≤ℤ pos longest_track → border_of c ≤ℤ border_of (pos longest_track)
 border_high c h = omega (arith, ints)
 
 pub one_more_on_track : (ts : List Target) (fall : Fall) → All IsTarget ts → IsFallInRange fall → All IsTarget (ts ++ record { kind = Mrsp; place = border_of fall.cell; speed = fall.speed } ∷ [])

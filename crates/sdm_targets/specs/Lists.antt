@@ -7,16 +7,15 @@ use Rattle.sdm_rules.specs.declared.targets.Fall.{Fall}
 use Rattle.sdm_rules.specs.declared.targets.Target.{Target}
 use Rattle.sdm_rules.specs.declared.targets.TargetKind.TheVariants.{Mrsp}
 use Rattle.sdm_rules.specs.Cells.{cells, border_of}
-use Rattle.sdm_rules.specs.Ranges.{most_speeds}
+use Rattle.sdm_rules.specs.Ranges.{most_speeds, longest_track, top_kmh}
 use Rattle.sdm_rules.specs.Records.{most_restrictions}
 use Rattle.sdm_rules.specs.Targets.{is_fall, fall_at}
-use Rattle.sdm_track.specs.Ranges.{longest_track}
 
 -- a target lies on the longest track, both ends included, and its speed is at most 500 km/h (ranges own)
 pub record IsTarget (t : Target) : Type 0 where
   pub not_before : pos 0 ≤ℤ t.place
-  pub on_track : t.place ≤ℤ border_of longest_track
-  pub speed : t.speed ≤ 500
+  pub on_track : t.place ≤ℤ border_of (pos longest_track)
+  pub speed : t.speed ≤ top_kmh
 
 -- the room of a list (own)
 abbrev pub room : ℕ
@@ -33,8 +32,8 @@ falls_past profile after end = map (fall_at profile) (filter (is_fall profile) (
 
 -- the ends of the authority lie on the longest track, and a limit's speed is at most 500 km/h (own)
 abbrev pub IsOnTrack : Authority → Type 0
-IsOnTrack (Stop eoa svl release) = (pos eoa ≤ℤ longest_track) × (pos svl ≤ℤ longest_track)
-IsOnTrack (Limit loa speed) = (pos loa ≤ℤ longest_track) × (speed ≤ 500)
+IsOnTrack (Stop eoa svl release) = (pos eoa ≤ℤ pos longest_track) × (pos svl ≤ℤ pos longest_track)
+IsOnTrack (Limit loa speed) = (pos loa ≤ℤ pos longest_track) × (speed ≤ top_kmh)
 
 -- the target at a fall (SUBSET-026-3 3.13.8.2; own cell form)
 abbrev pub target_at : Fall → Target

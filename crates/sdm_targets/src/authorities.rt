@@ -3,10 +3,7 @@
 ghost use Rattle.std.specs.Prelude.{◌≡◌, pos, Some, None, IfErr, OnOk};
 ghost use Rattle.sdm_rules.specs.Records.{authority_fault};
 
-use sdm_rules::{Authority, AuthorityFault};
-
-/// The highest speed of an authority in km/h. (own)
-const HIGHEST_KMH: u16 = 500;
+use sdm_rules::{Authority, AuthorityFault, TOP_KMH};
 
 /// The first fault of a stop.
 fn stop_fault(eoa: u32, svl: u32, release: u16, track_cm: u32) -> Option<AuthorityFault>
@@ -18,7 +15,7 @@ fn stop_fault(eoa: u32, svl: u32, release: u16, track_cm: u32) -> Option<Authori
     if track_cm < svl {
         return Some(AuthorityFault::BeyondTrack);
     }
-    if HIGHEST_KMH < release {
+    if TOP_KMH < u32::from(release) {
         return Some(AuthorityFault::BadSpeed);
     }
     None
@@ -34,7 +31,7 @@ fn limit_fault(loa: u32, speed: u16, track_cm: u32) -> Option<AuthorityFault>
     if speed == 0 {
         return Some(AuthorityFault::BadSpeed);
     }
-    if HIGHEST_KMH < speed {
+    if TOP_KMH < u32::from(speed) {
         return Some(AuthorityFault::BadSpeed);
     }
     None

@@ -12,7 +12,7 @@ use Rattle.sdm_rules.specs.declared.faults.TrackFault.TheVariants.{Count, Value}
 use Rattle.sdm_rules.specs.declared.faults.Section.{Section}
 use Rattle.sdm_rules.specs.declared.faults.Section.TheVariants as sections
 use Rattle.sdm_rules.specs.Data.{TrackData}
-use Rattle.sdm_rules.specs.Ranges.{or_else, refused, first_refused, is_within, count_fault, value_fault, gap_fault, order_fault, length_fault, gradients_fault, speeds_fault, areas_fault, track_fault, gradient_refused, speed_refused, area_refused, steepest, most_gradients, most_speeds, most_areas}
+use Rattle.sdm_rules.specs.Ranges.{or_else, refused, first_refused, is_within, count_fault, value_fault, gap_fault, order_fault, length_fault, gradients_fault, speeds_fault, areas_fault, track_fault, gradient_refused, speed_refused, area_refused, steepest, most_gradients, most_speeds, most_areas, longest_track, top_kmh}
 use Rattle.sdm_rules.proofs.FaultLaws.{neither, not_refused}
 use Rattle.sdm_track.specs.Steps.{IsFromZero, IsRising}
 use Rattle.sdm_track.specs.Ranges.{IsGradient, IsSpeedStep, IsArea, AreGradients, AreSpeeds, AreAreas, IsTrack}
@@ -112,7 +112,7 @@ is_gradient length_cm e accepted =
 
 is_speed_step : (length_cm : ℤ) (e : SpeedStep) → speed_refused length_cm e ≡ None → IsSpeedStep length_cm e
 is_speed_step length_cm e accepted =
-    let within = keys_within (pos 0) (length_cm -ℤ pos 1) e.start (pos 1) (pos 500) e.speed accepted in
+    let within = keys_within (pos 0) (length_cm -ℤ pos 1) e.start (pos 1) (pos top_kmh) e.speed accepted in
     record { not_before = within.0; on_track = omega (arith, ints); least = within.2; greatest = within.3 }
 
 is_area : (length_cm : ℤ) (a : Area) → area_refused length_cm a ≡ None → IsArea length_cm a
@@ -173,7 +173,7 @@ track_accepted t e =
     let long = neither (length_fault t.length_cm) _ e in
     let gradients = neither (gradients_fault t.length_cm t.gradients) _ long.1 in
     let speeds = neither (speeds_fault t.length_cm t.speeds) (areas_fault t.length_cm t.areas) gradients.1 in
-    let length = within (pos 1) (pos 10_000_000) t.length_cm (passed _ (Value sections.Track 0 1) long.0) in
+    let length = within (pos 1) (pos longest_track) t.length_cm (passed _ (Value sections.Track 0 1) long.0) in
     record {
       shortest = length.0;
       longest = length.1;

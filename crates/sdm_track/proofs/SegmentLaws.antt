@@ -9,10 +9,11 @@ use Rattle.std.proofs.Math.Seq.{get_or-append_seam}
 use Rattle.sdm_rules.specs.declared.data.Gradient.{Gradient}
 use Rattle.sdm_rules.specs.Cells.{lowest}
 use Rattle.sdm_rules.specs.Decelerations.{track_gradient}
+use Rattle.sdm_rules.specs.Ranges.{longest_track, longest_train}
 use Rattle.sdm_track.specs.declared.window.Window.{Window}
 use Rattle.sdm_track.specs.declared.under_train.Segment.{Segment}
 use Rattle.sdm_track.specs.Steps.{IsFromZero, IsRising, LiesIn}
-use Rattle.sdm_track.specs.Ranges.{AreGradients, longest_track}
+use Rattle.sdm_track.specs.Ranges.{AreGradients}
 use Rattle.sdm_track.specs.Windows.{start_of, level, IsUnder, IsBeforeBorder, IsNext, IsLowestEntry}
 use Rattle.sdm_track.specs.Segments.{IsSegment, AreSegments, gradient_in}
 use Rattle.sdm_track.proofs.StepLaws.{lies_on, value_is, value_before, value_from}
@@ -149,7 +150,7 @@ under_first (x ∷ xs) length_cm rise c before =
     (record { known = omega arith; begun = λ d p. absurd (omega arith); goes_on = before.front })
     (record { place = 0; lowest = (low_of_first (x ∷ xs)).0; reached = refl })
 
-module _ (entries : List Gradient) (length_cm : ℕ) (gradients : AreGradients longest_track entries) where
+module _ (entries : List Gradient) (length_cm : ℕ) (gradients : AreGradients (pos longest_track) entries) where
   -- the cells up to cell 0 lie in the first entry
   lies_in_first : (c : ℤ) → 0 < length entries → c ≤ℤ pos 0 → LiesIn start_of entries 0 c
   lies_in_first c some le = record {
@@ -185,7 +186,7 @@ module _ (entries : List Gradient) (length_cm : ℕ) (gradients : AreGradients l
     front_in = omega (arith, next.under.front.known)
 
     -- the segment that the window's lowest gradient gives
-    pub next_segment : length_cm ≤ 150_000 → IsSegment (record { start = new.at; value = grad })
+    pub next_segment : length_cm ≤ longest_train → IsSegment (record { start = new.at; value = grad })
     next_segment short =
         let entry = gradients.each lowest_there.place level (omega (arith, lowest_there.lowest.to_front, next.under.front.known)) in
         record {

@@ -8,9 +8,10 @@ use Rattle.std.proofs.lemmas.List.{get_or_default}
 use Rattle.sdm_rules.specs.declared.data.Gradient.{Gradient}
 use Rattle.sdm_rules.specs.Cells.{lowest}
 use Rattle.sdm_rules.specs.Decelerations.{track_gradient}
+use Rattle.sdm_rules.specs.Ranges.{longest_track}
 use Rattle.sdm_track.specs.declared.window.Window.{Window}
 use Rattle.sdm_track.specs.Steps.{IsRising, LiesIn, IsBeforeNext}
-use Rattle.sdm_track.specs.Ranges.{AreGradients, longest_track}
+use Rattle.sdm_track.specs.Ranges.{AreGradients}
 use Rattle.sdm_track.specs.Windows.{start_of, level, IsUnder, IsNext, IsLowestEntry}
 use Rattle.sdm_track.proofs.StepLaws.{found, lies_in_order, lies_at_start, lies_on, value_is}
 use Rattle.sdm_track.proofs.LowestLaws.{IsLowest, lowest_is, int_min_lower}
@@ -25,7 +26,7 @@ keeps_one entries length_cm rear front at ordered long room first is = elim (cas
   | inr ge ↦ (let e : front ≡ rear = omega arith in let l = (rw e at first).before level room in absurd (omega (arith, ints)))
 ]
 
-module _ (entries : List Gradient) (length_cm : ℕ) (w : Window) (at : ℤ) (gradients : AreGradients longest_track entries)
+module _ (entries : List Gradient) (length_cm : ℕ) (w : Window) (at : ℤ) (gradients : AreGradients (pos longest_track) entries)
     (under : IsUnder entries length_cm w) (long : 1 ≤ length_cm) (room : w.rear + 1 < length entries) where
   -- a cell before the start of the next entry
   before_next : (i : ℕ) (c : ℤ) → i + 1 < length entries → c <ℤ (get_or entries (i + 1) level).start → IsBeforeNext start_of entries i c

@@ -4,7 +4,7 @@ use Rattle.sdm_rules.specs.declared.data.Gradient.{Gradient}
 use Rattle.sdm_rules.specs.declared.data.SpeedStep.{SpeedStep}
 use Rattle.sdm_rules.specs.declared.data.Area.{Area}
 use Rattle.sdm_rules.specs.Data.{TrackData}
-use Rattle.sdm_rules.specs.Ranges.{steepest, most_gradients, most_speeds, most_areas}
+use Rattle.sdm_rules.specs.Ranges.{longest_track, most_areas, most_gradients, most_speeds, steepest, top_kmh}
 use Rattle.sdm_track.specs.Steps.{IsFromZero, IsRising}
 
 -- an entry of the gradients starts on a track of this length, in cm; the gradient is in per mille (own)
@@ -19,7 +19,7 @@ pub record IsSpeedStep (length_cm : ℤ) (e : SpeedStep) : Type 0 where
   pub not_before : pos 0 ≤ℤ e.start
   pub on_track : e.start <ℤ length_cm
   pub least : pos 1 ≤ℤ e.speed
-  pub greatest : e.speed ≤ℤ pos 500
+  pub greatest : e.speed ≤ℤ pos top_kmh
 
 -- an area lies on the track and has a cell, in cm (own)
 pub record IsArea (length_cm : ℤ) (a : Area) : Type 0 where
@@ -48,18 +48,10 @@ pub record AreAreas (length_cm : ℤ) (areas : List Area) : Type 0 where
   pub each : All (IsArea length_cm) areas
   pub apart : (i j : ℕ) (d : Area) → i < j → j < length areas → (slice_index_or areas i d).end ≤ℤ (slice_index_or areas j d).start
 
--- the longest track, in cm (own)
-abbrev pub longest_track : ℤ
-longest_track = pos 10_000_000
-
--- the longest train, in cm (own)
-abbrev pub longest_train : ℤ
-longest_train = pos 150_000
-
 -- a track within its ranges (own)
 pub record IsTrack (t : TrackData) : Type 0 where
   pub shortest : pos 1 ≤ℤ t.length_cm
-  pub longest : t.length_cm ≤ℤ longest_track
+  pub longest : t.length_cm ≤ℤ pos longest_track
   pub gradients : AreGradients t.length_cm t.gradients
   pub speeds : AreSpeeds t.length_cm t.speeds
   pub areas : AreAreas t.length_cm t.areas

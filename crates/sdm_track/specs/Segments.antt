@@ -2,10 +2,9 @@
 -- SUBSET-026-3 3.13.4.2).
 use Rattle.std.specs.Prelude.{◌≢◌, ℕ, ℤ, pos, neg_ℤ, List, All, length, slice_index_or, ◌+◌, ◌*◌, ◌<◌, ◌≤◌, ◌+ℤ◌, ◌≤ℤ◌, ◌<ℤ◌}
 use Rattle.sdm_rules.specs.Cells.{value_at}
-use Rattle.sdm_rules.specs.Ranges.{steepest, most_gradients}
+use Rattle.sdm_rules.specs.Ranges.{steepest, most_gradients, longest_track, longest_train}
 use Rattle.sdm_track.specs.declared.under_train.Segment.{Segment}
 use Rattle.sdm_track.specs.Steps.{IsFromZero, IsRising}
-use Rattle.sdm_track.specs.Ranges.{longest_track, longest_train}
 
 -- the gradient of a front end in the cell, in per mille: of the last segment whose start is at most the cell, before all of
 -- them of the first one (own)
@@ -15,7 +14,7 @@ gradient_in segments cell = value_at (λ s. s.start) (λ s. s.value) (pos 0) seg
 -- a segment starts at cell 0 or later, before the longest train has left the longest track; the gradient is in per mille (own)
 pub record IsSegment (s : Segment) : Type 0 where
   pub not_before : pos 0 ≤ℤ s.start
-  pub not_past : s.start <ℤ (longest_track +ℤ longest_train)
+  pub not_past : s.start <ℤ (pos longest_track +ℤ pos longest_train)
   pub downhill : neg_ℤ steepest ≤ℤ s.value
   pub uphill : s.value ≤ℤ steepest
 

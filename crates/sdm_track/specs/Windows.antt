@@ -2,9 +2,9 @@
 use Rattle.std.specs.Prelude.{◌≡◌, ℕ, ℤ, pos, List, [], ◌∷◌, length, slice_get, slice_index_or, Bool, true, int_lt, ◌+◌, ◌-◌, ◌<◌, ◌≤◌, ◌+ℤ◌, ◌-ℤ◌, ◌≤ℤ◌, ◌<ℤ◌}
 use Rattle.std.specs.Option.{option_map_or}
 use Rattle.sdm_rules.specs.declared.data.Gradient.{Gradient}
+use Rattle.sdm_rules.specs.Ranges.{longest_track}
 use Rattle.sdm_track.specs.declared.window.Window.{Window}
 use Rattle.sdm_track.specs.Steps.{LiesIn, IsBeforeNext}
-use Rattle.sdm_track.specs.Ranges.{longest_track}
 
 -- where an entry starts, in cm
 abbrev pub start_of : Gradient → ℤ
@@ -35,7 +35,7 @@ pub record IsNext (entries : List Gradient) (length_cm : ℕ) (old new : Window)
   pub nearest : (cell : ℤ) → cell <ℤ new.at → IsBeforeBorder entries length_cm old cell
   pub step : IsStep old new
   pub moves : old.rear + old.front < new.rear + new.front
-  pub on_track : new.at <ℤ (longest_track +ℤ pos length_cm)
+  pub on_track : new.at <ℤ (pos longest_track +ℤ pos length_cm)
 
 -- stands for an entry that there is not
 abbrev pub level : Gradient

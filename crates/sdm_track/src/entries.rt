@@ -2,7 +2,7 @@
 //! count, values, start of the first entry, order; the first that is broken is answered.
 
 ghost use Rattle.std.specs.Prelude.{◌≡◌, ℕ, ℤ, pos, neg_ℤ, ◌+◌, ◌^◌, ◌+ℤ◌, ◌-ℤ◌, ◌<◌, ◌≤◌, Option, Bool, int_lt, length};
-ghost use Rattle.sdm_rules.specs.Ranges.{is_within, gradient_refused, speed_refused, area_refused, count_fault, value_fault, gap_fault, order_fault, gradients_fault, speeds_fault, areas_fault, or_else};
+ghost use Rattle.sdm_rules.specs.Ranges.{gradient_refused, speed_refused, area_refused, count_fault, value_fault, gap_fault, order_fault, gradients_fault, speeds_fault, areas_fault, or_else};
 
 use sdm_rules::{Area, Gradient, Section, SpeedStep, TrackFault};
 
@@ -36,12 +36,6 @@ trait Entry {
     /// Whether the next entry starts too early.
     fn overlaps(&self, next: &Self) -> bool
         ensures { result ≡ int_lt (start next.now) (past self.now) };
-}
-
-fn is_within(least: i64, greatest: i64, n: i64) -> bool
-    ensures { result ≡ is_within least greatest n }
-{
-    least <= n && n <= greatest
 }
 
 impl Entry for Gradient {
@@ -85,7 +79,7 @@ impl Entry for SpeedStep {
         if !is_within(0, i64::from(length_cm) - 1, self.start) {
             return Some(1);
         }
-        if !is_within(1, 500, self.speed) {
+        if !is_within(1, i64::from(TOP_KMH), self.speed) {
             return Some(2);
         }
         None

@@ -1,7 +1,7 @@
 //! A track, whose lists keep their order and their ranges in its type, so that no reader tests them again.
 
 ghost use Rattle.std.specs.Prelude.{◌≡◌, ℤ, pos, ◌<◌, ◌≤◌, length, slice_get, Some, None, IfOk, IfErr};
-ghost use Rattle.sdm_rules.specs.Ranges.{track_fault};
+ghost use Rattle.sdm_rules.specs.Ranges.{track_fault, longest_train};
 ghost use Rattle.sdm_rules.specs.Decelerations.{is_in_force, under_train};
 ghost use Rattle.sdm_track.specs.Ranges.{IsTrack, IsGradient, IsSpeedStep, IsArea, track_data};
 ghost use Rattle.sdm_track.specs.Segments.{AreSegments, gradient_in};
@@ -9,12 +9,9 @@ ghost use Rattle.sdm_track.specs.Segments.{AreSegments, gradient_in};
 use crate::entries::{areas_fault, gradients_fault, speeds_fault};
 use crate::under_train::{self, Segments};
 use sdm_num::NoMemory;
-use sdm_rules::{Area, Gradient, Section, SpeedStep, TrackFault};
+use sdm_rules::{Area, Gradient, LONGEST_TRACK_CM, Section, SpeedStep, TrackFault};
 use std::alloc::Global;
 use std::marker::Model;
-
-/// The longest track, in cm. (own)
-const LONGEST_CM: u32 = 10_000_000;
 
 /// A track from 0 to its length, 1 to 10,000,000 cm: its gradients (SUBSET-026-3 3.13.4), its static speed profile (3.11.3) and
 /// its areas of reduced adhesion (3.12), each list in the order of its starts. Before the track the first gradient and the first
@@ -48,7 +45,7 @@ fn fault_of(
 ) -> Option<TrackFault>
     ensures { result ≡ track_fault (track_data length_cm gradients.now speeds.now areas.now) }
 {
-    if length_cm < 1 || LONGEST_CM < length_cm {
+    if length_cm < 1 || LONGEST_TRACK_CM < length_cm {
         return Some(TrackFault::Value {
             list: Section::Track,
             index: 0,
@@ -160,7 +157,7 @@ impl Track {
     /// from the rear end to the front end. (SUBSET-026-3 3.13.4.2; own cell form)
     pub fn compensated(&self, alloc: Global, length_cm: u32) -> Result<Segments, NoMemory>
         requires shortest { 1 ≤ length_cm }
-        requires longest { length_cm ≤ 150_000 }
+        requires longest { length_cm ≤ longest_train }
         ensures value { IfOk result (λ segments. (c : ℤ) → gradient_in segments c ≡ (under_train self.now (pos length_cm) c).grad) }
         ensures in_range { IfOk result (λ segments. AreSegments segments) }
     {

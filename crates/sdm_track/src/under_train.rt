@@ -6,9 +6,9 @@ ghost use Rattle.std.specs.Int.{int_min};
 ghost use Rattle.std.specs.Option.{option_map};
 ghost use Rattle.sdm_rules.specs.Cells.{lowest};
 ghost use Rattle.sdm_rules.specs.Decelerations.{track_gradient};
-ghost use Rattle.sdm_rules.specs.Ranges.{steepest};
+ghost use Rattle.sdm_rules.specs.Ranges.{steepest, longest_track, longest_train};
 ghost use Rattle.sdm_track.specs.Steps.{LiesIn};
-ghost use Rattle.sdm_track.specs.Ranges.{AreGradients, longest_track, longest_train};
+ghost use Rattle.sdm_track.specs.Ranges.{AreGradients};
 ghost use Rattle.sdm_track.specs.Windows.{level};
 ghost use Rattle.sdm_track.specs.Segments.{IsSegment, AreSegments, gradient_in};
 
@@ -74,7 +74,7 @@ impl Segments {
         requires { i < length self.now }
         ensures value { option_map (λ s. s.start) (slice_get self.now i) ≡ Some result }
         ensures not_before { pos 0 ≤ℤ result }
-        ensures not_past { result <ℤ (longest_track +ℤ longest_train) }
+        ensures not_past { result <ℤ (pos longest_track +ℤ pos longest_train) }
     {
         self.list[i].start
     }
@@ -117,9 +117,9 @@ pub fn compensated(
     entries: &[Gradient],
     length_cm: u32,
 ) -> Result<Segments, NoMemory>
-    requires gradients { AreGradients longest_track entries.now }
+    requires gradients { AreGradients (pos longest_track) entries.now }
     requires long { 1 ≤ length_cm }
-    requires short { length_cm ≤ 150_000 }
+    requires short { length_cm ≤ longest_train }
     ensures value { IfOk result (λ segments. (c : ℤ) → gradient_in segments c ≡ lowest int_min (track_gradient entries.now) (c -ℤ pos length_cm) length_cm) }
     ensures in_range { IfOk result (λ segments. AreSegments segments) }
 {

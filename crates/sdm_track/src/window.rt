@@ -1,8 +1,9 @@
 //! The gradients that lie under a train. As the front end moves on, the entries of its front and its rear end only rise, so that
 //! one way along the list meets every border where the lowest gradient may change.
 
-ghost use Rattle.std.specs.Prelude.{ℕ, ◌+◌, ◌<◌, ◌≤◌, length};
-ghost use Rattle.sdm_track.specs.Ranges.{AreGradients, longest_track};
+ghost use Rattle.std.specs.Prelude.{ℕ, pos, ◌+◌, ◌<◌, ◌≤◌, length};
+ghost use Rattle.sdm_rules.specs.Ranges.{longest_track};
+ghost use Rattle.sdm_track.specs.Ranges.{AreGradients};
 ghost use Rattle.sdm_track.specs.Windows.{IsUnder, IsNext};
 
 use sdm_rules::Gradient;
@@ -18,7 +19,7 @@ pub struct Window {
 impl Window {
     /// The window at the next cell where an entry comes under the train's front end or leaves its rear end.
     pub fn next(self, entries: &[Gradient], length_cm: u32) -> Window
-        requires gradients { AreGradients longest_track entries.now }
+        requires gradients { AreGradients (pos longest_track) entries.now }
         requires long { 1 ≤ length_cm }
         requires room { self.rear + 1 < length entries.now }
         requires under { IsUnder entries.now length_cm self }

@@ -9,7 +9,7 @@ use Rattle.sdm_rules.specs.declared.faults.TrainFault.{TrainFault}
 use Rattle.sdm_rules.specs.declared.faults.TrainFault.TheVariants.{Value}
 use Rattle.sdm_rules.specs.Slopes.{most_bands}
 use Rattle.sdm_rules.specs.Data.{TrainData, AreBands}
-use Rattle.sdm_rules.specs.Ranges.{or_else, is_within_if_any, fault_at, band_refused, train_refused, band_count_fault, band_value_fault, band_order_fault, order_of_last, order_of_next, train_fault}
+use Rattle.sdm_rules.specs.Ranges.{or_else, is_within_if_any, fault_at, band_refused, train_refused, band_count_fault, band_value_fault, band_order_fault, order_of_last, order_of_next, train_fault, top_kmh}
 use Rattle.sdm_rules.proofs.FaultLaws.{neither, not_refused}
 use Rattle.sdm_train.specs.Trains.{IsBand, IsTrain}
 
@@ -23,7 +23,7 @@ within_if_any least greatest (Some n) h = (grind (arith, ints), grind (arith, in
 -- a band of which no number is refused has its numbers in their ranges
 pub IsBand_of : (b : Band) → band_refused b ≡ None → IsBand b
 IsBand_of b h = record {
-  upper = within_if_any (pos 1) (pos 500) b.upper (grind arith);
+  upper = within_if_any (pos 1) (pos top_kmh) b.upper (grind arith);
   emergency = grind (arith, ints);
   service = grind (arith, ints);
   normal = grind (arith, ints);

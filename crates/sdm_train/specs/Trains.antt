@@ -2,11 +2,11 @@
 use Rattle.std.specs.Prelude.{◌≡◌, pos, ◌≤ℤ◌, ◌<◌, ◌%◌, None, IfSome, All, length, unsigned_abs}
 use Rattle.sdm_rules.specs.declared.data.Band.{Band}
 use Rattle.sdm_rules.specs.Data.{TrainData, HasBands}
-use Rattle.sdm_rules.specs.Ranges.{train_fault}
+use Rattle.sdm_rules.specs.Ranges.{train_fault, longest_train, top_kmh}
 
 -- the ranges of a band's numbers (own)
 pub record IsBand (b : Band) : Type 0 where
-  pub upper : IfSome b.upper (λ kmh. (pos 1 ≤ℤ kmh) × (kmh ≤ℤ pos 500))
+  pub upper : IfSome b.upper (λ kmh. (pos 1 ≤ℤ kmh) × (kmh ≤ℤ pos top_kmh))
   pub emergency : (pos 1 ≤ℤ b.emergency) × (b.emergency ≤ℤ pos 400)  -- cm/s²
   pub service : (pos 1 ≤ℤ b.service) × (b.service ≤ℤ pos 400)  -- cm/s²
   pub normal : (pos 1 ≤ℤ b.normal) × (b.normal ≤ℤ pos 400)  -- cm/s²
@@ -17,8 +17,8 @@ pub record IsBand (b : Band) : Type 0 where
 
 -- an accepted train: the ranges of its numbers, and its bands (own)
 pub record IsTrain (t : TrainData) : Type 0 where
-  pub length_cm : (pos 1 ≤ℤ t.length_cm) × (t.length_cm ≤ℤ pos 150_000)
-  pub max_speed : (pos 1 ≤ℤ t.max_speed) × (t.max_speed ≤ℤ pos 500)  -- km/h
+  pub length_cm : (pos 1 ≤ℤ t.length_cm) × (t.length_cm ≤ℤ pos longest_train)
+  pub max_speed : (pos 1 ≤ℤ t.max_speed) × (t.max_speed ≤ℤ pos top_kmh)  -- km/h
   pub rotating_mass : IfSome t.rotating_mass (λ percent. (pos 0 ≤ℤ percent) × (percent ≤ℤ pos 50))
   pub cut_off_time : (pos 0 ≤ℤ t.cut_off_time) × (t.cut_off_time ≤ℤ pos 300)  -- ds
   pub emergency_time : (pos 0 ≤ℤ t.emergency_time) × (t.emergency_time ≤ℤ pos 300)  -- ds

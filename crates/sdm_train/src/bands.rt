@@ -6,7 +6,7 @@ ghost use Rattle.sdm_rules.specs.Slopes.{most_bands};
 ghost use Rattle.sdm_rules.specs.Ranges.{band_order_fault, band_refused, band_value_fault, order_of_last};
 
 use crate::ranges::{first_refused, outside, outside_if_any};
-use sdm_rules::{Band, TrainFault};
+use sdm_rules::{Band, TOP_KMH, TrainFault};
 
 /// The first number of the bands that is refused.
 pub fn band_value_fault(bands: &[Band]) -> Option<TrainFault>
@@ -28,7 +28,7 @@ fn band_refused(band: &Band) -> Option<u8>
     ensures { result ≡ band_refused band.now }
 {
     first_refused(&[
-        outside_if_any(1, band.upper, 1, 500),
+        outside_if_any(1, band.upper, 1, i64::from(TOP_KMH)),
         outside(2, band.emergency, 1, 400),
         outside(3, band.service, 1, 400),
         outside(4, band.normal, 1, 400),

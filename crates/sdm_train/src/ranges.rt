@@ -3,6 +3,8 @@
 ghost use Rattle.std.specs.Prelude.{◌≡◌};
 ghost use Rattle.sdm_rules.specs.Ranges.{first_refused, is_within, is_within_if_any, refused};
 
+use sdm_rules::is_within;
+
 // The key of a number that is not accepted.
 pub fn refused(key: u8, accepted: bool) -> Option<u8>
     ensures { result ≡ refused key accepted }
@@ -10,18 +12,11 @@ pub fn refused(key: u8, accepted: bool) -> Option<u8>
     if accepted { None } else { Some(key) }
 }
 
-// The number is from `least` to `greatest`, both included.
-pub fn is_within(number: i64, least: i64, greatest: i64) -> bool
-    ensures { result ≡ is_within least greatest number }
-{
-    least <= number && number <= greatest
-}
-
 // The key of a number that is not from `least` to `greatest`.
 pub fn outside(key: u8, number: i64, least: i64, greatest: i64) -> Option<u8>
     ensures { result ≡ refused key (is_within least greatest number) }
 {
-    refused(key, is_within(number, least, greatest))
+    refused(key, is_within(least, greatest, number))
 }
 
 // So where there is a number.

@@ -6,8 +6,8 @@ ghost use Rattle.sdm_rules.specs.Data.{train_of};
 ghost use Rattle.sdm_rules.specs.Ranges.{band_count_fault, is_within, train_fault, train_refused};
 
 use crate::bands::{band_order_fault, band_value_fault};
-use crate::ranges::{first_refused, is_within, outside, outside_if_any, refused};
-use sdm_rules::{MOST_BANDS, TrainFault, TrainFields};
+use crate::ranges::{first_refused, outside, outside_if_any, refused};
+use sdm_rules::{LONGEST_TRAIN_CM, MOST_BANDS, TOP_KMH, TrainFault, TrainFields, is_within};
 
 /// The first rule that the train breaks.
 #[tactic(auto, unfolding(sdm_rules::specs::Ranges::train_fault))]
@@ -32,8 +32,8 @@ fn train_refused(fields: &TrainFields) -> Option<u8>
     ensures { result ≡ train_refused (train_of fields.now) }
 {
     first_refused(&[
-        outside(1, fields.length, 1, 150_000),
-        outside(2, fields.max_speed, 1, 500),
+        outside(1, fields.length, 1, i64::from(LONGEST_TRAIN_CM)),
+        outside(2, fields.max_speed, 1, i64::from(TOP_KMH)),
         outside_if_any(3, fields.rotating_mass, 0, 50),
         outside(4, fields.traction_cutoff_time, 0, 300),
         outside(6, fields.emergency_time, 0, 300),
@@ -45,7 +45,7 @@ fn train_refused(fields: &TrainFields) -> Option<u8>
 fn is_service_time(time: i64) -> bool
     ensures { result ≡ is_within (pos 0) (pos 300) time && ((unsigned_abs time % 5) == 0) }
 {
-    is_within(time, 0, 300) && time.unsigned_abs() % 5 == 0
+    is_within(0, 300, time) && time.unsigned_abs() % 5 == 0
 }
 
 // There is a band, and there are not too many.

@@ -3,7 +3,7 @@
 ghost use Rattle.std.specs.Prelude.{◌≡◌, ◌≤ℤ◌, ◌<◌, ◌%◌, All, IfOk, IfSome, length, pos, slice_get, unsigned_abs};
 ghost use Rattle.std.specs.Result.{result_err};
 ghost use Rattle.sdm_rules.specs.Data.{train_of};
-ghost use Rattle.sdm_rules.specs.Ranges.{train_fault};
+ghost use Rattle.sdm_rules.specs.Ranges.{train_fault, longest_train, top_kmh};
 ghost use Rattle.sdm_train.specs.Trains.{IsBand, IsTrain};
 
 use crate::rules::train_fault;
@@ -47,7 +47,7 @@ impl Train {
     /// The train length in cm, 1 to 150,000.
     pub fn length(&self) -> i64
         ensures value { result ≡ self.now.length_cm }
-        ensures range { (pos 1 ≤ℤ result) × (result ≤ℤ pos 150_000) }
+        ensures range { (pos 1 ≤ℤ result) × (result ≤ℤ pos longest_train) }
     {
         self.fields.length
     }
@@ -55,7 +55,7 @@ impl Train {
     /// The maximum train speed in km/h, 1 to 500.
     pub fn max_speed(&self) -> i64
         ensures value { result ≡ self.now.max_speed }
-        ensures range { (pos 1 ≤ℤ result) × (result ≤ℤ pos 500) }
+        ensures range { (pos 1 ≤ℤ result) × (result ≤ℤ pos top_kmh) }
     {
         self.fields.max_speed
     }

@@ -7,7 +7,7 @@ use Rattle.std.proofs.lemmas.Int.{ints}
 use Rattle.sdm_num.specs.Readings.{IsReading, OdometerReading}
 use Rattle.sdm_rules.specs.declared.authorities.Authority.{Authority}
 use Rattle.sdm_rules.specs.Data.{LineData}
-use Rattle.sdm_rules.specs.Records.{time_fault}
+use Rattle.sdm_rules.specs.Records.{time_fault, most_records}
 use Rattle.sdm_rules.specs.Supervision.{Supervision, after_reading, opening}
 use Rattle.sdm_rules.specs.Trial.{number_at, reading_by, reading_in_cycle}
 
@@ -38,7 +38,7 @@ reading_made None i x late small h = absurd (h (reading_by_in_range i x late sma
 reading_made (Some r) i x late small h = ap Some h.1
 
 -- each reading of a trial is within its ranges
-pub reading_in_range : (seed i : ℕ) → seed < 65_536 → i ≤ 100_000 → IsReading (reading_in_cycle seed i)
+pub reading_in_range : (seed i : ℕ) → seed < 65_536 → i ≤ most_records → IsReading (reading_in_cycle seed i)
 reading_in_range seed i h late = reading_by_in_range i (number_at seed i) (omega arith) (number_small seed i h)
 
 -- ---- times

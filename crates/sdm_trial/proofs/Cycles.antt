@@ -31,5 +31,5 @@ all_taken seed (suc n) i s few in_time =
     (ap (λ j. j.refused) first ∙ rest.0, ap (λ j. length j.rows) first ∙ ap suc rest.1)
 
 -- so does each reading of a trial
-pub trial_taken : (seed cycles : ℕ) → cycles ≤ 100_000 → ((trial_journey seed cycles).refused ≡ None) × (length (trial_journey seed cycles).rows ≡ cycles)
+pub trial_taken : (seed cycles : ℕ) → cycles ≤ most_records → ((trial_journey seed cycles).refused ≡ None) × (length (trial_journey seed cycles).rows ≡ cycles)
 trial_taken seed cycles few = all_taken seed cycles 1 (opening trial_line trial_authority) (omega arith) (first_in_time trial_line trial_authority seed 1)

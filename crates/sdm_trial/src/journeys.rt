@@ -4,6 +4,7 @@
 ghost use Rattle.std.specs.Prelude.{◌≡◌, ◌≤◌, ℕ, None, IfOk, length};
 ghost use Rattle.sdm_rules.specs.Opening.{IsAccepted};
 ghost use Rattle.sdm_rules.specs.Trial.{trial_authority, trial_journey, trial_line, trial_national, trial_track, trial_train};
+ghost use Rattle.sdm_rules.specs.Records.{most_records};
 ghost use Rattle.sdm_data.specs.Given.{line_of};
 
 use sdm_data::JourneyData;
@@ -135,6 +136,6 @@ pub fn trial_data(alloc: Global) -> Result<JourneyData, NoMemory>
 #[tactic(auto, using(crate::proofs::Accepted::accepted, crate::proofs::Cycles::trial_taken))]
 pub fn law_of_trial()
     ensures accepted { IsAccepted trial_line trial_authority }
-    ensures taken { (seed cycles : ℕ) → cycles ≤ 100_000 → (trial_journey seed cycles).refused ≡ None }
-    ensures rows { (seed cycles : ℕ) → cycles ≤ 100_000 → length (trial_journey seed cycles).rows ≡ cycles }
+    ensures taken { (seed cycles : ℕ) → cycles ≤ most_records → (trial_journey seed cycles).refused ≡ None }
+    ensures rows { (seed cycles : ℕ) → cycles ≤ most_records → length (trial_journey seed cycles).rows ≡ cycles }
 {}

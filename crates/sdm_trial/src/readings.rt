@@ -2,6 +2,7 @@
 
 ghost use Rattle.std.specs.Prelude.{◌≡◌, ◌≤◌, suc, IfSome, IfNone, OnSome};
 ghost use Rattle.sdm_rules.specs.Trial.{next_number, reading_by, reading_in_cycle};
+ghost use Rattle.sdm_rules.specs.Records.{most_records};
 ghost use Rattle.sdm_trial.specs.Made.{TakesCycle};
 
 use sdm_num::Reading;
@@ -27,7 +28,7 @@ impl Model for Readings {
 
     ghost view = { λ r. record { seed = r.seed; made = r.made; left = r.left } };
 
-    ghost invariant = { λ r. (r.number ≡ number_at r.seed r.made) × (r.made + r.left ≤ 100_000) };
+    ghost invariant = { λ r. (r.number ≡ number_at r.seed r.made) × (r.made + r.left ≤ most_records) };
 }
 
 // The number after this one.
@@ -40,7 +41,7 @@ fn next_number(number: u16) -> u16
 
 // The reading of a cycle by its number.
 fn reading_by(cycle: u32, number: u16) -> Reading
-    requires { cycle ≤ 100_000 }
+    requires { cycle ≤ most_records }
     ensures { result ≡ reading_by cycle number }
 {
     let number = u32::from(number);
@@ -65,7 +66,7 @@ fn reading_by(cycle: u32, number: u16) -> Reading
 impl Readings {
     /// The readings from a seed on, of at most 100,000 cycles; cycles count from 1. (own)
     pub fn begin(seed: u16, cycles: u32) -> Readings
-        requires { cycles ≤ 100_000 }
+        requires { cycles ≤ most_records }
         ensures { result ≡ record { seed = seed; made = 0; left = cycles } }
     {
         Readings {
@@ -97,7 +98,7 @@ impl Readings {
 /// of the cycles before: who wants all readings asks `Readings`. (own)
 pub fn trial_reading(seed: u16, cycle: u32) -> Reading
     requires first { 1 ≤ cycle }
-    requires last { cycle ≤ 100_000 }
+    requires last { cycle ≤ most_records }
     ensures { result ≡ reading_in_cycle seed cycle }
 {
     let mut number = seed;

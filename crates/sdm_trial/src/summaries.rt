@@ -4,6 +4,7 @@ ghost use Rattle.std.specs.Prelude.{◌≡◌, ◌<◌, ◌≤◌, ◌+◌, suc,
 ghost use Rattle.std.specs.Int.{int_rem_euclid};
 ghost use Rattle.sdm_rules.specs.declared.rows.Row.{Row};
 ghost use Rattle.sdm_rules.specs.Trial.{count_text, summary_text};
+ghost use Rattle.sdm_rules.specs.Records.{most_records};
 ghost use Rattle.sdm_trial.specs.Summaries.{counts_of};
 
 use sdm_report::fields::put_count;
@@ -33,7 +34,7 @@ impl Model for Summary {
 
     ghost view = { λ s. record { rows = s.rows; covered = s.covered; emergency = s.emergency; service = s.service; ebi = pos s.ebi_mm } };
 
-    ghost invariant = { λ s. (s.rows ≤ 100_000) × (s.covered ≤ s.rows) × (s.emergency ≤ s.rows) × (s.service ≤ s.rows) × (s.ebi_mm < 1_000_000_000) };
+    ghost invariant = { λ s. (s.rows ≤ most_records) × (s.covered ≤ s.rows) × (s.emergency ≤ s.rows) × (s.service ≤ s.rows) × (s.ebi_mm < 1_000_000_000) };
 }
 
 // A sum of places, from one that is below the modulus.
@@ -76,7 +77,7 @@ impl Summary {
     /// Counts one more row, of at most 100,000. (own)
     #[tactic(auto, using(crate::proofs::Counting::one_more))]
     pub fn add(&mut self, row: &Row)
-        requires { self.old.rows < 100_000 }
+        requires { self.old.rows < most_records }
         ensures counted { self.new.rows ≡ suc self.old.rows }
         ensures counts { (rows : List Row) → self.old ≡ counts_of rows → self.new ≡ counts_of (rows ++ row.now ∷ []) }
     {

@@ -2,13 +2,14 @@
 use Rattle.std.proofs.Common.{◌≡◌, ℤ, List, pos, map, unsigned_abs, w64, to_z, of_z, ◌≤ℤ◌, ap, subst, ◌∙◌, arith}
 use Rattle.std.proofs.lemmas.Int.{ints}
 use Rattle.sdm_rules.specs.Decelerations.{UnderTrain, under_train}
+use Rattle.sdm_rules.specs.Ranges.{longest_train}
 use Rattle.sdm_decel.specs.Borders.{AreStretches}
 use Rattle.sdm_decel.specs.Slopes.{slopes_of_bands}
 use Rattle.sdm_decel.proofs.Sizes.{stays, size_within}
 use Rattle.sdm_decel.proofs.Stretches.{nat_is}
 use Rattle.sdm_decel.proofs.maps.parts_of.Goals as goal
 
-long_is : (given length_cm : ℤ) → (pos 1 ≤ℤ given) × (given ≤ℤ pos 150_000) → given ≡ length_cm → pos (unsigned_abs (to_z w64 (of_z w64 given))) ≡ length_cm
+long_is : (given length_cm : ℤ) → (pos 1 ≤ℤ given) × (given ≤ℤ pos longest_train) → given ≡ length_cm → pos (unsigned_abs (to_z w64 (of_z w64 given))) ≡ length_cm
 long_is given length_cm range is = ap (λ (z : ℤ). pos (unsigned_abs z)) (stays given 150_000 (size_within given 1 150_000 range) (omega arith)) ∙ nat_is given (omega (arith, ints)) ∙ is
 
 pub returns : goal.returns

@@ -2,7 +2,8 @@
 use Rattle.std.proofs.Common.{◌≡◌, ◌+◌, ◌-◌, ◌<◌, pos, length, get_or, refl, sym, ◌∙◌, w32, w64, to_z, of_z, arith, rules, append_assoc}
 use Rattle.std.proofs.lemmas.Int.{ints, to_z-of_z}
 use Rattle.std.proofs.lemmas.List.Elements.{All-push}
-use Rattle.sdm_track.specs.Ranges.{IsSpeedStep, longest_track}
+use Rattle.sdm_rules.specs.Ranges.{longest_track}
+use Rattle.sdm_track.specs.Ranges.{IsSpeedStep}
 use Rattle.sdm_speed.specs.Zones.{IsZone}
 use Rattle.sdm_speed.proofs.StaticLaws.{none, zones_from_next, static_zone}
 use Rattle.sdm_speed.proofs.profiles.static_zones.Goals as goal
@@ -15,8 +16,8 @@ loop-i-preserved c =
     let e = get_or es (i - 1) none in
     let next = get_or es i none in
     let known : i < length es = omega arith in
-    let e_in : IsSpeedStep longest_track e = c.requires.speeds.each (i - 1) none (omega arith) in
-    let next_in : IsSpeedStep longest_track next = c.requires.speeds.each i none known in
+    let e_in : IsSpeedStep (pos longest_track) e = c.requires.speeds.each (i - 1) none (omega arith) in
+    let next_in : IsSpeedStep (pos longest_track) next = c.requires.speeds.each i none known in
     let start64 : to_z w64 (of_z w64 next.start) ≡ next.start = omega (arith, ints, next_in.not_before, next_in.on_track) in
     let start32 : to_z w32 (of_z w32 next.start) ≡ next.start = omega (arith, ints, next_in.not_before, next_in.on_track) in
     let speed64 : to_z w64 (of_z w64 e.speed) ≡ e.speed = omega (arith, ints, e_in.least, e_in.greatest) in
@@ -38,7 +39,7 @@ returns-clause-in_range c =
     let last = length es - 1 in
     let e = get_or es last none in
     let known : last < length es = omega (arith, c.requires.speeds.some) in
-    let e_in : IsSpeedStep longest_track e = c.requires.speeds.each last none known in
+    let e_in : IsSpeedStep (pos longest_track) e = c.requires.speeds.each last none known in
     let speed64 : to_z w64 (of_z w64 e.speed) ≡ e.speed = omega (arith, ints, e_in.least, e_in.greatest) in
     let at_end : c.loop-i.i ≡ length es = omega (arith, c.requires.speeds.some) in
     rw (c.push_reserved-2.ensures.items, speed64) (All-push IsZone _ _ c.loop-i.invariant.in_range (static_zone es last c.loop-i.first _ e c.requires.speeds known refl (rw at_end at c.loop-i.invariant.opened)))

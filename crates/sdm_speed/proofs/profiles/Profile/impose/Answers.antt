@@ -5,6 +5,7 @@ use Rattle.std.proofs.lemmas.List.{map-append}
 use Rattle.std.proofs.lemmas.List.Elements.{All-push}
 use Rattle.sdm_rules.specs.declared.restrictions.Restriction.{Restriction}
 use Rattle.sdm_rules.specs.Profile.{capped, zone_of}
+use Rattle.sdm_rules.specs.Ranges.{top_kmh}
 use Rattle.sdm_speed.specs.Zones.{limits_of}
 use Rattle.sdm_speed.specs.Held.{IsHeld}
 use Rattle.sdm_speed.specs.Profiles.{ProfileData, IsProfile}
@@ -25,7 +26,7 @@ push_reserved-requires c =
     omega (arith, ok.room, held_count _ kept _ c.self.view_is, kept.held_room)
 
 -- a restriction that is accepted
-held_of : (p : ProfileData) (r : Restriction) → IsProfile p → IsAccepted p.track_cm p.restrictions r → 1 ≤ r.speed → r.speed ≤ 500 → IsHeld r
+held_of : (p : ProfileData) (r : Restriction) → IsProfile p → IsAccepted p.track_cm p.restrictions r → 1 ≤ r.speed → r.speed ≤ top_kmh → IsHeld r
 held_of p r in_range ok slowest fastest = record {
   some_cell = ok.some;
   on_track = omega (arith, ints, ok.on_track, in_range.longest_track);
