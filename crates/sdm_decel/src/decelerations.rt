@@ -7,14 +7,17 @@ ghost use Rattle.sdm_train.specs.Trains.{IsBand};
 
 use crate::under::Under;
 use sdm_national::National;
-use sdm_rules::SlopeKind;
+use sdm_rules::{GRADIENT_UNIT, SlopeKind};
 use sdm_train::{Band, Train};
 
 /// 1 cm/s² in 1/(2·10⁹) m/s². (own unit)
 const CM_S2: i64 = 20_000_000;
 
-/// 9.81 m/s² for 1 per mille of a train without rotating mass, in 1/Q m/s². (SUBSET-026-3 3.13.4.3)
-const GRAVITY: i64 = 1_962_000_000;
+/// 9.81 m/s² for a gradient of 1 of a train without rotating mass, in 1/Q m/s². (SUBSET-026-3 3.13.4.3)
+const GRAVITY: i64 = 196_200_000 * GRADIENT_UNIT;
+
+/// Kn · grad / 1000 for 1 cm/s² and a gradient of 1, in 1/(2·10⁹) m/s². (SUBSET-026-3 3.13.6.4; own form)
+const KN_UNIT: i64 = 2_000 * GRADIENT_UNIT;
 
 /// q: 100 plus the rotating mass in percent; 102 · 115 where it is not known, for both values that are then taken. (own unit)
 pub fn q_of(train: &Train) -> u32
@@ -64,7 +67,7 @@ fn weighted_kwet(avadh: i64, band: &Band) -> i64
 fn brake_safe(avadh: i64, band: &Band) -> i64
     requires avadh { unsigned_abs avadh ≤ 20 }
     requires band { IsBand band.now }
-    ensures value { result ≡ brake_safe avadh band.now }
+    ensures value { result ≡ brake_safe avadh band.now band.now.emergency }
     ensures size { unsigned_abs result ≤ 16_000_000_000 }
 {
     band.kdry * weighted_kwet(avadh, band) * band.emergency
@@ -100,7 +103,7 @@ fn kn_term(band: &Band, grad: i64) -> i64
     ensures value { result ≡ kn_term band.now grad }
     ensures size { unsigned_abs result ≤ 1_600_000_000 }
 {
-    20_000 * kn_of(band, grad) * grad
+    KN_UNIT * kn_of(band, grad) * grad
 }
 
 // What the brakes give, in 1/(2·10⁹) m/s²: A_brake_safe, A_brake_service, or A_brake_normal_service less Kn · grad / 1000.

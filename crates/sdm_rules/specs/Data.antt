@@ -1,5 +1,5 @@
 -- The data of a journey: the train, the national values, and the track (SUBSET-026-3 3.13.2).
-use Rattle.std.specs.Prelude.{◌≡◌, ℤ, pos, Bool, List, [], ◌∷◌, Option, Some, None, ◌≤◌, ◌<ℤ◌, length, take}
+use Rattle.std.specs.Prelude.{◌≡◌, ℕ, ℤ, pos, Bool, List, [], ◌∷◌, Option, Some, None, ◌≤◌, ◌<ℤ◌, length, take}
 use Rattle.sdm_rules.specs.declared.data.Band.{Band}
 use Rattle.sdm_rules.specs.declared.data.Gradient.{Gradient}
 use Rattle.sdm_rules.specs.declared.data.SpeedStep.{SpeedStep}
@@ -45,6 +45,10 @@ AreBands above (b ∷ next ∷ more) = (upper : ℤ) × (b.upper ≡ Some upper)
 pub record HasBands (bands : List Band) : Type 0 where
   pub few : length bands ≤ most_bands
   pub in_order : AreBands (pos 0) bands
+
+-- the unit of gradients, in tenths of a per mille: a per mille (own)
+abbrev pub gradient_unit : ℕ
+gradient_unit = 10
 
 -- the track: its length, and lists by place (SUBSET-026-3 3.13.4, 3.11.3, 3.12)
 pub record TrackData : Type 0 where

@@ -1,6 +1,6 @@
 -- The decelerations of a front end in a cell (SUBSET-026-3 3.13.4, 3.13.6), as whole numbers of 1/Q m/s², with
 -- Q = 2 * 10^9 * q: in this unit each is exact (own unit).
-use Rattle.std.specs.Prelude.{ℕ, ℤ, pos, Bool, ◌&&◌, List, Option, Some, None, ◌+◌, ◌+ℤ◌, ◌-ℤ◌, ◌*ℤ◌, int_le, int_lt, unsigned_abs, slice_get, filter_map, option_map, if◌then◌else◌}
+use Rattle.std.specs.Prelude.{ℕ, ℤ, pos, Bool, ◌&&◌, List, Option, Some, None, ◌+◌, ◌*◌, ◌+ℤ◌, ◌-ℤ◌, ◌*ℤ◌, int_le, int_lt, unsigned_abs, slice_get, filter_map, option_map, if◌then◌else◌}
 use Rattle.std.specs.Int.{int_min, int_max, is_negative}
 use Rattle.std.specs.List.{list_any}
 use Rattle.std.specs.Option.{option_map_or}
@@ -13,11 +13,11 @@ use Rattle.sdm_rules.specs.declared.data.SlopeKind.{SlopeKind}
 use Rattle.sdm_rules.specs.declared.data.SlopeKind.TheVariants.{Safe, Expected, Normal}
 use Rattle.sdm_rules.specs.Cells.{lowest, value_at}
 use Rattle.sdm_rules.specs.Slopes.{Slopes}
-use Rattle.sdm_rules.specs.Data.{TrainData, TrackData, LineData}
+use Rattle.sdm_rules.specs.Data.{TrainData, TrackData, LineData, gradient_unit}
 
 -- ---- the track under the train
 
--- the gradient of a cell, in per mille, uphill positive: of the last entry whose start is at most the cell, of the first
+-- the gradient of a cell, in the unit of gradients, uphill positive: of the last entry whose start is at most the cell, of the first
 -- entry before the track; level without entries (SUBSET-026-3 3.13.4; own cell form)
 abbrev pub track_gradient : List Gradient → ℤ → ℤ
 track_gradient entries cell = value_at (λ e. e.start) (λ e. e.grad) (pos 0) entries cell
@@ -28,7 +28,7 @@ is_in_force length_cm cell a = int_le a.start cell && int_lt cell (a.end +ℤ le
 
 -- what the decelerations of a front end rest on, beside its speed band
 pub record UnderTrain : Type 0 where
-  pub grad : ℤ  -- the least gradient of the cells from the rear end to the front end, per mille (SUBSET-026-3 3.13.4.2; own cell form)
+  pub grad : ℤ  -- the least gradient of the cells from the rear end to the front end, in the unit of gradients (SUBSET-026-3 3.13.4.2; own cell form)
   pub reduced : Bool  -- reduced adhesion is in force (SUBSET-026-3 3.13.6.2; own areas)
 
 -- the track under a train of a length in cm with its front end in a cell (SUBSET-026-3 3.13.4.2; own cell form)
@@ -49,18 +49,23 @@ q_of None = 11_730
 abbrev pub cm_s2 : ℤ
 cm_s2 = pos 20_000_000
 
--- 9.81 m/s² for 1 per mille of a train without rotating mass, in 1/Q m/s²: 9.81 / 10 * 2 * 10^9 (SUBSET-026-3 3.13.4.3)
+-- 9.81 m/s² for a gradient of 1 of a train without rotating mass, in 1/Q m/s²: 9.81 / 100 * 2 * 10^9 for a tenth of a per
+-- mille (SUBSET-026-3 3.13.4.3)
 abbrev pub gravity : ℤ
-gravity = pos 1_962_000_000
+gravity = pos (196_200_000 * gradient_unit)
+
+-- A_brake_emergency of a band in a cell, in cm/s²; the same in all cells (SUBSET-026-3 3.13.6.2.1; own form)
+abbrev pub emergency_in : UnderTrain → Band → ℤ
+emergency_in u b = b.emergency
 
 -- Kdry_rst * (Kwet_rst + M_NVAVADH * (1 - Kwet_rst)) * A_brake_emergency, in 1/(2 * 10^9) m/s² (SUBSET-026-3 3.13.6.2.1)
-abbrev pub brake_safe : ℤ → Band → ℤ
-brake_safe avadh b = b.kdry *ℤ (pos 20 *ℤ b.kwet +ℤ avadh *ℤ (pos 1000 -ℤ b.kwet)) *ℤ b.emergency
+abbrev pub brake_safe : ℤ → Band → ℤ → ℤ
+brake_safe avadh b emergency = b.kdry *ℤ (pos 20 *ℤ b.kwet +ℤ avadh *ℤ (pos 1000 -ℤ b.kwet)) *ℤ emergency
 
 -- A_brake_safe: on reduced adhesion at most the national maximum A_NVMAXREDADH (SUBSET-026-3 3.13.6.2.1)
 abbrev pub brake_under : NationalFields → UnderTrain → Band → ℤ
 brake_under n u b =
-    let dry = brake_safe n.avadh b in
+    let dry = brake_safe n.avadh b (emergency_in u b) in
     if u.reduced then int_min dry (cm_s2 *ℤ n.adhesion_max) else dry
 
 -- where the rotating mass is not known, 15 percent are taken uphill and 2 percent downhill: with q = 102 * 115 this leaves
@@ -79,7 +84,7 @@ kn_of b grad = if is_negative grad then b.kn_down else b.kn_up
 
 -- Kn * grad / 1000, in 1/(2 * 10^9) m/s² (SUBSET-026-3 3.13.6.4; own form)
 abbrev pub kn_term : Band → ℤ → ℤ
-kn_term b grad = pos 20_000 *ℤ kn_of b grad *ℤ grad
+kn_term b grad = pos (2_000 * gradient_unit) *ℤ kn_of b grad *ℤ grad
 
 -- A_safe = A_brake_safe + A_gradient, A_expected = A_brake_service + A_gradient and
 -- A_normal_service = A_brake_normal_service + A_gradient - Kn * grad / 1000, in 1/Q m/s²

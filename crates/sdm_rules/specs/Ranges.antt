@@ -15,7 +15,37 @@ use Rattle.sdm_rules.specs.declared.faults.TrackFault.TheVariants.{Count, Order,
 use Rattle.sdm_rules.specs.declared.faults.Section.{Section}
 use Rattle.sdm_rules.specs.declared.faults.Section.TheVariants as sections
 use Rattle.sdm_rules.specs.Slopes.{most_bands}
-use Rattle.sdm_rules.specs.Data.{TrainData, TrackData}
+use Rattle.sdm_rules.specs.Data.{TrainData, TrackData, gradient_unit}
+
+-- ---- the greatest numbers
+
+-- the greatest speed of a train, a target or a speed profile, in km/h (own)
+abbrev pub top_kmh : ℕ
+top_kmh = 500
+
+-- the longest track, in cm (own)
+abbrev pub longest_track : ℕ
+longest_track = 10_000_000
+
+-- the longest train, in cm (own)
+abbrev pub longest_train : ℕ
+longest_train = 150_000
+
+-- the steepest gradient, 80 per mille, in the unit of gradients (own)
+abbrev pub steepest : ℤ
+steepest = pos (800 / gradient_unit)
+
+-- the most gradients of a track (own)
+abbrev pub most_gradients : ℕ
+most_gradients = 512
+
+-- the most entries of the static speed profile (own)
+abbrev pub most_speeds : ℕ
+most_speeds = 128
+
+-- the most areas of reduced adhesion (own)
+abbrev pub most_areas : ℕ
+most_areas = 64
 
 -- ---- numbers in their ranges
 

@@ -24,6 +24,9 @@ pub use faults::{
     OpenFault, RestrictFault, RevokeFault, Section, TrackFault, TrainFault,
 };
 pub use motions::{Phase, Point, Slice, Start};
+pub use ranges::{
+    GRADIENT_UNIT, LONGEST_TRACK_CM, LONGEST_TRAIN_CM, MOST_RECORDS, STEEPEST, TOP_KMH, is_within,
+};
 pub use records::Event;
 pub use restrictions::Restriction;
 pub use rows::{FlatRow, Row};

@@ -4,7 +4,7 @@
 ghost use Rattle.std.specs.Prelude.{◌≡◌, ℕ, ℤ, pos, neg_ℤ, ◌+◌, ◌^◌, ◌+ℤ◌, ◌-ℤ◌, ◌<◌, ◌≤◌, Option, Bool, int_lt, length};
 ghost use Rattle.sdm_rules.specs.Ranges.{gradient_refused, speed_refused, area_refused, count_fault, value_fault, gap_fault, order_fault, gradients_fault, speeds_fault, areas_fault, or_else};
 
-use sdm_rules::{Area, Gradient, Section, SpeedStep, TrackFault};
+use sdm_rules::{Area, Gradient, STEEPEST, Section, SpeedStep, TOP_KMH, TrackFault, is_within};
 
 /// The most gradients of a track. (own)
 const MOST_GRADIENTS: usize = 512;
@@ -12,9 +12,6 @@ const MOST_GRADIENTS: usize = 512;
 const MOST_SPEEDS: usize = 128;
 /// The most areas of reduced adhesion. (own)
 const MOST_AREAS: usize = 64;
-
-/// The steepest gradient in per mille. (own)
-const STEEPEST: i64 = 80;
 
 /// An entry of one of the lists.
 trait Entry {

@@ -3,11 +3,11 @@ use Rattle.std.proofs.Common.{◌≡◌, ℤ, pos, true, ◌≤◌, ◌*ℤ◌, 
 use Rattle.std.specs.Int.{int_min}
 use Rattle.sdm_rules.specs.declared.data.Band.{Band}
 use Rattle.sdm_rules.specs.declared.data.NationalFields.{NationalFields}
-use Rattle.sdm_rules.specs.Decelerations.{UnderTrain, brake_safe, brake_under}
+use Rattle.sdm_rules.specs.Decelerations.{UnderTrain, brake_safe, brake_under, emergency_in}
 use Rattle.sdm_decel.proofs.Sizes.{stays, size_within, product_size, min_size}
 use Rattle.sdm_decel.proofs.decelerations.brake_under.Goals as goal
 
-on_reduced : (n : NationalFields) (u : UnderTrain) (b : Band) (dry most : ℤ) → u.reduced ≡ true → dry ≡ brake_safe n.avadh b → most ≡ n.adhesion_max → int_min dry (pos 20_000_000 *ℤ most) ≡ brake_under n u b
+on_reduced : (n : NationalFields) (u : UnderTrain) (b : Band) (dry most : ℤ) → u.reduced ≡ true → dry ≡ brake_safe n.avadh b (emergency_in u b) → most ≡ n.adhesion_max → int_min dry (pos 20_000_000 *ℤ most) ≡ brake_under n u b
 on_reduced n u b dry most reduced dry_is most_is = rw (reduced, dry_is, most_is) refl
 
 pub returns-then-reduced : goal.returns-then-reduced
