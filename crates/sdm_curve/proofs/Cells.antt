@@ -6,9 +6,9 @@ use Rattle.std.proofs.lemmas.Bool.{cases_lt}
 use Rattle.std.proofs.Math.Nat.{mul-le-mul_right}
 use Rattle.std.proofs.Math.Path.{fun_ext}
 use Rattle.std.proofs.Math.ListN.{get_or-eq_default, length-map}
-use Rattle.sdm_rules.specs.Slopes.{SlopeMap, Slopes, meaning_of, segment_of, bands_of, variation}
+use Rattle.sdm_rules.specs.Slopes.{SlopeMap, Slopes, meaning_of, segment_of, bands_of, variation, IsStrongSlope, least_slope}
 use Rattle.sdm_laws.proofs.Segments.{in_segment, segment_is}
-use Rattle.sdm_curve.specs.Maps.{IsKept, handed_in, MapData, AreStarts, slope_in, start_in, IsStrongSlope, IsStrongBand, IsEvenBand}
+use Rattle.sdm_curve.specs.Maps.{IsKept, handed_in, MapData, AreStarts, slope_in, start_in, IsStrongBand, IsEvenBand}
 use Rattle.sdm_curve.specs.Faults.{IsFirstWeakSlope, IsBandRange}
 use Rattle.sdm_curve.proofs.Meanings.{rising_of, segment_known, start_least}
 
@@ -70,7 +70,7 @@ pub record IsFirstWeakCell (d : MapData) (band : ℕ) (cell slope : ℤ) : Type 
   pub known : band < bands_of d.uppers
   pub from_0 : pos 0 ≤ℤ cell
   pub value : slope ≡ slope_on d band cell
-  pub weak : (pos 20 *ℤ slope) <ℤ pos (2_000_000_000 * d.q)
+  pub weak : slope <ℤ pos (least_slope d.q)
   pub lower_bands : (b : ℕ) (c : ℤ) → b < band → IsStrongSlope d.q (slope_on d b c)
   pub earlier : (c : ℤ) → pos 0 ≤ℤ c → c <ℤ cell → IsStrongSlope d.q (slope_on d band c)
 

@@ -1,16 +1,16 @@
 -- The first fault of slopes that are not accepted (own).
-use Rattle.std.specs.Prelude.{◌≡◌, ℕ, ℤ, pos, ◌*◌, ◌<◌, ◌*ℤ◌, ◌≤ℤ◌, ◌<ℤ◌, length}
-use Rattle.sdm_rules.specs.Slopes.{bands_of, variation}
+use Rattle.std.specs.Prelude.{◌≡◌, ℕ, ℤ, pos, ◌<◌, ◌*ℤ◌, ◌≤ℤ◌, ◌<ℤ◌, length}
+use Rattle.sdm_rules.specs.Slopes.{IsStrongSlope, bands_of, least_slope, variation}
 use Rattle.sdm_rules.specs.Opening.{IsNthFrom1}
 use Rattle.sdm_curve.specs.declared.faults.CurveFault.{CurveFault}
 use Rattle.sdm_curve.specs.declared.faults.CurveFault.TheVariants.{TooWeak, TooVaried, Memory}
-use Rattle.sdm_curve.specs.Maps.{MapData, slope_in, start_in, IsStrongSlope, IsStrongBand, AreStrong, IsEvenBand, AreAccepted}
+use Rattle.sdm_curve.specs.Maps.{MapData, slope_in, start_in, IsStrongBand, AreStrong, IsEvenBand, AreAccepted}
 
 -- the first slope that is too weak, by bands and then by segments (own)
 pub record IsFirstWeakSlope (d : MapData) (band i : ℕ) : Type 0 where
   pub known_band : band < bands_of d.uppers
   pub known : i < length d.starts
-  pub weak : (pos 20 *ℤ slope_in d band i) <ℤ pos (2_000_000_000 * d.q)
+  pub weak : slope_in d band i <ℤ pos (least_slope d.q)
   pub lower_bands : (b : ℕ) → b < band → IsStrongBand d b
   pub earlier : (j : ℕ) → j < i → IsStrongSlope d.q (slope_in d band j)
 

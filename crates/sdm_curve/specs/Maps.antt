@@ -1,6 +1,6 @@
 -- What a slope map is made of, and which slopes are accepted (own).
 use Rattle.std.specs.Prelude.{◌≡◌, ℕ, ℤ, pos, neg_ℤ, List, map, ◌+◌, ◌*◌, ◌^◌, ◌<◌, ◌≤◌, ◌*ℤ◌, ◌≤ℤ◌, ◌<ℤ◌, length, slice_index, slice_index_or}
-use Rattle.sdm_rules.specs.Slopes.{SlopeMap, most_bands, bands_of, variation}
+use Rattle.sdm_rules.specs.Slopes.{IsStrongSlope, SlopeMap, most_bands, bands_of, variation}
 
 -- a slope map as it is handed in, where a slope may have any sign: units as in `SlopeMap` (own)
 pub record MapData : Type 0 where
@@ -54,10 +54,6 @@ pub record IsMapData (d : MapData) : Type 0 where
   pub bounded : (k : ℕ) → k < length d.slopes → IsBounded (slice_index_or d.slopes k (pos 0))
 
 -- ---- what is accepted
-
--- a slope of at least 0.05 m/s²: with Q = 2 * 10^9 * q, 20 * slope is at least Q (own)
-abbrev pub IsStrongSlope : ℕ → ℤ → Type 0
-IsStrongSlope q slope = pos (2_000_000_000 * q) ≤ℤ (pos 20 *ℤ slope)
 
 -- no slope of a band is too weak (own)
 abbrev pub IsStrongBand : MapData → ℕ → Type 0

@@ -2,13 +2,16 @@
 //! millimetre.
 
 ghost use Rattle.std.specs.Prelude.{◌≡◌, ℕ, pos, ◌+◌, ◌*◌, ◌<◌, ◌≤◌, ◌*ℤ◌, ◌<ℤ◌, length, slice_index_or, IfSome, IfNone, IsTrue, ◌↔◌};
-ghost use Rattle.sdm_rules.specs.Slopes.{variation};
-ghost use Rattle.sdm_curve.specs.Maps.{map_data, IsMapData, IsBounded, IsStrongSlope, AreStrong, AreEven, AreAccepted};
+ghost use Rattle.sdm_rules.specs.Slopes.{IsStrongSlope, variation};
+ghost use Rattle.sdm_curve.specs.Maps.{map_data, IsMapData, IsBounded, AreStrong, AreEven, AreAccepted};
 ghost use Rattle.sdm_curve.specs.Checks.{IsWeakIndex, IsRangeOf};
 ghost use Rattle.sdm_curve.specs.Faults.{IsFirstVariedBand, IsFaultOf};
 
 use crate::faults::CurveFault;
 use sdm_num::Speed;
+
+/// 0.05 m/s², in 1/Q m/s² with q = 1. (own)
+const LEAST_SLOPE: i64 = 100_000_000;
 
 // The least and the greatest of some slopes.
 #[derive(Clone, Copy)]
@@ -38,9 +41,9 @@ fn first_weak(q: u32, slopes: &[i64]) -> Option<usize>
     ensures found { IfSome result (IsWeakIndex q slopes.now) }
     ensures none { IfNone result ((k : ℕ) → k < length slopes.now → IsStrongSlope q (slice_index_or slopes.now k (pos 0))) }
 {
-    let least = 2_000_000_000 * i64::from(q);
+    let least = LEAST_SLOPE * i64::from(q);
     for (k, slope) in slopes.iter().enumerate() {
-        if 20 * *slope < least {
+        if *slope < least {
             return Some(k);
         }
     }

@@ -5,13 +5,13 @@ use Rattle.std.proofs.lemmas.Int.{ints}
 use Rattle.std.proofs.lemmas.Bool.{cases_lt}
 use Rattle.std.proofs.lemmas.Option.{slice_get_past}
 use Rattle.sdm_rules.specs.declared.data.SlopeKind.{SlopeKind}
-use Rattle.sdm_rules.specs.Slopes.{SlopeMap, meaning_of, bands_of, variation}
+use Rattle.sdm_rules.specs.Slopes.{SlopeMap, meaning_of, bands_of, variation, IsStrongSlope, least_slope}
 use Rattle.sdm_rules.specs.Data.{LineData}
 use Rattle.sdm_rules.specs.Decelerations.{q_of, uppers_of, slope_at, slopes_of}
 use Rattle.sdm_rules.specs.Opening as opening
 use Rattle.sdm_curve.specs.declared.faults.CurveFault.{CurveFault}
 use Rattle.sdm_curve.specs.declared.faults.CurveFault.TheVariants.{TooWeak, TooVaried, Memory}
-use Rattle.sdm_curve.specs.Maps.{MapData, handed_in, slope_in, start_in, AreStarts, IsStrongSlope, IsEvenBand, AreStrong, AreAccepted, IsKept}
+use Rattle.sdm_curve.specs.Maps.{MapData, handed_in, slope_in, start_in, AreStarts, IsEvenBand, AreStrong, AreAccepted, IsKept}
 use Rattle.sdm_curve.specs.Faults.{IsFirstWeakSlope, IsFirstVariedBand, IsFaultOf}
 use Rattle.sdm_curve.proofs.Meanings.{slope_at_cell}
 use Rattle.sdm_curve.proofs.Cells.{slope_on, start_cell, strong_cells, even_cells, weak_cell, range_cells, slope_past, meaning_is}
@@ -34,7 +34,7 @@ module _ (kind : SlopeKind) (line : LineData) (d : MapData) (gives : Gives kind 
   strong_at : (band cell : ℕ) → band < bands_of d.uppers → IsStrongSlope d.q (slope_on d band (pos cell)) → opening.IsStrongAt kind line band cell
   strong_at band cell lt h =
       let there = gives.slope band lt (pos cell) in
-      subst (λ (n : ℕ). pos (2_000_000_000 * n) ≤ℤ (pos 20 *ℤ slope_at kind line band (pos cell))) gives.q (subst (λ (z : ℤ). pos (2_000_000_000 * d.q) ≤ℤ (pos 20 *ℤ z)) (sym there) h)
+      subst (λ (n : ℕ). IsStrongSlope n (slope_at kind line band (pos cell))) gives.q (subst (λ (z : ℤ). IsStrongSlope d.q z) (sym there) h)
 
   strong : AreStrong d → opening.IsStrong kind line
   strong h = λ band cell lt. let known = band_known band lt in strong_at band cell known (strong_cells d band gives.starts (h band known) (pos cell))
@@ -46,7 +46,7 @@ module _ (kind : SlopeKind) (line : LineData) (d : MapData) (gives : Gives kind 
       record {
         known = omega (arith, gives.bands, first.known);
         value = first.value ∙ ap (slope_on d band) cell ∙ sym (gives.slope band first.known _);
-        weak = subst (λ (n : ℕ). (pos 20 *ℤ slope_in d band i) <ℤ pos (2_000_000_000 * n)) gives.q first.weak;
+        weak = subst (λ (n : ℕ). slope_in d band i <ℤ pos (least_slope n)) gives.q first.weak;
         lower_bands = λ b c l. strong_at b c (omega (arith, first.known)) (first.lower_bands b (pos c) l);
         earlier_cells = λ c l. strong_at band c first.known (first.earlier (pos c) (omega (arith, ints)) (omega (arith, ints)));
       }

@@ -6,7 +6,7 @@ use Rattle.std.specs.Prelude.{option_map}
 use Rattle.sdm_num.specs.Units.{notches}
 use Rattle.sdm_rules.specs.declared.data.Band.{Band}
 use Rattle.sdm_rules.specs.declared.data.SlopeKind.{SlopeKind}
-use Rattle.sdm_rules.specs.Slopes.{IsUsable, bands_of, variation}
+use Rattle.sdm_rules.specs.Slopes.{IsUsable, bands_of, variation, IsStrongSlope}
 use Rattle.sdm_rules.specs.Data.{LineData, HasBands, AreBands}
 use Rattle.sdm_rules.specs.Decelerations.{q_of, slope_at, slopes_of, uppers_of}
 use Rattle.sdm_rules.specs.Opening.{IsAcceptedKind, IsStrongAt, variation_of}
@@ -74,11 +74,11 @@ unfolding slope_at
 slope_from kind d band (pos n) = refl
 slope_from kind d band (negsuc n) = refl
 
-strong_positive : (a : ℤ) (q : ℕ) → 0 < q → pos (2_000_000_000 * q) ≤ℤ (pos 20 *ℤ a) → 0 < unsigned_abs a
+strong_positive : (a : ℤ) (q : ℕ) → 0 < q → IsStrongSlope q a → 0 < unsigned_abs a
 strong_positive (pos n) q q_pos h = omega (arith, ints)
 strong_positive (negsuc n) q q_pos h = omega arith
 
-strong_even : (a b : ℤ) (q k : ℕ) → 0 < q → pos (2_000_000_000 * q) ≤ℤ (pos 20 *ℤ a) → pos (2_000_000_000 * q) ≤ℤ (pos 20 *ℤ b) → a ≤ℤ (pos k *ℤ b) → unsigned_abs a ≤ k * unsigned_abs b
+strong_even : (a b : ℤ) (q k : ℕ) → 0 < q → IsStrongSlope q a → IsStrongSlope q b → a ≤ℤ (pos k *ℤ b) → unsigned_abs a ≤ k * unsigned_abs b
 strong_even (pos n) (pos m) q k q_pos h g le = omega (arith, ints)
 strong_even (negsuc n) b q k q_pos h g le = absurd (omega (arith, ints))
 strong_even (pos n) (negsuc m) q k q_pos h g le = absurd (omega (arith, ints))

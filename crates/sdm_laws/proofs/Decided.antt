@@ -15,6 +15,7 @@ use Rattle.sdm_rules.specs.Data.{LineData}
 use Rattle.sdm_rules.specs.Decelerations.{slope_at, q_of}
 use Rattle.sdm_rules.specs.Records.{authority_fault}
 use Rattle.sdm_rules.specs.Opening.{IsStrongAt, IsStrong, IsEven, IsRange, IsAcceptedKind, IsFirstWeak, IsFirstVaried, AreBefore, IsUsableLine, IsAccepted, IsOpenFault, band_count_of, variation_of}
+use Rattle.sdm_rules.specs.Slopes.{least_slope}
 use Rattle.sdm_laws.proofs.Settled.{settled_from, slope_settled}
 use Rattle.sdm_laws.proofs.Search.{IsFirst, first_below, least_to, greatest_to}
 
@@ -24,7 +25,7 @@ module _ (kind : SlopeKind) (d : LineData) where
   f band cell = slope_at kind d band (pos cell)
 
   abbrev limit : ℤ
-  limit = pos (2_000_000_000 * q_of d.train.rotating_mass)
+  limit = pos (least_slope (q_of d.train.rotating_mass))
 
   abbrev n : ℕ
   n = settled_from d
@@ -47,10 +48,10 @@ module _ (kind : SlopeKind) (d : LineData) where
   -- ---- weakness
 
   abbrev WeakAt : ℕ → ℕ → Type 0
-  WeakAt band cell = (pos 20 *ℤ f band cell) <ℤ limit
+  WeakAt band cell = f band cell <ℤ limit
 
   strong_or_weak : (band cell : ℕ) → IsStrongAt kind d band cell ⊎ WeakAt band cell
-  strong_or_weak band cell = by_lt_z (pos 20 *ℤ f band cell) limit (λ (lt : WeakAt band cell). inr lt) (λ (le : IsStrongAt kind d band cell). inl le)
+  strong_or_weak band cell = by_lt_z (f band cell) limit (λ (lt : WeakAt band cell). inr lt) (λ (le : IsStrongAt kind d band cell). inl le)
 
   abbrev IsStrongBand : ℕ → Type 0
   IsStrongBand band = (cell : ℕ) → IsStrongAt kind d band cell
@@ -59,7 +60,7 @@ module _ (kind : SlopeKind) (d : LineData) where
   HasWeakCell band = (cell : ℕ) × IsFirst (IsStrongAt kind d band) (WeakAt band) (suc n) cell
 
   band_strong : (band : ℕ) → ((k : ℕ) → k < suc n → IsStrongAt kind d band k) → IsStrongBand band
-  band_strong band h cell = let low = near_low cell in subst (λ (a : ℤ). limit ≤ℤ (pos 20 *ℤ a)) (near_same band cell) (h (near cell) (omega arith))
+  band_strong band h cell = let low = near_low cell in subst (λ (a : ℤ). limit ≤ℤ a) (near_same band cell) (h (near cell) (omega arith))
 
   decide_band : (band : ℕ) → IsStrongBand band ⊎ HasWeakCell band
   decide_band band = elim (first_below (IsStrongAt kind d band) (WeakAt band) (strong_or_weak band) (suc n)) [ inl h ↦ inl (band_strong band h) | inr w ↦ inr w ]

@@ -14,13 +14,8 @@ use Rattle.sdm_rules.specs.Opening.{IsStrongAt, IsStrong, IsEven, IsRange, IsAcc
 
 -- ---- one kind
 
-clash : (a limit : ℤ) → (pos 20 *ℤ a) <ℤ limit → limit ≤ℤ (pos 20 *ℤ a) → ⊥
-clash a limit lt le = omega (arith, ints)
-
 weak_clash : (kind : SlopeKind) (d : LineData) (band cell : ℕ) (slope : ℤ) → IsFirstWeak kind d band cell slope → IsStrongAt kind d band cell → ⊥
-weak_clash kind d band cell slope w strong =
-    let limit = pos (2_000_000_000 * q_of d.train.rotating_mass) in
-    clash (slope_at kind d band (pos cell)) limit (subst (λ (a : ℤ). (pos 20 *ℤ a) <ℤ limit) w.value w.weak) strong
+weak_clash kind d band cell slope w strong = omega (arith, ints, w.value, w.weak, strong)
 
 -- a range that is too wide contradicts evenness
 varied_clash : (kind : SlopeKind) (d : LineData) (band : ℕ) (least greatest : ℤ) → IsRange kind d band least greatest → (pos (variation_of d) *ℤ least) <ℤ greatest → IsEven kind d band → ⊥

@@ -1,12 +1,12 @@
 -- Which data are accepted at the opening, and the first fault of those that are not (own). A slope that is too weak would
 -- carry a curve too far, and slopes that differ too much in one band would let rounding grow past a millimetre.
-use Rattle.std.specs.Prelude.{◌≡◌, ℕ, suc, ℤ, pos, Some, None, ◌*◌, ◌<◌, ◌*ℤ◌, ◌≤ℤ◌, ◌<ℤ◌, length, ⊤}
+use Rattle.std.specs.Prelude.{◌≡◌, ℕ, suc, ℤ, pos, Some, None, ◌<◌, ◌*ℤ◌, ◌≤ℤ◌, ◌<ℤ◌, length, ⊤}
 use Rattle.sdm_rules.specs.declared.data.SlopeKind.{SlopeKind}
 use Rattle.sdm_rules.specs.declared.data.SlopeKind.TheVariants.{Safe, Expected, Normal}
 use Rattle.sdm_rules.specs.declared.authorities.Authority.{Authority}
 use Rattle.sdm_rules.specs.declared.faults.OpenFault.{OpenFault}
 use Rattle.sdm_rules.specs.declared.faults.OpenFault.TheVariants.{TooWeak, TooVaried, BadAuthority, Memory}
-use Rattle.sdm_rules.specs.Slopes.{variation}
+use Rattle.sdm_rules.specs.Slopes.{IsStrongSlope, least_slope, variation}
 use Rattle.sdm_rules.specs.Data.{LineData, HasBands}
 use Rattle.sdm_rules.specs.Decelerations.{slope_at, q_of}
 use Rattle.sdm_rules.specs.Supervision.{Supervision}
@@ -16,7 +16,7 @@ use Rattle.sdm_rules.specs.Records.{authority_fault}
 
 -- the slope of a kind in a band and a cell from 0 on is at least 0.05 m/s² (own)
 abbrev pub IsStrongAt : SlopeKind → LineData → ℕ → ℕ → Type 0
-IsStrongAt kind d band cell = pos (2_000_000_000 * q_of d.train.rotating_mass) ≤ℤ (pos 20 *ℤ slope_at kind d band (pos cell))
+IsStrongAt kind d band cell = IsStrongSlope (q_of d.train.rotating_mass) (slope_at kind d band (pos cell))
 
 -- how many bands the train has (own)
 abbrev pub band_count_of : LineData → ℕ
@@ -65,7 +65,7 @@ pub record IsRange (kind : SlopeKind) (d : LineData) (band : ℕ) (least greates
 pub record IsFirstWeak (kind : SlopeKind) (d : LineData) (band cell : ℕ) (slope : ℤ) : Type 0 where
   pub known : band < band_count_of d
   pub value : slope ≡ slope_at kind d band (pos cell)
-  pub weak : (pos 20 *ℤ slope) <ℤ pos (2_000_000_000 * q_of d.train.rotating_mass)
+  pub weak : slope <ℤ pos (least_slope (q_of d.train.rotating_mass))
   pub lower_bands : (b c : ℕ) → b < band → IsStrongAt kind d b c
   pub earlier_cells : (c : ℕ) → c < cell → IsStrongAt kind d band c
 

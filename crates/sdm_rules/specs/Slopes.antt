@@ -1,5 +1,5 @@
 -- What brake curves stand on: a deceleration for each speed band and each cell of the track (SUBSET-026-3 3.13.6; own form).
-use Rattle.std.specs.Prelude.{ℕ, suc, ℤ, int_le, List, ◌+◌, ◌-◌, ◌*◌, ◌<◌, ◌≤◌, length, slice_index, count_by}
+use Rattle.std.specs.Prelude.{ℕ, suc, ℤ, pos, int_le, List, ◌+◌, ◌-◌, ◌*◌, ◌<◌, ◌≤◌, ◌≤ℤ◌, length, slice_index, count_by}
 
 -- A slope is a deceleration in 1/Q m/s², with Q = 2 * 10^9 * q (own unit). `uppers` are the upper speeds in notches of all
 -- bands but the last, which has none. Bands count from 0.
@@ -19,6 +19,14 @@ pub record SlopeMap : Type 0 where
 -- the last segment whose start is at most the cell, else the first one (own)
 abbrev pub segment_of : List ℤ → ℤ → ℕ
 segment_of starts cell = count_by (λ s. int_le s cell) starts - 1
+
+-- 0.05 m/s², in 1/Q m/s² (own)
+abbrev pub least_slope : ℕ → ℕ
+least_slope q = 100_000_000 * q
+
+-- a slope that isn't too weak to carry a curve: at least 0.05 m/s² (own)
+abbrev pub IsStrongSlope : ℕ → ℤ → Type 0
+IsStrongSlope q slope = pos (least_slope q) ≤ℤ slope
 
 -- what a slope map stands for (own)
 abbrev pub meaning_of : SlopeMap → Slopes
