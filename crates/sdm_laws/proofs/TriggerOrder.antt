@@ -10,7 +10,7 @@ use Rattle.sdm_rules.specs.declared.targets.Target.{Target}
 use Rattle.sdm_rules.specs.Limits.{SupervisionLimits}
 use Rattle.sdm_rules.specs.Margins.{ebi_margin, sbi_margin, warning_margin}
 use Rattle.sdm_rules.specs.Targets.{with_margin}
-use Rattle.sdm_rules.specs.Triggers.{Situation, is_past, passes, some_passed, some_ebi_passed, is_over, is_warned, is_service, is_emergency, triggers_of, front_for, no_margin, above_ceiling, above_release}
+use Rattle.sdm_rules.specs.Triggers.{Situation, is_past, passes_ebi, some_passed, some_ebi_passed, is_over, is_warned, is_service, is_emergency, triggers_of, front_for, no_margin, above_ceiling, above_release}
 use Rattle.sdm_rules.specs.Commands.{emergency_after, is_released}
 use Rattle.sdm_rules.specs.Machines.{Implies}
 
@@ -73,12 +73,12 @@ each P Q f (t ∷ ts) h = (f t h.0, each P Q f ts h.1)
 module _ (f g : Target → SupervisionLimits) (a b : ℕ) (s : Situation) (sooner : AllByRecursion (λ t. AreSooner a (f t) b (g t)) s.targets) where
   some_implies : (margin : ℕ → ℕ) (x y : Target → Fraction) → ((t : Target) → AreSooner a (f t) b (g t) → IsSooner a (x t) b (y t)) → Implies (some_passed s a margin x) (some_passed s b margin y)
   some_implies margin x y h =
-      any_implies _ _ s.targets (each _ _ (λ t k. and_implies (nat_lt (with_margin margin t) s.speed) _ _ _ (same _) ((h t k).passed (front_for s t.kind))) s.targets sooner)
+      any_implies _ _ s.targets (each _ _ (λ t k. and_implies (nat_lt (with_margin margin t) s.speed) _ _ _ (same _) ((h t k).passed (front_for s.est s.front t.kind))) s.targets sooner)
 
-  ebi_implies : (t : Target) (x y : Option Fraction) → IsSoonerIfAny a x b y → Implies (option_map_or (passes s a ebi_margin t) x false) (option_map_or (passes s b ebi_margin t) y false)
+  ebi_implies : (t : Target) (x y : Option Fraction) → IsSoonerIfAny a x b y → Implies (passes_ebi s.speed s.est s.front a t x) (passes_ebi s.speed s.est s.front b t y)
   ebi_implies t None y h = λ e. absurd (false≢true e)
   ebi_implies t (Some x) None h = absurd h
-  ebi_implies t (Some x) (Some y) h = and_implies (nat_lt (with_margin ebi_margin t) s.speed) _ _ _ (same _) (h.passed (front_for s t.kind))
+  ebi_implies t (Some x) (Some y) h = and_implies (nat_lt (with_margin ebi_margin t) s.speed) _ _ _ (same _) (h.passed (front_for s.est s.front t.kind))
 
   over_implies : Implies (is_over f a s) (is_over g b s)
   over_implies = or_implies _ _ _ _ (or_implies (above_ceiling s no_margin) _ _ _ (same _) (some_implies no_margin _ _ (λ t k. k.permitted))) (same (above_release s))

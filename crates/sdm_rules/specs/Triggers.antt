@@ -29,23 +29,28 @@ abbrev pub is_past : ℕ → ℤ → Fraction → Bool
 is_past shift front limit = int_lt limit.n (pos limit.m *ℤ (front +ℤ pos shift))
 
 -- the front end that a target compares: the estimated one for the EOA, else the max safe one (SUBSET-026-3 3.13.10.4)
-abbrev pub front_for : Situation → TargetKind → ℤ
-front_for s Eoa = s.est
-front_for s Svl = s.front
-front_for s Mrsp = s.front
-front_for s Loa = s.front
+abbrev pub front_for : ℤ → ℤ → TargetKind → ℤ
+front_for est max Eoa = est
+front_for est max Svl = max
+front_for est max Mrsp = max
+front_for est max Loa = max
 
--- the speed is above the target's with a margin of it, and the front end is past the limit (SUBSET-026-3 3.13.10.4; own)
-abbrev pub passes : Situation → ℕ → (ℕ → ℕ) → Target → Fraction → Bool
-passes s shift margin t limit = nat_lt (with_margin margin t) s.speed && is_past shift (front_for s t.kind) limit
+-- the speed is above the target's with a margin of it, and the front end that the target compares is past the limit
+-- (SUBSET-026-3 3.13.10.4; own)
+abbrev pub passes : ℕ → ℤ → ℤ → ℕ → (ℕ → ℕ) → Target → Fraction → Bool
+passes speed est max shift margin t limit = nat_lt (with_margin margin t) speed && is_past shift (front_for est max t.kind) limit
+
+-- an EBI is passed, where the target has one (SUBSET-026-3 3.13.10.4; own)
+abbrev pub passes_ebi : ℕ → ℤ → ℤ → ℕ → Target → Option Fraction → Bool
+passes_ebi speed est max shift t limit = option_map_or (passes speed est max shift ebi_margin t) limit false
 
 -- some target is passed, each by a limit of its own (own)
 abbrev pub some_passed : Situation → ℕ → (ℕ → ℕ) → (Target → Fraction) → Bool
-some_passed s shift margin limit = list_any (λ t. passes s shift margin t (limit t)) s.targets
+some_passed s shift margin limit = list_any (λ t. passes s.speed s.est s.front shift margin t (limit t)) s.targets
 
--- so by an EBI, of the targets that have one (own)
+-- some target is passed by its EBI, of the targets that have one (own)
 abbrev pub some_ebi_passed : Situation → ℕ → (Target → Option Fraction) → Bool
-some_ebi_passed s shift limit = list_any (λ t. option_map_or (passes s shift ebi_margin t) (limit t) false) s.targets
+some_ebi_passed s shift limit = list_any (λ t. passes_ebi s.speed s.est s.front shift t (limit t)) s.targets
 
 -- the speed is above the ceiling with a margin of it (SUBSET-026-3 3.13.10.3)
 abbrev pub above_ceiling : Situation → (ℕ → ℕ) → Bool

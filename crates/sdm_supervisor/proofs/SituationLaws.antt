@@ -110,28 +110,28 @@ module _ (place : Nearest → ℤ) (limit : SupervisionLimits → Fraction) (les
 -- ---- the triggers over targets
 
 module _ (s : Supervision) (r : OdometerReading) where
-  front_is : (k : TargetKind) → front_of r k ≡ front_for (situation_of s r) k
+  front_is : (k : TargetKind) → front_of r k ≡ front_for (situation_of s r).est (situation_of s r).front k
   unfolding situation_of
   front_is Mrsp = refl
   front_is Loa = refl
   front_is Eoa = refl
   front_is Svl = refl
 
-  passes_is : (margin : ℕ → ℕ) (t : Target) (limit : Fraction) → passes_at r margin t limit ≡ passes (situation_of s r) 0 margin t limit
+  passes_is : (margin : ℕ → ℕ) (t : Target) (limit : Fraction) → passes_at r margin t limit ≡ passes (situation_of s r).speed (situation_of s r).est (situation_of s r).front 0 margin t limit
   unfolding situation_of
   passes_is margin t limit = ap (λ x. nat_lt (with_margin margin t) r.speed && is_past 0 x limit) (front_is t.kind)
 
   any_is : (margin : ℕ → ℕ) (limit : Target → Fraction) (ts : List Target) →
-      list_any (λ t. passes_at r margin t (limit t)) ts ≡ list_any (λ t. passes (situation_of s r) 0 margin t (limit t)) ts
+      list_any (λ t. passes_at r margin t (limit t)) ts ≡ list_any (λ t. passes (situation_of s r).speed (situation_of s r).est (situation_of s r).front 0 margin t (limit t)) ts
   any_is margin limit [] = refl
   any_is margin limit (t ∷ ts) = λ k. passes_is margin t (limit t) k || any_is margin limit ts k
 
-  ebi_is : (t : Target) (limit : Option Fraction) → passes_ebi_at r t limit ≡ option_map_or (passes (situation_of s r) 0 ebi_margin t) limit false
+  ebi_is : (t : Target) (limit : Option Fraction) → passes_ebi_at r t limit ≡ option_map_or (passes (situation_of s r).speed (situation_of s r).est (situation_of s r).front 0 ebi_margin t) limit false
   ebi_is t None = refl
   ebi_is t (Some x) = passes_is ebi_margin t x
 
   any_ebi_is : (limit : Target → Option Fraction) (ts : List Target) →
-      list_any (λ t. passes_ebi_at r t (limit t)) ts ≡ list_any (λ t. option_map_or (passes (situation_of s r) 0 ebi_margin t) (limit t) false) ts
+      list_any (λ t. passes_ebi_at r t (limit t)) ts ≡ list_any (λ t. option_map_or (passes (situation_of s r).speed (situation_of s r).est (situation_of s r).front 0 ebi_margin t) (limit t) false) ts
   any_ebi_is limit [] = refl
   any_ebi_is limit (t ∷ ts) = λ k. ebi_is t (limit t) k || any_ebi_is limit ts k
 
