@@ -34,7 +34,7 @@ impl Line {
     {
         self.keep(Target {
             kind,
-            place: Place::of_cm(cm as i32),
+            place: Place::of_cm_from_0(cm),
             speed,
         })
     }

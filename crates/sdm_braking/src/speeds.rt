@@ -20,15 +20,6 @@ pub struct SpeedLimits {
     pub ebi: Speed,
 }
 
-/// A speed with a margin of it, both at most 500 km/h.
-fn raised(kmh: u16, margin: Speed) -> Speed
-    requires speed { kmh ≤ 500 }
-    requires margin { margin ≤ notches 500 }
-    ensures { result ≡ notches kmh + margin }
-{
-    Speed::new(Speed::of_kmh(kmh).notches() + margin.notches())
-}
-
 impl SpeedLimits {
     /// Those of a speed in km/h, at most 500.
     pub fn of_kmh(kmh: u16) -> SpeedLimits
@@ -38,11 +29,12 @@ impl SpeedLimits {
         ensures sbi { result.sbi ≡ notches kmh + sbi_margin kmh }
         ensures ebi { result.ebi ≡ notches kmh + ebi_margin kmh }
     {
+        let permitted = Speed::of_kmh(kmh);
         SpeedLimits {
-            permitted: Speed::of_kmh(kmh),
-            warning: raised(kmh, dv_warning(kmh)),
-            sbi: raised(kmh, dv_sbi(kmh)),
-            ebi: raised(kmh, dv_ebi(kmh)),
+            permitted,
+            warning: permitted.plus(dv_warning(kmh)),
+            sbi: permitted.plus(dv_sbi(kmh)),
+            ebi: permitted.plus(dv_ebi(kmh)),
         }
     }
 

@@ -12,8 +12,8 @@ use sdm_num::Speed;
 use std::alloc::{AllocError, Global};
 use std::marker::Model;
 
-/// 5,400,000,000 grains: a cell, which is one centimetre.
-const CELL: u64 = 5_400_000_000;
+/// Grains of a cell.
+const CELL: u64 = sdm_num::CELL as u64;
 
 /// A slope for each speed band and each segment of the track, in 1/Q m/s² with Q = 2·10⁹·q, in a form that every law of
 /// curves can stand on: at least 0.05 m/s², and in one band not too uneven. (own)

@@ -14,7 +14,7 @@ ghost use Rattle.sdm_curve.specs.Made.{IsMadeFrom};
 ghost use Rattle.sdm_limits.specs.Ranges.{AreTimes, IsGuide, IsWithin, curve_reach, reach};
 ghost use Rattle.sdm_limits.specs.Sides.{IsEarlyWhere, StandFor, ebd_limits_by, place_of, place_where, places_of, sbd_limits_by};
 
-use crate::reaction::{Reaction, way};
+use crate::reaction::Reaction;
 use crate::times::{T_DRIVER, T_WARNING};
 use sdm_curve::{BandMap, Curve};
 use sdm_num::{Early, Speed};
@@ -82,7 +82,7 @@ pub fn ebd_limits_at(
     // d_EBI = d_EBD(V_bec) - D_bec (SUBSET-026-3 3.13.9.3.2)
     let ebi = place.less(d_bec);
     // d_SBI = d_EBI - V_est * T_bs (SUBSET-026-3 3.13.9.3.3; form own)
-    let sbi = ebi.less(way(v.notches(), times.bs));
+    let sbi = ebi.less(v.distance_at(times.bs));
     limits_from_sbi(times, v, guide, Some(ebi), sbi)
 }
 
@@ -105,7 +105,7 @@ pub fn sbd_limits(
         StandFor result (sbd_limits_by exact_places expected.now sbd.now g times.now v) }
 {
     // d_SBI = d_SBD(V_est) - V_est * T_bs (SUBSET-026-3 3.13.9.3.3; form own)
-    let sbi = sbd.place(expected, v).less(way(v.notches(), times.bs));
+    let sbi = sbd.place(expected, v).less(v.distance_at(times.bs));
     limits_from_sbi(times, v, guide, None, sbi)
 }
 
@@ -127,18 +127,17 @@ fn limits_from_sbi(
         IsEarlyWhere guide g → IsEarlyWhere ebi e → IsEarlyFor sbi s →
         StandFor result (limits_before times.now v g e s) }
 {
-    let v = v.notches();
     // d_P = d_SBI - V_est * T_driver, or the guidance curve's place where that is earlier (SUBSET-026-3 3.13.9.3.5)
-    let driver = sbi.less(way(v, T_DRIVER));
+    let driver = sbi.less(v.distance_at(T_DRIVER));
     let permitted = guided(guide, driver);
     Limits {
         ebi,
         sbi,
         // d_W = d_SBI - V_est * T_warning (SUBSET-026-3 3.13.9.3.4)
-        warning: sbi.less(way(v, T_WARNING)),
+        warning: sbi.less(v.distance_at(T_WARNING)),
         permitted,
         // d_I = d_P - V_est * T_indication (SUBSET-026-3 3.13.9.3.6)
-        indication: permitted.less(way(v, times.indication)),
+        indication: permitted.less(v.distance_at(times.indication)),
     }
 }
 

@@ -1,7 +1,7 @@
 //! What the train may do from the moment on that its emergency brake is commanded until it works.
 
 ghost use Rattle.std.specs.Prelude.{◌≡◌, ◌+◌, ◌*◌, ◌^◌, ◌<◌, ◌≤◌, ◌≤ℤ◌, pos, negsuc};
-ghost use Rattle.sdm_num.specs.Units.{notches, notches_of_mm_s, top_speed, way_in};
+ghost use Rattle.sdm_num.specs.Units.{notches, notches_of_mm_s};
 ghost use Rattle.sdm_rules.specs.Reaction.{a_est1, a_est2, build_up, d_bec, v_bec, v_cut_off};
 ghost use Rattle.sdm_rules.specs.Ranges.{top_kmh};
 ghost use Rattle.sdm_limits.specs.Ranges.{AreTimes, most_time};
@@ -114,11 +114,12 @@ impl BuildUp {
         ensures small { result < 10 ^ 16 }
     {
         // the greatest mean speed until the end of T_traction
-        let v_mean = (self.speed + self.v_delta1 / 2).max(target.notches());
-        let v_cut_off = self.v_cut_off(target);
+        let v_mean = Speed::new((self.speed + self.v_delta1 / 2).max(target.notches()));
+        // the greatest mean speed after it
+        let v_after = Speed::new(self.v_cut_off(target) + self.v_delta2 / 2);
         // D_bec = max(V_est + V_delta0 + V_delta1 / 2, V_target) * T_traction
         //     + (max(V_est + V_delta0 + V_delta1, V_target) + V_delta2 / 2) * T_berem (SUBSET-026-3 3.13.9.3.2)
-        way(v_mean, self.traction) + way(v_cut_off + self.v_delta2 / 2, self.berem)
+        v_mean.distance_at(self.traction) + v_after.distance_at(self.berem)
     }
 
     /// V_bec and D_bec for a target with a speed of at most 500 km/h. (SUBSET-026-3 3.13.9.3.2)
@@ -169,14 +170,4 @@ fn gain(accel: u32, time: u32) -> u32
     ensures small { result ≤ 16_200 * accel }
 {
     54 * accel * time
-}
-
-/// The way in grains at a speed in notches within a time in ds.
-pub(crate) fn way(notches: u32, time: u32) -> u64
-    requires notches { notches ≤ top_speed }
-    requires time { time ≤ most_time }
-    ensures value { result ≡ way_in notches time }
-    ensures small { result ≤ 300_000_000 * notches }
-{
-    1_000_000 * u64::from(notches) * u64::from(time)
 }

@@ -9,8 +9,8 @@ ghost use Rattle.sdm_motion.specs.Steps.{BeginsBefore, EndsAfter, HaveSlope, Mee
 use sdm_curve::BandMap;
 use sdm_rules::Point;
 
-/// 5,400,000,000 grains: a cell, which is one centimetre.
-const CELL: i128 = 5_400_000_000;
+/// Grains of a cell.
+const CELL: i128 = sdm_num::CELL as i128;
 
 // The place where a segment begins.
 fn border(m: u32, map: &BandMap, i: usize) -> i128

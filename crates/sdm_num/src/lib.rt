@@ -10,7 +10,7 @@ pub mod speeds;
 
 pub use bounds::{Early, Late};
 pub use memory::NoMemory;
-pub use places::Place;
+pub use places::{CELL, MILLIMETRE, Place};
 pub use readings::Reading;
 pub use speeds::Speed;
 

@@ -1,11 +1,17 @@
 //! Places on the track, in one absolute coordinate.
 
 ghost use Rattle.std.specs.Int.{int_div_euclid};
-ghost use Rattle.std.specs.Prelude.{◌≡◌, ℤ, pos, negsuc, neg_ℤ, ◌+ℤ◌, ◌*ℤ◌, ◌≤ℤ◌};
+ghost use Rattle.std.specs.Prelude.{◌≡◌, ℤ, pos, negsuc, neg_ℤ, ◌+ℤ◌, ◌*ℤ◌, ◌≤◌, ◌≤ℤ◌};
 ghost use Rattle.sdm_num.specs.Units.{IsPlace, centimetre, place_of_mm};
 ghost use Rattle.sdm_num.specs.Bounds.{mm_above, mm_below};
 
 use std::marker::Model;
+
+/// 540,000,000 grains: a millimetre.
+pub const MILLIMETRE: i64 = 540_000_000;
+
+/// 5,400,000,000 grains: a centimetre, the length of a cell.
+pub const CELL: i64 = 5_400_000_000;
 
 /// A place in grains, of which 540,000,000 make a millimetre; within 4·10¹⁸ of the origin. (own)
 #[derive(Clone, Copy, Debug, PartialEq, Eq, PartialOrd, Ord)]
@@ -39,7 +45,17 @@ impl Place {
         ensures { result ≡ cm *ℤ pos centimetre }
     {
         Place {
-            grains: i64::from(cm) * 5_400_000_000,
+            grains: i64::from(cm) * CELL,
+        }
+    }
+
+    /// The place of a whole centimetre that is not before the origin.
+    pub fn of_cm_from_0(cm: u32) -> Place
+        requires { cm ≤ 700_000_000 }
+        ensures { result ≡ pos cm *ℤ pos centimetre }
+    {
+        Place {
+            grains: i64::from(cm) * CELL,
         }
     }
 
@@ -48,7 +64,7 @@ impl Place {
         ensures { result ≡ place_of_mm mm }
     {
         Place {
-            grains: i64::from(mm) * 540_000_000,
+            grains: i64::from(mm) * MILLIMETRE,
         }
     }
 
@@ -92,20 +108,20 @@ impl Place {
     pub fn cell(self) -> i32
         ensures { result ≡ int_div_euclid self (pos centimetre) }
     {
-        self.grains.div_euclid(5_400_000_000) as i32
+        self.grains.div_euclid(CELL) as i32
     }
 
     /// The place in millimetres, rounded down.
     pub fn mm_below(self) -> i64
         ensures { result ≡ mm_below self }
     {
-        self.grains.div_euclid(540_000_000)
+        self.grains.div_euclid(MILLIMETRE)
     }
 
     /// The place in millimetres, rounded up.
     pub fn mm_above(self) -> i64
         ensures { result ≡ mm_above self }
     {
-        -((-self.grains).div_euclid(540_000_000))
+        -((-self.grains).div_euclid(MILLIMETRE))
     }
 }

@@ -1,7 +1,7 @@
 //! Speeds of the train, of targets and of curves.
 
-ghost use Rattle.std.specs.Prelude.{◌≡◌, ℕ, ◌≤◌};
-ghost use Rattle.sdm_num.specs.Units.{notches, notches_of_mm_s, top_speed};
+ghost use Rattle.std.specs.Prelude.{◌≡◌, ℕ, ◌+◌, ◌*◌, ◌≤◌};
+ghost use Rattle.sdm_num.specs.Units.{notches, notches_of_mm_s, top_speed, way_in};
 
 use std::marker::Model;
 
@@ -46,6 +46,25 @@ impl Speed {
         ensures { result ≡ notches_of_mm_s v }
     {
         Speed { notches: 54 * v }
+    }
+
+    /// The speed and a margin of it.
+    pub fn plus(self, margin: Speed) -> Speed
+        requires { self + margin ≤ top_speed }
+        ensures { result ≡ self + margin }
+    {
+        Speed {
+            notches: self.notches + margin.notches,
+        }
+    }
+
+    /// The way in grains at this speed within a time of at most 90 s.
+    pub fn distance_at(self, time_ds: u32) -> u64
+        requires { time_ds ≤ 900 }
+        ensures value { result ≡ way_in self time_ds }
+        ensures small { result ≤ 900_000_000 * self }
+    {
+        1_000_000 * u64::from(self.notches) * u64::from(time_ds)
     }
 
     /// The number of notches.

@@ -3,9 +3,9 @@
 //! is on the same side of the exact start.
 #![tactic(auto)]
 
-ghost use Rattle.std.specs.Prelude.{◌≡◌, ◌≤◌, ◌*◌};
+ghost use Rattle.std.specs.Prelude.{◌≡◌, ◌≤◌};
 ghost use Rattle.sdm_num.specs.Bounds.{IsEarlyFor};
-ghost use Rattle.sdm_num.specs.Units.{notches, way_in};
+ghost use Rattle.sdm_num.specs.Units.{notches};
 ghost use Rattle.sdm_rules.specs.Limits.{computed, exact_places, release_start_at};
 ghost use Rattle.sdm_rules.specs.Slopes.{meaning_of};
 ghost use Rattle.sdm_rules.specs.Ranges.{top_kmh};
@@ -40,22 +40,12 @@ pub fn release_start(
         (exact_places (meaning_of expected.now) sbd.now.place sbd.now.speed release)) }
 {
     // d_SBD(V_rel) - V_rel * T_bs (SUBSET-026-3 3.13.9.4; form own)
-    let service = way(release, times.bs);
+    let service = release.distance_at(times.bs);
     let before_eoa = sbd.place(expected, release).less(service);
     // d_EBD(V_rel) - V_rel * (T_traction + T_berem + T_bs) (SUBSET-026-3 3.13.9.4; form own)
-    let emergency = way(release, times.traction + times.berem + times.bs);
+    let emergency = release.distance_at(times.traction + times.berem + times.bs);
     let before_svl = ebd.place(safe, release).less(emergency);
     before_eoa.earlier(before_svl)
-}
-
-// The way in grains at a speed within a time in ds.
-fn way(speed: Speed, time: u32) -> u64
-    requires speed { speed ≤ notches 500 }
-    requires time { time ≤ 900 }
-    ensures value { result ≡ way_in speed time }
-    ensures small { result ≤ 900_000_000 * speed }
-{
-    1_000_000 * u64::from(speed.notches()) * u64::from(time)
 }
 
 #[cfg(test)]

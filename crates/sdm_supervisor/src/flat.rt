@@ -74,7 +74,7 @@ impl Flat {
         ensures { IfOk result (λ f. f ≡ flat_opening decel end_cm) }
     {
         let map = map_of(alloc, decel)?;
-        let curve = Curve::from_foot(&map, Place::of_cm(end_cm as i32), Speed::new(0));
+        let curve = Curve::from_foot(&map, Place::of_cm_from_0(end_cm), Speed::new(0));
         Ok(Flat {
             decel,
             end_cm,
@@ -106,7 +106,7 @@ impl Flat {
             }
         }
         let limit = self.curve.place(&self.map, speed);
-        let end = Place::of_cm(self.end_cm as i32);
+        let end = Place::of_cm_from_0(self.end_cm);
         let eb = held_after(is_emergency(limit, end, front, speed), self.eb, speed);
         self.last_time = Some(time);
         self.eb = eb;

@@ -15,9 +15,7 @@ pub fn foot_speed(t: &Target) -> Speed
     ensures { result ≡ foot_speed_of t.now }
 {
     match t.kind {
-        TargetKind::Mrsp | TargetKind::Loa => {
-            Speed::new(Speed::of_kmh(t.speed).notches() + dv_ebi(t.speed).notches())
-        }
+        TargetKind::Mrsp | TargetKind::Loa => Speed::of_kmh(t.speed).plus(dv_ebi(t.speed)),
         TargetKind::Eoa | TargetKind::Svl => Speed::new(0),
     }
 }

@@ -2,7 +2,6 @@
 //! all, so the list is in the order of places.
 
 ghost use Rattle.std.specs.Prelude.{◌≡◌, All, List, [], ◌∷◌, ◌++◌, ◌<◌, ◌≤◌, pos, None, IfOk, length, vec_capacity};
-ghost use Rattle.sdm_rules.specs.Cells.{border_of};
 ghost use Rattle.sdm_rules.specs.Records.{authority_fault};
 ghost use Rattle.sdm_rules.specs.Targets.{targets_of, end_of, ends_of};
 ghost use Rattle.sdm_speed.specs.Profiles.{mrsp_of, IsProfile};
@@ -67,14 +66,6 @@ impl TargetList {
     }
 }
 
-/// The place of a border on the track, in cm.
-fn place_of(cm: u32) -> Place
-    requires { cm ≤ 10_000_000 }
-    ensures { result ≡ border_of (pos cm) }
-{
-    Place::of_cm(cm as i32)
-}
-
 /// The EOA or the LOA in cm.
 fn end_of(authority: &Authority) -> u32
     ensures { result ≡ end_of authority.now }
@@ -121,18 +112,18 @@ fn push_ends(authority: &Authority, released: bool, into: &mut TargetList)
             }
             into.push(Target {
                 kind: TargetKind::Eoa,
-                place: place_of(eoa),
+                place: Place::of_cm_from_0(eoa),
                 speed: 0,
             });
             into.push(Target {
                 kind: TargetKind::Svl,
-                place: place_of(svl),
+                place: Place::of_cm_from_0(svl),
                 speed: 0,
             });
         }
         Authority::Limit { loa, speed } => into.push(Target {
             kind: TargetKind::Loa,
-            place: place_of(loa),
+            place: Place::of_cm_from_0(loa),
             speed,
         }),
     }

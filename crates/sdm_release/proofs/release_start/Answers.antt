@@ -28,6 +28,6 @@ returns-clause-stands c =
     let sbd = exact (meaning_of a.expected.now) a.sbd.now.place a.sbd.now.speed a.release in
     let ebd = exact (meaning_of a.safe.now) a.ebd.now.place a.ebd.now.speed a.release in
     let emergency_time = a.times.now.traction + a.times.now.berem + a.times.now.bs in
-    let eoa = early_before c.less-before_eoa.result sbd c.way-service.result a.release a.times.now.bs c.way-service.ensures.value (c.less-before_eoa.ensures.stands sbd c.place.ensures.stands) in
-    let svl = early_before c.less-before_svl.result ebd c.way-emergency.result a.release emergency_time c.way-emergency.ensures.value (c.less-before_svl.ensures.stands ebd c.place-2.ensures.stands) in
+    let eoa = early_before c.less-before_eoa.result sbd c.distance_at-service.result a.release a.times.now.bs c.distance_at-service.ensures.value (c.less-before_eoa.ensures.stands sbd c.place.ensures.stands) in
+    let svl = early_before c.less-before_svl.result ebd c.distance_at-emergency.result a.release emergency_time c.distance_at-emergency.ensures.value (c.less-before_svl.ensures.stands ebd c.place-2.ensures.stands) in
     c.earlier.ensures.stands (less sbd (way_in a.release a.times.now.bs)) (less ebd (way_in a.release emergency_time)) eoa svl

@@ -36,10 +36,8 @@ module _ (c : goal.After-is_passed_by) where
   at_is : c.place-limit.result.at ≡ stepped (flat_slopes c.args.self.now.decel) (border_of (pos c.args.self.now.end)) 0 c.args.speed
   at_is = rw (decel_is, end_is, ← same_stepped c.self.inside.decel (border_of (pos c.self.inside.end_cm)) c.args.speed) (rw (c.self.invariant.map_is, c.self.invariant.place_is, c.self.invariant.speed_is) at c.place-limit.ensures.at)
 
-  place_is : c.of_cm-end.result ≡ border_of (pos c.args.self.now.end)
-  place_is =
-      let cast : to_z w32 c.self.inside.end_cm ≡ pos c.self.inside.end_cm = to_z_pos w32 (omega (arith, c.self.invariant.near)) in
-      rw end_is (c.of_cm-end.ensures ∙ ap (λ (z : ℤ). z *ℤ pos centimetre) cast)
+  place_is : c.of_cm_from_0-end.result ≡ border_of (pos c.args.self.now.end)
+  place_is = rw end_is c.of_cm_from_0-end.ensures
 
   passed : c.is_passed_by.result ≡ int_lt c.place-limit.result.at c.args.front
   passed = search (rules, ints)
