@@ -15,7 +15,7 @@ ghost use Rattle.sdm_limits.specs.Ranges.{AreTimes};
 ghost use Rattle.sdm_braking.specs.Lines.{IsLine, IsRefusal};
 
 use sdm_curve::{BandMap, CurveFault};
-use sdm_decel::{expected, normal, safe};
+use sdm_decel::slope_map;
 use sdm_limits::OfTrain;
 use sdm_national::National;
 use sdm_num::Speed;
@@ -74,57 +74,22 @@ fn refusal(kind: SlopeKind, fault: CurveFault) -> OpenFault
     }
 }
 
-/// The map of A_safe, or why the opening is refused. (SUBSET-026-3 3.13.6.2)
-fn safe_map(
+/// The map of a kind, or why the opening is refused; the slopes of the kinds before it are accepted. (SUBSET-026-3 3.13.6)
+fn map_of(
     alloc: Global,
+    kind: SlopeKind,
     train: &Train,
     national: &National,
     track: &Track,
 ) -> Result<BandMap, OpenFault>
-    ensures slopes { IfOk result (λ m. meaning_of m ≡ slopes_of Safe (line_of train.now national.now track.now)) }
-    ensures accepted { IfOk result (λ _. IsAcceptedKind Safe (line_of train.now national.now track.now)) }
+    requires { AreBefore kind (line_of train.now national.now track.now) }
+    ensures slopes { IfOk result (λ m. meaning_of m ≡ slopes_of kind (line_of train.now national.now track.now)) }
+    ensures accepted { IfOk result (λ _. IsAcceptedKind kind (line_of train.now national.now track.now)) }
     ensures refused { IfErr result (λ fault. (a : Authority) → IsRefusal (line_of train.now national.now track.now) a fault) }
 {
-    match safe(alloc, train, national, track) {
+    match slope_map(alloc, kind, train, national, track) {
         Ok(map) => Ok(map),
-        Err(fault) => Err(refusal(SlopeKind::Safe, fault)),
-    }
-}
-
-/// The map of A_expected, or why the opening is refused; the safe slopes are accepted. (SUBSET-026-3 3.13.6.3)
-fn expected_map(
-    alloc: Global,
-    train: &Train,
-    national: &National,
-    track: &Track,
-) -> Result<BandMap, OpenFault>
-    requires { AreBefore Expected (line_of train.now national.now track.now) }
-    ensures slopes { IfOk result (λ m. meaning_of m ≡ slopes_of Expected (line_of train.now national.now track.now)) }
-    ensures accepted { IfOk result (λ _. IsAcceptedKind Expected (line_of train.now national.now track.now)) }
-    ensures refused { IfErr result (λ fault. (a : Authority) → IsRefusal (line_of train.now national.now track.now) a fault) }
-{
-    match expected(alloc, train, national, track) {
-        Ok(map) => Ok(map),
-        Err(fault) => Err(refusal(SlopeKind::Expected, fault)),
-    }
-}
-
-/// The map of A_normal_service, or why the opening is refused; the safe and the expected slopes are accepted.
-/// (SUBSET-026-3 3.13.6.4)
-fn normal_map(
-    alloc: Global,
-    train: &Train,
-    national: &National,
-    track: &Track,
-) -> Result<BandMap, OpenFault>
-    requires { AreBefore Normal (line_of train.now national.now track.now) }
-    ensures slopes { IfOk result (λ m. meaning_of m ≡ slopes_of Normal (line_of train.now national.now track.now)) }
-    ensures accepted { IfOk result (λ _. IsAcceptedKind Normal (line_of train.now national.now track.now)) }
-    ensures refused { IfErr result (λ fault. (a : Authority) → IsRefusal (line_of train.now national.now track.now) a fault) }
-{
-    match normal(alloc, train, national, track) {
-        Ok(map) => Ok(map),
-        Err(fault) => Err(refusal(SlopeKind::Normal, fault)),
+        Err(fault) => Err(refusal(kind, fault)),
     }
 }
 
@@ -163,9 +128,9 @@ impl Line {
         ensures accepted { IfOk result IsLine }
         ensures refused { IfErr result (λ fault. (a : Authority) → IsRefusal (line_of train national track) a fault) }
     {
-        let safe = safe_map(alloc, &train, &national, &track)?;
-        let expected = expected_map(alloc, &train, &national, &track)?;
-        let normal = normal_map(alloc, &train, &national, &track)?;
+        let safe = map_of(alloc, SlopeKind::Safe, &train, &national, &track)?;
+        let expected = map_of(alloc, SlopeKind::Expected, &train, &national, &track)?;
+        let normal = map_of(alloc, SlopeKind::Normal, &train, &national, &track)?;
         let times = times_of(&train, &national, &track);
         // `band_count` and `length_cm` say that the train and the track are within their ranges.
         let _bands = train.band_count();

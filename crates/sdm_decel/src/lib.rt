@@ -7,7 +7,7 @@ mod decelerations;
 mod maps;
 mod under;
 
-pub use maps::{expected, normal, safe};
+pub use maps::{expected, normal, safe, slope_map};
 pub use sdm_curve::{BandMap, CurveFault};
 
 #[cfg(test)]

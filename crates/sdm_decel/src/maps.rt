@@ -102,8 +102,8 @@ fn parts_of(
     })
 }
 
-// The map of a kind.
-fn map_of(
+/// The map of a kind, with segments and faults as those of `safe`. (SUBSET-026-3 3.13.6)
+pub fn slope_map(
     alloc: Global,
     kind: SlopeKind,
     train: &Train,
@@ -144,7 +144,7 @@ pub fn safe(
     ensures accepted { IfOk result (λ _. IsAcceptedKind Safe (line_of train.now national.now track.now)) }
     ensures fault { IfErr result (IsFaultOfKind Safe (line_of train.now national.now track.now)) }
 {
-    map_of(alloc, SlopeKind::Safe, train, national, track)
+    slope_map(alloc, SlopeKind::Safe, train, national, track)
 }
 
 /// The map of A_expected, on which service brake deceleration curves stand (SUBSET-026-3 3.13.6.3, 3.13.8.4), with segments and
@@ -160,7 +160,7 @@ pub fn expected(
     ensures accepted { IfOk result (λ _. IsAcceptedKind Expected (line_of train.now national.now track.now)) }
     ensures fault { IfErr result (IsFaultOfKind Expected (line_of train.now national.now track.now)) }
 {
-    map_of(alloc, SlopeKind::Expected, train, national, track)
+    slope_map(alloc, SlopeKind::Expected, train, national, track)
 }
 
 /// The map of A_normal_service, on which guidance curves stand (SUBSET-026-3 3.13.6.4, 3.13.8.5), with segments and faults as
@@ -176,5 +176,5 @@ pub fn normal(
     ensures accepted { IfOk result (λ _. IsAcceptedKind Normal (line_of train.now national.now track.now)) }
     ensures fault { IfErr result (IsFaultOfKind Normal (line_of train.now national.now track.now)) }
 {
-    map_of(alloc, SlopeKind::Normal, train, national, track)
+    slope_map(alloc, SlopeKind::Normal, train, national, track)
 }

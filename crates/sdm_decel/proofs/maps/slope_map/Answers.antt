@@ -3,7 +3,7 @@ use Rattle.std.proofs.Common.{Ok, Err, Result, IfOk}
 use Rattle.std.proofs.lemmas.Result.{IfOk-weaker, IfErr-weaker}
 use Rattle.sdm_decel.specs.Slopes.{line_of}
 use Rattle.sdm_decel.proofs.Making.{map_data_is, stands_for, stretches_kept, accepts, refuses}
-use Rattle.sdm_decel.proofs.maps.map_of.Goals as goal
+use Rattle.sdm_decel.proofs.maps.slope_map.Goals as goal
 
 IfOk-both : {T E : Type 0} (r : Result T E) (P Q R : T → Type 0) → ((x : T) → P x → Q x → R x) → IfOk r P → IfOk r Q → IfOk r R
 IfOk-both (Ok x) P Q R f p q = f x p q
