@@ -9,11 +9,13 @@ pub mod faults;
 mod knots;
 mod levels;
 pub mod map;
+pub mod map_data;
 
 pub use asked::AskedSpeed;
 pub use curve::Curve;
 pub use faults::CurveFault;
 pub use map::BandMap;
+pub use map_data::is_map_data;
 
 #[cfg(test)]
 mod tests;

@@ -1,64 +1,13 @@
 //! Maps and places worked by hand: the way between two speeds is the difference of their squares by twice the
 //! deceleration, and at q = 100 a slope of 200,000,000,000 is 1 m/s².
 
-ghost use Rattle.std.specs.Prelude.{◌≡◌, ℕ, pos, ◌<◌, ◌≤◌, ◌*◌, ◌↔◌, length, slice_index_or, IsTrue};
-ghost use Rattle.sdm_rules.specs.Slopes.{bands_of, meaning_of};
-ghost use Rattle.sdm_curve.specs.Maps.{AreUppers, AreStarts, IsBounded};
+ghost use Rattle.sdm_rules.specs.Slopes.{meaning_of};
 ghost use Rattle.sdm_curve.specs.Made.{IsMadeFrom};
 
-use crate::{BandMap, Curve, CurveFault};
+use crate::{BandMap, Curve, CurveFault, is_map_data};
 use sdm_num::{Place, Speed};
-use sdm_rules::MOST_BANDS;
 use std::alloc::Global;
 use std::process::Abort;
-
-// ---- what a map asks for
-
-fn are_uppers(uppers: &[Speed]) -> bool
-    ensures { IsTrue result → AreUppers uppers.now }
-{
-    if uppers.len() >= MOST_BANDS {
-        return false;
-    }
-    let mut last = 0;
-    for upper in uppers {
-        if upper.notches() <= last {
-            return false;
-        }
-        last = upper.notches();
-    }
-    true
-}
-
-fn are_starts(starts: &[i32]) -> bool
-    ensures { IsTrue result → AreStarts starts.now }
-{
-    if starts.is_empty() {
-        return false;
-    }
-    if starts[0] != 0 {
-        return false;
-    }
-    let mut last = -1;
-    for start in starts {
-        if *start <= last {
-            return false;
-        }
-        last = *start;
-    }
-    true
-}
-
-fn are_bounded(slopes: &[i64]) -> bool
-    ensures { IsTrue result → (k : ℕ) → k < length slopes.now → IsBounded (slice_index_or slopes.now k (pos 0)) }
-{
-    for slope in slopes {
-        if slope.unsigned_abs() > 1_000_000_000_000_000 {
-            return false;
-        }
-    }
-    true
-}
 
 // ---- maps
 
@@ -70,13 +19,7 @@ fn map_of(
     starts: &[i32],
     slopes: &[i64],
 ) -> Result<BandMap, CurveFault> {
-    assert!(rt; 100 <= q);
-    assert!(rt; q <= 11_730);
-    assert!(rt; are_uppers(uppers));
-    assert!(rt; are_starts(starts));
-    assert!(rt; are_bounded(slopes));
-    assert!(rt; starts.len() <= 1_000_000);
-    assert!(rt; slopes.len() == (uppers.len() + 1) * starts.len());
+    assert!(rt; is_map_data(q, uppers, starts, slopes));
     BandMap::new(alloc, q, uppers, starts, slopes)
 }
 

@@ -1,62 +1,13 @@
 //! Motions worked by hand. At q = 100 a slope of 200,000,000,000 is 1 m/s², a metre is 540,000,000,000 grains and 1 m/s is
 //! 54,000 notches; the way between two speeds is the difference of their squares by twice the deceleration.
 
-ghost use Rattle.std.specs.Prelude.{◌≡◌, ℕ, pos, ◌<◌, length, slice_index_or, IsTrue};
-ghost use Rattle.sdm_curve.specs.Maps.{AreStarts, AreUppers, IsBounded};
-
 use crate::{Phase, Point, Slice, Start, is_motion};
-use sdm_curve::BandMap;
+use sdm_curve::{BandMap, is_map_data};
 use sdm_num::{Place, Speed};
 use std::alloc::Global;
 use std::test::Fail;
 
-// ---- what a map asks for
-
-fn are_uppers(uppers: &[Speed]) -> bool
-    ensures { IsTrue result → AreUppers uppers.now }
-{
-    if uppers.len() >= sdm_rules::MOST_BANDS {
-        return false;
-    }
-    let mut last = 0;
-    for upper in uppers {
-        if upper.notches() <= last {
-            return false;
-        }
-        last = upper.notches();
-    }
-    true
-}
-
-fn are_starts(starts: &[i32]) -> bool
-    ensures { IsTrue result → AreStarts starts.now }
-{
-    if starts.is_empty() {
-        return false;
-    }
-    if starts[0] != 0 {
-        return false;
-    }
-    let mut last = -1;
-    for start in starts {
-        if *start <= last {
-            return false;
-        }
-        last = *start;
-    }
-    true
-}
-
-fn are_bounded(slopes: &[i64]) -> bool
-    ensures { IsTrue result → (k : ℕ) → k < length slopes.now → IsBounded (slice_index_or slopes.now k (pos 0)) }
-{
-    for slope in slopes {
-        if slope.unsigned_abs() > 1_000_000_000_000_000 {
-            return false;
-        }
-    }
-    true
-}
+// ---- maps
 
 fn map_of(
     alloc: Global,
@@ -64,20 +15,8 @@ fn map_of(
     starts: &[i32],
     slopes: &[i64],
 ) -> Result<BandMap, Fail> {
-    if starts.len() > 1_000 {
-        return Err("too many segments")?;
-    }
-    if !are_uppers(uppers) {
-        return Err("upper speeds")?;
-    }
-    if !are_starts(starts) {
-        return Err("first cells")?;
-    }
-    if !are_bounded(slopes) {
-        return Err("slopes")?;
-    }
-    if slopes.len() != (uppers.len() + 1) * starts.len() {
-        return Err("slopes")?;
+    if !is_map_data(100, uppers, starts, slopes) {
+        return Err("no slope map")?;
     }
     match BandMap::new(alloc, 100, uppers, starts, slopes) {
         Ok(map) => Ok(map),
