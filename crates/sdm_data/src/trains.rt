@@ -12,22 +12,10 @@ ghost use Rattle.sdm_data.specs.Given.{given_train, with_first_bands};
 use crate::lists::{Entry, entries};
 use crate::section_tables::SectionTable;
 use crate::versions::Version;
-use sdm_rules::{Band, DataFault, MOST_BANDS, Section, TrainFields};
+use sdm_rules::{BASE_BAND, Band, DataFault, MOST_BANDS, Section, TrainFields};
 use sdm_train::Train;
 use std::alloc::Global;
 use toml::Table;
-
-// A band that is no part of the train.
-const NO_BAND: Band = Band {
-    upper: None,
-    emergency: 0,
-    service: 0,
-    normal: 0,
-    kdry: 0,
-    kwet: 0,
-    kn_up: 0,
-    kn_down: 0,
-};
 
 /// A train as it is given: its own keys, in fields that have no bands, and all of its bands, which may be more than a train
 /// may have. (own)
@@ -74,7 +62,7 @@ pub fn train_in(alloc: Global, version: Version, table: &Table) -> Result<GivenT
         emergency_time: train.integer(6)?,
         service_time: train.integer(7)?,
         service_brake: train.flag(8)?,
-        bands: [NO_BAND; MOST_BANDS],
+        bands: [BASE_BAND; MOST_BANDS],
         band_count: 0,
     };
     let bands = entries(alloc, version, train.tables(9)?)?;
@@ -110,7 +98,7 @@ impl GivenTrain {
 fn first_bands(bands: &[Band]) -> [Band; MOST_BANDS]
     ensures { take (min (length bands.now) most_bands) result ≡ take most_bands bands.now }
 {
-    let mut first = [NO_BAND; MOST_BANDS];
+    let mut first = [BASE_BAND; MOST_BANDS];
     let held = bands.len().min(MOST_BANDS);
     first[..held].copy_from_slice(&bands[..held]);
     first

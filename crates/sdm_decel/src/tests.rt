@@ -3,22 +3,11 @@
 
 use crate::{BandMap, CurveFault, expected, normal, safe};
 use sdm_national::{National, NationalFields};
-use sdm_rules::MOST_BANDS;
+use sdm_rules::{BASE_NATIONAL, BASE_TRAIN};
 use sdm_track::{Area, Gradient, SpeedStep, Track};
 use sdm_train::{Band, Train, TrainFields};
 use std::alloc::{AllocError, Global};
 use std::test::Fail;
-
-const BAND: Band = Band {
-    upper: None,
-    emergency: 100,
-    service: 100,
-    normal: 100,
-    kdry: 1000,
-    kwet: 1000,
-    kn_up: 0,
-    kn_down: 0,
-};
 
 // The data of a case: a train of 100 m that brakes with 1 m/s², on a level track of 2 km, but for what a row changes.
 #[derive(Drop)]
@@ -31,26 +20,8 @@ struct Case {
 
 fn base(alloc: Global) -> Case {
     Case {
-        train: TrainFields {
-            length: 10_000,
-            max_speed: 160,
-            rotating_mass: Some(0),
-            traction_cutoff_time: 0,
-            traction_cutoff_interface: false,
-            emergency_time: 0,
-            service_time: 0,
-            service_brake: true,
-            bands: [BAND; MOST_BANDS],
-            band_count: 1,
-        },
-        national: NationalFields {
-            avadh: 20,
-            adhesion_max: 70,
-            guidance: false,
-            service_in_target: true,
-            early_release: false,
-            inhibit_under_reading: false,
-        },
+        train: BASE_TRAIN,
+        national: BASE_NATIONAL,
         gradients: Vec::new(alloc),
         areas: Vec::new(alloc),
     }

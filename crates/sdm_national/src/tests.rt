@@ -2,21 +2,13 @@
 //! the definitions are tested too.
 
 use crate::{National, NationalFault, NationalFields};
-
-const FIELDS: NationalFields = NationalFields {
-    avadh: 20,
-    adhesion_max: 70,
-    guidance: false,
-    service_in_target: true,
-    early_release: false,
-    inhibit_under_reading: false,
-};
+use sdm_rules::BASE_NATIONAL;
 
 fn key_refused(avadh: i64, adhesion_max: i64) -> Option<u8> {
     match National::new(NationalFields {
         avadh,
         adhesion_max,
-        ..FIELDS
+        ..BASE_NATIONAL
     }) {
         Ok(_) => None,
         Err(NationalFault::Value { key }) => Some(key),
@@ -34,7 +26,7 @@ fn each_reader_answers_its_own_field(rt: HostRuntime) {
             guidance,
             early_release,
             inhibit_under_reading,
-            ..FIELDS
+            ..BASE_NATIONAL
         }) else {
             assert!(rt; false);
             return;

@@ -1,9 +1,11 @@
 //! The profile of SUBSET-026-3 section 3.13 and appendix A.3 that this program keeps: every definition that a contract
-//! cites, in `specs/`, and the plain types that they speak of. There is no code here. `docs/ASSUMPTIONS.md` lists what an
-//! assessor must believe: these definitions, and those of how an input is read, which stand in the crates that read it.
+//! cites, in `specs/`, and the plain types that they speak of. There is no code here but the greatest numbers, one test of a
+//! range, and the base of made data. `docs/ASSUMPTIONS.md` lists what an assessor must believe: these definitions, and those
+//! of how an input is read, which stand in the crates that read it.
 #![tactic(auto)]
 
 pub mod authorities;
+pub mod base;
 pub mod commands;
 pub mod data;
 pub mod faults;
@@ -15,6 +17,7 @@ pub mod rows;
 pub mod targets;
 
 pub use authorities::Authority;
+pub use base::{BASE_BAND, BASE_NATIONAL, BASE_TRAIN};
 pub use commands::{Held, State, Status, Triggers};
 pub use data::{
     Area, Band, Gradient, MOST_BANDS, NationalFields, SlopeKind, SpeedStep, Times, TrainFields,

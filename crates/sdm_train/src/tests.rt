@@ -2,43 +2,16 @@
 //! rows worked by hand, so that the definitions are tested too.
 
 use crate::{Band, Train, TrainFields};
-use sdm_rules::MOST_BANDS;
+use sdm_rules::{BASE_BAND, BASE_TRAIN, MOST_BANDS};
 use std::alloc::{AllocError, Global};
 use std::test::Fail;
-
-const BAND: Band = Band {
-    upper: None,
-    emergency: 100,
-    service: 100,
-    normal: 100,
-    kdry: 1000,
-    kwet: 1000,
-    kn_up: 0,
-    kn_down: 0,
-};
-
-// A train of one band that brakes with 1 m/s², whatever the kind of brake.
-fn one_band() -> TrainFields {
-    TrainFields {
-        length: 10_000,
-        max_speed: 160,
-        rotating_mass: Some(0),
-        traction_cutoff_time: 0,
-        traction_cutoff_interface: false,
-        emergency_time: 0,
-        service_time: 0,
-        service_brake: true,
-        bands: [BAND; MOST_BANDS],
-        band_count: 1,
-    }
-}
 
 #[test]
 fn each_reader_answers_its_own_field(rt: HostRuntime) {
     let low = Band {
         upper: Some(100),
         emergency: 120,
-        ..BAND
+        ..BASE_BAND
     };
     let mut fields = TrainFields {
         length: 20_000,
@@ -49,10 +22,10 @@ fn each_reader_answers_its_own_field(rt: HostRuntime) {
         service_time: 40,
         service_brake: false,
         band_count: 2,
-        ..one_band()
+        ..BASE_TRAIN
     };
     fields.bands[0] = low;
-    let (Ok(one), Ok(two)) = (Train::new(one_band()), Train::new(fields)) else {
+    let (Ok(one), Ok(two)) = (Train::new(BASE_TRAIN), Train::new(fields)) else {
         assert!(rt; false);
         return;
     };
@@ -66,10 +39,10 @@ fn each_reader_answers_its_own_field(rt: HostRuntime) {
     assert_eq!(rt; two.service_time(), 40);
     assert!(rt; one.service_brake() && !two.service_brake());
     assert_eq!(rt; one.band_count(), 1);
-    assert_eq!(rt; *one.band(0), BAND);
+    assert_eq!(rt; *one.band(0), BASE_BAND);
     assert_eq!(rt; two.band_count(), 2);
     assert_eq!(rt; *two.band(0), low);
-    assert_eq!(rt; *two.band(1), BAND);
+    assert_eq!(rt; *two.band(1), BASE_BAND);
 }
 
 // Sets a number by its key in the data; the keys of a band are those of the first one.
@@ -120,7 +93,7 @@ fn set_uppers(fields: &mut TrainFields, uppers: &str) -> Result<(), &'static str
 // The fields of a row: the upper speeds, a semicolon, and each number that differs, after its key.
 fn fields_of(row: &str) -> Result<TrainFields, &'static str> {
     let (uppers, numbers) = row.split_once(';').ok_or("no semicolon")?;
-    let mut fields = one_band();
+    let mut fields = BASE_TRAIN;
     set_uppers(&mut fields, uppers)?;
     set_numbers(&mut fields, numbers)?;
     Ok(fields)

@@ -10,7 +10,10 @@ ghost use Rattle.sdm_data.specs.Given.{line_of};
 use sdm_data::JourneyData;
 use sdm_national::National;
 use sdm_num::NoMemory;
-use sdm_rules::{Authority, Band, Gradient, MOST_BANDS, NationalFields, SpeedStep, TrainFields};
+use sdm_rules::{
+    Authority, BASE_BAND, BASE_NATIONAL, Band, Gradient, MOST_BANDS, NationalFields, SpeedStep,
+    TrainFields,
+};
 use sdm_track::Track;
 use sdm_train::Train;
 use std::alloc::Global;
@@ -21,31 +24,21 @@ const LOW_BAND: Band = Band {
     emergency: 120,
     service: 90,
     normal: 60,
-    kdry: 850,
-    kwet: 950,
-    kn_up: 0,
-    kn_down: 0,
+    ..HIGH_BAND
 };
 
 /// From 100 km/h on.
 const HIGH_BAND: Band = Band {
-    upper: None,
-    emergency: 100,
     service: 80,
     normal: 50,
     kdry: 850,
     kwet: 950,
-    kn_up: 0,
-    kn_down: 0,
+    ..BASE_BAND
 };
 
 const NATIONAL: NationalFields = NationalFields {
     avadh: 0,
-    adhesion_max: 70,
-    guidance: false,
-    service_in_target: true,
-    early_release: false,
-    inhibit_under_reading: false,
+    ..BASE_NATIONAL
 };
 
 const AUTHORITY: Authority = Authority::Stop {

@@ -3,45 +3,12 @@
 ghost use Rattle.std.specs.Prelude.{◌<◌, IfOk};
 
 use sdm_national::NationalFields;
-use sdm_rules::MOST_BANDS;
+use sdm_rules::{BASE_NATIONAL, BASE_TRAIN};
 use sdm_targets::Authority;
 use sdm_track::{Area, Gradient, SpeedStep};
 use sdm_train::{Band, TrainFields};
 use std::alloc::Global;
 use std::test::Fail;
-
-const BAND: Band = Band {
-    upper: None,
-    emergency: 100,
-    service: 100,
-    normal: 100,
-    kdry: 1000,
-    kwet: 1000,
-    kn_up: 0,
-    kn_down: 0,
-};
-
-const TRAIN: TrainFields = TrainFields {
-    length: 10_000,
-    max_speed: 160,
-    rotating_mass: Some(0),
-    traction_cutoff_time: 0,
-    traction_cutoff_interface: false,
-    emergency_time: 0,
-    service_time: 0,
-    service_brake: true,
-    bands: [BAND; MOST_BANDS],
-    band_count: 1,
-};
-
-const NATIONAL: NationalFields = NationalFields {
-    avadh: 20,
-    adhesion_max: 70,
-    guidance: false,
-    service_in_target: true,
-    early_release: false,
-    inhibit_under_reading: false,
-};
 
 /// The data of a journey before any range is tested.
 #[derive(Drop)]
@@ -58,8 +25,8 @@ pub struct Data {
 /// A train of 100 m that brakes with 1 m/s² at once, at 160 km/h on a level track of 2 km, with its EOA and SvL at 1000 m.
 pub fn base(alloc: Global) -> Data {
     Data {
-        train: TRAIN,
-        national: NATIONAL,
+        train: BASE_TRAIN,
+        national: BASE_NATIONAL,
         track_cm: 200_000,
         gradients: Vec::new(alloc),
         speeds: Vec::new(alloc),
