@@ -13,6 +13,9 @@ pub const MILLIMETRE: i64 = 540_000_000;
 /// 5,400,000,000 grains: a centimetre, the length of a cell.
 pub const CELL: i64 = 5_400_000_000;
 
+// All places lie past this many centimetres before the origin.
+const FAR_CM: i32 = 800_000_000;
+
 /// A place in grains, of which 540,000,000 make a millimetre; within 4·10¹⁸ of the origin. (own)
 #[derive(Clone, Copy, Debug, PartialEq, Eq, PartialOrd, Ord)]
 pub struct Place {
@@ -104,18 +107,25 @@ impl Place {
         later.grains.abs_diff(self.grains)
     }
 
+    // The grains from 8000 km before the origin on, where no place is negative: so a place is divided without a sign, by a product.
+    fn from_far(self) -> u64
+        ensures { pos result ≡ self +ℤ pos 4_320_000_000_000_000_000 }
+    {
+        (self.grains + i64::from(FAR_CM) * CELL) as u64
+    }
+
     /// The cell that holds the place: cell `c` begins at `c` cm. (own)
     pub fn cell(self) -> i32
         ensures { result ≡ int_div_euclid self (pos centimetre) }
     {
-        self.grains.div_euclid(CELL) as i32
+        (self.from_far() / CELL as u64) as i32 - FAR_CM
     }
 
     /// The place in millimetres, rounded down.
     pub fn mm_below(self) -> i64
         ensures { result ≡ mm_below self }
     {
-        self.grains.div_euclid(MILLIMETRE)
+        (self.from_far() / MILLIMETRE as u64) as i64 - 10 * i64::from(FAR_CM)
     }
 
     /// The place in millimetres, rounded up.
