@@ -18,6 +18,8 @@ pub mod Braking
 pub mod SliceBounds
 pub mod Reaction
 mod MotionCases
+mod MachineCases
+mod StopCases
 pub mod Segments
 pub mod TriggerOrder
 pub mod Nearness
