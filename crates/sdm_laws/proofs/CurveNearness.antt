@@ -2,29 +2,25 @@
 -- millimetre. What is within a curve stays so on a finer scale.
 use Rattle.std.proofs.Common.{◌≡◌, ℕ, ℤ, pos, ◌*◌, ◌<◌, ◌+ℤ◌, ◌*ℤ◌, ◌≤ℤ◌, arith, subst}
 use Rattle.std.proofs.lemmas.Int.{ints}
-use Rattle.sdm_num.specs.Units.{millimetre}
 use Rattle.sdm_num.specs.Fractions.{IsAtMost, IsSame, whole, times}
 use Rattle.sdm_num.proofs.Ints.{scales, scale-≤, scale-≤_cancel}
 use Rattle.sdm_num.proofs.Order.{at_most_out, at_most_in}
 use Rattle.sdm_rules.specs.Slopes.{Slopes, IsUsable}
-use Rattle.sdm_rules.specs.Curves.{exact_at, exact, stepped, most_slack}
+use Rattle.sdm_rules.specs.Curves.{exact_at, most_slack}
 use Rattle.sdm_rules.specs.Limits.{computed, exact_places}
 use Rattle.sdm_laws.proofs.Slack.{rounding}
 use Rattle.sdm_laws.proofs.CurveOrder.{exact_positive}
 use Rattle.sdm_laws.proofs.CurveScales.{exact_scaled}
-use Rattle.sdm_laws.proofs.Nearness.{IsJustBefore}
+use Rattle.sdm_laws.specs.SupervisionLaws.{IsJustBefore}
 
 pub near_on : (on : Slopes) → IsUsable on → (f : ℤ) (w v : ℕ) → IsJustBefore (computed on f w v) (exact_places on f w v)
 near_on on usable f w v =
     let e = (rounding on f w v usable).early_at_most in
-    let x = exact on f w v in
-    let low = stepped on f w v in
-    let more = scale-≤ x.m (low +ℤ pos most_slack) (low +ℤ pos (millimetre * 1)) (omega (arith, ints)) in
     record {
       low_positive = omega arith;
       positive = e.positive;
       not_past = e.not_past;
-      near = record { crossed = omega (arith, ints, e.near.crossed, more) };
+      near = record { crossed = omega (arith, ints, e.near.crossed) };
     }
 
 -- a multiple of a place before `y` is before the same place on a finer scale

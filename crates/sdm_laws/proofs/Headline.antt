@@ -1,6 +1,6 @@
 -- The headline: an accepted state has usable slopes, from which the order of the machines and the stop follow; no record
 -- changes the data, so a state stays accepted, and the headline goes on from record to record.
-use Rattle.std.proofs.Common.{List, [], ◌∷◌}
+use Rattle.std.proofs.Common.{List, [], ◌∷◌, arith}
 use Rattle.std.specs.Prelude.{IfOk}
 use Rattle.sdm_rules.specs.declared.records.Event.{Event}
 use Rattle.sdm_rules.specs.declared.records.Event.TheVariants as record_kinds
@@ -9,12 +9,12 @@ use Rattle.sdm_rules.specs.Supervision.{Supervision, after_reading}
 use Rattle.sdm_rules.specs.Records.{step}
 use Rattle.sdm_rules.specs.Opening.{IsOpen}
 use Rattle.sdm_rules.specs.Headline.{IsSafeAt, AreSafe}
-use Rattle.sdm_laws.specs.SupervisionLaws.{IsKeptOpen, LawOfNearness, LawOfMachines, LawOfStop, LawOfReleaseStart, LawOfSupervision, LawOfJourneys}
+use Rattle.sdm_laws.specs.SupervisionLaws.{IsKeptOpen, LawOfLimits, LawOfNearness, LawOfMachines, LawOfStop, LawOfReleaseStart, LawOfSupervision, LawOfJourneys}
 use Rattle.sdm_laws.proofs.AcceptedSlopes.{accepted_usable}
 use Rattle.sdm_laws.proofs.Slack.{rounding}
-use Rattle.sdm_laws.proofs.MachineOrder.{AreUsable, keeps_order}
+use Rattle.sdm_laws.proofs.MachineOrder.{AreUsable, keeps_order, limits_near}
 use Rattle.sdm_laws.proofs.JourneyOrder.{if_unless, if_ok, stays_in_order}
-use Rattle.sdm_laws.proofs.ReleaseStart.{released_at}
+use Rattle.sdm_laws.proofs.ReleaseStart.{released_at, start_near}
 use Rattle.sdm_laws.proofs.Stops.{covered_is_safe}
 
 open_usable : (s : Supervision) → IsOpen s → AreUsable s.line
@@ -22,6 +22,11 @@ open_usable s o = λ kind. accepted_usable kind s.line o.bands (o.usable kind)
 
 pub nearness : LawOfNearness
 nearness kind d bands accepted f w v = (rounding (slopes_of kind d) f w v (accepted_usable kind d bands accepted)).early_at_most
+
+pub limits : LawOfLimits
+limits s r o =
+    let usable = open_usable s o in
+    record { limits = λ t. limits_near s.line usable r t; release_start = start_near s.line usable; fine = omega arith }
 
 pub machines : LawOfMachines
 machines s r o = keeps_order s r (open_usable s o)

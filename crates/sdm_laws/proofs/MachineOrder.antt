@@ -22,33 +22,21 @@ use Rattle.sdm_rules.specs.Commands.{commands_after}
 use Rattle.sdm_rules.specs.Supervision.{Supervision, situation_of, commands_in}
 use Rattle.sdm_rules.specs.Machines.{KeepsOrder, held_after, machine_after}
 use Rattle.sdm_laws.proofs.TriggerOrder.{AreSooner, IsSoonerIfAny, triggers_imply, emergency_implies}
-use Rattle.sdm_laws.proofs.Nearness.{IsJustBefore, less_near, lesser_near, exact_sooner, low_sooner}
+use Rattle.sdm_laws.specs.SupervisionLaws.{IsJustBefore, AreJustBeforeIfAny, AreLimitsJustBefore}
+use Rattle.sdm_laws.proofs.Nearness.{less_near, lesser_near, exact_sooner, low_sooner}
 use Rattle.sdm_laws.proofs.CurveNearness.{near_on}
 
 -- the slopes of each kind are usable
 abbrev pub AreUsable : LineData → Type 0
 AreUsable d = (kind : SlopeKind) → IsUsable (slopes_of kind d)
 
--- both places or neither, the first just before the second
-abbrev NearIfAny : Option Fraction → Option Fraction → Type 0
-NearIfAny None None = Unit {0}
-NearIfAny None (Some y) = ⊥
-NearIfAny (Some x) None = ⊥
-NearIfAny (Some x) (Some y) = IsJustBefore x y
-
--- each limit lies just before the other's
-record AreJustBefore (x y : SupervisionLimits) : Type 0 where
-  ebi : NearIfAny x.ebi y.ebi
-  sbi : IsJustBefore x.sbi y.sbi
-  warning : IsJustBefore x.warning y.warning
-  permitted : IsJustBefore x.permitted y.permitted
-
-before_near : (times : Times) (v : ℕ) (guide guide' ebi ebi' : Option Fraction) (sbi sbi' : Fraction) → NearIfAny guide guide' → NearIfAny ebi ebi' → IsJustBefore sbi sbi' → AreJustBefore (limits_before times v guide ebi sbi) (limits_before times v guide' ebi' sbi')
+before_near : (times : Times) (v : ℕ) (guide guide' ebi ebi' : Option Fraction) (sbi sbi' : Fraction) → AreJustBeforeIfAny guide guide' → AreJustBeforeIfAny ebi ebi' → IsJustBefore sbi sbi' → AreLimitsJustBefore (limits_before times v guide ebi sbi) (limits_before times v guide' ebi' sbi')
 before_near times v None None ebi ebi' sbi sbi' g e h = record {
   ebi = e;
   sbi = h;
   warning = less_near sbi sbi' _ h;
   permitted = less_near sbi sbi' _ h;
+  indication = less_near _ _ _ (less_near sbi sbi' _ h);
 }
 before_near times v None (Some y) ebi ebi' sbi sbi' g e h = absurd g
 before_near times v (Some x) None ebi ebi' sbi sbi' g e h = absurd g
@@ -57,53 +45,54 @@ before_near times v (Some x) (Some y) ebi ebi' sbi sbi' g e h = record {
   sbi = h;
   warning = less_near sbi sbi' _ h;
   permitted = lesser_near x y _ _ g (less_near sbi sbi' _ h);
+  indication = less_near _ _ _ (lesser_near x y _ _ g (less_near sbi sbi' _ h));
 }
 
-guide_near : (d : LineData) → AreUsable d → (r : OdometerReading) (t : Target) → NearIfAny (guidance_place computed d r t) (guidance_place exact_places d r t)
+guide_near : (d : LineData) → AreUsable d → (r : OdometerReading) (t : Target) → AreJustBeforeIfAny (guidance_place computed d r t) (guidance_place exact_places d r t)
 guide_near d h r t =
-    elim d.national.guidance as (λ b. NearIfAny (if b then Some (computed (slopes_of Normal d) t.place (target_speed t) r.speed) else None) (if b then Some (exact_places (slopes_of Normal d) t.place (target_speed t) r.speed) else None)) [
+    elim d.national.guidance as (λ b. AreJustBeforeIfAny (if b then Some (computed (slopes_of Normal d) t.place (target_speed t) r.speed) else None) (if b then Some (exact_places (slopes_of Normal d) t.place (target_speed t) r.speed) else None)) [
       | true ↦ near_on (slopes_of Normal d) (h Normal) t.place (target_speed t) r.speed
       | false ↦ tt
     ]
 
-ebd_near : (d : LineData) → AreUsable d → (r : OdometerReading) (t : Target) (g g' : Option Fraction) → NearIfAny g g' → AreJustBefore (ebd_limits_of computed d r t g) (ebd_limits_of exact_places d r t g')
+ebd_near : (d : LineData) → AreUsable d → (r : OdometerReading) (t : Target) (g g' : Option Fraction) → AreJustBeforeIfAny g g' → AreLimitsJustBefore (ebd_limits_of computed d r t g) (ebd_limits_of exact_places d r t g')
 ebd_near d h r t g g' n =
     let x = near_on (slopes_of Safe d) (h Safe) t.place (foot_speed_of t) (v_bec_for d r t) in
     let e = less_near _ _ (d_bec_for d r t) x in
     before_near (line_times d) r.speed g g' _ _ _ _ n e (less_near _ _ (way_in r.speed (line_times d).bs) e)
 
-sbd_near : (d : LineData) → AreUsable d → (r : OdometerReading) (t : Target) (g g' : Option Fraction) → NearIfAny g g' → AreJustBefore (sbd_limits_of computed d r t g) (sbd_limits_of exact_places d r t g')
+sbd_near : (d : LineData) → AreUsable d → (r : OdometerReading) (t : Target) (g g' : Option Fraction) → AreJustBeforeIfAny g g' → AreLimitsJustBefore (sbd_limits_of computed d r t g) (sbd_limits_of exact_places d r t g')
 sbd_near d h r t g g' n =
     before_near (line_times d) r.speed g g' None None _ _ n tt (less_near _ _ (way_in r.speed (line_times d).bs) (near_on (slopes_of Expected d) (h Expected) t.place 0 r.speed))
 
-kind_near : (d : LineData) → AreUsable d → (r : OdometerReading) (t : Target) (k : TargetKind) → AreJustBefore (limits_of_kind computed d r t k) (limits_of_kind exact_places d r t k)
+kind_near : (d : LineData) → AreUsable d → (r : OdometerReading) (t : Target) (k : TargetKind) → AreLimitsJustBefore (limits_of_kind computed d r t k) (limits_of_kind exact_places d r t k)
 kind_near d h r t Mrsp = ebd_near d h r t _ _ (guide_near d h r t)
 kind_near d h r t Loa = ebd_near d h r t _ _ (guide_near d h r t)
 kind_near d h r t Eoa = sbd_near d h r t _ _ (guide_near d h r t)
 kind_near d h r t Svl = ebd_near d h r t None None tt
 
-limits_near : (d : LineData) → AreUsable d → (r : OdometerReading) (t : Target) → AreJustBefore (limits_of computed d r t) (limits_of exact_places d r t)
+pub limits_near : (d : LineData) → AreUsable d → (r : OdometerReading) (t : Target) → AreLimitsJustBefore (limits_of computed d r t) (limits_of exact_places d r t)
 unfolding limits_of
 limits_near d h r t = kind_near d h r t t.kind
 
 -- ---- from near to sooner
 
-if_exact_sooner : (x y : Option Fraction) → NearIfAny x y → IsSoonerIfAny 0 y 0 x
+if_exact_sooner : (x y : Option Fraction) → AreJustBeforeIfAny x y → IsSoonerIfAny 0 y 0 x
 if_exact_sooner None None h = tt
 if_exact_sooner None (Some y) h = absurd h
 if_exact_sooner (Some x) None h = absurd h
 if_exact_sooner (Some x) (Some y) h = exact_sooner x y h
 
-if_low_sooner : (x y : Option Fraction) → NearIfAny x y → IsSoonerIfAny 0 x millimetre y
+if_low_sooner : (x y : Option Fraction) → AreJustBeforeIfAny x y → IsSoonerIfAny 0 x millimetre y
 if_low_sooner None None h = tt
 if_low_sooner None (Some y) h = absurd h
 if_low_sooner (Some x) None h = absurd h
 if_low_sooner (Some x) (Some y) h = low_sooner x y h
 
-all_exact_sooner : (x y : SupervisionLimits) → AreJustBefore x y → AreSooner 0 y 0 x
+all_exact_sooner : (x y : SupervisionLimits) → AreLimitsJustBefore x y → AreSooner 0 y 0 x
 all_exact_sooner x y h = record { ebi = if_exact_sooner _ _ h.ebi; sbi = exact_sooner _ _ h.sbi; warning = exact_sooner _ _ h.warning; permitted = exact_sooner _ _ h.permitted }
 
-all_low_sooner : (x y : SupervisionLimits) → AreJustBefore x y → AreSooner 0 x millimetre y
+all_low_sooner : (x y : SupervisionLimits) → AreLimitsJustBefore x y → AreSooner 0 x millimetre y
 all_low_sooner x y h = record { ebi = if_low_sooner _ _ h.ebi; sbi = low_sooner _ _ h.sbi; warning = low_sooner _ _ h.warning; permitted = low_sooner _ _ h.permitted }
 
 each_of : (P : Target → Type 0) → ((t : Target) → P t) → (ts : List Target) → AllByRecursion P ts

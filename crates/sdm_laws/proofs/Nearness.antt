@@ -1,4 +1,4 @@
--- When a computed place lies just before an exact one: at most a millimetre before it and never past it. A front end is then
+-- When a computed place lies just before an exact one: less than a millimetre before it and never past it. A front end is then
 -- past the exact place only where it is past the computed one, and past the computed one only where it is past the exact
 -- place less a millimetre. The operations of limits keep it.
 use Rattle.std.proofs.Common.{◌≡◌, ℕ, ℤ, pos, ◌<◌, ◌*◌, ◌+ℤ◌, ◌*ℤ◌, ◌≤ℤ◌, ◌<ℤ◌, arith}
@@ -6,17 +6,12 @@ use Rattle.std.proofs.lemmas.Int.{ints}
 use Rattle.sdm_num.specs.Units.{millimetre}
 use Rattle.sdm_num.specs.Fractions.{Fraction, IsAtMost, less, lesser, more}
 use Rattle.sdm_num.proofs.Comparisons.{lt_is, lt_of}
-use Rattle.sdm_num.proofs.Ints.{scales, scale-+ℤ, scale-swap}
+use Rattle.sdm_num.proofs.Ints.{scales, scale-+ℤ, scale-≤, scale-swap}
 use Rattle.sdm_num.proofs.Floors.{scale-<_cancel}
 use Rattle.sdm_num.proofs.Order.{scale-<, at_most_refl, at_most_trans, lesser_cases}
+use Rattle.sdm_rules.specs.Curves.{most_slack}
+use Rattle.sdm_laws.specs.SupervisionLaws.{IsJustBefore}
 use Rattle.sdm_laws.proofs.TriggerOrder.{IsSooner}
-
--- `low` is at most `x`, and at most a millimetre before it
-pub record IsJustBefore (low x : Fraction) : Type 0 where
-  pub low_positive : 0 < low.m
-  pub positive : 0 < x.m
-  pub not_past : IsAtMost low x
-  pub near : IsAtMost x (more low millimetre)
 
 -- ---- tests of fractions
 
@@ -50,7 +45,9 @@ low_sooner low x h = record {
   passed = λ front e.
       let lt = lt_of low.n (pos low.m *ℤ (front +ℤ pos 0)) e in
       let lt' : low.n <ℤ (pos low.m *ℤ front) = rw (← plus_0 front) lt in
-      lt_is x.n (pos x.m *ℤ (front +ℤ pos millimetre)) (below_more low.m x.m millimetre low.n x.n front h.positive h.near.crossed lt');
+      let below = below_more low.m x.m most_slack low.n x.n front h.positive h.near.crossed lt' in
+      let more = scale-≤ x.m (front +ℤ pos most_slack) (front +ℤ pos millimetre) (omega (arith, ints)) in
+      lt_is x.n (pos x.m *ℤ (front +ℤ pos millimetre)) (omega (arith, ints));
 }
 
 -- ---- the same under the operations of limits
@@ -77,7 +74,7 @@ lesser_near low x low' x' h h' = record {
   not_past = lesser_cases (λ z. IsAtMost (lesser low low') z) x x'
       (λ _. at_most_trans (lesser low low') low x h.low_positive (lesser_left low low') h.not_past)
       (λ _. at_most_trans (lesser low low') low' x' h'.low_positive (lesser_right low low') h'.not_past);
-  near = lesser_cases (λ z. IsAtMost (lesser x x') (more z millimetre)) low low'
-      (λ _. at_most_trans (lesser x x') x (more low millimetre) h.positive (lesser_left x x') h.near)
-      (λ _. at_most_trans (lesser x x') x' (more low' millimetre) h'.positive (lesser_right x x') h'.near);
+  near = lesser_cases (λ z. IsAtMost (lesser x x') (more z most_slack)) low low'
+      (λ _. at_most_trans (lesser x x') x (more low most_slack) h.positive (lesser_left x x') h.near)
+      (λ _. at_most_trans (lesser x x') x' (more low' most_slack) h'.positive (lesser_right x x') h'.near);
 }

@@ -15,7 +15,8 @@ use Rattle.sdm_rules.specs.Limits.{computed, exact_places, release_start, limits
 use Rattle.sdm_rules.specs.Triggers.{is_past, is_indicated}
 use Rattle.sdm_rules.specs.Supervision.{Supervision, situation_of, release_of, row_in, state_in}
 use Rattle.sdm_rules.specs.Machines.{IsReleasedAt}
-use Rattle.sdm_laws.proofs.Nearness.{IsJustBefore, less_near, lesser_near, exact_sooner, low_sooner}
+use Rattle.sdm_laws.specs.SupervisionLaws.{IsJustBefore}
+use Rattle.sdm_laws.proofs.Nearness.{less_near, lesser_near, exact_sooner, low_sooner}
 use Rattle.sdm_laws.proofs.CurveNearness.{near_on}
 use Rattle.sdm_laws.proofs.MachineOrder.{AreUsable}
 

@@ -1,5 +1,7 @@
 -- The laws of supervision, as statements over an accepted supervision state alone (own).
-use Rattle.std.specs.Prelude.{◌≡◌, ℕ, ℤ, Bool, false, IsTrue, IfOk, List}
+use Rattle.std.specs.Prelude.{◌≡◌, ◌<◌, ℕ, ℤ, Bool, false, IsTrue, IfOk, List, Option, Some, None, ⊤}
+use Rattle.sdm_num.specs.Units.{millimetre}
+use Rattle.sdm_num.specs.Fractions.{Fraction, IsAtMost, more}
 use Rattle.sdm_num.specs.Bounds.{IsEarlyFor}
 use Rattle.sdm_num.specs.Readings.{OdometerReading}
 use Rattle.sdm_rules.specs.declared.authorities.Authority.{Authority}
@@ -9,6 +11,8 @@ use Rattle.sdm_rules.specs.Slopes.{IsUsable}
 use Rattle.sdm_rules.specs.Curves.{exact, stepped, most_slack}
 use Rattle.sdm_rules.specs.Data.{LineData, HasBands}
 use Rattle.sdm_rules.specs.Decelerations.{slopes_of}
+use Rattle.sdm_rules.specs.declared.targets.Target.{Target}
+use Rattle.sdm_rules.specs.Limits.{SupervisionLimits, computed, exact_places, limits_of, release_start}
 use Rattle.sdm_rules.specs.Supervision.{Supervision, opening, row_of}
 use Rattle.sdm_rules.specs.Machines.{KeepsOrder, InOrder, held_after}
 use Rattle.sdm_rules.specs.Records.{step}
@@ -30,6 +34,39 @@ pub record IsKeptOpen : Type 0 where
 abbrev pub LawOfNearness : Type 0
 LawOfNearness = (kind : SlopeKind) (d : LineData) → HasBands d.train.bands → IsAcceptedKind kind d →
     (f : ℤ) (w v : ℕ) → IsEarlyFor (record { at = stepped (slopes_of kind d) f w v; slack = most_slack }) (exact (slopes_of kind d) f w v)
+
+-- `low` is at most `x`, and at most `most_slack` grains before it
+pub record IsJustBefore (low x : Fraction) : Type 0 where
+  pub low_positive : 0 < low.m
+  pub positive : 0 < x.m
+  pub not_past : IsAtMost low x
+  pub near : IsAtMost x (more low most_slack)
+
+-- both places or neither, the first just before the second
+abbrev pub AreJustBeforeIfAny : Option Fraction → Option Fraction → Type 0
+AreJustBeforeIfAny None None = ⊤
+AreJustBeforeIfAny None (Some x) = ⊥
+AreJustBeforeIfAny (Some low) None = ⊥
+AreJustBeforeIfAny (Some low) (Some x) = IsJustBefore low x
+
+-- each limit lies just before the other's (SUBSET-026-3 3.13.9.3)
+pub record AreLimitsJustBefore (low x : SupervisionLimits) : Type 0 where
+  pub ebi : AreJustBeforeIfAny low.ebi x.ebi
+  pub sbi : IsJustBefore low.sbi x.sbi
+  pub warning : IsJustBefore low.warning x.warning
+  pub permitted : IsJustBefore low.permitted x.permitted
+  pub indication : IsJustBefore low.indication x.indication
+
+-- each computed limit, and the computed start of release speed monitoring, is at most the exact one and less than a millimetre before it
+-- (SUBSET-026-3 3.13.9.3, 3.13.9.4)
+pub record AreEarly (d : LineData) (r : OdometerReading) : Type 0 where
+  pub limits : (t : Target) → AreLimitsJustBefore (limits_of computed d r t) (limits_of exact_places d r t)
+  pub release_start : (eoa svl release : ℕ) →
+      IsJustBefore (release_start computed d eoa svl release) (release_start exact_places d eoa svl release)
+  pub fine : most_slack < millimetre
+
+abbrev pub LawOfLimits : Type 0
+LawOfLimits = (s : Supervision) (r : OdometerReading) → IsOpen s → AreEarly s.line r
 
 -- where the exact machine commands the emergency brake, so does the supervisor; where the supervisor does, so does the
 -- machine with every limit one millimetre earlier

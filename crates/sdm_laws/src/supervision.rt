@@ -1,7 +1,7 @@
 //! The laws of supervision: of every accepted supervision state and reading, and of every list of records. Each function
 //! makes no call and only states its clause.
 
-ghost use Rattle.sdm_laws.specs.SupervisionLaws.{IsKeptOpen, LawOfAcceptedSlopes, LawOfCeiling, LawOfGaps, LawOfJourneys, LawOfMachines, LawOfNearness, LawOfReleaseStart, LawOfStop, LawOfSupervision};
+ghost use Rattle.sdm_laws.specs.SupervisionLaws.{IsKeptOpen, LawOfAcceptedSlopes, LawOfCeiling, LawOfGaps, LawOfJourneys, LawOfLimits, LawOfMachines, LawOfNearness, LawOfReleaseStart, LawOfStop, LawOfSupervision};
 
 /// The slopes of accepted data are usable: brake curves on them have their laws.
 #[tactic(auto, using(crate::proofs::AcceptedSlopes::accepted_usable))]
@@ -19,6 +19,12 @@ pub fn law_of_openings()
 #[tactic(auto, using(crate::proofs::Headline::nearness))]
 pub fn law_of_nearness()
     ensures { LawOfNearness }
+{}
+
+/// Each computed limit of a target, and the computed start of release speed monitoring, is at most the exact one and less than a
+/// millimetre before it.
+pub fn law_of_limits()
+    ensures { LawOfLimits }
 {}
 
 /// Over each reading the commands of the exact machine, the supervisor and the early machine stay in order.
