@@ -26,7 +26,7 @@ track_gradient entries cell = value_at (λ e. e.start) (λ e. e.grad) (pos 0) en
 abbrev pub is_in_force : ℤ → ℤ → Area → Bool
 is_in_force length_cm cell a = int_le a.start cell && int_lt cell (a.end +ℤ length_cm)
 
--- what the decelerations of a front end rest on, beside its speed band
+-- what the decelerations of a front end rest on, beside its speed band (own)
 pub record UnderTrain : Type 0 where
   pub grad : ℤ  -- the least gradient of the cells from the rear end to the front end, in the unit of gradients (SUBSET-026-3 3.13.4.2; own cell form)
   pub reduced : Bool  -- reduced adhesion is in force (SUBSET-026-3 3.13.6.2; own areas)
@@ -54,15 +54,17 @@ cm_s2 = pos 20_000_000
 abbrev pub gravity : ℤ
 gravity = pos (196_200_000 * gradient_unit)
 
--- A_brake_emergency of a band in a cell, in cm/s²; the same in all cells (SUBSET-026-3 3.13.6.2.1; own form)
+-- A_brake_emergency of a band in a cell, in cm/s²; the same in all cells (SUBSET-026-3 3.13.6.2.1; own: one deceleration a band)
 abbrev pub emergency_in : UnderTrain → Band → ℤ
 emergency_in u b = b.emergency
 
--- Kdry_rst * (Kwet_rst + M_NVAVADH * (1 - Kwet_rst)) * A_brake_emergency, in 1/(2 * 10^9) m/s² (SUBSET-026-3 3.13.6.2.1)
+-- Kdry_rst * (Kwet_rst + M_NVAVADH * (1 - Kwet_rst)) * A_brake_emergency, in 1/(2 * 10^9) m/s²
+-- (SUBSET-026-3 3.13.6.2.1; own: one Kdry)
 abbrev pub brake_safe : ℤ → Band → ℤ → ℤ
 brake_safe avadh b emergency = b.kdry *ℤ (pos 20 *ℤ b.kwet +ℤ avadh *ℤ (pos 1000 -ℤ b.kwet)) *ℤ emergency
 
--- A_brake_safe: on reduced adhesion at most the national maximum A_NVMAXREDADH (SUBSET-026-3 3.13.6.2.1)
+-- A_brake_safe: on reduced adhesion at most the national maximum A_NVMAXREDADH (SUBSET-026-3 3.13.6.2.1, 3.12; own: one
+-- maximum)
 abbrev pub brake_under : NationalFields → UnderTrain → Band → ℤ
 brake_under n u b =
     let dry = brake_safe n.avadh b (emergency_in u b) in

@@ -87,7 +87,7 @@ pub struct SpeedStep {
     pub delayed: bool,
 }
 
-/// An area of reduced adhesion. (SUBSET-026-3 3.12.1, 3.13.6.2)
+/// An area of reduced adhesion. (SUBSET-026-3 3.12; own form)
 #[derive(Clone, Copy, Debug, PartialEq, Eq)]
 pub struct Area {
     /// Start in cm.
