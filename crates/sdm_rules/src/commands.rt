@@ -3,18 +3,26 @@
 /// The type of supervision: ceiling speed, target speed or release speed monitoring. (SUBSET-026-3 3.13.10)
 #[derive(Clone, Copy, Debug, PartialEq, Eq)]
 pub enum State {
+    /// Ceiling speed monitoring.
     C,
+    /// Target speed monitoring.
     T,
+    /// Release speed monitoring.
     R,
 }
 
 /// The supervision status: normal, indication, overspeed, warning, intervention. (SUBSET-026-3 3.13.10)
 #[derive(Clone, Copy, Debug, PartialEq, Eq)]
 pub enum Status {
+    /// Normal.
     N,
+    /// Indication.
     I,
+    /// Overspeed.
     O,
+    /// Warning.
     W,
+    /// Intervention.
     X,
 }
 
@@ -22,9 +30,13 @@ pub enum Status {
 /// (SUBSET-026-3 3.13.10; tables own)
 #[derive(Clone, Copy, Debug, PartialEq, Eq)]
 pub struct Triggers {
+    /// Above the permitted speed.
     pub over: bool,
+    /// Past a warning limit.
     pub warn: bool,
+    /// Past a service brake intervention limit (SBI).
     pub serv: bool,
+    /// Past an emergency brake intervention limit (EBI), or another emergency.
     pub emer: bool,
 }
 
@@ -32,8 +44,12 @@ pub struct Triggers {
 /// (SUBSET-026-3 3.13.10)
 #[derive(Clone, Copy, Debug, PartialEq, Eq)]
 pub struct Held {
+    /// Traction cut-off.
     pub tco: bool,
+    /// Service brake.
     pub sb: bool,
+    /// Emergency brake.
     pub eb: bool,
+    /// The supervision status.
     pub status: Status,
 }

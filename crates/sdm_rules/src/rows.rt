@@ -8,17 +8,24 @@ use crate::commands::{Held, State};
 pub struct Row {
     /// Time of the reading in ds.
     pub time: u32,
+    /// The type of speed and distance monitoring.
     pub state: State,
     /// The commands after the reading, with the status.
     pub held: Held,
-    /// Whether an emergency brake at this reading stops the train in time.
+    /// Whether the stop is promised, of every motion within the reading's bounds that brakes from T_traction + T_berem after it on;
+    /// where it isn't, nothing is said.
     pub covered: bool,
     /// The ceiling in km/h.
     pub ceiling: u16,
+    /// The EBI in mm.
     pub ebi: Option<i64>,
+    /// The SBI in mm.
     pub sbi: Option<i64>,
+    /// The warning limit in mm.
     pub warning: Option<i64>,
+    /// The permitted limit in mm.
     pub permitted: Option<i64>,
+    /// The indication limit in mm.
     pub indication: Option<i64>,
 }
 
