@@ -13,7 +13,7 @@ pub record IsDecided (d : LineData) (a : Authority) : Type 0 where
   pub not_both : (fault : OpenFault) → IsAccepted d a → IsOpenFault d a fault → ⊥
   pub one_fault : (fault fault' : OpenFault) → IsOpenFault d a fault → IsOpenFault d a fault' → fault ≡ fault'
 
--- so of all data and authorities
+-- of all data and authorities the opening is either accepted or has one first fault
 abbrev pub LawOfOpening : Type 0
 LawOfOpening = (d : LineData) (a : Authority) → IsDecided d a
 
@@ -24,6 +24,6 @@ pub record HasOneRun {Table Fields : Type 0} (reader : Reader Table Fields) (byt
   pub is : IsRun reader bytes rows end
   pub only : (rows' : List Row) (end' : End) → IsRun reader bytes rows' end' → (rows' ≡ rows) × (end' ≡ end)
 
--- so of all bytes, whatever the parts of an input are read by
+-- all bytes have rows and an end, and no others, whatever the parts of an input are read by
 abbrev pub LawOfOneRun : Type 0 → Type 0 → Type 0
 LawOfOneRun Table Fields = (reader : Reader Table Fields) (bytes : List ℕ) → HasOneRun reader bytes

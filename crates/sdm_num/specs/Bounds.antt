@@ -32,7 +32,7 @@ earlier_of e d =
     let at = int_min e.at d.at in
     record { at = at; slack = unsigned_abs (int_min (e.at +ℤ pos e.slack) (d.at +ℤ pos d.slack) +ℤ neg_ℤ at) }
 
--- the late bound of the greater of two places
+-- the late bound of the greater of two places: it stands for just the greater ones of what both stand for
 abbrev pub later_of : Bound → Bound → Bound
 later_of e d =
     let at = int_max e.at d.at in

@@ -23,7 +23,7 @@ pub record IsAtMost (x y : Fraction) : Type 0 where
 pub record IsBefore (x y : Fraction) : Type 0 where
   pub crossed : (pos y.m *ℤ x.n) <ℤ (pos x.m *ℤ y.n)
 
--- both are the same number
+-- `x` and `y` are the same number
 pub record IsSame (x y : Fraction) : Type 0 where
   pub crossed : pos y.m *ℤ x.n ≡ pos x.m *ℤ y.n
 
@@ -35,7 +35,7 @@ times k x = record { n = pos k *ℤ x.n; m = x.m }
 abbrev pub less : Fraction → ℕ → Fraction
 less x k = record { n = x.n +ℤ neg_ℤ (pos (k * x.m)); m = x.m }
 
--- the fraction and a whole number
+-- the sum of the fraction and a whole number
 abbrev pub more : Fraction → ℕ → Fraction
 more x k = record { n = x.n +ℤ pos (k * x.m); m = x.m }
 

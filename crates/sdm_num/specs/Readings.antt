@@ -2,7 +2,7 @@
 use Rattle.std.specs.Prelude.{ℕ, ℤ, pos, negsuc, ◌≤◌, ◌≤ℤ◌}
 use Rattle.sdm_num.specs.Units.{place_of_mm, notches_of_mm_s}
 
--- The train's front end lies between `min` and `max`, and most likely at `est`.
+-- an odometer reading: the train's front end lies between `min` and `max`, and most likely at `est` (SUBSET-026-3 3.6.4, 3.13.2.2)
 pub record OdometerReading : Type 0 where
   pub time : ℕ  -- ds, from any origin
   pub est : ℤ  -- estimated front end, grains (3.6.4)
@@ -24,7 +24,7 @@ pub record IsReading (r : OdometerReading) : Type 0 where
   pub gaining : r.accel ≤ℤ pos 300
   pub under : r.under ≤ notches_of_mm_s 10_000
 
--- a reading as it is handed in: places in mm, speeds in mm/s
+-- a reading as it is handed in: places in mm, speeds in mm/s (own)
 abbrev pub reading_of : ℕ → ℤ → ℤ → ℤ → ℕ → ℤ → ℕ → OdometerReading
 reading_of time est_mm min_mm max_mm speed_mm_s accel under_mm_s = record {
   time = time;

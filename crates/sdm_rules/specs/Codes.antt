@@ -13,6 +13,6 @@ coded_restriction =
     (λ p. record { id = p.0.0; start = p.0.1; end = p.1.0.0; speed = p.1.0.1; delayed = p.1.1 })
     (λ _. refl)
 
--- restrictions by identity as such lists (own)
+-- restrictions by identity as lists of such tuples of numbers (own)
 abbrev pub coded_restrictions : Coded (finite.FinMap nat_cmp Restriction)
 coded_restrictions = finite.code coded_ℕ coded_restriction

@@ -33,13 +33,14 @@ is_alarm O = false
 is_alarm W = true
 is_alarm X = true
 
--- the train is in ceiling speed monitoring
+-- the train is in ceiling speed monitoring (own)
 abbrev pub is_ceiling : State → Bool
 is_ceiling C = true
 is_ceiling T = false
 is_ceiling R = false
 
--- the status, the first that holds: intervention, warning, overspeed, indication, normal (SUBSET-026-3 3.13.10; own table)
+-- the status, the first that holds: intervention while a brake is commanded; warning, which stays over the permitted speed after a
+-- warning or an intervention; overspeed; indication, outside ceiling speed monitoring; normal (SUBSET-026-3 3.13.10; own table)
 abbrev pub status_after : Status → Triggers → State → Bool → Bool → Status
 status_after last t state sb eb =
     if eb || sb then X
@@ -55,6 +56,6 @@ commands_after held t state stopped early_release in_use =
     let sb = service_after held.sb t in_use in
     record { tco = cut_off_after held.tco t; sb = sb; eb = eb; status = status_after held.status t state sb eb }
 
--- before the first reading no command is held (own)
+-- the commands before the first reading: none is held, and the status is normal (own)
 abbrev pub nothing_held : Held
 nothing_held = record { tco = false; sb = false; eb = false; status = N }

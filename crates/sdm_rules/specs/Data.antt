@@ -20,7 +20,7 @@ pub record TrainData : Type 0 where
   pub service_brake : Bool
   pub bands : List Band
 
--- the train of the fields that are handed in: of the array of bands those that are given
+-- the train of the fields that are handed in: of the array of bands those that are given (own)
 abbrev pub train_of : TrainFields → TrainData
 train_of f = record {
   length_cm = f.length;
@@ -41,7 +41,7 @@ AreBands above [] = ⊥
 AreBands above (b ∷ []) = b.upper ≡ None
 AreBands above (b ∷ next ∷ more) = (upper : ℤ) × (b.upper ≡ Some upper) × (above <ℤ upper) × AreBands upper (next ∷ more)
 
--- the bands of a train: there is one, and there are not too many (own)
+-- the bands of a train: at least one, not too many, and in their order (own)
 pub record HasBands (bands : List Band) : Type 0 where
   pub few : length bands ≤ most_bands
   pub in_order : AreBands (pos 0) bands
@@ -57,7 +57,7 @@ pub record TrackData : Type 0 where
   pub speeds : List SpeedStep
   pub areas : List Area
 
--- what the data part of a journey gives, but for the authority (SUBSET-026-3 3.13.2)
+-- the train, the national values and the track of a journey (SUBSET-026-3 3.13.2)
 pub record LineData : Type 0 where
   pub train : TrainData
   pub national : NationalFields  -- the national values (SUBSET-026-3 3.13.2.3, A.3.2)

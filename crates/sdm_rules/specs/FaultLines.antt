@@ -51,7 +51,7 @@ abbrev pub key_name : Section → ℕ → Option (List ℕ)
 key_name section zero = None
 key_name section (suc i) = slice_get (key_names section) i
 
--- a list of the data part, or the section itself (own)
+-- the path of a list of the data part, or of a section (own)
 unfoldable pub list_path : Section → List ℕ
 list_path sections.Root = codes "root"
 list_path sections.Train = codes "train"
@@ -63,7 +63,7 @@ list_path sections.Speed = codes "track.speed"
 list_path sections.Adhesion = codes "track.adhesion"
 list_path sections.Authority = codes "authority"
 
--- an entry of a list, by its index from 1 (own)
+-- the path of an entry of a list, by its index from 1 (own)
 abbrev pub entry_path : Section → ℕ → List ℕ
 entry_path list index = list_path list ++ codes "[" ++ decimal index ++ codes "]"
 
@@ -79,12 +79,12 @@ section_path sections.Speed index = entry_path sections.Speed index
 section_path sections.Adhesion index = entry_path sections.Adhesion index
 section_path sections.Authority index = list_path sections.Authority
 
--- a key below its section's path; where the number names no key, the section's path alone (own)
+-- the path of a key below its section's; where the number names no key, the section's path alone (own)
 abbrev pub below : List ℕ → Option (List ℕ) → List ℕ
 below path None = path
 below path (Some name) = path ++ codes "." ++ name
 
--- a key of root is its name alone (own)
+-- the path of a key of root: its name alone (own)
 abbrev pub at_root : Option (List ℕ) → List ℕ
 at_root None = list_path sections.Root
 at_root (Some name) = name
@@ -112,28 +112,28 @@ abbrev pub train_path : ℕ → ℕ → List ℕ
 train_path zero key = key_path sections.Train 0 key
 train_path (suc i) key = key_path sections.Band (suc i) key
 
--- a fault of the train (own)
+-- the text of a fault of the train (own)
 unfoldable pub train_text : TrainFault → List ℕ
 train_text train_faults.BandCount = codes "band count"
 train_text (train_faults.BandOrder band) = codes "band order " ++ entry_path sections.Band band
 train_text (train_faults.Value band key) = codes "value " ++ train_path band key
 
--- a fault of the national values (own)
+-- the text of a fault of the national values (own)
 unfoldable pub national_text : NationalFault → List ℕ
 national_text (national_faults.Value key) = codes "value " ++ key_path sections.National 0 key
 
--- a fault of the track (own)
+-- the text of a fault of the track (own)
 unfoldable pub track_text : TrackFault → List ℕ
 track_text (track_faults.Count list) = codes "count " ++ list_path list
 track_text (track_faults.Order list index) = codes "order " ++ entry_path list index
 track_text (track_faults.Value list index key) = codes "value " ++ key_path list index key
 track_text (track_faults.Gap list) = codes "gap " ++ list_path list
 
--- want of memory, wherever it comes up (own)
+-- the text of want of memory, wherever it comes up (own)
 unfoldable pub memory_text : List ℕ
 memory_text = codes "no memory"
 
--- the first rule that the data part breaks (own)
+-- the text of the first rule that the data part breaks (own)
 unfoldable pub data_text : DataFault → List ℕ
 data_text (data_faults.Missing at) = codes "bad data: missing " ++ at_path at
 data_text (data_faults.UnknownKey section index) = codes "bad data: unknown key in " ++ section_path section index
@@ -146,48 +146,48 @@ data_text data_faults.Memory = memory_text
 
 -- ---- refusals of the opening and of records
 
--- why an authority is refused (own)
+-- the text why an authority is refused (own)
 unfoldable pub authority_text : AuthorityFault → List ℕ
 authority_text SvlBeforeEoa = codes "supervised location before end"
 authority_text BeyondTrack = codes "beyond track"
 authority_text BadSpeed = codes "bad speed"
 
--- a kind of slope (own)
+-- the name of a kind of slope (own)
 unfoldable pub kind_text : SlopeKind → List ℕ
 kind_text Safe = codes "safe"
 kind_text Expected = codes "expected"
 kind_text Normal = codes "normal"
 
--- why an opening is refused (own)
+-- the text why an opening is refused (own)
 unfoldable pub open_text : OpenFault → List ℕ
 open_text (open_faults.TooWeak kind band cell slope) = codes "refused: too weak: " ++ kind_text kind ++ codes " band " ++ decimal band ++ codes " cell " ++ signed_decimal cell
 open_text (open_faults.TooVaried kind band least greatest) = codes "refused: too varied: " ++ kind_text kind ++ codes " band " ++ decimal band
 open_text (open_faults.BadAuthority fault) = codes "refused: " ++ authority_text fault
 open_text open_faults.Memory = memory_text
 
--- why a field is refused (own)
+-- the text why a field is refused (own)
 unfoldable pub field_text : FieldFault → List ℕ
 field_text NotNumber = codes "not a number"
 field_text OutOfRange = codes "out of range"
 
--- why the form of a record is refused (own)
+-- the text why the form of a record is refused (own)
 unfoldable pub form_text : EventFault → List ℕ
 form_text event_faults.UnknownKind = codes "unknown kind"
 form_text event_faults.FieldCount = codes "field count"
 form_text (event_faults.Field column fault) = codes "field " ++ decimal column ++ codes ": " ++ field_text fault
 form_text event_faults.TooMany = codes "too many events"
 
--- why a restriction is refused (own)
+-- the text why a restriction is refused (own)
 unfoldable pub restrict_text : RestrictFault → List ℕ
 restrict_text restrict_faults.Full = codes "too many restrictions"
 restrict_text (restrict_faults.IdInUse id) = codes "identity in use"
 restrict_text restrict_faults.Value = codes "restriction value"
 
--- why a revocation is refused (own)
+-- the text why a revocation is refused (own)
 unfoldable pub revoke_text : RevokeFault → List ℕ
 revoke_text (revoke_faults.Unknown id) = codes "identity unknown"
 
--- why a record is refused (own)
+-- the text why a record is refused (own)
 unfoldable pub cause_text : EventCause → List ℕ
 cause_text (causes.Form fault) = form_text fault
 cause_text (causes.Authority fault) = authority_text fault

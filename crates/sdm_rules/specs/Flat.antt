@@ -27,7 +27,7 @@ use Rattle.sdm_rules.specs.Text.{flag_text, line_of}
 abbrev pub flat_slopes : ℕ → Slopes
 flat_slopes a = record { q = 100; uppers = []; slope = λ band cell. 2_000_000_000 * a }
 
--- a line of the input (own)
+-- a line of the input of `flat` (own)
 pub record FlatLine : Type 0 where
   pub time : ℕ  -- ds
   pub front : ℤ  -- front end, grains
@@ -40,7 +40,7 @@ pub record FlatSupervision : Type 0 where
   pub last_time : Option ℕ  -- ds
   pub eb : Bool
 
--- at first no time and no command (own)
+-- the flat supervisor before the first line: no time and no command (own)
 abbrev pub flat_opening : ℕ → ℕ → FlatSupervision
 flat_opening decel end = record { decel = decel; end = end; last_time = None; eb = false }
 
@@ -60,7 +60,7 @@ is_flat_emergency P shift s l = (nat_lt 0 l.speed && is_past shift l.front (flat
 unfoldable pub flat_after : CurvePlaces → ℕ → FlatSupervision → Bool → FlatLine → Bool
 flat_after P shift s held l = is_flat_emergency P shift s l || (held && nat_lt 0 l.speed)
 
--- the row of a line (own)
+-- the row of a line of `flat` (own)
 unfoldable pub flat_row : FlatSupervision → FlatLine → FlatRow
 flat_row s l = record {
   time = l.time;
@@ -69,7 +69,7 @@ flat_row s l = record {
   eb = flat_after computed 0 s s.eb l;
 }
 
--- after an accepted line (own)
+-- the flat supervisor after an accepted line (own)
 abbrev pub after_flat_line : FlatSupervision → FlatLine → FlatSupervision
 after_flat_line s l = record s { last_time = Some l.time; eb = (flat_row s l).eb }
 
@@ -88,7 +88,7 @@ StopsByFlatEnd s l = StopsBy (flat_slopes s.decel) (flat_start l) (border_of (po
 
 -- ---- its input
 
--- a byte before the first of pieces (own)
+-- pieces with a byte put before the first of them (own)
 abbrev pub before_all : ℕ → List (List ℕ) → List (List ℕ)
 before_all c [] = (c ∷ []) ∷ []
 before_all c (piece ∷ more) = (c ∷ piece) ∷ more
@@ -123,7 +123,7 @@ flat_line bytes = flat_line_of (comma_fields bytes)
 
 -- ---- its output
 
--- the text of a row (own)
+-- the text of a row of `flat` (own)
 unfoldable pub flat_text : FlatRow → List ℕ
 flat_text r = line_of (decimal r.time ∷ signed_decimal r.ebi ∷ flag_text r.covered ∷ flag_text r.eb ∷ [])
 
@@ -132,7 +132,7 @@ pub record Output : Type 0 where
   pub text : List ℕ
   pub end : End
 
--- the rest follows only an accepted line (own)
+-- the output from a line that was read on: the rest follows only where the line is accepted (own)
 abbrev pub flat_go_on : ℕ → FlatSupervision → FlatLine → Option CycleFault → (FlatSupervision → Output) → Output
 flat_go_on n s l (Some fault) rest = record { text = []; end = BadEvent n Line }
 flat_go_on n s l None rest =

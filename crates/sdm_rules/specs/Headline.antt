@@ -8,7 +8,7 @@ use Rattle.sdm_rules.specs.Machines.{InOrder, KeepsOrder, must_after, may_after,
 use Rattle.sdm_rules.specs.Records.{step}
 use Rattle.sdm_rules.specs.Stop.{IsSafe}
 
--- of one reading: the commands stay in order, and a covered row is safe (own)
+-- at a reading the commands of the three machines stay in order, and a covered row is safe (own)
 pub record IsSupervised (s : Supervision) (r : OdometerReading) : Type 0 where
   pub order : KeepsOrder s r (held_after s r)
   pub safe : IsTrue (row_of s r).covered → IsSafe s r
@@ -33,12 +33,12 @@ IsSafeAt s (record_kinds.Authority a) = ⊤
 IsSafeAt s (record_kinds.Restrict r) = ⊤
 IsSafeAt s (record_kinds.Revoke id) = ⊤
 
--- so for each record up to the first that is refused (own)
+-- at each record up to the first that is refused a covered row is safe (own)
 abbrev pub AreSafe : Supervision → List Event → Type 0
 AreSafe s [] = ⊤
 AreSafe s (e ∷ es) = IfOk (step s e) (λ t. IsSafeAt s e × AreSafe t.after es)
 
--- of a list of records (own)
+-- over a list of records the commands of the three machines stay in order, and covered rows are safe (own)
 pub record IsSupervisedOver (s : Supervision) (must may : Bool) (es : List Event) : Type 0 where
   pub order : AreInOrder s must may es
   pub safe : AreSafe s es

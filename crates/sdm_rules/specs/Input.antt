@@ -36,7 +36,7 @@ pub record Reader (Table Fields : Type 0) : Type 0 where
   pub records : List ℕ → List Fields
   pub form : Fields → Result Event EventFault
 
--- how records end (own)
+-- the end of a journey: all records taken, or the first that is refused (own)
 abbrev pub end_of_journey : Option (ℕ × EventCause) → End
 end_of_journey None = Done
 end_of_journey (Some (n, cause)) = BadEvent n cause
@@ -53,12 +53,12 @@ module _ {Table Fields : Type 0} (reader : Reader Table Fields) where
   IsAfterData rows end records (Err fault) = (rows ≡ []) × (end ≡ Data fault)
   IsAfterData rows end records (Ok x) = IsOpened x.0 x.1 records rows end ⊎ ((fault : OpenFault) × IsOpenFault x.0 x.1 fault × (rows ≡ []) × (end ≡ Refused fault))
 
-  -- so from the document on (own)
+  -- the rows and the end from the TOML document on (own)
   abbrev pub IsAfterDocument : List Row → End → List Fields → Option Table → Type 0
   IsAfterDocument rows end records None = (rows ≡ []) × (end ≡ Toml)
   IsAfterDocument rows end records (Some table) = IsAfterData rows end records (reader.data_of table)
 
-  -- so from the division on (own)
+  -- the rows and the end from the division of the input on (own)
   abbrev pub IsAfterDivision : List Row → End → List ℕ → Option (ℕ × ℕ) → Type 0
   IsAfterDivision rows end bytes None = (rows ≡ []) × (end ≡ NoSplit)
   IsAfterDivision rows end bytes (Some x) = IsAfterDocument rows end (reader.records (drop x.1 bytes)) (reader.document (take x.0 bytes))

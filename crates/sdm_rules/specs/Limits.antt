@@ -18,15 +18,15 @@ use Rattle.sdm_rules.specs.Decelerations.{slopes_of}
 use Rattle.sdm_rules.specs.Targets.{target_speed, foot_speed_of}
 use Rattle.sdm_rules.specs.Reaction.{line_times, build_up_from, v_bec, d_bec, warning_time, driver_time}
 
--- where a brake curve on slopes, from a foot (grains) with a foot speed (notches), has a speed (notches)
+-- where a brake curve on slopes, from a foot (grains) with a foot speed (notches), has a speed (notches) (own)
 abbrev pub CurvePlaces : Type 0
 CurvePlaces = Slopes → ℤ → ℕ → ℕ → Fraction
 
--- the exact places (own)
+-- the exact places of brake curves (own)
 abbrev pub exact_places : CurvePlaces
 exact_places on f w v = exact on f w v
 
--- the places that the supervisor computes (own)
+-- the places of brake curves that the supervisor computes (own)
 abbrev pub computed : CurvePlaces
 computed on f w v = whole (stepped on f w v)
 
@@ -46,14 +46,14 @@ limits_before times v guide ebi sbi =
     let permitted = option_map_or (λ g. lesser g driver) guide driver in
     record { ebi = ebi; sbi = sbi; warning = less sbi (way_in v warning_time); permitted = permitted; indication = less permitted (way_in v times.indication) }
 
--- on an EBD: d_EBI = d_EBD(V_bec) - D_bec and d_SBI = d_EBI - V_est * T_bs, with the curve's place at V_bec
+-- the limits on an EBD: d_EBI = d_EBD(V_bec) - D_bec and d_SBI = d_EBI - V_est * T_bs, with the curve's place at V_bec
 -- (SUBSET-026-3 3.13.9.3.2, 3.13.9.3.3)
 abbrev pub ebd_limits_at : Times → ℕ → Option Fraction → ℕ → Fraction → SupervisionLimits
 ebd_limits_at times v guide bec_way place =
     let ebi = less place bec_way in
     limits_before times v guide (Some ebi) (less ebi (way_in v times.bs))
 
--- on an SBD: d_SBI = d_SBD(V_est) - V_est * T_bs, with the curve's place at V_est (SUBSET-026-3 3.13.9.3.3)
+-- the limits on an SBD: d_SBI = d_SBD(V_est) - V_est * T_bs, with the curve's place at V_est (SUBSET-026-3 3.13.9.3.3)
 abbrev pub sbd_limits_at : Times → ℕ → Option Fraction → Fraction → SupervisionLimits
 sbd_limits_at times v guide place = limits_before times v guide None (less place (way_in v times.bs))
 
@@ -79,7 +79,7 @@ sbd_limits_of P d r t guide = sbd_limits_at (line_times d) r.speed guide (P (slo
 abbrev pub guidance_place : CurvePlaces → LineData → OdometerReading → Target → Option Fraction
 guidance_place P d r t = if d.national.guidance then Some (P (slopes_of Normal d) t.place (target_speed t) r.speed) else None
 
--- by the kind of the target; the SvL has no guidance curve of its own (own)
+-- the limits of a target by its kind; the SvL has no guidance curve of its own (own)
 abbrev pub limits_of_kind : CurvePlaces → LineData → OdometerReading → Target → TargetKind → SupervisionLimits
 limits_of_kind P d r t Mrsp = ebd_limits_of P d r t (guidance_place P d r t)
 limits_of_kind P d r t Loa = ebd_limits_of P d r t (guidance_place P d r t)
@@ -97,7 +97,7 @@ abbrev pub release_start_at : Times → ℕ → Fraction → Fraction → Fracti
 release_start_at times v ebd sbd =
     lesser (less sbd (way_in v times.bs)) (less ebd (way_in v (times.traction + times.berem + times.bs)))
 
--- the same of a line, with EOA and SvL in cm and the release speed in km/h: both curves have speed 0 at their foot
+-- where release speed monitoring starts, with EOA and SvL in cm and the release speed in km/h: both curves have speed 0 at their foot
 -- (SUBSET-026-3 3.13.9.4; own form)
 unfoldable pub release_start : CurvePlaces → LineData → ℕ → ℕ → ℕ → Fraction
 release_start P d eoa svl release =

@@ -1,4 +1,4 @@
--- Three machines for the emergency command, which differ in the limits alone (own). The exact machine has the exact limits,
+-- Three machines for the emergency command, which differ in the limits of targets alone (own). The exact machine has the exact limits,
 -- the row machine, which is the supervisor, the computed ones, the early machine the exact limits one millimetre earlier.
 -- All take the type of supervision from the row machine, and each holds its own command.
 use Rattle.std.specs.Prelude.{◌≡◌, ℕ, Bool, IsTrue, ◌==◌}
@@ -28,7 +28,7 @@ may_after s r held = machine_after exact_places millimetre s r held
 abbrev pub Implies : Bool → Bool → Type 0
 Implies a b = IsTrue a → IsTrue b
 
--- the three commands stand in order (own)
+-- the commands of the exact machine, the supervisor and the early machine stand in order: each holds only where the next does (own)
 pub record InOrder (must held may : Bool) : Type 0 where
   pub needed : Implies must held
   pub allowed : Implies held may

@@ -23,7 +23,7 @@ pub record IsInBand (on : Slopes) (m band u : ℕ) : Type 0 where
   pub above : lower_square on m band ≤ u
   pub below : band < length on.uppers → u ≤ upper_square on m band
 
--- the cell has a part strictly between the places (own)
+-- the cell has a part strictly between the places `p` and `p'` (own)
 pub record HasPart (m : ℕ) (cell p p' : ℤ) : Type 0 where
   pub apart : p <ℤ p'
   pub begins : cell_start m cell <ℤ p'
@@ -35,7 +35,8 @@ pub record BrakesAtLeast (on : Slopes) (a : ℕ) (p : ℤ) (u : ℕ) (p' : ℤ) 
   pub slower : u' ≤ u
   pub enough : (pos (27 * a) *ℤ p') ≤ℤ (pos (27 * a) *ℤ p +ℤ pos (grain_energy on (u - u')))
 
--- one step: some band holds both squares, and all cells on the way have one slope in it (own)
+-- one step of braking: some band holds both squares, all cells between both places have one slope in it, and the train brakes at
+-- least with it (own)
 pub record IsStep (on : Slopes) (m : ℕ) (x y : Point) : Type 0 where
   pub band : ℕ
   pub slope : ℕ
@@ -44,7 +45,7 @@ pub record IsStep (on : Slopes) (m : ℕ) (x y : Point) : Type 0 where
   pub one_slope : (cell : ℤ) → HasPart m cell x.place y.place → on.slope band cell ≡ slope
   pub brakes : BrakesAtLeast on slope x.place x.square y.place y.square
 
--- from the point on, step by step to a square of 0 (own)
+-- the points after the first follow it step by step of braking, down to a square of 0 (own)
 abbrev pub IsBraking : Slopes → ℕ → Point → List Point → Type 0
 IsBraking on m x [] = x.square ≡ 0
 IsBraking on m x (y ∷ ys) = IsStep on m x y × IsBraking on m y ys
@@ -61,12 +62,12 @@ pub record IsSlice (a v : ℕ) (x : Slice) : Type 0 where
   pub gains : x.to ≤ v + 54 * a * x.time
   pub moves : 2 * x.length ≤ 1_000_000 * (v + x.to) * x.time
 
--- one slice after the other (own)
+-- from the speed `v` on, each slice gains and moves no more than its phase allows, one after the other (own)
 abbrev pub AreSlices : Start → ℕ → List Slice → Type 0
 AreSlices start v [] = ⊤
 AreSlices start v (x ∷ xs) = IsSlice (accel_in start x.phase) v x × AreSlices start x.to xs
 
--- the times of slices together (own)
+-- the sum of the times of slices (own)
 abbrev pub time_of : List Slice → ℕ
 time_of [] = 0
 time_of (x ∷ xs) = x.time + time_of xs
@@ -80,7 +81,7 @@ abbrev pub slice_ends : ℤ → ℕ → List Slice → List Point
 slice_ends p v [] = []
 slice_ends p v (x ∷ xs) = record { place = p +ℤ pos x.length; square = x.to * x.to } ∷ slice_ends (p +ℤ pos x.length) x.to xs
 
--- the last of points, of which there is one (own)
+-- the last of one or more points (own)
 abbrev pub last_point : Point → List Point → Point
 last_point x [] = x
 last_point x (y ∷ ys) = last_point y ys
@@ -105,7 +106,7 @@ pub record IsMotion (s : ℕ) (start : Start) (on : Slopes) (p : ℤ) (v : ℕ) 
   pub begins : first ≡ last_point (record { place = p; square = v * v }) (slice_ends p v xs)
   pub braking : IsBraking on (s * s) first more
 
--- it begins at most at the front end and with at most the speed of the start (own)
+-- a motion that begins at most at the front end and with at most the speed of the start (own)
 pub record IsMotionFrom (s : ℕ) (start : Start) (on : Slopes) (p : ℤ) (v : ℕ) (xs : List Slice) (first : Point) (more : List Point) : Type 0 where
   pub place : p ≤ℤ (pos (s * s) *ℤ start.front)
   pub speed : v ≤ s * start.speed

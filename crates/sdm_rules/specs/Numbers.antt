@@ -10,7 +10,7 @@ use Rattle.sdm_rules.specs.declared.faults.FieldFault.TheVariants.{NotNumber, Ou
 abbrev pub most_digits : ℕ
 most_digits = 18
 
--- 1 to 18 digits; leading zeros are accepted (own)
+-- the bytes are 1 to 18 digits; leading zeros are accepted (own)
 abbrev pub is_digits : List ℕ → Bool
 is_digits ds = nat_le 1 (length ds) && nat_le (length ds) most_digits && list_all is_ascii_digit ds
 
@@ -23,7 +23,7 @@ abbrev pub number_of : List ℕ → Option ℤ
 number_of [] = None
 number_of (c ∷ ds) = if c == 45 then negated ds else if is_digits (c ∷ ds) then Some (pos (digits_value 10 (c ∷ ds))) else None
 
--- a number from `least` to `greatest`, both included (own)
+-- the number where it is from `least` to `greatest`, both included, or why it is refused (own)
 abbrev pub in_range : ℤ → ℤ → Option ℤ → Result ℤ FieldFault
 in_range least greatest None = Err NotNumber
 in_range least greatest (Some n) = if int_le least n && int_le n greatest then Ok n else Err OutOfRange

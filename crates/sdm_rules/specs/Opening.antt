@@ -43,11 +43,11 @@ pub record IsAcceptedKind (kind : SlopeKind) (d : LineData) : Type 0 where
 abbrev pub IsUsableLine : LineData → Type 0
 IsUsableLine d = (kind : SlopeKind) → IsAcceptedKind kind d
 
--- an opening is accepted (own)
+-- the opening of the data with the authority is accepted (own)
 abbrev pub IsAccepted : LineData → Authority → Type 0
 IsAccepted d a = IsUsableLine d × (authority_fault d.track.length_cm a ≡ None)
 
--- what the data of every supervision state keep from the opening on (own)
+-- what the data of every supervision state keep from the opening on: bands in their order, and accepted slopes (own)
 pub record IsOpen (s : Supervision) : Type 0 where
   pub bands : HasBands s.line.train.bands
   pub usable : IsUsableLine s.line

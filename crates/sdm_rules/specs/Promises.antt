@@ -10,8 +10,7 @@ use Rattle.sdm_rules.specs.Machines.{IsReleasedAt}
 use Rattle.sdm_rules.specs.Stop.{IsGap}
 use Rattle.sdm_rules.specs.Supervision.{Supervision, situation_of, is_covered_for}
 
--- of a moving train each target that is not covered is a gap: a target of speed, slow enough for, whose speed the train may pass in the
--- reaction times (own)
+-- of a moving train each target that is not covered is a gap: a target of speed whose foot speed V_est does not pass and V_bec does (own)
 abbrev pub HasOnlyGaps : Supervision → OdometerReading → Type 0
 HasOnlyGaps s r = 0 < r.speed → (t : Target) → Contains (situation_of s r).targets t → is_covered_for s.line r t ≡ false → IsGap s r t
 

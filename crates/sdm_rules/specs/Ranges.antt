@@ -57,7 +57,7 @@ refused key accepted = if accepted then None else Some key
 abbrev pub is_within : ℤ → ℤ → ℤ → Bool
 is_within least greatest n = int_le least n && int_le n greatest
 
--- so where there is a number (own)
+-- the number, where there is one, is from `least` to `greatest`, both included (own)
 abbrev pub is_within_if_any : ℤ → ℤ → Option ℤ → Bool
 is_within_if_any least greatest None = true
 is_within_if_any least greatest (Some n) = is_within least greatest n
@@ -108,12 +108,12 @@ abbrev pub band_value_fault : ℕ → List Band → Option TrainFault
 band_value_fault i [] = None
 band_value_fault i (b ∷ more) = or_else (fault_at (λ key. train_faults.Value i key) (band_refused b)) (band_value_fault (suc i) more)
 
--- the last band has no upper speed (own)
+-- the fault of the last band where it has an upper speed (own)
 abbrev pub order_of_last : ℕ → Option ℤ → Option TrainFault
 order_of_last i None = None
 order_of_last i (Some upper) = Some (train_faults.BandOrder i)
 
--- any other band has an upper speed above that of the band before it, `above`; then the bands after it count (own)
+-- the fault of any other band where it has no upper speed above that of the band before it, `above`; else that of the bands after it (own)
 abbrev pub order_of_next : ℕ → ℤ → Option ℤ → (ℤ → Option TrainFault) → Option TrainFault
 order_of_next i above None later = Some (train_faults.BandOrder i)
 order_of_next i above (Some upper) later = if int_lt above upper then later upper else Some (train_faults.BandOrder i)
@@ -124,7 +124,7 @@ band_order_fault i above [] = None
 band_order_fault i above (b ∷ []) = order_of_last i b.upper
 band_order_fault i above (b ∷ next ∷ more) = order_of_next i above b.upper (λ upper. band_order_fault (suc i) upper (next ∷ more))
 
--- there is a band, and there are not too many (own)
+-- the fault of a count of bands where there is none, or too many (own)
 abbrev pub band_count_fault : ℕ → Option TrainFault
 band_count_fault count = if nat_lt 0 count && nat_le count most_bands then None else Some train_faults.BandCount
 
@@ -152,7 +152,7 @@ gradient_refused length_cm g = first_refused (refused 1 (is_within (pos 0) (leng
 abbrev pub speed_refused : ℤ → SpeedStep → Option ℕ
 speed_refused length_cm s = first_refused (refused 1 (is_within (pos 0) (length_cm -ℤ pos 1) s.start) ∷ refused 2 (is_within (pos 1) (pos top_kmh) s.speed) ∷ [])
 
--- the first number of an area that is refused: it ends past its start (own)
+-- the first number of an area that is refused; its end is to be past its start (own)
 abbrev pub area_refused : ℤ → Area → Option ℕ
 area_refused length_cm a = first_refused (refused 1 (is_within (pos 0) (length_cm -ℤ pos 1) a.start) ∷ refused 2 (is_within (a.start +ℤ pos 1) length_cm a.end) ∷ [])
 
@@ -161,50 +161,50 @@ abbrev pub value_fault : {E : Type 0} → Section → (E → Option ℕ) → ℕ
 value_fault list key_refused i [] = None
 value_fault list key_refused i (e ∷ more) = or_else (fault_at (λ key. Value list i key) (key_refused e)) (value_fault list key_refused (suc i) more)
 
--- there are from `least` to `most` entries (own)
+-- the fault of a list with fewer than `least` or more than `most` entries (own)
 abbrev pub count_fault : {E : Type 0} → Section → ℕ → ℕ → List E → Option TrackFault
 count_fault list least most entries = if nat_le least (length entries) && nat_le (length entries) most then None else Some (Count list)
 
--- the first entry starts at 0 (own)
+-- the fault of a list whose first entry does not start at 0 (own)
 abbrev pub gap_fault : {E : Type 0} → Section → (E → ℤ) → List E → Option TrackFault
 gap_fault list start [] = None
 gap_fault list start (e ∷ more) = if int_lt (pos 0) (start e) then Some (Gap list) else None
 
--- the first entry that starts before where the one before it lets it, from the entry `i` on (own)
+-- the first entry whose start is below `past` of the entry before it, from the entry `i` on (own)
 abbrev pub order_fault : {E : Type 0} → Section → (E → ℤ) → (E → ℤ) → ℕ → List E → Option TrackFault
 order_fault list start past i [] = None
 order_fault list start past i (e ∷ []) = None
 order_fault list start past i (e ∷ next ∷ more) = if int_lt (start next) (past e) then Some (Order list (suc i)) else order_fault list start past (suc i) (next ∷ more)
 
--- starts of entries rise; areas do not overlap
+-- the fault of gradients whose starts do not rise (own)
 abbrev pub gradient_order : List Gradient → Option TrackFault
 gradient_order es = order_fault sections.Gradient (λ e. e.start) (λ e. e.start +ℤ pos 1) 1 es
 
--- starts of the static speed profile rise (own)
+-- the fault of entries of the static speed profile whose starts do not rise (own)
 abbrev pub speed_order : List SpeedStep → Option TrackFault
 speed_order es = order_fault sections.Speed (λ e. e.start) (λ e. e.start +ℤ pos 1) 1 es
 
--- areas do not overlap (own)
+-- the fault of areas that overlap (own)
 abbrev pub area_order : List Area → Option TrackFault
 area_order es = order_fault sections.Adhesion (λ e. e.start) (λ e. e.end) 1 es
 
--- the first rule that the gradients break; there may be none (own)
+-- the first rule that the gradients break; a track may have no gradients (own)
 unfoldable pub gradients_fault : ℤ → List Gradient → Option TrackFault
 gradients_fault length_cm es =
     or_else (count_fault sections.Gradient 0 most_gradients es)
     (or_else (value_fault sections.Gradient (gradient_refused length_cm) 1 es) (or_else (gap_fault sections.Gradient (λ e. e.start) es) (gradient_order es)))
 
--- the first rule that the static speed profile breaks; it has an entry (own)
+-- the first rule that the static speed profile breaks; it is to have an entry (own)
 unfoldable pub speeds_fault : ℤ → List SpeedStep → Option TrackFault
 speeds_fault length_cm es =
     or_else (count_fault sections.Speed 1 most_speeds es)
     (or_else (value_fault sections.Speed (speed_refused length_cm) 1 es) (or_else (gap_fault sections.Speed (λ e. e.start) es) (speed_order es)))
 
--- the first rule that the areas break; there may be none (own)
+-- the first rule that the areas break; a track may have no areas (own)
 unfoldable pub areas_fault : ℤ → List Area → Option TrackFault
 areas_fault length_cm es = or_else (count_fault sections.Adhesion 0 most_areas es) (or_else (value_fault sections.Adhesion (area_refused length_cm) 1 es) (area_order es))
 
--- the length of the track, in cm (own)
+-- the fault of a track's length, in cm, that is out of its range (own)
 abbrev pub length_fault : ℤ → Option TrackFault
 length_fault length_cm = if is_within (pos 1) (pos longest_track) length_cm then None else Some (Value sections.Track 0 1)
 

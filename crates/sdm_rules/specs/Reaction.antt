@@ -8,15 +8,15 @@ use Rattle.sdm_rules.specs.Data.{LineData}
 
 -- ---- times
 
--- T_warning, in ds (SUBSET-026-3 A.3.1; own value)
+-- T_warning: 2 s, in ds (SUBSET-026-3 A.3.1; own value)
 abbrev pub warning_time : ℕ
 warning_time = 20
 
--- T_driver, in ds (SUBSET-026-3 A.3.1; own value)
+-- T_driver: 4 s, in ds (SUBSET-026-3 A.3.1; own value)
 abbrev pub driver_time : ℕ
 driver_time = 40
 
--- the least of T_indication before the driver's time, in ds (SUBSET-026-3 3.13.9.3; own value)
+-- the 5 s of T_indication = max(0.8 * T_bs, 5 s) + T_driver, in ds (SUBSET-026-3 3.13.9.3; own value)
 abbrev pub indication_least : ℕ
 indication_least = 50
 
@@ -24,11 +24,13 @@ indication_least = 50
 abbrev pub t_bs : ℕ → Bool → ℕ
 t_bs service in_use = if in_use then service else 0
 
--- T_traction: with an interface the traction is cut off from the warning on, without one it is not (SUBSET-026-3 3.13.9.3.2)
+-- T_traction, in ds: how long the traction may still push once the emergency brake is commanded. With a cut-off interface the
+-- cut-off is commanded at the warning limit, T_warning + T_bs before the EBI, so max(T_traction_cut_off - (T_warning + T_bs), 0) is
+-- left; without one the whole T_traction_cut_off (SUBSET-026-3 3.13.9.3.2)
 abbrev pub t_traction : ℕ → Bool → ℕ → ℕ
 t_traction cut_off interface bs = if interface then cut_off - (warning_time + bs) else cut_off
 
--- T_traction; T_berem = max(T_be - T_traction, 0); T_bs; T_indication = max(0.8 * T_bs, 5 s) + T_driver
+-- the times of reaction, in ds: T_traction; T_berem = max(T_be - T_traction, 0); T_bs; T_indication = max(0.8 * T_bs, 5 s) + T_driver
 -- (SUBSET-026-3 3.13.9.3.2, 3.13.9.3.6)
 abbrev pub times_of : ℕ → Bool → ℕ → ℕ → Bool → Times
 times_of cut_off interface emergency service in_use =
@@ -41,7 +43,7 @@ times_of cut_off interface emergency service in_use =
 abbrev pub service_in_use : LineData → Bool
 service_in_use d = d.train.service_brake && d.national.service_in_target
 
--- the times of the data (SUBSET-026-3 3.13.9.3)
+-- the times of reaction of a train under its national values (SUBSET-026-3 3.13.9.3)
 unfoldable pub line_times : LineData → Times
 line_times d = times_of (unsigned_abs d.train.cut_off_time) d.train.cut_off_interface (unsigned_abs d.train.emergency_time) (unsigned_abs d.train.service_time) (service_in_use d)
 
@@ -72,7 +74,7 @@ d_bec b target =
     1_000_000 * (max (b.speed + 27 * b.accel1 * b.traction) target * b.traction
     + (v_cut_off b target + 27 * b.accel2 * b.berem) * b.berem)
 
--- the same of the start of motions (own)
+-- the train at the start of motions, from the moment on that the emergency brake is commanded (own)
 abbrev pub build_up_of : Start → BuildUp
 build_up_of start = record { speed = start.speed; accel1 = start.accel1; accel2 = start.accel2; traction = start.traction; berem = start.berem }
 
@@ -91,15 +93,16 @@ a_est2 a = min (a_est1 a) 40
 abbrev pub v_delta0 : LineData → ℕ → ℕ
 v_delta0 d under = if d.national.inhibit_under_reading then 0 else under
 
--- V_est + V_delta0
+-- the greatest true speed at a reading, V_est + V_delta0, in notches (SUBSET-026-3 3.13.9.3.2)
 abbrev pub greatest_speed : LineData → OdometerReading → ℕ
 greatest_speed d r = r.speed + v_delta0 d r.under
 
--- what the train may do from times, a speed V_est + V_delta0 and an acceleration on (SUBSET-026-3 3.13.9.3.2)
+-- the train from the moment on that the emergency brake is commanded, by its times of reaction, its speed V_est + V_delta0 and its
+-- acceleration (SUBSET-026-3 3.13.9.3.2)
 abbrev pub build_up : Times → ℕ → ℤ → BuildUp
 build_up times v0 accel = record { speed = v0; accel1 = a_est1 accel; accel2 = a_est2 accel; traction = times.traction; berem = times.berem }
 
--- so from a reading on
+-- the train at a reading, from the moment on that the emergency brake is commanded (SUBSET-026-3 3.13.9.3.2)
 abbrev pub build_up_from : LineData → OdometerReading → BuildUp
 build_up_from d r = build_up (line_times d) (greatest_speed d r) r.accel
 

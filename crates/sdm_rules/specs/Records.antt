@@ -49,16 +49,16 @@ restrict_fault length_cm restrictions r =
     else if nat_le r.end r.start || int_lt length_cm (pos r.end) then Some Value
     else None
 
--- a revocation names a restriction that is held (own)
+-- the fault of a revocation that names no restriction that is held (own)
 abbrev pub revoke_fault : finite.FinMap nat_cmp Restriction → ℕ → Option RevokeFault
 revoke_fault restrictions id = if finite.contains_key restrictions id then None else Some (Unknown id)
 
--- a time before that of the last reading (own)
+-- the fault of a time before that of the last reading (own)
 abbrev pub time_fault : Option ℕ → ℕ → Option CycleFault
 time_fault None time = None
 time_fault (Some last) time = if nat_lt time last then Some (TimeBack last time) else None
 
--- the cause that such a time gives (own)
+-- the cause by which a record is refused for its time (own)
 abbrev pub time_cause : CycleFault → EventCause
 time_cause (TimeBack last time) = causes.TimeBack last time
 
@@ -69,7 +69,7 @@ pub record Step : Type 0 where
   pub after : Supervision
   pub row : Option Row
 
--- the fault, or else the step (own)
+-- the step, unless there is a fault, which is then the cause of a refusal (own)
 abbrev pub unless : {F : Type 0} → (F → EventCause) → Option F → Step → Result Step EventCause
 unless cause None step = Ok step
 unless cause (Some fault) step = Err (cause fault)
@@ -78,7 +78,7 @@ unless cause (Some fault) step = Err (cause fault)
 abbrev pub quiet : Supervision → Step
 quiet s = record { after = s; row = None }
 
--- one record (own)
+-- the step of a record, or why it is refused (own)
 unfoldable pub step : Supervision → Event → Result Step EventCause
 step s (record_kinds.Read r) = unless time_cause (time_fault s.last_time r.time) (record { after = after_reading s r; row = Some (row_of s r) })
 step s (record_kinds.Authority a) = unless causes.Authority (authority_fault s.line.track.length_cm a) (quiet (after_authority s a))
@@ -101,17 +101,17 @@ pub record Journey : Type 0 where
 abbrev pub event_at : {A : Type 0} → (A → Result Event EventFault) → ℕ → A → Result Event EventFault
 event_at form n x = if nat_lt most_records n then Err TooMany else form x
 
--- one record as it is written: its form is tested first (own)
+-- the step of a record as it is written, or why it is refused: its form is tested first (own)
 abbrev pub step_of : Supervision → Result Event EventFault → Result Step EventCause
 step_of s (Ok e) = step s e
 step_of s (Err fault) = Err (causes.Form fault)
 
--- the row, if there is one, before those of the rest (own)
+-- a journey with the row, if there is one, before its rows (own)
 abbrev pub with_row : Option Row → Journey → Journey
 with_row None rest = rest
 with_row (Some row) rest = record rest { rows = row ∷ rest.rows }
 
--- the rest counts only after an accepted record (own)
+-- the journey from a record on: the rest follows only where the record is accepted (own)
 abbrev pub go_on : ℕ → Result Step EventCause → (Supervision → Journey) → Journey
 go_on n (Ok x) rest = with_row x.row (rest x.after)
 go_on n (Err cause) rest = record { rows = []; refused = Some (n, cause) }

@@ -34,11 +34,12 @@ SlowsTo on start place w =
     (s : ℕ) (p : ℤ) (v : ℕ) (xs : List Slice) (first : Point) (more : List Point) →
     IsMotionOn on start s p v xs first more → All (KeepsTo s place w) (slice_ends p v xs ++ first ∷ more)
 
--- within the bounds of a reading the train stops by the supervised location, in cm (own)
+-- every motion within the bounds of a reading that brakes from T_traction + T_berem after it on stops at or before the SvL, in cm (own)
 abbrev pub StopsBySvl : LineData → OdometerReading → ℕ → Type 0
 StopsBySvl d r svl = StopsBy (slopes_of Safe d) (start_of d r) (border_of (pos svl))
 
--- and at or past the target its speed is at most the target's with its EBI margin (own)
+-- every motion within the bounds of a reading that brakes from T_traction + T_berem after it on has, at or past the target, at most
+-- the target's speed with its EBI margin (own)
 abbrev pub MeetsTarget : LineData → OdometerReading → Target → Type 0
 MeetsTarget d r t = SlowsTo (slopes_of Safe d) (start_of d r) t.place (foot_speed_of t)
 
@@ -46,13 +47,13 @@ MeetsTarget d r t = SlowsTo (slopes_of Safe d) (start_of d r) t.place (foot_spee
 abbrev pub IsSpeedTarget : Target → Type 0
 IsSpeedTarget t = (t.kind ≢ Eoa) × (t.kind ≢ Svl)
 
--- the promise of a covered reading (own)
+-- the promise of a covered reading: the train stops at or before the SvL, where there is one, and meets each target of speed (own)
 pub record IsSafe (s : Supervision) (r : OdometerReading) : Type 0 where
   pub stops : (eoa svl release : ℕ) → s.authority ≡ Stop eoa svl release → StopsBySvl s.line r svl
   pub meets : (t : Target) → Contains (situation_of s r).targets t → IsSpeedTarget t → MeetsTarget s.line r t
 
--- why a target keeps a row from being covered where no emergency brake is commanded: it is a speed target that the train is
--- slow enough for, yet whose speed it may pass in the reaction times (own)
+-- a target of speed that keeps a row from being covered where no emergency brake is commanded: V_est is at most its foot speed
+-- V_target + dV_ebi(V_target), so V_est cannot trigger its EBI, and V_bec, with the under-reading, is above it (own)
 pub record IsGap (s : Supervision) (r : OdometerReading) (t : Target) : Type 0 where
   pub is_speed : IsSpeedTarget t
   pub slow : r.speed ≤ foot_speed_of t

@@ -36,7 +36,7 @@ pub record Supervision : Type 0 where
   pub last_time : Option ℕ
   pub commands : Held
 
--- after the opening: no restriction, no reading and no command (own)
+-- the supervision state after the opening: no restriction, no reading and no command (own)
 abbrev pub opening : LineData → Authority → Supervision
 opening d a = record { line = d; authority = a; restrictions = finite.empty; last_time = None; commands = nothing_held }
 
@@ -95,7 +95,7 @@ least_of (x ∷ xs) = Some (fold int_min x xs)
 abbrev pub shown_limit : Situation → (Target → Option Fraction) → Option ℤ
 shown_limit now limit = least_of (filter_map (λ t. option_map whole_mm (limit t)) (filter (λ t. nat_le (target_speed t) now.speed) now.targets))
 
--- a train whose V_bec is at most the foot speed of an Mrsp or Loa target needs no way to brake for it (own)
+-- a target of kind Mrsp or Loa is met by speed where V_bec is at most its foot speed: the train need not brake for it (own)
 abbrev pub is_met_by_speed : TargetKind → ℕ → ℕ → Bool
 is_met_by_speed Mrsp bec foot = nat_le bec foot
 is_met_by_speed Loa bec foot = nat_le bec foot
@@ -106,8 +106,9 @@ is_met_by_speed Svl bec foot = false
 abbrev pub is_covered_for : LineData → OdometerReading → Target → Bool
 is_covered_for d r t = option_map_or (λ ebi. not (is_past 0 r.max ebi) || is_met_by_speed t.kind (v_bec_for d r t) (foot_speed_of t)) (limits_of computed d r t).ebi true
 
--- covered: an emergency brake at this reading stops the train in time. It is so for each target with an EBI, and never in
--- release speed monitoring (own)
+-- covered: the state isn't R, and each target with an EBI has the max safe front end at or before its computed EBI, or V_bec at most
+-- its foot speed. Then `IsSafe` is promised, of every motion that brakes from T_traction + T_berem after the reading on; else nothing
+-- is said (own)
 unfoldable pub is_covered_in : LineData → OdometerReading → Situation → Bool
 is_covered_in d r now = not (is_some now.release) && list_all (is_covered_for d r) now.targets
 
@@ -134,18 +135,18 @@ row_of s r = row_in s.line s.commands r (situation_of s r)
 
 -- ---- after a record
 
--- after an accepted reading (own)
+-- the supervision state after an accepted reading (own)
 unfoldable pub after_reading : Supervision → OdometerReading → Supervision
 after_reading s r = record s { last_time = Some r.time; commands = commands_in s.line s.commands r (situation_of s r) }
 
--- after an accepted authority; no command changes (own)
+-- the supervision state after an accepted authority; no command changes (own)
 abbrev pub after_authority : Supervision → Authority → Supervision
 after_authority s a = record s { authority = a }
 
--- after an accepted restriction (own)
+-- the supervision state after an accepted restriction (own)
 abbrev pub after_restriction : Supervision → Restriction → Supervision
 after_restriction s r = record s { restrictions = finite.insert s.restrictions r.id r }
 
--- after an accepted revocation (own)
+-- the supervision state after an accepted revocation (own)
 abbrev pub after_revocation : Supervision → ℕ → Supervision
 after_revocation s id = record s { restrictions = finite.remove s.restrictions id }

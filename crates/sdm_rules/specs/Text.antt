@@ -22,11 +22,11 @@ status_text O = codes "O"
 status_text W = codes "W"
 status_text X = codes "X"
 
--- 1 or 0 (own)
+-- the text of a flag: 1 or 0 (own)
 abbrev pub flag_text : Bool → List ℕ
 flag_text b = if b then codes "1" else codes "0"
 
--- a place in mm; `-` where there is none (own)
+-- the text of a place in mm; `-` where there is none (own)
 abbrev pub place_text : Option ℤ → List ℕ
 place_text None = codes "-"
 place_text (Some z) = signed_decimal z
@@ -37,7 +37,7 @@ fields_of r =
     decimal r.time ∷ state_text r.state ∷ status_text r.held.status ∷ flag_text r.held.tco ∷ flag_text r.held.sb ∷ flag_text r.held.eb ∷ flag_text r.covered
     ∷ decimal r.ceiling ∷ place_text r.ebi ∷ place_text r.sbi ∷ place_text r.warning ∷ place_text r.permitted ∷ place_text r.indication ∷ []
 
--- fields with commas between them, and a line feed (own)
+-- the line of fields, with commas between them and a line feed at the end (own)
 abbrev pub line_of : List (List ℕ) → List ℕ
 line_of fields = join_with_byte 44 fields ++ codes "\n"
 

@@ -48,7 +48,7 @@ passes_ebi speed est max shift t limit = option_map_or (passes speed est max shi
 abbrev pub some_passed : Situation → ℕ → (ℕ → ℕ) → (Target → Fraction) → Bool
 some_passed s shift margin limit = list_any (λ t. passes s.speed s.est s.front shift margin t (limit t)) s.targets
 
--- some target is passed by its EBI, of the targets that have one (own)
+-- some target that has an EBI is passed by it (own)
 abbrev pub some_ebi_passed : Situation → ℕ → (Target → Option Fraction) → Bool
 some_ebi_passed s shift limit = list_any (λ t. passes_ebi s.speed s.est s.front shift t (limit t)) s.targets
 
@@ -64,28 +64,30 @@ above_release s = option_map_or (λ kmh. nat_lt (notches kmh) s.speed) s.release
 abbrev pub no_margin : ℕ → ℕ
 no_margin kmh = 0
 
--- past the permitted speed (SUBSET-026-3 3.13.10; own table)
+-- the speed is above the permitted speed: that of the ceiling, of a target past its permitted limit, or the release speed
+-- (SUBSET-026-3 3.13.10; own table)
 abbrev pub is_over : (Target → SupervisionLimits) → ℕ → Situation → Bool
 is_over limits shift s = above_ceiling s no_margin || some_passed s shift no_margin (λ t. (limits t).permitted) || above_release s
 
--- past a warning limit (SUBSET-026-3 3.13.10; own table)
+-- the warning limit of the ceiling or of a target is passed (SUBSET-026-3 3.13.10; own table)
 abbrev pub is_warned : (Target → SupervisionLimits) → ℕ → Situation → Bool
 is_warned limits shift s = above_ceiling s warning_margin || some_passed s shift warning_margin (λ t. (limits t).warning)
 
--- past a service brake intervention limit (SUBSET-026-3 3.13.10; own table)
+-- the SBI limit of the ceiling or of a target is passed (SUBSET-026-3 3.13.10; own table)
 abbrev pub is_service : (Target → SupervisionLimits) → ℕ → Situation → Bool
 is_service limits shift s = above_ceiling s sbi_margin || some_passed s shift sbi_margin (λ t. (limits t).sbi)
 
--- past the EBI limit of the ceiling or of a target (SUBSET-026-3 3.13.10; own table)
+-- the EBI limit of the ceiling or of a target is passed (SUBSET-026-3 3.13.10; own table)
 abbrev pub is_ebi_passed : (Target → SupervisionLimits) → ℕ → Situation → Bool
 is_ebi_passed limits shift s = above_ceiling s ebi_margin || some_ebi_passed s shift (λ t. (limits t).ebi)
 
--- an emergency: past an EBI, past the EOA, above the release speed, or past an SBI with no service brake in use
+-- an emergency: an EBI is passed, the min safe front end is past the EOA, the speed is above the release speed, or an SBI is passed
+-- with no service brake in use
 -- (SUBSET-026-3 3.13.10; own table)
 abbrev pub is_emergency : (Target → SupervisionLimits) → ℕ → Situation → Bool
 is_emergency limits shift s = is_ebi_passed limits shift s || s.past_end || above_release s || (is_service limits shift s && not s.in_use)
 
--- the four triggers (SUBSET-026-3 3.13.10; own tables)
+-- the triggers of the four kinds of limits: permitted, warning, SBI and EBI (SUBSET-026-3 3.13.10; own tables)
 unfoldable pub triggers_of : (Target → SupervisionLimits) → ℕ → Situation → Triggers
 triggers_of limits shift s = record { over = is_over limits shift s; warn = is_warned limits shift s; serv = is_service limits shift s; emer = is_emergency limits shift s }
 
