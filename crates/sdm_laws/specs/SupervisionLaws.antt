@@ -65,6 +65,7 @@ pub record AreEarly (d : LineData) (r : OdometerReading) : Type 0 where
       IsJustBefore (release_start computed d eoa svl release) (release_start exact_places d eoa svl release)
   pub fine : most_slack < millimetre
 
+-- computed limits are early for the exact ones, and so is the start of release speed monitoring
 abbrev pub LawOfLimits : Type 0
 LawOfLimits = (s : Supervision) (r : OdometerReading) → IsOpen s → AreEarly s.line r
 
