@@ -132,14 +132,14 @@ def read_failed(journey, ended):
 
 
 def write_failed(journey, ended):
-    """A write to out failed: out holds a front of the text."""
+    """A write to out failed: out holds a prefix of the text."""
     if ended.code != 3 or ended.err != WRITE_LINE:
         return "it isn't code 3 with its line"
-    return None if journey.whole.out.startswith(ended.out) else "out holds no front of the text"
+    return None if journey.whole.out.startswith(ended.out) else "out holds no prefix of the text"
 
 
 def line_failed(journey, ended):
     """A write to err failed: nothing else changed."""
     if (ended.code, ended.out) != (journey.whole.code, journey.whole.out):
         return "the code or out changed"
-    return None if journey.whole.err.startswith(ended.err) else "err holds no front of the line"
+    return None if journey.whole.err.startswith(ended.err) else "err holds no prefix of the line"

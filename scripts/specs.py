@@ -25,7 +25,7 @@ class Definition:
 
     def is_claim(self):
         """Something that holds or doesn't, as against a value or a type of data."""
-        claims = r"(?:Is|Are|Has|Keeps|Stops|Slows|Meets|Takes|Comes|Reads|Appends|Begins|Law|In)[A-Z]"
+        claims = r"(?:Is|Are|Has|Keeps|Stops|Slows|Meets|Takes|Comes|Leaves|Needs|Reads|Appends|Begins|Law|In)[A-Z]"
         return "Type 0" in self.text and bool(re.match(claims, self.name))
 
     def is_data(self):

@@ -14,7 +14,7 @@ from .journey import CM_PER_M, highest, steps
 from .sheet import (ABOVE, BLACK, COMMAND, GREY, HEIGHT, LEFT, LETTER, LEVEL, PALE, RIGHT, SMALL, STATUSES, STRIP, WHITE, WIDTH,
                     Shade, across, block, frame, label, rgb, seconds, spot, up)
 
-# Limits and targets farther from the train than this many m, or than twice the way that it runs, are left out.
+# Limits and targets farther from the train than this many m, or than twice the distance that it runs, are left out.
 LEAST_REACH = 5000
 LEAST_WIDTH = 100
 

@@ -33,7 +33,7 @@ class BrakeCurve:
         return self._along(leg.place, leg.square, leg.slope, square)
 
     def _along(self, place, square, slope, to_square):
-        """5·10¹²·q · (change of the square) = 27 · slope · way. A stepped place is rounded down, back and forward."""
+        """5·10¹²·q · (change of the square) = 27 · slope · distance. A stepped place is rounded down, back and forward."""
         change, pull = square - to_square, 27 * slope
         return place + (Fraction(change) / pull if self.exact else change // pull)
 

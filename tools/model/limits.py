@@ -3,7 +3,7 @@ from collections import namedtuple
 
 from .data import Limit, Stop
 from .speeds import dV_ebi, falls
-from .units import GRAINS_PER_CM, NOTCHES_PER_CM_S2_DS, NOTCHES_PER_KM_H, NOTCHES_PER_MM_S, way
+from .units import GRAINS_PER_CM, NOTCHES_PER_CM_S2_DS, NOTCHES_PER_KM_H, NOTCHES_PER_MM_S, distance_at
 
 T_warning, T_driver, A_EST2_MOST = 20, 40, 40  # ds, ds, cm/s²
 
@@ -51,8 +51,8 @@ def until_the_emergency_brake_works(data, times, reading, V_target):
     V_target *= NOTCHES_PER_KM_H
     V_after_traction = max(reading.V_est + V_delta0 + V_delta1, V_target)
     V_bec = V_after_traction + V_delta2
-    D_bec = (way(max(reading.V_est + V_delta0 + V_delta1 // 2, V_target), times.T_traction)
-             + way(V_after_traction + V_delta2 // 2, times.T_berem))
+    D_bec = (distance_at(max(reading.V_est + V_delta0 + V_delta1 // 2, V_target), times.T_traction)
+             + distance_at(V_after_traction + V_delta2 // 2, times.T_berem))
     return V_bec, D_bec
 
 # PROFILE "Limits of a target". x is the front end that is compared; `curve` is d_EBD(V_bec), for Eoa d_SBD(V_est);
@@ -65,18 +65,18 @@ def limits_of(data, times, curves, reading, target, exact=False):
     if target.kind == "Eoa":
         V_bec = D_bec = d_EBI = None
         curve = curves.d_SBD(f, w, V_est, exact)
-        d_SBI = curve - way(V_est, times.T_bs)
+        d_SBI = curve - distance_at(V_est, times.T_bs)
     else:
         V_bec, D_bec = until_the_emergency_brake_works(data, times, reading, target.V_target)
         curve = curves.d_EBD(f, w, V_bec, exact)
         d_EBI = curve - D_bec
-        d_SBI = d_EBI - way(V_est, times.T_bs)
-    d_P, guide = d_SBI - way(V_est, T_driver), None
+        d_SBI = d_EBI - distance_at(V_est, times.T_bs)
+    d_P, guide = d_SBI - distance_at(V_est, T_driver), None
     if data.national.guidance and target.kind != "Svl":
         guide = curves.d_guide(f, target.V_target * NOTCHES_PER_KM_H, V_est, exact)
         d_P = min(d_P, guide)
     return TargetLimits(target, reading.front_end(target.compared), V_bec, D_bec, curve, guide,
-                        d_EBI, d_SBI, d_SBI - way(V_est, T_warning), d_P, d_P - way(V_est, times.T_indication))
+                        d_EBI, d_SBI, d_SBI - distance_at(V_est, T_warning), d_P, d_P - distance_at(V_est, times.T_indication))
 
 def release_start(times, curves, authority, exact=False):
     """PROFILE "Release speed monitoring": the start of it, None where there is no release speed."""
@@ -85,7 +85,7 @@ def release_start(times, curves, authority, exact=False):
     V_rel = authority.release * NOTCHES_PER_KM_H
     d_SBD = curves.d_SBD(authority.eoa * GRAINS_PER_CM, 0, V_rel, exact)
     d_EBD = curves.d_EBD(authority.svl * GRAINS_PER_CM, 0, V_rel, exact)
-    return min(d_SBD - way(V_rel, times.T_bs), d_EBD - way(V_rel, times.T_traction + times.T_berem + times.T_bs))
+    return min(d_SBD - distance_at(V_rel, times.T_bs), d_EBD - distance_at(V_rel, times.T_traction + times.T_berem + times.T_bs))
 
 def targets_of(profile, authority, reading, in_release):
     """PROFILE "Targets", at a reading: the falls by their places, then the ends of the authority."""

@@ -6,7 +6,7 @@ GRAINS_PER_MM, GRAINS_PER_CM = 540_000_000, 5_400_000_000     # a centimetre is 
 NOTCHES_PER_MM_S, NOTCHES_PER_KM_H = 54, 15_000
 NOTCHES_PER_CM_S2_DS, GRAINS_PER_NOTCH_DS = 54, 1_000_000     # 1 cm/s² for 1 ds; a notch for 1 ds
 
-def way(speed, time):
+def distance_at(speed, time):
     """PROFILE "Units": the grains that a speed in notches takes in a time in ds."""
     return speed * time * GRAINS_PER_NOTCH_DS
 

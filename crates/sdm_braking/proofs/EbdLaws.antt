@@ -8,7 +8,7 @@ use Rattle.sdm_rules.specs.declared.data.SlopeKind.TheVariants.{Expected, Normal
 use Rattle.sdm_rules.specs.declared.targets.TargetKind.{TargetKind}
 use Rattle.sdm_rules.specs.declared.targets.TargetKind.TheVariants.{Mrsp, Loa, Eoa, Svl}
 use Rattle.sdm_rules.specs.declared.targets.Target.{Target}
-use Rattle.sdm_rules.specs.Data.{LineData}
+use Rattle.sdm_rules.specs.Data.{TrainAndTrack}
 use Rattle.sdm_rules.specs.Decelerations.{slopes_of}
 use Rattle.sdm_rules.specs.Limits.{CurvePlaces, ebd_limits_of, guidance_place, limits_of, limits_of_kind}
 use Rattle.sdm_rules.specs.Targets.{foot_speed_of}
@@ -16,7 +16,7 @@ use Rattle.sdm_braking.specs.declared.kept_targets.KeptTarget.{KeptTarget}
 use Rattle.sdm_braking.specs.KeptCurves.{IsCurveOn, IsKeptTarget, brake_kind}
 
 -- the curve that is kept is an EBD
-pub ebd_of : (d : LineData) (k : KeptTarget) → brake_kind k.target.kind ≡ Safe → IsKeptTarget d k → IsCurveOn (slopes_of Safe d) k.target.place (foot_speed_of k.target) k.brake
+pub ebd_of : (d : TrainAndTrack) (k : KeptTarget) → brake_kind k.target.kind ≡ Safe → IsKeptTarget d k → IsCurveOn (slopes_of Safe d) k.target.place (foot_speed_of k.target) k.brake
 ebd_of d k safe kept = subst (λ (kind : SlopeKind). IsCurveOn (slopes_of kind d) k.target.place (foot_speed_of k.target) k.brake) safe kept.brake
 
 -- no other slopes are the safe ones
@@ -26,14 +26,14 @@ IsOther Expected = ⊤
 IsOther Normal = ⊤
 
 -- an EBI that is that of the EBD, whatever the guide, is that of the target
-ebi_of_kind : (P : CurvePlaces) (d : LineData) (r : OdometerReading) (t : Target) (ebi : Option Fraction) (kind : TargetKind) → brake_kind kind ≡ Safe →
+ebi_of_kind : (P : CurvePlaces) (d : TrainAndTrack) (r : OdometerReading) (t : Target) (ebi : Option Fraction) (kind : TargetKind) → brake_kind kind ≡ Safe →
     ((guide : Option Fraction) → ebi ≡ (ebd_limits_of P d r t guide).ebi) → ebi ≡ (limits_of_kind P d r t kind).ebi
 ebi_of_kind P d r t ebi Mrsp safe is = is (guidance_place P d r t)
 ebi_of_kind P d r t ebi Loa safe is = is (guidance_place P d r t)
 ebi_of_kind P d r t ebi Eoa safe is = absurd (subst IsOther safe tt)
 ebi_of_kind P d r t ebi Svl safe is = is None
 
-pub ebi_of : (P : CurvePlaces) (d : LineData) (r : OdometerReading) (t : Target) (ebi : Option Fraction) → brake_kind t.kind ≡ Safe →
+pub ebi_of : (P : CurvePlaces) (d : TrainAndTrack) (r : OdometerReading) (t : Target) (ebi : Option Fraction) → brake_kind t.kind ≡ Safe →
     ((guide : Option Fraction) → ebi ≡ (ebd_limits_of P d r t guide).ebi) → ebi ≡ (limits_of P d r t).ebi
 unfolding limits_of
 ebi_of P d r t ebi safe is = ebi_of_kind P d r t ebi t.kind safe is

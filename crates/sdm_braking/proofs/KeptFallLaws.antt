@@ -11,7 +11,7 @@ use Rattle.std.proofs.lemmas.List.{drop_more, get_or-drop, get_or_default, take_
 use Rattle.std.proofs.lemmas.List.Elements.{All-append, All-cons, All-drop, All-take}
 use Rattle.sdm_rules.specs.declared.targets.Fall.{Fall}
 use Rattle.sdm_rules.specs.declared.restrictions.Restriction.{Restriction}
-use Rattle.sdm_rules.specs.Data.{LineData}
+use Rattle.sdm_rules.specs.Data.{TrainAndTrack}
 use Rattle.sdm_rules.specs.Records.{most_restrictions, restrict_fault, revoke_fault}
 use Rattle.sdm_rules.specs.Targets.{is_fall, IsNextFall}
 use Rattle.sdm_speed.specs.declared.changes.Changed.{Changed}
@@ -122,7 +122,7 @@ some [] i known = absurd (omega arith)
 some (k ∷ ks) i known = k
 
 -- what is kept of a fall stands at its place: what was before stands before it, and what was left past it
-pub record IsPlaced (d : LineData) (at : ℤ) (i : ℕ) (fall : Fall) (was now : KeptFallsData) : Type 0 where
+pub record IsPlaced (d : TrainAndTrack) (at : ℤ) (i : ℕ) (fall : Fall) (was now : KeptFallsData) : Type 0 where
   pub known : i < length now.list
   pub before : take i now.list ≡ take i was.list
   pub here : (k : KeptFall) → (get_or now.list i k).fall ≡ fall
@@ -130,7 +130,7 @@ pub record IsPlaced (d : LineData) (at : ℤ) (i : ℕ) (fall : Fall) (was now :
   pub each : All (IsKeptFall d) now.list
   pub room : now.room ≡ was.room
 
-pub each_placed : (d : LineData) (old new : List KeptFall) (i : ℕ) → i < length new → take i new ≡ take i old → drop (i + 1) new ≡ drop i old → ((k : KeptFall) → IsKeptFall d (get_or new i k)) → All (IsKeptFall d) old → All (IsKeptFall d) new
+pub each_placed : (d : TrainAndTrack) (old new : List KeptFall) (i : ℕ) → i < length new → take i new ≡ take i old → drop (i + 1) new ≡ drop i old → ((k : KeptFall) → IsKeptFall d (get_or new i k)) → All (IsKeptFall d) old → All (IsKeptFall d) new
 each_placed d old new i known before past here each =
     let k = some new i known in
     let parts = drop_more new i k known in
@@ -175,7 +175,7 @@ held_if : {F : Type 0} (b : Bool) (fault : F) → (if b then None else Some faul
 held_if true fault none = refl
 held_if false fault none = absurd cc
 
-module _ (d : LineData) (p q : ProfileData) (changed : Changed) (v : KeptFallsData) (kept : AreKeptFalls d p v) (in_range : IsProfile p) (same : AreSameOutside (mrsp_of p) (mrsp_of q) changed) where
+module _ (d : TrainAndTrack) (p q : ProfileData) (changed : Changed) (v : KeptFallsData) (kept : AreKeptFalls d p v) (in_range : IsProfile p) (same : AreSameOutside (mrsp_of p) (mrsp_of q) changed) where
   -- a restriction that comes
   pub after_imposed : (r : Restriction) → restrict_fault p.track_cm p.restrictions r ≡ None → q ≡ record p { restrictions = finite.insert p.restrictions r.id r } → AreOfProfileBefore d q changed v
   after_imposed r none is =

@@ -10,9 +10,9 @@ use Rattle.sdm_rules.specs.declared.targets.Fall.{Fall}
 use Rattle.sdm_rules.specs.declared.targets.TargetKind.{TargetKind}
 use Rattle.sdm_rules.specs.declared.targets.TargetKind.TheVariants.{Mrsp, Loa, Eoa, Svl}
 use Rattle.sdm_rules.specs.declared.targets.Target.{Target}
-use Rattle.sdm_rules.specs.Cells.{border_of}
+use Rattle.sdm_rules.specs.Cells.{place_of_cell}
 use Rattle.sdm_rules.specs.Slopes.{Slopes}
-use Rattle.sdm_rules.specs.Data.{LineData}
+use Rattle.sdm_rules.specs.Data.{TrainAndTrack}
 use Rattle.sdm_rules.specs.Decelerations.{slopes_of}
 use Rattle.sdm_rules.specs.Limits.{computed}
 use Rattle.sdm_rules.specs.Margins.{sbi_margin, warning_margin}
@@ -41,14 +41,14 @@ brake_kind Eoa = Expected
 brake_kind Svl = Safe
 
 -- whether a target has a guidance curve; the SvL has none of its own (SUBSET-026-3 3.13.8.5; own)
-abbrev pub is_guided : LineData → TargetKind → Bool
+abbrev pub is_guided : TrainAndTrack → TargetKind → Bool
 is_guided d Mrsp = d.national.guidance
 is_guided d Loa = d.national.guidance
 is_guided d Eoa = d.national.guidance
 is_guided d Svl = false
 
 -- the guidance curve of a target, where it has one (SUBSET-026-3 3.13.8.5; own)
-abbrev pub IsGuideOf : LineData → Target → Option BrakeCurve → Type 0
+abbrev pub IsGuideOf : TrainAndTrack → Target → Option BrakeCurve → Type 0
 IsGuideOf d t None = is_guided d t.kind ≡ false
 IsGuideOf d t (Some guide) = (is_guided d t.kind ≡ true) × IsCurveOn (slopes_of Normal d) t.place (target_speed t) guide
 
@@ -60,42 +60,42 @@ pub record AreSpeedsOf (t : Target) (s : SpeedLimits) : Type 0 where
   pub sbi : s.sbi ≡ with_margin sbi_margin t
   pub ebi : s.ebi ≡ foot_speed_of t
 
--- a target that is kept stands beside its speeds and its curves on a line: its EBD or, for an EOA, its SBD, and its guidance curve if it
+-- a target that is kept stands beside its speeds and its curves: its EBD or, for an EOA, its SBD, and its guidance curve if it
 -- has one (SUBSET-026-3 3.13.8.3 to 3.13.8.5)
-pub record IsKeptTarget (d : LineData) (k : KeptTarget) : Type 0 where
+pub record IsKeptTarget (d : TrainAndTrack) (k : KeptTarget) : Type 0 where
   pub target : IsTarget k.target
   pub speeds : AreSpeedsOf k.target k.speeds
   pub brake : IsCurveOn (slopes_of (brake_kind k.target.kind) d) k.target.place (foot_speed_of k.target) k.brake
   pub guide : IsGuideOf d k.target k.guide
 
 -- a kept target is this one, with its curves (own)
-pub record IsKeptAt (d : LineData) (t : Target) (k : KeptTarget) : Type 0 where
+pub record IsKeptAt (d : TrainAndTrack) (t : Target) (k : KeptTarget) : Type 0 where
   pub at : k.target ≡ t
   pub kept : IsKeptTarget d k
 
 -- what is kept of the end of an authority: its targets with their curves (own)
-abbrev pub IsKeptEnd : LineData → Authority → KeptEnd → Type 0
+abbrev pub IsKeptEnd : TrainAndTrack → Authority → KeptEnd → Type 0
 IsKeptEnd d (Stop eoa svl release) (KeptStop e s) =
-    IsKeptAt d (record { kind = Eoa; place = border_of (pos eoa); speed = 0 }) e × IsKeptAt d (record { kind = Svl; place = border_of (pos svl); speed = 0 }) s
+    IsKeptAt d (record { kind = Eoa; place = place_of_cell (pos eoa); speed = 0 }) e × IsKeptAt d (record { kind = Svl; place = place_of_cell (pos svl); speed = 0 }) s
 IsKeptEnd d (Stop eoa svl release) (KeptLimit l) = ⊥
 IsKeptEnd d (Limit loa speed) (KeptStop e s) = ⊥
-IsKeptEnd d (Limit loa speed) (KeptLimit l) = IsKeptAt d (record { kind = Loa; place = border_of (pos loa); speed = speed }) l
+IsKeptEnd d (Limit loa speed) (KeptLimit l) = IsKeptAt d (record { kind = Loa; place = place_of_cell (pos loa); speed = speed }) l
 
 -- the EBD of the SvL or of the LOA (own)
-abbrev pub brake_of : KeptEnd → BrakeCurve
-brake_of (KeptStop e s) = s.brake
-brake_of (KeptLimit l) = l.brake
+abbrev pub brake_curve_of : KeptEnd → BrakeCurve
+brake_curve_of (KeptStop e s) = s.brake
+brake_curve_of (KeptLimit l) = l.brake
 
 -- the targets at the end of an authority; in release speed monitoring the EOA and the SvL are none (SUBSET-026-3 3.13.8.2; own)
 abbrev pub targets_in : KeptEnd → Bool → List Target
-targets_in (KeptStop e s) released = if released then [] else e.target ∷ s.target ∷ []
-targets_in (KeptLimit l) released = l.target ∷ []
+targets_in (KeptStop e s) in_release_monitoring = if in_release_monitoring then [] else e.target ∷ s.target ∷ []
+targets_in (KeptLimit l) in_release_monitoring = l.target ∷ []
 
 -- the targets at the end of an authority stand beside their curves (own)
-abbrev pub AreKept : LineData → KeptEnd → Type 0
+abbrev pub AreKept : TrainAndTrack → KeptEnd → Type 0
 AreKept d (KeptStop e s) = IsKeptTarget d e × IsKeptTarget d s
 AreKept d (KeptLimit l) = IsKeptTarget d l
 
 -- the place of a target's guidance curve at a reading, where it has one (SUBSET-026-3 3.13.8.5; own)
-abbrev pub guide_at : LineData → OdometerReading → Target → Option Fraction
+abbrev pub guide_at : TrainAndTrack → OdometerReading → Target → Option Fraction
 guide_at d r t = if is_guided d t.kind then Some (computed (slopes_of Normal d) t.place (target_speed t) r.speed) else None

@@ -2,7 +2,7 @@
 use Rattle.std.specs.Prelude.{◌≡◌, ℕ, ℤ, negsuc, true, false, List, Option, Some, None, All, length, slice_index_or, ◌+◌, ◌<◌, ◌≤◌, ◌≤ℤ◌, ◌<ℤ◌}
 use Rattle.sdm_rules.specs.declared.targets.Fall.{Fall}
 use Rattle.sdm_rules.specs.declared.targets.Target.{Target}
-use Rattle.sdm_rules.specs.Data.{LineData}
+use Rattle.sdm_rules.specs.Data.{TrainAndTrack}
 use Rattle.sdm_rules.specs.Profile.{Zone}
 use Rattle.sdm_rules.specs.Records.{most_restrictions}
 use Rattle.sdm_rules.specs.Targets.{is_fall, IsNextFall}
@@ -28,7 +28,7 @@ abbrev pub at_fall : KeptFall → Target
 at_fall k = target_at k.fall
 
 -- a fall that is kept stands beside the target at it with its curves (own)
-pub record IsKeptFall (d : LineData) (k : KeptFall) : Type 0 where
+pub record IsKeptFall (d : TrainAndTrack) (k : KeptFall) : Type 0 where
   pub at : target_of k ≡ at_fall k
   pub kept : IsKeptTarget d k.kept.value
 
@@ -41,9 +41,9 @@ pub record KeptFallsData : Type 0 where
 abbrev pub first_cell : ℤ
 first_cell = negsuc 2_147_483_647
 
--- what is kept of the falls of a profile on a line: one entry for each, in order, with its curves. There is room for as many as the entries
+-- what is kept of the falls of a profile: one entry for each, in order, with its curves. There is room for as many as the entries
 -- of the static speed profile and the most restrictions (own)
-pub record AreKeptFalls (d : LineData) (p : ProfileData) (v : KeptFallsData) : Type 0 where
+pub record AreKeptFalls (d : TrainAndTrack) (p : ProfileData) (v : KeptFallsData) : Type 0 where
   pub falls : AreAtFalls fall_of (mrsp_of p) first_cell v.list
   pub each : All (IsKeptFall d) v.list
   pub room : length p.speeds + most_restrictions ≤ v.room
@@ -54,19 +54,19 @@ pub record IsFallAt (p : ℤ → ℕ) (at : ℤ) (fall : Fall) : Type 0 where
   pub falls : is_fall p at ≡ true
   pub speed : fall.speed ≡ p at
 
--- the first `i` of a list lie at the border of a cell or before it, and the others past it (own)
+-- the first `i` of a list lie at the start of a cell or before it, and the others past it (own)
 pub record ArePartedPast (last : ℤ) (ks : List KeptFall) (i : ℕ) : Type 0 where
   pub reached : (k : ℕ) (d : KeptFall) → k < i → k < length ks → (slice_index_or ks k d).fall.cell ≤ℤ last
   pub past : (k : ℕ) (d : KeptFall) → i ≤ k → k < length ks → last <ℤ (slice_index_or ks k d).fall.cell
 
--- the next fall of a profile past the border of a cell, if it is at the border of the cell `last` or before it (own)
+-- the next fall of a profile past the start of a cell, if it is at the start of the cell `last` or before it (own)
 abbrev pub IsNextUpTo : (ℤ → ℕ) → ℤ → ℤ → Option Fall → Type 0
 IsNextUpTo p after last None = (c : ℤ) → after <ℤ c → c ≤ℤ last → is_fall p c ≡ false
 IsNextUpTo p after last (Some fall) = IsNextFall p after fall × (fall.cell ≤ℤ last)
 
 -- what is kept is that of a profile which is the same as this one outside the cells that changed. Both fall only where one of some zones
 -- begins, of which there are no more than there is room for (own)
-pub record AreOfProfileBefore (d : LineData) (p : ProfileData) (changed : Changed) (v : KeptFallsData) : Type 0 where
+pub record AreOfProfileBefore (d : TrainAndTrack) (p : ProfileData) (changed : Changed) (v : KeptFallsData) : Type 0 where
   pub old : ProfileData
   pub kept : AreKeptFalls d old v
   pub speeds : p.speeds ≡ old.speeds

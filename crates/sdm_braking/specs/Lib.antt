@@ -1,4 +1,4 @@
-pub mod Lines
+pub mod Braking
 pub mod KeptCurves
 pub mod KeptFalls
 pub mod Asked

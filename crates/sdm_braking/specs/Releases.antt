@@ -2,7 +2,7 @@
 use Rattle.std.specs.Prelude.{◌≡◌, ℕ, ℤ, Option, Some, None, ⊤, ◌<◌, ◌≤◌, if◌then◌else◌}
 use Rattle.sdm_rules.specs.declared.authorities.Authority.{Authority}
 use Rattle.sdm_rules.specs.declared.authorities.Authority.TheVariants.{Stop, Limit}
-use Rattle.sdm_rules.specs.Data.{LineData}
+use Rattle.sdm_rules.specs.Data.{TrainAndTrack}
 use Rattle.sdm_rules.specs.Limits.{computed, release_start}
 use Rattle.sdm_rules.specs.Triggers.{is_past}
 use Rattle.sdm_rules.specs.Ranges.{top_kmh}
@@ -10,14 +10,14 @@ use Rattle.sdm_limits.specs.Sides.{place_of}
 use Rattle.sdm_braking.specs.declared.releases.Release.{Release}
 
 -- what is kept of a release speed in km/h: the speed, and the computed start of its monitoring (SUBSET-026-3 3.13.9.4; range own)
-pub record IsStartOf (d : LineData) (eoa svl speed_kmh : ℕ) (release : Release) : Type 0 where
+pub record IsStartOf (d : TrainAndTrack) (eoa svl speed_kmh : ℕ) (release : Release) : Type 0 where
   pub speed : release.speed_kmh ≡ speed_kmh
   pub some : 0 < speed_kmh
   pub range : speed_kmh ≤ top_kmh
   pub start : place_of release.start ≡ release_start computed d eoa svl speed_kmh
 
 -- what is kept of an authority's release speed; none where the authority has no release speed (SUBSET-026-3 3.13.9.4; own)
-abbrev pub IsReleaseOf : LineData → Authority → Option Release → Type 0
+abbrev pub IsReleaseOf : TrainAndTrack → Authority → Option Release → Type 0
 IsReleaseOf d (Stop eoa svl speed) (Some release) = IsStartOf d eoa svl speed release
 IsReleaseOf d (Stop eoa svl speed) None = speed ≡ 0
 IsReleaseOf d (Limit loa speed) (Some release) = ⊥
@@ -25,6 +25,6 @@ IsReleaseOf d (Limit loa speed) None = ⊤
 
 -- the release speed that is kept, in km/h, where a max safe front end is past the start of its monitoring
 -- (SUBSET-026-3 3.13.10.5; own)
-abbrev pub released : Option Release → ℤ → Option ℕ
-released None front = None
-released (Some release) front = if is_past 0 front (place_of release.start) then Some release.speed_kmh else None
+abbrev pub release_speed_at : Option Release → ℤ → Option ℕ
+release_speed_at None front = None
+release_speed_at (Some release) front = if is_past 0 front (place_of release.start) then Some release.speed_kmh else None

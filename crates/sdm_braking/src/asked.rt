@@ -3,7 +3,7 @@
 
 ghost use Rattle.std.specs.Prelude.{◌≡◌};
 ghost use Rattle.sdm_num.specs.Readings.{IsReading};
-ghost use Rattle.sdm_rules.specs.Data.{LineData};
+ghost use Rattle.sdm_rules.specs.Data.{TrainAndTrack};
 ghost use Rattle.sdm_rules.specs.Limits.{v_bec_for};
 ghost use Rattle.sdm_rules.specs.Supervision.{is_met_by_speed};
 ghost use Rattle.sdm_rules.specs.Targets.{foot_speed_of};
@@ -12,7 +12,7 @@ ghost use Rattle.sdm_braking.specs.Asked.{IsAsked};
 ghost use Rattle.sdm_braking.specs.KeptCurves.{AreSpeedsOf};
 
 use crate::kept_targets::KeptTarget;
-use crate::lines::Line;
+use crate::braking::Braking;
 use sdm_curve::AskedSpeed;
 use sdm_limits::BuildUp;
 use sdm_num::{Reading, Speed};
@@ -32,8 +32,8 @@ pub struct AskedReading<'a> {
     pub guided_v_est: Option<AskedSpeed>,
 }
 
-impl Line {
-    /// A reading with what limits on this line ask of it.
+impl Braking {
+    /// A reading with what the limits of this journey ask of it.
     pub fn asked<'a>(&self, reading: &'a Reading) -> AskedReading<'a>
         requires { IsReading reading.now }
         ensures reading { result.reading.now ≡ reading.now }
@@ -59,11 +59,11 @@ impl Line {
 }
 
 impl AskedReading<'_> {
-    /// Whether the train needs no way to brake for a target: it is one of speed, and V_bec is at most its foot speed. (own)
+    /// Whether the train needs no distance to brake for a target: it is one of speed, and V_bec is at most its foot speed. (own)
     pub fn is_met_by_speed(&self, kept: &KeptTarget) -> bool
         requires target { IsTarget kept.now.target }
         requires speeds { AreSpeedsOf kept.now.target kept.now.speeds }
-        ensures { (d : LineData) → IsAsked d self.now →
+        ensures { (d : TrainAndTrack) → IsAsked d self.now →
             result ≡ is_met_by_speed kept.now.target.kind
             (v_bec_for d self.now.reading.now kept.now.target) (foot_speed_of kept.now.target) }
     {

@@ -11,7 +11,7 @@ ghost use Rattle.sdm_braking.specs.KeptFalls.{AreOfProfileBefore};
 
 use crate::kept_ends::KeptEnd;
 use crate::kept_falls::KeptFalls;
-use crate::lines::Line;
+use crate::braking::Braking;
 use crate::releases::Release;
 use sdm_num::NoMemory;
 use sdm_speed::{Changed, Profile};
@@ -33,16 +33,16 @@ impl Kept {
     /// What is to be kept of a profile and an authority. Takes the room for all falls that there may be.
     pub fn begin(
         alloc: Global,
-        line: &Line,
+        braking: &Braking,
         profile: &Profile,
         authority: &Authority,
     ) -> Result<Kept, NoMemory>
-        requires { authority_fault line.now.track.length_cm authority.now ≡ None }
-        ensures { IfOk result (IsKept line.now profile.now authority.now) }
+        requires { authority_fault braking.now.track.length_cm authority.now ≡ None }
+        ensures { IfOk result (IsKept braking.now profile.now authority.now) }
     {
-        let falls = KeptFalls::begin(alloc, line, profile)?;
-        let end = line.keep_end(authority);
-        let release = line.release(authority, &end);
+        let falls = KeptFalls::begin(alloc, braking, profile)?;
+        let end = braking.keep_end(authority);
+        let release = braking.release(authority, &end);
         Ok(Kept {
             falls,
             end,
@@ -51,22 +51,22 @@ impl Kept {
     }
 
     /// Keeps what a new authority asks for; the falls stay.
-    pub fn take_authority(&mut self, line: &Line, authority: &Authority)
-        requires { authority_fault line.now.track.length_cm authority.now ≡ None }
+    pub fn take_authority(&mut self, braking: &Braking, authority: &Authority)
+        requires { authority_fault braking.now.track.length_cm authority.now ≡ None }
         ensures { (p : ProfileData) (before : Authority) →
-            IsKept line.now p before self.old → IsKept line.now p authority.now self.new }
+            IsKept braking.now p before self.old → IsKept braking.now p authority.now self.new }
     {
-        self.end = line.keep_end(authority);
-        self.release = line.release(authority, &self.end);
+        self.end = braking.keep_end(authority);
+        self.release = braking.release(authority, &self.end);
     }
 
     /// Keeps what a profile asks for that is the one before but for some cells; the end of the authority stays.
-    pub fn take_profile(&mut self, line: &Line, profile: &Profile, changed: Changed)
-        requires before { AreOfProfileBefore line.now profile.now changed self.old.falls }
+    pub fn take_profile(&mut self, braking: &Braking, profile: &Profile, changed: Changed)
+        requires before { AreOfProfileBefore braking.now profile.now changed self.old.falls }
         requires cells { IsChangedInRange changed }
         ensures { (p : ProfileData) (a : Authority) →
-            IsKept line.now p a self.old → IsKept line.now profile.now a self.new }
+            IsKept braking.now p a self.old → IsKept braking.now profile.now a self.new }
     {
-        self.falls.remake(line, profile, changed);
+        self.falls.remake(braking, profile, changed);
     }
 }

@@ -1,19 +1,19 @@
-//! The targets at the end of the authority with their curves, as a supervisor keeps them between records. They follow from the line and
-//! the authority alone.
+//! The targets at the end of the authority with their curves, as a supervisor keeps them between records. They follow from the train and
+//! track and the authority alone.
 
 ghost use Rattle.std.specs.Prelude.{◌≡◌, ◌≤◌, None, pos};
-ghost use Rattle.sdm_rules.specs.Cells.{border_of};
+ghost use Rattle.sdm_rules.specs.Cells.{place_of_cell};
 ghost use Rattle.sdm_rules.specs.declared.authorities.Authority.{Authority};
-ghost use Rattle.sdm_rules.specs.Data.{LineData};
+ghost use Rattle.sdm_rules.specs.Data.{TrainAndTrack};
 ghost use Rattle.sdm_rules.specs.Records.{authority_fault};
 ghost use Rattle.sdm_rules.specs.Supervision.{is_past_end};
 ghost use Rattle.sdm_rules.specs.Targets.{end_of};
 ghost use Rattle.sdm_rules.specs.Ranges.{longest_track, top_kmh};
-ghost use Rattle.sdm_braking.specs.KeptCurves.{IsKeptAt, IsKeptEnd, brake_of};
-ghost use Rattle.sdm_braking.specs.Lines.{IsLine};
+ghost use Rattle.sdm_braking.specs.KeptCurves.{IsKeptAt, IsKeptEnd, brake_curve_of};
+ghost use Rattle.sdm_braking.specs.Braking.{IsSupervisable};
 
 use crate::kept_targets::KeptTarget;
-use crate::lines::Line;
+use crate::braking::Braking;
 use sdm_curve::Curve;
 use sdm_num::Place;
 use sdm_targets::{Authority, Target, TargetKind};
@@ -25,12 +25,12 @@ pub enum KeptEnd {
     Limit { loa: KeptTarget },
 }
 
-impl Line {
-    /// The target of a kind at a border in cm, with its curves.
+impl Braking {
+    /// The target of a kind at a place in cm, with its curves.
     fn keep_at(&self, kind: TargetKind, cm: u32, speed: u16) -> KeptTarget
         requires place { cm ≤ longest_track }
         requires speed { speed ≤ top_kmh }
-        ensures { IsKeptAt self.now (record { kind = kind; place = border_of (pos cm); speed = speed }) result }
+        ensures { IsKeptAt self.now (record { kind = kind; place = place_of_cell (pos cm); speed = speed }) result }
     {
         self.keep(Target {
             kind,
@@ -44,7 +44,7 @@ impl Line {
         requires { authority_fault self.now.track.length_cm authority.now ≡ None }
         ensures value { result ≡ end_of authority.now }
         ensures on_track { result ≤ longest_track }
-        ensures line { IsLine self.now }
+        ensures accepted { IsSupervisable self.now }
     {
         // `track` says that the track, on which the authority lies, is not longer than it may be.
         let _track = self.track();
@@ -76,7 +76,7 @@ impl Line {
 impl KeptEnd {
     /// Whether there is an EOA, and the min safe front end is past it. (SUBSET-026-3 3.13.10; own)
     pub fn is_passed_by(&self, min: Place) -> bool
-        ensures { (d : LineData) (a : Authority) → IsKeptEnd d a self.now → result ≡ is_past_end a min }
+        ensures { (d : TrainAndTrack) (a : Authority) → IsKeptEnd d a self.now → result ≡ is_past_end a min }
     {
         match self {
             KeptEnd::Stop { eoa, .. } => eoa.target.place < min,
@@ -86,7 +86,7 @@ impl KeptEnd {
 
     /// The EBD of the SvL or of the LOA.
     pub fn brake_curve(&self) -> &Curve
-        ensures { result.now ≡ brake_of self.now }
+        ensures { result.now ≡ brake_curve_of self.now }
     {
         match self {
             KeptEnd::Stop { svl, .. } => &svl.brake,

@@ -1,11 +1,11 @@
-//! The falls of the speed profile with their curves, as a supervisor keeps them between records. A fall's curves follow from its border and
-//! the speed beyond it alone, so where a record changes the profile only the borders of the changed cells are looked at, and a fall that
+//! The falls of the speed profile with their curves, as a supervisor keeps them between records. A fall's curves follow from its cell and
+//! the speed beyond it alone, so where a record changes the profile only the starts of the changed cells are looked at, and a fall that
 //! stays keeps its curves. Those stand in boxes, so that the list moves no curve; all boxes are taken at the beginning, and those without a
 //! fall are spare.
 
 ghost use Rattle.std.specs.Prelude.{◌≡◌, ◌+◌, ◌<◌, ◌≤◌, ◌≤ℤ◌, ◌<ℤ◌, ℕ, ℤ, pos, List, map, take, drop, All, [], IfOk, IfSome, MatchOption, true, false, length, slice_index_or, vec_len, vec_capacity};
 ghost use Rattle.std.specs.List.{remove};
-ghost use Rattle.sdm_rules.specs.Data.{LineData};
+ghost use Rattle.sdm_rules.specs.Data.{TrainAndTrack};
 ghost use Rattle.sdm_rules.specs.Records.{most_restrictions};
 ghost use Rattle.sdm_rules.specs.Targets.{is_fall, IsNextFall};
 ghost use Rattle.sdm_rules.specs.Ranges.{longest_track};
@@ -17,7 +17,7 @@ ghost use Rattle.sdm_targets.specs.Lists.{falls_past, target_at, IsTarget};
 ghost use Rattle.sdm_braking.specs.KeptFalls.{at_fall, AreKeptFalls, AreOfProfileBefore, ArePartedPast, IsFallAt, IsKeptFall, IsNextUpTo, KeptFallsData, fall_of, first_cell};
 
 use crate::kept_targets::KeptTarget;
-use crate::lines::Line;
+use crate::braking::Braking;
 use sdm_num::{NoMemory, Place};
 use sdm_rules::Fall;
 use sdm_speed::{Changed, MOST_RESTRICTIONS, Profile};
@@ -66,11 +66,11 @@ fn target_at(fall: Fall) -> Target
 }
 
 /// So many boxes. What they hold until a fall wants them is never asked for.
-fn boxes(alloc: Global, line: &Line, count: usize) -> Result<Vec<Box<KeptTarget>>, NoMemory>
+fn boxes(alloc: Global, braking: &Braking, count: usize) -> Result<Vec<Box<KeptTarget>>, NoMemory>
     ensures count { IfOk result (λ boxes. vec_len boxes ≡ count) }
     ensures room { IfOk result (λ boxes. count ≤ vec_capacity boxes) }
 {
-    let kept = line.keep(Target {
+    let kept = braking.keep(Target {
         kind: TargetKind::Svl,
         place: Place::of_cm(0),
         speed: 0,
@@ -82,7 +82,7 @@ fn boxes(alloc: Global, line: &Line, count: usize) -> Result<Vec<Box<KeptTarget>
     Ok(boxes)
 }
 
-/// The next fall of a profile past the border of the cell `after`, if it is at the border of the cell `last` or before it.
+/// The next fall of a profile past the start of the cell `after`, if it is at the start of the cell `last` or before it.
 fn next_up_to(profile: &Profile, after: i32, last: i32) -> Option<Fall>
     ensures value { IsNextUpTo (mrsp_of profile.now) after last result }
     ensures in_range { IfSome result IsFallInRange }
@@ -93,7 +93,7 @@ fn next_up_to(profile: &Profile, after: i32, last: i32) -> Option<Fall>
     }
 }
 
-/// How many of a list in order lie at the border of the cell `last` or before it.
+/// How many of a list in order lie at the start of the cell `last` or before it.
 fn reached(list: &[KeptFall], last: i64) -> usize
     ensures bound { result ≤ length list.now }
     ensures parted { (p : ℤ → ℕ) (after : ℤ) → AreAtFalls fall_of p after list.now →
@@ -104,7 +104,7 @@ fn reached(list: &[KeptFall], last: i64) -> usize
 
 /// What is kept of the fall at a cell, if there is one.
 fn find(list: &[KeptFall], cell: i32) -> Option<&KeptFall>
-    ensures each { (d : LineData) → All (IsKeptFall d) list.now → IfSome result (λ k. IsKeptFall d k.now) }
+    ensures each { (d : TrainAndTrack) → All (IsKeptFall d) list.now → IfSome result (λ k. IsKeptFall d k.now) }
     ensures falls { (p : ℤ → ℕ) → AreAtFalls fall_of p first_cell list.now → first_cell <ℤ cell →
         MatchOption result (is_fall p cell ≡ false) (λ k. IsFallAt p cell k.now.fall) }
 {
@@ -119,9 +119,9 @@ fn find(list: &[KeptFall], cell: i32) -> Option<&KeptFall>
     Some(kept)
 }
 
-/// Those of a list at the falls past the border of a cell.
+/// Those of a list at the falls past the start of a cell.
 fn past(list: &[KeptFall], after: i32) -> &[KeptFall]
-    ensures each { (d : LineData) → All (IsKeptFall d) list.now → All (IsKeptFall d) result.now }
+    ensures each { (d : TrainAndTrack) → All (IsKeptFall d) list.now → All (IsKeptFall d) result.now }
     ensures falls { (p : ℤ → ℕ) (before : ℤ) → before ≤ℤ after → AreAtFalls fall_of p before list.now →
         AreAtFalls fall_of p after result.now }
 {
@@ -129,10 +129,10 @@ fn past(list: &[KeptFall], after: i32) -> &[KeptFall]
     &list[begun..]
 }
 
-/// Those of a list up to and with the fall at a border in cm.
+/// Those of a list up to and with the fall at a place in cm.
 fn up_to(list: &[KeptFall], end: u32) -> &[KeptFall]
     requires { end ≤ longest_track }
-    ensures each { (d : LineData) → All (IsKeptFall d) list.now → All (IsKeptFall d) result.now }
+    ensures each { (d : TrainAndTrack) → All (IsKeptFall d) list.now → All (IsKeptFall d) result.now }
     ensures falls { (p : ℤ → ℕ) (after : ℤ) → AreAtFalls fall_of p after list.now →
         falls_past p after (pos end) ≡ map at_fall result.now }
 {
@@ -142,40 +142,40 @@ fn up_to(list: &[KeptFall], end: u32) -> &[KeptFall]
 
 impl KeptFalls {
     /// What is kept of the falls of a profile. Takes the boxes for as many as there may be on its track.
-    pub fn begin(alloc: Global, line: &Line, profile: &Profile) -> Result<KeptFalls, NoMemory>
-        ensures { IfOk result (AreKeptFalls line.now profile.now) }
+    pub fn begin(alloc: Global, braking: &Braking, profile: &Profile) -> Result<KeptFalls, NoMemory>
+        ensures { IfOk result (AreKeptFalls braking.now profile.now) }
     {
         let room = profile.speed_count() + MOST_RESTRICTIONS;
         let list = Vec::with_capacity(alloc, room)?;
-        let spare = boxes(alloc, line, room)?;
+        let spare = boxes(alloc, braking, room)?;
         let mut falls = KeptFalls { list, spare };
-        falls.fill(line, profile);
+        falls.fill(braking, profile);
         Ok(falls)
     }
 
     // Keeps the falls of a profile in an empty list.
-    fn fill(&mut self, line: &Line, profile: &Profile)
+    fn fill(&mut self, braking: &Braking, profile: &Profile)
         requires empty { self.old.list ≡ [] }
         requires room { length profile.now.speeds + most_restrictions ≤ self.old.room }
-        ensures { AreKeptFalls line.now profile.now self.new }
+        ensures { AreKeptFalls braking.now profile.now self.new }
     {
         let mut count = 0;
         let mut at = i32::MIN;
         while let Some(fall) = profile.next_fall(at) {
-            self.insert(count, line, fall);
+            self.insert(count, braking, fall);
             count += 1;
             at = fall.cell;
         }
     }
 
-    // What is kept of a fall, in a box that was spare, comes to a place in the list.
-    fn insert(&mut self, i: usize, line: &Line, fall: Fall)
+    // What is kept of a fall, in a box that was spare, comes to an index of the list.
+    fn insert(&mut self, i: usize, braking: &Braking, fall: Fall)
         requires place { i ≤ length self.old.list }
         requires room { length self.old.list < self.old.room }
         requires fall { IsFallInRange fall }
         ensures before { take i self.new.list ≡ take i self.old.list }
         ensures fall { (d : KeptFall) → (slice_index_or self.new.list i d).fall ≡ fall }
-        ensures kept { (d : KeptFall) → IsKeptFall line.now (slice_index_or self.new.list i d) }
+        ensures kept { (d : KeptFall) → IsKeptFall braking.now (slice_index_or self.new.list i d) }
         ensures past { drop (i + 1) self.new.list ≡ drop i self.old.list }
         ensures len { length self.new.list ≡ length self.old.list + 1 }
         ensures room { self.new.room ≡ self.old.room }
@@ -183,7 +183,7 @@ impl KeptFalls {
         let Some(mut kept) = self.spare.pop() else {
             unreachable!()
         };
-        line.keep_in_place(&mut kept, target_at(fall));
+        braking.keep_in_place(&mut kept, target_at(fall));
         let Ok(()) = self.list.insert(i, KeptFall { fall, kept }) else {
             unreachable!()
         };
@@ -205,7 +205,7 @@ impl KeptFalls {
         ensures before { take i self.new.list ≡ take i self.old.list }
         ensures past { (p : ℤ → ℕ) (at : ℤ) → at ≤ℤ last → AreAtFalls fall_of p at (drop i self.old.list) →
             AreAtFalls fall_of p last (drop i self.new.list) }
-        ensures each { (d : LineData) → All (IsKeptFall d) self.old.list → All (IsKeptFall d) self.new.list }
+        ensures each { (d : TrainAndTrack) → All (IsKeptFall d) self.old.list → All (IsKeptFall d) self.new.list }
         ensures place { i ≤ length self.new.list }
         ensures room { self.new.room ≡ self.old.room }
     {
@@ -224,10 +224,10 @@ impl KeptFalls {
 
     /// Keeps the falls of a profile in place of those of the profile before, which was the same outside the cells that changed. Only
     /// where a fall is new, or its speed is another, are curves made.
-    pub fn remake(&mut self, line: &Line, profile: &Profile, changed: Changed)
-        requires before { AreOfProfileBefore line.now profile.now changed self.old }
+    pub fn remake(&mut self, braking: &Braking, profile: &Profile, changed: Changed)
+        requires before { AreOfProfileBefore braking.now profile.now changed self.old }
         requires cells { IsChangedInRange changed }
-        ensures { AreKeptFalls line.now profile.now self.new }
+        ensures { AreKeptFalls braking.now profile.now self.new }
     {
         let mut at = changed.first - 1;
         let mut i = reached(&self.list, i64::from(at));
@@ -235,7 +235,7 @@ impl KeptFalls {
             self.remove_up_to(i, fall.cell - 1);
             if !self.is_at(i, fall) {
                 self.remove_up_to(i, fall.cell);
-                self.insert(i, line, fall);
+                self.insert(i, braking, fall);
             }
             i += 1;
             at = fall.cell;
@@ -245,17 +245,17 @@ impl KeptFalls {
 
     /// What is kept of the fall at a cell, if there is one.
     pub fn at(&self, cell: i32) -> Option<&KeptFall>
-        ensures each { (d : LineData) → All (IsKeptFall d) self.now.list → IfSome result (λ k. IsKeptFall d k.now) }
+        ensures each { (d : TrainAndTrack) → All (IsKeptFall d) self.now.list → IfSome result (λ k. IsKeptFall d k.now) }
         ensures falls { (p : ℤ → ℕ) → AreAtFalls fall_of p first_cell self.now.list → first_cell <ℤ cell →
             MatchOption result (is_fall p cell ≡ false) (λ k. IsFallAt p cell k.now.fall) }
     {
         find(&self.list, cell)
     }
 
-    /// What is kept of the falls past the border of the cell `after`, up to and with that of a border in cm.
+    /// What is kept of the falls past the start of the cell `after`, up to and with that of a place in cm.
     pub fn ahead(&self, after: i32, end: u32) -> &[KeptFall]
         requires { end ≤ longest_track }
-        ensures each { (d : LineData) → All (IsKeptFall d) self.now.list → All (IsKeptFall d) result.now }
+        ensures each { (d : TrainAndTrack) → All (IsKeptFall d) self.now.list → All (IsKeptFall d) result.now }
         ensures falls { (p : ℤ → ℕ) → AreAtFalls fall_of p first_cell self.now.list →
             falls_past p after (pos end) ≡ map at_fall result.now }
     {

@@ -1,5 +1,5 @@
 //! A target as a supervisor keeps it between records: with the speeds above which it is passed, and with its brake curves. All follow from
-//! the line and the target alone.
+//! the train, the track and the target alone.
 
 ghost use Rattle.std.specs.Prelude.{◌≡◌};
 ghost use Rattle.sdm_rules.specs.declared.data.SlopeKind.TheVariants.{Normal};
@@ -8,7 +8,7 @@ ghost use Rattle.sdm_rules.specs.Targets.{foot_speed_of};
 ghost use Rattle.sdm_targets.specs.Lists.{IsTarget};
 ghost use Rattle.sdm_braking.specs.KeptCurves.{AreSpeedsOf, IsCurveOn, IsGuideOf, IsKeptTarget, brake_kind};
 
-use crate::lines::Line;
+use crate::braking::Braking;
 use crate::speeds::SpeedLimits;
 use sdm_curve::Curve;
 use sdm_targets::{Target, TargetKind};
@@ -25,7 +25,7 @@ pub struct KeptTarget {
     pub guide: Option<Curve>,
 }
 
-impl Line {
+impl Braking {
     /// The curve by which the brake supervises a target: an SBD for the EOA, else an EBD. Its foot speed is the target speed with its EBI
     /// margin. (SUBSET-026-3 3.13.8.3, 3.13.8.4)
     fn brake_curve(&self, target: &Target, speeds: &SpeedLimits) -> Curve

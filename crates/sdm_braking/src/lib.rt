@@ -9,7 +9,7 @@ pub mod kept_ends;
 pub mod kept_falls;
 pub mod kept_targets;
 pub mod limits;
-pub mod lines;
+pub mod braking;
 pub mod releases;
 pub mod speeds;
 
@@ -18,6 +18,6 @@ pub use kept::Kept;
 pub use kept_ends::KeptEnd;
 pub use kept_falls::{KeptFall, KeptFalls};
 pub use kept_targets::KeptTarget;
-pub use lines::Line;
-pub use releases::{Release, released_kmh};
+pub use braking::Braking;
+pub use releases::{Release, release_kmh_at};
 pub use speeds::SpeedLimits;

@@ -1,4 +1,4 @@
-//! The supervision limits of a target on a line, at a reading. A target is an EOA, which the service brake supervises on an SBD, or one
+//! The supervision limits of a target of a journey, at a reading. A target is an EOA, which the service brake supervises on an SBD, or one
 //! of the others, which the emergency brake supervises on an EBD. (SUBSET-026-3 3.13.9.3)
 
 ghost use Rattle.std.specs.Prelude.{◌≡◌, ◌≤◌, Option, Some};
@@ -14,13 +14,13 @@ ghost use Rattle.sdm_braking.specs.KeptCurves.{IsCurveOn, IsKeptTarget, guide_at
 
 use crate::asked::AskedReading;
 use crate::kept_targets::KeptTarget;
-use crate::lines::Line;
+use crate::braking::Braking;
 use sdm_curve::Curve;
 use sdm_limits::{Limits, ebd_limits_at, sbd_limits};
 use sdm_num::Early;
 use sdm_targets::TargetKind;
 
-impl Line {
+impl Braking {
     /// The place of a target's guidance curve at the estimated speed, where it has one. (SUBSET-026-3 3.13.8.5)
     fn guide(&self, asked: &AskedReading, kept: &KeptTarget) -> Option<Early>
         requires asked { IsAsked self.now asked.now }

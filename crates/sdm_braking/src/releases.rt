@@ -1,20 +1,20 @@
-//! Release speed monitoring on a line: where it begins for an authority, and whether a front end is past that. The start follows from the
+//! Release speed monitoring: where it begins for an authority, and whether a front end is past that. The start follows from the
 //! data and the authority alone, so it is found once, when the authority is taken.
 
 ghost use Rattle.std.specs.Prelude.{◌≡◌, ◌≤◌, ℕ, None, pos};
 ghost use Rattle.sdm_rules.specs.declared.data.SlopeKind.TheVariants.{Expected, Safe};
-ghost use Rattle.sdm_rules.specs.Cells.{border_of};
+ghost use Rattle.sdm_rules.specs.Cells.{place_of_cell};
 ghost use Rattle.sdm_rules.specs.Decelerations.{slopes_of};
 ghost use Rattle.sdm_rules.specs.Limits.{computed, release_start};
 ghost use Rattle.sdm_rules.specs.Records.{authority_fault};
 ghost use Rattle.sdm_rules.specs.Ranges.{top_kmh};
 ghost use Rattle.sdm_curve.specs.Made.{IsMadeFrom};
 ghost use Rattle.sdm_limits.specs.Sides.{place_of};
-ghost use Rattle.sdm_braking.specs.Releases.{IsReleaseOf, released};
+ghost use Rattle.sdm_braking.specs.Releases.{IsReleaseOf, release_speed_at};
 ghost use Rattle.sdm_braking.specs.KeptCurves.{IsCurveOn, IsKeptEnd};
 
 use crate::kept_ends::KeptEnd;
-use crate::lines::Line;
+use crate::braking::Braking;
 use sdm_curve::Curve;
 use sdm_num::{Early, Place, Speed};
 use sdm_release::release_start;
@@ -31,8 +31,8 @@ pub struct Release {
 
 /// The release speed in km/h, where one is kept and the max safe front end is past the start of its monitoring.
 /// (SUBSET-026-3 3.13.10.5; own)
-pub fn released_kmh(release: Option<Release>, front: Place) -> Option<u16>
-    ensures { result ≡ released release front }
+pub fn release_kmh_at(release: Option<Release>, front: Place) -> Option<u16>
+    ensures { result ≡ release_speed_at release front }
 {
     match release {
         Some(release) if release.start.is_passed_by(front) => Some(release.speed_kmh),
@@ -40,7 +40,7 @@ pub fn released_kmh(release: Option<Release>, front: Place) -> Option<u16>
     }
 }
 
-impl Line {
+impl Braking {
     /// Where release speed monitoring starts, by the EBD of the SvL, the SBD of the EOA and a release speed of at most 500 km/h.
     /// (SUBSET-026-3 3.13.9.4; own form)
     fn release_start(&self, ebd: &Curve, sbd: &Curve, release_kmh: u16) -> Early
@@ -48,8 +48,8 @@ impl Line {
         requires sbd { IsMadeFrom (slopes_of Expected self.now) sbd.now }
         requires release { release_kmh ≤ top_kmh }
         ensures { (eoa svl : ℕ) →
-            IsCurveOn (slopes_of Safe self.now) (border_of (pos svl)) 0 ebd.now →
-            IsCurveOn (slopes_of Expected self.now) (border_of (pos eoa)) 0 sbd.now →
+            IsCurveOn (slopes_of Safe self.now) (place_of_cell (pos svl)) 0 ebd.now →
+            IsCurveOn (slopes_of Expected self.now) (place_of_cell (pos eoa)) 0 sbd.now →
             place_of result ≡ release_start computed self.now eoa svl release_kmh }
     {
         release_start(

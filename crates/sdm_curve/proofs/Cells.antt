@@ -8,12 +8,12 @@ use Rattle.std.proofs.Math.Path.{fun_ext}
 use Rattle.std.proofs.Math.ListN.{get_or-eq_default, length-map}
 use Rattle.sdm_rules.specs.Slopes.{SlopeMap, Slopes, meaning_of, segment_of, bands_of, variation, IsStrongSlope, least_slope}
 use Rattle.sdm_laws.proofs.Segments.{in_segment, segment_is}
-use Rattle.sdm_curve.specs.Maps.{IsKept, handed_in, MapData, AreStarts, slope_in, start_in, IsStrongBand, IsEvenBand}
+use Rattle.sdm_curve.specs.Maps.{IsKeptMap, handed_in, MapData, AreStarts, slope_in, start_in, IsStrongBand, IsEvenBand}
 use Rattle.sdm_curve.specs.Faults.{IsFirstWeakSlope, IsBandRange}
 use Rattle.sdm_curve.proofs.Meanings.{rising_of, segment_known, start_least}
 
-pub segment_start : (starts : List ℤ) (i : ℕ) → AreStarts starts → i < length starts → segment_of starts (get_or starts i (pos 0)) ≡ i
-segment_start starts i h known = segment_is starts (get_or starts i (pos 0)) i (rising_of starts h) (record {
+pub segment_of_start : (starts : List ℤ) (i : ℕ) → AreStarts starts → i < length starts → segment_of starts (get_or starts i (pos 0)) ≡ i
+segment_of_start starts i h known = segment_is starts (get_or starts i (pos 0)) i (rising_of starts h) (record {
   known = known;
   low = λ p. omega (arith, ints);
   high = λ k l m. h.rise i k l m;
@@ -33,7 +33,7 @@ segment_before starts i c h known some lt =
     ]
 
 pub slope_on_start : (d : MapData) (band i : ℕ) → AreStarts d.starts → i < length d.starts → slope_on d band (start_in d i) ≡ slope_in d band i
-slope_on_start d band i h known = ap (slope_in d band) (segment_start d.starts i h known)
+slope_on_start d band i h known = ap (slope_in d band) (segment_of_start d.starts i h known)
 
 -- a start, as the number of a cell from 0 on
 pub start_cell : (d : MapData) (i : ℕ) → AreStarts d.starts → i < length d.starts → start_in d i ≡ pos (unsigned_abs (start_in d i))
@@ -109,7 +109,7 @@ range_cells d band least greatest h r = record {
 -- ---- what a kept map stands for
 
 -- past the last band there is no slope
-pub slope_past : (m : SlopeMap) (band : ℕ) (c : ℤ) → IsKept (handed_in m) → bands_of m.uppers ≤ band → (meaning_of m).slope band c ≡ 0
+pub slope_past : (m : SlopeMap) (band : ℕ) (c : ℤ) → IsKeptMap (handed_in m) → bands_of m.uppers ≤ band → (meaning_of m).slope band c ≡ 0
 slope_past m band c h past =
     let all : length m.slopes ≡ bands_of m.uppers * length m.starts = rw length-map at h.well_formed.lengths in
     get_or-eq_default m.slopes 0 (omega (arith, mul-le-mul_right (length m.starts) past))

@@ -11,7 +11,7 @@ use Rattle.sdm_laws.proofs.Energy.{IsPositive, energy-add, energy_at_least}
 use Rattle.sdm_curve.specs.Integrals.{integral, IsLastAtMost}
 
 energy_from : (on : Slopes) (band : ℕ) (p p' : ℤ) (a b d : ℕ) → p' ≡ p +ℤ pos a → d ≡ a + b → energy on band 1 p d ≡ energy on band 1 p a + energy on band 1 p' b
-energy_from on band p p' a b d place way = rw (place, way) (energy-add on band 1 p a b)
+energy_from on band p p' a b d place distance = rw (place, distance) (energy-add on band 1 p a b)
 
 -- ---- the integral before place 0, and past it
 
@@ -61,16 +61,16 @@ no_further on band p p' some le =
 -- ---- knots
 
 pub knot_at_level : (on : Slopes) (band : ℕ) (at place level : ℤ) (d r : ℕ) → at ≡ place +ℤ pos d → level ≡ integral on band at +ℤ neg_ℤ (pos r) → IsLastAtMost on band level place → IsKnot on band at d r
-knot_at_level on band at place level d r way is h = record {
-  enough = (let from : at +ℤ neg_ℤ (pos d) ≡ place = omega (arith, ints) in rw from (omega (arith, ints, integral-add on band place at d way, h.low)));
+knot_at_level on band at place level d r distance is h = record {
+  enough = (let from : at +ℤ neg_ℤ (pos d) ≡ place = omega (arith, ints) in rw from (omega (arith, ints, integral-add on band place at d distance, h.low)));
   least = λ d' e.
       let from : at +ℤ neg_ℤ (pos d') ≡ place +ℤ pos 1 = omega (arith, ints) in
       rw from (omega (arith, ints, integral-add on band (place +ℤ pos 1) at d' (omega (arith, ints)), h.high));
 }
 
 pub knot_past_at_level : (on : Slopes) (band : ℕ) (at place level : ℤ) (d r : ℕ) → place ≡ at +ℤ pos d → level ≡ integral on band at +ℤ pos r → IsLastAtMost on band level place → IsKnotPast on band at d r
-knot_past_at_level on band at place level d r way is h = record {
-  within = omega (arith, ints, integral-add on band at place d way, h.low);
+knot_past_at_level on band at place level d r distance is h = record {
+  within = omega (arith, ints, integral-add on band at place d distance, h.low);
   greatest = omega (arith, ints, integral-add on band at (place +ℤ pos 1) (suc d) (omega (arith, ints)), h.high);
 }
 

@@ -10,7 +10,7 @@ use Rattle.sdm_rules.specs.Curves.{grain_energy}
 use Rattle.sdm_curve.specs.Asked.{IsBandOf}
 use Rattle.sdm_curve.specs.Integrals.{IsLastAtMost}
 use Rattle.sdm_curve.specs.Made.{CurveKnot, IsFootPlace, IsNear, IsKnotBack, IsKnotOn, IsMadeFrom, level_of, no_knot}
-use Rattle.sdm_curve.specs.Maps.{handed_in, IsKept}
+use Rattle.sdm_curve.specs.Maps.{handed_in, IsKeptMap}
 use Rattle.sdm_curve.proofs.Points.{point_back, point_on, square-≤}
 use Rattle.sdm_curve.proofs.Meanings.{usable_of}
 
@@ -60,7 +60,7 @@ back_near m foot w own band knots foot_is few h =
     (omega (arith, ints, foot_is.0, h.low), omega (arith, ints, foot_is.1, h.high))
 
 -- one knot more
-pub back_more : (m : SlopeMap) (foot : ℤ) (w own band v : ℕ) (knots knots' : List CurveKnot) (k : CurveKnot) → IsKept (handed_in m) → own ≤ band → band < length m.uppers → v ≡ get_or m.uppers band 0 → v ≤ top_speed →
+pub back_more : (m : SlopeMap) (foot : ℤ) (w own band v : ℕ) (knots knots' : List CurveKnot) (k : CurveKnot) → IsKeptMap (handed_in m) → own ≤ band → band < length m.uppers → v ≡ get_or m.uppers band 0 → v ≤ top_speed →
     knots' ≡ set knots (band + 1) k → IsNext m band (band + 1) (at_band knots band) v k → AreKnotsBack m foot w own band knots → AreKnotsBack m foot w own (band + 1) knots'
 back_more m foot w own band v knots knots' k kept le lt v_is slow made next0 h =
     let one : band + 1 ≡ suc band = omega arith in
@@ -113,7 +113,7 @@ on_near m foot w own band knots foot_is h =
     (omega (arith, ints, foot_is.0, h.low), omega (arith, ints, foot_is.1, h.high))
 
 -- one knot more
-pub on_more : (m : SlopeMap) (foot : ℤ) (w own band below v : ℕ) (knots knots' : List CurveKnot) (k : CurveKnot) → IsKept (handed_in m) → own ≤ length m.uppers → band ≡ suc below → v ≡ get_or m.uppers below 0 →
+pub on_more : (m : SlopeMap) (foot : ℤ) (w own band below v : ℕ) (knots knots' : List CurveKnot) (k : CurveKnot) → IsKeptMap (handed_in m) → own ≤ length m.uppers → band ≡ suc below → v ≡ get_or m.uppers below 0 →
     knots' ≡ set knots below k → IsNext m band below (at_band knots band) v k → AreKnotsOn m foot w own band knots → AreKnotsOn m foot w own below knots'
 on_more m foot w own band below v knots knots' k kept own_known band_is v_is made next0 h0 =
     let usable = usable_of m kept in

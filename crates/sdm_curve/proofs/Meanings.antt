@@ -6,7 +6,7 @@ use Rattle.std.proofs.lemmas.List.{get_or_default}
 use Rattle.std.proofs.Math.ListN.{get_or-map, length-map}
 use Rattle.sdm_rules.specs.Slopes.{SlopeMap, meaning_of, segment_of, bands_of, IsUsable}
 use Rattle.sdm_laws.proofs.Segments.{IsRising, in_segment}
-use Rattle.sdm_curve.specs.Maps.{handed_in, slope_in, AreStarts, IsKept}
+use Rattle.sdm_curve.specs.Maps.{handed_in, slope_in, AreStarts, IsKeptMap}
 use Rattle.sdm_curve.proofs.Rows.{row_known}
 
 pub slope_kept : (m : SlopeMap) (band i : ℕ) → slope_in (handed_in m) band i ≡ pos (get_or m.slopes (band * length m.starts + i) 0)
@@ -23,13 +23,13 @@ pub segment_known : (starts : List ℤ) (c : ℤ) → AreStarts starts → segme
 segment_known starts c h = (in_segment starts c (rising_of starts h) h.some).known
 
 -- the slope of every band and cell is at least 0.05 m/s²
-pub slope_least : (m : SlopeMap) (band : ℕ) (c : ℤ) → IsKept (handed_in m) → band ≤ length m.uppers → 100_000_000 * m.q ≤ (meaning_of m).slope band c
+pub slope_least : (m : SlopeMap) (band : ℕ) (c : ℤ) → IsKeptMap (handed_in m) → band ≤ length m.uppers → 100_000_000 * m.q ≤ (meaning_of m).slope band c
 slope_least m band c h le =
     let strong = h.accepted.strong band (omega arith) (segment_of m.starts c) (segment_known m.starts c h.well_formed.starts) in
     omega (arith, ints, slope_at_cell m band c)
 
 -- kept slopes are usable
-pub usable_of : (m : SlopeMap) → IsKept (handed_in m) → IsUsable (meaning_of m)
+pub usable_of : (m : SlopeMap) → IsKeptMap (handed_in m) → IsUsable (meaning_of m)
 usable_of m h = record {
   unit = omega (arith, h.well_formed.low_q);
   few = h.well_formed.uppers.few;
@@ -45,16 +45,16 @@ pub start_least : (starts : List ℤ) (i : ℕ) → AreStarts starts → i < len
 start_least starts i h known = let first = h.first in omega (arith, ints, rising_of starts h 0 i (omega arith) known)
 
 -- a kept slope is above 0, and small
-pub slope_some : (m : SlopeMap) (band i : ℕ) → IsKept (handed_in m) → band < bands_of m.uppers → i < length m.starts → 0 < get_or m.slopes (band * length m.starts + i) 0
+pub slope_some : (m : SlopeMap) (band i : ℕ) → IsKeptMap (handed_in m) → band < bands_of m.uppers → i < length m.starts → 0 < get_or m.slopes (band * length m.starts + i) 0
 slope_some m band i h lt known = omega (arith, ints, h.well_formed.low_q, h.accepted.strong band lt i known, slope_kept m band i)
 
-pub slope_most : (m : SlopeMap) (k : ℕ) → IsKept (handed_in m) → k < length m.slopes → get_or m.slopes k 0 ≤ 10 ^ 15
+pub slope_most : (m : SlopeMap) (k : ℕ) → IsKeptMap (handed_in m) → k < length m.slopes → get_or m.slopes k 0 ≤ 10 ^ 15
 slope_most m k h lt =
     let bound = h.well_formed.bounded k (rw length-map lt) in
     let e = get_or-map pos m.slopes k 0 in
     omega (arith, ints, bound.high, e)
 
-pub kept_known : (m : SlopeMap) (band i : ℕ) → IsKept (handed_in m) → band < bands_of m.uppers → i < length m.starts → band * length m.starts + i < length m.slopes
+pub kept_known : (m : SlopeMap) (band i : ℕ) → IsKeptMap (handed_in m) → band < bands_of m.uppers → i < length m.starts → band * length m.starts + i < length m.slopes
 kept_known m band i h lt known =
     let all : length m.slopes ≡ bands_of m.uppers * length m.starts = rw length-map at h.well_formed.lengths in
     omega (arith, row_known (bands_of m.uppers) (length m.starts) band i lt known)

@@ -8,7 +8,7 @@ use Rattle.sdm_num.specs.Units.{top_speed, IsPlace}
 use Rattle.sdm_rules.specs.Slopes.{SlopeMap, meaning_of, bands_of}
 use Rattle.sdm_rules.specs.Curves.{grain_energy}
 use Rattle.sdm_laws.proofs.Energy.{IsPositive}
-use Rattle.sdm_curve.specs.Maps.{handed_in, IsKept}
+use Rattle.sdm_curve.specs.Maps.{handed_in, IsKeptMap}
 use Rattle.sdm_curve.specs.Integrals.{integral, IsLastAtMost}
 use Rattle.sdm_curve.specs.Made.{IsArcBack, IsArcOn, IsNear, level_of}
 use Rattle.sdm_curve.proofs.Meanings.{usable_of}
@@ -35,7 +35,7 @@ pub record IsBack (m : SlopeMap) (band : ℕ) (from to : ℤ) (change : ℕ) : T
   pub high : to ≤ℤ from
 
 -- at a speed that is no less than the knot's
-pub point_back : (m : SlopeMap) (band : ℕ) (from to level : ℤ) (u v : ℕ) → IsKept (handed_in m) → band < bands_of m.uppers → level ≡ level_of (meaning_of m) band from u → u ≤ v →
+pub point_back : (m : SlopeMap) (band : ℕ) (from to level : ℤ) (u v : ℕ) → IsKeptMap (handed_in m) → band < bands_of m.uppers → level ≡ level_of (meaning_of m) band from u → u ≤ v →
     IsLastAtMost (meaning_of m) band (level +ℤ neg_ℤ (pos (grain_energy (meaning_of m) (v * v)))) to → IsBack m band from to (v * v - u * u)
 point_back m band from to level u v kept lt level_is le h0 =
     let on = meaning_of m in
@@ -45,11 +45,11 @@ point_back m band from to level u v kept lt level_is le h0 =
     let h = rw at at h0 in
     let some : IsPositive on band = (usable_of m kept).positive band (omega arith) in
     let before = last_before on band from to _ some (omega (arith, ints)) h in
-    let way = unsigned_abs (from +ℤ neg_ℤ to) in
-    let place : from ≡ to +ℤ pos way = omega (arith, ints) in
-    let knot = knot_at_level on band from to _ way (grain_energy on change) place refl h in
-    let near = knot_near m band from way (grain_energy on change) change kept lt refl knot in
-    record { arc = record { way = way; place = place; knot = knot }; low = omega (arith, ints, near); high = before }
+    let distance = unsigned_abs (from +ℤ neg_ℤ to) in
+    let place : from ≡ to +ℤ pos distance = omega (arith, ints) in
+    let knot = knot_at_level on band from to _ distance (grain_energy on change) place refl h in
+    let near = knot_near m band from distance (grain_energy on change) change kept lt refl knot in
+    record { arc = record { distance = distance; place = place; knot = knot }; low = omega (arith, ints, near); high = before }
 
 -- ---- on
 
@@ -60,7 +60,7 @@ pub record IsOn (m : SlopeMap) (band : ℕ) (from to : ℤ) (change : ℕ) : Typ
   pub high : to ≤ℤ (from +ℤ pos (2_000 * change))
 
 -- at a speed that is no greater than the knot's
-pub point_on : (m : SlopeMap) (band : ℕ) (from to level : ℤ) (u v : ℕ) → IsKept (handed_in m) → band < bands_of m.uppers → level ≡ level_of (meaning_of m) band from u → v ≤ u →
+pub point_on : (m : SlopeMap) (band : ℕ) (from to level : ℤ) (u v : ℕ) → IsKeptMap (handed_in m) → band < bands_of m.uppers → level ≡ level_of (meaning_of m) band from u → v ≤ u →
     IsLastAtMost (meaning_of m) band (level +ℤ neg_ℤ (pos (grain_energy (meaning_of m) (v * v)))) to → IsOn m band from to (u * u - v * v)
 point_on m band from to level u v kept lt level_is le h0 =
     let on = meaning_of m in
@@ -70,16 +70,16 @@ point_on m band from to level u v kept lt level_is le h0 =
     let h = rw at at h0 in
     let some : IsPositive on band = (usable_of m kept).positive band (omega arith) in
     let past = last_past on band from to _ some (omega (arith, ints)) h in
-    let way = unsigned_abs (to +ℤ neg_ℤ from) in
-    let place : to ≡ from +ℤ pos way = omega (arith, ints) in
-    let knot = knot_past_at_level on band from to _ way (grain_energy on change) place refl h in
-    let near = knot_past_near m band from way (grain_energy on change) change kept lt refl knot in
-    record { arc = record { way = way; place = place; knot = knot }; low = past; high = omega (arith, ints, near) }
+    let distance = unsigned_abs (to +ℤ neg_ℤ from) in
+    let place : to ≡ from +ℤ pos distance = omega (arith, ints) in
+    let knot = knot_past_at_level on band from to _ distance (grain_energy on change) place refl h in
+    let near = knot_past_near m band from distance (grain_energy on change) change kept lt refl knot in
+    record { arc = record { distance = distance; place = place; knot = knot }; low = past; high = omega (arith, ints, near) }
 
 -- ---- both
 
 -- so each point of a near knot's band is a place
-pub point_fits : (m : SlopeMap) (band : ℕ) (from to level : ℤ) (u v : ℕ) → IsKept (handed_in m) → band < bands_of m.uppers → level ≡ level_of (meaning_of m) band from u → IsNear from → u ≤ top_speed → v ≤ top_speed →
+pub point_fits : (m : SlopeMap) (band : ℕ) (from to level : ℤ) (u v : ℕ) → IsKeptMap (handed_in m) → band < bands_of m.uppers → level ≡ level_of (meaning_of m) band from u → IsNear from → u ≤ top_speed → v ≤ top_speed →
     IsLastAtMost (meaning_of m) band (level +ℤ neg_ℤ (pos (grain_energy (meaning_of m) (v * v)))) to → IsPlace to
 point_fits m band from to level u v kept lt level_is near slow slow' h =
     let most = square-≤ u top_speed slow in

@@ -4,8 +4,8 @@ use Rattle.std.proofs.lemmas.Int.{ints}
 use Rattle.std.proofs.lemmas.List.{get_or_append_left, get_or_push}
 use Rattle.std.proofs.Math.ListN.{length-append}
 use Rattle.sdm_rules.specs.Slopes.{SlopeMap, bands_of}
-use Rattle.sdm_curve.specs.Maps.{AreStarts, IsKept, handed_in}
-use Rattle.sdm_curve.specs.Integrals.{AreRates, AreSums, IsSummed, border_at, length_of, slope_of, sum_before, sum_of}
+use Rattle.sdm_curve.specs.Maps.{AreStarts, IsKeptMap, handed_in}
+use Rattle.sdm_curve.specs.Integrals.{AreRates, AreSums, IsSummed, segment_start, segment_length, slope_of, sum_before, sum_of}
 use Rattle.sdm_curve.proofs.Rows.{row_known}
 use Rattle.sdm_curve.proofs.Meanings.{kept_known, read_is}
 use Rattle.sdm_curve.proofs.Sums.{sum-suc, sum_most}
@@ -37,14 +37,16 @@ sums_row starts slopes band n sums e h = record {
 
 -- the sum of the next segment is this one's and its energy
 pub sum_next : (starts : List ℤ) (slopes : List ℕ) (row i sum slope gap sum' : ℕ) → sum ≡ sum_before starts slopes row i → slope ≡ get_or slopes (row + i) 0 →
-    border_at starts (i + 1) ≡ border_at starts i +ℤ pos gap → sum' ≡ sum + 27 * slope * gap → sum' ≡ sum_before starts slopes row (i + 1)
+    segment_start starts (i + 1) ≡ segment_start starts i +ℤ pos gap → sum' ≡ sum + 27 * slope * gap →
+        sum' ≡ sum_before starts slopes row (i + 1)
 sum_next starts slopes row i sum slope gap sum' sum_is slope_is gap_is sum'_is =
-    let length_is : length_of starts i ≡ gap = (let one : i + 1 ≡ suc i = omega arith in let e = rw one at gap_is in omega (arith, ints)) in
+    let length_is : segment_length starts i ≡ gap =
+        (let one : i + 1 ≡ suc i = omega arith in let e = rw one at gap_is in omega (arith, ints)) in
     let one : i + 1 ≡ suc i = omega arith in
     rw one (sum'_is ∙ (rw (sum_is, slope_is, sym length_is) (sym (sum-suc starts slopes row i))))
 
 -- all sums are numbers of 128 bits
-pub sum_fits : (starts : List ℤ) (slopes : List ℕ) (bands band i : ℕ) → AreStarts starts → length slopes ≡ bands * length starts → ((k : ℕ) → k < length slopes → get_or slopes k 0 ≤ 10 ^ 15) → band < bands → i < length starts → border_at starts i ≤ℤ pos (2 ^ 64) →
+pub sum_fits : (starts : List ℤ) (slopes : List ℕ) (bands band i : ℕ) → AreStarts starts → length slopes ≡ bands * length starts → ((k : ℕ) → k < length slopes → get_or slopes k 0 ≤ 10 ^ 15) → band < bands → i < length starts → segment_start starts i ≤ℤ pos (2 ^ 64) →
     sum_before starts slopes (band * length starts) i ≤ 10 ^ 36
 sum_fits starts slopes bands band i h all small lt known near =
     let most = sum_most starts slopes (band * length starts) i h known (λ j l. small (band * length starts + j) (omega (arith, all, row_known bands (length starts) band j lt l))) in
@@ -64,7 +66,7 @@ rate_read m rates sums band i k x h lt known at read =
     let there : band * length m.starts + i < length rates = omega (arith, h.multiplied.count) in
     read_is rates rates k (band * length m.starts + i) x 0 refl at there read ∙ h.multiplied.all (band * length m.starts + i) slope
 
-pub summed_of : (m : SlopeMap) (starts : List ℤ) (slopes slopes' rates sums : List ℕ) (bands : ℕ) → starts ≡ m.starts → slopes ≡ m.slopes → slopes' ≡ m.slopes → bands ≡ bands_of m.uppers → AreRates slopes' rates → AreSums starts slopes bands sums → IsKept (handed_in m) →
+pub summed_of : (m : SlopeMap) (starts : List ℤ) (slopes slopes' rates sums : List ℕ) (bands : ℕ) → starts ≡ m.starts → slopes ≡ m.slopes → slopes' ≡ m.slopes → bands ≡ bands_of m.uppers → AreRates slopes' rates → AreSums starts slopes bands sums → IsKeptMap (handed_in m) →
     IsSummed m rates sums
 summed_of m starts slopes slopes' rates sums bands same_starts same_slopes same_slopes' same_bands rates_are sums_are kept = record {
   kept = kept;

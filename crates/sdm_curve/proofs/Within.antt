@@ -1,4 +1,4 @@
--- A way within one segment, whose grains all have one slope.
+-- A distance within one segment, whose grains all have one slope.
 use Rattle.std.proofs.Common.{◌≡◌, ℕ, ℤ, pos, List, ◌*◌, ◌<◌, ◌+ℤ◌, ◌*ℤ◌, ◌≤ℤ◌, ◌<ℤ◌, length, get_or, ap, arith}
 use Rattle.std.proofs.lemmas.Int.{ints}
 use Rattle.sdm_num.specs.Units.{centimetre}
@@ -9,15 +9,15 @@ use Rattle.sdm_laws.specs.Energy.{energy}
 use Rattle.sdm_laws.proofs.Totals.{total_const}
 use Rattle.sdm_laws.proofs.Segments.{segment_is}
 use Rattle.sdm_curve.specs.Maps.{AreStarts}
-use Rattle.sdm_curve.specs.Integrals.{border_at, slope_of}
+use Rattle.sdm_curve.specs.Integrals.{segment_start, slope_of}
 use Rattle.sdm_curve.proofs.Meanings.{rising_of}
 
 -- the segments past `i` begin at `at` or past it
 abbrev pub AreLater : List ℤ → ℕ → ℤ → Type 0
-AreLater starts i at = (k : ℕ) → i < k → k < length starts → at ≤ℤ border_at starts k
+AreLater starts i at = (k : ℕ) → i < k → k < length starts → at ≤ℤ segment_start starts k
 
--- a way within a segment, whose first one has no beginning
-pub energy_within : (m : SlopeMap) (band i : ℕ) (p at : ℤ) (d : ℕ) → AreStarts m.starts → i < length m.starts → (0 < i → border_at m.starts i ≤ℤ p) → AreLater m.starts i at → (p +ℤ pos d) ≤ℤ at →
+-- a distance within a segment, whose first one has no beginning
+pub energy_within : (m : SlopeMap) (band i : ℕ) (p at : ℤ) (d : ℕ) → AreStarts m.starts → i < length m.starts → (0 < i → segment_start m.starts i ≤ℤ p) → AreLater m.starts i at → (p +ℤ pos d) ≤ℤ at →
     energy (meaning_of m) band 1 p d ≡ slope_of m band i * d
 energy_within m band i p at d starts known here later ends =
     total_const (λ k. (meaning_of m).slope band (cell_at 1 (p +ℤ pos k))) (slope_of m band i) d

@@ -37,7 +37,7 @@ abbrev pub IsVariedFault : MapData → ℕ → ℤ → ℤ → Type 0
 IsVariedFault d band least greatest = AreStrong d × IsNthFrom1 band (λ b. IsFirstVariedBand d b least greatest)
 
 -- the fault that the data have; memory is wanted only where they have none (own)
-abbrev pub IsFaultOf : MapData → CurveFault → Type 0
-IsFaultOf d (TooWeak band cell slope) = IsWeakFault d band cell slope
-IsFaultOf d (TooVaried band least greatest) = IsVariedFault d band least greatest
-IsFaultOf d Memory = AreAccepted d
+abbrev pub IsMapFault : MapData → CurveFault → Type 0
+IsMapFault d (TooWeak band cell slope) = IsWeakFault d band cell slope
+IsMapFault d (TooVaried band least greatest) = IsVariedFault d band least greatest
+IsMapFault d Memory = AreAccepted d

@@ -3,9 +3,9 @@ use Rattle.std.specs.Prelude.{◌≡◌, ℕ, zero, suc, ℤ, pos, negsuc, neg_�
 use Rattle.sdm_rules.specs.Slopes.{Slopes, SlopeMap, bands_of}
 use Rattle.sdm_rules.specs.Curves.{cell_start}
 use Rattle.sdm_laws.specs.Energy.{energy}
-use Rattle.sdm_curve.specs.Maps.{handed_in, IsKept}
+use Rattle.sdm_curve.specs.Maps.{handed_in, IsKeptMap}
 
--- the energy of the way from place 0 to a place; before place 0 it is below 0 (own unit)
+-- the energy of the distance from place 0 to a place; before place 0 it is below 0 (own unit)
 unfoldable pub integral : Slopes → ℕ → ℤ → ℤ
 integral on band (pos n) = pos (27 * energy on band 1 (pos 0) n)
 integral on band (negsuc n) = neg_ℤ (pos (27 * energy on band 1 (negsuc n) (suc n)))
@@ -18,18 +18,18 @@ pub record IsLastAtMost (on : Slopes) (band : ℕ) (level place : ℤ) : Type 0 
 -- ---- sums
 
 -- the place in grains where a segment begins (own)
-abbrev pub border_at : List ℤ → ℕ → ℤ
-border_at starts i = cell_start 1 (slice_index_or starts i (pos 0))
+abbrev pub segment_start : List ℤ → ℕ → ℤ
+segment_start starts i = cell_start 1 (slice_index_or starts i (pos 0))
 
 -- the length in grains of a segment that is not the last (own)
-abbrev pub length_of : List ℤ → ℕ → ℕ
-length_of starts i = unsigned_abs (border_at starts (suc i) +ℤ neg_ℤ (border_at starts i))
+abbrev pub segment_length : List ℤ → ℕ → ℕ
+segment_length starts i = unsigned_abs (segment_start starts (suc i) +ℤ neg_ℤ (segment_start starts i))
 
 -- The sum of 27 * slope * length over the segments before `i`, where the band's slopes stand from `row` on (own unit).
 unfoldable pub sum_before : List ℤ → List ℕ → ℕ → ℕ → ℕ
 sum_before starts slopes row zero = 0
 sum_before starts slopes row (suc i) =
-    sum_before starts slopes row i + 27 * slice_index slopes (row + i) * length_of starts i
+    sum_before starts slopes row i + 27 * slice_index slopes (row + i) * segment_length starts i
 
 -- for each of so many bands and each segment the sum before it, all segments of the first band first (own)
 pub record AreSums (starts : List ℤ) (slopes : List ℕ) (bands : ℕ) (sums : List ℕ) : Type 0 where
@@ -46,7 +46,7 @@ pub record AreRates (slopes rates : List ℕ) : Type 0 where
 
 -- what a slope map, its multiplied slopes and its sums keep (own)
 pub record IsSummed (m : SlopeMap) (rates sums : List ℕ) : Type 0 where
-  pub kept : IsKept (handed_in m)
+  pub kept : IsKeptMap (handed_in m)
   pub multiplied : AreRates m.slopes rates
   pub summed : AreSums m.starts m.slopes (bands_of m.uppers) sums
 
@@ -69,5 +69,5 @@ pub record IsLevelIn (m : SlopeMap) (band i level : ℕ) : Type 0 where
 -- the segment that holds a place: the last one that begins at it or before it, else the first one (own)
 pub record IsPlaceIn (m : SlopeMap) (i : ℕ) (place : ℤ) : Type 0 where
   pub known : i < length m.starts
-  pub low : 0 < i → border_at m.starts i ≤ℤ place
-  pub high : suc i < length m.starts → place <ℤ border_at m.starts (suc i)
+  pub low : 0 < i → segment_start m.starts i ≤ℤ place
+  pub high : suc i < length m.starts → place <ℤ segment_start m.starts (suc i)

@@ -28,26 +28,26 @@ pub record BrakeCurve : Type 0 where
 abbrev pub IsFootPlace : ℤ → Type 0
 IsFootPlace z = (negsuc 539_999_999_999_999 ≤ℤ z) × (z ≤ℤ pos 59_400_000_000_000_000)
 
--- no place of a curve is further from its foot, in grains: the way at 0.05 m/s² from the greatest speed is less by more
+-- no place of a curve is further from its foot, in grains: the distance at 0.05 m/s² from the greatest speed is less by more
 -- than a grain for each band (own)
-abbrev pub most_way : ℕ
-most_way = 750_000_000_000_000_000
+abbrev pub most_distance : ℕ
+most_distance = 750_000_000_000_000_000
 
 -- ---- arcs
 
--- The arc back in one band that uses up the energy `r` ends at the grain `to`: the energy of the way is at least `r`, and
+-- The arc back in one band that uses up the energy `r` ends at the grain `to`: the energy of the distance is at least `r`, and
 -- with one grain less it is not (own).
 pub record IsArcBack (on : Slopes) (band : ℕ) (from to : ℤ) (r : ℕ) : Type 0 where
-  pub way : ℕ
-  pub place : from ≡ to +ℤ pos way
-  pub knot : IsKnot on band from way r
+  pub distance : ℕ
+  pub place : from ≡ to +ℤ pos distance
+  pub knot : IsKnot on band from distance r
 
--- The arc on in one band that uses up the energy `r` ends at the grain `to`: the energy of the way is at most `r`, and with
+-- The arc on in one band that uses up the energy `r` ends at the grain `to`: the energy of the distance is at most `r`, and with
 -- one grain more it is not (own).
 pub record IsArcOn (on : Slopes) (band : ℕ) (from to : ℤ) (r : ℕ) : Type 0 where
-  pub way : ℕ
-  pub place : to ≡ from +ℤ pos way
-  pub knot : IsKnotPast on band from way r
+  pub distance : ℕ
+  pub place : to ≡ from +ℤ pos distance
+  pub knot : IsKnotPast on band from distance r
 
 -- ---- knots
 
@@ -96,5 +96,5 @@ IsNear z = (negsuc 2_999_999_999_999_999_999 ≤ℤ z) × (z ≤ℤ pos 3_000_00
 -- a place is the stepped one, and near the foot (own)
 pub record IsStepped (m : SlopeMap) (curve : BrakeCurve) (v : ℕ) (place : ℤ) : Type 0 where
   pub value : place ≡ stepped (meaning_of m) curve.place curve.speed v
-  pub not_before : (curve.place +ℤ neg_ℤ (pos most_way)) ≤ℤ place
-  pub not_past : place ≤ℤ (curve.place +ℤ pos most_way)
+  pub not_before : (curve.place +ℤ neg_ℤ (pos most_distance)) ≤ℤ place
+  pub not_past : place ≤ℤ (curve.place +ℤ pos most_distance)

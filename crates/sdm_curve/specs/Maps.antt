@@ -9,7 +9,7 @@ pub record MapData : Type 0 where
   pub starts : List ℤ
   pub slopes : List ℤ
 
--- the same, by its parts (own)
+-- the data of a map, by its parts (own)
 abbrev pub map_data : ℕ → List ℕ → List ℤ → List ℤ → MapData
 map_data q uppers starts slopes = record { q = q; uppers = uppers; starts = starts; slopes = slopes }
 
@@ -40,18 +40,18 @@ pub record AreStarts (starts : List ℤ) : Type 0 where
   pub rise : (i j : ℕ) → i < j → j < length starts → slice_index_or starts i (pos 0) <ℤ slice_index_or starts j (pos 0)
 
 -- a slope within 10^15 of 0 (own)
-pub record IsBounded (slope : ℤ) : Type 0 where
+pub record IsSlopeBounded (slope : ℤ) : Type 0 where
   pub low : neg_ℤ (pos (10 ^ 15)) ≤ℤ slope
   pub high : slope ≤ℤ pos (10 ^ 15)
 
--- what may be handed in (own)
+-- the data of a map that may be handed in (own)
 pub record IsMapData (d : MapData) : Type 0 where
   pub low_q : 100 ≤ d.q
   pub high_q : d.q ≤ 11_730
   pub uppers : AreUppers d.uppers
   pub starts : AreStarts d.starts
   pub lengths : length d.slopes ≡ bands_of d.uppers * length d.starts
-  pub bounded : (k : ℕ) → k < length d.slopes → IsBounded (slice_index_or d.slopes k (pos 0))
+  pub bounded : (k : ℕ) → k < length d.slopes → IsSlopeBounded (slice_index_or d.slopes k (pos 0))
 
 -- ---- what is accepted
 
@@ -77,6 +77,6 @@ pub record AreAccepted (d : MapData) : Type 0 where
   pub even : AreEven d
 
 -- what every slope map keeps (own)
-pub record IsKept (d : MapData) : Type 0 where
+pub record IsKeptMap (d : MapData) : Type 0 where
   pub well_formed : IsMapData d
   pub accepted : AreAccepted d

@@ -5,7 +5,7 @@ ghost use Rattle.std.specs.Prelude.{◌≡◌, ◌*◌, ◌^◌, ◌<◌, ◌≤
 ghost use Rattle.sdm_num.specs.Units.{top_speed};
 ghost use Rattle.sdm_rules.specs.Slopes.{meaning_of, most_bands, IsUsable};
 ghost use Rattle.sdm_rules.specs.Curves.{grain_energy};
-ghost use Rattle.sdm_curve.specs.Maps.{handed_in, IsKept};
+ghost use Rattle.sdm_curve.specs.Maps.{handed_in, IsKeptMap};
 ghost use Rattle.sdm_curve.specs.Asked.{Asked, IsAskedOf, IsBandOf};
 
 use crate::map::BandMap;
@@ -58,7 +58,7 @@ pub(crate) fn energy_of(map: &BandMap, v: Speed) -> u128
     ensures value { result ≡ grain_energy (meaning_of map.now) (v * v) }
     ensures small { result ≤ 10 ^ 32 }
     ensures fits { v ≤ top_speed }
-    ensures kept { IsKept (handed_in map.now) }
+    ensures kept { IsKeptMap (handed_in map.now) }
 {
     u128::from(5_000_000_000_000 * u64::from(map.q())) * u128::from(square_of(v))
 }

@@ -3,9 +3,9 @@
 
 ghost use Rattle.std.specs.Prelude.{◌≡◌, ℕ, pos, ◌+◌, ◌*◌, ◌<◌, ◌≤◌, ◌*ℤ◌, ◌<ℤ◌, length, slice_index_or, IfSome, IfNone, IsTrue, ◌↔◌};
 ghost use Rattle.sdm_rules.specs.Slopes.{IsStrongSlope, variation};
-ghost use Rattle.sdm_curve.specs.Maps.{map_data, IsMapData, IsBounded, AreStrong, AreEven, AreAccepted};
+ghost use Rattle.sdm_curve.specs.Maps.{map_data, IsMapData, IsSlopeBounded, AreStrong, AreEven, AreAccepted};
 ghost use Rattle.sdm_curve.specs.Checks.{IsWeakIndex, IsRangeOf};
-ghost use Rattle.sdm_curve.specs.Faults.{IsFirstVariedBand, IsFaultOf};
+ghost use Rattle.sdm_curve.specs.Faults.{IsFirstVariedBand, IsMapFault};
 
 use crate::faults::CurveFault;
 use sdm_num::Speed;
@@ -37,7 +37,7 @@ fn is_too_wide(bands: usize, range: SlopeRange) -> bool
 // The index of the first slope that is too weak.
 fn first_weak(q: u32, slopes: &[i64]) -> Option<usize>
     requires high_q { q ≤ 11_730 }
-    requires bounded { (k : ℕ) → k < length slopes.now → IsBounded (slice_index_or slopes.now k (pos 0)) }
+    requires bounded { (k : ℕ) → k < length slopes.now → IsSlopeBounded (slice_index_or slopes.now k (pos 0)) }
     ensures found { IfSome result (IsWeakIndex q slopes.now) }
     ensures none { IfNone result ((k : ℕ) → k < length slopes.now → IsStrongSlope q (slice_index_or slopes.now k (pos 0))) }
 {
@@ -92,7 +92,7 @@ fn first_varied(q: u32, uppers: &[Speed], starts: &[i32], slopes: &[i64]) -> Opt
 /// The first fault of slopes, by bands and then by segments; weakness comes before variation.
 pub fn fault_of(q: u32, uppers: &[Speed], starts: &[i32], slopes: &[i64]) -> Option<CurveFault>
     requires { IsMapData (map_data q uppers.now starts.now slopes.now) }
-    ensures fault { IfSome result (IsFaultOf (map_data q uppers.now starts.now slopes.now)) }
+    ensures fault { IfSome result (IsMapFault (map_data q uppers.now starts.now slopes.now)) }
     ensures accepted { IfNone result (AreAccepted (map_data q uppers.now starts.now slopes.now)) }
 {
     if let Some(k) = first_weak(q, slopes) {

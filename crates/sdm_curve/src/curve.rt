@@ -6,7 +6,7 @@ ghost use Rattle.sdm_num.specs.Units.{top_speed};
 ghost use Rattle.sdm_rules.specs.Slopes.{meaning_of, IsUsable};
 ghost use Rattle.sdm_rules.specs.Curves.{exact, stepped, most_slack};
 ghost use Rattle.sdm_curve.specs.Asked.{IsAskedOf};
-ghost use Rattle.sdm_curve.specs.Made.{BrakeCurve, IsFootPlace, IsMadeFrom, IsStepped, most_way};
+ghost use Rattle.sdm_curve.specs.Made.{BrakeCurve, IsFootPlace, IsMadeFrom, IsStepped, most_distance};
 
 use crate::asked::{AskedSpeed, band_of};
 use crate::knots::Knot;
@@ -94,8 +94,8 @@ impl Curve {
         ensures stands { IsEarlyFor result (exact (meaning_of map.now) self.now.place self.now.speed asked.now.speed) }
         ensures slack { result.slack ≤ most_slack }
         ensures foot { IsFootPlace self.now.place }
-        ensures not_before { (self.now.place +ℤ neg_ℤ (pos most_way)) ≤ℤ result.at }
-        ensures not_past { result.at ≤ℤ (self.now.place +ℤ pos most_way) }
+        ensures not_before { (self.now.place +ℤ neg_ℤ (pos most_distance)) ≤ℤ result.at }
+        ensures not_past { result.at ≤ℤ (self.now.place +ℤ pos most_distance) }
         ensures range { (neg_ℤ (pos (10 ^ 18)) ≤ℤ result.at) × (result.at ≤ℤ pos (10 ^ 18)) }
     {
         Early::new(self.stepped_place(map, asked), MOST_SLACK)
@@ -109,8 +109,8 @@ impl Curve {
         ensures stands { IsEarlyFor result (exact (meaning_of map.now) self.now.place self.now.speed v) }
         ensures slack { result.slack ≤ most_slack }
         ensures foot { IsFootPlace self.now.place }
-        ensures not_before { (self.now.place +ℤ neg_ℤ (pos most_way)) ≤ℤ result.at }
-        ensures not_past { result.at ≤ℤ (self.now.place +ℤ pos most_way) }
+        ensures not_before { (self.now.place +ℤ neg_ℤ (pos most_distance)) ≤ℤ result.at }
+        ensures not_past { result.at ≤ℤ (self.now.place +ℤ pos most_distance) }
         ensures range { (neg_ℤ (pos (10 ^ 18)) ≤ℤ result.at) × (result.at ≤ℤ pos (10 ^ 18)) }
     {
         self.place_asked(map, &map.asked(v))

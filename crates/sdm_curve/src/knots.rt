@@ -6,7 +6,7 @@ ghost use Rattle.std.specs.Prelude.{◌≡◌, pos, neg_ℤ, ◌*◌, ◌^◌, �
 ghost use Rattle.sdm_num.specs.Units.{top_speed, IsPlace};
 ghost use Rattle.sdm_rules.specs.Slopes.{meaning_of, bands_of};
 ghost use Rattle.sdm_rules.specs.Curves.{grain_energy};
-ghost use Rattle.sdm_curve.specs.Maps.{handed_in, IsKept};
+ghost use Rattle.sdm_curve.specs.Maps.{handed_in, IsKeptMap};
 ghost use Rattle.sdm_curve.specs.Integrals.{IsLastAtMost, IsPlaceIn};
 ghost use Rattle.sdm_curve.specs.Made.{CurveKnot, IsLevel, IsNear, level_of};
 
@@ -70,7 +70,7 @@ impl Knot {
         ensures last { IsLastAtMost (meaning_of map.now) band (self.level +ℤ neg_ℤ (pos energy)) result.grain }
         ensures segment { IsPlaceIn map.now result.segment result.grain }
         ensures slow { self.speed ≤ top_speed }
-        ensures kept { IsKept (handed_in map.now) }
+        ensures kept { IsKeptMap (handed_in map.now) }
     {
         last_at_most(map, band, self.level - energy as i128)
     }
@@ -86,7 +86,7 @@ impl Knot {
         ensures speed { result.speed ≡ border }
         ensures level { result.level ≡ level_of (meaning_of map.now) next_band result.place border }
         ensures slow { border ≤ top_speed }
-        ensures kept { IsKept (handed_in map.now) }
+        ensures kept { IsKeptMap (handed_in map.now) }
     {
         let spot = self.spot_of(map, band, energy_of(map, border));
         Knot::at(map, next_band, spot, border)

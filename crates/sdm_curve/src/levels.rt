@@ -4,7 +4,7 @@
 ghost use Rattle.std.specs.Prelude.{◌≡◌, pos, neg_ℤ, suc, ◌*◌, ◌/◌, ◌^◌, ◌<◌, ◌≤◌, ◌*ℤ◌, ◌≤ℤ◌, ◌<ℤ◌, length};
 ghost use Rattle.sdm_num.specs.Units.{IsPlace};
 ghost use Rattle.sdm_rules.specs.Slopes.{meaning_of, bands_of};
-ghost use Rattle.sdm_curve.specs.Maps.{handed_in, IsKept};
+ghost use Rattle.sdm_curve.specs.Maps.{handed_in, IsKeptMap};
 ghost use Rattle.sdm_curve.specs.Integrals.{integral, sum_of, IsLastAtMost, IsLevelIn, IsPlaceIn};
 
 use crate::map::BandMap;
@@ -35,7 +35,7 @@ fn segment_of_grain(map: &BandMap, grain: i128) -> usize
     let mut high = map.segments();
     while high - low > 1 {
         let middle = low + (high - low) / 2;
-        if i128::from(map.border(middle)) <= grain {
+        if i128::from(map.segment_start(middle)) <= grain {
             low = middle;
         } else {
             high = middle;
@@ -95,7 +95,7 @@ fn last_before_0(map: &BandMap, band: usize, level: i128) -> Spot
     requires before { level <ℤ pos 0 }
     ensures last { IsLastAtMost (meaning_of map.now) band level result.grain }
     ensures segment { IsPlaceIn map.now result.segment result.grain }
-    ensures kept { IsKept (handed_in map.now) }
+    ensures kept { IsKeptMap (handed_in map.now) }
 {
     Spot {
         segment: 0,
@@ -109,7 +109,7 @@ fn last_from_0(map: &BandMap, band: usize, level: u128) -> Spot
     requires high { level ≤ 10 ^ 37 }
     ensures last { IsLastAtMost (meaning_of map.now) band (pos level) result.grain }
     ensures segment { IsPlaceIn map.now result.segment result.grain }
-    ensures kept { IsKept (handed_in map.now) }
+    ensures kept { IsKeptMap (handed_in map.now) }
 {
     let segment = segment_of_level(map, band, level);
     let rest = level - map.sum(band, segment);
@@ -117,7 +117,7 @@ fn last_from_0(map: &BandMap, band: usize, level: u128) -> Spot
     let grains = rest / rate;
     Spot {
         segment,
-        grain: (u128::from(map.border(segment)) + grains) as i128,
+        grain: (u128::from(map.segment_start(segment)) + grains) as i128,
     }
 }
 
@@ -128,7 +128,7 @@ pub fn last_at_most(map: &BandMap, band: usize, level: i128) -> Spot
     requires high { level ≤ℤ pos (10 ^ 37) }
     ensures last { IsLastAtMost (meaning_of map.now) band level result.grain }
     ensures segment { IsPlaceIn map.now result.segment result.grain }
-    ensures kept { IsKept (handed_in map.now) }
+    ensures kept { IsKeptMap (handed_in map.now) }
 {
     if level < 0 {
         last_before_0(map, band, level)
@@ -137,16 +137,16 @@ pub fn last_at_most(map: &BandMap, band: usize, level: i128) -> Spot
     }
 }
 
-// The energy of a way of so many grains, with the way's sign.
-fn energy_over(rate: u64, way: i128) -> i128
+// The energy of a distance of so many grains, with the distance's sign.
+fn energy_over(rate: u64, distance: i128) -> i128
     requires rate { rate ≤ 27 * 10 ^ 15 }
-    requires low { neg_ℤ (pos (2 ^ 65)) ≤ℤ way }
-    requires high { way ≤ℤ pos (2 ^ 65) }
-    ensures value { result ≡ pos rate *ℤ way }
+    requires low { neg_ℤ (pos (2 ^ 65)) ≤ℤ distance }
+    requires high { distance ≤ℤ pos (2 ^ 65) }
+    ensures value { result ≡ pos rate *ℤ distance }
     ensures low { neg_ℤ (pos (10 ^ 36)) ≤ℤ result }
     ensures high { result ≤ℤ pos (10 ^ 36) }
 {
-    i128::from(rate) * way
+    i128::from(rate) * distance
 }
 
 /// The integral of a band at a spot.
@@ -158,6 +158,6 @@ pub fn integral_at(map: &BandMap, band: usize, spot: Spot) -> i128
     ensures low { neg_ℤ (pos (2 * 10 ^ 36)) ≤ℤ result }
     ensures high { result ≤ℤ pos (2 * 10 ^ 36) }
 {
-    let way = spot.grain - i128::from(map.border(spot.segment));
-    map.sum(band, spot.segment) as i128 + energy_over(map.rate(band, spot.segment), way)
+    let distance = spot.grain - i128::from(map.segment_start(spot.segment));
+    map.sum(band, spot.segment) as i128 + energy_over(map.rate(band, spot.segment), distance)
 }

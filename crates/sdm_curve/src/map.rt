@@ -2,9 +2,9 @@
 
 ghost use Rattle.std.specs.Prelude.{◌≡◌, ℕ, pos, ◌+◌, ◌*◌, ◌/◌, ◌^◌, ◌<◌, ◌≤◌, ◌+ℤ◌, ◌≤ℤ◌, length, map, unsigned_abs, slice_index, slice_index_or, IfOk, IfErr};
 ghost use Rattle.sdm_rules.specs.Slopes.{SlopeMap, meaning_of, bands_of, IsUsable};
-ghost use Rattle.sdm_curve.specs.Maps.{map_data, handed_in, AreStarts, IsMapData, AreAccepted, IsKept};
-ghost use Rattle.sdm_curve.specs.Integrals.{AreRates, AreSums, IsSummed, border_at, slope_of, sum_of};
-ghost use Rattle.sdm_curve.specs.Faults.{IsFaultOf};
+ghost use Rattle.sdm_curve.specs.Maps.{map_data, handed_in, AreStarts, IsMapData, AreAccepted, IsKeptMap};
+ghost use Rattle.sdm_curve.specs.Integrals.{AreRates, AreSums, IsSummed, segment_start, slope_of, sum_of};
+ghost use Rattle.sdm_curve.specs.Faults.{IsMapFault};
 
 use crate::checks::fault_of;
 use crate::faults::CurveFault;
@@ -58,10 +58,10 @@ fn rates_of(alloc: Global, slopes: &[u64]) -> Result<Vec<u64>, AllocError>
 }
 
 // The place in grains where a segment begins.
-fn border_at(starts: &[i32], i: usize) -> u64
+fn segment_start(starts: &[i32], i: usize) -> u64
     requires rising { AreStarts starts.now }
     requires known { i < length starts.now }
-    ensures { pos result ≡ border_at starts.now i }
+    ensures { pos result ≡ segment_start starts.now i }
 {
     CELL * starts[i] as u64
 }
@@ -70,10 +70,10 @@ fn border_at(starts: &[i32], i: usize) -> u64
 fn length_at(starts: &[i32], i: usize) -> u64
     requires rising { AreStarts starts.now }
     requires known { i + 1 < length starts.now }
-    ensures value { border_at starts.now (i + 1) ≡ border_at starts.now i +ℤ pos result }
-    ensures end { border_at starts.now (i + 1) ≤ℤ pos (2 ^ 64) }
+    ensures value { segment_start starts.now (i + 1) ≡ segment_start starts.now i +ℤ pos result }
+    ensures end { segment_start starts.now (i + 1) ≤ℤ pos (2 ^ 64) }
 {
-    border_at(starts, i + 1) - border_at(starts, i)
+    segment_start(starts, i + 1) - segment_start(starts, i)
 }
 
 // For each band and segment the energy from cell 0 to the segment's start.
@@ -111,7 +111,7 @@ fn kept(
     starts: &[i32],
     slopes: &[i64],
 ) -> Result<BandMap, AllocError>
-    requires { IsKept (map_data q uppers.now starts.now slopes.now) }
+    requires { IsKeptMap (map_data q uppers.now starts.now slopes.now) }
     ensures { IfOk result (λ m. handed_in m ≡ map_data q uppers.now starts.now slopes.now) }
 {
     let uppers = uppers.to_vec(alloc)?;
@@ -144,7 +144,7 @@ impl BandMap {
         requires { IsMapData (map_data q uppers.now starts.now slopes.now) }
         ensures kept { IfOk result (λ m. handed_in m ≡ map_data q uppers.now starts.now slopes.now) }
         ensures accepted { IfOk result (λ _. AreAccepted (map_data q uppers.now starts.now slopes.now)) }
-        ensures fault { IfErr result (IsFaultOf (map_data q uppers.now starts.now slopes.now)) }
+        ensures fault { IfErr result (IsMapFault (map_data q uppers.now starts.now slopes.now)) }
     {
         if let Some(fault) = fault_of(q, uppers, starts, slopes) {
             return Err(fault);
@@ -156,7 +156,7 @@ impl BandMap {
     pub fn q(&self) -> u32
         ensures value { result ≡ self.now.q }
         ensures range { (100 ≤ result) × (result ≤ 11_730) }
-        ensures kept { IsKept (handed_in self.now) }
+        ensures kept { IsKeptMap (handed_in self.now) }
         ensures usable { IsUsable (meaning_of self.now) }
     {
         self.q
@@ -182,7 +182,7 @@ impl BandMap {
     pub fn segments(&self) -> usize
         ensures value { result ≡ length self.now.starts }
         ensures some { 0 < result }
-        ensures kept { IsKept (handed_in self.now) }
+        ensures kept { IsKeptMap (handed_in self.now) }
     {
         self.starts.len()
     }
@@ -232,7 +232,7 @@ impl BandMap {
         requires { band < bands_of self.now.uppers }
         ensures value { result ≡ 27 * slope_of self.now band 0 }
         ensures some { 0 < result }
-        ensures kept { IsKept (handed_in self.now) }
+        ensures kept { IsKeptMap (handed_in self.now) }
     {
         let segments = self.segments();
         prove!(0 < segments);
@@ -240,12 +240,12 @@ impl BandMap {
     }
 
     /// The place in grains where a segment begins.
-    pub(crate) fn border(&self, i: usize) -> u64
+    pub(crate) fn segment_start(&self, i: usize) -> u64
         requires { i < length self.now.starts }
-        ensures value { pos result ≡ border_at self.now.starts i }
-        ensures kept { IsKept (handed_in self.now) }
+        ensures value { pos result ≡ segment_start self.now.starts i }
+        ensures kept { IsKeptMap (handed_in self.now) }
     {
-        border_at(&self.starts, i)
+        segment_start(&self.starts, i)
     }
 
     /// The energy in a band from cell 0 to the start of a segment.

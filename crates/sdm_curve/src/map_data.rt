@@ -1,7 +1,7 @@
 //! What a slope map may be made of, as a test: a caller that has its numbers from elsewhere asks it before `BandMap::new`.
 
 ghost use Rattle.std.specs.Prelude.{◌≡◌, ℕ, pos, ◌*◌, ◌<◌, length, slice_index_or, IsTrue};
-ghost use Rattle.sdm_curve.specs.Maps.{AreStarts, AreUppers, IsBounded, IsMapData, map_data};
+ghost use Rattle.sdm_curve.specs.Maps.{AreStarts, AreUppers, IsSlopeBounded, IsMapData, map_data};
 
 use sdm_num::Speed;
 use sdm_rules::MOST_BANDS;
@@ -48,7 +48,7 @@ fn are_starts(starts: &[i32]) -> bool
 
 // Whether no slope is too far from 0.
 fn are_bounded(slopes: &[i64]) -> bool
-    ensures { IsTrue result → (k : ℕ) → k < length slopes.now → IsBounded (slice_index_or slopes.now k (pos 0)) }
+    ensures { IsTrue result → (k : ℕ) → k < length slopes.now → IsSlopeBounded (slice_index_or slopes.now k (pos 0)) }
 {
     for slope in slopes {
         if slope.unsigned_abs() > MOST_SLOPE {

@@ -1,4 +1,4 @@
-//! Maps and places worked by hand: the way between two speeds is the difference of their squares by twice the
+//! Maps and places worked by hand: the distance between two speeds is the difference of their squares by twice the
 //! deceleration, and at q = 100 a slope of 200,000,000,000 is 1 m/s².
 
 ghost use Rattle.sdm_rules.specs.Slopes.{meaning_of};

@@ -6,9 +6,9 @@ use Rattle.sdm_rules.specs.declared.faults.DataFault.{DataFault}
 use Rattle.sdm_data.specs.Views.{tables_in}
 
 -- entries before those of an answer
-abbrev pub with_front : {A : Type 0} → List A → Result (List A) DataFault → Result (List A) DataFault
-with_front front (Ok xs) = Ok (front ++ xs)
-with_front front (Err fault) = Err fault
+abbrev pub with_prefix : {A : Type 0} → List A → Result (List A) DataFault → Result (List A) DataFault
+with_prefix prefix (Ok xs) = Ok (prefix ++ xs)
+with_prefix prefix (Err fault) = Err fault
 
 -- the tables that are left from an index on
 abbrev pub left : List Value → ℕ → List Members

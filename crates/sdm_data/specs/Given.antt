@@ -1,7 +1,7 @@
 -- What the sections that were read stand for in the definitions (own).
 use Rattle.std.specs.Prelude.{take}
 use Rattle.toml.specs.View.{table_view}
-use Rattle.sdm_rules.specs.Data.{TrainData, TrackData, LineData, train_of}
+use Rattle.sdm_rules.specs.Data.{TrainData, TrackData, TrainAndTrack, train_of}
 use Rattle.sdm_rules.specs.Slopes.{most_bands}
 use Rattle.sdm_data.specs.declared.roots.Root.{Root}
 use Rattle.sdm_data.specs.declared.trains.GivenTrain.{GivenTrain}
@@ -32,5 +32,5 @@ abbrev pub given_track : GivenTrack → TrackData
 given_track t = record { length_cm = t.length; gradients = t.gradients.items; speeds = t.speeds.items; areas = t.areas.items }
 
 -- the data of a journey but for its authority (own)
-abbrev pub line_of : JourneyData → LineData
-line_of j = record { train = j.train; national = j.national; track = j.track }
+abbrev pub train_and_track_of : JourneyData → TrainAndTrack
+train_and_track_of j = record { train = j.train; national = j.national; track = j.track }

@@ -2,7 +2,7 @@
 
 ghost use Rattle.std.specs.Prelude.{◌≡◌, ◌≢◌, IfErr, IfOk, Ok, Err};
 ghost use Rattle.toml.specs.View.{table_view};
-ghost use Rattle.sdm_data.specs.Given.{line_of};
+ghost use Rattle.sdm_data.specs.Given.{train_and_track_of};
 ghost use Rattle.sdm_data.specs.Journey.{data_of};
 
 use crate::authorities::authority_in;
@@ -36,7 +36,7 @@ pub struct JourneyData {
 /// - Train, and then National, and then Track: what `Train::new`, `National::new` and `Track::new` refuse.
 #[tactic(auto, unfolding(crate::specs::Journey::data_of))]
 pub fn data_of(alloc: Global, table: &Table) -> Result<JourneyData, DataFault>
-    ensures data { IfOk result (λ j. data_of (table_view table.now) ≡ Ok (line_of j, j.authority)) }
+    ensures data { IfOk result (λ j. data_of (table_view table.now) ≡ Ok (train_and_track_of j, j.authority)) }
     ensures refused { IfErr result (λ fault. fault ≢ DataFault.Memory → data_of (table_view table.now) ≡ Err fault) }
 {
     let root = root_in(table)?;

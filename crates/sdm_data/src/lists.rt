@@ -14,7 +14,7 @@ use std::alloc::Global;
 use toml::{Table, Value};
 
 /// An entry of an array of tables. (own)
-pub trait Entry: Drop {
+pub trait ReadEntry: Drop {
     ghost entry_in: { Version → ℕ → Members → Result Self DataFault };
 
     /// The entry that a table holds; its index counts from 1. (own)
@@ -24,7 +24,7 @@ pub trait Entry: Drop {
 
 /// The entries of an array of tables, or the first rule that one of them breaks, unless memory was refused first. Values
 /// that are no tables are passed over: no array with such a value is handed in. (own)
-pub fn entries<T: Entry>(
+pub fn entries<T: ReadEntry>(
     alloc: Global,
     version: Version,
     list: &[Value],

@@ -8,7 +8,7 @@ ghost use Rattle.sdm_rules.specs.Ranges.{length_fault, track_fault};
 ghost use Rattle.sdm_data.specs.Sections.{adhesion_in, gradient_in, speed_in, track_in};
 ghost use Rattle.sdm_data.specs.Given.{given_track};
 
-use crate::lists::{Entry, entries};
+use crate::lists::{ReadEntry, entries};
 use crate::section_tables::SectionTable;
 use crate::versions::Version;
 use sdm_rules::{Area, DataFault, Gradient, Section, SpeedStep};
@@ -25,7 +25,7 @@ pub struct GivenTrack {
     pub areas: Vec<Area>,
 }
 
-impl Entry for Gradient {
+impl ReadEntry for Gradient {
     ghost entry_in = { gradient_in };
 
     #[tactic(auto, unfolding(crate::specs::Sections::gradient_in))]
@@ -39,7 +39,7 @@ impl Entry for Gradient {
     }
 }
 
-impl Entry for SpeedStep {
+impl ReadEntry for SpeedStep {
     ghost entry_in = { speed_in };
 
     #[tactic(auto, unfolding(crate::specs::Sections::speed_in))]
@@ -54,7 +54,7 @@ impl Entry for SpeedStep {
     }
 }
 
-impl Entry for Area {
+impl ReadEntry for Area {
     ghost entry_in = { adhesion_in };
 
     #[tactic(auto, unfolding(crate::specs::Sections::adhesion_in))]

@@ -9,7 +9,7 @@ ghost use Rattle.sdm_rules.specs.Slopes.{most_bands};
 ghost use Rattle.sdm_data.specs.Sections.{band_in, train_in};
 ghost use Rattle.sdm_data.specs.Given.{given_train, with_first_bands};
 
-use crate::lists::{Entry, entries};
+use crate::lists::{ReadEntry, entries};
 use crate::section_tables::SectionTable;
 use crate::versions::Version;
 use sdm_rules::{BASE_BAND, Band, DataFault, MOST_BANDS, Section, TrainFields};
@@ -25,7 +25,7 @@ pub struct GivenTrain {
     pub bands: Vec<Band>,
 }
 
-impl Entry for Band {
+impl ReadEntry for Band {
     ghost entry_in = { band_in };
 
     #[tactic(auto, unfolding(crate::specs::Sections::band_in))]

@@ -7,32 +7,32 @@ use Rattle.std.proofs.lemmas.List.{length-map}
 use Rattle.std.proofs.Math.ListN.{get_or-map}
 use Rattle.sdm_rules.specs.declared.data.Band.{Band}
 use Rattle.sdm_rules.specs.declared.data.SlopeKind.{SlopeKind}
-use Rattle.sdm_rules.specs.Data.{LineData}
+use Rattle.sdm_rules.specs.Data.{TrainAndTrack}
 use Rattle.sdm_rules.specs.Decelerations.{UnderTrain, q_of, under_train, slope_under, slope_at, slopes_of}
 use Rattle.sdm_rules.specs.Slopes.{SlopeMap, meaning_of, bands_of, segment_of}
 use Rattle.sdm_rules.specs.Opening.{IsAcceptedKind}
 use Rattle.sdm_curve.specs.declared.faults.CurveFault.{CurveFault}
-use Rattle.sdm_curve.specs.Faults.{IsFaultOf}
+use Rattle.sdm_curve.specs.Faults.{IsMapFault}
 use Rattle.sdm_curve.specs.Maps.{MapData, IsMapData, AreAccepted, map_data, handed_in, slope_in}
 use Rattle.sdm_curve.proofs.Meanings.{segment_known}
-use Rattle.sdm_decel.specs.Borders.{AreStretches}
+use Rattle.sdm_decel.specs.StretchCells.{AreStretches}
 use Rattle.sdm_decel.specs.Slopes.{AreParts, IsFaultOfKind}
 use Rattle.sdm_decel.proofs.Sizes.{size_low, size_high}
 use Rattle.sdm_decel.proofs.Rows.{length_rows, get_or-rows, count_uppers, uppers_are}
 use Rattle.sdm_decel.proofs.SlopeLaws.{Gives, meaning_kind, accepted_kind, fault_kind}
 
 -- the slope of a band, by the track under the train
-abbrev slope_in_band : SlopeKind → LineData → Band → UnderTrain → ℤ
+abbrev slope_in_band : SlopeKind → TrainAndTrack → Band → UnderTrain → ℤ
 slope_in_band kind d b u = slope_under kind d.train d.national u b
 
 -- the track under the train in the first cells
-abbrev unders : LineData → List ℤ → List UnderTrain
+abbrev unders : TrainAndTrack → List ℤ → List UnderTrain
 unders d starts = map (under_train d.track d.train.length_cm) starts
 
-as_many : (d : LineData) (starts : List ℤ) → length (unders d starts) ≡ length starts
+as_many : (d : TrainAndTrack) (starts : List ℤ) → length (unders d starts) ≡ length starts
 as_many d starts = length-map starts (under_train d.track d.train.length_cm)
 
-module _ (kind : SlopeKind) (d : LineData) (q : ℕ) (uppers : List ℕ) (starts slopes : List ℤ) (parts : AreParts kind d uppers starts slopes) (q_is : q ≡ q_of d.train.rotating_mass) (low_q : 100 ≤ q) (high_q : q ≤ 11_730) where
+module _ (kind : SlopeKind) (d : TrainAndTrack) (q : ℕ) (uppers : List ℕ) (starts slopes : List ℤ) (parts : AreParts kind d uppers starts slopes) (q_is : q ≡ q_of d.train.rotating_mass) (low_q : 100 ≤ q) (high_q : q ≤ 11_730) where
   count : bands_of uppers ≡ length d.train.bands
   count = rw parts.uppers_are (count_uppers d.train.bands parts.train.bands)
 
@@ -77,5 +77,5 @@ module _ (kind : SlopeKind) (d : LineData) (q : ℕ) (uppers : List ℕ) (starts
   pub accepts : AreAccepted (map_data q uppers starts slopes) → IsAcceptedKind kind d
   accepts h = accepted_kind kind d (map_data q uppers starts slopes) gives h
 
-  pub refuses : (f : CurveFault) → IsFaultOf (map_data q uppers starts slopes) f → IsFaultOfKind kind d f
+  pub refuses : (f : CurveFault) → IsMapFault (map_data q uppers starts slopes) f → IsFaultOfKind kind d f
   refuses f h = fault_kind kind d (map_data q uppers starts slopes) gives f h

@@ -12,7 +12,7 @@ use Rattle.sdm_rules.specs.declared.data.Band.{Band}
 use Rattle.sdm_rules.specs.declared.data.Area.{Area}
 use Rattle.sdm_rules.specs.Decelerations.{uppers_of}
 use Rattle.sdm_track.specs.declared.under_train.Segment.{Segment}
-use Rattle.sdm_decel.specs.Borders.{gradient_borders, area_borders}
+use Rattle.sdm_decel.specs.StretchCells.{gradient_starts, area_ends}
 
 -- the next element of a list
 pub next_is : {X : Type 0} (xs : List X) (i : ℕ) (x : X) → slice_get xs i ≡ Some x → take (i + 1) xs ≡ take i xs ++ x ∷ []
@@ -21,7 +21,7 @@ next_is xs i x h = take_more xs i x (slice_get_within xs i x h) ∙ ap (λ y. ta
 pub flat_map_next : {X A : Type 0} (f : X → List A) (xs : List X) (i : ℕ) (x : X) → slice_get xs i ≡ Some x → flat_map f (take (i + 1) xs) ≡ flat_map f (take i xs) ++ f x
 flat_map_next f xs i x h = ap (λ ys. flat_map f ys) (next_is xs i x h) ∙ flat_map-append f (take i xs) (x ∷ []) ∙ ap (λ ys. flat_map f (take i xs) ++ ys) (append-nil (f x))
 
--- ---- borders
+-- ---- cells
 
 some_segment : Segment
 some_segment = record { start = pos 0; value = pos 0 }
@@ -30,17 +30,17 @@ start_is : (segments : List Segment) (i : ℕ) (start : ℤ) → i < length segm
 start_is segments i start lt h = let there = slice_get-get_or segments i some_segment lt in cc
 
 pub gradients_more : (segments : List Segment) (i : ℕ) (start : ℤ) (before old new : List ℕ) (x : ℕ) → i < length segments → option_map (λ (s : Segment). s.start) (slice_get segments i) ≡ Some start →
-    old ≡ before ++ gradient_borders (take i segments) → new ≡ old ++ x ∷ [] → x ≡ unsigned_abs start → new ≡ before ++ gradient_borders (take (i + 1) segments)
+    old ≡ before ++ gradient_starts (take i segments) → new ≡ old ++ x ∷ [] → x ≡ unsigned_abs start → new ≡ before ++ gradient_starts (take (i + 1) segments)
 gradients_more segments i start before old new x lt h old_is new_is x_is =
-    let more : gradient_borders (take (i + 1) segments) ≡ gradient_borders (take i segments) ++ unsigned_abs start ∷ [] =
-    map_more (λ (s : Segment). unsigned_abs s.start) segments i some_segment lt ∙ ap (λ (z : ℤ). gradient_borders (take i segments) ++ unsigned_abs z ∷ []) (sym (start_is segments i start lt h)) in
+    let more : gradient_starts (take (i + 1) segments) ≡ gradient_starts (take i segments) ++ unsigned_abs start ∷ [] =
+    map_more (λ (s : Segment). unsigned_abs s.start) segments i some_segment lt ∙ ap (λ (z : ℤ). gradient_starts (take i segments) ++ unsigned_abs z ∷ []) (sym (start_is segments i start lt h)) in
     rw (new_is, old_is, x_is, more) (simp append_assoc)
 
-pub areas_more : (length_cm : ℕ) (areas : List Area) (i : ℕ) (a : Area) (before old middle new : List ℕ) (x y : ℕ) → slice_get areas i ≡ Some a → old ≡ before ++ area_borders length_cm (take i areas) →
-    middle ≡ old ++ x ∷ [] → new ≡ middle ++ y ∷ [] → x ≡ unsigned_abs a.start → y ≡ unsigned_abs (a.end +ℤ pos length_cm) → new ≡ before ++ area_borders length_cm (take (i + 1) areas)
+pub areas_more : (length_cm : ℕ) (areas : List Area) (i : ℕ) (a : Area) (before old middle new : List ℕ) (x y : ℕ) → slice_get areas i ≡ Some a → old ≡ before ++ area_ends length_cm (take i areas) →
+    middle ≡ old ++ x ∷ [] → new ≡ middle ++ y ∷ [] → x ≡ unsigned_abs a.start → y ≡ unsigned_abs (a.end +ℤ pos length_cm) → new ≡ before ++ area_ends length_cm (take (i + 1) areas)
 areas_more length_cm areas i a before old middle new x y h old_is middle_is new_is x_is y_is =
-    let borders : Area → List ℕ = λ a. unsigned_abs a.start ∷ unsigned_abs (a.end +ℤ pos length_cm) ∷ [] in
-    rw (new_is, middle_is, old_is, x_is, y_is, flat_map_next borders areas i a h) (simp append_assoc)
+    let cells_of : Area → List ℕ = λ a. unsigned_abs a.start ∷ unsigned_abs (a.end +ℤ pos length_cm) ∷ [] in
+    rw (new_is, middle_is, old_is, x_is, y_is, flat_map_next cells_of areas i a h) (simp append_assoc)
 
 pub nat_plus : (z : ℤ) (n : ℕ) → pos 0 ≤ℤ z → unsigned_abs z + n ≡ unsigned_abs (z +ℤ pos n)
 nat_plus (pos m) n h = refl

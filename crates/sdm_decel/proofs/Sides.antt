@@ -1,4 +1,4 @@
--- The same lies under the train with its front end in two cells, where no border lies past the first up to the second: each
+-- The same lies under the train with its front end in two cells, where nothing changes past the first up to the second: each
 -- gradient has begun for both or for neither, and each area is in force for both or for neither.
 use Rattle.std.proofs.Common.{◌≡◌, ℕ, suc, ℤ, pos, List, [], ◌∷◌, length, get_or, Bool, int_le, int_lt, ◌<◌, ◌+ℤ◌, ◌≤ℤ◌, ◌<ℤ◌, refl, sym, ◌∙◌, ap₂, arith}
 use Rattle.std.specs.List.{list_any}
@@ -9,11 +9,11 @@ use Rattle.sdm_rules.specs.Cells.{last_at, value_at}
 use Rattle.sdm_rules.specs.Data.{TrackData}
 use Rattle.sdm_rules.specs.Decelerations.{UnderTrain, is_in_force, under_train}
 use Rattle.sdm_track.specs.declared.under_train.Segment.{Segment}
-use Rattle.sdm_decel.specs.Borders.{AreGradientsUnder}
+use Rattle.sdm_decel.specs.StretchCells.{AreGradientsUnder}
 
--- no border lies past the cell `s` up to the cell `c`
-pub record IsBegun (s c border : ℤ) : Type 0 where
-  pub begun : border ≤ℤ c → border ≤ℤ s
+-- nothing changes past the cell `s` up to the cell `c`
+pub record IsBegun (s c cell : ℤ) : Type 0 where
+  pub begun : cell ≤ℤ c → cell ≤ℤ s
 
 module _ (s c : ℤ) (le : s ≤ℤ c) where
   le_same : (b : ℤ) → IsBegun s c b → int_le b c ≡ int_le b s

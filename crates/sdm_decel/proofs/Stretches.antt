@@ -1,5 +1,5 @@
--- All borders in order, each once, are the first cells of stretches in each of which the same lies under the train: from the first
--- cell of its stretch up to a cell no border lies between.
+-- All changes in order, each once, are the first cells of stretches in each of which the same lies under the train: from the first
+-- cell of its stretch up to a cell no change lies between.
 use Rattle.std.proofs.Common.{◌≡◌, ℕ, zero, suc, ℤ, pos, negsuc, List, [], ◌∷◌, ◌++◌, map, All, Contains, length, get_or, unsigned_abs, ◌*◌, ◌<◌, ◌≤◌, ◌+ℤ◌, ◌≤ℤ◌, ◌<ℤ◌, ap, sym, refl, ◌∙◌, arith, inl, inr, length-append}
 use Rattle.std.specs.Int.{int_max}
 use Rattle.std.specs.List.Sorted.{IsStrictlyIncreasing}
@@ -20,10 +20,10 @@ use Rattle.sdm_track.specs.Ranges.{IsTrack, IsArea}
 use Rattle.sdm_track.specs.Segments.{AreSegments}
 use Rattle.sdm_curve.specs.Maps.{AreStarts}
 use Rattle.sdm_curve.proofs.Meanings.{rising_of, start_least}
-use Rattle.sdm_decel.specs.Borders.{AreGradientsUnder, gradient_borders, area_borders, AreStretches}
+use Rattle.sdm_decel.specs.StretchCells.{AreGradientsUnder, gradient_starts, area_ends, AreStretches}
 use Rattle.sdm_decel.proofs.Sides.{IsBegun, under_same}
 
--- ---- the borders of one kind
+-- ---- the cells of one kind
 
 pub nat_is : (z : ℤ) → pos 0 ≤ℤ z → pos (unsigned_abs z) ≡ z
 nat_is (pos n) h = refl
@@ -33,44 +33,44 @@ nat_near : (z : ℤ) (m : ℕ) → pos 0 ≤ℤ z → z ≤ℤ pos m → unsigne
 nat_near (pos n) m low high = omega (arith, ints)
 nat_near (negsuc n) m low high = absurd (omega (arith, ints))
 
-has_gradient : (segments : List Segment) (k : ℕ) (d : Segment) → k < length segments → Contains (gradient_borders segments) (unsigned_abs (get_or segments k d).start)
+has_gradient : (segments : List Segment) (k : ℕ) (d : Segment) → k < length segments → Contains (gradient_starts segments) (unsigned_abs (get_or segments k d).start)
 has_gradient (s ∷ more) zero d lt = (0, omega arith, refl)
-has_gradient (s ∷ more) (suc k) d lt = Contains-append_right (unsigned_abs s.start ∷ []) (gradient_borders more) _ (has_gradient more k d (omega arith))
+has_gradient (s ∷ more) (suc k) d lt = Contains-append_right (unsigned_abs s.start ∷ []) (gradient_starts more) _ (has_gradient more k d (omega arith))
 has_gradient [] k d lt = absurd (omega arith)
 
-has_start : (length_cm : ℕ) (areas : List Area) (k : ℕ) (d : Area) → k < length areas → Contains (area_borders length_cm areas) (unsigned_abs (get_or areas k d).start)
+has_start : (length_cm : ℕ) (areas : List Area) (k : ℕ) (d : Area) → k < length areas → Contains (area_ends length_cm areas) (unsigned_abs (get_or areas k d).start)
 has_start length_cm [] k d lt = absurd (omega arith)
 has_start length_cm (a ∷ more) zero d lt = (0, omega arith, refl)
-has_start length_cm (a ∷ more) (suc k) d lt = Contains-append_right (unsigned_abs a.start ∷ unsigned_abs (a.end +ℤ pos length_cm) ∷ []) (area_borders length_cm more) _ (has_start length_cm more k d (omega arith))
+has_start length_cm (a ∷ more) (suc k) d lt = Contains-append_right (unsigned_abs a.start ∷ unsigned_abs (a.end +ℤ pos length_cm) ∷ []) (area_ends length_cm more) _ (has_start length_cm more k d (omega arith))
 
-has_end : (length_cm : ℕ) (areas : List Area) (k : ℕ) (d : Area) → k < length areas → Contains (area_borders length_cm areas) (unsigned_abs ((get_or areas k d).end +ℤ pos length_cm))
+has_end : (length_cm : ℕ) (areas : List Area) (k : ℕ) (d : Area) → k < length areas → Contains (area_ends length_cm areas) (unsigned_abs ((get_or areas k d).end +ℤ pos length_cm))
 has_end length_cm [] k d lt = absurd (omega arith)
 has_end length_cm (a ∷ more) zero d lt = (1, omega arith, refl)
-has_end length_cm (a ∷ more) (suc k) d lt = Contains-append_right (unsigned_abs a.start ∷ unsigned_abs (a.end +ℤ pos length_cm) ∷ []) (area_borders length_cm more) _ (has_end length_cm more k d (omega arith))
+has_end length_cm (a ∷ more) (suc k) d lt = Contains-append_right (unsigned_abs a.start ∷ unsigned_abs (a.end +ℤ pos length_cm) ∷ []) (area_ends length_cm more) _ (has_end length_cm more k d (omega arith))
 
 -- ---- how many there are, and how far
 
-length_areas : (length_cm : ℕ) (areas : List Area) → length (area_borders length_cm areas) ≡ 2 * length areas
+length_areas : (length_cm : ℕ) (areas : List Area) → length (area_ends length_cm areas) ≡ 2 * length areas
 length_areas length_cm [] = refl
 length_areas length_cm (a ∷ more) = omega (arith, length_areas length_cm more)
 
 abbrev IsNear : ℕ → Type 0
 IsNear x = x ≤ 10_200_000
 
-near_gradients : (segments : List Segment) → AreSegments segments → All IsNear (gradient_borders segments)
+near_gradients : (segments : List Segment) → AreSegments segments → All IsNear (gradient_starts segments)
 near_gradients segments h = All-map IsNear (λ (s : Segment). unsigned_abs s.start) segments (λ k d l. let s = h.each k d l in nat_near _ 10_200_000 s.not_before (let past = s.not_past in omega (arith, ints)))
 
-near_areas : (track_cm : ℤ) (length_cm : ℕ) (areas : List Area) → track_cm ≤ℤ pos longest_track → length_cm ≤ longest_train → All (IsArea track_cm) areas → All IsNear (area_borders length_cm areas)
+near_areas : (track_cm : ℤ) (length_cm : ℕ) (areas : List Area) → track_cm ≤ℤ pos longest_track → length_cm ≤ longest_train → All (IsArea track_cm) areas → All IsNear (area_ends length_cm areas)
 near_areas track_cm length_cm [] long short each = All-nil IsNear
 near_areas track_cm length_cm (a ∷ more) long short each =
     let here = All-head (IsArea track_cm) a more each in
     let before = here.not_before in
     let some = here.some_cell in
     let ends = here.on_track in
-    All-cons IsNear (unsigned_abs a.start) (unsigned_abs (a.end +ℤ pos length_cm) ∷ area_borders length_cm more) (nat_near a.start 10_200_000 before (omega (arith, ints)))
-    (All-cons IsNear (unsigned_abs (a.end +ℤ pos length_cm)) (area_borders length_cm more) (nat_near (a.end +ℤ pos length_cm) 10_200_000 (omega (arith, ints)) (omega (arith, ints))) (near_areas track_cm length_cm more long short (All-tail (IsArea track_cm) a more each)))
+    All-cons IsNear (unsigned_abs a.start) (unsigned_abs (a.end +ℤ pos length_cm) ∷ area_ends length_cm more) (nat_near a.start 10_200_000 before (omega (arith, ints)))
+    (All-cons IsNear (unsigned_abs (a.end +ℤ pos length_cm)) (area_ends length_cm more) (nat_near (a.end +ℤ pos length_cm) 10_200_000 (omega (arith, ints)) (omega (arith, ints))) (near_areas track_cm length_cm more long short (All-tail (IsArea track_cm) a more each)))
 
--- ---- the borders in order
+-- ---- the cells in order
 
 has_nat : (cells : List ℕ) (x : ℕ) → Contains cells x → Contains (map pos cells) (pos x)
 has_nat cells x h =
@@ -90,7 +90,7 @@ starts_are cells rise zero_in = record {
     first_is zero lt is = is
     first_is (suc k) lt is = (let r = AllPairs-from_increasing cells rise 0 (suc k) 0 (omega arith) lt in omega arith)
 
--- no border that is a start lies past the first cell of a segment up to a cell of it
+-- no cell that is a start lies past the first cell of a segment up to a cell of it
 begun_is : (starts : List ℤ) (c : ℤ) (i : ℕ) (x b : ℤ) → AreStarts starts → IsInSegment starts c i → Contains starts x → x ≡ b → IsBegun (get_or starts i (pos 0)) c b
 begun_is starts c i x b h here has is = record {
   begun = λ le.
@@ -104,29 +104,29 @@ begun_is starts c i x b h here has is = record {
 
 -- ---- the stretches
 
--- all borders, as they are gathered
-pub gathered : (none first gradients all : List ℕ) (segments : List Segment) (length_cm : ℕ) (areas : List Area) → none ≡ [] → first ≡ none ++ 0 ∷ [] → gradients ≡ first ++ gradient_borders segments → all ≡ gradients ++ area_borders length_cm areas →
-    all ≡ (0 ∷ []) ++ gradient_borders segments ++ area_borders length_cm areas
+-- all cells, as they are gathered
+pub gathered : (none first gradients all : List ℕ) (segments : List Segment) (length_cm : ℕ) (areas : List Area) → none ≡ [] → first ≡ none ++ 0 ∷ [] → gradients ≡ first ++ gradient_starts segments → all ≡ gradients ++ area_ends length_cm areas →
+    all ≡ (0 ∷ []) ++ gradient_starts segments ++ area_ends length_cm areas
 gathered none first gradients all segments length_cm areas none_is first_is gradients_is all_is = rw (all_is, gradients_is, first_is, none_is) refl
 
 module _ (track : TrackData) (length_cm : ℕ) (segments : List Segment) (all cells : List ℕ) (given : AreGradientsUnder track length_cm segments) (in_range : IsTrack track) (short : length_cm ≤ longest_train)
-    (all_is : all ≡ (0 ∷ []) ++ gradient_borders segments ++ area_borders length_cm track.areas) where
+    (all_is : all ≡ (0 ∷ []) ++ gradient_starts segments ++ area_ends length_cm track.areas) where
   near_all : All IsNear all
-  near_all = rw all_is (All-append IsNear ((0 ∷ []) ++ gradient_borders segments) _ (All-append IsNear (0 ∷ []) _ (All-cons IsNear 0 [] (omega arith) (All-nil IsNear)) (near_gradients segments given.in_range)) (near_areas track.length_cm length_cm track.areas in_range.longest short in_range.areas.each))
+  near_all = rw all_is (All-append IsNear ((0 ∷ []) ++ gradient_starts segments) _ (All-append IsNear (0 ∷ []) _ (All-cons IsNear 0 [] (omega arith) (All-nil IsNear)) (near_gradients segments given.in_range)) (near_areas track.length_cm length_cm track.areas in_range.longest short in_range.areas.each))
 
   few_all : length all ≤ 1_152
-  few_all = rw all_is (omega (arith, given.in_range.few, in_range.areas.few, length_areas length_cm track.areas, length-append ((0 ∷ []) ++ gradient_borders segments) (area_borders length_cm track.areas), length-map segments (λ (s : Segment). unsigned_abs s.start)))
+  few_all = rw all_is (omega (arith, given.in_range.few, in_range.areas.few, length_areas length_cm track.areas, length-append ((0 ∷ []) ++ gradient_starts segments) (area_ends length_cm track.areas), length-map segments (λ (s : Segment). unsigned_abs s.start)))
 
   has_zero : Contains all 0
-  has_zero = rw all_is (Contains-append_left ((0 ∷ []) ++ gradient_borders segments) _ 0 (Contains-append_left (0 ∷ []) (gradient_borders segments) 0 (0, omega arith, refl)))
+  has_zero = rw all_is (Contains-append_left ((0 ∷ []) ++ gradient_starts segments) _ 0 (Contains-append_left (0 ∷ []) (gradient_starts segments) 0 (0, omega arith, refl)))
 
   has_segment : (k : ℕ) (d : Segment) → k < length segments → Contains all (unsigned_abs (get_or segments k d).start)
-  has_segment k d lt = rw all_is (Contains-append_left ((0 ∷ []) ++ gradient_borders segments) _ _ (Contains-append_right (0 ∷ []) (gradient_borders segments) _ (has_gradient segments k d lt)))
+  has_segment k d lt = rw all_is (Contains-append_left ((0 ∷ []) ++ gradient_starts segments) _ _ (Contains-append_right (0 ∷ []) (gradient_starts segments) _ (has_gradient segments k d lt)))
 
-  has_area : (x : ℕ) → Contains (area_borders length_cm track.areas) x → Contains all x
-  has_area x h = rw all_is (Contains-append_right ((0 ∷ []) ++ gradient_borders segments) _ x h)
+  has_area : (x : ℕ) → Contains (area_ends length_cm track.areas) x → Contains all x
+  has_area x h = rw all_is (Contains-append_right ((0 ∷ []) ++ gradient_starts segments) _ x h)
 
-  -- what holds of all borders holds of them in order
+  -- what holds of all cells holds of them in order
   pub near_cells : ((x : ℕ) → Contains cells x → Contains all x) → All IsNear cells
   near_cells from = λ k d l. All-contains IsNear all (get_or cells k d) near_all (from _ (Contains-get_or cells k d l))
 
@@ -139,11 +139,11 @@ module _ (track : TrackData) (length_cm : ℕ) (segments : List Segment) (all ce
 
     same_from : (c : ℤ) → get_or (map pos cells) (segment_of (map pos cells) c) (pos 0) ≤ℤ c → under_train track (pos length_cm) c ≡ under_train track (pos length_cm) (get_or (map pos cells) (segment_of (map pos cells) c) (pos 0))
     same_from c le =
-        let border = λ (x : ℕ) (b : ℤ) (h : Contains all x) (is : pos x ≡ b). begun_is (map pos cells) c (segment_of (map pos cells) c) (pos x) b starts (here c) (has_nat cells x (keeps x h)) is in
+        let begun = λ (x : ℕ) (b : ℤ) (h : Contains all x) (is : pos x ≡ b). begun_is (map pos cells) c (segment_of (map pos cells) c) (pos x) b starts (here c) (has_nat cells x (keeps x h)) is in
         under_same (get_or (map pos cells) (segment_of (map pos cells) c) (pos 0)) c le track length_cm segments given
-        (λ k d l. border _ _ (has_segment k d l) (nat_is _ (given.in_range.each k d l).not_before))
-        (λ k d l. border _ _ (has_area _ (has_start length_cm track.areas k d l)) (nat_is _ (in_range.areas.each k d l).not_before))
-        (λ k d l. border _ _ (has_area _ (has_end length_cm track.areas k d l)) (nat_is _ (let a = in_range.areas.each k d l in let before = a.not_before in let some = a.some_cell in omega (arith, ints))))
+        (λ k d l. begun _ _ (has_segment k d l) (nat_is _ (given.in_range.each k d l).not_before))
+        (λ k d l. begun _ _ (has_area _ (has_start length_cm track.areas k d l)) (nat_is _ (in_range.areas.each k d l).not_before))
+        (λ k d l. begun _ _ (has_area _ (has_end length_cm track.areas k d l)) (nat_is _ (let a = in_range.areas.each k d l in let before = a.not_before in let some = a.some_cell in omega (arith, ints))))
 
     -- a cell from 0 on lies at the first cell of its segment or past it
     from_start : (c : ℤ) (i : ℕ) → pos 0 ≤ℤ c → IsInSegment (map pos cells) c i → get_or (map pos cells) i (pos 0) ≤ℤ c

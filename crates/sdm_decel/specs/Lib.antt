@@ -1,2 +1,2 @@
-pub mod Borders
+pub mod StretchCells
 pub mod Slopes

@@ -2,7 +2,7 @@
 //! each speed band of the train and each stretch of track on which what lies under the train stays the same.
 #![tactic(auto)]
 
-mod borders;
+mod cells;
 mod decelerations;
 mod maps;
 mod under;

@@ -6,10 +6,10 @@ ghost use Rattle.sdm_rules.specs.Decelerations.{uppers_of, slope_under, slopes_o
 ghost use Rattle.sdm_rules.specs.Slopes.{meaning_of};
 ghost use Rattle.sdm_rules.specs.Opening.{IsAcceptedKind};
 ghost use Rattle.sdm_train.specs.Trains.{IsTrain, IsBand};
-ghost use Rattle.sdm_decel.specs.Borders.{AreStretches};
-ghost use Rattle.sdm_decel.specs.Slopes.{line_of, slopes_of_bands, AreParts, IsFaultOfKind};
+ghost use Rattle.sdm_decel.specs.StretchCells.{AreStretches};
+ghost use Rattle.sdm_decel.specs.Slopes.{train_and_track_from, slopes_of_bands, AreParts, IsFaultOfKind};
 
-use crate::borders::stretches;
+use crate::cells::stretches;
 use crate::decelerations::{q_of, slope};
 use crate::under::Under;
 use sdm_curve::{BandMap, CurveFault};
@@ -87,7 +87,8 @@ fn parts_of(
     national: &National,
     track: &Track,
 ) -> Result<Parts, NoMemory>
-    ensures { IfOk result (λ p. AreParts kind (line_of train.now national.now track.now) p.uppers.items p.starts.items p.slopes.items) }
+    ensures { IfOk result
+        (λ p. AreParts kind (train_and_track_from train.now national.now track.now) p.uppers.items p.starts.items p.slopes.items) }
 {
     let length_cm = train.length() as u32;
     let segments = track.compensated(alloc, length_cm)?;
@@ -110,10 +111,10 @@ pub fn slope_map(
     national: &National,
     track: &Track,
 ) -> Result<BandMap, CurveFault>
-    ensures slopes { IfOk result (λ m. meaning_of m ≡ slopes_of kind (line_of train.now national.now track.now)) }
+    ensures slopes { IfOk result (λ m. meaning_of m ≡ slopes_of kind (train_and_track_from train.now national.now track.now)) }
     ensures segments { IfOk result (λ m. AreStretches track.now train.now.length_cm m.starts) }
-    ensures accepted { IfOk result (λ _. IsAcceptedKind kind (line_of train.now national.now track.now)) }
-    ensures fault { IfErr result (IsFaultOfKind kind (line_of train.now national.now track.now)) }
+    ensures accepted { IfOk result (λ _. IsAcceptedKind kind (train_and_track_from train.now national.now track.now)) }
+    ensures fault { IfErr result (IsFaultOfKind kind (train_and_track_from train.now national.now track.now)) }
 {
     let Ok(parts) = parts_of(alloc, kind, train, national, track) else {
         return Err(CurveFault::Memory);
@@ -139,10 +140,10 @@ pub fn safe(
     national: &National,
     track: &Track,
 ) -> Result<BandMap, CurveFault>
-    ensures slopes { IfOk result (λ m. meaning_of m ≡ slopes_of Safe (line_of train.now national.now track.now)) }
+    ensures slopes { IfOk result (λ m. meaning_of m ≡ slopes_of Safe (train_and_track_from train.now national.now track.now)) }
     ensures segments { IfOk result (λ m. AreStretches track.now train.now.length_cm m.starts) }
-    ensures accepted { IfOk result (λ _. IsAcceptedKind Safe (line_of train.now national.now track.now)) }
-    ensures fault { IfErr result (IsFaultOfKind Safe (line_of train.now national.now track.now)) }
+    ensures accepted { IfOk result (λ _. IsAcceptedKind Safe (train_and_track_from train.now national.now track.now)) }
+    ensures fault { IfErr result (IsFaultOfKind Safe (train_and_track_from train.now national.now track.now)) }
 {
     slope_map(alloc, SlopeKind::Safe, train, national, track)
 }
@@ -155,10 +156,10 @@ pub fn expected(
     national: &National,
     track: &Track,
 ) -> Result<BandMap, CurveFault>
-    ensures slopes { IfOk result (λ m. meaning_of m ≡ slopes_of Expected (line_of train.now national.now track.now)) }
+    ensures slopes { IfOk result (λ m. meaning_of m ≡ slopes_of Expected (train_and_track_from train.now national.now track.now)) }
     ensures segments { IfOk result (λ m. AreStretches track.now train.now.length_cm m.starts) }
-    ensures accepted { IfOk result (λ _. IsAcceptedKind Expected (line_of train.now national.now track.now)) }
-    ensures fault { IfErr result (IsFaultOfKind Expected (line_of train.now national.now track.now)) }
+    ensures accepted { IfOk result (λ _. IsAcceptedKind Expected (train_and_track_from train.now national.now track.now)) }
+    ensures fault { IfErr result (IsFaultOfKind Expected (train_and_track_from train.now national.now track.now)) }
 {
     slope_map(alloc, SlopeKind::Expected, train, national, track)
 }
@@ -171,10 +172,10 @@ pub fn normal(
     national: &National,
     track: &Track,
 ) -> Result<BandMap, CurveFault>
-    ensures slopes { IfOk result (λ m. meaning_of m ≡ slopes_of Normal (line_of train.now national.now track.now)) }
+    ensures slopes { IfOk result (λ m. meaning_of m ≡ slopes_of Normal (train_and_track_from train.now national.now track.now)) }
     ensures segments { IfOk result (λ m. AreStretches track.now train.now.length_cm m.starts) }
-    ensures accepted { IfOk result (λ _. IsAcceptedKind Normal (line_of train.now national.now track.now)) }
-    ensures fault { IfErr result (IsFaultOfKind Normal (line_of train.now national.now track.now)) }
+    ensures accepted { IfOk result (λ _. IsAcceptedKind Normal (train_and_track_from train.now national.now track.now)) }
+    ensures fault { IfErr result (IsFaultOfKind Normal (train_and_track_from train.now national.now track.now)) }
 {
     slope_map(alloc, SlopeKind::Normal, train, national, track)
 }

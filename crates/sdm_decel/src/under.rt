@@ -2,8 +2,8 @@
 
 ghost use Rattle.std.specs.Prelude.{◌≡◌, ℤ, pos, map, IfOk, unsigned_abs, ◌≤◌};
 ghost use Rattle.sdm_rules.specs.Decelerations.{under_train};
-ghost use Rattle.sdm_track.specs.Segments.{AreSegments, gradient_in};
-ghost use Rattle.sdm_decel.specs.Borders.{AreGradientsUnder};
+ghost use Rattle.sdm_track.specs.Segments.{AreSegments, segment_gradient};
+ghost use Rattle.sdm_decel.specs.StretchCells.{AreGradientsUnder};
 
 use sdm_num::NoMemory;
 use sdm_track::{Segments, Track};

@@ -1,4 +1,4 @@
--- The fields of a record by their places: what a look-up finds, and the list of all that follow a place.
+-- The fields of a record by their indices: what a look-up finds, and the list of all that follow an index.
 use Rattle.std.proofs.Common.{◌≡◌, ◌<◌, ℕ, List, [], ◌∷◌, length, drop, Option, Some, None, Bor, IsSome, option_map, get_or, refl, sym}
 use Rattle.csv.specs.Records.{field_at}
 use Rattle.csv.proofs.RecordFacts.{field-get, field-there}

@@ -7,7 +7,7 @@ use Rattle.csv.specs.declared.reader.Reader.{Reader}
 use Rattle.csv.specs.declared.reader.Trim.TheVariants as trim
 use Rattle.sdm_num.specs.declared.memory.NoMemory.{NoMemory}
 use Rattle.sdm_events.specs.Journey.{Record}
-use Rattle.sdm_events.specs.Left.{IsReading, bytes_left, left_after}
+use Rattle.sdm_events.specs.Left.{IsBetweenRecords, bytes_left, left_after}
 use Rattle.sdm_events.proofs.Rest.{next_takes_a_byte, rest_none, rest_some}
 
 abbrev now_of : Bor (List ℕ) → Option (List ℕ)
@@ -44,7 +44,7 @@ same_Ok : (a b : Bool) → ◌≡◌ {A = Result Bool NoMemory} (Ok a) (Ok b) �
 same_Ok a b h = cc h
 
 -- a record: it was the first of those left, and the reader goes on behind it
-took : (a b : Reader (Bor (List ℕ))) (f : Record) → IsReading a → ReadRecord now_of a b true f → took_first b ≡ true → IsReading b × (left_after (Ok true) a ≡ f ∷ left_after (Ok true) b)
+took : (a b : Reader (Bor (List ℕ))) (f : Record) → IsBetweenRecords a → ReadRecord now_of a b true f → took_first b ≡ true → IsBetweenRecords b × (left_after (Ok true) a ≡ f ∷ left_after (Ok true) b)
 took a b f is r first =
     let g = reads_some a.state is.known.0 (pending_of (now_of b.rdr) b) f b.state (rw (is.config, is.known.1) at r.0) in
     let next = next_takes_a_byte a.state is.known.0 (f, b.state, g.0) is.between g.2 in
@@ -53,15 +53,15 @@ took a b f is r first =
       rw (is.known.1, after) (rest_some a.state is.known.0 (f, b.state, g.0) is.between g.2),
     )
 
-pub found_one : (a b : Reader (Bor (List ℕ))) (found : Bool) (f : Record) (left : List Record) → IsReading a → left_after (Ok true) a ≡ left → Reads a b found f → Counts a b → ◌≡◌ {A = Result Bool NoMemory} (Ok found) (Ok true)
-    → IsReading b × (left ≡ f ∷ left_after (Ok found) b)
+pub found_one : (a b : Reader (Bor (List ℕ))) (found : Bool) (f : Record) (left : List Record) → IsBetweenRecords a → left_after (Ok true) a ≡ left → Reads a b found f → Counts a b → ◌≡◌ {A = Result Bool NoMemory} (Ok found) (Ok true)
+    → IsBetweenRecords b × (left ≡ f ∷ left_after (Ok found) b)
 found_one a b found f left is before reads counts e =
     let same = same_Ok found true e in
     let t = took a b f is (rw same at reads is.trims is.ready) (counts is.trims) in
     (t.0, rw same (sym before ∙ t.1))
 
 -- no record: none was left
-pub found_none : (a b : Reader (Bor (List ℕ))) (found : Bool) (f : Record) (left : List Record) → IsReading a → left_after (Ok true) a ≡ left → Reads a b found f → ◌≡◌ {A = Result Bool NoMemory} (Ok found) (Ok false) → (left ≡ []) × (left_after (Ok found) b ≡ [])
+pub found_none : (a b : Reader (Bor (List ℕ))) (found : Bool) (f : Record) (left : List Record) → IsBetweenRecords a → left_after (Ok true) a ≡ left → Reads a b found f → ◌≡◌ {A = Result Bool NoMemory} (Ok found) (Ok false) → (left ≡ []) × (left_after (Ok found) b ≡ [])
 found_none a b found f left is before reads e =
     let same = same_Ok found false e in
     let r = rw same at reads is.trims is.ready in

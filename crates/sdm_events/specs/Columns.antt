@@ -9,5 +9,5 @@ abbrev pub column_of : List (List ℕ) → ℕ → List ℕ
 column_of fields column = slice_index_or fields (column - 1) []
 
 -- the fault of a record is that of a column, whose number couldn't be read (own)
-abbrev pub IsFaultOf : ℕ → Result ℤ FieldFault → EventFault → Type 0
-IsFaultOf column number e = (fault : FieldFault) × (number ≡ Err fault) × (e ≡ Field column fault)
+abbrev pub IsColumnFault : ℕ → Result ℤ FieldFault → EventFault → Type 0
+IsColumnFault column number e = (fault : FieldFault) × (number ≡ Err fault) × (e ≡ Field column fault)

@@ -17,13 +17,13 @@ bytes_left r = source_of (λ s. Some s.now) r
 abbrev pub rest_records : State → List ℕ → List Record
 rest_records s bytes = records_from default_config (length bytes + 1) s bytes
 
--- the same, of bytes that may be unknown (own)
+-- the records of the rest of a text that may be unknown (own)
 abbrev pub records_in : State → Option (List ℕ) → List Record
 records_in s None = []
 records_in s (Some bytes) = rest_records s bytes
 
 -- the reader stands between two records, and reads by the defaults with no header row (own)
-pub record IsReading (r : Reader (Bor (List ℕ))) : Type 0 where
+pub record IsBetweenRecords (r : Reader (Bor (List ℕ))) : Type 0 where
   pub config : reader_config r ≡ default_config
   pub trims : reader_trim r ≡ trim.None
   pub ready : Ready r

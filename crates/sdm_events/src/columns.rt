@@ -4,7 +4,7 @@
 ghost use Rattle.std.specs.Prelude.{◌≡◌, ◌<◌, ◌≤◌, ◌≤ℤ◌, pos, length, Ok, IfOk, IfErr};
 ghost use Rattle.csv.specs.Records.{fields_of};
 ghost use Rattle.sdm_rules.specs.Numbers.{read_int};
-ghost use Rattle.sdm_events.specs.Columns.{IsFaultOf, column_of};
+ghost use Rattle.sdm_events.specs.Columns.{IsColumnFault, column_of};
 
 use csv::ByteRecord;
 use sdm_rules::EventFault;
@@ -31,7 +31,7 @@ pub fn integer(
     requires last { column ≤ length (fields_of fields.now) }
     ensures value { IfOk result (λ n. read_int (column_of (fields_of fields.now) column) least greatest ≡ Ok n) }
     ensures range { IfOk result (λ n. (least ≤ℤ n) × (n ≤ℤ greatest)) }
-    ensures fault { IfErr result (IsFaultOf column (read_int (column_of (fields_of fields.now) column) least greatest)) }
+    ensures fault { IfErr result (IsColumnFault column (read_int (column_of (fields_of fields.now) column) least greatest)) }
 {
     integer_in(field(fields, column), least, greatest).map_err(|fault| EventFault::Field {
         column,
@@ -51,7 +51,7 @@ pub fn natural(
     requires last { column ≤ length (fields_of fields.now) }
     ensures value { IfOk result (λ n. read_int (column_of (fields_of fields.now) column) (pos least) (pos greatest) ≡ Ok (pos n)) }
     ensures range { IfOk result (λ n. (least ≤ n) × (n ≤ greatest)) }
-    ensures fault { IfErr result (IsFaultOf column (read_int (column_of (fields_of fields.now) column) (pos least) (pos greatest))) }
+    ensures fault { IfErr result (IsColumnFault column (read_int (column_of (fields_of fields.now) column) (pos least) (pos greatest))) }
 {
     natural_in(field(fields, column), least, greatest).map_err(|fault| EventFault::Field {
         column,

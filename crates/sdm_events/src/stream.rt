@@ -21,13 +21,13 @@ pub struct Records<'a> {
 impl<'a> Model for Records<'a> {
     ghost use Rattle.std.specs.Prelude.{◌≡◌, List, Ok, true};
     ghost use Rattle.sdm_events.specs.Journey.{Record};
-    ghost use Rattle.sdm_events.specs.Left.{IsReading, left_after};
+    ghost use Rattle.sdm_events.specs.Left.{IsBetweenRecords, left_after};
 
     ghost Value = { List Record };
 
     ghost view = { λ r. left_after r.last r.reader };
 
-    ghost invariant = { λ r. r.last ≡ Ok true → IsReading r.reader };
+    ghost invariant = { λ r. r.last ≡ Ok true → IsBetweenRecords r.reader };
 }
 
 impl<'a> Records<'a> {

@@ -7,8 +7,8 @@ use Rattle.std.specs.Io.KnownBytes.{Consumes}
 use Rattle.sdm_io.specs.Told.{ReadsExactly, ReadsWithin}
 
 -- the first n bytes of a piece, and then m of what is left of it
-pub front-more : (n m : ℕ) (xs : List ℕ) → n ≤ length xs → take n xs ++ take m (take (length xs - n) (drop n xs)) ≡ take (n + m) xs
-front-more n m xs h = grind (arith, common_steps, take-add n m xs)
+pub prefix-more : (n m : ℕ) (xs : List ℕ) → n ≤ length xs → take n xs ++ take m (take (length xs - n) (drop n xs)) ≡ take (n + m) xs
+prefix-more n m xs h = grind (arith, common_steps, take-add n m xs)
 
 module _ (old mid new : Option (List ℕ)) (kept : List ℕ) (before : Consumes old mid kept) where
   -- at most so many bytes after those that were kept

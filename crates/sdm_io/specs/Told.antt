@@ -10,7 +10,7 @@ Told known P = IfSome known P
 abbrev pub HoldsNothing : Option (List ℕ) → Type 0
 HoldsNothing held = Told held (λ bytes. bytes ≡ [])
 
--- the bytes taken grew by a front of the piece, which may be nothing or all of it
+-- the bytes taken grew by a prefix of the piece, which may be nothing or all of it
 abbrev pub AppendsPart : Option (List ℕ) → Option (List ℕ) → List ℕ → Type 0
 AppendsPart old new piece = (n : ℕ) × (n ≤ length piece) × Appends old new (take n piece)
 

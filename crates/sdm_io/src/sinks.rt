@@ -19,7 +19,7 @@ pub trait Sink {
     /// How often the sink has failed: a count from 0 to 2⁶⁴ − 1, where it stands.
     ghost faults: { Self → ℕ };
 
-    /// Takes the front of a piece and says how many bytes that were. A call that failed took nothing.
+    /// Takes a prefix of a piece and says how many bytes that were. A call that failed took nothing.
     fn write(&mut self, piece: &[u8]) -> Result<usize, Failed>
         ensures bound { WritesAtMost result piece.now }
         // a piece that is not empty gives at least one byte
@@ -27,7 +27,7 @@ pub trait Sink {
         ensures bytes { WriteAppends (taken self.old) (taken self.new) result piece.now }
         ensures cause { HasCause (faults self.old) (faults self.new) result };
 
-    /// Gives on what was taken and is held back, and takes nothing further. A call that failed may have given on a front of it.
+    /// Gives on what was taken and is held back, and takes nothing further. A call that failed may have given on a prefix of it.
     fn flush(&mut self) -> Result<(), Failed>
         ensures bytes { Keeps (taken self.old) (taken self.new) }
         ensures given_on { OnOk result (HoldsNothing (held self.new)) }

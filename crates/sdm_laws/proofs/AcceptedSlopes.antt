@@ -7,7 +7,7 @@ use Rattle.sdm_num.specs.Units.{notches}
 use Rattle.sdm_rules.specs.declared.data.Band.{Band}
 use Rattle.sdm_rules.specs.declared.data.SlopeKind.{SlopeKind}
 use Rattle.sdm_rules.specs.Slopes.{IsUsable, bands_of, variation, IsStrongSlope}
-use Rattle.sdm_rules.specs.Data.{LineData, HasBands, AreBands}
+use Rattle.sdm_rules.specs.Data.{TrainAndTrack, HasBands, AreBands}
 use Rattle.sdm_rules.specs.Decelerations.{q_of, slope_at, slopes_of, uppers_of}
 use Rattle.sdm_rules.specs.Opening.{IsAcceptedKind, IsStrongAt, variation_of}
 
@@ -69,7 +69,8 @@ abbrev pub cell_from : ℤ → ℕ
 cell_from (pos n) = n
 cell_from (negsuc n) = 0
 
-pub slope_from : (kind : SlopeKind) (d : LineData) (band : ℕ) (c : ℤ) → slope_at kind d band c ≡ slope_at kind d band (pos (cell_from c))
+pub slope_from : (kind : SlopeKind) (d : TrainAndTrack) (band : ℕ) (c : ℤ) →
+    slope_at kind d band c ≡ slope_at kind d band (pos (cell_from c))
 unfolding slope_at
 slope_from kind d band (pos n) = refl
 slope_from kind d band (negsuc n) = refl
@@ -83,7 +84,7 @@ strong_even (pos n) (pos m) q k q_pos h g le = omega (arith, ints)
 strong_even (negsuc n) b q k q_pos h g le = absurd (omega (arith, ints))
 strong_even (pos n) (negsuc m) q k q_pos h g le = absurd (omega (arith, ints))
 
-pub accepted_usable : (kind : SlopeKind) (d : LineData) → HasBands d.train.bands → IsAcceptedKind kind d → IsUsable (slopes_of kind d)
+pub accepted_usable : (kind : SlopeKind) (d : TrainAndTrack) → HasBands d.train.bands → IsAcceptedKind kind d → IsUsable (slopes_of kind d)
 unfolding slopes_of
 accepted_usable kind d bands accepted = record {
   unit = q_positive d.train.rotating_mass;

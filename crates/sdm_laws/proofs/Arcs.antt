@@ -7,7 +7,7 @@ use Rattle.sdm_num.proofs.Ints.{scale-scale}
 use Rattle.sdm_rules.specs.Slopes.{Slopes}
 use Rattle.sdm_rules.specs.Curves.{arc_back, arc_forward, grain_energy}
 use Rattle.sdm_laws.proofs.Energy.{IsPositive, IsEven}
-use Rattle.sdm_laws.proofs.Ways.{IsWay, way_finer, way_between_starts, way_between_ends, shifted_back, shifted_forward, shifted_at_most}
+use Rattle.sdm_laws.proofs.Distances.{IsDistance, distance_finer, distance_between_starts, distance_between_ends, shifted_back, shifted_forward, shifted_at_most}
 use Rattle.sdm_laws.proofs.Walks.{IsBackBy, IsForwardBy, one_times, back-is, forward-is}
 use Rattle.sdm_laws.proofs.CommonSteps.{IsPastBy, factor_right, same_steps, steps_of_past, past_of_steps}
 
@@ -20,7 +20,7 @@ pub record ArcIn (on : Slopes) (s band n : ℕ) (y x : Fraction) (c : ℕ) : Typ
   pub positive : 0 < n
   pub from_is : n ≡ from * y.m
   pub to_is : n ≡ to * x.m
-  pub is : IsWay on band (s * n) (pos from *ℤ y.n) (pos to *ℤ x.n) d (n * c)
+  pub is : IsDistance on band (s * n) (pos from *ℤ y.n) (pos to *ℤ x.n) d (n * c)
 
 pub record Arc (on : Slopes) (s band : ℕ) (y x : Fraction) (c : ℕ) : Type 0 where
   pub n : ℕ
@@ -84,7 +84,7 @@ arc_finer : (on : Slopes) (s band k n n' : ℕ) (y x : Fraction) (c : ℕ) → 0
     ArcIn on s band n' y x c
 arc_finer on s band k n n' y x c s_pos k_pos e h =
     let fine : s * n' ≡ k * (s * n) = omega (arith, ap (λ (z : ℕ). s * z) e) in
-    let way = way_finer on band k (s * n) (s * n') _ _ h.d (n * c) fine (mul-pos s_pos h.positive) h.is in
+    let distance = distance_finer on band k (s * n) (s * n') _ _ h.d (n * c) fine (mul-pos s_pos h.positive) h.is in
     record {
       from = k * h.from;
       to = k * h.to;
@@ -92,7 +92,7 @@ arc_finer on s band k n n' y x c s_pos k_pos e h =
       positive = rw e (mul-pos k_pos h.positive);
       from_is = omega (arith, e, ap (λ (z : ℕ). k * z) h.from_is);
       to_is = omega (arith, e, ap (λ (z : ℕ). k * z) h.to_is);
-      is = rw (← scale-scale k h.from y.n, ← scale-scale k h.to x.n) (rw (times_energy k n n' c e) at way);
+      is = rw (← scale-scale k h.from y.n, ← scale-scale k h.to x.n) (rw (times_energy k n n' c e) at distance);
     }
 
 record TwoArcs (on : Slopes) (s band : ℕ) (y x : Fraction) (c : ℕ) (y' x' : Fraction) (c' : ℕ) : Type 0 where
@@ -116,7 +116,7 @@ arc_between_starts on s band x y y' c c' some s_pos le h h' =
     let h1 = both.one in
     let h2 = both.two in
     let same : h1.to ≡ h2.to = same_steps both.n h1.to h2.to x.m h1.positive h1.to_is h2.to_is in
-    let rest = way_between_starts on band (s * both.n) _ _ _ h1.d h2.d (both.n * c) (both.n * c') some (mul-le-mul_left both.n le) (rw same at h1.is) h2.is in
+    let rest = distance_between_starts on band (s * both.n) _ _ _ h1.d h2.d (both.n * c) (both.n * c') some (mul-le-mul_left both.n le) (rw same at h1.is) h2.is in
     record {
       n = both.n;
       is = record { from = h1.from; to = h2.from; d = h1.d - h2.d; positive = h1.positive; from_is = h1.from_is; to_is = h2.from_is; is = rw (mul-sub both.n c c') rest };
@@ -130,7 +130,7 @@ arc_between_ends on s band x y y' c c' some s_pos le h h' =
     let h1 = both.one in
     let h2 = both.two in
     let same : h1.from ≡ h2.from = same_steps both.n h1.from h2.from x.m h1.positive h1.from_is h2.from_is in
-    let rest = way_between_ends on band (s * both.n) _ _ _ h1.d h2.d (both.n * c) (both.n * c') some (mul-le-mul_left both.n le) (rw same at h1.is) h2.is in
+    let rest = distance_between_ends on band (s * both.n) _ _ _ h1.d h2.d (both.n * c) (both.n * c') some (mul-le-mul_left both.n le) (rw same at h1.is) h2.is in
     record {
       n = both.n;
       is = record { from = h2.to; to = h1.to; d = h1.d - h2.d; positive = h1.positive; from_is = h2.to_is; to_is = h1.to_is; is = rw (mul-sub both.n c c') rest };
@@ -151,7 +151,7 @@ past_back on s band k x x' y y' c e s_pos some even past h h' =
     let gap = steps_of_past both.n h1.to h2.to e x x' h1.positive h1.to_is h2.to_is past in
     let used = h1.is.used in
     let used' = h2.is.used in
-    let ends = sym h1.is.way ∙ (gap.is ∙ ap (λ (z : ℤ). z +ℤ pos gap.f) h2.is.way) in
+    let ends = sym h1.is.distance ∙ (gap.is ∙ ap (λ (z : ℤ). z +ℤ pos gap.f) h2.is.distance) in
     let shift = shifted_back on band (s * both.n) _ _ h1.d h2.d gap.f some (omega arith) ends in
     let most = times_most k e both.n gap.f shift.f gap.most (shifted_at_most on band (s * both.n) k _ _ _ gap.f some even shift) in
     past_of_steps both.n h1.from h2.from (k * e) y y' h1.positive h1.from_is h2.from_is (record { f = shift.f; is = shift.apart; most = most })
@@ -167,6 +167,6 @@ past_forward on s band k x x' y y' c e s_pos some even past h h' =
     let used = h1.is.used in
     let used' = h2.is.used in
     let shift = shifted_forward on band (s * both.n) _ _ h1.d h2.d gap.f some (omega arith) gap.is in
-    let ends = h1.is.way ∙ (shift.apart ∙ ap (λ (z : ℤ). z +ℤ pos shift.f) (sym h2.is.way)) in
+    let ends = h1.is.distance ∙ (shift.apart ∙ ap (λ (z : ℤ). z +ℤ pos shift.f) (sym h2.is.distance)) in
     let most = times_most k e both.n gap.f shift.f gap.most (shifted_at_most on band (s * both.n) k _ _ _ gap.f some even shift) in
     past_of_steps both.n h1.to h2.to (k * e) y y' h1.positive h1.to_is h2.to_is (record { f = shift.f; is = ends; most = most })

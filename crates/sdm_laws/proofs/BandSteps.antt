@@ -4,7 +4,7 @@ use Rattle.std.proofs.Common.{◌≡◌, ℕ, ℤ, zero, suc, pos, ◌+◌, ◌-
 use Rattle.std.proofs.lemmas.Bool.{cases_lt}
 use Rattle.sdm_num.specs.Fractions.{Fraction, whole}
 use Rattle.sdm_rules.specs.Slopes.{Slopes}
-use Rattle.sdm_rules.specs.Curves.{back, forward, arc_back, arc_forward, grain_energy, upper_square, climb, descend, place_at}
+use Rattle.sdm_rules.specs.Curves.{back, forward, arc_back, arc_forward, grain_energy, upper_square, back_through_bands, forward_through_bands, place_at}
 
 no_energy : (on : Slopes) (m u : ℕ) → m * grain_energy on (u - u) ≡ 0
 no_energy on m u = let none : u - u ≡ 0 = omega arith in rw none (omega arith)
@@ -21,46 +21,46 @@ module _ (round : Fraction → Fraction) (on : Slopes) (s : ℕ) where
   -- ---- back
 
   pub climb_skip : (left band : ℕ) (x : Fraction) (u z : ℕ) → upper_square on s band ≤ u →
-      climb round on s (suc left) band x u z ≡ climb round on s left (band + 1) x u z
+      back_through_bands round on s (suc left) band x u z ≡ back_through_bands round on s left (band + 1) x u z
   climb_skip left band x u z h = search rules
 
   pub climb_stop : (left band : ℕ) (x : Fraction) (u z : ℕ) → u < upper_square on s band → z ≤ upper_square on s band →
-      climb round on s (suc left) band x u z ≡ arc_back on s band x (z - u)
+      back_through_bands round on s (suc left) band x u z ≡ arc_back on s band x (z - u)
   climb_stop left band x u z h k = search rules
 
   pub climb_on : (left band : ℕ) (x : Fraction) (u z : ℕ) → u < upper_square on s band → upper_square on s band < z →
-      climb round on s (suc left) band x u z ≡ climb round on s left (band + 1) (round (arc_back on s band x (upper_square on s band - u))) (upper_square on s band) z
+      back_through_bands round on s (suc left) band x u z ≡ back_through_bands round on s left (band + 1) (round (arc_back on s band x (upper_square on s band - u))) (upper_square on s band) z
   climb_on left band x u z h k = search rules
 
   -- ---- forward
 
   pub descend_skip : (band : ℕ) (x : Fraction) (u z : ℕ) → u ≤ upper_square on s band →
-      descend round on s (suc band) x u z ≡ descend round on s band x u z
+      forward_through_bands round on s (suc band) x u z ≡ forward_through_bands round on s band x u z
   descend_skip band x u z h = search rules
 
   pub descend_stop : (band : ℕ) (x : Fraction) (u z : ℕ) → upper_square on s band < u → upper_square on s band ≤ z →
-      descend round on s (suc band) x u z ≡ arc_forward on s (suc band) x (u - z)
+      forward_through_bands round on s (suc band) x u z ≡ arc_forward on s (suc band) x (u - z)
   descend_stop band x u z h k = search rules
 
   pub descend_on : (band : ℕ) (x : Fraction) (u z : ℕ) → upper_square on s band < u → z < upper_square on s band →
-      descend round on s (suc band) x u z ≡ descend round on s band (round (arc_forward on s (suc band) x (u - upper_square on s band))) (upper_square on s band) z
+      forward_through_bands round on s (suc band) x u z ≡ forward_through_bands round on s band (round (arc_forward on s (suc band) x (u - upper_square on s band))) (upper_square on s band) z
   descend_on band x u z h k = search rules
 
   -- ---- from the foot
 
   pub place_up : (f : ℤ) (w z : ℕ) → s * (w * w) ≤ z →
-      place_at round on s f w z ≡ climb round on s (length on.uppers) 0 (whole (pos s *ℤ f)) (s * (w * w)) z
+      place_at round on s f w z ≡ back_through_bands round on s (length on.uppers) 0 (whole (pos s *ℤ f)) (s * (w * w)) z
   unfolding place_at
   place_up f w z h = search rules
 
   pub place_down : (f : ℤ) (w z : ℕ) → z < s * (w * w) →
-      place_at round on s f w z ≡ descend round on s (length on.uppers) (whole (pos s *ℤ f)) (s * (w * w)) z
+      place_at round on s f w z ≡ forward_through_bands round on s (length on.uppers) (whole (pos s *ℤ f)) (s * (w * w)) z
   unfolding place_at
   place_down f w z h = search rules
 
-  -- ---- no way for no change
+  -- ---- no distance for no change
 
-  pub climb_none : (left band : ℕ) (x : Fraction) (u : ℕ) → climb round on s left band x u u ≡ x
+  pub climb_none : (left band : ℕ) (x : Fraction) (u : ℕ) → back_through_bands round on s left band x u u ≡ x
   climb_none zero band x u = arc_back_none on s band x u
   climb_none (suc left) band x u =
       elim (cases_lt u (upper_square on s band)) [
@@ -68,7 +68,7 @@ module _ (round : Fraction → Fraction) (on : Slopes) (s : ℕ) where
         | inl lt ↦ climb_stop left band x u u lt (omega arith) ∙ arc_back_none on s band x u
       ]
 
-  pub descend_none : (band : ℕ) (x : Fraction) (u : ℕ) → descend round on s band x u u ≡ x
+  pub descend_none : (band : ℕ) (x : Fraction) (u : ℕ) → forward_through_bands round on s band x u u ≡ x
   descend_none zero x u = arc_forward_none on s 0 x u
   descend_none (suc band) x u =
       elim (cases_lt (upper_square on s band) u) [

@@ -16,7 +16,7 @@ use Rattle.sdm_rules.specs.declared.motions.Point.{Point}
 use Rattle.sdm_rules.specs.Slopes.{Slopes, IsUsable}
 use Rattle.sdm_rules.specs.Curves.{cell_at, exact_at, upper_square}
 use Rattle.sdm_rules.specs.Motion.{IsInBand, HasPart, BrakesAtLeast, IsStep, IsBraking}
-use Rattle.sdm_laws.specs.MotionLaws.{HasBandPart, IsSteepest, IsWithin, IsHeld}
+use Rattle.sdm_laws.specs.MotionLaws.{HasBandPart, IsSteepest, IsWithinCurve, IsHeldByCurve}
 use Rattle.sdm_laws.proofs.Cells.{cell_low, cell_high}
 use Rattle.sdm_laws.proofs.CurveOrder.{exact_positive, exact_falls, exact_before, exact_foot}
 use Rattle.sdm_laws.proofs.Stretch.{stretch}
@@ -63,8 +63,8 @@ part_at m p p' m_pos lt = record { apart = lt; begins = omega (arith, ints, cell
 same_slope : (on : Slopes) (band band' : ℕ) (c : ℤ) (a : ℕ) → band ≡ band' → on.slope band' c ≡ a → on.slope band c ≤ a
 same_slope on band band' c a e h = rw (e, h) (omega arith)
 
-step_within : (on : Slopes) (m : ℕ) (f : ℤ) (w : ℕ) (x y : Point) → IsUsable on → 0 < m → IsStep on m x y → IsWithin on m f w x →
-    IsWithin on m f w y
+step_within : (on : Slopes) (m : ℕ) (f : ℤ) (w : ℕ) (x y : Point) → IsUsable on → 0 < m → IsStep on m x y → IsWithinCurve on m f w x →
+    IsWithinCurve on m f w y
 step_within on m f w x y usable m_pos step within =
     by_lt_z x.place y.place
     (λ (lt : x.place <ℤ y.place).
@@ -76,7 +76,7 @@ step_within on m f w x y usable m_pos step within =
     (same_band on m step.band band x.square y.square usable.rising step.from_band step.to_band in_band) (step.one_slope cell part) in
     stretch on m f w step.slope x y usable m_pos a_pos steep step.brakes within)
     (λ (le : y.place ≤ℤ x.place).
-    -- with no way any slope does
+    -- with no distance any slope does
     let steep : IsSteepest on m 1 x y = λ band cell in_band part. absurd (clash_ℤ part.apart le) in
     let given = step.brakes in
     let brakes : BrakesAtLeast on 1 x.place x.square y.place y.square = record { forward = given.forward; slower = given.slower; enough = omega (arith, ints) } in
@@ -88,7 +88,8 @@ at_most_whole : (a b : ℤ) → IsAtMost (whole a) (whole b) → a ≤ℤ b
 at_most_whole a b h = omega (arith, ints, h.crossed)
 
 -- what a point within the curve means at the foot
-pub within_held : (on : Slopes) (m : ℕ) (f : ℤ) (w : ℕ) (x : Point) → IsUsable on → 0 < m → IsWithin on m f w x → IsHeld on m f w x
+pub within_held : (on : Slopes) (m : ℕ) (f : ℤ) (w : ℕ) (x : Point) → IsUsable on → 0 < m → IsWithinCurve on m f w x →
+    IsHeldByCurve on m f w x
 within_held on m f w x usable m_pos within =
     let foot_square = m * (w * w) in
     let foot = exact_foot on m f w in
@@ -111,10 +112,11 @@ within_held on m f w x usable m_pos within =
 -- ---- all points
 
 pub each_held : (on : Slopes) (m : ℕ) (f : ℤ) (w : ℕ) (x : Point) (ys : List Point) → IsUsable on → 0 < m → IsBraking on m x ys →
-    IsWithin on m f w x → AllByRecursion (IsHeld on m f w) (x ∷ ys)
+    IsWithinCurve on m f w x → AllByRecursion (IsHeldByCurve on m f w) (x ∷ ys)
 each_held on m f w x [] usable m_pos b within = (within_held on m f w x usable m_pos within, tt)
 each_held on m f w x (y ∷ ys) usable m_pos b within = (within_held on m f w x usable m_pos within, each_held on m f w y ys usable m_pos b.1 (step_within on m f w x y usable m_pos b.0 within))
 
 pub braking : (on : Slopes) (m : ℕ) (f : ℤ) (w : ℕ) (x : Point) (ys : List Point) → IsUsable on → 0 < m → IsBraking on m x ys →
-    IsWithin on m f w x → All (IsHeld on m f w) (x ∷ ys)
-braking on m f w x ys usable m_pos b within = All-from_recursion (IsHeld on m f w) (x ∷ ys) (each_held on m f w x ys usable m_pos b within)
+    IsWithinCurve on m f w x → All (IsHeldByCurve on m f w) (x ∷ ys)
+braking on m f w x ys usable m_pos b within = All-from_recursion (IsHeldByCurve on m f w) (x ∷ ys)
+    (each_held on m f w x ys usable m_pos b within)

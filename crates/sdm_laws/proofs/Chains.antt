@@ -42,7 +42,7 @@ chain_to on s _ _ _ _ (along band y x z u v w in_u in_v le arc rest) = chain_to 
 
 pub arc_at_most : (on : Slopes) (s band c : ℕ) (y x : Fraction) → Arc on s band y x c → IsAtMost y x
 arc_at_most on s band c y x h =
-    let way = h.is.is.way in
+    let distance = h.is.is.distance in
     at_most_of_steps h.n h.is.to h.is.from x y h.is.positive h.is.to_is h.is.from_is (omega (arith, ints))
 
 -- an arc that uses energy has a length
@@ -50,13 +50,13 @@ arc_before : (on : Slopes) (s band c : ℕ) (y x : Fraction) → 0 < c → Arc o
 arc_before on s band c y x c_pos h =
     let start = pos h.is.from *ℤ y.n in
     let none : h.is.d ≡ 0 → energy on band (s * h.n) start h.is.d ≡ 0 = λ z. ap (energy on band (s * h.n) start) z ∙ total-zero (λ k. on.slope band (cell_at (s * h.n) (start +ℤ pos k))) in
-    let long : 0 < h.is.d = some_way h.is.d _ (h.n * c) (mul-pos h.is.positive c_pos) h.is.is.used none in
-    let way = h.is.is.way in
+    let long : 0 < h.is.d = some_distance h.is.d _ (h.n * c) (mul-pos h.is.positive c_pos) h.is.is.used none in
+    let distance = h.is.is.distance in
     before_of_steps h.n h.is.to h.is.from x y h.is.positive h.is.to_is h.is.from_is (omega (arith, ints))
   where
-    some_way : (d e r : ℕ) → 0 < r → 27 * e ≡ r → (d ≡ 0 → e ≡ 0) → 0 < d
-    some_way (suc d) e r p used none = omega arith
-    some_way zero e r p used none = let z : e ≡ 0 = none (omega arith) in absurd (omega arith)
+    some_distance : (d e r : ℕ) → 0 < r → 27 * e ≡ r → (d ≡ 0 → e ≡ 0) → 0 < d
+    some_distance (suc d) e r p used none = omega arith
+    some_distance zero e r p used none = let z : e ≡ 0 = none (omega arith) in absurd (omega arith)
 
 pub chain_at_most : (on : Slopes) (s : ℕ) (y x : Fraction) (u w : ℕ) → Chain on s y u x w → IsAtMost y x
 chain_at_most on s _ _ _ _ (arrived y u p) = at_most_refl y

@@ -1,5 +1,5 @@
 -- Worked cases of curves, with q = 100. The slopes 200,000,000,000, 140,000,000,000 and 100,000,000,000 are 1, 0.7 and
--- 0.5 m/s². A change of the square by c needs at 1 m/s² the way of 5 * 10^14 * c / (27 * 200,000,000,000) = 92.592.. * c
+-- 0.5 m/s². A change of the square by c needs at 1 m/s² the distance of 5 * 10^14 * c / (27 * 200,000,000,000) = 92.592.. * c
 -- grains, and of 185.185.. * c at 0.5 m/s². Feet lie at 1 m, 540,000,000,000 grains, but where it is said.
 use Rattle.std.proofs.Common.{◌≡◌, ℕ, pos, [], ◌∷◌, refl}
 use Rattle.sdm_num.specs.Fractions.{IsSame, whole}

@@ -5,7 +5,7 @@ use Rattle.std.proofs.lemmas.Bool.{cases_lt}
 use Rattle.std.proofs.Math.Nat.{mul-le-mul_left, mul-sub}
 use Rattle.sdm_num.specs.Fractions.{Fraction, whole}
 use Rattle.sdm_rules.specs.Slopes.{Slopes}
-use Rattle.sdm_rules.specs.Curves.{arc_back, arc_forward, grain_energy, upper_square, as_is, climb, descend, exact_at}
+use Rattle.sdm_rules.specs.Curves.{arc_back, arc_forward, grain_energy, upper_square, as_is, back_through_bands, forward_through_bands, exact_at}
 use Rattle.sdm_rules.specs.Motion.{IsInBand, lower_square}
 use Rattle.sdm_laws.proofs.Energy.{IsPositive}
 use Rattle.sdm_laws.proofs.Arcs.{Arc, arc_from, arc_to, arc_back-is, arc_forward-is, arc_between_starts, arc_between_ends}
@@ -92,60 +92,60 @@ module _ (on : Slopes) (s : ℕ) (positive : ArePositive on) (s_pos : 0 < s) whe
 
   -- back from the square `u` of the place `x`, to the squares `z'` and `z`
   climb_chain : (left band : ℕ) (x : Fraction) (u z' z : ℕ) → 0 < x.m → IsUp on s left band u → u ≤ z' → z' ≤ z →
-      Chain on s (climb as_is on s left band x u z) z (climb as_is on s left band x u z') z'
+      Chain on s (back_through_bands as_is on s left band x u z) z (back_through_bands as_is on s left band x u z') z'
   climb_chain zero band x u z' z x_pos at le' le = back_part band x u z' z x_pos le' le (up_last on s band u z' at le') (up_last on s band u z at (omega arith))
   climb_chain (suc left) band x u z' z x_pos at le' le =
-      let border = upper_square on s band in
-      let corner = arc_back on s band x (border - u) in
-      elim (cases_lt u border) [
+      let upper = upper_square on s band in
+      let corner = arc_back on s band x (upper - u) in
+      elim (cases_lt u upper) [
         | inr ge ↦ rw (climb_skip as_is on s left band x u z ge, climb_skip as_is on s left band x u z' ge) (climb_chain left (band + 1) x u z' z x_pos (up_next on s left band u u at ge) le' le)
         | inl lt ↦ (
-            let in_border : IsInBand on s band border = up_here on s left band u border at (omega arith) (omega arith) in
-            let next = up_next on s left band u border at (omega arith) in
-            let corner_pos = back_pos band x (border - u) in_border.known x_pos in
-            elim (cases_lt border z') [
-              | inl further' ↦ (let further : border < z = omega arith in
+            let in_upper : IsInBand on s band upper = up_here on s left band u upper at (omega arith) (omega arith) in
+            let next = up_next on s left band u upper at (omega arith) in
+            let corner_pos = back_pos band x (upper - u) in_upper.known x_pos in
+            elim (cases_lt upper z') [
+              | inl further' ↦ (let further : upper < z = omega arith in
                   rw (climb_on as_is on s left band x u z lt further, climb_on as_is on s left band x u z' lt further')
-                  (climb_chain left (band + 1) corner border z' z corner_pos next (omega arith) le))
+                  (climb_chain left (band + 1) corner upper z' z corner_pos next (omega arith) le))
               | inr below' ↦ (
                   let in_z' : IsInBand on s band z' = up_here on s left band u z' at le' below' in
-                  elim (cases_lt border z) [
+                  elim (cases_lt upper z) [
                     | inr below ↦ rw (climb_stop as_is on s left band x u z lt below, climb_stop as_is on s left band x u z' lt below')
                         (back_part band x u z' z x_pos le' le in_z' (up_here on s left band u z at (omega arith) below))
                     | inl further ↦ rw (climb_on as_is on s left band x u z lt further, climb_stop as_is on s left band x u z' lt below')
-                        (chain_joined on s _ corner _ z border z'
-                        (rw (climb_none as_is on s left (band + 1) corner border) at (climb_chain left (band + 1) corner border border z corner_pos next (omega arith) (omega arith)))
-                        (back_part band x u z' border x_pos le' below' in_z' in_border))
+                        (chain_joined on s _ corner _ z upper z'
+                        (rw (climb_none as_is on s left (band + 1) corner upper) at (climb_chain left (band + 1) corner upper upper z corner_pos next (omega arith) (omega arith)))
+                        (back_part band x u z' upper x_pos le' below' in_z' in_upper))
                   ])
             ])
       ]
 
   -- forward from the square `u` of the place `x`, to the squares `z` and `z'`
   descend_chain : (band : ℕ) (x : Fraction) (u z' z : ℕ) → 0 < x.m → IsDown on s band u → z ≤ u → z' ≤ z →
-      Chain on s (descend as_is on s band x u z) z (descend as_is on s band x u z') z'
+      Chain on s (forward_through_bands as_is on s band x u z) z (forward_through_bands as_is on s band x u z') z'
   descend_chain zero x u z' z x_pos at le' le = forward_part zero x u z' z x_pos le' le (down_last on s u z' at (omega arith)) (down_last on s u z at le')
   descend_chain (suc band) x u z' z x_pos at le' le =
-      let border = upper_square on s band in
-      let corner = arc_forward on s (suc band) x (u - border) in
-      elim (cases_lt border u) [
+      let upper = upper_square on s band in
+      let corner = arc_forward on s (suc band) x (u - upper) in
+      elim (cases_lt upper u) [
         | inr ge ↦ rw (descend_skip as_is on s band x u z ge, descend_skip as_is on s band x u z' ge) (descend_chain band x u z' z x_pos (down_next on s band u u at ge) le' le)
         | inl lt ↦ (
-            let in_border : IsInBand on s (suc band) border = down_here on s band u border at (omega arith) (omega arith) in
-            let next = down_next on s band u border at (omega arith) in
-            let corner_pos = forward_pos (suc band) x (u - border) at.known x_pos in
-            elim (cases_lt z border) [
-              | inl further ↦ (let further' : z' < border = omega arith in
+            let in_upper : IsInBand on s (suc band) upper = down_here on s band u upper at (omega arith) (omega arith) in
+            let next = down_next on s band u upper at (omega arith) in
+            let corner_pos = forward_pos (suc band) x (u - upper) at.known x_pos in
+            elim (cases_lt z upper) [
+              | inl further ↦ (let further' : z' < upper = omega arith in
                   rw (descend_on as_is on s band x u z lt further, descend_on as_is on s band x u z' lt further')
-                  (descend_chain band corner border z' z corner_pos next (omega arith) le))
+                  (descend_chain band corner upper z' z corner_pos next (omega arith) le))
               | inr above ↦ (
                   let in_z : IsInBand on s (suc band) z = down_here on s band u z at le' above in
-                  elim (cases_lt z' border) [
+                  elim (cases_lt z' upper) [
                     | inr above' ↦ rw (descend_stop as_is on s band x u z lt above, descend_stop as_is on s band x u z' lt above')
                         (forward_part (suc band) x u z' z x_pos le' le (down_here on s band u z' at (omega arith) above') in_z)
                     | inl further' ↦ rw (descend_stop as_is on s band x u z lt above, descend_on as_is on s band x u z' lt further')
-                        (chain_joined on s _ corner _ z border z'
-                        (forward_part (suc band) x u border z x_pos le' above in_border in_z)
-                        (rw (descend_none as_is on s band corner border) at (descend_chain band corner border z' border corner_pos next (omega arith) (omega arith))))
+                        (chain_joined on s _ corner _ z upper z'
+                        (forward_part (suc band) x u upper z x_pos le' above in_upper in_z)
+                        (rw (descend_none as_is on s band corner upper) at (descend_chain band corner upper z' upper corner_pos next (omega arith) (omega arith))))
                   ])
             ])
       ]

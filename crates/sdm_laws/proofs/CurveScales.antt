@@ -7,7 +7,7 @@ use Rattle.std.proofs.Math.Nat.{mul_comm, mul-le-mul_left, mul-lt-mul_of_pos_lef
 use Rattle.sdm_num.specs.Fractions.{Fraction, IsSame, times, whole}
 use Rattle.sdm_num.proofs.Ints.{scales, scale-scale}
 use Rattle.sdm_rules.specs.Slopes.{Slopes, IsUsable, bands_of, variation}
-use Rattle.sdm_rules.specs.Curves.{arc_back, arc_forward, grain_energy, upper_square, as_is, climb, descend, exact_at}
+use Rattle.sdm_rules.specs.Curves.{arc_back, arc_forward, grain_energy, upper_square, as_is, back_through_bands, forward_through_bands, exact_at}
 use Rattle.sdm_laws.proofs.CommonSteps.{IsPastBy, factor_right, past_more}
 use Rattle.sdm_laws.proofs.Arcs.{Arc, past_back, past_forward, arc_back-is, arc_forward-is}
 use Rattle.sdm_laws.proofs.BandSteps.{climb_skip, climb_stop, climb_on, descend_skip, descend_stop, descend_on, place_up, place_down}
@@ -81,46 +81,46 @@ module _ (on : Slopes) (s k v : ℕ) (s_pos : 0 < s) (k_pos : 0 < k) (fair : Are
 
   climb_scaled : (left band : ℕ) (big x : Fraction) (u z big_u big_z : ℕ) → band + left ≤ length on.uppers → big_u ≡ k * u → big_z ≡ k * z →
       IsPlaceOf k big x →
-      IsPlaceOf k (climb as_is on (k * s) left band big big_u big_z) (climb as_is on s left band x u z)
+      IsPlaceOf k (back_through_bands as_is on (k * s) left band big big_u big_z) (back_through_bands as_is on s left band x u z)
   climb_scaled zero band big x u z big_u big_z known u_is z_is h = back_scaled band (z - u) (big_z - big_u) big x (omega arith) (less_scaled k z u big_z big_u z_is u_is) h
   climb_scaled (suc left) band big x u z big_u big_z known u_is z_is h =
-      let border = upper_square on s band in
-      let big_border = upper_square on (k * s) band in
-      let b_is : big_border ≡ k * border = upper_square_scaled on s k band in
+      let upper = upper_square on s band in
+      let big_upper = upper_square on (k * s) band in
+      let b_is : big_upper ≡ k * upper = upper_square_scaled on s k band in
       let here : band ≤ length on.uppers = omega arith in
       let next : (band + 1) + left ≤ length on.uppers = omega arith in
-      elim (cases_lt u border) [
-        | inr ge ↦ rw (climb_skip as_is on (k * s) left band big big_u big_z (le_scaled k border u big_border big_u b_is u_is ge), climb_skip as_is on s left band x u z ge)
+      elim (cases_lt u upper) [
+        | inr ge ↦ rw (climb_skip as_is on (k * s) left band big big_u big_z (le_scaled k upper u big_upper big_u b_is u_is ge), climb_skip as_is on s left band x u z ge)
             (climb_scaled left (band + 1) big x u z big_u big_z next u_is z_is h)
         | inl lt ↦ (
-            let big_lt = lt_scaled k u border big_u big_border k_pos u_is b_is lt in
-            elim (cases_lt border z) [
-              | inr below ↦ rw (climb_stop as_is on (k * s) left band big big_u big_z big_lt (le_scaled k z border big_z big_border z_is b_is below), climb_stop as_is on s left band x u z lt below)
+            let big_lt = lt_scaled k u upper big_u big_upper k_pos u_is b_is lt in
+            elim (cases_lt upper z) [
+              | inr below ↦ rw (climb_stop as_is on (k * s) left band big big_u big_z big_lt (le_scaled k z upper big_z big_upper z_is b_is below), climb_stop as_is on s left band x u z lt below)
                   (back_scaled band (z - u) (big_z - big_u) big x here (less_scaled k z u big_z big_u z_is u_is) h)
-              | inl further ↦ rw (climb_on as_is on (k * s) left band big big_u big_z big_lt (lt_scaled k border z big_border big_z k_pos b_is z_is further), climb_on as_is on s left band x u z lt further)
-                  (climb_scaled left (band + 1) _ _ border z big_border big_z next b_is z_is (back_scaled band (border - u) (big_border - big_u) big x here (less_scaled k border u big_border big_u b_is u_is) h))
+              | inl further ↦ rw (climb_on as_is on (k * s) left band big big_u big_z big_lt (lt_scaled k upper z big_upper big_z k_pos b_is z_is further), climb_on as_is on s left band x u z lt further)
+                  (climb_scaled left (band + 1) _ _ upper z big_upper big_z next b_is z_is (back_scaled band (upper - u) (big_upper - big_u) big x here (less_scaled k upper u big_upper big_u b_is u_is) h))
             ])
       ]
 
   descend_scaled : (band : ℕ) (big x : Fraction) (u z big_u big_z : ℕ) → band ≤ length on.uppers → big_u ≡ k * u → big_z ≡ k * z →
       IsPlaceOf k big x →
-      IsPlaceOf k (descend as_is on (k * s) band big big_u big_z) (descend as_is on s band x u z)
+      IsPlaceOf k (forward_through_bands as_is on (k * s) band big big_u big_z) (forward_through_bands as_is on s band x u z)
   descend_scaled zero big x u z big_u big_z known u_is z_is h = forward_scaled zero (u - z) (big_u - big_z) big x known (less_scaled k u z big_u big_z u_is z_is) h
   descend_scaled (suc band) big x u z big_u big_z known u_is z_is h =
-      let border = upper_square on s band in
-      let big_border = upper_square on (k * s) band in
-      let b_is : big_border ≡ k * border = upper_square_scaled on s k band in
+      let upper = upper_square on s band in
+      let big_upper = upper_square on (k * s) band in
+      let b_is : big_upper ≡ k * upper = upper_square_scaled on s k band in
       let next : band ≤ length on.uppers = omega arith in
-      elim (cases_lt border u) [
-        | inr ge ↦ rw (descend_skip as_is on (k * s) band big big_u big_z (le_scaled k u border big_u big_border u_is b_is ge), descend_skip as_is on s band x u z ge)
+      elim (cases_lt upper u) [
+        | inr ge ↦ rw (descend_skip as_is on (k * s) band big big_u big_z (le_scaled k u upper big_u big_upper u_is b_is ge), descend_skip as_is on s band x u z ge)
             (descend_scaled band big x u z big_u big_z next u_is z_is h)
         | inl lt ↦ (
-            let big_lt = lt_scaled k border u big_border big_u k_pos b_is u_is lt in
-            elim (cases_lt z border) [
-              | inr above ↦ rw (descend_stop as_is on (k * s) band big big_u big_z big_lt (le_scaled k border z big_border big_z b_is z_is above), descend_stop as_is on s band x u z lt above)
+            let big_lt = lt_scaled k upper u big_upper big_u k_pos b_is u_is lt in
+            elim (cases_lt z upper) [
+              | inr above ↦ rw (descend_stop as_is on (k * s) band big big_u big_z big_lt (le_scaled k upper z big_upper big_z b_is z_is above), descend_stop as_is on s band x u z lt above)
                   (forward_scaled (suc band) (u - z) (big_u - big_z) big x known (less_scaled k u z big_u big_z u_is z_is) h)
-              | inl further ↦ rw (descend_on as_is on (k * s) band big big_u big_z big_lt (lt_scaled k z border big_z big_border k_pos z_is b_is further), descend_on as_is on s band x u z lt further)
-                  (descend_scaled band _ _ border z big_border big_z next b_is z_is (forward_scaled (suc band) (u - border) (big_u - big_border) big x known (less_scaled k u border big_u big_border u_is b_is) h))
+              | inl further ↦ rw (descend_on as_is on (k * s) band big big_u big_z big_lt (lt_scaled k z upper big_z big_upper k_pos z_is b_is further), descend_on as_is on s band x u z lt further)
+                  (descend_scaled band _ _ upper z big_upper big_z next b_is z_is (forward_scaled (suc band) (u - upper) (big_u - big_upper) big x known (less_scaled k u upper big_u big_upper u_is b_is) h))
             ])
       ]
 
@@ -146,11 +146,11 @@ module _ (on : Slopes) (s k v : ℕ) (s_pos : 0 < s) (k_pos : 0 < k) (fair : Are
       ]
 
 same_of : (k : ℕ) (big x : Fraction) → IsPlaceOf k big x → IsSame big (times k x)
-same_of k big x h = record { crossed = both_ways k big.m x.m big.n x.n h.not_before.crossed h.near.crossed }
+same_of k big x h = record { crossed = both_distances k big.m x.m big.n x.n h.not_before.crossed h.near.crossed }
   where
-    both_ways : (k big_m m : ℕ) (big_n n : ℤ) → (pos (k * big_m) *ℤ n) ≤ℤ (pos m *ℤ big_n) →
+    both_distances : (k big_m m : ℕ) (big_n n : ℤ) → (pos (k * big_m) *ℤ n) ≤ℤ (pos m *ℤ big_n) →
         (pos m *ℤ big_n) ≤ℤ (pos (k * big_m) *ℤ (n +ℤ pos (0 * m))) → pos m *ℤ big_n ≡ pos big_m *ℤ (pos k *ℤ n)
-    both_ways k big_m m big_n n low high =
+    both_distances k big_m m big_n n low high =
         let none : n +ℤ pos (0 * m) ≡ n = omega (arith, ints) in
         rw (scale-scale big_m k n, mul_comm big_m k) (omega (arith, ints, low, rw none at high))
 

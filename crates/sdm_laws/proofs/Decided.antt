@@ -11,15 +11,15 @@ use Rattle.sdm_rules.specs.declared.data.SlopeKind.TheVariants.{Safe, Expected, 
 use Rattle.sdm_rules.specs.declared.faults.AuthorityFault.{AuthorityFault}
 use Rattle.sdm_rules.specs.declared.faults.OpenFault.{OpenFault}
 use Rattle.sdm_rules.specs.declared.faults.OpenFault.TheVariants.{TooWeak, TooVaried, BadAuthority}
-use Rattle.sdm_rules.specs.Data.{LineData}
+use Rattle.sdm_rules.specs.Data.{TrainAndTrack}
 use Rattle.sdm_rules.specs.Decelerations.{slope_at, q_of}
 use Rattle.sdm_rules.specs.Records.{authority_fault}
-use Rattle.sdm_rules.specs.Opening.{IsStrongAt, IsStrong, IsEven, IsRange, IsAcceptedKind, IsFirstWeak, IsFirstVaried, AreBefore, IsUsableLine, IsAccepted, IsOpenFault, band_count_of, variation_of}
+use Rattle.sdm_rules.specs.Opening.{IsStrongAt, IsStrong, IsEven, IsRange, IsAcceptedKind, IsFirstWeak, IsFirstVaried, AreBefore, HasAcceptedSlopes, IsAccepted, IsOpenFault, band_count_of, variation_of}
 use Rattle.sdm_rules.specs.Slopes.{least_slope}
 use Rattle.sdm_laws.proofs.Settled.{settled_from, slope_settled}
 use Rattle.sdm_laws.proofs.Search.{IsFirst, first_below, least_to, greatest_to}
 
-module _ (kind : SlopeKind) (d : LineData) where
+module _ (kind : SlopeKind) (d : TrainAndTrack) where
   -- the slope of a band in a cell
   abbrev f : ℕ → ℕ → ℤ
   f band cell = slope_at kind d band (pos cell)
@@ -126,21 +126,21 @@ module _ (kind : SlopeKind) (d : LineData) where
   ]
 
 -- the fault of a kind, where the kinds before it are accepted
-fault_of_kind : (kind : SlopeKind) (d : LineData) (a : Authority) → AreBefore kind d → HasFirstWeak kind d ⊎ HasFirstVaried kind d → (fault : OpenFault) × IsOpenFault d a fault
+fault_of_kind : (kind : SlopeKind) (d : TrainAndTrack) (a : Authority) → AreBefore kind d → HasFirstWeak kind d ⊎ HasFirstVaried kind d → (fault : OpenFault) × IsOpenFault d a fault
 fault_of_kind kind d a before (inl w) = (TooWeak kind (suc w.0) (pos w.1.0) w.1.1.0, (before, (w.0, refl, (w.1.0, refl, w.1.1.1))))
 fault_of_kind kind d a before (inr w) = (TooVaried kind (suc w.0) w.1.0 w.1.1.0, (before, (w.0, refl, w.1.1.1)))
 
 -- the slopes of all kinds are accepted where those of each are
-pub all_kinds : (d : LineData) → IsAcceptedKind Safe d → IsAcceptedKind Expected d → IsAcceptedKind Normal d → IsUsableLine d
+pub all_kinds : (d : TrainAndTrack) → IsAcceptedKind Safe d → IsAcceptedKind Expected d → IsAcceptedKind Normal d → HasAcceptedSlopes d
 all_kinds d safe expected normal Safe = safe
 all_kinds d safe expected normal Expected = expected
 all_kinds d safe expected normal Normal = normal
 
-by_authority : (d : LineData) (a : Authority) → IsUsableLine d → (o : Option AuthorityFault) → authority_fault d.track.length_cm a ≡ o → IsAccepted d a ⊎ ((fault : OpenFault) × IsOpenFault d a fault)
+by_authority : (d : TrainAndTrack) (a : Authority) → HasAcceptedSlopes d → (o : Option AuthorityFault) → authority_fault d.track.length_cm a ≡ o → IsAccepted d a ⊎ ((fault : OpenFault) × IsOpenFault d a fault)
 by_authority d a usable None e = inl (usable, e)
 by_authority d a usable (Some fault) e = inr (BadAuthority fault, (usable, e))
 
-pub decided : (d : LineData) (a : Authority) → IsAccepted d a ⊎ ((fault : OpenFault) × IsOpenFault d a fault)
+pub decided : (d : TrainAndTrack) (a : Authority) → IsAccepted d a ⊎ ((fault : OpenFault) × IsOpenFault d a fault)
 decided d a = elim (decide_kind Safe d) [
   | inr w ↦ inr (fault_of_kind Safe d a tt w)
   | inl safe ↦ elim (decide_kind Expected d) [

@@ -1,5 +1,5 @@
--- The energy of a way in one band: ways one after the other add up, in finer steps it is the same multiple, and with
--- slopes above 0 the longer of two ways uses more.
+-- The energy of a distance in one band: distances one after the other add up, in finer steps it is the same multiple, and with
+-- slopes above 0 the longer of two distances uses more.
 use Rattle.std.proofs.Common.{◌≡◌, ℕ, ℤ, pos, ◌+◌, ◌-◌, ◌*◌, ◌<◌, ◌≤◌, ◌+ℤ◌, ◌*ℤ◌, ap, arith, sym, ◌∙◌, inl, inr}
 use Rattle.std.proofs.lemmas.Int.{ints}
 use Rattle.std.proofs.lemmas.Bool.{cases_lt}
@@ -17,7 +17,7 @@ IsPositive on band = (c : ℤ) → 0 < on.slope band c
 abbrev pub IsEven : Slopes → ℕ → ℕ → Type 0
 IsEven on band k = (c c' : ℤ) → on.slope band c ≤ k * on.slope band c'
 
--- ways one after the other add up
+-- distances one after the other add up
 pub energy-add : (on : Slopes) (band m : ℕ) (p : ℤ) (a b : ℕ) →
     energy on band m p (a + b) ≡ energy on band m p a + energy on band m (p +ℤ pos a) b
 energy-add on band m p a b =
@@ -27,10 +27,10 @@ energy-add on band m p a b =
     total_same (λ k. f (a + k)) g b (λ k l. let e : p +ℤ pos (a + k) ≡ (p +ℤ pos a) +ℤ pos k = omega (arith, ints) in ap (λ (z : ℤ). on.slope band (cell_at m z)) e) in
     total-add f a b ∙ omega arith
 
--- in one cell the energy goes with the way
+-- in one cell the energy goes with the distance
 pub energy_in_cell : (on : Slopes) (band m : ℕ) (p p' : ℤ) (d : ℕ) (c : ℤ) → 0 < m → p' ≡ p +ℤ pos d → IsInCell m c p → IsInCell m c p' →
     energy on band m p d ≡ on.slope band c * d
-energy_in_cell on band m p p' d c m_pos way h h' =
+energy_in_cell on band m p p' d c m_pos distance h h' =
     let low = h.low in
     let high = h'.high in
     total_const (λ k. on.slope band (cell_at m (p +ℤ pos k))) (on.slope band c) d
@@ -51,9 +51,9 @@ energy_at_most on band m c d p h = total_at_most (λ k. on.slope band (cell_at m
 pub energy_at_least : (on : Slopes) (band m c d : ℕ) (p : ℤ) → ((z : ℤ) → c ≤ on.slope band z) → c * d ≤ energy on band m p d
 energy_at_least on band m c d p h = total_at_least (λ k. on.slope band (cell_at m (p +ℤ pos k))) c d (λ k l. h (cell_at m (p +ℤ pos k)))
 
--- ---- two ways to one end, or from one beginning
+-- ---- two distances to one end, or from one beginning
 
--- two ways to one end: the longer is what lies before the shorter, and the shorter
+-- two distances to one end: the longer is what lies before the shorter, and the shorter
 pub energy_to_end : (on : Slopes) (band m : ℕ) (p p' : ℤ) (d d' : ℕ) → p +ℤ pos d ≡ p' +ℤ pos d' → d' ≤ d →
     energy on band m p d ≡ energy on band m p (d - d') + energy on band m p' d'
 energy_to_end on band m p p' d d' ends le =
@@ -62,7 +62,7 @@ energy_to_end on band m p p' d d' ends le =
     let p_is : p' ≡ p +ℤ pos e = omega (arith, ints) in
     ap (energy on band m p) d_is ∙ (energy-add on band m p e d' ∙ ap (λ (z : ℤ). energy on band m p e + energy on band m z d') (sym p_is))
 
--- two ways from one beginning: the longer is the shorter, and what lies past it
+-- two distances from one beginning: the longer is the shorter, and what lies past it
 pub energy_from_start : (on : Slopes) (band m : ℕ) (p : ℤ) (d d' : ℕ) → d' ≤ d →
     energy on band m p d ≡ energy on band m p d' + energy on band m (p +ℤ pos d') (d - d')
 energy_from_start on band m p d d' le =
@@ -70,7 +70,7 @@ energy_from_start on band m p d d' le =
     let d_is : d ≡ d' + e = omega arith in
     ap (energy on band m p) d_is ∙ energy-add on band m p d' e
 
--- the way to an end that uses no more is no longer
+-- the distance to an end that uses no more is no longer
 pub no_longer_to_end : (on : Slopes) (band m : ℕ) (p p' : ℤ) (d d' : ℕ) → IsPositive on band → p +ℤ pos d ≡ p' +ℤ pos d' →
     energy on band m p' d' ≤ energy on band m p d → d' ≤ d
 no_longer_to_end on band m p p' d d' some ends le =
@@ -79,7 +79,7 @@ no_longer_to_end on band m p p' d d' some ends le =
       | inr ge ↦ ge
     ]
 
--- nor is the way from a beginning
+-- nor is the distance from a beginning
 pub no_longer_from_start : (on : Slopes) (band m : ℕ) (p : ℤ) (d d' : ℕ) → IsPositive on band →
     energy on band m p d' ≤ energy on band m p d → d' ≤ d
 no_longer_from_start on band m p d d' some le =
@@ -88,7 +88,7 @@ no_longer_from_start on band m p d d' some le =
       | inr ge ↦ ge
     ]
 
--- the way to an end that uses less is shorter
+-- the distance to an end that uses less is shorter
 pub shorter_to_end : (on : Slopes) (band m : ℕ) (p p' : ℤ) (d d' : ℕ) → p +ℤ pos d ≡ p' +ℤ pos d' →
     energy on band m p' d' < energy on band m p d → d' < d
 shorter_to_end on band m p p' d d' ends less =
@@ -97,7 +97,7 @@ shorter_to_end on band m p p' d d' ends less =
       | inr ge ↦ absurd (omega (arith, energy_to_end on band m p' p d' d (sym ends) ge))
     ]
 
--- so is the way from a beginning
+-- so is the distance from a beginning
 pub shorter_from_start : (on : Slopes) (band m : ℕ) (p : ℤ) (d d' : ℕ) → energy on band m p d' < energy on band m p d → d' < d
 shorter_from_start on band m p d d' less =
     elim (cases_lt d' d) [

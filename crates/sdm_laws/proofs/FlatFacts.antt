@@ -6,14 +6,14 @@ use Rattle.std.proofs.lemmas.Bool.{not-true}
 use Rattle.std.proofs.lemmas.List.Elements.{All-from_recursion}
 use Rattle.std.proofs.Math.Nat.{mul-le-mul_left}
 use Rattle.sdm_rules.specs.declared.motions.Point.{Point}
-use Rattle.sdm_rules.specs.Cells.{border_of}
+use Rattle.sdm_rules.specs.Cells.{place_of_cell}
 use Rattle.sdm_rules.specs.Curves.{stepped}
 use Rattle.sdm_rules.specs.Motion.{IsBy, slice_ends}
 use Rattle.sdm_rules.specs.Reaction.{build_up_of, d_bec, v_bec}
 use Rattle.sdm_rules.specs.Limits.{computed}
 use Rattle.sdm_rules.specs.Triggers.{is_past}
 use Rattle.sdm_rules.specs.Flat.{flat_slopes, flat_start, flat_row, flat_after}
-use Rattle.sdm_laws.specs.MotionLaws.{IsBounded, IsHeld}
+use Rattle.sdm_laws.specs.MotionLaws.{IsBounded, IsHeldByCurve}
 use Rattle.sdm_laws.specs.FlatLaws.{LawOfFlatSlopes, LawOfFlatMachines, LawOfFlatStop}
 use Rattle.sdm_laws.proofs.Nearness.{exact_sooner, low_sooner}
 use Rattle.sdm_laws.proofs.CurveNearness.{near_on}
@@ -35,7 +35,7 @@ flat_usable decel some = record {
 pub flat_machines : LawOfFlatMachines
 unfolding flat_row flat_after
 flat_machines s l some must may order =
-    let near = near_on (flat_slopes s.decel) (flat_usable s.decel some) (border_of (pos s.end)) 0 l.speed in
+    let near = near_on (flat_slopes s.decel) (flat_usable s.decel some) (place_of_cell (pos s.end)) 0 l.speed in
     record {
       needed = or_implies _ _ _ _
           (or_implies _ _ _ _ (and_implies (nat_lt 0 l.speed) _ _ _ (same _) ((exact_sooner _ _ near).passed l.front)) (same _))
@@ -50,7 +50,7 @@ unfolding flat_row
 flat_stop s l some covered scale p v xs first more m =
     let on = flat_slopes s.decel in
     let usable = flat_usable s.decel some in
-    let foot = border_of (pos s.end) in
+    let foot = place_of_cell (pos s.end) in
     let pos_m : 0 < scale * scale = (let h = m.0 in omega (arith, mul-le-mul_left scale h)) in
     let at = stepped on foot 0 l.speed in
     let free = not-true (is_past 0 l.front (computed on foot 0 l.speed)) covered in
@@ -58,10 +58,10 @@ flat_stop s l some covered scale p v xs first more m =
     let begins = not_past on usable foot 0 l.speed 0 l.front (subst (λ (n : ℤ). is_past 0 l.front (record { n = n; m = 1 }) ≡ false) (sym same_place) free) in
     let bounds = each_in_reach scale (flat_start l) on 0 p v xs first more m.1.motion m.1.speed in
     let reaction = build_up_of (flat_start l) in
-    let B : ℕ → ℕ → Point → Type 0 = λ way speed. IsBounded (p +ℤ pos (scale * scale * way)) (scale * speed) in
-    let way : d_bec reaction 0 ≡ 0 = omega arith in
+    let B : ℕ → ℕ → Point → Type 0 = λ distance speed. IsBounded (p +ℤ pos (scale * scale * distance)) (scale * speed) in
+    let distance : d_bec reaction 0 ≡ 0 = omega arith in
     let speed : v_bec reaction 0 ≡ l.speed = omega arith in
-    let last = subst (λ (k : ℕ). B 0 k first) speed (subst (λ (k : ℕ). B k (v_bec reaction 0) first) way (all_split (B (d_bec reaction 0) (v_bec reaction 0)) (slice_ends p v xs) (first ∷ []) bounds).1.0) in
+    let last = subst (λ (k : ℕ). B 0 k first) speed (subst (λ (k : ℕ). B k (v_bec reaction 0) first) distance (all_split (B (d_bec reaction 0) (v_bec reaction 0)) (slice_ends p v xs) (first ∷ []) bounds).1.0) in
     let within = within_first on usable scale foot 0 l.speed 0 l.front p first pos_m begins m.1.place last in
     let held = each_held on (scale * scale) foot 0 first more usable pos_m m.1.motion.braking within in
-    All-from_recursion (IsBy scale foot) (first ∷ more) (each (IsHeld on (scale * scale) foot 0) (IsBy scale foot) (λ y k. k.standing refl) (first ∷ more) held)
+    All-from_recursion (IsBy scale foot) (first ∷ more) (each (IsHeldByCurve on (scale * scale) foot 0) (IsBy scale foot) (λ y k. k.standing refl) (first ∷ more) held)

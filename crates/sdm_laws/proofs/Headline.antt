@@ -14,11 +14,11 @@ use Rattle.sdm_laws.proofs.AcceptedSlopes.{accepted_usable}
 use Rattle.sdm_laws.proofs.Slack.{rounding}
 use Rattle.sdm_laws.proofs.MachineOrder.{AreUsable, keeps_order, limits_near}
 use Rattle.sdm_laws.proofs.JourneyOrder.{if_unless, if_ok, stays_in_order}
-use Rattle.sdm_laws.proofs.ReleaseStart.{released_at, start_near}
+use Rattle.sdm_laws.proofs.ReleaseStart.{begins_release_monitoring_at, start_near}
 use Rattle.sdm_laws.proofs.Stops.{covered_is_safe}
 
-open_usable : (s : Supervision) → IsOpen s → AreUsable s.line
-open_usable s o = λ kind. accepted_usable kind s.line o.bands (o.usable kind)
+open_usable : (s : Supervision) → IsOpen s → AreUsable s.train_and_track
+open_usable s o = λ kind. accepted_usable kind s.train_and_track o.bands (o.usable kind)
 
 pub nearness : LawOfNearness
 nearness kind d bands accepted f w v = (rounding (slopes_of kind d) f w v (accepted_usable kind d bands accepted)).early_at_most
@@ -26,7 +26,8 @@ nearness kind d bands accepted f w v = (rounding (slopes_of kind d) f w v (accep
 pub limits : LawOfLimits
 limits s r o =
     let usable = open_usable s o in
-    record { limits = λ t. limits_near s.line usable r t; release_start = start_near s.line usable; fine = omega arith }
+    record { limits = λ t. limits_near s.train_and_track usable r t; release_start = start_near s.train_and_track usable; fine =
+        omega arith }
 
 pub machines : LawOfMachines
 machines s r o = keeps_order s r (open_usable s o)
@@ -35,7 +36,7 @@ pub stop : LawOfStop
 stop s r o covered = covered_is_safe s r (open_usable s o) covered
 
 pub release : LawOfReleaseStart
-release s r o = λ eoa svl speed is some. released_at s r eoa svl speed (open_usable s o) is some
+release s r o = λ eoa svl speed is some. begins_release_monitoring_at s r eoa svl speed (open_usable s o) is some
 
 pub supervision : LawOfSupervision
 supervision s r o = record { order = machines s r o; safe = stop s r o }

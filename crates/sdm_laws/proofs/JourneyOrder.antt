@@ -16,9 +16,9 @@ if_unless P cause (Some f) x h = tt
 
 -- the order stands after one record
 abbrev pub Keeps : Supervision → Bool → Bool → Event → Step → Type 0
-Keeps s must may e t = AreUsable t.after.line × InOrder (over_record must_after s e must) t.after.commands.eb (over_record may_after s e may)
+Keeps s must may e t = AreUsable t.after.train_and_track × InOrder (over_record must_after s e must) t.after.commands.eb (over_record may_after s e may)
 
-pub order_over : (s : Supervision) (must may : Bool) (e : Event) → AreUsable s.line → InOrder must s.commands.eb may → IfOk (step s e) (Keeps s must may e)
+pub order_over : (s : Supervision) (must may : Bool) (e : Event) → AreUsable s.train_and_track → InOrder must s.commands.eb may → IfOk (step s e) (Keeps s must may e)
 unfolding step after_reading
 order_over s must may (record_kinds.Read r) near h = if_unless (Keeps s must may (record_kinds.Read r)) _ _ _ (near, keeps_order s r near must may h)
 order_over s must may (record_kinds.Authority a) near h = if_unless (Keeps s must may (record_kinds.Authority a)) _ _ _ (near, h)
@@ -29,7 +29,7 @@ pub if_ok : (P Q : Step → Type 0) (r : Result Step EventCause) → IfOk r P �
 if_ok P Q (Ok t) h f = f t h
 if_ok P Q (Err c) h f = tt
 
-pub stays_in_order : (s : Supervision) (must may : Bool) (es : List Event) → AreUsable s.line → InOrder must s.commands.eb may → AreInOrder s must may es
+pub stays_in_order : (s : Supervision) (must may : Bool) (es : List Event) → AreUsable s.train_and_track → InOrder must s.commands.eb may → AreInOrder s must may es
 stays_in_order s must may [] near h = h
 stays_in_order s must may (e ∷ es) near h =
     (h, if_ok (Keeps s must may e) _ (step s e) (order_over s must may e near h) (λ t k. stays_in_order t.after (over_record must_after s e must) (over_record may_after s e may) es k.0 k.1))

@@ -1,5 +1,5 @@
--- The two facts of a knot fix the stepped end of an arc from a whole grain: the energy of the exact way lies between those
--- of the two whole ways, so the way does. Code that walks, or looks up integrals, has to show just these.
+-- The two facts of a knot fix the stepped end of an arc from a whole grain: the energy of the exact distance lies between those
+-- of the two whole distances, so the distance does. Code that walks, or looks up integrals, has to show just these.
 use Rattle.std.proofs.Common.{◌≡◌, ℕ, ℤ, zero, suc, pos, neg_ℤ, ◌+◌, ◌-◌, ◌*◌, ◌<◌, ◌≤◌, ◌+ℤ◌, ◌*ℤ◌, length, ap, arith, refl, ◌∙◌}
 use Rattle.std.proofs.lemmas.Int.{ints}
 use Rattle.std.proofs.Math.Nat.{mul-le-mul_left}
@@ -7,7 +7,7 @@ use Rattle.sdm_num.specs.Fractions.{Fraction, whole, floor}
 use Rattle.sdm_num.proofs.Ints.{scales}
 use Rattle.sdm_num.proofs.Floors.{floor_is}
 use Rattle.sdm_rules.specs.Slopes.{Slopes, IsUsable}
-use Rattle.sdm_rules.specs.Curves.{arc_back, arc_forward, grain_energy, upper_square, to_grain, climb, descend}
+use Rattle.sdm_rules.specs.Curves.{arc_back, arc_forward, grain_energy, upper_square, to_grain, back_through_bands, forward_through_bands}
 use Rattle.sdm_laws.specs.Energy.{energy, IsKnot, IsKnotPast}
 use Rattle.sdm_laws.specs.CurveLaws.{HasKnots}
 use Rattle.sdm_laws.proofs.Energy.{IsPositive, energy-finer, no_longer_to_end, shorter_to_end, no_longer_from_start, shorter_from_start}
@@ -22,7 +22,7 @@ floor_back on band f d r y some knot h =
     let t = h.t in
     let m_is : y.m ≡ t = h.finer ∙ omega arith in
     let fine : 1 * y.m ≡ t * 1 = omega arith in
-    let way : pos t *ℤ f ≡ y.n +ℤ pos h.d = h.is.way in
+    let distance : pos t *ℤ f ≡ y.n +ℤ pos h.d = h.is.distance in
     let at_most : h.d ≤ t * d =
     no_longer_to_end on band (1 * y.m) (pos t *ℤ (f +ℤ neg_ℤ (pos d))) y.n (t * d) h.d some (simp scales (omega (arith, ints)))
     (omega (arith, energy-finer on band 1 (1 * y.m) t d (f +ℤ neg_ℤ (pos d)) fine (omega arith), mul-le-mul_left t knot.enough, h.is.used)) in
@@ -35,7 +35,7 @@ floor_back on band f d r y some knot h =
     not_less on band f (suc d) r y least h =
         let t = h.t in
         let fine : 1 * y.m ≡ t * 1 = omega (arith, h.finer) in
-        let way : pos t *ℤ f ≡ y.n +ℤ pos h.d = h.is.way in
+        let distance : pos t *ℤ f ≡ y.n +ℤ pos h.d = h.is.distance in
         let t_pos = h.positive in
         let less : t * d < h.d =
         shorter_to_end on band (1 * y.m) y.n (pos t *ℤ (f +ℤ neg_ℤ (pos d))) h.d (t * d) (simp scales (omega (arith, ints)))
@@ -48,7 +48,7 @@ floor_forward on band f d r y some knot h =
     let t = h.t in
     let m_is : y.m ≡ t = h.finer ∙ omega arith in
     let fine : 1 * y.m ≡ t * 1 = omega arith in
-    let way : y.n ≡ pos t *ℤ f +ℤ pos h.d = h.is.way in
+    let distance : y.n ≡ pos t *ℤ f +ℤ pos h.d = h.is.distance in
     let t_pos = h.positive in
     let at_least : t * d ≤ h.d =
     no_longer_from_start on band (1 * y.m) (pos t *ℤ f) h.d (t * d) some
@@ -79,18 +79,19 @@ knot_forward on band at d change some knot =
 -- back to a border and on in the next band
 pub climb_knot : (on : Slopes) (left band : ℕ) (at : ℤ) (d u z : ℕ) → IsPositive on band → u < upper_square on 1 band →
     upper_square on 1 band < z → IsKnot on band at d (grain_energy on (upper_square on 1 band - u)) →
-    climb to_grain on 1 (suc left) band (whole at) u z ≡ climb to_grain on 1 left (band + 1) (whole (at +ℤ neg_ℤ (pos d))) (upper_square on 1 band) z
+    back_through_bands to_grain on 1 (suc left) band (whole at) u z ≡ back_through_bands to_grain on 1 left (band + 1) (whole (at +ℤ neg_ℤ (pos d))) (upper_square on 1 band) z
 climb_knot on left band at d u z some lt further knot =
     climb_on to_grain on 1 left band (whole at) u z lt further
-    ∙ ap (λ (p : ℤ). climb to_grain on 1 left (band + 1) (whole p) (upper_square on 1 band) z) (knot_back on band at d (upper_square on 1 band - u) some knot)
+    ∙ ap (λ (p : ℤ). back_through_bands to_grain on 1 left (band + 1) (whole p) (upper_square on 1 band) z) (knot_back on band at d (upper_square on 1 band - u) some knot)
 
 -- forward to a border and on in the band below
 pub descend_knot : (on : Slopes) (band : ℕ) (at : ℤ) (d u z : ℕ) → IsPositive on (suc band) → upper_square on 1 band < u →
     z < upper_square on 1 band → IsKnotPast on (suc band) at d (grain_energy on (u - upper_square on 1 band)) →
-    descend to_grain on 1 (suc band) (whole at) u z ≡ descend to_grain on 1 band (whole (at +ℤ pos d)) (upper_square on 1 band) z
+    forward_through_bands to_grain on 1 (suc band) (whole at) u z ≡ forward_through_bands to_grain on 1 band (whole (at +ℤ pos d))
+        (upper_square on 1 band) z
 descend_knot on band at d u z some lt further knot =
     descend_on to_grain on 1 band (whole at) u z lt further
-    ∙ ap (λ (p : ℤ). descend to_grain on 1 band (whole p) (upper_square on 1 band) z) (knot_forward on (suc band) at d (u - upper_square on 1 band) some knot)
+    ∙ ap (λ (p : ℤ). forward_through_bands to_grain on 1 band (whole p) (upper_square on 1 band) z) (knot_forward on (suc band) at d (u - upper_square on 1 band) some knot)
 
 -- ---- all of it, in one band
 

@@ -1,7 +1,7 @@
 pub mod Totals
 pub mod Cells
 pub mod Energy
-pub mod Ways
+pub mod Distances
 pub mod Walks
 pub mod CommonSteps
 pub mod Arcs

@@ -18,26 +18,26 @@ use Rattle.sdm_rules.specs.declared.authorities.Authority.{Authority}
 use Rattle.sdm_rules.specs.declared.targets.Target.{Target}
 use Rattle.sdm_rules.specs.declared.targets.TargetKind.TheVariants.{Eoa, Svl}
 use Rattle.sdm_rules.specs.Slopes.{Slopes}
-use Rattle.sdm_rules.specs.Data.{LineData}
+use Rattle.sdm_rules.specs.Data.{TrainAndTrack}
 use Rattle.sdm_rules.specs.Decelerations.{slope_at, slopes_of}
 use Rattle.sdm_rules.specs.Profile.{mrsp, lowest_between}
 use Rattle.sdm_rules.specs.Targets.{targets_of}
-use Rattle.sdm_rules.specs.Reaction.{line_times, service_in_use}
+use Rattle.sdm_rules.specs.Reaction.{reaction_times, service_in_use}
 use Rattle.sdm_rules.specs.Curves.{place_at, stepped, exact, exact_at, arc_back, back, arc_forward, forward}
 use Rattle.sdm_rules.specs.Limits.{CurvePlaces, SupervisionLimits, computed, exact_places, limits_of}
 use Rattle.sdm_rules.specs.Triggers.{Situation, triggers_of}
 use Rattle.sdm_rules.specs.Commands.{commands_after, emergency_after}
 use Rattle.sdm_rules.specs.Supervision.{Supervision, opening, release_of, is_past_end, situation_of, commands_in, state_in}
 use Rattle.sdm_rules.specs.Machines.{machine_after, must_after, may_after, held_after}
-use Rattle.sdm_rules.proofs.Journeys.{plain_band, plain_national, plain_line, reading_at}
+use Rattle.sdm_rules.proofs.Journeys.{plain_band, plain_national, plain_train_and_track, reading_at}
 
 -- 0.7 m/s² for each brake, up to a speed in km/h
 band_up_to : Option ℤ → Band
 band_up_to upper = record plain_band { upper = upper; emergency = pos 70; service = pos 70; normal = pos 70 }
 
-two_band_line : LineData
+two_band_line : TrainAndTrack
 two_band_line =
-    let line = plain_line (pos 10_000) (Some (pos 0)) plain_band [] [] in
+    let line = plain_train_and_track (pos 10_000) (Some (pos 0)) plain_band [] [] in
     record line { train = record (line.train) { bands = band_up_to (Some (pos 18)) ∷ band_up_to None ∷ [] } }
 
 unfoldable two_bands : Supervision
@@ -48,7 +48,7 @@ none_in_force : finite.entries (finite.empty {X = Restriction} {R = nat_cmp}) �
 none_in_force = nil_from_length _ (sym (finite.len-entries finite.empty) ∙ finite.len-empty nat_cmp Restriction)
 
 -- what the triggers look at with these restrictions in force
-situation_with : LineData → Authority → List Restriction → OdometerReading → Situation
+situation_with : TrainAndTrack → Authority → List Restriction → OdometerReading → Situation
 situation_with d a restrictions r =
     let release = release_of d a r.max in
     let profile = mrsp d.train d.track restrictions in
@@ -63,7 +63,7 @@ situation_with d a restrictions r =
       in_use = service_in_use d;
     }
 
-opening_situation : (d : LineData) (a : Authority) (r : OdometerReading) → situation_of (opening d a) r ≡ situation_with d a [] r
+opening_situation : (d : TrainAndTrack) (a : Authority) (r : OdometerReading) → situation_of (opening d a) r ≡ situation_with d a [] r
 unfolding situation_of situation_with
 opening_situation d a r = ap (λ es. situation_with d a (map (λ e. e.1) es) r) none_in_force
 
@@ -78,7 +78,7 @@ commanded P shift place =
     emergency_after false (triggers_of (limits_of P two_bands.line r) shift (situation_with two_bands.line two_bands.authority [] r)) false false
 
 commanded_by : (P : CurvePlaces) (shift : ℕ) (place : ℤ) → machine_after P shift two_bands (at_14_m_s place) false ≡ commanded P shift place
-unfolding machine_after two_bands at_14_m_s reading_at two_band_line plain_line plain_national commanded emergency_after
+unfolding machine_after two_bands at_14_m_s reading_at two_band_line plain_train_and_track plain_national commanded emergency_after
 commanded_by P shift place =
     let r = at_14_m_s place in
     ap (λ now. emergency_after false (triggers_of (limits_of P two_bands.line r) shift now) false false) (opening_situation two_bands.line two_bands.authority r)
@@ -93,7 +93,7 @@ even_slopes : Slopes
 even_slopes = record { q = 100; uppers = 270_000 ∷ []; slope = even }
 
 each_slope : (kind : SlopeKind) (band : ℕ) (cell : ℤ) → unsigned_abs (slope_at kind two_bands.line band cell) ≡ even band cell
-unfolding two_bands two_band_line band_up_to plain_line plain_national plain_band slope_at even
+unfolding two_bands two_band_line band_up_to plain_train_and_track plain_national plain_band slope_at even
 each_slope Safe zero (pos cell) = refl
 each_slope Safe zero (negsuc cell) = refl
 each_slope Safe (suc zero) (pos cell) = refl
@@ -114,7 +114,7 @@ each_slope Normal (suc (suc band)) (pos cell) = refl
 each_slope Normal (suc (suc band)) (negsuc cell) = refl
 
 same_slopes : (kind : SlopeKind) → slopes_of kind two_bands.line ≡ even_slopes
-unfolding two_bands two_band_line band_up_to plain_line plain_band slopes_of even_slopes
+unfolding two_bands two_band_line band_up_to plain_train_and_track plain_band slopes_of even_slopes
 same_slopes kind = ap (λ f. record { q = 100; uppers = 270_000 ∷ []; slope = f }) (fun_ext (λ band. fun_ext (λ cell. each_slope kind band cell)))
 
 -- the exact place at 14 m/s: 464,400,000,000,000 grains, 860 m
@@ -145,7 +145,7 @@ limits_with x t = limits_of (λ on f w v. x) two_bands.line (at_14_m_s (pos 0)) 
 limits_by_place : (P : CurvePlaces) (place : ℤ) (x : Fraction) →
     P even_slopes (pos 540_000_000_000_000) 0 756_000 ≡ x →
     (limits_of P two_bands.line (at_14_m_s place) eoa ≡ limits_with x eoa) × (limits_of P two_bands.line (at_14_m_s place) svl ≡ limits_with x svl)
-unfolding two_bands two_band_line plain_line plain_national at_14_m_s reading_at eoa svl limits_with limits_of line_times
+unfolding two_bands two_band_line plain_train_and_track plain_national at_14_m_s reading_at eoa svl limits_with limits_of reaction_times
 limits_by_place P place x at = (
   rw (same_slopes Expected, at) refl,
   rw (same_slopes Safe, at) refl,
@@ -196,15 +196,15 @@ a_millimetre_before : ℤ
 a_millimetre_before = pos 464_399_460_000_000
 
 seen_on : situation_with two_bands.line two_bands.authority [] (at_14_m_s on_the_limit) ≡ seen_at on_the_limit
-unfolding two_bands two_band_line plain_line plain_national at_14_m_s reading_at situation_with seen_at eoa svl on_the_limit targets_of mrsp
+unfolding two_bands two_band_line plain_train_and_track plain_national at_14_m_s reading_at situation_with seen_at eoa svl on_the_limit targets_of mrsp
 seen_on = refl
 
 seen_within : situation_with two_bands.line two_bands.authority [] (at_14_m_s within_a_millimetre) ≡ seen_at within_a_millimetre
-unfolding two_bands two_band_line plain_line plain_national at_14_m_s reading_at situation_with seen_at eoa svl within_a_millimetre targets_of mrsp
+unfolding two_bands two_band_line plain_train_and_track plain_national at_14_m_s reading_at situation_with seen_at eoa svl within_a_millimetre targets_of mrsp
 seen_within = refl
 
 seen_before : situation_with two_bands.line two_bands.authority [] (at_14_m_s a_millimetre_before) ≡ seen_at a_millimetre_before
-unfolding two_bands two_band_line plain_line plain_national at_14_m_s reading_at situation_with seen_at eoa svl a_millimetre_before targets_of mrsp
+unfolding two_bands two_band_line plain_train_and_track plain_national at_14_m_s reading_at situation_with seen_at eoa svl a_millimetre_before targets_of mrsp
 seen_before = refl
 
 -- the emergency commands of the exact, the row and the early machine
@@ -231,5 +231,5 @@ three_decided place seen =
 machines_differ :
     three_commands on_the_limit ∷ three_commands within_a_millimetre ∷ three_commands a_millimetre_before ∷ []
     ≡ (false ∷ true ∷ true ∷ []) ∷ (false ∷ false ∷ true ∷ []) ∷ (false ∷ false ∷ false ∷ []) ∷ []
-unfolding on_the_limit within_a_millimetre a_millimetre_before decided limits_with exact_860_m seen_at eoa svl two_bands two_band_line plain_line plain_national at_14_m_s reading_at triggers_of limits_of line_times emergency_after
+unfolding on_the_limit within_a_millimetre a_millimetre_before decided limits_with exact_860_m seen_at eoa svl two_bands two_band_line plain_train_and_track plain_national at_14_m_s reading_at triggers_of limits_of reaction_times emergency_after
 machines_differ = rw (three_decided on_the_limit seen_on, three_decided within_a_millimetre seen_within, three_decided a_millimetre_before seen_before) refl

@@ -3,7 +3,7 @@
 use Rattle.std.proofs.Common.{ℕ, true, false, List, [], ◌∷◌, Option, Some, None}
 use Rattle.std.specs.Prelude.{if◌then◌else◌}
 use Rattle.std.specs.List.{AllByRecursion}
-use Rattle.sdm_num.specs.Units.{millimetre, way_in}
+use Rattle.sdm_num.specs.Units.{millimetre, distance_at}
 use Rattle.sdm_num.specs.Fractions.{Fraction}
 use Rattle.sdm_rules.specs.declared.data.Times.{Times}
 use Rattle.sdm_rules.specs.declared.data.SlopeKind.{SlopeKind}
@@ -13,11 +13,11 @@ use Rattle.sdm_rules.specs.declared.targets.Target.{Target}
 use Rattle.sdm_rules.specs.declared.targets.TargetKind.{TargetKind}
 use Rattle.sdm_rules.specs.declared.targets.TargetKind.TheVariants.{Mrsp, Loa, Eoa, Svl}
 use Rattle.sdm_num.specs.Readings.{OdometerReading}
-use Rattle.sdm_rules.specs.Data.{LineData}
-use Rattle.sdm_rules.specs.Limits.{SupervisionLimits, computed, exact_places, limits_before, limits_of_kind, limits_of, ebd_limits_of, sbd_limits_of, v_bec_for, d_bec_for, guidance_place}
+use Rattle.sdm_rules.specs.Data.{TrainAndTrack}
+use Rattle.sdm_rules.specs.Limits.{SupervisionLimits, computed, exact_places, limits_from_sbi, limits_of_kind, limits_of, ebd_limits_of, sbd_limits_of, v_bec_for, d_bec_for, guidance_place}
 use Rattle.sdm_rules.specs.Decelerations.{slopes_of}
 use Rattle.sdm_rules.specs.Targets.{target_speed, foot_speed_of}
-use Rattle.sdm_rules.specs.Reaction.{line_times}
+use Rattle.sdm_rules.specs.Reaction.{reaction_times}
 use Rattle.sdm_rules.specs.Commands.{commands_after}
 use Rattle.sdm_rules.specs.Supervision.{Supervision, situation_of, commands_in}
 use Rattle.sdm_rules.specs.Machines.{KeepsOrder, held_after, machine_after}
@@ -27,10 +27,10 @@ use Rattle.sdm_laws.proofs.Nearness.{less_near, lesser_near, exact_sooner, low_s
 use Rattle.sdm_laws.proofs.CurveNearness.{near_on}
 
 -- the slopes of each kind are usable
-abbrev pub AreUsable : LineData → Type 0
+abbrev pub AreUsable : TrainAndTrack → Type 0
 AreUsable d = (kind : SlopeKind) → IsUsable (slopes_of kind d)
 
-before_near : (times : Times) (v : ℕ) (guide guide' ebi ebi' : Option Fraction) (sbi sbi' : Fraction) → AreJustBeforeIfAny guide guide' → AreJustBeforeIfAny ebi ebi' → IsJustBefore sbi sbi' → AreLimitsJustBefore (limits_before times v guide ebi sbi) (limits_before times v guide' ebi' sbi')
+before_near : (times : Times) (v : ℕ) (guide guide' ebi ebi' : Option Fraction) (sbi sbi' : Fraction) → AreJustBeforeIfAny guide guide' → AreJustBeforeIfAny ebi ebi' → IsJustBefore sbi sbi' → AreLimitsJustBefore (limits_from_sbi times v guide ebi sbi) (limits_from_sbi times v guide' ebi' sbi')
 before_near times v None None ebi ebi' sbi sbi' g e h = record {
   ebi = e;
   sbi = h;
@@ -48,30 +48,30 @@ before_near times v (Some x) (Some y) ebi ebi' sbi sbi' g e h = record {
   indication = less_near _ _ _ (lesser_near x y _ _ g (less_near sbi sbi' _ h));
 }
 
-guide_near : (d : LineData) → AreUsable d → (r : OdometerReading) (t : Target) → AreJustBeforeIfAny (guidance_place computed d r t) (guidance_place exact_places d r t)
+guide_near : (d : TrainAndTrack) → AreUsable d → (r : OdometerReading) (t : Target) → AreJustBeforeIfAny (guidance_place computed d r t) (guidance_place exact_places d r t)
 guide_near d h r t =
     elim d.national.guidance as (λ b. AreJustBeforeIfAny (if b then Some (computed (slopes_of Normal d) t.place (target_speed t) r.speed) else None) (if b then Some (exact_places (slopes_of Normal d) t.place (target_speed t) r.speed) else None)) [
       | true ↦ near_on (slopes_of Normal d) (h Normal) t.place (target_speed t) r.speed
       | false ↦ tt
     ]
 
-ebd_near : (d : LineData) → AreUsable d → (r : OdometerReading) (t : Target) (g g' : Option Fraction) → AreJustBeforeIfAny g g' → AreLimitsJustBefore (ebd_limits_of computed d r t g) (ebd_limits_of exact_places d r t g')
+ebd_near : (d : TrainAndTrack) → AreUsable d → (r : OdometerReading) (t : Target) (g g' : Option Fraction) → AreJustBeforeIfAny g g' → AreLimitsJustBefore (ebd_limits_of computed d r t g) (ebd_limits_of exact_places d r t g')
 ebd_near d h r t g g' n =
     let x = near_on (slopes_of Safe d) (h Safe) t.place (foot_speed_of t) (v_bec_for d r t) in
     let e = less_near _ _ (d_bec_for d r t) x in
-    before_near (line_times d) r.speed g g' _ _ _ _ n e (less_near _ _ (way_in r.speed (line_times d).bs) e)
+    before_near (reaction_times d) r.speed g g' _ _ _ _ n e (less_near _ _ (distance_at r.speed (reaction_times d).bs) e)
 
-sbd_near : (d : LineData) → AreUsable d → (r : OdometerReading) (t : Target) (g g' : Option Fraction) → AreJustBeforeIfAny g g' → AreLimitsJustBefore (sbd_limits_of computed d r t g) (sbd_limits_of exact_places d r t g')
+sbd_near : (d : TrainAndTrack) → AreUsable d → (r : OdometerReading) (t : Target) (g g' : Option Fraction) → AreJustBeforeIfAny g g' → AreLimitsJustBefore (sbd_limits_of computed d r t g) (sbd_limits_of exact_places d r t g')
 sbd_near d h r t g g' n =
-    before_near (line_times d) r.speed g g' None None _ _ n tt (less_near _ _ (way_in r.speed (line_times d).bs) (near_on (slopes_of Expected d) (h Expected) t.place 0 r.speed))
+    before_near (reaction_times d) r.speed g g' None None _ _ n tt (less_near _ _ (distance_at r.speed (reaction_times d).bs) (near_on (slopes_of Expected d) (h Expected) t.place 0 r.speed))
 
-kind_near : (d : LineData) → AreUsable d → (r : OdometerReading) (t : Target) (k : TargetKind) → AreLimitsJustBefore (limits_of_kind computed d r t k) (limits_of_kind exact_places d r t k)
+kind_near : (d : TrainAndTrack) → AreUsable d → (r : OdometerReading) (t : Target) (k : TargetKind) → AreLimitsJustBefore (limits_of_kind computed d r t k) (limits_of_kind exact_places d r t k)
 kind_near d h r t Mrsp = ebd_near d h r t _ _ (guide_near d h r t)
 kind_near d h r t Loa = ebd_near d h r t _ _ (guide_near d h r t)
 kind_near d h r t Eoa = sbd_near d h r t _ _ (guide_near d h r t)
 kind_near d h r t Svl = ebd_near d h r t None None tt
 
-pub limits_near : (d : LineData) → AreUsable d → (r : OdometerReading) (t : Target) → AreLimitsJustBefore (limits_of computed d r t) (limits_of exact_places d r t)
+pub limits_near : (d : TrainAndTrack) → AreUsable d → (r : OdometerReading) (t : Target) → AreLimitsJustBefore (limits_of computed d r t) (limits_of exact_places d r t)
 unfolding limits_of
 limits_near d h r t = kind_near d h r t t.kind
 
@@ -99,15 +99,15 @@ each_of : (P : Target → Type 0) → ((t : Target) → P t) → (ts : List Targ
 each_of P f [] = tt
 each_of P f (t ∷ ts) = (f t, each_of P f ts)
 
-pub keeps_order : (s : Supervision) (r : OdometerReading) → AreUsable s.line → KeepsOrder s r (held_after s r)
+pub keeps_order : (s : Supervision) (r : OdometerReading) → AreUsable s.train_and_track → KeepsOrder s r (held_after s r)
 unfolding machine_after commands_in commands_after
 keeps_order s r near must may order =
     let now = situation_of s r in
-    let low = limits_of computed s.line r in
-    let exact = limits_of exact_places s.line r in
+    let low = limits_of computed s.train_and_track r in
+    let exact = limits_of exact_places s.train_and_track r in
     record {
       needed = emergency_implies _ _ must s.commands.eb _ _
-          (triggers_imply exact low 0 0 now (each_of _ (λ t. all_exact_sooner (low t) (exact t) (limits_near s.line near r t)) now.targets)) order.needed;
+          (triggers_imply exact low 0 0 now (each_of _ (λ t. all_exact_sooner (low t) (exact t) (limits_near s.train_and_track near r t)) now.targets)) order.needed;
       allowed = emergency_implies _ _ s.commands.eb may _ _
-          (triggers_imply low exact 0 millimetre now (each_of _ (λ t. all_low_sooner (low t) (exact t) (limits_near s.line near r t)) now.targets)) order.allowed;
+          (triggers_imply low exact 0 millimetre now (each_of _ (λ t. all_low_sooner (low t) (exact t) (limits_near s.train_and_track near r t)) now.targets)) order.allowed;
     }

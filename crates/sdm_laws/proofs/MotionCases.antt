@@ -69,7 +69,7 @@ steps_meet_where_the_slope_changes = (
 abbrev two_bands : Slopes
 two_bands = meaning_of (record { q = 100; uppers = 8_000 ∷ []; starts = pos 0 ∷ []; slopes = 200_000_000_000 ∷ 100_000_000_000 ∷ [] })
 
--- no step goes from one band into another, however long its way
+-- no step goes from one band into another, however long its distance
 no_step_over_a_border : (p p' : ℤ) →
     IsStep two_bands 1 (record { place = p; square = 10_000 * 10_000 }) (record { place = p'; square = 0 }) → ⊥
 no_step_over_a_border p p' step = neither step.band step.from_band step.to_band

@@ -8,17 +8,17 @@ use Rattle.sdm_rules.specs.declared.data.SlopeKind.{SlopeKind}
 use Rattle.sdm_rules.specs.declared.data.SlopeKind.TheVariants.{Safe, Expected, Normal}
 use Rattle.sdm_rules.specs.declared.faults.OpenFault.{OpenFault}
 use Rattle.sdm_rules.specs.declared.faults.OpenFault.TheVariants.{TooWeak, TooVaried, BadAuthority, Memory}
-use Rattle.sdm_rules.specs.Data.{LineData}
+use Rattle.sdm_rules.specs.Data.{TrainAndTrack}
 use Rattle.sdm_rules.specs.Decelerations.{slope_at, q_of}
 use Rattle.sdm_rules.specs.Opening.{IsStrongAt, IsStrong, IsEven, IsRange, IsAcceptedKind, IsFirstWeak, IsFirstVaried, AreBefore, IsAccepted, IsOpenFault, variation_of}
 
 -- ---- one kind
 
-weak_clash : (kind : SlopeKind) (d : LineData) (band cell : ℕ) (slope : ℤ) → IsFirstWeak kind d band cell slope → IsStrongAt kind d band cell → ⊥
+weak_clash : (kind : SlopeKind) (d : TrainAndTrack) (band cell : ℕ) (slope : ℤ) → IsFirstWeak kind d band cell slope → IsStrongAt kind d band cell → ⊥
 weak_clash kind d band cell slope w strong = omega (arith, ints, w.value, w.weak, strong)
 
 -- a range that is too wide contradicts evenness
-varied_clash : (kind : SlopeKind) (d : LineData) (band : ℕ) (least greatest : ℤ) → IsRange kind d band least greatest → (pos (variation_of d) *ℤ least) <ℤ greatest → IsEven kind d band → ⊥
+varied_clash : (kind : SlopeKind) (d : TrainAndTrack) (band : ℕ) (least greatest : ℤ) → IsRange kind d band least greatest → (pos (variation_of d) *ℤ least) <ℤ greatest → IsEven kind d band → ⊥
 varied_clash kind d band least greatest range varied even =
     let h = even range.high.0 range.low.0 in
     let one = range.high.1 in
@@ -26,13 +26,13 @@ varied_clash kind d band least greatest range varied even =
     let le : greatest ≤ℤ (pos (variation_of d) *ℤ least) = subst (λ (a : ℤ). greatest ≤ℤ (pos (variation_of d) *ℤ a)) two (subst (λ (a : ℤ). a ≤ℤ (pos (variation_of d) *ℤ slope_at kind d band (pos range.low.0))) one h) in
     omega (arith, ints, varied, le)
 
-weak_refuses : (kind : SlopeKind) (d : LineData) (band cell : ℕ) (slope : ℤ) → IsFirstWeak kind d band cell slope → IsAcceptedKind kind d → ⊥
+weak_refuses : (kind : SlopeKind) (d : TrainAndTrack) (band cell : ℕ) (slope : ℤ) → IsFirstWeak kind d band cell slope → IsAcceptedKind kind d → ⊥
 weak_refuses kind d band cell slope w ok = weak_clash kind d band cell slope w (ok.strong band cell w.known)
 
-varied_refuses : (kind : SlopeKind) (d : LineData) (band : ℕ) (least greatest : ℤ) → IsFirstVaried kind d band least greatest → IsAcceptedKind kind d → ⊥
+varied_refuses : (kind : SlopeKind) (d : TrainAndTrack) (band : ℕ) (least greatest : ℤ) → IsFirstVaried kind d band least greatest → IsAcceptedKind kind d → ⊥
 varied_refuses kind d band least greatest w ok = varied_clash kind d band least greatest w.range w.varied (ok.even band w.known)
 
-one_weak_band : (kind : SlopeKind) (d : LineData) (b b' c c' : ℕ) (a a' : ℤ) → IsFirstWeak kind d b c a → IsFirstWeak kind d b' c' a' → b ≡ b'
+one_weak_band : (kind : SlopeKind) (d : TrainAndTrack) (b b' c c' : ℕ) (a a' : ℤ) → IsFirstWeak kind d b c a → IsFirstWeak kind d b' c' a' → b ≡ b'
 one_weak_band kind d b b' c c' a a' w w' = elim (cases_order b b') [
   | inl e ↦ e
   | inr o ↦ elim o [
@@ -41,7 +41,8 @@ one_weak_band kind d b b' c c' a a' w w' = elim (cases_order b b') [
   ]
 ]
 
-one_weak_cell : (kind : SlopeKind) (d : LineData) (b c c' : ℕ) (a a' : ℤ) → IsFirstWeak kind d b c a → IsFirstWeak kind d b c' a' → c ≡ c'
+one_weak_cell : (kind : SlopeKind) (d : TrainAndTrack) (b c c' : ℕ) (a a' : ℤ) → IsFirstWeak kind d b c a → IsFirstWeak kind d b c' a' →
+    c ≡ c'
 one_weak_cell kind d b c c' a a' w w' = elim (cases_order c c') [
   | inl e ↦ e
   | inr o ↦ elim o [
@@ -56,7 +57,7 @@ record IsSameWeak (b b' c c' : ℕ) (a a' : ℤ) : Type 0 where
   cell : c ≡ c'
   slope : a ≡ a'
 
-one_weak : (kind : SlopeKind) (d : LineData) (b b' c c' : ℕ) (a a' : ℤ) → IsFirstWeak kind d b c a → IsFirstWeak kind d b' c' a' → IsSameWeak b b' c c' a a'
+one_weak : (kind : SlopeKind) (d : TrainAndTrack) (b b' c c' : ℕ) (a a' : ℤ) → IsFirstWeak kind d b c a → IsFirstWeak kind d b' c' a' → IsSameWeak b b' c c' a a'
 one_weak kind d b b' c c' a a' w w' =
     let e = one_weak_band kind d b b' c c' a a' w w' in
     let here : IsFirstWeak kind d b c' a' = subst (λ (k : ℕ). IsFirstWeak kind d k c' a') (sym e) w' in
@@ -64,19 +65,19 @@ one_weak kind d b b' c c' a a' w w' =
     let there : IsFirstWeak kind d b c a' = subst (λ (k : ℕ). IsFirstWeak kind d b k a') (sym e') here in
     record { band = e; cell = e'; slope = w.value ∙ sym there.value }
 
-least_once : (kind : SlopeKind) (d : LineData) (b : ℕ) (l l' g g' : ℤ) → IsRange kind d b l g → IsRange kind d b l' g' → l ≡ l'
+least_once : (kind : SlopeKind) (d : TrainAndTrack) (b : ℕ) (l l' g g' : ℤ) → IsRange kind d b l g → IsRange kind d b l' g' → l ≡ l'
 least_once kind d b l l' g g' r r' =
     let one : l ≤ℤ l' = subst (λ (a : ℤ). l ≤ℤ a) r'.low.1 (r.above r'.low.0) in
     let two : l' ≤ℤ l = subst (λ (a : ℤ). l' ≤ℤ a) r.low.1 (r'.above r.low.0) in
     omega (arith, ints)
 
-greatest_once : (kind : SlopeKind) (d : LineData) (b : ℕ) (l l' g g' : ℤ) → IsRange kind d b l g → IsRange kind d b l' g' → g ≡ g'
+greatest_once : (kind : SlopeKind) (d : TrainAndTrack) (b : ℕ) (l l' g g' : ℤ) → IsRange kind d b l g → IsRange kind d b l' g' → g ≡ g'
 greatest_once kind d b l l' g g' r r' =
     let one : g' ≤ℤ g = subst (λ (a : ℤ). a ≤ℤ g) r'.high.1 (r.below r'.high.0) in
     let two : g ≤ℤ g' = subst (λ (a : ℤ). a ≤ℤ g') r.high.1 (r'.below r.high.0) in
     omega (arith, ints)
 
-one_varied_band : (kind : SlopeKind) (d : LineData) (b b' : ℕ) (l l' g g' : ℤ) → IsFirstVaried kind d b l g → IsFirstVaried kind d b' l' g' → b ≡ b'
+one_varied_band : (kind : SlopeKind) (d : TrainAndTrack) (b b' : ℕ) (l l' g g' : ℤ) → IsFirstVaried kind d b l g → IsFirstVaried kind d b' l' g' → b ≡ b'
 one_varied_band kind d b b' l l' g g' w w' = elim (cases_order b b') [
   | inl e ↦ e
   | inr o ↦ elim o [
@@ -88,12 +89,12 @@ one_varied_band kind d b b' l l' g g' w w' = elim (cases_order b b') [
 -- ---- kinds
 
 -- of two kinds one comes first, and the other's faults presume that it is accepted
-data InTurn (d : LineData) (k k' : SlopeKind) : Type 0 where
+data InTurn (d : TrainAndTrack) (k k' : SlopeKind) : Type 0 where
   together : k ≡ k' → InTurn d k k'
   goes_first : (AreBefore k' d → IsAcceptedKind k d) → InTurn d k k'
   goes_last : (AreBefore k d → IsAcceptedKind k' d) → InTurn d k k'
 
-in_turn : (d : LineData) (k k' : SlopeKind) → InTurn d k k'
+in_turn : (d : TrainAndTrack) (k k' : SlopeKind) → InTurn d k k'
 in_turn d Safe Safe = together refl
 in_turn d Safe Expected = goes_first (λ h. h)
 in_turn d Safe Normal = goes_first (λ h. h.0)
@@ -105,7 +106,7 @@ in_turn d Normal Expected = goes_last (λ h. h.1)
 in_turn d Normal Normal = together refl
 
 -- a fact that no accepted kind has, of two kinds: the kinds are one
-one_kind : (d : LineData) (k k' : SlopeKind) → AreBefore k d → AreBefore k' d → (IsAcceptedKind k d → ⊥) → (IsAcceptedKind k' d → ⊥) → k ≡ k'
+one_kind : (d : TrainAndTrack) (k k' : SlopeKind) → AreBefore k d → AreBefore k' d → (IsAcceptedKind k d → ⊥) → (IsAcceptedKind k' d → ⊥) → k ≡ k'
 one_kind d k k' b b' none none' = elim (in_turn d k k') [ together e ↦ e | goes_first f ↦ absurd (none (f b')) | goes_last f ↦ absurd (none' (f b)) ]
 
 -- ---- faults
@@ -116,13 +117,14 @@ same_weak k k' n n' b b' c c' cell cell' a a' e p p' q q' same = let x = same.ba
 same_varied : (k k' : SlopeKind) (n n' b b' : ℕ) (l l' g g' : ℤ) → k ≡ k' → n ≡ suc b → n' ≡ suc b' → b ≡ b' → l ≡ l' → g ≡ g' → TooVaried k n l g ≡ TooVaried k' n' l' g'
 same_varied k k' n n' b b' l l' g g' e p p' x y z = cc
 
-pub not_both : (d : LineData) (a : Authority) (fault : OpenFault) → IsAccepted d a → IsOpenFault d a fault → ⊥
+pub not_both : (d : TrainAndTrack) (a : Authority) (fault : OpenFault) → IsAccepted d a → IsOpenFault d a fault → ⊥
 not_both d a (TooWeak kind band cell slope) ok (before, (b, is, (c, at, w))) = weak_refuses kind d b c slope w (ok.0 kind)
 not_both d a (TooVaried kind band least greatest) ok (before, (b, is, w)) = varied_refuses kind d b least greatest w (ok.0 kind)
 not_both d a (BadAuthority fault) ok (usable, e) = let f = ok.1 in absurd (cc)
 not_both d a Memory ok h = absurd h
 
-pub one_fault : (d : LineData) (a : Authority) (fault fault' : OpenFault) → IsOpenFault d a fault → IsOpenFault d a fault' → fault ≡ fault'
+pub one_fault : (d : TrainAndTrack) (a : Authority) (fault fault' : OpenFault) → IsOpenFault d a fault → IsOpenFault d a fault' →
+    fault ≡ fault'
 one_fault d a (TooWeak k n cell x) (TooWeak k' n' cell' x') (before, (b, is, (c, at, w))) (before', (b', is', (c', at', w'))) =
     let e = one_kind d k k' before before' (weak_refuses k d b c x w) (weak_refuses k' d b' c' x' w') in
     same_weak k k' n n' b b' c c' cell cell' x x' e is is' at at' (one_weak k d b b' c c' x x' w (subst (λ (j : SlopeKind). IsFirstWeak j d b' c' x') (sym e) w'))

@@ -5,7 +5,7 @@ use Rattle.sdm_rules.specs.declared.authorities.Authority.{Authority}
 use Rattle.sdm_rules.specs.declared.faults.DataFault.{DataFault}
 use Rattle.sdm_rules.specs.declared.faults.OpenFault.{OpenFault}
 use Rattle.sdm_rules.specs.declared.rows.Row.{Row}
-use Rattle.sdm_rules.specs.Data.{LineData}
+use Rattle.sdm_rules.specs.Data.{TrainAndTrack}
 use Rattle.sdm_rules.specs.Supervision.{opening}
 use Rattle.sdm_rules.specs.Records.{journey_from}
 use Rattle.sdm_rules.specs.Opening.{IsAccepted, IsOpenFault}
@@ -26,7 +26,7 @@ ends : (end : End) → Meaning (λ rows e. (rows ≡ []) × (e ≡ end))
 ends end = ([], (end, ((refl, refl), λ rows' end' h. h)))
 
 module _ {Table Fields : Type 0} (reader : Reader Table Fields) where
-  opened : (d : LineData) (a : Authority) (records : List Fields) → IsAccepted d a ⊎ ((fault : OpenFault) × IsOpenFault d a fault) → Meaning (λ rows end. IsAfterData reader rows end records (Ok (d, a)))
+  opened : (d : TrainAndTrack) (a : Authority) (records : List Fields) → IsAccepted d a ⊎ ((fault : OpenFault) × IsOpenFault d a fault) → Meaning (λ rows end. IsAfterData reader rows end records (Ok (d, a)))
   opened d a records (inl accepted) =
       let journey = journey_from reader.form 1 (opening d a) records in (
         journey.rows,
@@ -55,7 +55,7 @@ module _ {Table Fields : Type 0} (reader : Reader Table Fields) where
     ),
   )
 
-  after_data : (records : List Fields) (r : Result (LineData × Authority) DataFault) → Meaning (λ rows end. IsAfterData reader rows end records r)
+  after_data : (records : List Fields) (r : Result (TrainAndTrack × Authority) DataFault) → Meaning (λ rows end. IsAfterData reader rows end records r)
   after_data records (Err fault) = ends (Data fault)
   after_data records (Ok x) = opened x.0 x.1 records (decided x.0 x.1)
 

@@ -8,30 +8,30 @@ use Rattle.sdm_rules.specs.declared.data.SlopeKind.TheVariants.{Safe, Expected, 
 use Rattle.sdm_rules.specs.Decelerations.{slope_at}
 use Rattle.sdm_rules.specs.Opening.{IsAcceptedKind, IsStrong, IsEven, IsOpen}
 use Rattle.sdm_rules.specs.Headline.{IsSupervised}
-use Rattle.sdm_rules.proofs.Journeys.{plain_band, plain_national, plain_line}
+use Rattle.sdm_rules.proofs.Journeys.{plain_band, plain_national, plain_train_and_track}
 use Rattle.sdm_rules.proofs.RowCases.{short}
 use Rattle.sdm_laws.proofs.Headline.{supervision}
 
-short_slope : (kind : SlopeKind) (cell : ℕ) → slope_at kind short.line 0 (pos cell) ≡ pos 200_000_000_000
-unfolding short plain_line plain_national plain_band slope_at
+short_slope : (kind : SlopeKind) (cell : ℕ) → slope_at kind short.train_and_track 0 (pos cell) ≡ pos 200_000_000_000
+unfolding short plain_train_and_track plain_national plain_band slope_at
 short_slope Safe cell = refl
 short_slope Expected cell = refl
 short_slope Normal cell = refl
 
-short_accepted : (kind : SlopeKind) → IsAcceptedKind kind short.line
-unfolding short plain_line plain_national plain_band
+short_accepted : (kind : SlopeKind) → IsAcceptedKind kind short.train_and_track
+unfolding short plain_train_and_track plain_national plain_band
 short_accepted kind = record { strong = strong; even = even }
   where
-    strong : IsStrong kind short.line
+    strong : IsStrong kind short.train_and_track
     strong zero cell l = rw (short_slope kind cell) (omega (arith, ints))
     strong (suc band) cell l = absurd (omega arith)
 
-    even : (band : ℕ) → band < 1 → IsEven kind short.line band
+    even : (band : ℕ) → band < 1 → IsEven kind short.train_and_track band
     even zero l cell cell' = rw (short_slope kind cell, short_slope kind cell') (omega (arith, ints))
     even (suc band) l cell cell' = absurd (omega arith)
 
 short_open : IsOpen short
-unfolding short plain_line plain_national plain_band
+unfolding short plain_train_and_track plain_national plain_band
 short_open = record { bands = record { few = omega arith; in_order = refl }; usable = short_accepted }
 
 short_supervised : (r : OdometerReading) → IsSupervised short r

@@ -15,20 +15,21 @@ use Rattle.sdm_rules.specs.Slopes.{Slopes}
 use Rattle.sdm_rules.specs.Motion.{AreSlices, IsMotion, time_of, IsIn, slice_ends, last_point}
 use Rattle.sdm_rules.specs.Reaction.{build_up_of, v_cut_off, v_bec, d_bec}
 use Rattle.sdm_laws.specs.MotionLaws.{IsBounded, IsInReach}
-use Rattle.sdm_laws.proofs.SliceBounds.{last_speed, way_of, phase_speed, phase_way, ends_bounded, slices_split, last_speed-append, way_of-append, slice_ends-append, last_end}
+use Rattle.sdm_laws.proofs.SliceBounds.{last_speed, distance_of, phase_speed, phase_distance, ends_bounded, slices_split, last_speed-append, distance_of-append, slice_ends-append, last_end}
 
 -- ---- one phase at a scale, over plain numbers
 
 speed_at_scale : (s speed accel time v : ℕ) → v ≤ s * speed → v + 54 * accel * (s * time) ≤ s * (speed + 54 * accel * time)
 speed_at_scale s speed accel time v h = omega arith
 
-way_at_scale : (s speed accel time v way : ℕ) → v ≤ s * speed → 2 * way ≤ 1_000_000 * (2 * v + 54 * accel * (s * time)) * (s * time) →
-    way ≤ s * s * (1_000_000 * ((speed + 27 * accel * time) * time))
-way_at_scale s speed accel time v way h k = omega (arith, mul-le-mul_left (s * time) h)
+distance_at_scale : (s speed accel time v distance : ℕ) → v ≤ s * speed →
+    2 * distance ≤ 1_000_000 * (2 * v + 54 * accel * (s * time)) * (s * time) →
+    distance ≤ s * s * (1_000_000 * ((speed + 27 * accel * time) * time))
+distance_at_scale s speed accel time v distance h k = omega (arith, mul-le-mul_left (s * time) h)
 
-both_ways : (s mean at_least time rest way way' : ℕ) → mean ≤ at_least → way ≤ s * s * (1_000_000 * (mean * time)) →
-    way' ≤ s * s * (1_000_000 * rest) → way + way' ≤ s * s * (1_000_000 * (at_least * time + rest))
-both_ways s mean at_least time rest way way' h k k' = omega (arith, mul-le-mul_left (s * s * time) h)
+both_distances : (s mean at_least time rest distance distance' : ℕ) → mean ≤ at_least → distance ≤ s * s * (1_000_000 * (mean * time)) →
+    distance' ≤ s * s * (1_000_000 * rest) → distance + distance' ≤ s * s * (1_000_000 * (at_least * time + rest))
+both_distances s mean at_least time rest distance distance' h k k' = omega (arith, mul-le-mul_left (s * s * time) h)
 
 -- ---- both phases
 
@@ -53,24 +54,24 @@ module _ (s : ℕ) (start : Start) (target : ℕ) (p : ℤ) (v : ℕ) (traction 
   braking_speed : last_speed v traction + 54 * start.accel2 * time_of build ≤ s * v_bec (build_up_of start) target
   braking_speed = rw build_time (speed_at_scale s (v_cut_off (build_up_of start) target) start.accel2 start.berem (last_speed v traction) cut_off_last)
 
-  -- the way until then
-  whole_way : way_of (traction ++ build) ≤ s * s * d_bec (build_up_of start) target
-  whole_way =
+  -- the distance until then
+  whole_distance : distance_of (traction ++ build) ≤ s * s * d_bec (build_up_of start) target
+  whole_distance =
       let top = v_cut_off (build_up_of start) target in
       let mean = start.speed + 27 * start.accel1 * start.traction in
-      let one = rw traction_time at (phase_way start Traction v traction parts.0 in_traction) in
-      let two = rw build_time at (phase_way start Build (last_speed v traction) build parts.1 in_build) in
-      let traction_way = way_at_scale s start.speed start.accel1 start.traction v (way_of traction) slow one in
-      let build_way = way_at_scale s top start.accel2 start.berem (last_speed v traction) (way_of build) cut_off_last two in
-      rw way_of-append (both_ways s mean (max mean target) start.traction _ (way_of traction) (way_of build) (omega arith) traction_way build_way)
+      let one = rw traction_time at (phase_distance start Traction v traction parts.0 in_traction) in
+      let two = rw build_time at (phase_distance start Build (last_speed v traction) build parts.1 in_build) in
+      let traction_distance = distance_at_scale s start.speed start.accel1 start.traction v (distance_of traction) slow one in
+      let build_distance = distance_at_scale s top start.accel2 start.berem (last_speed v traction) (distance_of build) cut_off_last two in
+      rw distance_of-append (both_distances s mean (max mean target) start.traction _ (distance_of traction) (distance_of build) (omega arith) traction_distance build_distance)
 
   ends_in_reach : All (IsInReach s start target p) (slice_ends p v (traction ++ build))
   ends_in_reach =
       let q = p +ℤ pos (s * s * d_bec (build_up_of start) target) in
       let b = s * v_bec (build_up_of start) target in
-      let middle = p +ℤ pos (way_of traction) in
-      let sum = way_of-append traction build in
-      let far = whole_way in
+      let middle = p +ℤ pos (distance_of traction) in
+      let sum = distance_of-append traction build in
+      let far = whole_distance in
       let rises : s * v_cut_off (build_up_of start) target ≤ b = mul-le-mul_left s (omega arith) in
       let cut_off = cut_off_speed in
       let one = ends_bounded start Traction p q v b traction parts.0 in_traction (omega arith) (omega (arith, ints)) in
@@ -79,7 +80,7 @@ module _ (s : ℕ) (start : Start) (target : ℕ) (p : ℤ) (v : ℕ) (traction 
 
   last_in_reach : IsInReach s start target p (last_point (record { place = p; square = v * v }) (slice_ends p v (traction ++ build)))
   last_in_reach =
-      let far = whole_way in
+      let far = whole_distance in
       let speed = phase_speed start Build (last_speed v traction) build parts.1 in_build in
       let last : last_speed v (traction ++ build) ≤ s * v_bec (build_up_of start) target = rw last_speed-append (omega (arith, speed, braking_speed)) in
       rw (last_end p v (traction ++ build)) (record { place = omega (arith, ints); square = mul-le _ _ _ _ last last })

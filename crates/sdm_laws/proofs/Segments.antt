@@ -1,5 +1,5 @@
 -- The segment of a cell in starts that rise: the starts at most the cell are the first ones, so their count tells it. In a
--- segment each band has one slope, so energies go with ways there.
+-- segment each band has one slope, so energies go with distances there.
 use Rattle.std.proofs.Common.{◌≡◌, ℕ, ℤ, zero, suc, pos, cond, List, [], ◌∷◌, length, get_or, slice_index, ◌+◌, ◌-◌, ◌*◌, ◌<◌, ◌≤◌, ◌+ℤ◌, ◌≤ℤ◌, ◌<ℤ◌, int_le, ap, arith, refl, ◌∙◌}
 use Rattle.std.proofs.lemmas.Int.{ints, by_lt_z}
 use Rattle.std.proofs.lemmas.List.Sums.{sum_by-cons}
@@ -98,24 +98,24 @@ pub slope_in_segment : (map : SlopeMap) (band : ℕ) (c : ℤ) (i : ℕ) → IsR
     (meaning_of map).slope band c ≡ slice_index map.slopes (band * length map.starts + i)
 slope_in_segment map band c i rising h = ap (λ (j : ℕ). slice_index map.slopes (band * length map.starts + j)) (segment_is map.starts c i rising h)
 
--- the way from `p` to `p'` lies in the segment; the first one has no beginning
-pub record IsWayInSegment (m : ℕ) (starts : List ℤ) (i : ℕ) (p p' : ℤ) : Type 0 where
+-- the stretch from `p` to `p'` lies in the segment; the first one has no beginning
+pub record IsDistanceInSegment (m : ℕ) (starts : List ℤ) (i : ℕ) (p p' : ℤ) : Type 0 where
   pub known : i < length starts
   pub low : 0 < i → cell_start m (get_or starts i (pos 0)) ≤ℤ p
   pub high : (k : ℕ) → i < k → k < length starts → p' ≤ℤ cell_start m (get_or starts k (pos 0))
 
 -- so each of its steps does
 step_in_segment : (m : ℕ) (starts : List ℤ) (i : ℕ) (p p' : ℤ) (d k : ℕ) → 0 < m → p' ≡ p +ℤ pos d → k < d →
-    IsWayInSegment m starts i p p' → IsInSegment starts (cell_at m (p +ℤ pos k)) i
-step_in_segment m starts i p p' d k m_pos way lt h = record {
+    IsDistanceInSegment m starts i p p' → IsInSegment starts (cell_at m (p +ℤ pos k)) i
+step_in_segment m starts i p p' d k m_pos distance lt h = record {
   known = h.known;
   low = λ some. cell_reaches m _ _ m_pos (omega (arith, ints, h.low some));
   high = λ j l known. cell_stays m _ _ m_pos (omega (arith, ints, h.high j l known));
 }
 
 pub energy_in_segment : (map : SlopeMap) (band m i : ℕ) (p p' : ℤ) (d : ℕ) → 0 < m → IsRising map.starts →
-    IsWayInSegment m map.starts i p p' → p' ≡ p +ℤ pos d →
+    IsDistanceInSegment m map.starts i p p' → p' ≡ p +ℤ pos d →
     energy (meaning_of map) band m p d ≡ slice_index map.slopes (band * length map.starts + i) * d
-energy_in_segment map band m i p p' d m_pos rising h way =
+energy_in_segment map band m i p p' d m_pos rising h distance =
     total_const (λ k. (meaning_of map).slope band (cell_at m (p +ℤ pos k))) (slice_index map.slopes (band * length map.starts + i)) d
-    (λ k lt. slope_in_segment map band (cell_at m (p +ℤ pos k)) i rising (step_in_segment m map.starts i p p' d k m_pos way lt h))
+    (λ k lt. slope_in_segment map band (cell_at m (p +ℤ pos k)) i rising (step_in_segment m map.starts i p p' d k m_pos distance lt h))

@@ -10,7 +10,7 @@ use Rattle.sdm_rules.specs.declared.data.Area.{Area}
 use Rattle.sdm_rules.specs.declared.data.Gradient.{Gradient}
 use Rattle.sdm_rules.specs.declared.data.SlopeKind.{SlopeKind}
 use Rattle.sdm_rules.specs.Cells.{lowest, last_at}
-use Rattle.sdm_rules.specs.Data.{LineData, TrackData}
+use Rattle.sdm_rules.specs.Data.{TrainAndTrack, TrackData}
 use Rattle.sdm_rules.specs.Decelerations.{track_gradient, is_in_force, under_train, slope_at}
 
 -- ---- gradients
@@ -54,7 +54,7 @@ none_in_force length_cm (a ∷ more) c h =
 -- ---- slopes
 
 -- from this cell on nothing changes
-abbrev pub settled_from : LineData → ℕ
+abbrev pub settled_from : TrainAndTrack → ℕ
 settled_from d = past_starts d.track.gradients + past_areas d.train.length_cm d.track.areas + 2 * unsigned_abs d.train.length_cm
 
 under_settled : (track : TrackData) (length_cm : ℤ) (c c' : ℤ) → pos (past_starts track.gradients + past_areas length_cm track.areas + 2 * unsigned_abs length_cm) ≤ℤ c →
@@ -68,7 +68,7 @@ under_settled track length_cm c c' h h' =
 from_0 : (c : ℕ) → int_max (pos c) (pos 0) ≡ pos c
 from_0 c = omega (arith, ints, clamps)
 
-pub slope_settled : (kind : SlopeKind) (d : LineData) (band c c' : ℕ) → settled_from d ≤ c → settled_from d ≤ c' → slope_at kind d band (pos c) ≡ slope_at kind d band (pos c')
+pub slope_settled : (kind : SlopeKind) (d : TrainAndTrack) (band c c' : ℕ) → settled_from d ≤ c → settled_from d ≤ c' → slope_at kind d band (pos c) ≡ slope_at kind d band (pos c')
 unfolding slope_at
 slope_settled kind d band c c' h h' =
     let same = under_settled d.track d.train.length_cm (pos c) (pos c') (omega (arith, ints)) (omega (arith, ints)) in

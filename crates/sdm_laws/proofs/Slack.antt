@@ -10,7 +10,7 @@ use Rattle.sdm_num.proofs.Ints.{scale-+ℤ, scale-≤}
 use Rattle.sdm_num.proofs.Floors.{floor_low, floor_high}
 use Rattle.sdm_num.proofs.Order.{at_most_refl, at_most_trans, at_most_in}
 use Rattle.sdm_rules.specs.Slopes.{Slopes, IsUsable, bands_of, most_bands, variation}
-use Rattle.sdm_rules.specs.Curves.{arc_back, arc_forward, upper_square, climb, descend, as_is, to_grain, place_at, exact_at, exact, stepped, slack_after, most_slack}
+use Rattle.sdm_rules.specs.Curves.{arc_back, arc_forward, upper_square, back_through_bands, forward_through_bands, as_is, to_grain, place_at, exact_at, exact, stepped, slack_after, most_slack}
 use Rattle.sdm_laws.specs.CurveLaws.{slack_of, IsRounded}
 use Rattle.sdm_laws.proofs.Energy.{IsPositive, IsEven}
 use Rattle.sdm_laws.proofs.CommonSteps.{IsPastBy, past_more}
@@ -78,38 +78,40 @@ module _ (on : Slopes) (s k : ℕ) (s_pos : 0 < s) (fair : AreFair on k) where
 
   -- back through the bands
   climb_past : (left band : ℕ) (x x' : Fraction) (u z e : ℕ) → band + left ≤ length on.uppers → IsPastBy x x' e →
-      IsPastBy (climb as_is on s left band x u z) (whole (floor (climb to_grain on s left band x' u z))) (slack_after k (suc left) e)
+      IsPastBy (back_through_bands as_is on s left band x u z) (whole (floor (back_through_bands to_grain on s left band x' u z)))
+          (slack_after k (suc left) e)
   climb_past zero band x x' u z e known past = past_floor _ _ (k * e) (back_past band (z - u) x x' e (omega arith) past)
   climb_past (suc left) band x x' u z e known past =
-      let border = upper_square on s band in
+      let upper = upper_square on s band in
       let here : band ≤ length on.uppers = omega arith in
       let next : (band + 1) + left ≤ length on.uppers = omega arith in
-      elim (cases_lt u border) [
+      elim (cases_lt u upper) [
         | inr ge ↦ rw (climb_skip as_is on s left band x u z ge, climb_skip to_grain on s left band x' u z ge)
             (past_more _ _ _ _ (climb_past left (band + 1) x x' u z e next past) (slack_more k (suc left) e fair.some))
-        | inl lt ↦ elim (cases_lt border z) [
+        | inl lt ↦ elim (cases_lt upper z) [
           | inr below ↦ rw (climb_stop as_is on s left band x u z lt below, climb_stop to_grain on s left band x' u z lt below)
               (past_more _ _ _ _ (past_floor _ _ (k * e) (back_past band (z - u) x x' e here past)) (slack_above k (suc left) (k * e + 1) fair.some))
           | inl further ↦ rw (climb_on as_is on s left band x u z lt further, climb_on to_grain on s left band x' u z lt further)
-              (climb_past left (band + 1) _ _ border z (k * e + 1) next (past_floor _ _ (k * e) (back_past band (border - u) x x' e here past)))
+              (climb_past left (band + 1) _ _ upper z (k * e + 1) next (past_floor _ _ (k * e) (back_past band (upper - u) x x' e here past)))
         ]
       ]
 
   -- and forward
   descend_past : (band : ℕ) (x x' : Fraction) (u z e : ℕ) → band ≤ length on.uppers → IsPastBy x x' e →
-      IsPastBy (descend as_is on s band x u z) (whole (floor (descend to_grain on s band x' u z))) (slack_after k (suc band) e)
+      IsPastBy (forward_through_bands as_is on s band x u z) (whole (floor (forward_through_bands to_grain on s band x' u z)))
+          (slack_after k (suc band) e)
   descend_past zero x x' u z e known past = past_floor _ _ (k * e) (forward_past zero (u - z) x x' e known past)
   descend_past (suc band) x x' u z e known past =
-      let border = upper_square on s band in
+      let upper = upper_square on s band in
       let next : band ≤ length on.uppers = omega arith in
-      elim (cases_lt border u) [
+      elim (cases_lt upper u) [
         | inr ge ↦ rw (descend_skip as_is on s band x u z ge, descend_skip to_grain on s band x' u z ge)
             (past_more _ _ _ _ (descend_past band x x' u z e next past) (slack_more k (suc band) e fair.some))
-        | inl lt ↦ elim (cases_lt z border) [
+        | inl lt ↦ elim (cases_lt z upper) [
           | inr above ↦ rw (descend_stop as_is on s band x u z lt above, descend_stop to_grain on s band x' u z lt above)
               (past_more _ _ _ _ (past_floor _ _ (k * e) (forward_past (suc band) (u - z) x x' e known past)) (slack_above k (suc band) (k * e + 1) fair.some))
           | inl further ↦ rw (descend_on as_is on s band x u z lt further, descend_on to_grain on s band x' u z lt further)
-              (descend_past band _ _ border z (k * e + 1) next (past_floor _ _ (k * e) (forward_past (suc band) (u - border) x x' e known past)))
+              (descend_past band _ _ upper z (k * e + 1) next (past_floor _ _ (k * e) (forward_past (suc band) (u - upper) x x' e known past)))
         ]
       ]
 

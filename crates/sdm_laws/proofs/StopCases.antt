@@ -14,19 +14,19 @@ use Rattle.sdm_rules.specs.declared.motions.Point.{Point}
 use Rattle.sdm_rules.specs.declared.motions.Slice.{Slice}
 use Rattle.sdm_rules.specs.declared.motions.Start.{Start}
 use Rattle.sdm_rules.specs.Slopes.{Slopes}
-use Rattle.sdm_rules.specs.Data.{LineData}
+use Rattle.sdm_rules.specs.Data.{TrainAndTrack}
 use Rattle.sdm_rules.specs.Decelerations.{slope_at, slopes_of}
 use Rattle.sdm_rules.specs.Motion.{AreSlices, BrakesAtLeast, IsBraking, IsIn, IsInBand, IsStep}
-use Rattle.sdm_rules.specs.Reaction.{line_times, start_of}
+use Rattle.sdm_rules.specs.Reaction.{reaction_times, reaction_start}
 use Rattle.sdm_rules.specs.Stop.{IsMotionOn}
-use Rattle.sdm_rules.proofs.Journeys.{plain_band, plain_national, plain_line, reading_at}
+use Rattle.sdm_rules.proofs.Journeys.{plain_band, plain_national, plain_train_and_track, reading_at}
 
 -- ---- the start of motions
 
 -- a train with a cut-off of 2 s at an interface, an emergency brake of 3 s and a service brake of 4 s
-timed_line : Bool → LineData
+timed_line : Bool → TrainAndTrack
 timed_line inhibited =
-    let line = plain_line (pos 20_000) None plain_band [] [] in
+    let line = plain_train_and_track (pos 20_000) None plain_band [] [] in
     record line {
       train = record (line.train) { cut_off_time = pos 20; cut_off_interface = true; emergency_time = pos 30; service_time = pos 40 };
       national = record (line.national) { inhibit_under_reading = inhibited };
@@ -38,20 +38,20 @@ gaining_reading = record { time = 0; est = pos (3_300_000 * millimetre); min = p
 
 -- the under-reading amount adds to the speed; after the cut-off at most 0.4 m/s² are gained; the traction is off within the 2 s from the
 -- warning and the 4 s of the service brake, so the whole 3 s are the emergency brake's
-start_with_under_reading : start_of (timed_line false) gaining_reading ≡ record { front = pos 1_784_700_000_000_000; speed = 2_187_000; accel1 = 50; accel2 = 40; traction = 0; berem = 30 }
-unfolding timed_line plain_line plain_national gaining_reading line_times
+start_with_under_reading : reaction_start (timed_line false) gaining_reading ≡ record { front = pos 1_784_700_000_000_000; speed = 2_187_000; accel1 = 50; accel2 = 40; traction = 0; berem = 30 }
+unfolding timed_line plain_train_and_track plain_national gaining_reading reaction_times
 start_with_under_reading = refl
 
 -- where the compensation is inhibited it doesn't
-start_without_under_reading : start_of (timed_line true) gaining_reading ≡ record { front = pos 1_784_700_000_000_000; speed = 2_160_000; accel1 = 50; accel2 = 40; traction = 0; berem = 30 }
-unfolding timed_line plain_line plain_national gaining_reading line_times
+start_without_under_reading : reaction_start (timed_line true) gaining_reading ≡ record { front = pos 1_784_700_000_000_000; speed = 2_160_000; accel1 = 50; accel2 = 40; traction = 0; berem = 30 }
+unfolding timed_line plain_train_and_track plain_national gaining_reading reaction_times
 start_without_under_reading = refl
 
 -- ---- a motion from a reading
 
-braked_line : LineData
+braked_line : TrainAndTrack
 braked_line =
-    let line = plain_line (pos 10_000) (Some (pos 0)) plain_band [] [] in
+    let line = plain_train_and_track (pos 10_000) (Some (pos 0)) plain_band [] [] in
     record line { train = record (line.train) { emergency_time = pos 20 } }
 
 reading_at_760_m : OdometerReading
@@ -66,14 +66,14 @@ plain_slopes : Slopes
 plain_slopes = record { q = 100; uppers = []; slope = plain_slope }
 
 each_slope : (band : ℕ) (cell : ℤ) → unsigned_abs (slope_at Safe braked_line band cell) ≡ plain_slope band cell
-unfolding braked_line plain_line plain_national plain_band slope_at plain_slope
+unfolding braked_line plain_train_and_track plain_national plain_band slope_at plain_slope
 each_slope zero (pos cell) = refl
 each_slope zero (negsuc cell) = refl
 each_slope (suc band) (pos cell) = refl
 each_slope (suc band) (negsuc cell) = refl
 
 safe_slopes : slopes_of Safe braked_line ≡ plain_slopes
-unfolding braked_line plain_line plain_band slopes_of plain_slopes
+unfolding braked_line plain_train_and_track plain_band slopes_of plain_slopes
 safe_slopes = ap (λ f. record { q = 100; uppers = []; slope = f }) (fun_ext (λ band. fun_ext (λ cell. each_slope band cell)))
 
 -- 40 m while the brake builds up
@@ -111,8 +111,8 @@ a_step : (x y : Point) → BrakesAtLeast plain_slopes 200_000_000_000 x.place x.
 unfolding plain_slopes plain_slope
 a_step x y brakes = record { band = 0; slope = 200_000_000_000; from_band = in_the_band x.square; to_band = in_the_band y.square; one_slope = λ cell part. refl; brakes = brakes }
 
-the_slices : AreSlices (start_of braked_line reading_at_760_m) 1_080_000 before_braking
-unfolding braked_line plain_line plain_national reading_at_760_m reading_at line_times before_braking
+the_slices : AreSlices (reaction_start braked_line reading_at_760_m) 1_080_000 before_braking
+unfolding braked_line plain_train_and_track plain_national reading_at_760_m reading_at reaction_times before_braking
 the_slices = (record { gains = omega arith; moves = omega arith }, (record { gains = omega arith; moves = omega arith }, (record { gains = omega arith; moves = omega arith }, tt)))
 
 the_braking : IsBraking plain_slopes 1 at_800_m braking
@@ -126,8 +126,8 @@ the_braking = (
 )
 
 -- it stops at the SvL to the grain
-stops_at_the_svl : IsMotionOn (slopes_of Safe braked_line) (start_of braked_line reading_at_760_m) 1 (pos 410_400_000_000_000) 1_080_000 before_braking at_800_m braking
-unfolding braked_line plain_line plain_national reading_at_760_m reading_at line_times before_braking at_800_m
+stops_at_the_svl : IsMotionOn (slopes_of Safe braked_line) (reaction_start braked_line reading_at_760_m) 1 (pos 410_400_000_000_000) 1_080_000 before_braking at_800_m braking
+unfolding braked_line plain_train_and_track plain_national reading_at_760_m reading_at reaction_times before_braking at_800_m
 stops_at_the_svl = rw safe_slopes (
   omega arith,
   record {

@@ -10,12 +10,12 @@ use Rattle.sdm_rules.specs.declared.motions.Point.{Point}
 use Rattle.sdm_rules.specs.Slopes.{Slopes, IsUsable}
 use Rattle.sdm_rules.specs.Curves.{exact_at}
 use Rattle.sdm_rules.specs.Motion.{IsBraking}
-use Rattle.sdm_laws.specs.MotionLaws.{IsBounded, IsWithin}
+use Rattle.sdm_laws.specs.MotionLaws.{IsBounded, IsWithinCurve}
 use Rattle.sdm_laws.proofs.CurveOrder.{exact_positive, exact_falls}
 use Rattle.sdm_laws.proofs.CurveNearness.{scaled_within}
 
 pub within_first : (on : Slopes) → IsUsable on → (s : ℕ) (f : ℤ) (w v d : ℕ) (front p : ℤ) (x : Point) → 0 < s * s →
-    IsAtMost (whole (front +ℤ pos d)) (exact_at on 1 f w (v * v)) → p ≤ℤ (pos (s * s) *ℤ front) → IsBounded (p +ℤ pos (s * s * d)) (s * v) x → IsWithin on (s * s) f w x
+    IsAtMost (whole (front +ℤ pos d)) (exact_at on 1 f w (v * v)) → p ≤ℤ (pos (s * s) *ℤ front) → IsBounded (p +ℤ pos (s * s * d)) (s * v) x → IsWithinCurve on (s * s) f w x
 within_first on usable s f w v d front p x pos_m h begins b =
     let m = s * s in
     let y = exact_at on m f w (m * (v * v)) in

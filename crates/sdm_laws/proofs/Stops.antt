@@ -22,19 +22,19 @@ use Rattle.sdm_rules.specs.declared.authorities.Authority.TheVariants.{Stop}
 use Rattle.sdm_rules.specs.declared.targets.Target.{Target}
 use Rattle.sdm_rules.specs.declared.targets.TargetKind.{TargetKind}
 use Rattle.sdm_rules.specs.declared.targets.TargetKind.TheVariants.{Mrsp, Loa, Eoa, Svl}
-use Rattle.sdm_rules.specs.Cells.{border_of}
+use Rattle.sdm_rules.specs.Cells.{place_of_cell}
 use Rattle.sdm_rules.specs.Slopes.{Slopes, IsUsable}
 use Rattle.sdm_rules.specs.Curves.{exact_at, exact, stepped}
 use Rattle.sdm_rules.specs.Motion.{IsBy, KeepsTo, slice_ends}
-use Rattle.sdm_rules.specs.Data.{LineData}
+use Rattle.sdm_rules.specs.Data.{TrainAndTrack}
 use Rattle.sdm_rules.specs.Decelerations.{slopes_of}
 use Rattle.sdm_rules.specs.Targets.{targets_of, falls_ahead, ends_of, target_speed, foot_speed_of}
-use Rattle.sdm_rules.specs.Reaction.{start_of}
+use Rattle.sdm_rules.specs.Reaction.{reaction_start}
 use Rattle.sdm_rules.specs.Limits.{computed, limits_of, limits_of_kind, v_bec_for, d_bec_for}
 use Rattle.sdm_rules.specs.Triggers.{is_past}
 use Rattle.sdm_rules.specs.Supervision.{Supervision, situation_of, profile_of, row_of, row_in, is_covered_in, is_covered_for, is_met_by_speed}
 use Rattle.sdm_rules.specs.Stop.{IsMotionOn, StopsBySvl, MeetsTarget, IsSpeedTarget, IsSafe}
-use Rattle.sdm_laws.specs.MotionLaws.{IsBounded, IsHeld}
+use Rattle.sdm_laws.specs.MotionLaws.{IsBounded, IsHeldByCurve}
 use Rattle.sdm_laws.proofs.CurveNearness.{near_on}
 use Rattle.sdm_laws.proofs.Braking.{within_held, each_held}
 use Rattle.sdm_laws.proofs.MachineOrder.{AreUsable}
@@ -53,13 +53,13 @@ all_of p (x ∷ xs) t e (zero, lt, is) = subst (λ (y : Target). p y ≡ true) i
 all_of p (x ∷ xs) t e (suc k, lt, is) = all_of p xs t (and_parts (p x) (list_all p xs) e).1 (k, omega arith, is)
 
 svl_at : ℕ → Target
-svl_at svl = record { kind = Svl; place = border_of (pos svl); speed = 0 }
+svl_at svl = record { kind = Svl; place = place_of_cell (pos svl); speed = 0 }
 
 all_svl : (p : Target → Bool) (profile : ℤ → ℕ) (front : ℤ) (eoa svl release : ℕ) → list_all p (targets_of profile (Stop eoa svl release) front false) ≡ true → p (svl_at svl) ≡ true
 unfolding targets_of svl_at
 all_svl p profile front eoa svl release e =
     let k = all_right p (falls_ahead profile front eoa) (ends_of (Stop eoa svl release) false) e in
-    (and_parts (p (svl_at svl)) true (and_parts (p (record { kind = Eoa; place = border_of (pos eoa); speed = 0 })) (p (svl_at svl) && true) k).1).0
+    (and_parts (p (svl_at svl)) true (and_parts (p (record { kind = Eoa; place = place_of_cell (pos eoa); speed = 0 })) (p (svl_at svl) && true) k).1).0
 
 -- ---- one target
 
@@ -84,22 +84,22 @@ all_join : (P : Point → Type 0) (xs ys : List Point) → AllByRecursion P xs �
 all_join P [] ys h k = k
 all_join P (x ∷ xs) ys h k = (h.0, all_join P xs ys h.1 k)
 
-module _ (d : LineData) (usable : IsUsable (slopes_of Safe d)) (r : OdometerReading) (t : Target)
-    (s : ℕ) (p : ℤ) (v : ℕ) (xs : List Slice) (first : Point) (more : List Point) (m : IsMotionOn (slopes_of Safe d) (start_of d r) s p v xs first more) where
+module _ (d : TrainAndTrack) (usable : IsUsable (slopes_of Safe d)) (r : OdometerReading) (t : Target)
+    (s : ℕ) (p : ℤ) (v : ℕ) (xs : List Slice) (first : Point) (more : List Point) (m : IsMotionOn (slopes_of Safe d) (reaction_start d r) s p v xs first more) where
   pos_m : 0 < s * s
   pos_m = let h = m.0 in omega (arith, mul-le-mul_left s h)
 
   -- the ends of slices and the first braking point are within D_bec and V_bec
   bounds : AllByRecursion (IsBounded (p +ℤ pos (s * s * d_bec_for d r t)) (s * v_bec_for d r t)) (slice_ends p v xs ++ first ∷ [])
-  bounds = each_in_reach s (start_of d r) (slopes_of Safe d) (target_speed t) p v xs first more m.1.motion m.1.speed
+  bounds = each_in_reach s (reaction_start d r) (slopes_of Safe d) (target_speed t) p v xs first more m.1.motion m.1.speed
 
   -- where the front end is at or before the EBI on a curve from the target, the whole motion is held by that curve
   held_by_curve : is_past 0 r.max (less (computed (slopes_of Safe d) t.place (foot_speed_of t) (v_bec_for d r t)) (d_bec_for d r t)) ≡ false →
-      AllByRecursion (IsHeld (slopes_of Safe d) (s * s) t.place (foot_speed_of t)) (slice_ends p v xs ++ first ∷ more)
+      AllByRecursion (IsHeldByCurve (slopes_of Safe d) (s * s) t.place (foot_speed_of t)) (slice_ends p v xs ++ first ∷ more)
   held_by_curve e =
       let on = slopes_of Safe d in
       let w = foot_speed_of t in
-      let H : Point → Type 0 = IsHeld on (s * s) t.place w in
+      let H : Point → Type 0 = IsHeldByCurve on (s * s) t.place w in
       let B : Point → Type 0 = IsBounded (p +ℤ pos (s * s * d_bec_for d r t)) (s * v_bec_for d r t) in
       let h = not_past on usable t.place w (v_bec_for d r t) (d_bec_for d r t) r.max e in
       let held : (y : Point) → B y → H y = λ y b. within_held on (s * s) t.place w y usable pos_m (within_first on usable s t.place w (v_bec_for d r t) (d_bec_for d r t) r.max p y pos_m h m.1.place b) in
@@ -127,7 +127,7 @@ either : (past met : Bool) → (not past || met) ≡ true → (past ≡ false) �
 either true met e = inr e
 either false met e = inl refl
 
-within_or_slow : (d : LineData) (r : OdometerReading) (t : Target) (k : TargetKind) → k ≢ Eoa → k ≢ Svl →
+within_or_slow : (d : TrainAndTrack) (r : OdometerReading) (t : Target) (k : TargetKind) → k ≢ Eoa → k ≢ Svl →
     option_map_or (λ ebi. not (is_past 0 r.max ebi) || is_met_by_speed k (v_bec_for d r t) (foot_speed_of t)) (limits_of_kind computed d r t k).ebi true ≡ true →
     (is_past 0 r.max (less (computed (slopes_of Safe d) t.place (foot_speed_of t) (v_bec_for d r t)) (d_bec_for d r t)) ≡ false) ⊎ (v_bec_for d r t ≤ foot_speed_of t)
 within_or_slow d r t Mrsp a b e = elim (either _ (nat_le (v_bec_for d r t) (foot_speed_of t)) e) [ inl x ↦ inl x | inr x ↦ inr (leb-true _ _ x) ]
@@ -135,39 +135,40 @@ within_or_slow d r t Loa a b e = elim (either _ (nat_le (v_bec_for d r t) (foot_
 within_or_slow d r t Eoa a b e = absurd (a refl)
 within_or_slow d r t Svl a b e = absurd (b refl)
 
-meets_of : (d : LineData) → IsUsable (slopes_of Safe d) → (r : OdometerReading) (t : Target) → IsSpeedTarget t → is_covered_for d r t ≡ true → MeetsTarget d r t
+meets_of : (d : TrainAndTrack) → IsUsable (slopes_of Safe d) → (r : OdometerReading) (t : Target) → IsSpeedTarget t → is_covered_for d r t ≡ true → MeetsTarget d r t
 unfolding limits_of
 meets_of d usable r t is e s p v xs first more m =
     let K : Point → Type 0 = KeepsTo s t.place (foot_speed_of t) in
-    let H : Point → Type 0 = IsHeld (slopes_of Safe d) (s * s) t.place (foot_speed_of t) in
+    let H : Point → Type 0 = IsHeldByCurve (slopes_of Safe d) (s * s) t.place (foot_speed_of t) in
     All-from_recursion K (slice_ends p v xs ++ first ∷ more)
     (elim (within_or_slow d r t t.kind is.0 is.1 e) [
       | inl x ↦ each H K (λ y k. k.past) _ (held_by_curve d usable r t s p v xs first more m x)
       | inr x ↦ never_faster d usable r t s p v xs first more m x
     ])
 
-stops_of : (d : LineData) → IsUsable (slopes_of Safe d) → (r : OdometerReading) (svl : ℕ) → is_covered_for d r (svl_at svl) ≡ true → StopsBySvl d r svl
+stops_of : (d : TrainAndTrack) → IsUsable (slopes_of Safe d) → (r : OdometerReading) (svl : ℕ) → is_covered_for d r (svl_at svl) ≡ true → StopsBySvl d r svl
 unfolding limits_of svl_at
 stops_of d usable r svl e s p v xs first more m =
     let t = svl_at svl in
     let past = elim (either _ false e) as (λ _. is_past 0 r.max (less (computed (slopes_of Safe d) t.place 0 (v_bec_for d r t)) (d_bec_for d r t)) ≡ false) [ inl x ↦ x | inr x ↦ absurd (false≢true x) ] in
-    let H : Point → Type 0 = IsHeld (slopes_of Safe d) (s * s) t.place 0 in
+    let H : Point → Type 0 = IsHeldByCurve (slopes_of Safe d) (s * s) t.place 0 in
     let rest = (all_split H (slice_ends p v xs) (first ∷ more) (held_by_curve d usable r t s p v xs first more m past)).1 in
     All-from_recursion (IsBy s t.place) (first ∷ more) (each H (IsBy s t.place) (λ y k. k.standing refl) (first ∷ more) rest)
 
-svl_covered : (d : LineData) (r : OdometerReading) (profile : ℤ → ℕ) (a : Authority) (released : Bool) (eoa svl release : ℕ) → a ≡ Stop eoa svl release → released ≡ false →
-    list_all (is_covered_for d r) (targets_of profile a r.max released) ≡ true → is_covered_for d r (svl_at svl) ≡ true
-svl_covered d r profile a released eoa svl release e f h =
-    all_svl (is_covered_for d r) profile r.max eoa svl release (subst (λ (b : Bool). list_all (is_covered_for d r) (targets_of profile (Stop eoa svl release) r.max b) ≡ true) f (subst (λ (x : Authority). list_all (is_covered_for d r) (targets_of profile x r.max released) ≡ true) e h))
+svl_covered : (d : TrainAndTrack) (r : OdometerReading) (profile : ℤ → ℕ) (a : Authority) (in_release_monitoring : Bool) (eoa svl release : ℕ) → a ≡ Stop eoa svl release → in_release_monitoring ≡ false →
+    list_all (is_covered_for d r) (targets_of profile a r.max in_release_monitoring) ≡ true → is_covered_for d r (svl_at svl) ≡ true
+svl_covered d r profile a in_release_monitoring eoa svl release e f h =
+    all_svl (is_covered_for d r) profile r.max eoa svl release (subst (λ (b : Bool). list_all (is_covered_for d r) (targets_of profile (Stop eoa svl release) r.max b) ≡ true) f (subst (λ (x : Authority). list_all (is_covered_for d r) (targets_of profile x r.max in_release_monitoring) ≡ true) e h))
 
 -- THE STOP
-pub covered_is_safe : (s : Supervision) (r : OdometerReading) → AreUsable s.line → IsTrue (row_of s r).covered → IsSafe s r
+pub covered_is_safe : (s : Supervision) (r : OdometerReading) → AreUsable s.train_and_track → IsTrue (row_of s r).covered → IsSafe s r
 unfolding row_in is_covered_in situation_of
 covered_is_safe s r usable covered =
     let now = situation_of s r in
-    let both = and_parts (not (is_some now.release)) (list_all (is_covered_for s.line r) now.targets) covered in
+    let both = and_parts (not (is_some now.release)) (list_all (is_covered_for s.train_and_track r) now.targets) covered in
     let free = not-true (is_some now.release) both.0 in
     record {
-      stops = λ eoa svl release e. stops_of s.line (usable Safe) r svl (svl_covered s.line r (profile_of s) s.authority (is_some now.release) eoa svl release e free both.1);
-      meets = λ t is speed. meets_of s.line (usable Safe) r t speed (all_of (is_covered_for s.line r) now.targets t both.1 is);
+      stops = λ eoa svl release e. stops_of s.train_and_track (usable Safe) r svl (svl_covered s.train_and_track r (profile_of s) s.authority (is_some now.release) eoa svl release e free both.1);
+      meets = λ t is speed. meets_of s.train_and_track (usable Safe) r t speed
+          (all_of (is_covered_for s.train_and_track r) now.targets t both.1 is);
     }

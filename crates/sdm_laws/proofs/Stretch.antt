@@ -1,5 +1,5 @@
 -- The law of one stretch. Were the train past the curve's place at the end, the curve would lie between its two places on
--- the whole way, where no slope is above its own. So the curve would need at least as long a way for the same change of
+-- the whole distance, where no slope is above its own. So the curve would need at least as long a distance for the same change of
 -- the square, and the train could not be past it.
 use Rattle.std.proofs.Common.{◌≡◌, ℕ, ℤ, pos, ◌+◌, ◌-◌, ◌*◌, ◌<◌, ◌≤◌, ◌+ℤ◌, ◌*ℤ◌, ◌≤ℤ◌, ap, arith, ◌∙◌, inl, inr}
 use Rattle.std.proofs.lemmas.Int.{ints, by_lt_z}
@@ -15,7 +15,7 @@ use Rattle.sdm_rules.specs.Slopes.{Slopes, IsUsable}
 use Rattle.sdm_rules.specs.Curves.{cell_at, cell_start, grain_energy, exact_at}
 use Rattle.sdm_rules.specs.Motion.{HasPart, BrakesAtLeast}
 use Rattle.sdm_laws.specs.Energy.{energy}
-use Rattle.sdm_laws.specs.MotionLaws.{IsSteepest, IsWithin}
+use Rattle.sdm_laws.specs.MotionLaws.{IsSteepest, IsWithinCurve}
 use Rattle.sdm_laws.proofs.Totals.{total_at_most}
 use Rattle.sdm_laws.proofs.Cells.{cell_low, cell_high, start_finer}
 use Rattle.sdm_laws.proofs.Energy.{energy_at_least}
@@ -24,9 +24,9 @@ use Rattle.sdm_laws.proofs.Arcs.{Arc, arc_to}
 use Rattle.sdm_laws.proofs.Chains.{Chain, arrived, along, arc_at_most, chain_falls, chain_from, chain_to, chain_at_most}
 use Rattle.sdm_laws.proofs.CurveChains.{ArePositive, exact_chain}
 
--- ---- how long a curve's way is at least
+-- ---- how long a curve's distance is at least
 
--- `x` is at least `c / (27 * a)` past `y`: the way that the slope `a` needs for the energy `c`
+-- `x` is at least `c / (27 * a)` past `y`: the distance that the slope `a` needs for the energy `c`
 record IsApart (a c : ℕ) (y x : Fraction) : Type 0 where
   apart : (pos ((27 * a) * x.m) *ℤ y.n +ℤ pos (c * (y.m * x.m))) ≤ℤ (pos ((27 * a) * y.m) *ℤ x.n)
 
@@ -50,12 +50,12 @@ arc_apart on s band a c y x h low =
     let most : energy on band (s * n) (pos from *ℤ y.n) d ≤ a * d = total_at_most (λ k. on.slope band (cell_at (s * n) (pos from *ℤ y.n +ℤ pos k))) a d low in
     let used = h.is.is.used in
     let enough : c * (n * n) ≤ ((27 * a) * n) * d = let e : n * c ≤ 27 * (a * d) = omega arith in omega (arith, mul-le-mul_left n e) in
-    let way = simp scales at (ap (λ (z : ℤ). pos ((27 * a) * n) *ℤ z) h.is.is.way) in
+    let distance = simp scales at (ap (λ (z : ℤ). pos ((27 * a) * n) *ℤ z) h.is.is.distance) in
     let both_pos : 0 < to * from = mul-pos (factor_left n to x.m h.is.positive h.is.to_is) (factor_left n from y.m h.is.positive h.is.from_is) in
     let y_side : (to * from) * ((27 * a) * x.m) ≡ ((27 * a) * n) * from = rw h.is.to_is (omega arith) in
     let x_side : (to * from) * ((27 * a) * y.m) ≡ ((27 * a) * n) * to = rw h.is.from_is (omega arith) in
     let between : (to * from) * (c * (y.m * x.m)) ≡ c * (n * n) = squared n from to c y.m x.m h.is.from_is h.is.to_is in
-    record { apart = scale-≤_cancel (to * from) _ _ both_pos (simp scales (rw (y_side, between, x_side) (omega (arith, ints, way, enough)))) }
+    record { apart = scale-≤_cancel (to * from) _ _ both_pos (simp scales (rw (y_side, between, x_side) (omega (arith, ints, distance, enough)))) }
   where
     squared : (n from to c y x : ℕ) → n ≡ from * y → n ≡ to * x → (to * from) * (c * (y * x)) ≡ c * (n * n)
     squared n from to c y x p q =
@@ -76,12 +76,12 @@ arc_part on s band c y x p p' h k s_pos lt low high =
     let ends = cell_high (s * n) at (mul-pos s_pos h.is.positive) in
     let start : cell_start (s * n) cell ≡ pos n *ℤ cell_start s cell = start_finer n s cell (s * n) (omega arith) in
     let width : (s * n) * centimetre ≡ n * (s * centimetre) = omega arith in
-    let way = h.is.is.way in
+    let distance = h.is.is.distance in
     let from : (pos n *ℤ p) ≤ℤ (pos h.is.from *ℤ y.n) = steps_of_at_most n h.is.from n y (whole p) h.is.positive h.is.from_is (omega arith) low in
     let to = steps_of_before n n h.is.to (whole p') x h.is.positive (omega arith) h.is.to_is high in
     record {
-      apart = scale-<_cancel n _ _ (omega (arith, ints, from, to, way));
-      begins = scale-<_cancel n _ _ (rw (← start) (omega (arith, ints, begins, to, way)));
+      apart = scale-<_cancel n _ _ (omega (arith, ints, from, to, distance));
+      begins = scale-<_cancel n _ _ (rw (← start) (omega (arith, ints, begins, to, distance)));
       ends = scale-<_cancel n _ _ (rw scale-+ℤ (rw (← start) (omega (arith, ints, ends, from, width))));
     }
 
@@ -99,7 +99,7 @@ arc_moves on s band y x u v k some h le lt =
     ]
 
 module _ (on : Slopes) (s a : ℕ) (from to : Point) (s_pos : 0 < s) (positive : ArePositive on) (steep : IsSteepest on s a from to) where
-  -- a curve between both places, for squares between both squares, needs a way at least as long as the slope `a` does
+  -- a curve between both places, for squares between both squares, needs a distance at least as long as the slope `a` does
   chain_apart : (y x : Fraction) (u w : ℕ) → u ≤ from.square → to.square ≤ w → Chain on s y u x w → IsAtMost (whole from.place) y →
       IsBefore x (whole to.place) → IsApart a (grain_energy on (u - w)) y x
   chain_apart _ _ _ _ u_le w_ge (arrived y u y_pos) low high = apart_none a _ y (let none : u - u ≡ 0 = omega arith in rw none (omega arith))
@@ -116,7 +116,7 @@ module _ (on : Slopes) (s a : ℕ) (from to : Point) (s_pos : 0 < s) (positive :
       let sum : grain_energy on (u - v) + grain_energy on (v - w) ≡ grain_energy on (u - w) = let d : (u - v) + (v - w) ≡ u - w = omega arith in omega (arith, ap (λ (e : ℕ). on.q * e) d) in
       rw (← sum) (apart_trans a _ _ y x z x_pos here further)
 
--- a way that is no longer than the curve's does not pass it
+-- a distance that is no longer than the curve's does not pass it
 not_past : (a c : ℕ) (y y' : Fraction) (p p' : ℤ) → 0 < a → 0 < y.m → IsApart a c y y' → IsAtMost (whole p) y →
     (pos (27 * a) *ℤ p') ≤ℤ (pos (27 * a) *ℤ p +ℤ pos c) → IsAtMost (whole p') y'
 not_past a c y y' p p' a_pos y_pos h low brakes =
@@ -126,7 +126,7 @@ not_past a c y y' p p' a_pos y_pos h low brakes =
     at_most_in p' y' (scale-≤_cancel ((27 * a) * y.m) _ _ (mul-pos (mul-pos (omega arith) a_pos) y_pos) (simp scales (omega (arith, ints, one, two, three))))
 
 pub stretch : (on : Slopes) (m : ℕ) (f : ℤ) (w a : ℕ) (x y : Point) → IsUsable on → 0 < m → 0 < a →
-    IsSteepest on m a x y → BrakesAtLeast on a x.place x.square y.place y.square → IsWithin on m f w x → IsWithin on m f w y
+    IsSteepest on m a x y → BrakesAtLeast on a x.place x.square y.place y.square → IsWithinCurve on m f w x → IsWithinCurve on m f w y
 stretch on m f w a x y usable m_pos a_pos steep brakes within =
     let from = exact_at on m f w x.square in
     let to = exact_at on m f w y.square in

@@ -11,23 +11,23 @@ use Rattle.sdm_rules.specs.Slopes.{Slopes}
 use Rattle.sdm_rules.specs.Curves.{cell_at, cell_start, back, forward}
 use Rattle.sdm_laws.proofs.Cells.{IsInCell, cell_low, cell_high, start_finer, in_cell_finer}
 use Rattle.sdm_laws.proofs.Energy.{IsPositive}
-use Rattle.sdm_laws.proofs.Ways.{IsWay, way_none, way_in_cell, way_joined, way_finer}
+use Rattle.sdm_laws.proofs.Distances.{IsDistance, distance_none, distance_in_cell, distance_joined, distance_finer}
 
--- `y` lies before `x` by a way with the energy `r`, as the steps of `x` count it; the steps of `y` are `t` times finer
+-- `y` lies before `x` by a distance with the energy `r`, as the steps of `x` count it; the steps of `y` are `t` times finer
 pub record IsBackBy (on : Slopes) (s band : ℕ) (x y : Fraction) (r : ℕ) : Type 0 where
   pub t : ℕ
   pub d : ℕ
   pub positive : 0 < t
   pub finer : y.m ≡ t * x.m
-  pub is : IsWay on band (s * y.m) y.n (pos t *ℤ x.n) d (t * r)
+  pub is : IsDistance on band (s * y.m) y.n (pos t *ℤ x.n) d (t * r)
 
--- `y` lies past `x` by such a way
+-- `y` lies past `x` by such a distance
 pub record IsForwardBy (on : Slopes) (s band : ℕ) (x y : Fraction) (r : ℕ) : Type 0 where
   pub t : ℕ
   pub d : ℕ
   pub positive : 0 < t
   pub finer : y.m ≡ t * x.m
-  pub is : IsWay on band (s * y.m) (pos t *ℤ x.n) y.n d (t * r)
+  pub is : IsDistance on band (s * y.m) (pos t *ℤ x.n) y.n d (t * r)
 
 steps_finer : (s t m m' : ℕ) → m' ≡ t * m → s * m' ≡ t * (s * m)
 steps_finer s t m m' e = omega (arith, ap (λ (x : ℕ). s * x) e)
@@ -84,14 +84,14 @@ back_on on s band fuel x r h = search rules
 -- the last arc lies in one cell; its beginning is a step of a grid that is `k` times finer
 last_back : (on : Slopes) (band n n' k r g : ℕ) (c x y : ℤ) → 0 < n' → n' ≡ k * n → k ≡ 27 * on.slope band c → x ≡ cell_start n c +ℤ pos g →
     IsInCell n c x → r ≤ k * g →
-    y ≡ pos k *ℤ x +ℤ neg_ℤ (pos r) → IsWay on band n' y (pos k *ℤ x) r (k * r)
+    y ≡ pos k *ℤ x +ℤ neg_ℤ (pos r) → IsDistance on band n' y (pos k *ℤ x) r (k * r)
 last_back on band n n' k r g c x y n_pos e k_is gap_is here r_le y_is =
     let to = in_cell_finer k n n' c x e here in
     let start = start_finer k n c n' e in
     let gap = ap (λ (z : ℤ). pos k *ℤ z) gap_is ∙ scale-+ℤ k (cell_start n c) (pos g) in
     let from : IsInCell n' c y = record { low = rw start (omega (arith, ints, gap)); high = omega (arith, ints, to.high) } in
-    let way : pos k *ℤ x ≡ y +ℤ pos r = omega (arith, ints) in
-    rw k_is (rw k_is at (way_in_cell on band n' y (pos k *ℤ x) r c n_pos way from to))
+    let distance : pos k *ℤ x ≡ y +ℤ pos r = omega (arith, ints) in
+    rw k_is (rw k_is at (distance_in_cell on band n' y (pos k *ℤ x) r c n_pos distance from to))
 
 -- a whole cell's arc, and the walk on from the cell's start
 on_back : (on : Slopes) (s band : ℕ) (x z y : Fraction) (r g : ℕ) (c : ℤ) → 0 < s * x.m → z.m ≡ x.m → x.n ≡ z.n +ℤ pos g →
@@ -99,8 +99,8 @@ on_back : (on : Slopes) (s band : ℕ) (x z y : Fraction) (r g : ℕ) (c : ℤ) 
     (27 * on.slope band c) * g < r → IsBackBy on s band z y (r - (27 * on.slope band c) * g) → IsBackBy on s band x y r
 on_back on s band x z y r g c m_pos m_is gap_is from to lt h =
     let finer : y.m ≡ h.t * x.m = h.finer ∙ ap (λ (w : ℕ). h.t * w) m_is in
-    let cell = way_finer on band h.t (s * x.m) (s * y.m) z.n x.n g _ (steps_finer s h.t x.m y.m finer) m_pos (way_in_cell on band (s * x.m) z.n x.n g c m_pos gap_is from to) in
-    let both = way_joined on band (s * y.m) y.n (pos h.t *ℤ z.n) (pos h.t *ℤ x.n) h.d (h.t * g) _ _ h.is cell in
+    let cell = distance_finer on band h.t (s * x.m) (s * y.m) z.n x.n g _ (steps_finer s h.t x.m y.m finer) m_pos (distance_in_cell on band (s * x.m) z.n x.n g c m_pos gap_is from to) in
+    let both = distance_joined on band (s * y.m) y.n (pos h.t *ℤ z.n) (pos h.t *ℤ x.n) h.d (h.t * g) _ _ h.is cell in
     record { t = h.t; d = h.d + h.t * g; positive = h.positive; finer = finer; is = rw (whole_and_left h.t r ((27 * on.slope band c) * g) lt) at both }
 
 -- the walk back uses up the energy that it is asked for
@@ -109,7 +109,7 @@ pub back-is : (on : Slopes) (s band fuel : ℕ) (x : Fraction) (r : ℕ) → IsP
 unfolding back
 back-is on s band zero x r some m_pos le =
     let none : r ≡ 0 = omega arith in
-    record { t = 1; d = 0; positive = omega arith; finer = omega arith; is = rw none (rw (← one_times x.n) (way_none on band (s * x.m) x.n)) }
+    record { t = 1; d = 0; positive = omega arith; finer = omega arith; is = rw none (rw (← one_times x.n) (distance_none on band (s * x.m) x.n)) }
 back-is on s band (suc fuel) x r some m_pos le =
     let c = cell_before s x in
     let g = gap_before s x in
@@ -170,13 +170,13 @@ forward_on on s band fuel x r h = search rules
 -- the last arc; its end is a step of a grid that is `k` times finer
 last_forward : (on : Slopes) (band n n' k r g : ℕ) (c x z y : ℤ) → 0 < n' → n' ≡ k * n → k ≡ 27 * on.slope band c → z ≡ x +ℤ pos g →
     IsInCell n c x → IsInCell n c z → r ≤ k * g →
-    y ≡ pos k *ℤ x +ℤ pos r → IsWay on band n' (pos k *ℤ x) y r (k * r)
+    y ≡ pos k *ℤ x +ℤ pos r → IsDistance on band n' (pos k *ℤ x) y r (k * r)
 last_forward on band n n' k r g c x z y n_pos e k_is gap_is here there r_le y_is =
     let from = in_cell_finer k n n' c x e here in
     let end = in_cell_finer k n n' c z e there in
     let gap = ap (λ (w : ℤ). pos k *ℤ w) gap_is ∙ scale-+ℤ k x (pos g) in
     let to : IsInCell n' c y = record { low = omega (arith, ints, from.low); high = omega (arith, ints, end.high, gap) } in
-    rw k_is (rw k_is at (way_in_cell on band n' (pos k *ℤ x) y r c n_pos y_is from to))
+    rw k_is (rw k_is at (distance_in_cell on band n' (pos k *ℤ x) y r c n_pos y_is from to))
 
 -- a whole cell's arc, and the walk on from the cell's end
 on_forward : (on : Slopes) (s band : ℕ) (x z y : Fraction) (r g : ℕ) (c : ℤ) → 0 < s * x.m → z.m ≡ x.m → z.n ≡ x.n +ℤ pos g →
@@ -184,8 +184,8 @@ on_forward : (on : Slopes) (s band : ℕ) (x z y : Fraction) (r g : ℕ) (c : �
     (27 * on.slope band c) * g < r → IsForwardBy on s band z y (r - (27 * on.slope band c) * g) → IsForwardBy on s band x y r
 on_forward on s band x z y r g c m_pos m_is gap_is from to lt h =
     let finer : y.m ≡ h.t * x.m = h.finer ∙ ap (λ (w : ℕ). h.t * w) m_is in
-    let cell = way_finer on band h.t (s * x.m) (s * y.m) x.n z.n g _ (steps_finer s h.t x.m y.m finer) m_pos (way_in_cell on band (s * x.m) x.n z.n g c m_pos gap_is from to) in
-    let both = way_joined on band (s * y.m) (pos h.t *ℤ x.n) (pos h.t *ℤ z.n) y.n (h.t * g) h.d _ _ cell h.is in
+    let cell = distance_finer on band h.t (s * x.m) (s * y.m) x.n z.n g _ (steps_finer s h.t x.m y.m finer) m_pos (distance_in_cell on band (s * x.m) x.n z.n g c m_pos gap_is from to) in
+    let both = distance_joined on band (s * y.m) (pos h.t *ℤ x.n) (pos h.t *ℤ z.n) y.n (h.t * g) h.d _ _ cell h.is in
     let whole = add_comm _ _ ∙ whole_and_left h.t r ((27 * on.slope band c) * g) lt in
     record { t = h.t; d = h.t * g + h.d; positive = h.positive; finer = finer; is = rw whole at both }
 
@@ -195,7 +195,7 @@ pub forward-is : (on : Slopes) (s band fuel : ℕ) (x : Fraction) (r : ℕ) → 
 unfolding forward
 forward-is on s band zero x r some m_pos le =
     let none : r ≡ 0 = omega arith in
-    record { t = 1; d = 0; positive = omega arith; finer = omega arith; is = rw none (rw (← one_times x.n) (way_none on band (s * x.m) x.n)) }
+    record { t = 1; d = 0; positive = omega arith; finer = omega arith; is = rw none (rw (← one_times x.n) (distance_none on band (s * x.m) x.n)) }
 forward-is on s band (suc fuel) x r some m_pos le =
     let c = cell_here s x in
     let g = gap_after s x in

@@ -5,7 +5,7 @@ use Rattle.sdm_num.specs.Units.{millimetre}
 use Rattle.sdm_num.specs.Fractions.{IsBefore, IsSame, floor, times, whole}
 use Rattle.sdm_num.specs.Bounds.{IsEarlyFor}
 use Rattle.sdm_rules.specs.Slopes.{Slopes, IsUsable, bands_of, variation}
-use Rattle.sdm_rules.specs.Curves.{arc_back, arc_forward, grain_energy, upper_square, to_grain, climb, descend, exact_at, exact, stepped, most_slack, slack_after}
+use Rattle.sdm_rules.specs.Curves.{arc_back, arc_forward, grain_energy, upper_square, to_grain, back_through_bands, forward_through_bands, exact_at, exact, stepped, most_slack, slack_after}
 use Rattle.sdm_laws.specs.Energy.{IsKnot, IsKnotPast}
 
 -- ---- rounding
@@ -68,13 +68,13 @@ pub record HasKnots (on : Slopes) (band : ℕ) : Type 0 where
   pub climbs :
       (left : ℕ) (at : ℤ) (d u z : ℕ) → u < upper_square on 1 band → upper_square on 1 band < z →
       IsKnot on band at d (grain_energy on (upper_square on 1 band - u)) →
-      climb to_grain on 1 (suc left) band (whole at) u z
-      ≡ climb to_grain on 1 left (band + 1) (whole (at +ℤ neg_ℤ (pos d))) (upper_square on 1 band) z
+      back_through_bands to_grain on 1 (suc left) band (whole at) u z
+      ≡ back_through_bands to_grain on 1 left (band + 1) (whole (at +ℤ neg_ℤ (pos d))) (upper_square on 1 band) z
   pub descends :
       (below : ℕ) (at : ℤ) (d u z : ℕ) → band ≡ suc below → upper_square on 1 below < u → z < upper_square on 1 below →
       IsKnotPast on band at d (grain_energy on (u - upper_square on 1 below)) →
-      descend to_grain on 1 band (whole at) u z
-      ≡ descend to_grain on 1 below (whole (at +ℤ pos d)) (upper_square on 1 below) z
+      forward_through_bands to_grain on 1 band (whole at) u z
+      ≡ forward_through_bands to_grain on 1 below (whole (at +ℤ pos d)) (upper_square on 1 below) z
 
 -- In each band of usable slopes the facts of knots give stepped places (own).
 abbrev pub LawOfKnots : Type 0

@@ -13,8 +13,8 @@ use Rattle.sdm_rules.specs.Reaction.{build_up_of, v_bec, d_bec}
 -- ---- braking, with places in 1/m grain and squares in 1/m squared notch
 
 -- the point is within the curve of the foot `f` and the foot speed `w`: at most at the exact place of its square (own)
-abbrev pub IsWithin : Slopes → ℕ → ℤ → ℕ → Point → Type 0
-IsWithin on m f w x = IsAtMost (whole x.place) (exact_at on m f w x.square)
+abbrev pub IsWithinCurve : Slopes → ℕ → ℤ → ℕ → Point → Type 0
+IsWithinCurve on m f w x = IsAtMost (whole x.place) (exact_at on m f w x.square)
 
 -- the band has a part strictly between the squares: two of its squares that differ are not outside (own)
 pub record HasBandPart (on : Slopes) (m band u' u : ℕ) : Type 0 where
@@ -33,26 +33,26 @@ IsSteepest on m a x y =
     (band : ℕ) (cell : ℤ) → HasBandPart on m band y.square x.square → HasPart m cell x.place y.place →
     on.slope band cell ≤ a
 
--- Of one stretch: a train within the curve that brakes at least with the slope `a`, the steepest of its way, is within the
+-- Of one stretch: a train within the curve that brakes at least with the slope `a`, the steepest of its stretch, is within the
 -- curve after it (own).
 abbrev pub LawOfStretch : Type 0
 LawOfStretch =
     (on : Slopes) (m : ℕ) (f : ℤ) (w a : ℕ) (x y : Point) → IsUsable on → 0 < m → 0 < a →
-    IsSteepest on m a x y → BrakesAtLeast on a x.place x.square y.place y.square → IsWithin on m f w x → IsWithin on m f w y
+    IsSteepest on m a x y → BrakesAtLeast on a x.place x.square y.place y.square → IsWithinCurve on m f w x → IsWithinCurve on m f w y
 
 -- the point is within the curve; at or past the foot the speed is at most the foot speed; and a foot of speed 0 is not
 -- passed (own)
-pub record IsHeld (on : Slopes) (m : ℕ) (f : ℤ) (w : ℕ) (x : Point) : Type 0 where
-  pub within : IsWithin on m f w x
+pub record IsHeldByCurve (on : Slopes) (m : ℕ) (f : ℤ) (w : ℕ) (x : Point) : Type 0 where
+  pub within : IsWithinCurve on m f w x
   pub past : (pos m *ℤ f) ≤ℤ x.place → x.square ≤ m * (w * w)
   pub standing : w ≡ 0 → x.place ≤ℤ (pos m *ℤ f)
 
--- Of braking: a train that begins within the curve and brakes step by step, at least as the slopes of its way, is held by
+-- Of braking: a train that begins within the curve and brakes step by step, at least as the slopes of its stretch, is held by
 -- the curve at every point (own).
 abbrev pub LawOfBraking : Type 0
 LawOfBraking =
     (on : Slopes) (m : ℕ) (f : ℤ) (w : ℕ) (x : Point) (ys : List Point) → IsUsable on → 0 < m →
-    IsBraking on m x ys → IsWithin on m f w x → All (IsHeld on m f w) (x ∷ ys)
+    IsBraking on m x ys → IsWithinCurve on m f w x → All (IsHeldByCurve on m f w) (x ∷ ys)
 
 -- ---- before the brakes work, at the scale `s`
 

@@ -3,19 +3,19 @@ use Rattle.std.specs.Prelude.{◌≡◌, ◌⊎◌, ℕ, List}
 use Rattle.sdm_rules.specs.declared.authorities.Authority.{Authority}
 use Rattle.sdm_rules.specs.declared.faults.OpenFault.{OpenFault}
 use Rattle.sdm_rules.specs.declared.rows.Row.{Row}
-use Rattle.sdm_rules.specs.Data.{LineData}
+use Rattle.sdm_rules.specs.Data.{TrainAndTrack}
 use Rattle.sdm_rules.specs.Opening.{IsAccepted, IsOpenFault}
 use Rattle.sdm_rules.specs.Input.{Reader, End, IsRun}
 
 -- each opening is either accepted or has a first fault, and never both or two
-pub record IsDecided (d : LineData) (a : Authority) : Type 0 where
+pub record IsDecided (d : TrainAndTrack) (a : Authority) : Type 0 where
   pub decided : IsAccepted d a ⊎ ((fault : OpenFault) × IsOpenFault d a fault)
   pub not_both : (fault : OpenFault) → IsAccepted d a → IsOpenFault d a fault → ⊥
   pub one_fault : (fault fault' : OpenFault) → IsOpenFault d a fault → IsOpenFault d a fault' → fault ≡ fault'
 
 -- of all data and authorities the opening is either accepted or has one first fault
 abbrev pub LawOfOpening : Type 0
-LawOfOpening = (d : LineData) (a : Authority) → IsDecided d a
+LawOfOpening = (d : TrainAndTrack) (a : Authority) → IsDecided d a
 
 -- there are rows and an end of the input, and no others
 pub record HasOneRun {Table Fields : Type 0} (reader : Reader Table Fields) (bytes : List ℕ) : Type 0 where

@@ -9,7 +9,7 @@ use Rattle.sdm_rules.specs.declared.data.SlopeKind.{SlopeKind}
 use Rattle.sdm_rules.specs.declared.records.Event.{Event}
 use Rattle.sdm_rules.specs.Slopes.{IsUsable}
 use Rattle.sdm_rules.specs.Curves.{exact, stepped, most_slack}
-use Rattle.sdm_rules.specs.Data.{LineData, HasBands}
+use Rattle.sdm_rules.specs.Data.{TrainAndTrack, HasBands}
 use Rattle.sdm_rules.specs.Decelerations.{slopes_of}
 use Rattle.sdm_rules.specs.declared.targets.Target.{Target}
 use Rattle.sdm_rules.specs.Limits.{SupervisionLimits, computed, exact_places, limits_of, release_start}
@@ -17,22 +17,22 @@ use Rattle.sdm_rules.specs.Supervision.{Supervision, opening, row_of}
 use Rattle.sdm_rules.specs.Machines.{KeepsOrder, InOrder, held_after}
 use Rattle.sdm_rules.specs.Records.{step}
 use Rattle.sdm_rules.specs.Stop.{IsSafe}
-use Rattle.sdm_rules.specs.Promises.{BeginsRelease, HasOnlyGaps, IsWithinCeiling}
+use Rattle.sdm_rules.specs.Promises.{BeginsReleaseMonitoring, HasOnlyGaps, IsWithinCeiling}
 use Rattle.sdm_rules.specs.Opening.{IsAccepted, IsAcceptedKind, IsOpen}
 use Rattle.sdm_rules.specs.Headline.{IsSupervised, IsSupervisedOver}
 
 -- the slopes of accepted data are usable
 abbrev pub LawOfAcceptedSlopes : Type 0
-LawOfAcceptedSlopes = (kind : SlopeKind) (d : LineData) → HasBands d.train.bands → IsAcceptedKind kind d → IsUsable (slopes_of kind d)
+LawOfAcceptedSlopes = (kind : SlopeKind) (d : TrainAndTrack) → HasBands d.train.bands → IsAcceptedKind kind d → IsUsable (slopes_of kind d)
 
 -- an accepted opening is open, and a state stays open over each record: no record changes the data
 pub record IsKeptOpen : Type 0 where
-  pub opens : (d : LineData) (a : Authority) → HasBands d.train.bands → IsAccepted d a → IsOpen (opening d a)
+  pub opens : (d : TrainAndTrack) (a : Authority) → HasBands d.train.bands → IsAccepted d a → IsOpen (opening d a)
   pub stays : (s : Supervision) (e : Event) → IsOpen s → IfOk (step s e) (λ t. IsOpen t.after)
 
 -- on accepted slopes each computed place of a curve lies at most `most_slack` grains before the exact one, never past it
 abbrev pub LawOfNearness : Type 0
-LawOfNearness = (kind : SlopeKind) (d : LineData) → HasBands d.train.bands → IsAcceptedKind kind d →
+LawOfNearness = (kind : SlopeKind) (d : TrainAndTrack) → HasBands d.train.bands → IsAcceptedKind kind d →
     (f : ℤ) (w v : ℕ) → IsEarlyFor (record { at = stepped (slopes_of kind d) f w v; slack = most_slack }) (exact (slopes_of kind d) f w v)
 
 -- `low` is at most `x`, and at most `most_slack` grains before it
@@ -59,7 +59,7 @@ pub record AreLimitsJustBefore (low x : SupervisionLimits) : Type 0 where
 
 -- each computed limit, and the computed start of release speed monitoring, is at most the exact one and less than a millimetre before it
 -- (SUBSET-026-3 3.13.9.3, 3.13.9.4)
-pub record AreEarly (d : LineData) (r : OdometerReading) : Type 0 where
+pub record AreEarly (d : TrainAndTrack) (r : OdometerReading) : Type 0 where
   pub limits : (t : Target) → AreLimitsJustBefore (limits_of computed d r t) (limits_of exact_places d r t)
   pub release_start : (eoa svl release : ℕ) →
       IsJustBefore (release_start computed d eoa svl release) (release_start exact_places d eoa svl release)
@@ -67,7 +67,7 @@ pub record AreEarly (d : LineData) (r : OdometerReading) : Type 0 where
 
 -- computed limits are early for the exact ones, and so is the start of release speed monitoring
 abbrev pub LawOfLimits : Type 0
-LawOfLimits = (s : Supervision) (r : OdometerReading) → IsOpen s → AreEarly s.line r
+LawOfLimits = (s : Supervision) (r : OdometerReading) → IsOpen s → AreEarly s.train_and_track r
 
 -- where the exact machine commands the emergency brake, so does the supervisor; where the supervisor does, so does the
 -- machine with every limit one millimetre earlier
@@ -88,7 +88,7 @@ LawOfCeiling = (s : Supervision) (r : OdometerReading) → (row_of s r).held.eb 
 
 -- release speed monitoring begins at its exact start or less than a millimetre before it
 abbrev pub LawOfReleaseStart : Type 0
-LawOfReleaseStart = (s : Supervision) (r : OdometerReading) → IsOpen s → BeginsRelease s r
+LawOfReleaseStart = (s : Supervision) (r : OdometerReading) → IsOpen s → BeginsReleaseMonitoring s r
 
 -- THE HEADLINE of one reading
 abbrev pub LawOfSupervision : Type 0

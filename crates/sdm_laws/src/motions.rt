@@ -3,12 +3,12 @@
 
 ghost use Rattle.sdm_laws.specs.MotionLaws.{LawOfBraking, LawOfReaction, LawOfStretch};
 
-/// Over one stretch, a train within a curve that brakes at least with the steepest slope of its way stays within it.
+/// Over one stretch, a train within a curve that brakes at least with the steepest slope of its stretch stays within it.
 pub fn law_of_stretch()
     ensures { LawOfStretch }
 {}
 
-/// A train that begins within a curve and brakes step by step, at least as the slopes of its way, stays within it: at or
+/// A train that begins within a curve and brakes step by step, at least as the slopes of its stretch, stays within it: at or
 /// past the foot it is at most as fast as the foot speed, and a foot of speed 0 it does not pass.
 pub fn law_of_braking()
     ensures { LawOfBraking }

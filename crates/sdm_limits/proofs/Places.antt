@@ -2,12 +2,12 @@
 use Rattle.std.proofs.Common.{◌≡◌, ℕ, ℤ, pos, neg_ℤ, ◌*◌, ◌+ℤ◌, Option, Some, arith, ap, subst}
 use Rattle.std.specs.Int.{int_min}
 use Rattle.std.proofs.lemmas.Int.{ints, clamps}
-use Rattle.sdm_num.specs.Units.{way_in}
+use Rattle.sdm_num.specs.Units.{distance_at}
 use Rattle.sdm_num.specs.Bounds.{Bound, IsEarlyFor, earlier_of}
 use Rattle.sdm_num.specs.Fractions.{Fraction, less, lesser, whole}
 use Rattle.sdm_num.proofs.Order.{lesser_cases}
 use Rattle.sdm_rules.specs.declared.data.Times.{Times}
-use Rattle.sdm_rules.specs.Limits.{limits_before, ebd_limits_at}
+use Rattle.sdm_rules.specs.Limits.{limits_from_sbi, ebd_limits_at}
 use Rattle.sdm_limits.specs.declared.limits.Limits.{Limits}
 use Rattle.sdm_limits.specs.Sides.{place_of, places_of}
 
@@ -24,19 +24,19 @@ earlier_place e d =
     (λ le. let least : int_min e.at d.at ≡ e.at = omega (arith, ints, clamps, le.crossed) in ap whole least)
     (λ le. let least : int_min e.at d.at ≡ d.at = omega (arith, ints, clamps, le.crossed) in ap whole least)
 
--- limits before an SBI that lies the service brake's way before an EBI, and that D_bec before a whole place
+-- limits before an SBI that lies the service brake's distance before an EBI, and that D_bec before a whole place
 pub ebd_places :
-    (l : Limits) (times : Times) (v : ℕ) (guide : Option Fraction) (ebi sbi : Bound) (bec way : ℕ) (z : ℤ) →
-    places_of l ≡ limits_before times v guide (Some (place_of ebi)) (place_of sbi) →
+    (l : Limits) (times : Times) (v : ℕ) (guide : Option Fraction) (ebi sbi : Bound) (bec distance : ℕ) (z : ℤ) →
+    places_of l ≡ limits_from_sbi times v guide (Some (place_of ebi)) (place_of sbi) →
     ebi.at ≡ z +ℤ neg_ℤ (pos bec) →
-    sbi.at ≡ ebi.at +ℤ neg_ℤ (pos way) →
-    way ≡ way_in v times.bs →
+    sbi.at ≡ ebi.at +ℤ neg_ℤ (pos distance) →
+    distance ≡ distance_at v times.bs →
     places_of l ≡ ebd_limits_at times v guide bec (whole z)
-ebd_places l times v guide ebi sbi bec way z found ebi_at sbi_at way_is =
-    let sbi_at' = subst (λ (w : ℕ). sbi.at ≡ ebi.at +ℤ neg_ℤ (pos w)) way_is sbi_at in
-    let from_ebi = subst (λ (s : Fraction). places_of l ≡ limits_before times v guide (Some (place_of ebi)) s) (whole_less sbi.at ebi.at (way_in v times.bs) sbi_at') found in
-    subst (λ (e : Fraction). places_of l ≡ limits_before times v guide (Some e) (less e (way_in v times.bs))) (whole_less ebi.at z bec ebi_at) from_ebi
+ebd_places l times v guide ebi sbi bec distance z found ebi_at sbi_at distance_is =
+    let sbi_at' = subst (λ (w : ℕ). sbi.at ≡ ebi.at +ℤ neg_ℤ (pos w)) distance_is sbi_at in
+    let from_ebi = subst (λ (s : Fraction). places_of l ≡ limits_from_sbi times v guide (Some (place_of ebi)) s) (whole_less sbi.at ebi.at (distance_at v times.bs) sbi_at') found in
+    subst (λ (e : Fraction). places_of l ≡ limits_from_sbi times v guide (Some e) (less e (distance_at v times.bs))) (whole_less ebi.at z bec ebi_at) from_ebi
 
--- a bound of a place that lies a way before another one
-pub early_before : (e : Bound) (x : Fraction) (way v time : ℕ) → way ≡ way_in v time → IsEarlyFor e (less x way) → IsEarlyFor e (less x (way_in v time))
-early_before e x way v time way_is h = subst (λ (w : ℕ). IsEarlyFor e (less x w)) way_is h
+-- a bound of a place that lies a distance before another one
+pub early_before : (e : Bound) (x : Fraction) (distance v time : ℕ) → distance ≡ distance_at v time → IsEarlyFor e (less x distance) → IsEarlyFor e (less x (distance_at v time))
+early_before e x distance v time distance_is h = subst (λ (w : ℕ). IsEarlyFor e (less x w)) distance_is h

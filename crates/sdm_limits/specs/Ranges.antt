@@ -30,8 +30,8 @@ pub record IsBuildUp (b : BuildUp) (v_delta1 v_delta2 : ℕ) : Type 0 where
   pub second : v_delta2 ≡ 54 * b.accel2 * b.berem
 
 -- a place lies within so many grains of the origin
-abbrev pub IsWithin : ℕ → ℤ → Type 0
-IsWithin grains z = (neg_ℤ (pos grains) ≤ℤ z) × (z ≤ℤ pos grains)
+abbrev pub IsNearZero : ℕ → ℤ → Type 0
+IsNearZero grains z = (neg_ℤ (pos grains) ≤ℤ z) × (z ≤ℤ pos grains)
 
 -- no place that limits are found from is further from the origin, in grains: about 1,850 km
 abbrev pub reach : ℕ
@@ -43,4 +43,4 @@ curve_reach = 9 * 10 ^ 17
 
 -- a place of a guidance curve, if there is one, is not too far
 abbrev pub IsGuide : Option Bound → Type 0
-IsGuide guide = ForSome guide (λ g. IsWithin reach g.at)
+IsGuide guide = ForSome guide (λ g. IsNearZero reach g.at)

@@ -15,7 +15,7 @@ abbrev pub ebd_limits_by : CurvePlaces → SlopeMap → BrakeCurve → Option Fr
 ebd_limits_by P map ebd guide times v reaction =
     ebd_limits_at times v guide reaction.d_bec (P (meaning_of map) ebd.place ebd.speed reaction.v_bec)
 
--- the same on an SBD, which gives no EBI (SUBSET-026-3 3.13.9.3)
+-- the limits on an SBD with a foot, on the slopes of a map; it gives no EBI (SUBSET-026-3 3.13.9.3)
 abbrev pub sbd_limits_by : CurvePlaces → SlopeMap → BrakeCurve → Option Fraction → Times → ℕ → SupervisionLimits
 sbd_limits_by P map sbd guide times v = sbd_limits_at times v guide (P (meaning_of map) sbd.place sbd.speed v)
 

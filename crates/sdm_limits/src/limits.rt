@@ -7,11 +7,11 @@ ghost use Rattle.std.specs.Option.{option_map_or};
 ghost use Rattle.sdm_num.specs.Units.{notches};
 ghost use Rattle.sdm_num.specs.Bounds.{IsEarlyFor};
 ghost use Rattle.sdm_num.specs.Fractions.{Fraction, lesser};
-ghost use Rattle.sdm_rules.specs.Limits.{computed, ebd_limits_at, exact_places, limits_before};
+ghost use Rattle.sdm_rules.specs.Limits.{computed, ebd_limits_at, exact_places, limits_from_sbi};
 ghost use Rattle.sdm_rules.specs.Slopes.{meaning_of};
 ghost use Rattle.sdm_rules.specs.Ranges.{top_kmh};
 ghost use Rattle.sdm_curve.specs.Made.{IsMadeFrom};
-ghost use Rattle.sdm_limits.specs.Ranges.{AreTimes, IsGuide, IsWithin, curve_reach, reach};
+ghost use Rattle.sdm_limits.specs.Ranges.{AreTimes, IsGuide, IsNearZero, curve_reach, reach};
 ghost use Rattle.sdm_limits.specs.Sides.{IsEarlyWhere, StandFor, ebd_limits_by, place_of, place_where, places_of, sbd_limits_by};
 
 use crate::reaction::Reaction;
@@ -51,7 +51,7 @@ pub fn ebd_limits(
     requires guide { IsGuide guide }
     requires times { AreTimes times.now }
     requires speed { v ≤ notches top_kmh }
-    requires way { reaction.now.d_bec ≤ 10 ^ 16 }
+    requires distance { reaction.now.d_bec ≤ 10 ^ 16 }
     ensures at { places_of result ≡
         ebd_limits_by computed safe.now ebd.now (place_where guide) times.now v reaction.now }
     ensures stands { (g : Option Fraction) → IsEarlyWhere guide g →
@@ -70,11 +70,11 @@ pub fn ebd_limits_at(
     v: Speed,
     d_bec: u64,
 ) -> Limits
-    requires place { IsWithin curve_reach place.at }
+    requires place { IsNearZero curve_reach place.at }
     requires guide { IsGuide guide }
     requires times { AreTimes times.now }
     requires speed { v ≤ notches top_kmh }
-    requires way { d_bec ≤ 10 ^ 16 }
+    requires distance { d_bec ≤ 10 ^ 16 }
     ensures at { places_of result ≡ ebd_limits_at times.now v (place_where guide) d_bec (place_of place) }
     ensures stands { (g : Option Fraction) (x : Fraction) → IsEarlyWhere guide g → IsEarlyFor place x →
         StandFor result (ebd_limits_at times.now v g d_bec x) }
@@ -120,12 +120,12 @@ fn limits_from_sbi(
     requires guide { IsGuide guide }
     requires times { AreTimes times.now }
     requires speed { v ≤ notches top_kmh }
-    requires near { IsWithin reach sbi.at }
+    requires near { IsNearZero reach sbi.at }
     ensures at { places_of result ≡
-        limits_before times.now v (place_where guide) (place_where ebi) (place_of sbi) }
+        limits_from_sbi times.now v (place_where guide) (place_where ebi) (place_of sbi) }
     ensures stands { (g e : Option Fraction) (s : Fraction) →
         IsEarlyWhere guide g → IsEarlyWhere ebi e → IsEarlyFor sbi s →
-        StandFor result (limits_before times.now v g e s) }
+        StandFor result (limits_from_sbi times.now v g e s) }
 {
     // d_P = d_SBI - V_est * T_driver, or the guidance curve's place where that is earlier (SUBSET-026-3 3.13.9.3.5)
     let driver = sbi.less(v.distance_at(T_DRIVER));
@@ -145,12 +145,12 @@ fn limits_from_sbi(
 #[tactic(auto, using(crate::proofs::Places::earlier_place))]
 fn guided(guide: Option<Early>, driver: Early) -> Early
     requires guide { IsGuide guide }
-    requires near { IsWithin (2 * reach) driver.at }
+    requires near { IsNearZero (2 * reach) driver.at }
     ensures at { place_of result ≡
         option_map_or (λ g. lesser g (place_of driver)) (place_where guide) (place_of driver) }
     ensures stands { (g : Option Fraction) (d : Fraction) → IsEarlyWhere guide g → IsEarlyFor driver d →
         IsEarlyFor result (option_map_or (λ x. lesser x d) g d) }
-    ensures near { IsWithin (2 * reach) result.at }
+    ensures near { IsNearZero (2 * reach) result.at }
 {
     match guide {
         Some(guide) => guide.earlier(driver),

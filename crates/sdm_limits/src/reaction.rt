@@ -18,7 +18,7 @@ const A_EST2_MOST: u32 = 40;
 pub struct Reaction {
     /// V_bec: the greatest speed when the emergency brake works, and at least that of the target.
     pub v_bec: Speed,
-    /// D_bec: the greatest way in grains until then.
+    /// D_bec: the greatest distance in grains until then.
     pub d_bec: u64,
 }
 

@@ -1,4 +1,4 @@
-//! Rows worked by hand in m/s and m, at each border of the formulas.
+//! Rows worked by hand in m/s and m, at each limit of the formulas.
 
 ghost use Rattle.std.specs.Prelude.{IfOk};
 ghost use Rattle.sdm_limits.specs.Ranges.{AreTimes, IsGuide};

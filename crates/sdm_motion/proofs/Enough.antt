@@ -1,4 +1,4 @@
--- The energy of a way in whole numbers, and why the products fit.
+-- The energy of a distance in whole numbers, and why the products fit.
 use Rattle.std.proofs.Common.{◌≡◌, ℕ, ℤ, pos, neg_ℤ, ◌-◌, ◌*◌, ◌^◌, ◌<◌, ◌≤◌, ◌+ℤ◌, ◌*ℤ◌, ◌≤ℤ◌, length, arith}
 use Rattle.std.proofs.lemmas.Int.{ints}
 use Rattle.std.proofs.lemmas.Nat.{mul-le}
@@ -7,26 +7,26 @@ use Rattle.sdm_num.proofs.Ints.{scale-+ℤ, scale-≤}
 use Rattle.sdm_rules.specs.Slopes.{Slopes, SlopeMap, bands_of}
 use Rattle.sdm_rules.specs.Curves.{grain_energy}
 use Rattle.sdm_rules.specs.Motion.{BrakesAtLeast}
-use Rattle.sdm_curve.specs.Maps.{handed_in, IsKept}
+use Rattle.sdm_curve.specs.Maps.{handed_in, IsKeptMap}
 use Rattle.sdm_curve.proofs.Meanings.{slope_most, kept_known}
 use Rattle.sdm_motion.specs.Steps.{segment_slope}
 
-pub enough_of : (on : Slopes) (a : ℕ) (p p' : ℤ) (u u' way energy : ℕ) → p' ≡ p +ℤ pos way → energy ≡ grain_energy on (u - u') → p ≤ℤ p' → u' ≤ u → 27 * a * way ≤ energy → BrakesAtLeast on a p u p' u'
-enough_of on a p p' u u' way energy e f forward slower h = record {
+pub enough_of : (on : Slopes) (a : ℕ) (p p' : ℤ) (u u' distance energy : ℕ) → p' ≡ p +ℤ pos distance → energy ≡ grain_energy on (u - u') → p ≤ℤ p' → u' ≤ u → 27 * a * distance ≤ energy → BrakesAtLeast on a p u p' u'
+enough_of on a p p' u u' distance energy e f forward slower h = record {
   forward = forward;
   slower = slower;
   enough = rw (e, scale-+ℤ) (let h' = rw f at h in omega (arith, ints));
 }
 
-pub enough_out : (on : Slopes) (a : ℕ) (p p' : ℤ) (u u' way energy : ℕ) → p' ≡ p +ℤ pos way → energy ≡ grain_energy on (u - u') → BrakesAtLeast on a p u p' u' → 27 * a * way ≤ energy
-enough_out on a p p' u u' way energy e f h = let g = rw (e, scale-+ℤ) at h.enough in rw f (omega (arith, ints, g))
+pub enough_out : (on : Slopes) (a : ℕ) (p p' : ℤ) (u u' distance energy : ℕ) → p' ≡ p +ℤ pos distance → energy ≡ grain_energy on (u - u') → BrakesAtLeast on a p u p' u' → 27 * a * distance ≤ energy
+enough_out on a p p' u u' distance energy e f h = let g = rw (e, scale-+ℤ) at h.enough in rw f (omega (arith, ints, g))
 
 -- a kept slope is small
-pub segment_slope_most : (map : SlopeMap) (band i : ℕ) → IsKept (handed_in map) → band < bands_of map.uppers → i < length map.starts → segment_slope map band i ≤ 10 ^ 15
+pub segment_slope_most : (map : SlopeMap) (band i : ℕ) → IsKeptMap (handed_in map) → band < bands_of map.uppers → i < length map.starts → segment_slope map band i ≤ 10 ^ 15
 segment_slope_most map band i kept band_known known = slope_most map _ kept (kept_known map band i kept band_known known)
 
-pub fits_product : (a way : ℕ) → a ≤ 10 ^ 15 → way ≤ 3 * 10 ^ 21 → 27 * a * way ≤ 81 * 10 ^ 36
-fits_product a way p q = omega (arith, mul-le a way (10 ^ 15) (3 * 10 ^ 21) p q)
+pub fits_product : (a distance : ℕ) → a ≤ 10 ^ 15 → distance ≤ 3 * 10 ^ 21 → 27 * a * distance ≤ 81 * 10 ^ 36
+fits_product a distance p q = omega (arith, mul-le a distance (10 ^ 15) (3 * 10 ^ 21) p q)
 
 -- a motion begins in range
 pub begins_low : (m : ℕ) (f z : ℤ) → m ≤ 256 → IsPlace f → z ≡ pos m *ℤ f → neg_ℤ (pos (2 * 10 ^ 21)) ≤ℤ z

@@ -5,14 +5,14 @@ use Rattle.sdm_rules.specs.declared.motions.Slice.{Slice}
 use Rattle.sdm_rules.specs.declared.motions.Start.{Start}
 use Rattle.sdm_rules.specs.Slopes.{Slopes}
 use Rattle.sdm_rules.specs.Motion.{IsReaction}
-use Rattle.sdm_motion.specs.Motions.{first_of, IsInRange, IsKnownMotion}
+use Rattle.sdm_motion.specs.Motions.{first_of, IsPointInRange, IsKnownMotion}
 use Rattle.sdm_motion.specs.Steps.{AreBraking}
 
 pub known_of : (s : ℕ) (start : Start) (on : Slopes) (xs : List Slice) (points : List Point) (x : Point) (p : ℤ) (v : ℕ) → p ≡ pos (s * s) *ℤ start.front → v ≡ s * start.speed →
-    slice_get points 0 ≡ Some x → All IsInRange points → IsReaction s start v xs → x ≡ first_of p v xs → AreBraking on (s * s) points → IsKnownMotion s start on xs points
+    slice_get points 0 ≡ Some x → All IsPointInRange points → IsReaction s start v xs → x ≡ first_of p v xs → AreBraking on (s * s) points → IsKnownMotion s start on xs points
 known_of s start on xs points x p v p_is v_is at ranges reaction is braking = known_at s start on xs points x at ranges (rw v_is at reaction) (rw (p_is, v_is) at is) braking
   where
-    known_at : (s : ℕ) (start : Start) (on : Slopes) (xs : List Slice) (points : List Point) (x : Point) → slice_get points 0 ≡ Some x → All IsInRange points →
+    known_at : (s : ℕ) (start : Start) (on : Slopes) (xs : List Slice) (points : List Point) (x : Point) → slice_get points 0 ≡ Some x → All IsPointInRange points →
         IsReaction s start (s * start.speed) xs → x ≡ first_of (pos (s * s) *ℤ start.front) (s * start.speed) xs → AreBraking on (s * s) points → IsKnownMotion s start on xs points
     known_at s start on xs [] x at ranges reaction is braking = absurd braking
     known_at s start on xs (y ∷ ys) x at ranges reaction is braking = record {

@@ -1,4 +1,4 @@
--- The cells on a way have one slope exactly where the segments that it meets do.
+-- The cells of a stretch have one slope exactly where the segments that it meets do.
 use Rattle.std.proofs.Common.{◌≡◌, ℕ, ℤ, ◌<◌, ◌≤◌, ◌≤ℤ◌, arith, sym, subst, ◌∙◌}
 use Rattle.std.proofs.lemmas.Int.{ints}
 use Rattle.sdm_rules.specs.declared.motions.Point.{Point}
@@ -30,7 +30,7 @@ segments_have map m band p p' a some starts one i known met =
     let f = found m map.starts i p p' some starts known met in
     sym (slope_in_segment map band f.cell i (rising_of map.starts starts) f.segment) ∙ one f.cell f.part
 
--- ---- braking on a way
+-- ---- braking on a distance
 
 -- where no segment is met, no slope is asked
 pub stays : (map : SlopeMap) (m band : ℕ) (x y : Point) → AreStarts map.starts → NoneIsMet m map.starts x.place y.place → x.place ≤ℤ y.place → y.square ≤ x.square → BrakesIn (meaning_of map) m band x y

@@ -6,23 +6,23 @@ use Rattle.sdm_rules.specs.declared.motions.Slice.{Slice}
 use Rattle.sdm_rules.specs.declared.motions.Start.{Start}
 use Rattle.sdm_rules.specs.Slopes.{SlopeMap, meaning_of}
 use Rattle.sdm_rules.specs.Motion.{BrakesAtLeast, IsBraking, IsMotion, slice_ends}
-use Rattle.sdm_laws.specs.MotionLaws.{IsWithin, IsSteepest, IsHeld, IsInReach}
-use Rattle.sdm_curve.specs.Maps.{handed_in, IsKept}
+use Rattle.sdm_laws.specs.MotionLaws.{IsWithinCurve, IsSteepest, IsHeldByCurve, IsInReach}
+use Rattle.sdm_curve.specs.Maps.{handed_in, IsKeptMap}
 
--- Of one stretch: a train within the curve that brakes at least with the slope `a`, the steepest of its way, is within the
+-- Of one stretch: a train within the curve that brakes at least with the slope `a`, the steepest of its stretch, is within the
 -- curve after it. Places are in 1/m grain, squares in 1/m squared notch (own).
 abbrev pub LawOfMapStretch : Type 0
 LawOfMapStretch =
-    (map : SlopeMap) (m : ℕ) (f : ℤ) (w a : ℕ) (x y : Point) → IsKept (handed_in map) → 0 < m → 0 < a →
+    (map : SlopeMap) (m : ℕ) (f : ℤ) (w a : ℕ) (x y : Point) → IsKeptMap (handed_in map) → 0 < m → 0 < a →
     IsSteepest (meaning_of map) m a x y → BrakesAtLeast (meaning_of map) a x.place x.square y.place y.square →
-    IsWithin (meaning_of map) m f w x → IsWithin (meaning_of map) m f w y
+    IsWithinCurve (meaning_of map) m f w x → IsWithinCurve (meaning_of map) m f w y
 
--- Of braking: a train that begins within the curve and brakes step by step, at least as the slopes of its way, is held by
+-- Of braking: a train that begins within the curve and brakes step by step, at least as the slopes of its stretch, is held by
 -- the curve at every point (own).
 abbrev pub LawOfMapBraking : Type 0
 LawOfMapBraking =
-    (map : SlopeMap) (m : ℕ) (f : ℤ) (w : ℕ) (x : Point) (ys : List Point) → IsKept (handed_in map) → 0 < m →
-    IsBraking (meaning_of map) m x ys → IsWithin (meaning_of map) m f w x → All (IsHeld (meaning_of map) m f w) (x ∷ ys)
+    (map : SlopeMap) (m : ℕ) (f : ℤ) (w : ℕ) (x : Point) (ys : List Point) → IsKeptMap (handed_in map) → 0 < m →
+    IsBraking (meaning_of map) m x ys → IsWithinCurve (meaning_of map) m f w x → All (IsHeldByCurve (meaning_of map) m f w) (x ∷ ys)
 
 -- Of the reaction: in every motion that begins with at most the speed of its start, the ends of the slices and the first
 -- braking point lie at most D_bec past the beginning, with a speed of at most V_bec, for any target speed (own).
@@ -37,5 +37,5 @@ LawOfMapReaction =
 abbrev pub LawOfMapMotion : Type 0
 LawOfMapMotion =
     (map : SlopeMap) (s : ℕ) (start : Start) (f : ℤ) (w : ℕ) (p : ℤ) (v : ℕ) (xs : List Slice) (first : Point) (more : List Point) →
-    IsKept (handed_in map) → 0 < s → IsMotion s start (meaning_of map) p v xs first more →
-    IsWithin (meaning_of map) (s * s) f w first → All (IsHeld (meaning_of map) (s * s) f w) (first ∷ more)
+    IsKeptMap (handed_in map) → 0 < s → IsMotion s start (meaning_of map) p v xs first more →
+    IsWithinCurve (meaning_of map) (s * s) f w first → All (IsHeldByCurve (meaning_of map) (s * s) f w) (first ∷ more)

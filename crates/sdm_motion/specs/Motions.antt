@@ -7,7 +7,7 @@ use Rattle.sdm_rules.specs.Slopes.{Slopes}
 use Rattle.sdm_rules.specs.Motion.{IsMotion, last_point, slice_ends}
 
 -- a point within 10^21 of 0, in 1/s² grains, with a square of at most 10^17, in 1/s² squared notches (own)
-pub record IsInRange (x : Point) : Type 0 where
+pub record IsPointInRange (x : Point) : Type 0 where
   pub low : neg_ℤ (pos (10 ^ 21)) ≤ℤ x.place
   pub high : x.place ≤ℤ pos (10 ^ 21)
   pub square : x.square ≤ 10 ^ 17
@@ -23,4 +23,4 @@ pub record IsKnownMotion (s : ℕ) (start : Start) (on : Slopes) (xs : List Slic
   pub more : List Point
   pub split : points ≡ first ∷ more
   pub motion : IsMotion s start on (pos (s * s) *ℤ start.front) (s * start.speed) xs first more
-  pub ranges : All IsInRange points
+  pub ranges : All IsPointInRange points

@@ -22,12 +22,12 @@ pub record Meets (m : ℕ) (starts : List ℤ) (i : ℕ) (p p' : ℤ) : Type 0 w
   pub begins : BeginsBefore m starts i p'
   pub ends : EndsAfter m starts i p
 
--- so one of the segments (own)
+-- some cell of one of the segments has a part strictly between the places (own)
 pub record IsMet (m : ℕ) (starts : List ℤ) (i : ℕ) (p p' : ℤ) : Type 0 where
   pub known : i < length starts
   pub meets : Meets m starts i p p'
 
--- and so none of them (own)
+-- no cell of any segment has a part strictly between the places (own)
 abbrev pub NoneIsMet : ℕ → List ℤ → ℤ → ℤ → Type 0
 NoneIsMet m starts p p' = (i : ℕ) → i < length starts → Meets m starts i p p' → ⊥
 
@@ -41,7 +41,7 @@ HaveSlope map m band p p' a = (i : ℕ) → i < length map.starts → Meets m ma
 
 -- ---- steps
 
--- all cells on the way have one slope in the band, and the train brakes at least with it (own)
+-- all cells of the stretch have one slope in the band, and the train brakes at least with it (own)
 pub record BrakesIn (on : Slopes) (m band : ℕ) (x y : Point) : Type 0 where
   pub slope : ℕ
   pub one_slope : (cell : ℤ) → HasPart m cell x.place y.place → on.slope band cell ≡ slope

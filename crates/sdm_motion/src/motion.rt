@@ -3,10 +3,10 @@
 ghost use Rattle.std.specs.Prelude.{◌≡◌, ◌↔◌, ◌*◌, ◌^◌, ◌≤◌, ◌*ℤ◌, ◌≤ℤ◌, pos, neg_ℤ, IsTrue, All};
 ghost use Rattle.sdm_num.specs.Units.{IsPlace};
 ghost use Rattle.sdm_rules.specs.Slopes.{meaning_of};
-ghost use Rattle.sdm_motion.specs.Motions.{first_of, IsInRange, IsKnownMotion};
+ghost use Rattle.sdm_motion.specs.Motions.{first_of, IsPointInRange, IsKnownMotion};
 
 use crate::slices::{is_reaction, length_of, speed_after};
-use crate::steps::{are_braking, way_to};
+use crate::steps::{are_braking, distance_to};
 use sdm_curve::BandMap;
 use sdm_rules::{Point, Slice, Start};
 
@@ -18,7 +18,7 @@ const FAST: u128 = 100_000_000_000_000_000;
 
 // Whether a point is in its ranges.
 fn is_in_range(point: &Point) -> bool
-    ensures { IsTrue result ↔ IsInRange point.now }
+    ensures { IsTrue result ↔ IsPointInRange point.now }
 {
     if point.place < -FAR {
         return false;
@@ -31,7 +31,7 @@ fn is_in_range(point: &Point) -> bool
 
 // Whether all points are in their ranges.
 fn are_in_range(points: &[Point]) -> bool
-    ensures { IsTrue result ↔ All IsInRange points.now }
+    ensures { IsTrue result ↔ All IsPointInRange points.now }
 {
     for x in points {
         if !is_in_range(x) {
@@ -53,13 +53,13 @@ fn beginning(m: u32, start: &Start) -> i128
 // Whether the point is where slices from a place and a speed on end, with the square of their last speed.
 fn is_first(point: &Point, slices: &[Slice], from: i128, speed: u64) -> bool
     requires low { neg_ℤ (pos (2 * 10 ^ 21)) ≤ℤ from }
-    requires range { IsInRange point.now }
+    requires range { IsPointInRange point.now }
     ensures { IsTrue result ↔ (point.now ≡ first_of from speed slices.now) }
 {
     if point.place < from {
         return false;
     }
-    if way_to(point, from) != length_of(slices) {
+    if distance_to(point, from) != length_of(slices) {
         return false;
     }
     let last = u128::from(speed_after(speed, slices));

@@ -98,7 +98,7 @@ pub fn is_reaction(scale: u32, slices: &[Slice], start: &Start, speed: u64) -> b
     are_slices(start, speed, slices)
 }
 
-/// The way of all slices.
+/// The distance of all slices.
 pub fn length_of(slices: &[Slice]) -> u128
     ensures { result ≡ length_of slices.now }
 {

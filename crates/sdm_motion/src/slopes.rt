@@ -1,4 +1,4 @@
-//! The slopes that a step meets on its way. Cells of one segment have one slope, so segments are asked in place of cells.
+//! The slopes that a step meets on its stretch. Cells of one segment have one slope, so segments are asked in place of cells.
 
 ghost use Rattle.std.specs.Prelude.{◌≡◌, ◌↔◌, ◌+◌, ◌*◌, ◌<◌, ◌≤◌, ℤ, pos, length, slice_index_or, IsTrue, MatchOption};
 ghost use Rattle.sdm_rules.specs.Slopes.{bands_of};
@@ -13,7 +13,7 @@ use sdm_rules::Point;
 const CELL: i128 = sdm_num::CELL as i128;
 
 // The place where a segment begins.
-fn border(m: u32, map: &BandMap, i: usize) -> i128
+fn segment_start(m: u32, map: &BandMap, i: usize) -> i128
     requires few { m ≤ 256 }
     requires known { i < length map.now.starts }
     ensures { result ≡ cell_start m (slice_index_or map.now.starts i (pos 0)) }
@@ -30,7 +30,7 @@ fn begins_before(m: u32, map: &BandMap, i: usize, point: &Point) -> bool
     if i == 0 {
         return true;
     }
-    border(m, map, i) < point.place
+    segment_start(m, map, i) < point.place
 }
 
 // Whether the segment ends after a point; the last one has no end.
@@ -42,7 +42,7 @@ fn ends_after(m: u32, map: &BandMap, i: usize, point: &Point) -> bool
     if map.segments() <= i + 1 {
         return true;
     }
-    point.place < border(m, map, i + 1)
+    point.place < segment_start(m, map, i + 1)
 }
 
 // Whether some cell of the segment has a part strictly between the points.
@@ -60,7 +60,7 @@ fn meets(m: u32, map: &BandMap, i: usize, from: &Point, to: &Point) -> bool
     ends_after(m, map, i, from)
 }
 
-/// The first segment that a way meets, if there is one.
+/// The first segment that a stretch meets, if there is one.
 pub fn first_met(m: u32, map: &BandMap, from: &Point, to: &Point) -> Option<usize>
     requires few { m ≤ 256 }
     ensures met { MatchOption result (NoneIsMet m map.now.starts from.now.place to.now.place) (λ i. IsMet m map.now.starts i from.now.place to.now.place) }
@@ -83,7 +83,7 @@ pub fn segment_slope(map: &BandMap, band: usize, i: usize) -> u64
     map.slope(band, i) as u64
 }
 
-/// Whether all segments that a way meets have the slope in the band.
+/// Whether all segments that a stretch meets have the slope in the band.
 pub fn have_slope(m: u32, map: &BandMap, band: usize, from: &Point, to: &Point, slope: u64) -> bool
     requires few { m ≤ 256 }
     requires known_band { band < bands_of map.now.uppers }

@@ -4,8 +4,8 @@ ghost use Rattle.std.specs.Prelude.{◌≡◌, ◌↔◌, ◌+◌, ◌*◌, ◌^
 ghost use Rattle.sdm_rules.specs.Slopes.{bands_of, meaning_of};
 ghost use Rattle.sdm_rules.specs.Curves.{grain_energy, upper_square};
 ghost use Rattle.sdm_rules.specs.Motion.{lower_square, BrakesAtLeast, IsInBand, IsStep};
-ghost use Rattle.sdm_curve.specs.Maps.{handed_in, IsKept};
-ghost use Rattle.sdm_motion.specs.Motions.{IsInRange};
+ghost use Rattle.sdm_curve.specs.Maps.{handed_in, IsKeptMap};
+ghost use Rattle.sdm_motion.specs.Motions.{IsPointInRange};
 ghost use Rattle.sdm_motion.specs.Steps.{segment_slope, AreBraking, BrakesIn, IsStepIn};
 
 use crate::slopes::{first_met, have_slope, segment_slope};
@@ -13,7 +13,7 @@ use sdm_curve::BandMap;
 use sdm_rules::Point;
 
 // The square at the upper speed of a band.
-fn border(m: u32, map: &BandMap, band: usize) -> u128
+fn upper_square(m: u32, map: &BandMap, band: usize) -> u128
     requires few { m ≤ 256 }
     requires known { band < length map.now.uppers }
     ensures { result ≡ upper_square (meaning_of map.now) m band }
@@ -31,7 +31,7 @@ fn is_above(m: u32, map: &BandMap, band: usize, square: u128) -> bool
     if band == 0 {
         return true;
     }
-    border(m, map, band - 1) <= square
+    upper_square(m, map, band - 1) <= square
 }
 
 // Whether the square is at or below the upper border of a band; the last one has none.
@@ -43,7 +43,7 @@ fn is_below(m: u32, map: &BandMap, band: usize, square: u128) -> bool
     if map.bands() <= band + 1 {
         return true;
     }
-    square <= border(m, map, band)
+    square <= upper_square(m, map, band)
 }
 
 // Whether the square lies in the band, its borders included.
@@ -62,16 +62,16 @@ fn is_in_band(m: u32, map: &BandMap, band: usize, square: u128) -> bool
 fn energy_of(map: &BandMap, change: u128) -> u128
     requires { change ≤ 10 ^ 17 }
     ensures value { result ≡ grain_energy (meaning_of map.now) change }
-    ensures kept { IsKept (handed_in map.now) }
+    ensures kept { IsKeptMap (handed_in map.now) }
 {
     5_000_000_000_000 * u128::from(map.q()) * change
 }
 
-/// The way from a place to a point that is not before it.
-pub fn way_to(point: &Point, from: i128) -> u128
+/// The distance from a place to a point that is not before it.
+pub fn distance_to(point: &Point, from: i128) -> u128
     requires low { neg_ℤ (pos (2 * 10 ^ 21)) ≤ℤ from }
     requires forward { from ≤ℤ point.now.place }
-    requires range { IsInRange point.now }
+    requires range { IsPointInRange point.now }
     ensures value { point.now.place ≡ from +ℤ pos result }
     ensures small { result ≤ 3 * 10 ^ 21 }
 {
@@ -82,25 +82,25 @@ pub fn way_to(point: &Point, from: i128) -> u128
 fn brakes(map: &BandMap, band: usize, i: usize, from: &Point, to: &Point) -> bool
     requires known_band { band < bands_of map.now.uppers }
     requires known { i < length map.now.starts }
-    requires from { IsInRange from.now }
-    requires to { IsInRange to.now }
+    requires from { IsPointInRange from.now }
+    requires to { IsPointInRange to.now }
     requires forward { from.now.place ≤ℤ to.now.place }
     requires slower { to.now.square ≤ from.now.square }
     ensures { IsTrue result ↔ BrakesAtLeast (meaning_of map.now) (segment_slope map.now band i) from.now.place from.now.square to.now.place to.now.square }
 {
     let energy = energy_of(map, from.square - to.square);
     let slope = u128::from(segment_slope(map, band, i));
-    27 * slope * way_to(to, from.place) <= energy
+    27 * slope * distance_to(to, from.place) <= energy
 }
 
-// Whether all cells on the way have one slope in the band, and the train brakes at least with it. A point that stays asks
+// Whether all cells of the stretch have one slope in the band, and the train brakes at least with it. A point that stays asks
 // no slope.
 fn brakes_in(m: u32, map: &BandMap, band: usize, from: &Point, to: &Point) -> bool
     requires some { 0 < m }
     requires few { m ≤ 256 }
     requires known { band < bands_of map.now.uppers }
-    requires from { IsInRange from.now }
-    requires to { IsInRange to.now }
+    requires from { IsPointInRange from.now }
+    requires to { IsPointInRange to.now }
     requires forward { from.now.place ≤ℤ to.now.place }
     requires slower { to.now.square ≤ from.now.square }
     ensures { IsTrue result ↔ BrakesIn (meaning_of map.now) m band from.now to.now }
@@ -120,8 +120,8 @@ fn is_step_in(m: u32, map: &BandMap, band: usize, from: &Point, to: &Point) -> b
     requires some { 0 < m }
     requires few { m ≤ 256 }
     requires known { band < bands_of map.now.uppers }
-    requires from { IsInRange from.now }
-    requires to { IsInRange to.now }
+    requires from { IsPointInRange from.now }
+    requires to { IsPointInRange to.now }
     ensures { IsTrue result ↔ IsStepIn (meaning_of map.now) m band from.now to.now }
 {
     if to.place < from.place {
@@ -143,8 +143,8 @@ fn is_step_in(m: u32, map: &BandMap, band: usize, from: &Point, to: &Point) -> b
 fn is_step(m: u32, map: &BandMap, from: &Point, to: &Point) -> bool
     requires some { 0 < m }
     requires few { m ≤ 256 }
-    requires from { IsInRange from.now }
-    requires to { IsInRange to.now }
+    requires from { IsPointInRange from.now }
+    requires to { IsPointInRange to.now }
     ensures { IsTrue result ↔ IsStep (meaning_of map.now) m from.now to.now }
 {
     for band in 0..map.bands() {
@@ -159,7 +159,7 @@ fn is_step(m: u32, map: &BandMap, from: &Point, to: &Point) -> bool
 pub fn are_braking(m: u32, map: &BandMap, points: &[Point]) -> bool
     requires some { 0 < m }
     requires few { m ≤ 256 }
-    requires ranges { All IsInRange points.now }
+    requires ranges { All IsPointInRange points.now }
     ensures { IsTrue result ↔ AreBraking (meaning_of map.now) m points.now }
 {
     if points.is_empty() {

@@ -1,5 +1,5 @@
 //! Motions worked by hand. At q = 100 a slope of 200,000,000,000 is 1 m/s², a metre is 540,000,000,000 grains and 1 m/s is
-//! 54,000 notches; the way between two speeds is the difference of their squares by twice the deceleration.
+//! 54,000 notches; the distance between two speeds is the difference of their squares by twice the deceleration.
 
 use crate::{Phase, Point, Slice, Start, is_motion};
 use sdm_curve::{BandMap, is_map_data};
@@ -143,7 +143,7 @@ fn wrong_lines(alloc: Global, table: &str, want: bool) -> Result<Vec<usize>, Fai
     Ok(wrong)
 }
 
-// In each table: map | scale | front, speed, accelerations, times of the start | phase, time, speed, way of slices | place, square of
+// In each table: map | scale | front, speed, accelerations, times of the start | phase, time, speed, distance of slices | place, square of
 // points.
 //
 // A train of 20 m/s at 760 m whose brake takes 2 s to build up: for an SvL at 1000 m it is at its EBI, and still covered. It makes
@@ -157,7 +157,7 @@ level | 16 | 410400000000000 1080000 0 0 0 20 | b 160 17280000 2764800000000000,
 const PAST_THE_SVL: &str = "\
 level | 1 | 410400000000000 1080000 0 0 0 20 | b 10 1080000 10800000000000, b 5 1080000 5400000000000, b 5 1080000 5400000000000 | 432000000000000 1166400000000, 459000000000000 874800000000, 486000000000000 583200000000, 540000000000001 0";
 
-// From row to row: slices that gain 1 cm/s² for 1 s; steps to and over borders of segments, and from band to band; places
+// From row to row: slices that gain 1 cm/s² for 1 s; steps to and over starts of segments, and from band to band; places
 // below 0; the ends of the ranges.
 const MOTIONS: &str = "\
 level | 1 | 0 0 1 0 10 10 | t 10 540 2700000000, b 10 540 5400000000 | 8100000000 291600, 8100000000 0

@@ -75,13 +75,13 @@ same_bound : (a b : ℤ) (s t : ℕ) → a ≡ b → s ≡ t → bound a s ≡ b
 same_bound a b s t p q = cc
 
 pub earlier_is : (e d : Bound) (apart slack : ℕ) → d.at ≡ e.at +ℤ pos apart → slack ≡ min e.slack (apart + d.slack) → bound e.at slack ≡ earlier_of e d
-earlier_is e d apart slack way is = same_bound _ _ _ _ (omega (arith, ints, clamps)) (omega (arith, ints, clamps))
+earlier_is e d apart slack distance is = same_bound _ _ _ _ (omega (arith, ints, clamps)) (omega (arith, ints, clamps))
 
 pub earlier_swap : (e d : Bound) → earlier_of e d ≡ earlier_of d e
 earlier_swap e d = same_bound _ _ _ _ (omega (arith, ints, clamps)) (omega (arith, ints, clamps))
 
 pub later_is : (e d : Bound) (apart slack : ℕ) → e.at ≡ d.at +ℤ pos apart → slack ≡ min e.slack (apart + d.slack) → bound e.at slack ≡ later_of e d
-later_is e d apart slack way is = same_bound _ _ _ _ (omega (arith, ints, clamps)) (omega (arith, ints, clamps))
+later_is e d apart slack distance is = same_bound _ _ _ _ (omega (arith, ints, clamps)) (omega (arith, ints, clamps))
 
 pub later_swap : (e d : Bound) → later_of e d ≡ later_of d e
 later_swap e d = same_bound _ _ _ _ (omega (arith, ints, clamps)) (omega (arith, ints, clamps))

@@ -22,9 +22,9 @@ notches kmh = 15_000 * kmh
 abbrev pub notches_of_mm_s : ℕ → ℕ
 notches_of_mm_s v = 54 * v
 
--- the way in grains at a speed of `v` notches in a time in ds
-abbrev pub way_in : ℕ → ℕ → ℕ
-way_in v time = 1_000_000 * v * time
+-- the distance in grains at a speed of `v` notches in a time in ds
+abbrev pub distance_at : ℕ → ℕ → ℕ
+distance_at v time = 1_000_000 * v * time
 
 -- a place that fits: within 4 * 10^18 grains, about 7,400 km
 abbrev pub IsPlace : ℤ → Type 0

@@ -86,12 +86,12 @@ impl Early {
         if other.at.grains() < self.at.grains() {
             Early {
                 at: other.at,
-                slack: slack_of_both(other.slack, other.at.way_to(self.at), self.slack),
+                slack: slack_of_both(other.slack, other.at.distance_to(self.at), self.slack),
             }
         } else {
             Early {
                 at: self.at,
-                slack: slack_of_both(self.slack, self.at.way_to(other.at), other.slack),
+                slack: slack_of_both(self.slack, self.at.distance_to(other.at), other.slack),
             }
         }
     }
@@ -180,12 +180,12 @@ impl Late {
         if self.at.grains() < other.at.grains() {
             Late {
                 at: other.at,
-                slack: slack_of_both(other.slack, self.at.way_to(other.at), self.slack),
+                slack: slack_of_both(other.slack, self.at.distance_to(other.at), self.slack),
             }
         } else {
             Late {
                 at: self.at,
-                slack: slack_of_both(self.slack, other.at.way_to(self.at), other.slack),
+                slack: slack_of_both(self.slack, other.at.distance_to(self.at), other.slack),
             }
         }
     }

@@ -99,8 +99,8 @@ impl Place {
         }
     }
 
-    /// The way in grains to a place that is not before this one.
-    pub fn way_to(self, later: Place) -> u64
+    /// The distance in grains to a place that is not before this one.
+    pub fn distance_to(self, later: Place) -> u64
         requires { self ≤ℤ later }
         ensures { later ≡ self +ℤ pos result }
     {

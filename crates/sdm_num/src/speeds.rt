@@ -1,7 +1,7 @@
 //! Speeds of the train, of targets and of curves.
 
 ghost use Rattle.std.specs.Prelude.{◌≡◌, ℕ, ◌+◌, ◌*◌, ◌≤◌};
-ghost use Rattle.sdm_num.specs.Units.{notches, notches_of_mm_s, top_speed, way_in};
+ghost use Rattle.sdm_num.specs.Units.{notches, notches_of_mm_s, top_speed, distance_at};
 
 use std::marker::Model;
 
@@ -58,10 +58,10 @@ impl Speed {
         }
     }
 
-    /// The way in grains at this speed within a time of at most 90 s.
+    /// The distance in grains at this speed within a time of at most 90 s.
     pub fn distance_at(self, time_ds: u32) -> u64
         requires { time_ds ≤ 900 }
-        ensures value { result ≡ way_in self time_ds }
+        ensures value { result ≡ distance_at self time_ds }
         ensures small { result ≤ 900_000_000 * self }
     {
         1_000_000 * u64::from(self.notches) * u64::from(time_ds)

@@ -1,4 +1,4 @@
-//! Starts worked by hand in m/s and m: the way to brake from V_rel is V_rel² by twice the deceleration.
+//! Starts worked by hand in m/s and m: the distance to brake from V_rel is V_rel² by twice the deceleration.
 
 ghost use Rattle.std.specs.Prelude.{◌≤◌, IfOk};
 ghost use Rattle.sdm_curve.specs.Made.{IsFootPlace};

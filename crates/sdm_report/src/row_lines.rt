@@ -60,7 +60,7 @@ fn put_places(row: &Row, into: &mut RowBuf)
     put_place(row.indication, into);
 }
 
-// The letter of a type of supervision.
+// The letter of a type of speed and distance monitoring.
 fn state_byte(state: State) -> u8
     ensures { result ∷ [] ≡ state_text state }
 {

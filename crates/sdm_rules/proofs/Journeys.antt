@@ -5,7 +5,7 @@ use Rattle.sdm_rules.specs.declared.data.Band.{Band}
 use Rattle.sdm_rules.specs.declared.data.Gradient.{Gradient}
 use Rattle.sdm_rules.specs.declared.data.Area.{Area}
 use Rattle.sdm_rules.specs.declared.data.NationalFields.{NationalFields}
-use Rattle.sdm_rules.specs.Data.{LineData}
+use Rattle.sdm_rules.specs.Data.{TrainAndTrack}
 
 -- 1 m/s² for each brake
 unfoldable pub plain_band : Band
@@ -15,8 +15,8 @@ unfoldable pub plain_national : NationalFields
 plain_national = record { avadh = pos 20; adhesion_max = pos 70; guidance = false; service_in_target = true; early_release = false; inhibit_under_reading = false }
 
 -- a train of a length in cm, with a rotating mass, one band, gradients and areas of reduced adhesion; 160 km/h, no times
-unfoldable pub plain_line : ℤ → Option ℤ → Band → List Gradient → List Area → LineData
-plain_line length_cm mass band gradients areas = record {
+unfoldable pub plain_train_and_track : ℤ → Option ℤ → Band → List Gradient → List Area → TrainAndTrack
+plain_train_and_track length_cm mass band gradients areas = record {
   train = record { length_cm = length_cm; max_speed = pos 160; rotating_mass = mass; cut_off_time = pos 0; cut_off_interface = false; emergency_time = pos 0; service_time = pos 0; service_brake = true; bands = band ∷ [] };
   national = plain_national;
   track = record { length_cm = pos 200_000; gradients = gradients; speeds = record { start = pos 0; speed = pos 160; delayed = true } ∷ []; areas = areas };

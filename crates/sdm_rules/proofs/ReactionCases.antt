@@ -29,16 +29,16 @@ speed_of_reaction : v_bec (build_up (times_of 10 false 30 0 true) (notches_of_mm
 speed_of_reaction = refl
 
 -- D_bec is 20.25 m in the first second and (20.5 + 0.4) * 2 = 41.8 m in the other two
-way_of_reaction : d_bec (build_up (times_of 10 false 30 0 true) (notches_of_mm_s 20_000) (pos 50)) 0 ≡ 62_050 * millimetre
-way_of_reaction = refl
+distance_of_reaction : d_bec (build_up (times_of 10 false 30 0 true) (notches_of_mm_s 20_000) (pos 50)) 0 ≡ 62_050 * millimetre
+distance_of_reaction = refl
 
 -- a train that brakes already gains nothing: 3 s at 20 m/s
-way_while_braking : d_bec (build_up (times_of 10 false 30 0 true) (notches_of_mm_s 20_000) (negsuc 99)) 0 ≡ 60_000 * millimetre
-way_while_braking = refl
+distance_while_braking : d_bec (build_up (times_of 10 false 30 0 true) (notches_of_mm_s 20_000) (negsuc 99)) 0 ≡ 60_000 * millimetre
+distance_while_braking = refl
 
--- a target at 25 m/s counts for both ways: 1 s and (25 + 0.4) * 2 = 50.8 m
-way_to_a_faster_target : d_bec (build_up (times_of 10 false 30 0 true) (notches_of_mm_s 20_000) (pos 50)) (notches_of_mm_s 25_000) ≡ 75_800 * millimetre
-way_to_a_faster_target = refl
+-- a target at 25 m/s counts for both distances: 1 s and (25 + 0.4) * 2 = 50.8 m
+distance_to_a_faster_target : d_bec (build_up (times_of 10 false 30 0 true) (notches_of_mm_s 20_000) (pos 50)) (notches_of_mm_s 25_000) ≡ 75_800 * millimetre
+distance_to_a_faster_target = refl
 
 -- the EBI ceiling over 160 km/h is 171.25 km/h
 ebi_ceiling : notches 160 + ebi_margin 160 ≡ 171_250 * 15

@@ -15,9 +15,10 @@ first_reading = refl
 first_reaction_speed : v_bec (build_up (times_of 20 true 30 40 true) (notches_of_mm_s 14_987 + 27_000) (negsuc 45)) 0 ≡ notches_of_mm_s 15_487
 first_reaction_speed = refl
 
-first_reaction_way : d_bec (build_up (times_of 20 true 30 40 true) (notches_of_mm_s 14_987 + 27_000) (negsuc 45)) 0 ≡ 46_461 * millimetre
-first_reaction_way = refl
+first_reaction_distance : d_bec (build_up (times_of 20 true 30 40 true) (notches_of_mm_s 14_987 + 27_000) (negsuc 45)) 0 ≡
+    46_461 * millimetre
+first_reaction_distance = refl
 
 -- the third gains 0.27 m/s² for 3 s: from 20.07 to 20.88 m/s, 61.425 m
-third_reaction_way : d_bec (build_up (times_of 20 true 30 40 true) (notches_of_mm_s 19_570 + 27_000) (pos 27)) 0 ≡ 61_425 * millimetre
-third_reaction_way = refl
+third_reaction_distance : d_bec (build_up (times_of 20 true 30 40 true) (notches_of_mm_s 19_570 + 27_000) (pos 27)) 0 ≡ 61_425 * millimetre
+third_reaction_distance = refl

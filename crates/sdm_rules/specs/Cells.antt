@@ -9,8 +9,8 @@ abbrev pub cell_of : ℤ → ℤ
 cell_of place = int_div_euclid place (pos centimetre)
 
 -- the place in grains where a cell begins (own)
-abbrev pub border_of : ℤ → ℤ
-border_of cell = cell *ℤ pos centimetre
+abbrev pub place_of_cell : ℤ → ℤ
+place_of_cell cell = cell *ℤ pos centimetre
 
 -- `n` cells, from `cell` on (own)
 abbrev pub cells : ℤ → ℕ → List ℤ

@@ -60,25 +60,25 @@ upper_square slopes scale band = scale * (slice_index slopes.uppers band * slice
 
 -- from a place with the square `from` back to the greater square `to`, through the bands from `band` on, of which `left` have
 -- an upper speed; `round` is applied to the place wherever two bands meet (own)
-abbrev pub climb : (Fraction → Fraction) → Slopes → ℕ → ℕ → ℕ → Fraction → ℕ → ℕ → Fraction
-climb round slopes scale zero band place from to = arc_back slopes scale band place (to - from)
-climb round slopes scale (suc left) band place from to =
+abbrev pub back_through_bands : (Fraction → Fraction) → Slopes → ℕ → ℕ → ℕ → Fraction → ℕ → ℕ → Fraction
+back_through_bands round slopes scale zero band place from to = arc_back slopes scale band place (to - from)
+back_through_bands round slopes scale (suc left) band place from to =
     let upper = upper_square slopes scale band in
-    let above = climb round slopes scale left (band + 1) place from to in
+    let above = back_through_bands round slopes scale left (band + 1) place from to in
     let here = arc_back slopes scale band place (to - from) in
-    let past = climb round slopes scale left (band + 1) (round (arc_back slopes scale band place (upper - from))) upper to in
+    let past = back_through_bands round slopes scale left (band + 1) (round (arc_back slopes scale band place (upper - from))) upper to in
     let within = if nat_le to upper then here else past in
     if nat_le upper from then above else within
 
 -- from a place with the square `from` forward to the lesser square `to`, through the bands from `band` down; `round` is applied
 -- to the place wherever two bands meet (own)
-abbrev pub descend : (Fraction → Fraction) → Slopes → ℕ → ℕ → Fraction → ℕ → ℕ → Fraction
-descend round slopes scale zero place from to = arc_forward slopes scale zero place (from - to)
-descend round slopes scale (suc band) place from to =
+abbrev pub forward_through_bands : (Fraction → Fraction) → Slopes → ℕ → ℕ → Fraction → ℕ → ℕ → Fraction
+forward_through_bands round slopes scale zero place from to = arc_forward slopes scale zero place (from - to)
+forward_through_bands round slopes scale (suc band) place from to =
     let upper = upper_square slopes scale band in
-    let below = descend round slopes scale band place from to in
+    let below = forward_through_bands round slopes scale band place from to in
     let here = arc_forward slopes scale (suc band) place (from - to) in
-    let past = descend round slopes scale band (round (arc_forward slopes scale (suc band) place (from - upper))) upper to in
+    let past = forward_through_bands round slopes scale band (round (arc_forward slopes scale (suc band) place (from - upper))) upper to in
     let within = if nat_le upper to then here else past in
     if nat_le from upper then below else within
 
@@ -88,8 +88,8 @@ unfoldable pub place_at : (Fraction → Fraction) → Slopes → ℕ → ℤ →
 place_at round slopes scale foot foot_speed square =
     let from = scale * (foot_speed * foot_speed) in
     let place = whole (pos scale *ℤ foot) in
-    let up = climb round slopes scale (length slopes.uppers) 0 place from square in
-    let down = descend round slopes scale (length slopes.uppers) place from square in
+    let up = back_through_bands round slopes scale (length slopes.uppers) 0 place from square in
+    let down = forward_through_bands round slopes scale (length slopes.uppers) place from square in
     if nat_le from square then up else down
 
 -- a place that is not rounded (own)

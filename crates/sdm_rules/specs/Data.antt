@@ -58,7 +58,7 @@ pub record TrackData : Type 0 where
   pub areas : List Area
 
 -- the train, the national values and the track of a journey (SUBSET-026-3 3.13.2)
-pub record LineData : Type 0 where
+pub record TrainAndTrack : Type 0 where
   pub train : TrainData
   pub national : NationalFields  -- the national values (SUBSET-026-3 3.13.2.3, A.3.2)
   pub track : TrackData

@@ -13,7 +13,7 @@ use Rattle.sdm_rules.specs.declared.data.SlopeKind.{SlopeKind}
 use Rattle.sdm_rules.specs.declared.data.SlopeKind.TheVariants.{Safe, Expected, Normal}
 use Rattle.sdm_rules.specs.Cells.{lowest, value_at}
 use Rattle.sdm_rules.specs.Slopes.{Slopes}
-use Rattle.sdm_rules.specs.Data.{TrainData, TrackData, LineData, gradient_unit}
+use Rattle.sdm_rules.specs.Data.{TrainData, TrackData, TrainAndTrack, gradient_unit}
 
 -- ---- the track under the train
 
@@ -98,7 +98,7 @@ slope_under Normal t n u b = pos (q_of t.rotating_mass) *ℤ (cm_s2 *ℤ b.norma
 
 -- The slope of a kind in a band, counted from 0, for a front end in a cell; before cell 0 it is that of cell 0. It is 0 past
 -- the last band (own).
-unfoldable pub slope_at : SlopeKind → LineData → ℕ → ℤ → ℤ
+unfoldable pub slope_at : SlopeKind → TrainAndTrack → ℕ → ℤ → ℤ
 slope_at kind d band cell =
     let u = under_train d.track d.train.length_cm (int_max cell (pos 0)) in
     option_map_or (slope_under kind d.train d.national u) (slice_get d.train.bands band) (pos 0)
@@ -109,5 +109,5 @@ uppers_of bands = filter_map (λ b. option_map (λ v. notches (unsigned_abs v)) 
 
 -- what the brake curves of a kind stand on: EBD on Safe, SBD on Expected, guidance curve on Normal
 -- (SUBSET-026-3 3.13.8.3, 3.13.8.4, 3.13.8.5)
-unfoldable pub slopes_of : SlopeKind → LineData → Slopes
+unfoldable pub slopes_of : SlopeKind → TrainAndTrack → Slopes
 slopes_of kind d = record { q = q_of d.train.rotating_mass; uppers = uppers_of d.train.bands; slope = λ band cell. unsigned_abs (slope_at kind d band cell) }

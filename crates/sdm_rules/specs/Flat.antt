@@ -9,7 +9,7 @@ use Rattle.sdm_rules.specs.declared.faults.EventCause.TheVariants.{Line}
 use Rattle.sdm_rules.specs.declared.faults.CycleFault.{CycleFault}
 use Rattle.sdm_rules.specs.declared.rows.FlatRow.{FlatRow}
 use Rattle.sdm_rules.specs.declared.motions.Start.{Start}
-use Rattle.sdm_rules.specs.Cells.{border_of}
+use Rattle.sdm_rules.specs.Cells.{place_of_cell}
 use Rattle.sdm_rules.specs.Slopes.{Slopes}
 use Rattle.sdm_rules.specs.Limits.{CurvePlaces, computed, exact_places}
 use Rattle.sdm_rules.specs.Triggers.{is_past}
@@ -19,7 +19,7 @@ use Rattle.sdm_rules.specs.Records.{time_fault}
 use Rattle.sdm_rules.specs.Numbers.{read_int}
 use Rattle.sdm_rules.specs.Stop.{StopsBy}
 use Rattle.sdm_rules.specs.Input.{End, Done, BadEvent}
-use Rattle.sdm_rules.specs.Text.{flag_text, line_of}
+use Rattle.sdm_rules.specs.Text.{flag_text, text_line}
 
 -- ---- the curve
 
@@ -46,11 +46,11 @@ flat_opening decel end = record { decel = decel; end = end; last_time = None; eb
 
 -- the curve's place at the line's speed, by some way to find places (own)
 abbrev pub flat_place : CurvePlaces → FlatSupervision → FlatLine → Fraction
-flat_place P s l = P (flat_slopes s.decel) (border_of (pos s.end)) 0 l.speed
+flat_place P s l = P (flat_slopes s.decel) (place_of_cell (pos s.end)) 0 l.speed
 
 -- the front end is past the end (own)
 abbrev pub is_past_flat_end : FlatSupervision → FlatLine → Bool
-is_past_flat_end s l = int_lt (border_of (pos s.end)) l.front
+is_past_flat_end s l = int_lt (place_of_cell (pos s.end)) l.front
 
 -- an emergency: moving past the curve, which is taken so many grains earlier, or past the end (own)
 abbrev pub is_flat_emergency : CurvePlaces → ℕ → FlatSupervision → FlatLine → Bool
@@ -84,7 +84,7 @@ flat_start l = record { front = l.front; speed = l.speed; accel1 = 0; accel2 = 0
 
 -- every motion from the line stops by the end (own)
 abbrev pub StopsByFlatEnd : FlatSupervision → FlatLine → Type 0
-StopsByFlatEnd s l = StopsBy (flat_slopes s.decel) (flat_start l) (border_of (pos s.end))
+StopsByFlatEnd s l = StopsBy (flat_slopes s.decel) (flat_start l) (place_of_cell (pos s.end))
 
 -- ---- its input
 
@@ -125,7 +125,7 @@ flat_line bytes = flat_line_of (comma_fields bytes)
 
 -- the text of a row of `flat` (own)
 unfoldable pub flat_text : FlatRow → List ℕ
-flat_text r = line_of (decimal r.time ∷ signed_decimal r.ebi ∷ flag_text r.covered ∷ flag_text r.eb ∷ [])
+flat_text r = text_line (decimal r.time ∷ signed_decimal r.ebi ∷ flag_text r.covered ∷ flag_text r.eb ∷ [])
 
 -- the text that a command writes before its end, and the end (own)
 pub record Output : Type 0 where

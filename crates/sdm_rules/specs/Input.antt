@@ -7,7 +7,7 @@ use Rattle.sdm_rules.specs.declared.faults.EventFault.{EventFault}
 use Rattle.sdm_rules.specs.declared.faults.EventCause.{EventCause}
 use Rattle.sdm_rules.specs.declared.faults.OpenFault.{OpenFault}
 use Rattle.sdm_rules.specs.declared.rows.Row.{Row}
-use Rattle.sdm_rules.specs.Data.{LineData}
+use Rattle.sdm_rules.specs.Data.{TrainAndTrack}
 use Rattle.sdm_rules.specs.Supervision.{opening}
 use Rattle.sdm_rules.specs.Records.{journey_from}
 use Rattle.sdm_rules.specs.Opening.{IsAccepted, IsOpenFault}
@@ -32,7 +32,7 @@ pub data End : Type 0 where
 pub record Reader (Table Fields : Type 0) : Type 0 where
   pub divide : List ℕ → Option (ℕ × ℕ)
   pub document : List ℕ → Option Table
-  pub data_of : Table → Result (LineData × Authority) DataFault
+  pub data_of : Table → Result (TrainAndTrack × Authority) DataFault
   pub records : List ℕ → List Fields
   pub form : Fields → Result Event EventFault
 
@@ -43,13 +43,13 @@ end_of_journey (Some (n, cause)) = BadEvent n cause
 
 module _ {Table Fields : Type 0} (reader : Reader Table Fields) where
   -- the rows and the end from accepted data and an accepted authority on (own)
-  pub record IsOpened (line : LineData) (a : Authority) (records : List Fields) (rows : List Row) (end : End) : Type 0 where
-    pub accepted : IsAccepted line a
-    pub rows_are : rows ≡ (journey_from reader.form 1 (opening line a) records).rows
-    pub end_is : end ≡ end_of_journey (journey_from reader.form 1 (opening line a) records).refused
+  pub record IsOpened (train_and_track : TrainAndTrack) (a : Authority) (records : List Fields) (rows : List Row) (end : End) : Type 0 where
+    pub accepted : IsAccepted train_and_track a
+    pub rows_are : rows ≡ (journey_from reader.form 1 (opening train_and_track a) records).rows
+    pub end_is : end ≡ end_of_journey (journey_from reader.form 1 (opening train_and_track a) records).refused
 
   -- the rows and the end from the data on; rows are written only after an accepted opening (own)
-  abbrev pub IsAfterData : List Row → End → List Fields → Result (LineData × Authority) DataFault → Type 0
+  abbrev pub IsAfterData : List Row → End → List Fields → Result (TrainAndTrack × Authority) DataFault → Type 0
   IsAfterData rows end records (Err fault) = (rows ≡ []) × (end ≡ Data fault)
   IsAfterData rows end records (Ok x) = IsOpened x.0 x.1 records rows end ⊎ ((fault : OpenFault) × IsOpenFault x.0 x.1 fault × (rows ≡ []) × (end ≡ Refused fault))
 

@@ -2,7 +2,7 @@
 -- the exact places, or those that the supervisor computes.
 use Rattle.std.specs.Prelude.{ℕ, ℤ, pos, Option, Some, None, ◌+◌, if◌then◌else◌}
 use Rattle.std.specs.Option.{option_map_or}
-use Rattle.sdm_num.specs.Units.{notches, way_in}
+use Rattle.sdm_num.specs.Units.{notches, distance_at}
 use Rattle.sdm_num.specs.Fractions.{Fraction, less, lesser, whole}
 use Rattle.sdm_num.specs.Readings.{OdometerReading}
 use Rattle.sdm_rules.specs.declared.data.Times.{Times}
@@ -10,13 +10,13 @@ use Rattle.sdm_rules.specs.declared.data.SlopeKind.TheVariants.{Safe, Expected, 
 use Rattle.sdm_rules.specs.declared.targets.TargetKind.{TargetKind}
 use Rattle.sdm_rules.specs.declared.targets.TargetKind.TheVariants.{Mrsp, Loa, Eoa, Svl}
 use Rattle.sdm_rules.specs.declared.targets.Target.{Target}
-use Rattle.sdm_rules.specs.Cells.{border_of}
+use Rattle.sdm_rules.specs.Cells.{place_of_cell}
 use Rattle.sdm_rules.specs.Slopes.{Slopes}
 use Rattle.sdm_rules.specs.Curves.{exact, stepped}
-use Rattle.sdm_rules.specs.Data.{LineData}
+use Rattle.sdm_rules.specs.Data.{TrainAndTrack}
 use Rattle.sdm_rules.specs.Decelerations.{slopes_of}
 use Rattle.sdm_rules.specs.Targets.{target_speed, foot_speed_of}
-use Rattle.sdm_rules.specs.Reaction.{line_times, build_up_from, v_bec, d_bec, warning_time, driver_time}
+use Rattle.sdm_rules.specs.Reaction.{reaction_times, build_up_from, v_bec, d_bec, warning_time, driver_time}
 
 -- where a brake curve on slopes, from a foot (grains) with a foot speed (notches), has a speed (notches) (own)
 abbrev pub CurvePlaces : Type 0
@@ -40,54 +40,54 @@ pub record SupervisionLimits : Type 0 where
 
 -- d_W = d_SBI - V_est * T_warning; d_P = d_SBI - V_est * T_driver, or the guidance curve's place where that is earlier;
 -- d_I = d_P - V_est * T_indication (SUBSET-026-3 3.13.9.3.4 to 3.13.9.3.6; own form)
-abbrev pub limits_before : Times → ℕ → Option Fraction → Option Fraction → Fraction → SupervisionLimits
-limits_before times v guide ebi sbi =
-    let driver = less sbi (way_in v driver_time) in
+abbrev pub limits_from_sbi : Times → ℕ → Option Fraction → Option Fraction → Fraction → SupervisionLimits
+limits_from_sbi times v guide ebi sbi =
+    let driver = less sbi (distance_at v driver_time) in
     let permitted = option_map_or (λ g. lesser g driver) guide driver in
-    record { ebi = ebi; sbi = sbi; warning = less sbi (way_in v warning_time); permitted = permitted; indication = less permitted (way_in v times.indication) }
+    record { ebi = ebi; sbi = sbi; warning = less sbi (distance_at v warning_time); permitted = permitted; indication = less permitted (distance_at v times.indication) }
 
 -- the limits on an EBD: d_EBI = d_EBD(V_bec) - D_bec and d_SBI = d_EBI - V_est * T_bs, with the curve's place at V_bec
 -- (SUBSET-026-3 3.13.9.3.2, 3.13.9.3.3)
 abbrev pub ebd_limits_at : Times → ℕ → Option Fraction → ℕ → Fraction → SupervisionLimits
-ebd_limits_at times v guide bec_way place =
-    let ebi = less place bec_way in
-    limits_before times v guide (Some ebi) (less ebi (way_in v times.bs))
+ebd_limits_at times v guide bec_distance place =
+    let ebi = less place bec_distance in
+    limits_from_sbi times v guide (Some ebi) (less ebi (distance_at v times.bs))
 
 -- the limits on an SBD: d_SBI = d_SBD(V_est) - V_est * T_bs, with the curve's place at V_est (SUBSET-026-3 3.13.9.3.3)
 abbrev pub sbd_limits_at : Times → ℕ → Option Fraction → Fraction → SupervisionLimits
-sbd_limits_at times v guide place = limits_before times v guide None (less place (way_in v times.bs))
+sbd_limits_at times v guide place = limits_from_sbi times v guide None (less place (distance_at v times.bs))
 
 -- V_bec for a target (SUBSET-026-3 3.13.9.3.2)
-abbrev pub v_bec_for : LineData → OdometerReading → Target → ℕ
+abbrev pub v_bec_for : TrainAndTrack → OdometerReading → Target → ℕ
 v_bec_for d r t = v_bec (build_up_from d r) (target_speed t)
 
 -- D_bec for a target, in grains (SUBSET-026-3 3.13.9.3.2)
-abbrev pub d_bec_for : LineData → OdometerReading → Target → ℕ
+abbrev pub d_bec_for : TrainAndTrack → OdometerReading → Target → ℕ
 d_bec_for d r t = d_bec (build_up_from d r) (target_speed t)
 
 -- the limits of a target with an EBD: its foot is at the target place with the foot speed (SUBSET-026-3 3.13.8.3, 3.13.9.3)
-abbrev pub ebd_limits_of : CurvePlaces → LineData → OdometerReading → Target → Option Fraction → SupervisionLimits
+abbrev pub ebd_limits_of : CurvePlaces → TrainAndTrack → OdometerReading → Target → Option Fraction → SupervisionLimits
 ebd_limits_of P d r t guide =
-    ebd_limits_at (line_times d) r.speed guide (d_bec_for d r t) (P (slopes_of Safe d) t.place (foot_speed_of t) (v_bec_for d r t))
+    ebd_limits_at (reaction_times d) r.speed guide (d_bec_for d r t) (P (slopes_of Safe d) t.place (foot_speed_of t) (v_bec_for d r t))
 
 -- the limits of the EOA, on the SBD: its foot is speed 0 at the EOA (SUBSET-026-3 3.13.8.4, 3.13.9.3)
-abbrev pub sbd_limits_of : CurvePlaces → LineData → OdometerReading → Target → Option Fraction → SupervisionLimits
-sbd_limits_of P d r t guide = sbd_limits_at (line_times d) r.speed guide (P (slopes_of Expected d) t.place 0 r.speed)
+abbrev pub sbd_limits_of : CurvePlaces → TrainAndTrack → OdometerReading → Target → Option Fraction → SupervisionLimits
+sbd_limits_of P d r t guide = sbd_limits_at (reaction_times d) r.speed guide (P (slopes_of Expected d) t.place 0 r.speed)
 
 -- the guidance curve's place at V_est, where Q_NVGUIPERM permits guidance: its foot is at the target place with the target
 -- speed (SUBSET-026-3 3.13.8.5; own feet)
-abbrev pub guidance_place : CurvePlaces → LineData → OdometerReading → Target → Option Fraction
+abbrev pub guidance_place : CurvePlaces → TrainAndTrack → OdometerReading → Target → Option Fraction
 guidance_place P d r t = if d.national.guidance then Some (P (slopes_of Normal d) t.place (target_speed t) r.speed) else None
 
 -- the limits of a target by its kind; the SvL has no guidance curve of its own (own)
-abbrev pub limits_of_kind : CurvePlaces → LineData → OdometerReading → Target → TargetKind → SupervisionLimits
+abbrev pub limits_of_kind : CurvePlaces → TrainAndTrack → OdometerReading → Target → TargetKind → SupervisionLimits
 limits_of_kind P d r t Mrsp = ebd_limits_of P d r t (guidance_place P d r t)
 limits_of_kind P d r t Loa = ebd_limits_of P d r t (guidance_place P d r t)
 limits_of_kind P d r t Eoa = sbd_limits_of P d r t (guidance_place P d r t)
 limits_of_kind P d r t Svl = ebd_limits_of P d r t None
 
 -- the limits of a target at a reading (SUBSET-026-3 3.13.9.3)
-unfoldable pub limits_of : CurvePlaces → LineData → OdometerReading → Target → SupervisionLimits
+unfoldable pub limits_of : CurvePlaces → TrainAndTrack → OdometerReading → Target → SupervisionLimits
 limits_of P d r t = limits_of_kind P d r t t.kind
 
 -- where release speed monitoring starts, with the places of the EBD and the SBD at the release speed V_rel (notches): the
@@ -95,11 +95,12 @@ limits_of P d r t = limits_of_kind P d r t t.kind
 -- (SUBSET-026-3 3.13.9.4; own form)
 abbrev pub release_start_at : Times → ℕ → Fraction → Fraction → Fraction
 release_start_at times v ebd sbd =
-    lesser (less sbd (way_in v times.bs)) (less ebd (way_in v (times.traction + times.berem + times.bs)))
+    lesser (less sbd (distance_at v times.bs)) (less ebd (distance_at v (times.traction + times.berem + times.bs)))
 
 -- where release speed monitoring starts, with EOA and SvL in cm and the release speed in km/h: both curves have speed 0 at their foot
 -- (SUBSET-026-3 3.13.9.4; own form)
-unfoldable pub release_start : CurvePlaces → LineData → ℕ → ℕ → ℕ → Fraction
+unfoldable pub release_start : CurvePlaces → TrainAndTrack → ℕ → ℕ → ℕ → Fraction
 release_start P d eoa svl release =
     let v = notches release in
-    release_start_at (line_times d) v (P (slopes_of Safe d) (border_of (pos svl)) 0 v) (P (slopes_of Expected d) (border_of (pos eoa)) 0 v)
+    release_start_at (reaction_times d) v (P (slopes_of Safe d) (place_of_cell (pos svl)) 0 v)
+        (P (slopes_of Expected d) (place_of_cell (pos eoa)) 0 v)

@@ -1,6 +1,6 @@
 -- Three machines for the emergency command, which differ in the limits of targets alone (own). The exact machine has the exact limits,
 -- the row machine, which is the supervisor, the computed ones, the early machine the exact limits one millimetre earlier.
--- All take the type of supervision from the row machine, and each holds its own command.
+-- All take the type of speed and distance monitoring from the row machine, and each holds its own command.
 use Rattle.std.specs.Prelude.{◌≡◌, ℕ, Bool, IsTrue, ◌==◌}
 use Rattle.sdm_num.specs.Units.{millimetre}
 use Rattle.sdm_num.specs.Readings.{OdometerReading}
@@ -14,7 +14,8 @@ use Rattle.sdm_rules.specs.Supervision.{Supervision, situation_of, commands_in, 
 -- limit so many grains earlier (own)
 unfoldable pub machine_after : CurvePlaces → ℕ → Supervision → OdometerReading → Bool → Bool
 machine_after P shift s r held =
-    emergency_after held (triggers_of (limits_of P s.line r) shift (situation_of s r)) (r.speed == 0) s.line.national.early_release
+    emergency_after held (triggers_of (limits_of P s.train_and_track r) shift (situation_of s r))
+        (r.speed == 0) s.train_and_track.national.early_release
 
 -- the exact machine: where it commands the emergency brake, the supervisor must (own)
 abbrev pub must_after : Supervision → OdometerReading → Bool → Bool
@@ -39,10 +40,10 @@ KeepsOrder s r eb = (must may : Bool) → InOrder must s.commands.eb may → InO
 
 -- the emergency command of the supervisor after a reading (own)
 abbrev pub held_after : Supervision → OdometerReading → Bool
-held_after s r = (commands_in s.line s.commands r (situation_of s r)).eb
+held_after s r = (commands_in s.train_and_track s.commands r (situation_of s r)).eb
 
 -- The row of a reading is in release speed monitoring wherever the max safe front end is past the exact start of it, and only
 -- where it is past that place less one millimetre (own)
-pub record IsReleasedAt (s : Supervision) (r : OdometerReading) (eoa svl release : ℕ) : Type 0 where
-  pub always : IsTrue (is_past 0 r.max (release_start exact_places s.line eoa svl release)) → (row_of s r).state ≡ R
-  pub only : (row_of s r).state ≡ R → IsTrue (is_past millimetre r.max (release_start exact_places s.line eoa svl release))
+pub record BeginsReleaseMonitoringAt (s : Supervision) (r : OdometerReading) (eoa svl release : ℕ) : Type 0 where
+  pub always : IsTrue (is_past 0 r.max (release_start exact_places s.train_and_track eoa svl release)) → (row_of s r).state ≡ R
+  pub only : (row_of s r).state ≡ R → IsTrue (is_past millimetre r.max (release_start exact_places s.train_and_track eoa svl release))

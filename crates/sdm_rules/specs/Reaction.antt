@@ -4,7 +4,7 @@ use Rattle.std.specs.Prelude.{ℕ, ℤ, pos, negsuc, Bool, ◌&&◌, ◌+◌, �
 use Rattle.sdm_num.specs.Readings.{OdometerReading}
 use Rattle.sdm_rules.specs.declared.data.Times.{Times}
 use Rattle.sdm_rules.specs.declared.motions.Start.{Start}
-use Rattle.sdm_rules.specs.Data.{LineData}
+use Rattle.sdm_rules.specs.Data.{TrainAndTrack}
 
 -- ---- times
 
@@ -40,12 +40,12 @@ times_of cut_off interface emergency service in_use =
 
 -- the service brake is in use: the train has one, and the national values permit it (SUBSET-026-3 3.13.9.3; own: one
 -- permission for ceiling and target speed monitoring together)
-abbrev pub service_in_use : LineData → Bool
+abbrev pub service_in_use : TrainAndTrack → Bool
 service_in_use d = d.train.service_brake && d.national.service_in_target
 
 -- the times of reaction of a train under its national values (SUBSET-026-3 3.13.9.3)
-unfoldable pub line_times : LineData → Times
-line_times d = times_of (unsigned_abs d.train.cut_off_time) d.train.cut_off_interface (unsigned_abs d.train.emergency_time) (unsigned_abs d.train.service_time) (service_in_use d)
+unfoldable pub reaction_times : TrainAndTrack → Times
+reaction_times d = times_of (unsigned_abs d.train.cut_off_time) d.train.cut_off_interface (unsigned_abs d.train.emergency_time) (unsigned_abs d.train.service_time) (service_in_use d)
 
 -- ---- until the emergency brake works
 
@@ -90,12 +90,12 @@ abbrev pub a_est2 : ℤ → ℕ
 a_est2 a = min (a_est1 a) 40
 
 -- V_delta0: the under-reading amount, 0 where the national values inhibit the compensation (SUBSET-026-3 3.13.9.3.2)
-abbrev pub v_delta0 : LineData → ℕ → ℕ
+abbrev pub v_delta0 : TrainAndTrack → ℕ → ℕ
 v_delta0 d under = if d.national.inhibit_under_reading then 0 else under
 
 -- the greatest true speed at a reading, V_est + V_delta0, in notches (SUBSET-026-3 3.13.9.3.2)
-abbrev pub greatest_speed : LineData → OdometerReading → ℕ
-greatest_speed d r = r.speed + v_delta0 d r.under
+abbrev pub v_est_delta0 : TrainAndTrack → OdometerReading → ℕ
+v_est_delta0 d r = r.speed + v_delta0 d r.under
 
 -- the train from the moment on that the emergency brake is commanded, by its times of reaction, its speed V_est + V_delta0 and its
 -- acceleration (SUBSET-026-3 3.13.9.3.2)
@@ -103,11 +103,11 @@ abbrev pub build_up : Times → ℕ → ℤ → BuildUp
 build_up times v0 accel = record { speed = v0; accel1 = a_est1 accel; accel2 = a_est2 accel; traction = times.traction; berem = times.berem }
 
 -- the train at a reading, from the moment on that the emergency brake is commanded (SUBSET-026-3 3.13.9.3.2)
-abbrev pub build_up_from : LineData → OdometerReading → BuildUp
-build_up_from d r = build_up (line_times d) (greatest_speed d r) r.accel
+abbrev pub build_up_from : TrainAndTrack → OdometerReading → BuildUp
+build_up_from d r = build_up (reaction_times d) (v_est_delta0 d r) r.accel
 
 -- the start of motions from a reading: the true front end and speed are at most these (own)
-abbrev pub start_of : LineData → OdometerReading → Start
-start_of d r =
+abbrev pub reaction_start : TrainAndTrack → OdometerReading → Start
+reaction_start d r =
     let b = build_up_from d r in
     record { front = r.max; speed = b.speed; accel1 = b.accel1; accel2 = b.accel2; traction = b.traction; berem = b.berem }

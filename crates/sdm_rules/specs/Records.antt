@@ -81,8 +81,9 @@ quiet s = record { after = s; row = None }
 -- the step of a record, or why it is refused (own)
 unfoldable pub step : Supervision → Event → Result Step EventCause
 step s (record_kinds.Read r) = unless time_cause (time_fault s.last_time r.time) (record { after = after_reading s r; row = Some (row_of s r) })
-step s (record_kinds.Authority a) = unless causes.Authority (authority_fault s.line.track.length_cm a) (quiet (after_authority s a))
-step s (record_kinds.Restrict r) = unless causes.Restrict (restrict_fault s.line.track.length_cm s.restrictions r) (quiet (after_restriction s r))
+step s (record_kinds.Authority a) = unless causes.Authority (authority_fault s.train_and_track.track.length_cm a)
+    (quiet (after_authority s a))
+step s (record_kinds.Restrict r) = unless causes.Restrict (restrict_fault s.train_and_track.track.length_cm s.restrictions r) (quiet (after_restriction s r))
 step s (record_kinds.Revoke id) = unless causes.Revoke (revoke_fault s.restrictions id) (quiet (after_revocation s id))
 
 -- ---- a list of records

@@ -8,13 +8,13 @@ use Rattle.sdm_rules.specs.declared.data.SlopeKind.TheVariants.{Safe}
 use Rattle.sdm_rules.specs.declared.authorities.Authority.TheVariants.{Stop}
 use Rattle.sdm_rules.specs.declared.targets.Target.{Target}
 use Rattle.sdm_rules.specs.declared.targets.TargetKind.TheVariants.{Eoa, Svl}
-use Rattle.sdm_rules.specs.Cells.{border_of}
+use Rattle.sdm_rules.specs.Cells.{place_of_cell}
 use Rattle.sdm_rules.specs.Slopes.{Slopes}
 use Rattle.sdm_rules.specs.Motion.{IsMotionFrom, IsBy, KeepsTo, slice_ends}
-use Rattle.sdm_rules.specs.Data.{LineData}
+use Rattle.sdm_rules.specs.Data.{TrainAndTrack}
 use Rattle.sdm_rules.specs.Decelerations.{slopes_of}
 use Rattle.sdm_rules.specs.Targets.{foot_speed_of}
-use Rattle.sdm_rules.specs.Reaction.{start_of}
+use Rattle.sdm_rules.specs.Reaction.{reaction_start}
 use Rattle.sdm_rules.specs.Limits.{v_bec_for}
 use Rattle.sdm_rules.specs.Supervision.{Supervision, situation_of}
 
@@ -35,13 +35,13 @@ SlowsTo on start place w =
     IsMotionOn on start s p v xs first more → All (KeepsTo s place w) (slice_ends p v xs ++ first ∷ more)
 
 -- every motion within the bounds of a reading that brakes from T_traction + T_berem after it on stops at or before the SvL, in cm (own)
-abbrev pub StopsBySvl : LineData → OdometerReading → ℕ → Type 0
-StopsBySvl d r svl = StopsBy (slopes_of Safe d) (start_of d r) (border_of (pos svl))
+abbrev pub StopsBySvl : TrainAndTrack → OdometerReading → ℕ → Type 0
+StopsBySvl d r svl = StopsBy (slopes_of Safe d) (reaction_start d r) (place_of_cell (pos svl))
 
 -- every motion within the bounds of a reading that brakes from T_traction + T_berem after it on has, at or past the target, at most
 -- the target's speed with its EBI margin (own)
-abbrev pub MeetsTarget : LineData → OdometerReading → Target → Type 0
-MeetsTarget d r t = SlowsTo (slopes_of Safe d) (start_of d r) t.place (foot_speed_of t)
+abbrev pub MeetsTarget : TrainAndTrack → OdometerReading → Target → Type 0
+MeetsTarget d r t = SlowsTo (slopes_of Safe d) (reaction_start d r) t.place (foot_speed_of t)
 
 -- the target limits the speed: it is a fall of the MRSP or an LOA (own)
 abbrev pub IsSpeedTarget : Target → Type 0
@@ -49,12 +49,12 @@ IsSpeedTarget t = (t.kind ≢ Eoa) × (t.kind ≢ Svl)
 
 -- the promise of a covered reading: the train stops at or before the SvL, where there is one, and meets each target of speed (own)
 pub record IsSafe (s : Supervision) (r : OdometerReading) : Type 0 where
-  pub stops : (eoa svl release : ℕ) → s.authority ≡ Stop eoa svl release → StopsBySvl s.line r svl
-  pub meets : (t : Target) → Contains (situation_of s r).targets t → IsSpeedTarget t → MeetsTarget s.line r t
+  pub stops : (eoa svl release : ℕ) → s.authority ≡ Stop eoa svl release → StopsBySvl s.train_and_track r svl
+  pub meets : (t : Target) → Contains (situation_of s r).targets t → IsSpeedTarget t → MeetsTarget s.train_and_track r t
 
 -- a target of speed that keeps a row from being covered where no emergency brake is commanded: V_est is at most its foot speed
 -- V_target + dV_ebi(V_target), so V_est cannot trigger its EBI, and V_bec, with the under-reading, is above it (own)
-pub record IsGap (s : Supervision) (r : OdometerReading) (t : Target) : Type 0 where
+pub record IsUncoveredSpeedTarget (s : Supervision) (r : OdometerReading) (t : Target) : Type 0 where
   pub is_speed : IsSpeedTarget t
   pub slow : r.speed ≤ foot_speed_of t
-  pub may_gain : foot_speed_of t < v_bec_for s.line r t
+  pub may_gain : foot_speed_of t < v_bec_for s.train_and_track r t

@@ -17,9 +17,9 @@ use Rattle.sdm_rules.specs.declared.commands.State.{State}
 use Rattle.sdm_rules.specs.declared.commands.State.TheVariants.{C, T, R}
 use Rattle.sdm_rules.specs.declared.commands.Held.{Held}
 use Rattle.sdm_rules.specs.declared.rows.Row.{Row}
-use Rattle.sdm_rules.specs.Cells.{border_of}
+use Rattle.sdm_rules.specs.Cells.{place_of_cell}
 use Rattle.sdm_num.specs.Readings.{OdometerReading}
-use Rattle.sdm_rules.specs.Data.{LineData}
+use Rattle.sdm_rules.specs.Data.{TrainAndTrack}
 use Rattle.sdm_rules.specs.Profile.{mrsp, lowest_between}
 use Rattle.sdm_rules.specs.Targets.{targets_of, target_speed, foot_speed_of}
 use Rattle.sdm_rules.specs.Reaction.{service_in_use}
@@ -30,36 +30,36 @@ use Rattle.sdm_rules.specs.Commands.{commands_after, nothing_held}
 -- what a supervisor holds: the data, the authority, the temporary restrictions by identity, the time of the last reading
 -- in ds, and the commands with the status (own)
 pub record Supervision : Type 0 where
-  pub line : LineData
+  pub train_and_track : TrainAndTrack
   pub authority : Authority
   pub restrictions : finite.FinMap nat_cmp Restriction
   pub last_time : Option ℕ
   pub commands : Held
 
 -- the supervision state after the opening: no restriction, no reading and no command (own)
-abbrev pub opening : LineData → Authority → Supervision
-opening d a = record { line = d; authority = a; restrictions = finite.empty; last_time = None; commands = nothing_held }
+abbrev pub opening : TrainAndTrack → Authority → Supervision
+opening d a = record { train_and_track = d; authority = a; restrictions = finite.empty; last_time = None; commands = nothing_held }
 
 -- the MRSP in force, in km/h by cell (SUBSET-026-3 3.13.7)
 abbrev pub profile_of : Supervision → ℤ → ℕ
-profile_of s = mrsp s.line.train s.line.track (finite.values s.restrictions)
+profile_of s = mrsp s.train_and_track.train s.train_and_track.track (finite.values s.restrictions)
 
 -- the release speed in km/h, where there is one and the max safe front end is past the start of release speed monitoring, by
 -- the computed places (SUBSET-026-3 3.13.10.5; own)
-abbrev pub release_of : LineData → Authority → ℤ → Option ℕ
+abbrev pub release_of : TrainAndTrack → Authority → ℤ → Option ℕ
 release_of d (Stop eoa svl release) front =
     if nat_lt 0 release && is_past 0 front (release_start computed d eoa svl release) then Some release else None
 release_of d (Limit loa speed) front = None
 
 -- the min safe front end is past the EOA (SUBSET-026-3 3.13.10; own)
 abbrev pub is_past_end : Authority → ℤ → Bool
-is_past_end (Stop eoa svl release) min = int_lt (border_of (pos eoa)) min
+is_past_end (Stop eoa svl release) min = int_lt (place_of_cell (pos eoa)) min
 is_past_end (Limit loa speed) min = false
 
 -- what the triggers look at, for a state and a reading (own)
 unfoldable pub situation_of : Supervision → OdometerReading → Situation
 situation_of s r =
-    let release = release_of s.line s.authority r.max in
+    let release = release_of s.train_and_track s.authority r.max in
     record {
       speed = r.speed;
       ceiling_kmh = lowest_between (profile_of s) r.min r.max;
@@ -68,15 +68,15 @@ situation_of s r =
       targets = targets_of (profile_of s) s.authority r.max (is_some release);
       past_end = is_past_end s.authority r.min;
       release = release;
-      in_use = service_in_use s.line;
+      in_use = service_in_use s.train_and_track;
     }
 
--- the type of supervision; release speed monitoring is decided first (SUBSET-026-3 3.13.10.6; own)
-unfoldable pub state_in : LineData → OdometerReading → Situation → State
+-- the type of speed and distance monitoring; release speed monitoring is decided first (SUBSET-026-3 3.13.10.6; own)
+unfoldable pub state_in : TrainAndTrack → OdometerReading → Situation → State
 state_in d r now = if is_some now.release then R else if is_indicated (limits_of computed d r) now then T else C
 
 -- the commands after a reading, from the commands that are held, by the computed limits (SUBSET-026-3 3.13.10)
-unfoldable pub commands_in : LineData → Held → OdometerReading → Situation → Held
+unfoldable pub commands_in : TrainAndTrack → Held → OdometerReading → Situation → Held
 commands_in d held r now =
     commands_after held (triggers_of (limits_of computed d r) 0 now) (state_in d r now) (r.speed == 0) d.national.early_release now.in_use
 
@@ -103,17 +103,17 @@ is_met_by_speed Eoa bec foot = false
 is_met_by_speed Svl bec foot = false
 
 -- the max safe front end is at or before the target's computed EBI, or the target is met by speed (own)
-abbrev pub is_covered_for : LineData → OdometerReading → Target → Bool
+abbrev pub is_covered_for : TrainAndTrack → OdometerReading → Target → Bool
 is_covered_for d r t = option_map_or (λ ebi. not (is_past 0 r.max ebi) || is_met_by_speed t.kind (v_bec_for d r t) (foot_speed_of t)) (limits_of computed d r t).ebi true
 
 -- covered: the state isn't R, and each target with an EBI has the max safe front end at or before its computed EBI, or V_bec at most
 -- its foot speed. Then `IsSafe` is promised, of every motion that brakes from T_traction + T_berem after the reading on; else nothing
 -- is said (own)
-unfoldable pub is_covered_in : LineData → OdometerReading → Situation → Bool
+unfoldable pub is_covered_in : TrainAndTrack → OdometerReading → Situation → Bool
 is_covered_in d r now = not (is_some now.release) && list_all (is_covered_for d r) now.targets
 
 -- the row of a reading in a situation (own)
-unfoldable pub row_in : LineData → Held → OdometerReading → Situation → Row
+unfoldable pub row_in : TrainAndTrack → Held → OdometerReading → Situation → Row
 row_in d held r now =
     let limits = limits_of computed d r in
     record {
@@ -131,13 +131,13 @@ row_in d held r now =
 
 -- the row of a reading (own)
 abbrev pub row_of : Supervision → OdometerReading → Row
-row_of s r = row_in s.line s.commands r (situation_of s r)
+row_of s r = row_in s.train_and_track s.commands r (situation_of s r)
 
 -- ---- after a record
 
 -- the supervision state after an accepted reading (own)
 unfoldable pub after_reading : Supervision → OdometerReading → Supervision
-after_reading s r = record s { last_time = Some r.time; commands = commands_in s.line s.commands r (situation_of s r) }
+after_reading s r = record s { last_time = Some r.time; commands = commands_in s.train_and_track s.commands r (situation_of s r) }
 
 -- the supervision state after an accepted authority; no command changes (own)
 abbrev pub after_authority : Supervision → Authority → Supervision

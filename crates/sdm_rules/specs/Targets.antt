@@ -8,23 +8,23 @@ use Rattle.sdm_rules.specs.declared.targets.Fall.{Fall}
 use Rattle.sdm_rules.specs.declared.targets.TargetKind.{TargetKind}
 use Rattle.sdm_rules.specs.declared.targets.TargetKind.TheVariants.{Mrsp, Loa, Eoa, Svl}
 use Rattle.sdm_rules.specs.declared.targets.Target.{Target}
-use Rattle.sdm_rules.specs.Cells.{cells, cell_of, border_of}
+use Rattle.sdm_rules.specs.Cells.{cells, cell_of, place_of_cell}
 use Rattle.sdm_rules.specs.Margins.{ebi_margin}
 
 -- ---- falls of a speed profile
 
--- the profile falls at the border where the cell begins (SUBSET-026-3 3.13.8.2; own cell form)
+-- the profile falls at the start of the cell (SUBSET-026-3 3.13.8.2; own cell form)
 abbrev pub is_fall : (ℤ → ℕ) → ℤ → Bool
 is_fall profile cell = nat_lt (profile cell) (profile (cell -ℤ pos 1))
 
--- the first fall past the border of a cell, with the lower speed (own)
+-- the first fall past the start of a cell, with the lower speed (own)
 pub record IsNextFall (profile : ℤ → ℕ) (after : ℤ) (fall : Fall) : Type 0 where
   pub beyond : after <ℤ fall.cell
   pub falls : is_fall profile fall.cell ≡ true
   pub lower : fall.speed ≡ profile fall.cell
   pub first : (c : ℤ) → after <ℤ c → c <ℤ fall.cell → is_fall profile c ≡ false
 
--- the profile falls nowhere past the border of a cell (own)
+-- the profile falls nowhere past the start of a cell (own)
 abbrev pub HasNoFall : (ℤ → ℕ) → ℤ → Type 0
 HasNoFall profile after = (c : ℤ) → after <ℤ c → is_fall profile c ≡ false
 
@@ -37,7 +37,7 @@ end_of (Limit loa speed) = loa
 
 -- the target at a fall: its speed is that of the cell that begins there (SUBSET-026-3 3.13.8.2; own cell form)
 abbrev pub fall_at : (ℤ → ℕ) → ℤ → Target
-fall_at profile cell = record { kind = Mrsp; place = border_of cell; speed = profile cell }
+fall_at profile cell = record { kind = Mrsp; place = place_of_cell cell; speed = profile cell }
 
 -- the falls of the profile strictly ahead of the front end and at or before the end of the authority, in order
 -- (SUBSET-026-3 3.13.8.2; own cell form)
@@ -47,14 +47,14 @@ falls_ahead profile front end = map (fall_at profile) (filter (is_fall profile) 
 -- the targets at the end of the authority, also once they are passed; in release speed monitoring the EOA and SvL are none
 -- (SUBSET-026-3 3.13.8.2)
 abbrev pub ends_of : Authority → Bool → List Target
-ends_of (Stop eoa svl release) released =
-    if released then [] else record { kind = Eoa; place = border_of (pos eoa); speed = 0 } ∷ record { kind = Svl; place = border_of (pos svl); speed = 0 } ∷ []
-ends_of (Limit loa speed) released = record { kind = Loa; place = border_of (pos loa); speed = speed } ∷ []
+ends_of (Stop eoa svl release) in_release_monitoring =
+    if in_release_monitoring then [] else record { kind = Eoa; place = place_of_cell (pos eoa); speed = 0 } ∷ record { kind = Svl; place = place_of_cell (pos svl); speed = 0 } ∷ []
+ends_of (Limit loa speed) in_release_monitoring = record { kind = Loa; place = place_of_cell (pos loa); speed = speed } ∷ []
 
 -- all targets, by place and then by kind: the falls come first, since they lie at or before the end of the authority
 -- (SUBSET-026-3 3.13.8.2)
 unfoldable pub targets_of : (ℤ → ℕ) → Authority → ℤ → Bool → List Target
-targets_of profile a front released = falls_ahead profile front (end_of a) ++ ends_of a released
+targets_of profile a front in_release_monitoring = falls_ahead profile front (end_of a) ++ ends_of a in_release_monitoring
 
 -- ---- their speeds
 

@@ -8,7 +8,7 @@ use Rattle.sdm_rules.specs.declared.commands.Status.{Status}
 use Rattle.sdm_rules.specs.declared.commands.Status.TheVariants.{N, I, O, W, X}
 use Rattle.sdm_rules.specs.declared.rows.Row.{Row}
 
--- the letter of a type of supervision (own)
+-- the letter of a type of speed and distance monitoring (own)
 abbrev pub state_text : State → List ℕ
 state_text C = codes "C"
 state_text T = codes "T"
@@ -38,12 +38,12 @@ fields_of r =
     ∷ decimal r.ceiling ∷ place_text r.ebi ∷ place_text r.sbi ∷ place_text r.warning ∷ place_text r.permitted ∷ place_text r.indication ∷ []
 
 -- the line of fields, with commas between them and a line feed at the end (own)
-abbrev pub line_of : List (List ℕ) → List ℕ
-line_of fields = join_with_byte 44 fields ++ codes "\n"
+abbrev pub text_line : List (List ℕ) → List ℕ
+text_line fields = join_with_byte 44 fields ++ codes "\n"
 
 -- the text of a row (own)
 unfoldable pub row_text : Row → List ℕ
-row_text r = line_of (fields_of r)
+row_text r = text_line (fields_of r)
 
 -- the text of rows, one after the other (own)
 abbrev pub run_text : List Row → List ℕ

@@ -9,7 +9,7 @@ use Rattle.sdm_rules.specs.declared.faults.EventFault.{EventFault}
 use Rattle.sdm_rules.specs.declared.records.Event.{Event}
 use Rattle.sdm_rules.specs.declared.records.Event.TheVariants as record_kinds
 use Rattle.sdm_rules.specs.declared.rows.Row.{Row}
-use Rattle.sdm_rules.specs.Data.{LineData, TrackData, TrainData}
+use Rattle.sdm_rules.specs.Data.{TrainAndTrack, TrackData, TrainData}
 use Rattle.sdm_rules.specs.Flat.{Output}
 use Rattle.sdm_rules.specs.Input.{end_of_journey}
 use Rattle.sdm_rules.specs.Records.{Journey, journey_from}
@@ -72,8 +72,8 @@ trial_track = record {
 }
 
 -- the data of every trial (own)
-abbrev pub trial_line : LineData
-trial_line = record { train = trial_train; national = trial_national; track = trial_track }
+abbrev pub trial_train_and_track : TrainAndTrack
+trial_train_and_track = record { train = trial_train; national = trial_national; track = trial_track }
 
 -- the authority of every trial: an EOA at 5 km, the SvL 50 m beyond it, no release speed (own)
 abbrev pub trial_authority : Authority
@@ -87,7 +87,7 @@ reading_record r = Ok (record_kinds.Read r)
 
 -- the journey of so many cycles from a seed (own)
 abbrev pub trial_journey : ℕ → ℕ → Journey
-trial_journey seed cycles = journey_from reading_record 1 (opening trial_line trial_authority) (readings_from seed 1 cycles)
+trial_journey seed cycles = journey_from reading_record 1 (opening trial_train_and_track trial_authority) (readings_from seed 1 cycles)
 
 -- ---- the summary
 

@@ -2,7 +2,7 @@
 
 use sdm_num::Place;
 
-/// A fall of the speed profile at the border where a cell begins, to a speed in km/h. (SUBSET-026-3 3.13.8.2)
+/// A fall of the speed profile at the start of a cell, to a speed in km/h. (SUBSET-026-3 3.13.8.2)
 #[derive(Clone, Copy, Debug, PartialEq, Eq)]
 pub struct Fall {
     pub cell: i32,

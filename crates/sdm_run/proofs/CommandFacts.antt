@@ -11,7 +11,7 @@ use Rattle.sdm_run.specs.declared.words.Command.{Command}
 use Rattle.sdm_run.specs.declared.words.Command.TheVariants.{Flat, Run, Trial}
 use Rattle.sdm_report.specs.declared.outcome.Outcome.{Outcome}
 use Rattle.sdm_report.specs.declared.outcome.Outcome.TheVariants.{TooLong}
-use Rattle.sdm_run.specs.Words.{IsInRange}
+use Rattle.sdm_run.specs.Words.{IsCommandInRange}
 use Rattle.sdm_run.specs.Answers.{IsAnswer, ReadsInput}
 use Rattle.sdm_run.specs.Commands.{AreRowsSafe, IsOutputOf, OfInput, within_limit}
 use Rattle.sdm_run.proofs.FlatOrder.{flat_rows_safe}
@@ -20,7 +20,7 @@ use Rattle.sdm_run.proofs.TrialRuns.{trial_rows_safe}
 
 -- ---- rows
 
-pub rows_safe : (command : Command) (bytes : List ℕ) → IsInRange command → AreRowsSafe command bytes
+pub rows_safe : (command : Command) (bytes : List ℕ) → IsCommandInRange command → AreRowsSafe command bytes
 rows_safe (Flat decel end) bytes h = flat_rows_safe decel end bytes (omega (arith, h.0))
 rows_safe Run bytes h = run_rows_safe bytes
 rows_safe (Trial seed cycles) bytes h = trial_rows_safe seed cycles
@@ -34,7 +34,7 @@ of_input Run (Some bytes) P h = h bytes
 of_input (Trial seed cycles) left P h = h
 
 -- so of the command of words, whatever the input tells
-pub rows_told : (o : Option Command) (command : Command) (left : Option (List ℕ)) → o ≡ Some command → IsInRange command → IfSome o (λ command. OfInput command left (AreRowsSafe command))
+pub rows_told : (o : Option Command) (command : Command) (left : Option (List ℕ)) → o ≡ Some command → IsCommandInRange command → IfSome o (λ command. OfInput command left (AreRowsSafe command))
 rows_told o command left is range = rw is (of_input command left (AreRowsSafe command) (λ bytes. rows_safe command bytes range))
 
 -- ---- the bytes that are answered

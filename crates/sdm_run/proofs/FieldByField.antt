@@ -216,7 +216,7 @@ pub record BeginsWithFields (bytes : List ℕ) (line : FlatLine) (after : List �
   pub speed_high : speed ≤ℤ pos 138_888
   pub line_is : line ≡ record { time = unsigned_abs time; front = place_of_mm front; speed = notches_of_mm_s (unsigned_abs speed) }
 
--- three fields at the front of bytes are their first line
+-- three fields at the beginning of bytes are their first line
 pub line_of_fields : (bytes : List ℕ) (line : FlatLine) (after : List ℕ) → BeginsWithFields bytes line after → BeginsWithLine bytes line after
 unfolding flat_line
 line_of_fields bytes line after h =
@@ -332,7 +332,7 @@ no_line bytes not text more lines = by_line (flat_line text) refl
     by_line None is = refl
     by_line (Some line) is = let found = fields_of_line bytes text more line lines is in absurd (not line found.0 found.1)
 
--- a field at the front of bytes is one, and so is what comes after it
+-- a field at the beginning of bytes is one, and so is what comes after it
 pub same_field : (bytes : List ℕ) (n m : ℤ) (a b : List ℕ) → BeginsWithField bytes n a → BeginsWithField bytes m b → (n ≡ m) × (a ≡ b)
 same_field bytes n m a b h k =
     let same = same_number bytes n m (44 ∷ a) (44 ∷ b) h k in

@@ -11,15 +11,15 @@ use Rattle.sdm_rules.specs.Input as ends
 use Rattle.sdm_rules.specs.Flat.{FlatSupervision, Output, flat_opening, flat_text, flat_output, flat_output_from, lines_of}
 use Rattle.sdm_report.specs.declared.outcome.Outcome.TheVariants.{BadEvent, WriteFault}
 use Rattle.sdm_run.specs.Answers.{IsAnswer}
-use Rattle.sdm_run.specs.FlatTurns.{IsAccepted, IsRefused}
+use Rattle.sdm_run.specs.TakenLines.{IsAcceptedLine, IsRefusedLine}
 
 -- the output of an accepted line, and of those after it
-accepted_output : (n : ℕ) (s t : FlatSupervision) (bytes : List ℕ) (more : List (List ℕ)) (row : FlatRow) → IsAccepted s t bytes row →
+accepted_output : (n : ℕ) (s t : FlatSupervision) (bytes : List ℕ) (more : List (List ℕ)) (row : FlatRow) → IsAcceptedLine s t bytes row →
     flat_output_from n s (bytes ∷ more) ≡ record { text = flat_text row ++ (flat_output_from (suc n) t more).text; end = (flat_output_from (suc n) t more).end }
 accepted_output n s t bytes more row h = rw (h.read, h.in_time, h.row_is, h.after)
 
 -- the output from a refused line on
-refused_output : (n : ℕ) (s : FlatSupervision) (bytes : List ℕ) (more : List (List ℕ)) → IsRefused s bytes → flat_output_from n s (bytes ∷ more) ≡ record { text = []; end = ends.BadEvent n Line }
+refused_output : (n : ℕ) (s : FlatSupervision) (bytes : List ℕ) (more : List (List ℕ)) → IsRefusedLine s bytes → flat_output_from n s (bytes ∷ more) ≡ record { text = []; end = ends.BadEvent n Line }
 refused_output n s bytes more (inl none) = rw none refl
 refused_output n s bytes more (inr h) = rw (h.2, h.3) refl
 
@@ -38,7 +38,7 @@ unfolding flat_output
 all_left old decel end bytes s is = rw is (record { done = []; taken = Appends-nil old; text = refl; end = refl })
 
 module _ (old mid new : Option (List ℕ)) (whole : Output) (n : ℕ) (s : FlatSupervision) (lines more : List (List ℕ)) (bytes : List ℕ) (left : IsLeft old mid whole n s lines) (first : lines ≡ bytes ∷ more) where
-  module _ (t : FlatSupervision) (row : FlatRow) (accepted : IsAccepted s t bytes row) where
+  module _ (t : FlatSupervision) (row : FlatRow) (accepted : IsAcceptedLine s t bytes row) where
     out : flat_output_from n s lines ≡ record { text = flat_text row ++ (flat_output_from (suc n) t more).text; end = (flat_output_from (suc n) t more).end }
     out = ap (flat_output_from n s) first ∙ accepted_output n s t bytes more row accepted
 
@@ -58,7 +58,7 @@ module _ (old mid new : Option (List ℕ)) (whole : Output) (n : ℕ) (s : FlatS
     pub cut_answer : AppendsPart mid new (flat_text row) → IsAnswer whole old new WriteFault
     cut_answer h = record {
       ended = inr (inr (inl refl));
-      taken = (length left.done + h.0, fits, subst (Appends old new) (sym front) (Appends-trans old mid new left.done (take h.0 (flat_text row)) left.taken h.2));
+      taken = (length left.done + h.0, fits, subst (Appends old new) (sym prefix) (Appends-trans old mid new left.done (take h.0 (flat_text row)) left.taken h.2));
     }
       where
         rest : List ℕ
@@ -67,11 +67,11 @@ module _ (old mid new : Option (List ℕ)) (whole : Output) (n : ℕ) (s : FlatS
         fits : length left.done + h.0 ≤ length whole.text
         fits = rw (parts, length-append, length-append) (omega (arith, h.1))
 
-        front : take (length left.done + h.0) whole.text ≡ left.done ++ take h.0 (flat_text row)
-        front = rw parts (take-append-add left.done (flat_text row ++ rest) h.0 ∙ ap (λ (x : List ℕ). left.done ++ x) (take-append-le h.0 (flat_text row) rest h.1))
+        prefix : take (length left.done + h.0) whole.text ≡ left.done ++ take h.0 (flat_text row)
+        prefix = rw parts (take-append-add left.done (flat_text row ++ rest) h.0 ∙ ap (λ (x : List ℕ). left.done ++ x) (take-append-le h.0 (flat_text row) rest h.1))
 
 -- the first line that is left is refused
-pub refused_answer : (old mid : Option (List ℕ)) (whole : Output) (n : ℕ) (s : FlatSupervision) (lines more : List (List ℕ)) (bytes : List ℕ) → IsLeft old mid whole n s lines → lines ≡ bytes ∷ more → IsRefused s bytes →
+pub refused_answer : (old mid : Option (List ℕ)) (whole : Output) (n : ℕ) (s : FlatSupervision) (lines more : List (List ℕ)) (bytes : List ℕ) → IsLeft old mid whole n s lines → lines ≡ bytes ∷ more → IsRefusedLine s bytes →
     IsAnswer whole old mid (BadEvent n Line)
 refused_answer old mid whole n s lines more bytes left first refused =
     let out = ap (flat_output_from n s) first ∙ refused_output n s bytes more refused in

@@ -41,21 +41,21 @@ takes_kept (BadData fault) old mid new text k h = appends_kept old mid new text 
 takes_kept (Refused fault) old mid new text k h = appends_kept old mid new text k h
 takes_kept (BadEvent number cause) old mid new text k h = appends_kept old mid new text k h
 takes_kept Memory old mid new text k h =
-    record { front = h.front; rest = h.rest; parts = h.parts; whole_lines = h.whole_lines; taken = appends_kept old mid new h.front k h.taken }
+    record { prefix = h.prefix; rest = h.rest; parts = h.parts; whole_lines = h.whole_lines; taken = appends_kept old mid new h.prefix k h.taken }
 
--- ---- what out took for any outcome is a front of the text
+-- ---- what out took for any outcome is a prefix of the text
 
--- a front is a part
-part_of_front : (old new : Option (List ℕ)) (front rest text : List ℕ) → text ≡ front ++ rest → Appends old new front → AppendsPart old new text
-part_of_front old new front rest text parts h =
-    (length front, rw (parts, length-append) (omega arith), subst (Appends old new) (sym is) h)
+-- a prefix is a part
+part_of_prefix : (old new : Option (List ℕ)) (prefix rest text : List ℕ) → text ≡ prefix ++ rest → Appends old new prefix → AppendsPart old new text
+part_of_prefix old new prefix rest text parts h =
+    (length prefix, rw (parts, length-append) (omega arith), subst (Appends old new) (sym is) h)
   where
-    is : take (length front) text ≡ front
-    is = rw parts (take-append-le (length front) front rest (omega arith) ∙ take_all (length front) front (omega arith))
+    is : take (length prefix) text ≡ prefix
+    is = rw parts (take-append-le (length prefix) prefix rest (omega arith) ∙ take_all (length prefix) prefix (omega arith))
 
 -- so are all of it, and nothing
 part_of_all : (old new : Option (List ℕ)) (text : List ℕ) → Appends old new text → AppendsPart old new text
-part_of_all old new text h = part_of_front old new text [] text (sym (append-nil text)) h
+part_of_all old new text h = part_of_prefix old new text [] text (sym (append-nil text)) h
 
 none_appended : (old new : Option (List ℕ)) → Keeps old new → Appends old new []
 none_appended None new k = tt
@@ -63,7 +63,7 @@ none_appended (Some xs) None k = absurd k
 none_appended (Some xs) (Some ys) k = k ∙ sym (append-nil xs)
 
 part_of_none : (old new : Option (List ℕ)) (text : List ℕ) → Keeps old new → AppendsPart old new text
-part_of_none old new text k = part_of_front old new [] text text refl (none_appended old new k)
+part_of_none old new text k = part_of_prefix old new [] text text refl (none_appended old new k)
 
 part_of : (outcome : Outcome) (old new : Option (List ℕ)) (text : List ℕ) → TakesFor outcome old new text → AppendsPart old new text
 part_of Done old new text h = part_of_all old new text h
@@ -74,7 +74,7 @@ part_of TooLong old new text h = part_of_all old new text h
 part_of (BadData fault) old new text h = part_of_all old new text h
 part_of (Refused fault) old new text h = part_of_all old new text h
 part_of (BadEvent number cause) old new text h = part_of_all old new text h
-part_of Memory old new text h = part_of_front old new h.front h.rest text h.parts h.taken
+part_of Memory old new text h = part_of_prefix old new h.prefix h.rest text h.parts h.taken
 
 -- a fault of out after an answer is answered as such
 pub answer_failed : (output : Output) (old mid new : Option (List ℕ)) (outcome : Outcome) → Keeps mid new → IsAnswer output old mid outcome → IsAnswer output old new WriteFault

@@ -16,7 +16,7 @@ use Rattle.sdm_report.specs.declared.outcome.Outcome.{Outcome}
 use Rattle.sdm_report.specs.declared.outcome.Outcome.TheVariants.{Done, Usage, ReadFault, WriteFault, TooLong, BadData, Refused, BadEvent, Memory}
 use Rattle.sdm_data.specs.Division.{divide}
 use Rattle.sdm_events.specs.Journey.{records_of}
-use Rattle.sdm_run.specs.Answers.{ComesBefore, ComesFirst, IsAnswer, IsRecordsOutcome, IsRunOutcome}
+use Rattle.sdm_run.specs.Answers.{ComesOfReadingAlone, LeavesOutUntouched, IsAnswer, IsRecordsOutcome, IsRunOutcome}
 use Rattle.sdm_run.specs.Journeys.{run_reader, output_of_records, IsRunOutput}
 use Rattle.sdm_run.specs.RunParts.{IsOpeningOf, IsRefusedBy}
 use Rattle.sdm_run.specs.RunTurns.{AreRunRowsSafe}
@@ -60,7 +60,7 @@ no_split bytes old short none = answers_all bytes [] ends.NoSplit old old (BadDa
 
 -- want of memory before the first row
 pub memory_first : (old : Option (List ℕ)) (output : Output) → IsAnswer output old old Memory
-memory_first old output = record { ended = inr (inr (inr refl)); taken = record { front = []; rest = output.text; parts = refl; whole_lines = inl refl; taken = Appends-nil old } }
+memory_first old output = record { ended = inr (inr (inr refl)); taken = record { prefix = []; rest = output.text; parts = refl; whole_lines = inl refl; taken = Appends-nil old } }
 
 -- a data part that opens no supervisor
 pub refused : (bytes : List ℕ) (data_end start : ℕ) (old : Option (List ℕ)) (outcome : Outcome) → length bytes ≤ most_bytes → divide bytes ≡ Some (data_end, start) → IsRefusedBy (take data_end bytes) outcome →
@@ -69,7 +69,7 @@ refused bytes data_end start old (BadData Toml) short cut none =
     answers_all bytes [] ends.Toml old old (BadData Toml) (run_of_parts bytes [] ends.Toml short (rw (cut, none) (refl, refl))) (record { ended = inl refl; taken = Appends-nil old })
 refused bytes data_end start old (BadData (Data fault)) short cut (known, table, document, read) =
     answers_all bytes [] (ends.Data fault) old old (BadData (Data fault)) (run_of_parts bytes [] (ends.Data fault) short (rw (cut, document, read) (refl, refl))) (record { ended = inl refl; taken = Appends-nil old })
-refused bytes data_end start old (Refused fault) short cut (known, line, a, given, first) =
+refused bytes data_end start old (Refused fault) short cut (known, train_and_track, a, given, first) =
     answers_all bytes [] (ends.Refused fault) old old (Refused fault) (run_of_parts bytes [] (ends.Refused fault) short (rw (cut, given.document, given.read) (inr (fault, first, refl, refl)))) (record { ended = inl refl; taken = Appends-nil old })
 refused bytes data_end start old Memory short cut free = λ output is. memory_first old output
 refused bytes data_end start old Done short cut none = absurd none
@@ -86,7 +86,7 @@ refused bytes data_end start old (BadEvent number cause) short cut none = absurd
 pub recorded : (bytes : List ℕ) (data_end start : ℕ) (s : Supervision) (old new : Option (List ℕ)) (outcome : Outcome) → length bytes ≤ most_bytes → divide bytes ≡ Some (data_end, start) →
     IsOpeningOf (take data_end bytes) s → IsAnswer (output_of_records 1 s (records_of (drop start bytes))) old new outcome → (output : Output) → IsRunOutput bytes output → IsAnswer output old new outcome
 recorded bytes data_end start s old new outcome short cut is answer =
-    let journey = journey_from event_of 1 (opening is.line is.authority) (records_of (drop start bytes)) in
+    let journey = journey_from event_of 1 (opening is.train_and_track is.authority) (records_of (drop start bytes)) in
     let run = run_of_parts bytes journey.rows (ends.end_of_journey journey.refused) short (rw (cut, is.given.document, is.given.read) (inl (record { accepted = is.accepted; rows_are = refl; end_is = refl }))) in
     answers_all bytes journey.rows (ends.end_of_journey journey.refused) old new outcome run (subst (λ (t : Supervision). IsAnswer (output_of_records 1 t (records_of (drop start bytes))) old new outcome) is.state answer)
 
@@ -100,7 +100,7 @@ run_rows_safe bytes ends s cut is =
 
 -- ---- no outcome of these comes before the bytes are answered
 
-pub refused_not_before : (bytes : List ℕ) (outcome : Outcome) → IsRefusedBy bytes outcome → ComesBefore outcome → ⊥
+pub refused_not_before : (bytes : List ℕ) (outcome : Outcome) → IsRefusedBy bytes outcome → ComesOfReadingAlone outcome → ⊥
 refused_not_before bytes Done h b = b
 refused_not_before bytes Usage h b = h
 refused_not_before bytes ReadFault h b = h
@@ -111,7 +111,7 @@ refused_not_before bytes (Refused fault) h b = b
 refused_not_before bytes (BadEvent number cause) h b = b
 refused_not_before bytes Memory h b = b
 
-pub records_not_before : (outcome : Outcome) → IsRecordsOutcome outcome → ComesBefore outcome → ⊥
+pub records_not_before : (outcome : Outcome) → IsRecordsOutcome outcome → ComesOfReadingAlone outcome → ⊥
 records_not_before Done h b = b
 records_not_before Usage h b = h
 records_not_before ReadFault h b = h
@@ -122,7 +122,7 @@ records_not_before (Refused fault) h b = b
 records_not_before (BadEvent number cause) h b = b
 records_not_before Memory h b = b
 
-pub flat_not_before : (outcome : Outcome) → (ComesFirst outcome → ⊥) → ComesBefore outcome → ⊥
+pub flat_not_before : (outcome : Outcome) → (LeavesOutUntouched outcome → ⊥) → ComesOfReadingAlone outcome → ⊥
 flat_not_before Done h b = b
 flat_not_before Usage h b = h b
 flat_not_before ReadFault h b = h b

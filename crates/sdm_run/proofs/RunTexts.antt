@@ -21,7 +21,7 @@ use Rattle.sdm_rules.specs.Text.{row_text}
 use Rattle.sdm_report.specs.declared.outcome.Outcome.{Outcome}
 use Rattle.sdm_report.specs.declared.outcome.Outcome.TheVariants.{Done, Usage, ReadFault, WriteFault, TooLong, BadData, Refused, BadEvent, Memory}
 use Rattle.sdm_events.specs.Journey.{Record}
-use Rattle.sdm_run.specs.Answers.{IsAnswer, ComesFirst, IsOutcomeOf, IsRecordsOutcome, AreWholeLines, TakesFor}
+use Rattle.sdm_run.specs.Answers.{IsAnswer, LeavesOutUntouched, IsOutcomeOf, IsRecordsOutcome, AreWholeLines, TakesFor}
 use Rattle.sdm_run.specs.Journeys.{output_of_records}
 use Rattle.sdm_run.specs.RunParts.{TakesRecord}
 
@@ -68,8 +68,8 @@ pub no_line : (s : Supervision) (e : Result Event EventFault) (cause : EventCaus
 unfolding step
 no_line s (Err fault) cause e = λ is. cc
 no_line s (Ok (record_kinds.Read r)) cause e = unless_no_line time_cause (time_fault s.last_time r.time) _ cause time_no_line e
-no_line s (Ok (record_kinds.Authority a)) cause e = unless_no_line causes.Authority (authority_fault s.line.track.length_cm a) _ cause (λ f is. cc) e
-no_line s (Ok (record_kinds.Restrict r)) cause e = unless_no_line causes.Restrict (restrict_fault s.line.track.length_cm s.restrictions r) _ cause (λ f is. cc) e
+no_line s (Ok (record_kinds.Authority a)) cause e = unless_no_line causes.Authority (authority_fault s.train_and_track.track.length_cm a) _ cause (λ f is. cc) e
+no_line s (Ok (record_kinds.Restrict r)) cause e = unless_no_line causes.Restrict (restrict_fault s.train_and_track.track.length_cm s.restrictions r) _ cause (λ f is. cc) e
 no_line s (Ok (record_kinds.Revoke id)) cause e = unless_no_line causes.Revoke (revoke_fault s.restrictions id) _ cause (λ f is. cc) e
 
 -- ---- all records
@@ -89,7 +89,7 @@ all_left_of old n s records = record { done = []; whole_lines = inl refl; taken 
 
 lines_both : (a b : List ℕ) → AreWholeLines a → AreWholeLines b → AreWholeLines (a ++ b)
 lines_both a b h (inl none) = rw (none, append-nil) h
-lines_both a b h (inr (front, is)) = inr (a ++ front, rw is (sym (append_assoc a front (10 ∷ []))))
+lines_both a b h (inr (prefix, is)) = inr (a ++ prefix, rw is (sym (append_assoc a prefix (10 ∷ []))))
 
 module _ (old mid new : Option (List ℕ)) (whole : Output) (n : ℕ) (s : Supervision) (records : List Record) (left : IsLeftOf old mid whole n s records) where
   -- a record was taken
@@ -109,11 +109,11 @@ module _ (old mid new : Option (List ℕ)) (whole : Output) (n : ℕ) (s : Super
     taken = rw same (subst (Appends old mid) (sym (left.text ∙ ap (λ rs. left.done ++ (output_of_records n s rs).text) none ∙ append-nil left.done)) left.taken);
   }
 
-  front_then : (text : List ℕ) → Appends mid new text → Appends old new (left.done ++ text)
-  front_then text h = Appends-trans old mid new left.done text left.taken h
+  prefix_then : (text : List ℕ) → Appends mid new text → Appends old new (left.done ++ text)
+  prefix_then text h = Appends-trans old mid new left.done text left.taken h
 
   all_taken : Appends mid new (output_of_records n s records).text → Appends old new whole.text
-  all_taken h = subst (Appends old new) (sym left.text) (front_then _ h)
+  all_taken h = subst (Appends old new) (sym left.text) (prefix_then _ h)
 
   takes : (outcome : Outcome) → IsRecordsOutcome outcome → TakesFor outcome mid new (output_of_records n s records).text → TakesFor outcome old new whole.text
   takes Done possible h = all_taken h
@@ -121,17 +121,17 @@ module _ (old mid new : Option (List ℕ)) (whole : Output) (n : ℕ) (s : Super
   takes ReadFault possible h = absurd possible
   takes WriteFault possible h =
       let rest = (output_of_records n s records).text in
-      (length left.done + h.0, rw (left.text, length-append) (omega (arith, h.1)), subst (Appends old new) (sym (ap (take (length left.done + h.0)) left.text ∙ take-append-add left.done rest h.0)) (front_then (take h.0 rest) h.2))
+      (length left.done + h.0, rw (left.text, length-append) (omega (arith, h.1)), subst (Appends old new) (sym (ap (take (length left.done + h.0)) left.text ∙ take-append-add left.done rest h.0)) (prefix_then (take h.0 rest) h.2))
   takes TooLong possible h = absurd possible
   takes (BadData fault) possible h = absurd possible
   takes (Refused fault) possible h = absurd possible
   takes (BadEvent number cause) possible h = all_taken h
   takes Memory possible h = record {
-    front = left.done ++ h.front;
+    prefix = left.done ++ h.prefix;
     rest = h.rest;
-    parts = left.text ∙ ap (λ text. left.done ++ text) h.parts ∙ sym (append_assoc left.done h.front h.rest);
-    whole_lines = lines_both left.done h.front left.whole_lines h.whole_lines;
-    taken = front_then h.front h.taken;
+    parts = left.text ∙ ap (λ text. left.done ++ text) h.parts ∙ sym (append_assoc left.done h.prefix h.rest);
+    whole_lines = lines_both left.done h.prefix left.whole_lines h.whole_lines;
+    taken = prefix_then h.prefix h.taken;
   }
 
   -- the run ends with an outcome of what is left
@@ -139,7 +139,7 @@ module _ (old mid new : Option (List ℕ)) (whole : Output) (n : ℕ) (s : Super
   cut_off outcome possible h = record { ended = subst (λ end. IsOutcomeOf end outcome) (sym left.end) h.ended; taken = takes outcome possible h.taken }
 
 -- no outcome of records comes before any row
-pub not_first : (outcome : Outcome) → IsRecordsOutcome outcome → ComesFirst outcome → ⊥
+pub not_first : (outcome : Outcome) → IsRecordsOutcome outcome → LeavesOutUntouched outcome → ⊥
 not_first Done possible first = first
 not_first Usage possible first = possible
 not_first ReadFault possible first = possible

@@ -39,9 +39,9 @@ rows_of_event : (n : ℕ) (s : Supervision) (e : Event) (rest : Supervision → 
 unfolding step
 rows_of_event n s (record_kinds.Read r) rest later h = reading_rows (time_fault s.last_time r.time) n s r rest later (h (after_reading s r))
 rows_of_event n s (record_kinds.Authority a) rest later h =
-    quiet_rows causes.Authority (authority_fault s.line.track.length_cm a) n s (after_authority s a) (record_kinds.Authority a) rest later refl (h (after_authority s a))
+    quiet_rows causes.Authority (authority_fault s.train_and_track.track.length_cm a) n s (after_authority s a) (record_kinds.Authority a) rest later refl (h (after_authority s a))
 rows_of_event n s (record_kinds.Restrict r) rest later h =
-    quiet_rows causes.Restrict (restrict_fault s.line.track.length_cm s.restrictions r) n s (after_restriction s r) (record_kinds.Restrict r) rest later refl (h (after_restriction s r))
+    quiet_rows causes.Restrict (restrict_fault s.train_and_track.track.length_cm s.restrictions r) n s (after_restriction s r) (record_kinds.Restrict r) rest later refl (h (after_restriction s r))
 rows_of_event n s (record_kinds.Revoke id) rest later h =
     quiet_rows causes.Revoke (revoke_fault s.restrictions id) n s (after_revocation s id) (record_kinds.Revoke id) rest later refl (h (after_revocation s id))
 
@@ -84,10 +84,10 @@ event_safe : (s : Supervision) (e : Event) (must may : Bool) (later : Supervisio
 unfolding step
 event_safe s (record_kinds.Read r) must may later opened h rest = reading_safe (time_fault s.last_time r.time) s r must may later opened h rest
 event_safe s (record_kinds.Authority a) must may later opened h rest =
-    quiet_safe causes.Authority (authority_fault s.line.track.length_cm a) s (after_authority s a) (record_kinds.Authority a) must may later refl
+    quiet_safe causes.Authority (authority_fault s.train_and_track.track.length_cm a) s (after_authority s a) (record_kinds.Authority a) must may later refl
     (rest (after_authority s a) must may (record { bands = opened.bands; usable = opened.usable }) h)
 event_safe s (record_kinds.Restrict r) must may later opened h rest =
-    quiet_safe causes.Restrict (restrict_fault s.line.track.length_cm s.restrictions r) s (after_restriction s r) (record_kinds.Restrict r) must may later refl
+    quiet_safe causes.Restrict (restrict_fault s.train_and_track.track.length_cm s.restrictions r) s (after_restriction s r) (record_kinds.Restrict r) must may later refl
     (rest (after_restriction s r) must may (record { bands = opened.bands; usable = opened.usable }) h)
 event_safe s (record_kinds.Revoke id) must may later opened h rest =
     quiet_safe causes.Revoke (revoke_fault s.restrictions id) s (after_revocation s id) (record_kinds.Revoke id) must may later refl

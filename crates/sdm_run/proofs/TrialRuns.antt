@@ -13,9 +13,9 @@ use Rattle.sdm_rules.specs.Input.{end_of_journey}
 use Rattle.sdm_rules.specs.Opening.{IsOpen}
 use Rattle.sdm_rules.specs.Records.{journey_from, time_fault, most_records}
 use Rattle.sdm_rules.specs.Supervision.{Supervision, after_reading, opening, row_of}
-use Rattle.sdm_rules.specs.Trial.{reading_in_cycle, reading_record, readings_from, summary_text, trial_authority, trial_journey, trial_line, trial_output}
+use Rattle.sdm_rules.specs.Trial.{reading_in_cycle, reading_record, readings_from, summary_text, trial_authority, trial_journey, trial_train_and_track, trial_output}
 use Rattle.sdm_laws.proofs.OneFault.{not_both}
-use Rattle.sdm_braking.specs.Lines.{IsRefusal}
+use Rattle.sdm_braking.specs.Braking.{IsRefusal}
 use Rattle.sdm_trial.specs.Made.{MadeReadings, TakesCycle}
 use Rattle.sdm_trial.specs.Summaries.{Counts, counts_of}
 use Rattle.sdm_trial.proofs.Accepted.{accepted}
@@ -26,10 +26,11 @@ use Rattle.sdm_run.specs.RunTurns.{AreTrialRowsSafe}
 use Rattle.sdm_run.proofs.RunTurnLaws.{rows_of_turns}
 
 -- no fault of the opening but want of memory fits the data of the trial
-pub only_memory : (fault : OpenFault) → IsRefusal trial_line trial_authority fault → fault ≡ Memory
-only_memory (TooWeak kind band cell slope) h = absurd (not_both trial_line trial_authority (TooWeak kind band cell slope) accepted h)
-only_memory (TooVaried kind band least greatest) h = absurd (not_both trial_line trial_authority (TooVaried kind band least greatest) accepted h)
-only_memory (BadAuthority fault) h = absurd (not_both trial_line trial_authority (BadAuthority fault) accepted h)
+pub only_memory : (fault : OpenFault) → IsRefusal trial_train_and_track trial_authority fault → fault ≡ Memory
+only_memory (TooWeak kind band cell slope) h = absurd
+    (not_both trial_train_and_track trial_authority (TooWeak kind band cell slope) accepted h)
+only_memory (TooVaried kind band least greatest) h = absurd (not_both trial_train_and_track trial_authority (TooVaried kind band least greatest) accepted h)
+only_memory (BadAuthority fault) h = absurd (not_both trial_train_and_track trial_authority (BadAuthority fault) accepted h)
 only_memory Memory h = refl
 
 -- the rows from a state on of the cycles that are left
@@ -47,12 +48,12 @@ pub record IsCycleOf (seed cycles : ℕ) (m : MadeReadings) (s : Supervision) (c
   pub rows : (trial_journey seed cycles).rows ≡ done ++ rows_left m s
 
 -- at first all cycles are left
-pub first_cycle : (seed cycles : ℕ) → cycles ≤ most_records → IsCycleOf seed cycles (record { seed = seed; made = 0; left = cycles }) (opening trial_line trial_authority) (counts_of [])
+pub first_cycle : (seed cycles : ℕ) → cycles ≤ most_records → IsCycleOf seed cycles (record { seed = seed; made = 0; left = cycles }) (opening trial_train_and_track trial_authority) (counts_of [])
 first_cycle seed cycles few = record {
   seed_is = refl;
   few = omega (arith, few);
   counted = refl;
-  in_time = first_in_time trial_line trial_authority seed 1;
+  in_time = first_in_time trial_train_and_track trial_authority seed 1;
   done = [];
   counts_are = refl;
   rows = refl;
@@ -110,9 +111,9 @@ trial_done seed cycles old new few h = record { ended = inl (ap Some (sym (ap en
 
 -- ---- the promises of the rows
 
-trial_open : IsOpen (opening trial_line trial_authority)
+trial_open : IsOpen (opening trial_train_and_track trial_authority)
 trial_open = record { bands = record { few = omega arith; in_order = (pos 100, refl, omega (arith, ints), refl) }; usable = accepted.0 }
 
 -- the rows of a trial are those of turns, each of which is safe
 pub trial_rows_safe : (seed cycles : ℕ) → AreTrialRowsSafe seed cycles
-trial_rows_safe seed cycles = rows_of_turns reading_record 1 (opening trial_line trial_authority) false false (readings_from seed 1 cycles) trial_open (record { needed = λ h. h; allowed = λ h. h })
+trial_rows_safe seed cycles = rows_of_turns reading_record 1 (opening trial_train_and_track trial_authority) false false (readings_from seed 1 cycles) trial_open (record { needed = λ h. h; allowed = λ h. h })

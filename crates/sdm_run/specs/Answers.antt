@@ -36,17 +36,17 @@ IsOutcomeOf end outcome = (told_end outcome ≡ Some end) ⊎ IsCutShort outcome
 
 -- no line, or each with its line feed (own)
 abbrev pub AreWholeLines : List ℕ → Type 0
-AreWholeLines text = (text ≡ []) ⊎ ((front : List ℕ) × (text ≡ front ++ 10 ∷ []))
+AreWholeLines text = (text ≡ []) ⊎ ((prefix : List ℕ) × (text ≡ prefix ++ 10 ∷ []))
 
--- the bytes taken grew by whole lines at the front of the text (own)
+-- the bytes taken grew by whole lines at the beginning of the text (own)
 pub record AppendsLines (old new : Option (List ℕ)) (text : List ℕ) : Type 0 where
-  pub front : List ℕ
+  pub prefix : List ℕ
   pub rest : List ℕ
-  pub parts : text ≡ front ++ rest
-  pub whole_lines : AreWholeLines front
-  pub taken : Appends old new front
+  pub parts : text ≡ prefix ++ rest
+  pub whole_lines : AreWholeLines prefix
+  pub taken : Appends old new prefix
 
--- What out took of the defined text: where an end is told, the whole text before it; after a write fault a front of it,
+-- What out took of the defined text: where an end is told, the whole text before it; after a write fault a prefix of it,
 -- after want of memory whole lines, and else nothing. A text is empty that ends as too long, with bad data, or with a refused
 -- opening (own).
 abbrev pub TakesFor : Outcome → Option (List ℕ) → Option (List ℕ) → List ℕ → Type 0
@@ -70,40 +70,40 @@ abbrev pub IsComplete : Output → Option (List ℕ) → Option (List ℕ) → O
 IsComplete output old new outcome = ((told_end outcome ≡ Some output.end) × Appends old new output.text) ⊎ (outcome ≡ Memory)
 
 -- an outcome that comes before any row, whatever the input tells (own)
-abbrev pub ComesFirst : Outcome → Type 0
-ComesFirst Done = ⊥
-ComesFirst Usage = Unit {0}
-ComesFirst ReadFault = Unit {0}
-ComesFirst WriteFault = ⊥
-ComesFirst TooLong = Unit {0}
-ComesFirst (BadData fault) = Unit {0}
-ComesFirst (Refused fault) = Unit {0}
-ComesFirst (BadEvent number cause) = ⊥
-ComesFirst Memory = ⊥
+abbrev pub LeavesOutUntouched : Outcome → Type 0
+LeavesOutUntouched Done = ⊥
+LeavesOutUntouched Usage = Unit {0}
+LeavesOutUntouched ReadFault = Unit {0}
+LeavesOutUntouched WriteFault = ⊥
+LeavesOutUntouched TooLong = Unit {0}
+LeavesOutUntouched (BadData fault) = Unit {0}
+LeavesOutUntouched (Refused fault) = Unit {0}
+LeavesOutUntouched (BadEvent number cause) = ⊥
+LeavesOutUntouched Memory = ⊥
 
 -- an outcome that comes before the bytes of the input are answered (own)
-abbrev pub ComesBefore : Outcome → Type 0
-ComesBefore Done = ⊥
-ComesBefore Usage = Unit {0}
-ComesBefore ReadFault = Unit {0}
-ComesBefore WriteFault = ⊥
-ComesBefore TooLong = Unit {0}
-ComesBefore (BadData fault) = ⊥
-ComesBefore (Refused fault) = ⊥
-ComesBefore (BadEvent number cause) = ⊥
-ComesBefore Memory = ⊥
+abbrev pub ComesOfReadingAlone : Outcome → Type 0
+ComesOfReadingAlone Done = ⊥
+ComesOfReadingAlone Usage = Unit {0}
+ComesOfReadingAlone ReadFault = Unit {0}
+ComesOfReadingAlone WriteFault = ⊥
+ComesOfReadingAlone TooLong = Unit {0}
+ComesOfReadingAlone (BadData fault) = ⊥
+ComesOfReadingAlone (Refused fault) = ⊥
+ComesOfReadingAlone (BadEvent number cause) = ⊥
+ComesOfReadingAlone Memory = ⊥
 
 -- an outcome that comes after the end of the input (own)
-abbrev pub ComesLast : Outcome → Type 0
-ComesLast Done = Unit {0}
-ComesLast Usage = ⊥
-ComesLast ReadFault = ⊥
-ComesLast WriteFault = Unit {0}
-ComesLast TooLong = ⊥
-ComesLast (BadData fault) = Unit {0}
-ComesLast (Refused fault) = Unit {0}
-ComesLast (BadEvent number cause) = Unit {0}
-ComesLast Memory = ⊥
+abbrev pub NeedsTheWholeInput : Outcome → Type 0
+NeedsTheWholeInput Done = Unit {0}
+NeedsTheWholeInput Usage = ⊥
+NeedsTheWholeInput ReadFault = ⊥
+NeedsTheWholeInput WriteFault = Unit {0}
+NeedsTheWholeInput TooLong = ⊥
+NeedsTheWholeInput (BadData fault) = Unit {0}
+NeedsTheWholeInput (Refused fault) = Unit {0}
+NeedsTheWholeInput (BadEvent number cause) = Unit {0}
+NeedsTheWholeInput Memory = ⊥
 
 -- an outcome that `flat` may have: there is no data part and no opening, and no line is refused for another cause than its
 -- form or its time (own)

@@ -1,4 +1,4 @@
--- The lines of `flat` at the front of bytes, field by field (own).
+-- The lines of `flat` at the beginning of bytes, field by field (own).
 use Rattle.std.specs.Prelude.{◌≡◌, ◌⊎◌, ℕ, ℤ, List, [], ◌∷◌, Some, None}
 use Rattle.sdm_text.specs.Leading.{BeginsWithNumber}
 use Rattle.sdm_rules.specs.Flat.{FlatLine, flat_line, lines_of}

@@ -25,52 +25,53 @@ turns_of_line s None rest = []
 turns_of_line s (Some l) rest = turn_and s l (time_fault s.last_time l.time) rest
 
 -- the turns of lines up to the first that is refused (own)
-abbrev pub turns_from : FlatSupervision → List (List ℕ) → List FlatTurn
-turns_from s [] = []
-turns_from s (bytes ∷ more) = turns_of_line s (flat_line bytes) (λ t. turns_from t more)
+abbrev pub flat_turns_from : FlatSupervision → List (List ℕ) → List FlatTurn
+flat_turns_from s [] = []
+flat_turns_from s (bytes ∷ more) = turns_of_line s (flat_line bytes) (λ t. flat_turns_from t more)
 
 -- the turns of an input (own)
 unfoldable pub turns_of : ℕ → ℕ → List ℕ → List FlatTurn
-turns_of decel end bytes = turns_from (flat_opening decel end) (lines_of bytes)
+turns_of decel end bytes = flat_turns_from (flat_opening decel end) (lines_of bytes)
 
 -- the row of a turn (own)
-abbrev pub row_of_turn : FlatTurn → FlatRow
-row_of_turn t = flat_row t.before t.line
+abbrev pub flat_row_of_turn : FlatTurn → FlatRow
+flat_row_of_turn t = flat_row t.before t.line
 
 -- the text of the rows, one after the other (own)
 abbrev pub text_of_turns : List FlatTurn → List ℕ
 text_of_turns [] = []
-text_of_turns (t ∷ ts) = flat_text (row_of_turn t) ++ text_of_turns ts
+text_of_turns (t ∷ ts) = flat_text (flat_row_of_turn t) ++ text_of_turns ts
 
 -- the command of the exact machine after a turn, from the one that it holds (own)
-abbrev pub must_after_turn : FlatTurn → Bool → Bool
-must_after_turn t held = flat_after exact_places 0 t.before held t.line
+abbrev pub flat_must_after_turn : FlatTurn → Bool → Bool
+flat_must_after_turn t held = flat_after exact_places 0 t.before held t.line
 
 -- the command of the machine whose curve is one millimetre earlier, from the one that it holds (own)
-abbrev pub may_after_turn : FlatTurn → Bool → Bool
-may_after_turn t held = flat_after exact_places millimetre t.before held t.line
+abbrev pub flat_may_after_turn : FlatTurn → Bool → Bool
+flat_may_after_turn t held = flat_after exact_places millimetre t.before held t.line
 
 -- for a whole speed in mm/s the row shows END - v² / (2A), rounded down to a millimetre (own)
 abbrev pub IsEbiShown : FlatTurn → Type 0
-IsEbiShown t = (v : ℕ) → t.line.speed ≡ notches_of_mm_s v → (row_of_turn t).ebi ≡ ebi_mm t.before.decel t.before.end v
+IsEbiShown t = (v : ℕ) → t.line.speed ≡ notches_of_mm_s v → (flat_row_of_turn t).ebi ≡ ebi_mm t.before.decel t.before.end v
 
 -- from a covered row every motion stops by the end (own)
 abbrev pub IsStopCovered : FlatTurn → Type 0
-IsStopCovered t = IsTrue (row_of_turn t).covered → StopsByFlatEnd t.before t.line
+IsStopCovered t = IsTrue (flat_row_of_turn t).covered → StopsByFlatEnd t.before t.line
 
 -- what is promised of a turn before which the exact machine holds `must` and the early one `may`: after it the three
 -- emergency commands stand in order (own)
-pub record IsTurnSafe (must may : Bool) (t : FlatTurn) : Type 0 where
-  pub order : InOrder (must_after_turn t must) (row_of_turn t).eb (may_after_turn t may)
+pub record IsFlatTurnSafe (must may : Bool) (t : FlatTurn) : Type 0 where
+  pub order : InOrder (flat_must_after_turn t must) (flat_row_of_turn t).eb (flat_may_after_turn t may)
   pub stop : IsStopCovered t
   pub ebi : IsEbiShown t
 
--- so of each turn, one after the other (own)
-abbrev pub AreTurnsSafe : Bool → Bool → List FlatTurn → Type 0
-AreTurnsSafe must may [] = Unit {0}
-AreTurnsSafe must may (t ∷ ts) = IsTurnSafe must may t × AreTurnsSafe (must_after_turn t must) (may_after_turn t may) ts
+-- each turn is safe, one after the other (own)
+abbrev pub AreFlatTurnsSafe : Bool → Bool → List FlatTurn → Type 0
+AreFlatTurnsSafe must may [] = Unit {0}
+AreFlatTurnsSafe must may (t ∷ ts) = IsFlatTurnSafe must may t ×
+    AreFlatTurnsSafe (flat_must_after_turn t must) (flat_may_after_turn t may) ts
 
 -- the rows that are written are those of the turns, each of which is safe, from no command held on (own)
 pub record AreFlatRowsSafe (decel end : ℕ) (bytes : List ℕ) : Type 0 where
   pub text : (flat_output decel end bytes).text ≡ text_of_turns (turns_of decel end bytes)
-  pub safe : AreTurnsSafe false false (turns_of decel end bytes)
+  pub safe : AreFlatTurnsSafe false false (turns_of decel end bytes)

@@ -1,7 +1,7 @@
 pub mod Words
 pub mod Answers
 pub mod FirstLines
-pub mod FlatTurns
+pub mod TakenLines
 pub mod FlatRun
 pub mod Journeys
 pub mod RunParts

@@ -5,7 +5,7 @@ use Rattle.toml.specs.Data.{Members}
 use Rattle.sdm_rules.specs.declared.authorities.Authority.{Authority}
 use Rattle.sdm_rules.specs.declared.faults.DataFault.TheVariants as data_faults
 use Rattle.sdm_rules.specs.declared.faults.OpenFault.TheVariants as open_faults
-use Rattle.sdm_rules.specs.Data.{LineData}
+use Rattle.sdm_rules.specs.Data.{TrainAndTrack}
 use Rattle.sdm_rules.specs.Opening.{IsAccepted, IsOpenFault}
 use Rattle.sdm_rules.specs.Records.{most_records}
 use Rattle.sdm_rules.specs.Supervision.{Supervision, opening}
@@ -21,18 +21,18 @@ use Rattle.sdm_run.specs.Journeys.{output_of_records}
 -- ---- the data part
 
 -- the data part is a document with these data, which break no rule (own)
-pub record IsDataOf (bytes : List ℕ) (line : LineData) (a : Authority) : Type 0 where
+pub record IsDataOf (bytes : List ℕ) (train_and_track : TrainAndTrack) (a : Authority) : Type 0 where
   pub members : Members
   pub document : document_of bytes ≡ Some members
-  pub read : data_of members ≡ Ok (line, a)
+  pub read : data_of members ≡ Ok (train_and_track, a)
 
--- and they open this supervision state (own)
+-- the data part is a document with data that open this supervision state (own)
 pub record IsOpeningOf (bytes : List ℕ) (s : Supervision) : Type 0 where
-  pub line : LineData
+  pub train_and_track : TrainAndTrack
   pub authority : Authority
-  pub given : IsDataOf bytes line authority
-  pub accepted : IsAccepted line authority
-  pub state : s ≡ opening line authority
+  pub given : IsDataOf bytes train_and_track authority
+  pub accepted : IsAccepted train_and_track authority
+  pub state : s ≡ opening train_and_track authority
 
 -- the outcome of a data part that opens none: no document, the first rule that is broken, or the first fault of the opening; want
 -- of memory may come at any time (own)
@@ -45,7 +45,7 @@ IsRefusedBy bytes TooLong = ⊥
 IsRefusedBy bytes (BadData NoSplit) = ⊥
 IsRefusedBy bytes (BadData Toml) = document_of bytes ≡ None
 IsRefusedBy bytes (BadData (Data fault)) = (fault ≢ data_faults.Memory) × (members : Members) × (document_of bytes ≡ Some members) × (data_of members ≡ Err fault)
-IsRefusedBy bytes (Refused fault) = (fault ≢ open_faults.Memory) × (line : LineData) × (a : Authority) × IsDataOf bytes line a × IsOpenFault line a fault
+IsRefusedBy bytes (Refused fault) = (fault ≢ open_faults.Memory) × (train_and_track : TrainAndTrack) × (a : Authority) × IsDataOf bytes train_and_track a × IsOpenFault train_and_track a fault
 IsRefusedBy bytes (BadEvent number cause) = ⊥
 IsRefusedBy bytes Memory = ⊤
 
@@ -62,7 +62,7 @@ pub record TakesRecord (old new : Option (List ℕ)) (n : ℕ) (s t : Supervisio
   pub fewer : length more < length records
 
 -- what the answer of a turn says: a record was taken, none was left, or the run ends (own)
-abbrev pub IsTurn : Option (List ℕ) → Option (List ℕ) → ℕ → Supervision → Supervision → List Record → List Record → Result Bool Outcome → Type 0
-IsTurn old new n s t records more (Ok true) = TakesRecord old new n s t records more
-IsTurn old new n s t records more (Ok false) = (records ≡ []) × (new ≡ old)
-IsTurn old new n s t records more (Err outcome) = IsAnswer (output_of_records n s records) old new outcome
+abbrev pub IsTurnAnswer : Option (List ℕ) → Option (List ℕ) → ℕ → Supervision → Supervision → List Record → List Record → Result Bool Outcome → Type 0
+IsTurnAnswer old new n s t records more (Ok true) = TakesRecord old new n s t records more
+IsTurnAnswer old new n s t records more (Ok false) = (records ≡ []) × (new ≡ old)
+IsTurnAnswer old new n s t records more (Err outcome) = IsAnswer (output_of_records n s records) old new outcome

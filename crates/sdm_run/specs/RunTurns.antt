@@ -10,9 +10,9 @@ use Rattle.sdm_rules.specs.Supervision.{Supervision, opening, row_of}
 use Rattle.sdm_rules.specs.Machines.{InOrder, must_after, may_after}
 use Rattle.sdm_rules.specs.Records.{Step, event_at, step, journey_from}
 use Rattle.sdm_rules.specs.Stop.{IsSafe}
-use Rattle.sdm_rules.specs.Promises.{BeginsRelease, HasOnlyGaps, IsWithinCeiling}
+use Rattle.sdm_rules.specs.Promises.{BeginsReleaseMonitoring, HasOnlyGaps, IsWithinCeiling}
 use Rattle.sdm_rules.specs.Forms.{event_of}
-use Rattle.sdm_rules.specs.Trial.{reading_record, readings_from, trial_authority, trial_line}
+use Rattle.sdm_rules.specs.Trial.{reading_record, readings_from, trial_authority, trial_train_and_track}
 use Rattle.sdm_data.specs.Division.{divide}
 use Rattle.sdm_events.specs.Journey.{records_of}
 use Rattle.sdm_run.specs.RunParts.{IsOpeningOf}
@@ -67,9 +67,9 @@ pub record IsTurnSafe (must may : Bool) (t : Turn) : Type 0 where
   pub stop : IsTrue (row_of_turn t).covered → IsSafe t.before t.reading
   pub gaps : (row_of_turn t).held.eb ≡ false → HasOnlyGaps t.before t.reading
   pub ceiling : (row_of_turn t).held.eb ≡ false → IsWithinCeiling t.reading (row_of_turn t)
-  pub release : BeginsRelease t.before t.reading
+  pub release : BeginsReleaseMonitoring t.before t.reading
 
--- so of each turn, one after the other (own)
+-- each turn is safe, one after the other (own)
 abbrev pub AreTurnsSafe : Bool → Bool → List Turn → Type 0
 AreTurnsSafe must may [] = Unit {0}
 AreTurnsSafe must may (t ∷ ts) = IsTurnSafe must may t × AreTurnsSafe (must_after_turn t must) (may_after_turn t may) ts
@@ -79,10 +79,10 @@ pub record AreRowsOfTurns {A : Type 0} (form : A → Result Event EventFault) (n
   pub rows : (journey_from form n s records).rows ≡ map row_of_turn (turns_from form n s records)
   pub safe : AreTurnsSafe must may (turns_from form n s records)
 
--- so of the records of an input whose data part opens a supervision state, from no command held on (own)
+-- the rows of an input whose data part opens a supervision state are those of safe turns, from no command held on (own)
 abbrev pub AreRunRowsSafe : List ℕ → Type 0
 AreRunRowsSafe bytes = (ends : ℕ × ℕ) (s : Supervision) → divide bytes ≡ Some ends → IsOpeningOf (take ends.0 bytes) s → AreRowsOfTurns event_of 1 s false false (records_of (drop ends.1 bytes))
 
--- so of the readings of a trial (own)
+-- the rows of a trial are those of safe turns, from no command held on (own)
 abbrev pub AreTrialRowsSafe : ℕ → ℕ → Type 0
-AreTrialRowsSafe seed cycles = AreRowsOfTurns reading_record 1 (opening trial_line trial_authority) false false (readings_from seed 1 cycles)
+AreTrialRowsSafe seed cycles = AreRowsOfTurns reading_record 1 (opening trial_train_and_track trial_authority) false false (readings_from seed 1 cycles)

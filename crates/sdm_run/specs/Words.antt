@@ -50,7 +50,7 @@ abbrev pub asked_by : List (String Global) → Option Command
 asked_by words = command_of (map string_bytes words)
 
 -- the numbers of a command are in their ranges (own)
-abbrev pub IsInRange : Command → Type 0
-IsInRange (Flat decel end) = (5 ≤ decel) × (decel ≤ 400) × (end ≤ longest_track)
-IsInRange Run = Unit {0}
-IsInRange (Trial seed cycles) = (seed ≤ 65_535) × (1 ≤ cycles) × (cycles ≤ most_records)
+abbrev pub IsCommandInRange : Command → Type 0
+IsCommandInRange (Flat decel end) = (5 ≤ decel) × (decel ≤ 400) × (end ≤ longest_track)
+IsCommandInRange Run = Unit {0}
+IsCommandInRange (Trial seed cycles) = (seed ≤ 65_535) × (1 ≤ cycles) × (cycles ≤ most_records)

@@ -8,9 +8,9 @@ ghost use Rattle.sdm_report.specs.OutcomeLines.{outcome_line};
 ghost use Rattle.sdm_rules.specs.Flat.{Output};
 ghost use Rattle.sdm_rules.specs.Input.{most_bytes};
 ghost use Rattle.sdm_run.specs.declared.words.Command.{Command};
-ghost use Rattle.sdm_run.specs.Answers.{ComesBefore, ComesFirst, ComesLast, IsAnswer, IsComplete, IsPossible, ReadsInput, told_end};
+ghost use Rattle.sdm_run.specs.Answers.{ComesOfReadingAlone, LeavesOutUntouched, NeedsTheWholeInput, IsAnswer, IsComplete, IsPossible, ReadsInput, told_end};
 ghost use Rattle.sdm_run.specs.Commands.{AreRowsSafe, HasOneOutput, IsOutputOf, OfInput, ReadsNothing, TakesMemoryFirst};
-ghost use Rattle.sdm_run.specs.Words.{IsInRange, asked_by};
+ghost use Rattle.sdm_run.specs.Words.{IsCommandInRange, asked_by};
 
 use crate::endings::Ended;
 use crate::flat_run::run_flat;
@@ -48,7 +48,7 @@ pub fn sdm_main<I: Source, O: Sink, E: Sink>(
         → IsComplete output (O.taken out.old) (O.taken out.new) result)) }
 
     // what comes before any row leaves out as it is; else out gave on all that it took, unless it failed
-    ensures first { ComesFirst result → out.new ≡ out.old }
+    ensures first { LeavesOutUntouched result → out.new ≡ out.old }
     ensures memory { IfSome (asked_by words.now) (λ command.
         TakesMemoryFirst command → result ≡ Outcome.Memory → out.new ≡ out.old) }
     ensures given_on { result ≢ Outcome.WriteFault → (out.new ≡ out.old) ⊎ HoldsNothing (O.held out.new) }
@@ -56,7 +56,7 @@ pub fn sdm_main<I: Source, O: Sink, E: Sink>(
     // how much of the input was read
     ensures within { ReadsWithin (I.left input.old) (I.left input.new) (most_bytes + 1) }
     ensures too_long { result ≡ Outcome.TooLong → ReadsExactly (I.left input.old) (I.left input.new) (most_bytes + 1) }
-    ensures to_end { IfSome (asked_by words.now) (λ command. ReadsInput command → ComesLast result → IsAtEnd (I.left input.new)) }
+    ensures to_end { IfSome (asked_by words.now) (λ command. ReadsInput command → NeedsTheWholeInput result → IsAtEnd (I.left input.new)) }
     ensures unread { ReadsNothing (asked_by words.now) → input.new ≡ input.old }
 
     // a fault is answered only where it was counted
@@ -100,13 +100,13 @@ fn bytes_for<I: Source>(alloc: Global, command: Command, input: &mut I) -> Resul
 #[tactic(auto, using(crate::proofs::CommandFacts::rows_safe))]
 fn run_command<O: Sink>(alloc: Global, command: Command, bytes: &[u8], out: &mut O) -> Ended
     requires short { length bytes.now ≤ most_bytes }
-    requires range { IsInRange command }
+    requires range { IsCommandInRange command }
     ensures answer { (output : Output) → IsOutputOf command bytes.now output
         → IsAnswer output (O.taken out.old) (O.taken out.new) result.outcome }
     ensures rows { AreRowsSafe command bytes.now }
     ensures possible { IsPossible command result.outcome }
-    ensures not_before { ComesBefore result.outcome → ⊥ }
-    ensures first { ComesFirst result.outcome → (result.is_flush_due ≡ false) × (out.new ≡ out.old) }
+    ensures not_before { ComesOfReadingAlone result.outcome → ⊥ }
+    ensures first { LeavesOutUntouched result.outcome → (result.is_flush_due ≡ false) × (out.new ≡ out.old) }
     ensures memory { TakesMemoryFirst command → result.outcome ≡ Outcome.Memory
         → (result.is_flush_due ≡ false) × (out.new ≡ out.old) }
     ensures due { result.is_flush_due ≡ false → (out.new ≡ out.old) ⊎ (result.outcome ≡ Outcome.WriteFault) }
@@ -123,13 +123,13 @@ fn run_command<O: Sink>(alloc: Global, command: Command, bytes: &[u8], out: &mut
 // The outcome of a command, once out gave on what it was handed.
 fn outcome_to<O: Sink>(alloc: Global, command: Command, bytes: &[u8], out: &mut O) -> Outcome
     requires short { length bytes.now ≤ most_bytes }
-    requires range { IsInRange command }
+    requires range { IsCommandInRange command }
     ensures answer { (output : Output) → IsOutputOf command bytes.now output
         → IsAnswer output (O.taken out.old) (O.taken out.new) result }
     ensures rows { AreRowsSafe command bytes.now }
     ensures possible { IsPossible command result }
-    ensures not_before { ComesBefore result → ⊥ }
-    ensures first { ComesFirst result → out.new ≡ out.old }
+    ensures not_before { ComesOfReadingAlone result → ⊥ }
+    ensures first { LeavesOutUntouched result → out.new ≡ out.old }
     ensures memory { TakesMemoryFirst command → result ≡ Outcome.Memory → out.new ≡ out.old }
     ensures given_on { result ≢ Outcome.WriteFault → (out.new ≡ out.old) ⊎ HoldsNothing (O.held out.new) }
     ensures write { result ≡ Outcome.WriteFault → Rose (O.faults out.old) (O.faults out.new) }

@@ -98,7 +98,7 @@ struct Field<'a> {
     after: &'a [u8],
 }
 
-// A field at the front of bytes that a comma ends; none where it is no number from `least` to `greatest`.
+// A field at the beginning of bytes that a comma ends; none where it is no number from `least` to `greatest`.
 #[inline]
 fn comma_field<'a>(bytes: &'a [u8], least: i64, greatest: i64) -> Option<Field<'a>>
     ensures field { IfSome result (λ f. BeginsWithField bytes.now f.number f.after.now) }
@@ -135,7 +135,7 @@ fn last_field<'a>(bytes: &'a [u8], least: i64, greatest: i64) -> Option<Field<'a
     })
 }
 
-// The number at the front of bytes; none where it isn't from `least` to `greatest`.
+// The number at the beginning of bytes; none where it isn't from `least` to `greatest`.
 #[inline]
 fn number_in<'a>(bytes: &'a [u8], least: i64, greatest: i64) -> Option<Leading<'a>>
     ensures number { IfSome result (λ l. BeginsWithNumber bytes.now l.number l.after.now) }

@@ -5,8 +5,8 @@ ghost use Rattle.sdm_io.specs.Causes.{Rose};
 ghost use Rattle.sdm_rules.specs.Input.{most_bytes};
 ghost use Rattle.sdm_rules.specs.Flat.{flat_output};
 ghost use Rattle.sdm_rules.specs.Ranges.{longest_track};
-ghost use Rattle.sdm_run.specs.Answers.{ComesFirst, IsAnswer, IsFlatOutcome};
-ghost use Rattle.sdm_run.specs.FlatTurns.{RefusesLine, TakesLine};
+ghost use Rattle.sdm_run.specs.Answers.{LeavesOutUntouched, IsAnswer, IsFlatOutcome};
+ghost use Rattle.sdm_run.specs.TakenLines.{RefusesLine, TakesLine};
 
 use crate::endings::Ended;
 use crate::flat_lines::{first_line, put_row};
@@ -18,24 +18,24 @@ use std::alloc::Global;
 
 // The row of a line, and the bytes after the line.
 #[derive(Clone, Copy)]
-struct Turn<'a> {
+struct Taken<'a> {
     row: FlatRow,
     after: &'a [u8],
 }
 
 // Takes the first line of what is left of the input; none, and nothing changed, where it is refused.
-fn take_line<'a>(flat: &mut Flat, rest: &'a [u8]) -> Option<Turn<'a>>
-    ensures accepted { IfSome result (λ turn. TakesLine flat.old flat.new rest.now turn.row turn.after.now) }
+fn take_line<'a>(flat: &mut Flat, rest: &'a [u8]) -> Option<Taken<'a>>
+    ensures accepted { IfSome result (λ taken. TakesLine flat.old flat.new rest.now taken.row taken.after.now) }
     ensures refused { IfNone result (RefusesLine flat.old rest.now) }
     ensures unchanged { IfNone result (flat.new ≡ flat.old) }
-    ensures shorter { IfSome result (λ turn. length turn.after.now < length rest.now) }
+    ensures shorter { IfSome result (λ taken. length taken.after.now < length rest.now) }
 {
     let Some(first) = first_line(rest) else {
         return None;
     };
     let line = first.line;
     match flat.cycle(line.time(), line.front(), line.speed()) {
-        Ok(row) => Some(Turn {
+        Ok(row) => Some(Taken {
             row,
             after: first.after,
         }),
@@ -51,7 +51,7 @@ pub fn run_flat<O: Sink>(alloc: Global, decel: u16, end_cm: u32, bytes: &[u8], o
     requires short { length bytes.now ≤ most_bytes }
     ensures answer { IsAnswer (flat_output decel end_cm bytes.now) (O.taken out.old) (O.taken out.new) result.outcome }
     ensures possible { IsFlatOutcome result.outcome }
-    ensures not_first { ComesFirst result.outcome → ⊥ }
+    ensures not_first { LeavesOutUntouched result.outcome → ⊥ }
     ensures memory { result.outcome ≡ Outcome.Memory → (result.is_flush_due ≡ false) × (out.new ≡ out.old) }
     ensures due { result.is_flush_due ≡ false → (out.new ≡ out.old) ⊎ (result.outcome ≡ Outcome.WriteFault) }
     ensures later { O.faults out.old ≤ O.faults out.new }
@@ -69,7 +69,7 @@ pub fn run_flat<O: Sink>(alloc: Global, decel: u16, end_cm: u32, bytes: &[u8], o
     let mut is_flush_due = false;
     'lines: while !rest.is_empty() {
         number += 1;
-        let Some(turn) = take_line(&mut flat, rest) else {
+        let Some(taken) = take_line(&mut flat, rest) else {
             let cause = EventCause::Line;
             return Ended {
                 outcome: Outcome::BadEvent { number, cause },
@@ -77,7 +77,7 @@ pub fn run_flat<O: Sink>(alloc: Global, decel: u16, end_cm: u32, bytes: &[u8], o
             };
         };
         row_text.clear();
-        put_row(&turn.row, &mut row_text);
+        put_row(&taken.row, &mut row_text);
         let Ok(()) = write_piece(out, row_text.bytes()) else {
             return Ended {
                 outcome: Outcome::WriteFault,
@@ -85,7 +85,7 @@ pub fn run_flat<O: Sink>(alloc: Global, decel: u16, end_cm: u32, bytes: &[u8], o
             };
         };
         is_flush_due = true;
-        rest = turn.after;
+        rest = taken.after;
     }
     Ended {
         outcome: Outcome::Done,

@@ -6,7 +6,7 @@ ghost use Rattle.toml.specs.View.{table_view};
 ghost use Rattle.sdm_rules.specs.Opening.{IsAccepted};
 ghost use Rattle.sdm_rules.specs.Supervision.{opening};
 ghost use Rattle.sdm_data.specs.Document.{document_of};
-ghost use Rattle.sdm_data.specs.Given.{line_of};
+ghost use Rattle.sdm_data.specs.Given.{train_and_track_of};
 ghost use Rattle.sdm_data.specs.Journey.{data_of};
 ghost use Rattle.sdm_run.specs.RunParts.{IsDataOf, IsOpeningOf, IsRefusedBy};
 
@@ -31,7 +31,7 @@ fn document_in(alloc: Global, data: &[u8]) -> Result<Table, Outcome>
 
 // The data of the document.
 fn journey_in(alloc: Global, table: &Table) -> Result<JourneyData, Outcome>
-    ensures data { IfOk result (λ j. data_of (table_view table.now) ≡ Ok (line_of j, j.authority)) }
+    ensures data { IfOk result (λ j. data_of (table_view table.now) ≡ Ok (train_and_track_of j, j.authority)) }
     ensures refused { IfErr result (λ outcome. (bytes : List ℕ) → document_of bytes ≡ Some (table_view table.now) → IsRefusedBy bytes outcome) }
 {
     match data_of(alloc, table) {
@@ -43,9 +43,9 @@ fn journey_in(alloc: Global, table: &Table) -> Result<JourneyData, Outcome>
 
 // The supervisor of the data.
 fn begin(alloc: Global, journey: JourneyData) -> Result<Supervisor, Outcome>
-    ensures state { IfOk result (λ s. s ≡ opening (line_of journey) journey.authority) }
-    ensures accepted { IfOk result (λ _. IsAccepted (line_of journey) journey.authority) }
-    ensures refused { IfErr result (λ outcome. (bytes : List ℕ) → IsDataOf bytes (line_of journey) journey.authority → IsRefusedBy bytes outcome) }
+    ensures state { IfOk result (λ s. s ≡ opening (train_and_track_of journey) journey.authority) }
+    ensures accepted { IfOk result (λ _. IsAccepted (train_and_track_of journey) journey.authority) }
+    ensures refused { IfErr result (λ outcome. (bytes : List ℕ) → IsDataOf bytes (train_and_track_of journey) journey.authority → IsRefusedBy bytes outcome) }
 {
     match Supervisor::begin(
         alloc,

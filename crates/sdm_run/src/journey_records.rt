@@ -12,7 +12,7 @@ ghost use Rattle.sdm_rules.specs.declared.records.Event.TheVariants as record_ki
 ghost use Rattle.sdm_run.specs.Answers.{IsAnswer, IsRecordsOutcome};
 ghost use Rattle.sdm_run.specs.Journeys.{output_of_records};
 ghost use Rattle.sdm_rules.specs.Text.{row_text};
-ghost use Rattle.sdm_run.specs.RunParts.{IsTurn};
+ghost use Rattle.sdm_run.specs.RunParts.{IsTurnAnswer};
 
 use crate::endings::Ended;
 use sdm_events::{ByteRecord, Event, EventFault, Records, event_of};
@@ -123,7 +123,7 @@ fn turn<O: Sink>(
     out: &mut O,
 ) -> Result<bool, Outcome>
     requires { 1 ≤ number }
-    ensures turn { IsTurn (O.taken out.old) (O.taken out.new) number supervisor.old supervisor.new records.old records.new result }
+    ensures turn { IsTurnAnswer (O.taken out.old) (O.taken out.new) number supervisor.old supervisor.new records.old records.new result }
     ensures due { rows.new.is_flush_due ≡ false
         → ((rows.old.is_flush_due ≡ false) × (out.new ≡ out.old)) ⊎ (result ≡ Err Outcome.WriteFault) }
     ensures later { O.faults out.old ≤ O.faults out.new }

@@ -4,10 +4,10 @@
 ghost use Rattle.std.specs.Prelude.{◌≡◌, ◌⊎◌, ◌≤◌, false, IfOk};
 ghost use Rattle.sdm_io.specs.Causes.{Rose};
 ghost use Rattle.sdm_rules.specs.Supervision.{opening};
-ghost use Rattle.sdm_rules.specs.Trial.{trial_authority, trial_journey, trial_line, trial_output};
+ghost use Rattle.sdm_rules.specs.Trial.{trial_authority, trial_journey, trial_train_and_track, trial_output};
 ghost use Rattle.sdm_rules.specs.Records.{most_records};
 ghost use Rattle.sdm_trial.specs.Summaries.{counts_of};
-ghost use Rattle.sdm_run.specs.Answers.{ComesFirst, IsAnswer, IsTrialOutcome};
+ghost use Rattle.sdm_run.specs.Answers.{LeavesOutUntouched, IsAnswer, IsTrialOutcome};
 
 use crate::endings::Ended;
 use sdm_io::{Sink, write_piece};
@@ -22,7 +22,7 @@ use std::alloc::Global;
 // The supervisor of the data of every trial, which are accepted.
 #[tactic(auto, using(crate::proofs::TrialRuns::only_memory))]
 fn begin(alloc: Global) -> Result<Supervisor, NoMemory>
-    ensures { IfOk result (λ supervisor. supervisor ≡ opening trial_line trial_authority) }
+    ensures { IfOk result (λ supervisor. supervisor ≡ opening trial_train_and_track trial_authority) }
 {
     let journey = trial_data(alloc)?;
     let begun = Supervisor::begin(
@@ -42,7 +42,7 @@ fn begin(alloc: Global) -> Result<Supervisor, NoMemory>
 
 // The summary of the rows of all cycles.
 fn summary_of(supervisor: &mut Supervisor, seed: u16, cycles: u32) -> Summary
-    requires opening { supervisor.old ≡ opening trial_line trial_authority }
+    requires opening { supervisor.old ≡ opening trial_train_and_track trial_authority }
     requires cycles { cycles ≤ most_records }
     ensures { result ≡ counts_of (trial_journey seed cycles).rows }
 {
@@ -63,7 +63,7 @@ pub fn run_trial<O: Sink>(alloc: Global, seed: u16, cycles: u32, out: &mut O) ->
     requires { cycles ≤ most_records }
     ensures answer { IsAnswer (trial_output seed cycles) (O.taken out.old) (O.taken out.new) result.outcome }
     ensures possible { IsTrialOutcome result.outcome }
-    ensures not_first { ComesFirst result.outcome → ⊥ }
+    ensures not_first { LeavesOutUntouched result.outcome → ⊥ }
     ensures memory { result.outcome ≡ Outcome.Memory → (result.is_flush_due ≡ false) × (out.new ≡ out.old) }
     ensures due { result.is_flush_due ≡ false → (out.new ≡ out.old) ⊎ (result.outcome ≡ Outcome.WriteFault) }
     ensures later { O.faults out.old ≤ O.faults out.new }

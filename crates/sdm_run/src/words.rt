@@ -1,7 +1,7 @@
 //! The words after the program's name, and the commands that they ask for. A new command adds a variant and a shape.
 
 ghost use Rattle.std.specs.Prelude.{◌≡◌, map, string_bytes, IfSome};
-ghost use Rattle.sdm_run.specs.Words.{IsInRange, asked_by, flat_command, run_command, trial_command};
+ghost use Rattle.sdm_run.specs.Words.{IsCommandInRange, asked_by, flat_command, run_command, trial_command};
 
 use sdm_rules::{LONGEST_TRACK_CM, MOST_RECORDS};
 use sdm_text::natural_in;
@@ -21,7 +21,7 @@ pub enum Command {
 #[tactic(auto, unfolding(crate::specs::Words::command_of))]
 pub fn command_of(words: &[String]) -> Option<Command>
     ensures value { result ≡ asked_by words.now }
-    ensures range { IfSome result IsInRange }
+    ensures range { IfSome result IsCommandInRange }
 {
     let (name, more) = words.split_first()?;
     match name.as_str() {
@@ -46,7 +46,7 @@ fn run_command(words: &[String]) -> Option<Command>
 // The two numbers of `flat`.
 fn flat_command(words: &[String]) -> Option<Command>
     ensures value { result ≡ flat_command (map string_bytes words.now) }
-    ensures range { IfSome result IsInRange }
+    ensures range { IfSome result IsCommandInRange }
 {
     let [decel, end] = words else { return None };
     let decel = natural_in(decel.as_str().as_bytes(), 5, 400).ok()?;
@@ -60,7 +60,7 @@ fn flat_command(words: &[String]) -> Option<Command>
 // The two numbers of `trial`.
 fn trial_command(words: &[String]) -> Option<Command>
     ensures value { result ≡ trial_command (map string_bytes words.now) }
-    ensures range { IfSome result IsInRange }
+    ensures range { IfSome result IsCommandInRange }
 {
     let [seed, cycles] = words else { return None };
     let seed = natural_in(seed.as_str().as_bytes(), 0, 65_535).ok()?;

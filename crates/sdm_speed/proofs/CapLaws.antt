@@ -21,9 +21,9 @@ cap_rising z (s ∷ ss) rising = cap_after z s.start ss rising
 
 -- ---- from a cell to a later one, with no start between them
 
--- the border lies at or before the cell, or a step starts there
+-- the cell lies at or before the other, or a step starts there
 abbrev IsMet : Option ℤ → ℤ → List Step → Type 0
-IsMet border t ss = (b : ℤ) → border ≡ Some b → (b ≤ℤ t) ⊎ IsStart b ss
+IsMet cell t ss = (b : ℤ) → cell ≡ Some b → (b ≤ℤ t) ⊎ IsStart b ss
 
 module _ (t c : ℤ) (ss : List Step) (le : t ≤ℤ c) (after : AreAfter c ss) where
   first_same : (first : Option ℤ) → IsMet first t ss → option_map_or (λ f. int_le f t) first true ≡ option_map_or (λ f. int_le f c) first true
@@ -43,8 +43,8 @@ module _ (t c : ℤ) (ss : List Step) (le : t ≤ℤ c) (after : AreAfter c ss) 
   capped_same : (z : Zone) (v : ℕ) → IsMet z.first t ss → IsMet z.past t ss → capped t z v ≡ capped c z v
   capped_same z v first past = rw (first_same z.first first, past_same z.past past) refl
 
-met_on : (border : Option ℤ) (t : ℤ) (s : Step) (ss : List Step) → t <ℤ s.start → IsMet border t (s ∷ ss) → IsMet border s.start ss
-met_on border t s ss lt met b is = elim (met b is) [
+met_on : (cell : Option ℤ) (t : ℤ) (s : Step) (ss : List Step) → t <ℤ s.start → IsMet cell t (s ∷ ss) → IsMet cell s.start ss
+met_on cell t s ss lt met b is = elim (met b is) [
   | inl before ↦ inl (omega (arith, ints))
   | inr here ↦ elim here [ inl e ↦ inl (rw e (omega (arith, ints))) | inr later ↦ inr later ]
 ]
@@ -89,8 +89,8 @@ capped_speeds z v (s ∷ ss) c rising first past =
     ∙ capped_from z s.start s.speed ss c rising (here z.first first) (here z.past past) begun
     ∙ ap (capped c z) (sym (first_begun v s ss c begun)))
   where
-    here : (border : Option ℤ) → ((b : ℤ) → border ≡ Some b → IsStart b (s ∷ ss)) → IsMet border s.start ss
-    here border start b is = elim (start b is) [ inl e ↦ inl (rw e (omega (arith, ints))) | inr later ↦ inr later ]
+    here : (cell : Option ℤ) → ((b : ℤ) → cell ≡ Some b → IsStart b (s ∷ ss)) → IsMet cell s.start ss
+    here cell start b is = elim (start b is) [ inl e ↦ inl (rw e (omega (arith, ints))) | inr later ↦ inr later ]
 
 -- ---- the steps that are covered, one after the other
 
@@ -110,9 +110,9 @@ module _ (change : Step → Step) where
 
   module _ (ss : List Step) (i : ℕ) where
     -- those before the first that is meant
-    pub front_stays : ((k : ℕ) (d : Step) → k < i → k < length ss → change (get_or ss k d) ≡ get_or ss k d) → map change (take i ss) ++ drop i ss ≡ ss
-    front_stays off =
-        ap (λ (front : List Step). front ++ drop i ss) (unchanged (take i ss) (λ k d l. let known : k < i = omega (arith, length-take i ss) in rw (get_or-take i ss k d known) (off k d known (omega (arith, length-take i ss)))))
+    pub prefix_stays : ((k : ℕ) (d : Step) → k < i → k < length ss → change (get_or ss k d) ≡ get_or ss k d) → map change (take i ss) ++ drop i ss ≡ ss
+    prefix_stays off =
+        ap (λ (prefix : List Step). prefix ++ drop i ss) (unchanged (take i ss) (λ k d l. let known : k < i = omega (arith, length-take i ss) in rw (get_or-take i ss k d known) (off k d known (omega (arith, length-take i ss)))))
         ∙ take-append-drop i ss
 
     -- those past the last that is meant

@@ -13,7 +13,7 @@ use Rattle.sdm_rules.specs.declared.restrictions.Restriction.{Restriction}
 use Rattle.sdm_rules.specs.Profile.{Zone, capped, covers, end_for, lowest_limit, zones_of_track, zone_of}
 use Rattle.sdm_rules.specs.Ranges.{longest_track, longest_train}
 use Rattle.sdm_speed.specs.Changes.{AreSameOutside, IsChangedInRange, cells_of}
-use Rattle.sdm_speed.specs.Held.{IsHeld}
+use Rattle.sdm_speed.specs.Held.{IsHeldRestriction}
 use Rattle.sdm_speed.specs.Profiles.{ProfileData, mrsp_of, zones_of}
 use Rattle.sdm_speed.specs.Zones.{starts_at, has_start}
 use Rattle.sdm_speed.proofs.ZoneLaws.{capped_first, lowest_limit-append, not_capped}
@@ -127,7 +127,7 @@ pub lifted_outside : (p : ProfileData) (k : ℕ) (r : Restriction) → finite.ge
 lifted_outside p k r here = same_both_ways _ _ p.length_cm r (same_outside p.length_cm r _ _ (λ c. lifted p k r c here))
 
 -- on the longest track, and as far past it as the longest train
-pub cells_in_range : (length_cm : ℤ) (r : Restriction) → pos 0 ≤ℤ length_cm → length_cm ≤ℤ pos longest_train → IsHeld r → IsChangedInRange (cells_of length_cm r)
+pub cells_in_range : (length_cm : ℤ) (r : Restriction) → pos 0 ≤ℤ length_cm → length_cm ≤ℤ pos longest_train → IsHeldRestriction r → IsChangedInRange (cells_of length_cm r)
 cells_in_range length_cm r shortest longest held = record {
   not_before = omega (arith, ints);
   some = past_start r.delayed;

@@ -64,7 +64,7 @@ pub len_is : (rs : List Restriction) → AreDistinct rs → finite.len (by_ident
 len_is [] h = finite.len-empty nat_cmp Restriction
 len_is (r ∷ rs) h = finite.len-insert nat_cmp_total (by_identity rs) r.id r ∙ rw (get_is rs r.id, h.0) (let rest = len_is rs h.1 in omega arith)
 
--- an identity is in the map where it has a place in the list
+-- an identity is in the map where it has an index in the list
 found_from : (id : ℕ) (rs : List Restriction) (i : ℕ) → is_some (finite.find nat_cmp id (map keyed rs)) ≡ is_some (position_from (has_id id) i rs)
 found_from id [] i = refl
 found_from id (x ∷ xs) i =
@@ -106,8 +106,8 @@ found_at (x ∷ xs) id (suc i) d known here before =
     first false apart rest = rest
 
 pub get_at : (rs : List Restriction) (id i : ℕ) (d : Restriction) → position (has_id id) rs ≡ Some i → (i < length rs) × (finite.get (by_identity rs) id ≡ Some (get_or rs i d))
-get_at rs id i d place =
-    let at = position-Some (has_id id) rs i d place in
+get_at rs id i d at_index =
+    let at = position-Some (has_id id) rs i d at_index in
     (at.0, get_is rs id ∙ found_at rs id i d at.0 (same_id at.1) (λ k l e. not_here (at.2 k l) e))
 
 -- one restriction less
@@ -128,8 +128,8 @@ found_less (x ∷ xs) id (suc i) d q h known here before =
     kept false b apart = refl
 
 pub removed : (rs : List Restriction) (id i : ℕ) → AreDistinct rs → position (has_id id) rs ≡ Some i → by_identity (remove rs i) ≡ finite.remove (by_identity rs) id
-removed rs id i h place =
-    let at = position-Some (has_id id) rs i none place in
+removed rs id i h at_index =
+    let at = position-Some (has_id id) rs i none at_index in
     finite.same_map nat_cmp_total finite.nat_cmp-IsAntisymmetric _ _
     (λ q. get_is (remove rs i) q ∙ found_less rs id i none q h at.0 (same_id at.1) (λ k l e. not_here (at.2 k l) e)
     ∙ sym (finite.get-remove nat_cmp_total (by_identity rs) id q ∙ ap (λ o. cond (eq_by_cmp nat_cmp q id) None o) (get_is rs q)))

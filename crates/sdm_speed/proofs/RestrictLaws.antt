@@ -26,7 +26,7 @@ module _ (track_cm : ℤ) (held : finite.FinMap nat_cmp Restriction) (r : Restri
     not_refused new some on = rw (lt-leb most_restrictions (finite.len held) room, new, lt-leb r.end r.start some, not_lt_is track_cm (pos r.end) on) refl
 
 -- what holds of a restriction that is not refused
-pub record IsAccepted (track_cm : ℤ) (held : finite.FinMap nat_cmp Restriction) (r : Restriction) : Type 0 where
+pub record IsAcceptedRestriction (track_cm : ℤ) (held : finite.FinMap nat_cmp Restriction) (r : Restriction) : Type 0 where
   pub room : finite.len held < most_restrictions
   pub new : finite.contains_key held r.id ≡ false
   pub some : r.start < r.end
@@ -39,7 +39,7 @@ by_tests false false true d id e = absurd cc
 by_tests false false false true id e = absurd cc
 by_tests false false false false id e = (refl, refl, refl, refl)
 
-pub accepted : (track_cm : ℤ) (held : finite.FinMap nat_cmp Restriction) (r : Restriction) → restrict_fault track_cm held r ≡ None → IsAccepted track_cm held r
+pub accepted : (track_cm : ℤ) (held : finite.FinMap nat_cmp Restriction) (r : Restriction) → restrict_fault track_cm held r ≡ None → IsAcceptedRestriction track_cm held r
 accepted track_cm held r none =
     let tests = by_tests (nat_le most_restrictions (finite.len held)) (finite.contains_key held r.id) (nat_le r.end r.start) (int_lt track_cm (pos r.end)) r.id none in
     record {

@@ -79,7 +79,7 @@ module _ (x : Step) where
   insert_only (s ∷ ss) (suc i) c (inr later) = elim (insert_only ss i c later) [ inl e ↦ inl e | inr rest ↦ inr (inr rest) ]
 
 -- each step has a start
-pub start_of : (ss : List Step) (i : ℕ) (d : Step) → i < length ss → IsStart (get_or ss i d).start ss
-start_of [] i d known = absurd (omega arith)
-start_of (s ∷ ss) zero d known = inl refl
-start_of (s ∷ ss) (suc i) d known = inr (start_of ss i d (omega arith))
+pub index_is_start : (ss : List Step) (i : ℕ) (d : Step) → i < length ss → IsStart (get_or ss i d).start ss
+index_is_start [] i d known = absurd (omega arith)
+index_is_start (s ∷ ss) zero d known = inl refl
+index_is_start (s ∷ ss) (suc i) d known = inr (index_is_start ss i d (omega arith))

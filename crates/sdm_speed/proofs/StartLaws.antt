@@ -9,7 +9,7 @@ use Rattle.sdm_num.proofs.Comparisons.{le_is, le_of, lt_is, lt_of}
 use Rattle.sdm_rules.specs.Profile.{Zone, covers, lowest_limit}
 use Rattle.sdm_rules.specs.Targets.{is_fall}
 use Rattle.sdm_rules.specs.Ranges.{longest_track}
-use Rattle.sdm_speed.specs.Zones.{IsZone, limits_of, starts_at, has_start}
+use Rattle.sdm_speed.specs.Zones.{IsZone, zone_limits, starts_at, has_start}
 
 -- ---- tests
 
@@ -48,11 +48,11 @@ no_lower top [] c off = omega arith
 no_lower top (z ∷ zs) c off =
     capped_no_fall (covers (c -ℤ pos 1) z) (covers c z) z.limit _ _ (covers_before z c (or_parts _ _ off).0) (no_lower top zs c (or_parts _ _ off).1)
 
-pub no_fall : (top : ℕ) (zs : List Zone) (c : ℤ) → has_start zs c ≡ false → is_fall (limits_of top zs) c ≡ false
+pub no_fall : (top : ℕ) (zs : List Zone) (c : ℤ) → has_start zs c ≡ false → is_fall (zone_limits top zs) c ≡ false
 no_fall top zs c off = le-ltb _ _ (no_lower top zs c off)
 
 -- so a fall lies where a zone begins
-pub starts_at_fall : (top : ℕ) (zs : List Zone) (c : ℤ) → is_fall (limits_of top zs) c ≡ true → has_start zs c ≡ true
+pub starts_at_fall : (top : ℕ) (zs : List Zone) (c : ℤ) → is_fall (zone_limits top zs) c ≡ true → has_start zs c ≡ true
 starts_at_fall top zs c falls = true_from_ne_false _ (λ off. true≢false (sym falls ∙ no_fall top zs c off))
 
 start_is : (first : Option ℤ) (c : ℤ) → option_map_or (int_eq c) first false ≡ true → first ≡ Some c

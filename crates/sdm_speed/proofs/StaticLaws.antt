@@ -1,4 +1,4 @@
--- The zones of the static speed profile, border by border: the zones that are closed and those of the rest are the zones of all.
+-- The zones of the static speed profile, start by start: the zones that are closed and those of the rest are the zones of all.
 use Rattle.std.proofs.Common.{◌≡◌, ℕ, ℤ, pos, List, [], ◌∷◌, length, get_or, drop, Option, Some, None, false, ◌+◌, ◌-◌, ◌<◌, ◌≤◌, ◌≤ℤ◌, refl, arith}
 use Rattle.std.specs.Prelude.{unsigned_abs}
 use Rattle.std.proofs.lemmas.Int.{ints}
@@ -21,7 +21,7 @@ pub zones_from_first : (length_cm : ℤ) (es : List SpeedStep) → 1 ≤ length 
 zones_from_first length_cm [] some = absurd (omega arith)
 zones_from_first length_cm (e ∷ es) some = refl
 
--- the border closes a zone and opens the next
+-- the start closes a zone and opens the next
 pub zones_from_next : (length_cm : ℤ) (first : Option ℤ) (es : List SpeedStep) (i : ℕ) (e next : SpeedStep) → i < length es → e ≡ get_or es (i - 1) none → next ≡ get_or es i none →
     zones_from length_cm first es i ≡ record { first = first; past = Some (end_for length_cm e.delayed next.start); limit = unsigned_abs e.speed } ∷ zones_from length_cm (Some next.start) es (i + 1)
 zones_from_next length_cm first es i e next known e_is next_is =

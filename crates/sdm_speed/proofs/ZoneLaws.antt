@@ -29,7 +29,7 @@ pub lowest_limit-push : (top : ℕ) (c : ℤ) (zs : List Zone) (z : Zone) → lo
 lowest_limit-push top c [] z = refl
 lowest_limit-push top c (y ∷ ys) z = ap (capped c y) (lowest_limit-push top c ys z) ∙ capped_in_any_order c y z (lowest_limit top c ys)
 
--- the way from a cell to a later one
+-- the distance from a cell to a later one
 pub int_gap_is : (from to : ℤ) → from ≤ℤ to → to ≡ from +ℤ pos (int_gap from to)
 int_gap_is (pos a) (pos b) le = omega (arith, ints)
 int_gap_is (pos a) (negsuc b) le = absurd (omega (arith, ints))

@@ -19,7 +19,7 @@ abbrev pub by_identity : List Restriction → finite.FinMap nat_cmp Restriction
 by_identity rs = finite.from_entries (map keyed rs)
 
 -- a restriction that is held covers a cell of the longest track, and has a limit (own)
-pub record IsHeld (r : Restriction) : Type 0 where
+pub record IsHeldRestriction (r : Restriction) : Type 0 where
   pub some_cell : r.start < r.end
   pub on_track : r.end ≤ longest_track
   pub limited : IsLimit r.speed

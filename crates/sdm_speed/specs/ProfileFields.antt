@@ -4,14 +4,14 @@ use Rattle.sdm_rules.specs.Profile.{Zone, zones_of_track, zone_of}
 use Rattle.sdm_rules.specs.Records.{most_restrictions}
 use Rattle.sdm_speed.specs.declared.profiles.Profile.TheInside.{Inside}
 use Rattle.sdm_speed.specs.Borders.{AreAtBorders}
-use Rattle.sdm_speed.specs.Held.{AreDistinct, IsHeld, by_identity}
-use Rattle.sdm_speed.specs.Zones.{IsZone, limits_of}
+use Rattle.sdm_speed.specs.Held.{AreDistinct, IsHeldRestriction, by_identity}
+use Rattle.sdm_speed.specs.Zones.{IsZone, zone_limits}
 use Rattle.sdm_speed.specs.Steps.{AreRising, speeds_of}
 use Rattle.sdm_speed.specs.Profiles.{ProfileData, IsProfile}
 
 -- the value that callers see (own)
-abbrev pub data_of : Inside → ProfileData
-data_of f = record {
+abbrev pub profile_data_of : Inside → ProfileData
+profile_data_of f = record {
   max_speed = f.max_speed;
   length_cm = pos f.length_cm;
   track_cm = pos f.track_cm;
@@ -28,14 +28,14 @@ abbrev pub held_zones_of : Inside → List Zone
 held_zones_of f = map (zone_of (pos f.length_cm)) f.held.items
 
 -- the steps give the lowest limits, without and with the restrictions held; there is room for as many steps as may be (own)
-pub record IsKept (f : Inside) : Type 0 where
-  pub in_range : IsProfile (data_of f)
+pub record IsKeptProfile (f : Inside) : Type 0 where
+  pub in_range : IsProfile (profile_data_of f)
   pub distinct : AreDistinct f.held.items
   pub each_static : All IsZone (static_zones_of f)
-  pub each_held : All IsHeld f.held.items
-  pub statics : (c : ℤ) → speeds_of f.statics.before f.statics.list.items c ≡ limits_of f.max_speed (static_zones_of f) c
+  pub each_held : All IsHeldRestriction f.held.items
+  pub statics : (c : ℤ) → speeds_of f.statics.before f.statics.list.items c ≡ zone_limits f.max_speed (static_zones_of f) c
   pub statics_rising : AreRising f.statics.list.items
-  pub steps : (c : ℤ) → speeds_of f.steps.before f.steps.list.items c ≡ limits_of f.max_speed (static_zones_of f ++ held_zones_of f) c
+  pub steps : (c : ℤ) → speeds_of f.steps.before f.steps.list.items c ≡ zone_limits f.max_speed (static_zones_of f ++ held_zones_of f) c
   pub steps_rising : AreRising f.steps.list.items
   pub steps_before : f.steps.before ≡ f.statics.before
   pub borders : AreAtBorders (pos f.length_cm) f.statics.list.items f.held.items f.steps.list.items

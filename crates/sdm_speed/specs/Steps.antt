@@ -26,7 +26,7 @@ pub record ArePartedAt (cell : ℤ) (steps : List Step) (i : ℕ) : Type 0 where
   pub before : (k : ℕ) (d : Step) → k < i → (slice_index_or steps k d).start <ℤ cell
   pub from : (k : ℕ) (d : Step) → i ≤ k → k < length steps → cell ≤ℤ (slice_index_or steps k d).start
 
--- the speed in km/h up to where the step at this place starts, the first of which has the place 0 (own)
+-- the speed in km/h up to where the step at this index starts, the first of which has the index 0 (own)
 abbrev pub speed_to : ℕ → List Step → ℕ → ℕ
 speed_to before steps zero = before
 speed_to before [] (suc i) = before
@@ -45,7 +45,7 @@ KeepsStarts old new = (cell : ℤ) → IsStart cell old → IsStart cell new
 abbrev pub capped_step : Zone → Step → Step
 capped_step z s = record { start = s.start; speed = capped s.start z s.speed }
 
--- the zone covers the starts of the steps at the places from `from` up to, but not including, `to`, and of no others (own)
+-- the zone covers the starts of the steps at the indices from `from` up to, but not including, `to`, and of no others (own)
 pub record AreCovered (z : Zone) (steps : List Step) (from to : ℕ) : Type 0 where
   pub bound : to ≤ length steps
   pub before : (k : ℕ) (d : Step) → k < from → k < length steps → covers (slice_index_or steps k d).start z ≡ false

@@ -25,8 +25,8 @@ pub record IsFallInRange (fall : Fall) : Type 0 where
   pub limited : IsLimit fall.speed
 
 -- the lowest limit of each cell: of all zones that cover it, and of the greatest one (own)
-abbrev pub limits_of : ℕ → List Zone → ℤ → ℕ
-limits_of top zones cell = lowest_limit top cell zones
+abbrev pub zone_limits : ℕ → List Zone → ℤ → ℕ
+zone_limits top zones cell = lowest_limit top cell zones
 
 -- the zone begins at the cell (own)
 abbrev pub starts_at : ℤ → Zone → Bool

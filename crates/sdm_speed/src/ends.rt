@@ -4,7 +4,7 @@ ghost use Rattle.std.specs.Prelude.{◌≡◌, ◌≤◌, ◌≤ℤ◌, pos};
 ghost use Rattle.sdm_rules.specs.Profile.{end_for, zone_of};
 ghost use Rattle.sdm_rules.specs.Ranges.{longest_track, longest_train};
 ghost use Rattle.sdm_speed.specs.Changes.{cells_of};
-ghost use Rattle.sdm_speed.specs.Held.{IsHeld};
+ghost use Rattle.sdm_speed.specs.Held.{IsHeldRestriction};
 
 use crate::changes::Changed;
 use crate::zones::Zone;
@@ -26,7 +26,7 @@ pub fn end_for(length_cm: u32, delayed: bool, end: i64) -> i32
 
 /// The cells that a temporary restriction covers.
 pub fn cells_of(r: Restriction, length_cm: u32) -> Changed
-    requires track { IsHeld r }
+    requires track { IsHeldRestriction r }
     requires train { length_cm ≤ longest_train }
     ensures { result ≡ cells_of (pos length_cm) r }
 {
@@ -38,7 +38,7 @@ pub fn cells_of(r: Restriction, length_cm: u32) -> Changed
 
 /// The zone of a temporary restriction.
 pub fn zone_of(r: Restriction, length_cm: u32) -> Zone
-    requires track { IsHeld r }
+    requires track { IsHeldRestriction r }
     requires train { length_cm ≤ longest_train }
     ensures { result ≡ zone_of (pos length_cm) r }
 {

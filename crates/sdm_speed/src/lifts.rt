@@ -5,7 +5,7 @@ ghost use Rattle.std.specs.Prelude.{◌≡◌, ◌⊎◌, ◌≤◌, ℕ, ℤ, p
 ghost use Rattle.sdm_rules.specs.Profile.{capped, zone_of};
 ghost use Rattle.sdm_rules.specs.Ranges.{longest_train};
 ghost use Rattle.sdm_speed.specs.Borders.{AreAtBorders, AreSpeedsAt, IsBorder, IsEnd, IsEndOfOne, retaken, speed_under};
-ghost use Rattle.sdm_speed.specs.Held.{IsHeld};
+ghost use Rattle.sdm_speed.specs.Held.{IsHeldRestriction};
 ghost use Rattle.sdm_speed.specs.Steps.{AreRising, IsStart, speeds_of};
 
 use crate::ends::{cells_of, zone_of};
@@ -15,7 +15,7 @@ use sdm_rules::Restriction;
 /// The speed of a cell: the static one, lowered by restrictions.
 fn speed_under(statics: &Steps, held: &[Restriction], length_cm: u32, cell: i32) -> u16
     requires rising { AreRising statics.now.list.items }
-    requires held { All IsHeld held.now }
+    requires held { All IsHeldRestriction held.now }
     requires train { length_cm ≤ longest_train }
     ensures { result ≡ speed_under (pos length_cm) statics.now.before statics.now.list.items held.now cell }
 {
@@ -28,7 +28,7 @@ fn speed_under(statics: &Steps, held: &[Restriction], length_cm: u32, cell: i32)
 
 /// Whether the zone of a restriction begins or ends at a cell.
 fn is_end_of_one(held: &[Restriction], length_cm: u32, cell: i32) -> bool
-    requires held { All IsHeld held.now }
+    requires held { All IsHeldRestriction held.now }
     requires train { length_cm ≤ longest_train }
     ensures yes { result ≡ true → IsEndOfOne (pos length_cm) cell held.now }
     ensures no { IsEndOfOne (pos length_cm) cell held.now → result ≡ true }
@@ -45,7 +45,7 @@ fn is_end_of_one(held: &[Restriction], length_cm: u32, cell: i32) -> bool
 /// Whether a static step starts at a cell, or the zone of a restriction begins or ends there.
 fn is_border(statics: &Steps, held: &[Restriction], length_cm: u32, cell: i32) -> bool
     requires rising { AreRising statics.now.list.items }
-    requires held { All IsHeld held.now }
+    requires held { All IsHeldRestriction held.now }
     requires train { length_cm ≤ longest_train }
     ensures yes { result ≡ true → IsBorder (pos length_cm) statics.now.list.items held.now cell }
     ensures no { IsBorder (pos length_cm) statics.now.list.items held.now cell → result ≡ true }
@@ -64,8 +64,8 @@ fn retake(
     requires rising { AreRising steps.old.list.items }
     requires speeds { (c : ℤ) → speeds_of steps.old.before steps.old.list.items c ≡ capped c (zone_of (pos length_cm) lifted) (speed_under (pos length_cm) statics.now.before statics.now.list.items held.now c) }
     requires statics { AreRising statics.now.list.items }
-    requires held { All IsHeld held.now }
-    requires lifted { IsHeld lifted }
+    requires held { All IsHeldRestriction held.now }
+    requires lifted { IsHeldRestriction lifted }
     requires train { length_cm ≤ longest_train }
     ensures before { steps.new.before ≡ steps.old.before }
     ensures list { steps.new.list.items ≡ map (retaken (speed_under (pos length_cm) statics.now.before statics.now.list.items held.now)) steps.old.list.items }
@@ -88,7 +88,7 @@ fn join_unless_border(
 )
     requires rising { AreRising steps.old.list.items }
     requires statics { AreRising statics.now.list.items }
-    requires held { All IsHeld held.now }
+    requires held { All IsHeldRestriction held.now }
     requires train { length_cm ≤ longest_train }
     ensures before { steps.new.before ≡ steps.old.before }
     ensures rising { AreRising steps.new.list.items }
@@ -117,8 +117,8 @@ pub fn raise(
     requires each { (c : ℤ) → IsBorder (pos length_cm) statics.now.list.items held.now c → IsStart c steps.old.list.items }
     requires no_other { (c : ℤ) → IsStart c steps.old.list.items → IsBorder (pos length_cm) statics.now.list.items held.now c ⊎ IsEnd (pos length_cm) c lifted }
     requires statics { AreRising statics.now.list.items }
-    requires held { All IsHeld held.now }
-    requires lifted { IsHeld lifted }
+    requires held { All IsHeldRestriction held.now }
+    requires lifted { IsHeldRestriction lifted }
     requires train { length_cm ≤ longest_train }
     ensures before { steps.new.before ≡ statics.now.before }
     ensures speeds { (c : ℤ) → speeds_of steps.new.before steps.new.list.items c ≡ speed_under (pos length_cm) statics.now.before statics.now.list.items held.now c }

@@ -11,7 +11,7 @@ ghost use Rattle.sdm_rules.specs.Records.{restrict_fault, revoke_fault};
 ghost use Rattle.sdm_rules.specs.Targets.{IsNextFall, HasNoFall};
 ghost use Rattle.sdm_rules.specs.Ranges.{longest_track, longest_train, top_kmh};
 ghost use Rattle.sdm_track.specs.Ranges.{AreSpeeds};
-ghost use Rattle.sdm_speed.specs.Zones.{IsLimit, IsZone, IsFallInRange, limits_of};
+ghost use Rattle.sdm_speed.specs.Zones.{IsLimit, IsZone, IsFallInRange, zone_limits};
 ghost use Rattle.sdm_speed.specs.Steps.{AreRising, speeds_of};
 ghost use Rattle.sdm_speed.specs.Held.{has_id};
 ghost use Rattle.sdm_speed.specs.Changes.{AreSameOutside, IsChangedInRange};
@@ -52,11 +52,11 @@ impl Model for Profile {
 
     ghost coded = { coded_profile };
 
-    ghost use Rattle.sdm_speed.specs.ProfileFields.{data_of, IsKept};
+    ghost use Rattle.sdm_speed.specs.ProfileFields.{profile_data_of, IsKeptProfile};
 
-    ghost view = { data_of };
+    ghost view = { profile_data_of };
 
-    ghost invariant = { IsKept };
+    ghost invariant = { IsKeptProfile };
 }
 
 /// The static speed profile of a track.
@@ -70,7 +70,7 @@ fn speeds_of(alloc: Global, track: &Track) -> Result<Vec<SpeedStep>, NoMemory>
     Ok(speeds)
 }
 
-/// The zones of the static speed profile. Each border closes a zone and opens the next.
+/// The zones of the static speed profile. Each start closes a zone and opens the next.
 fn static_zones(alloc: Global, speeds: &[SpeedStep], length_cm: u32) -> Result<Vec<Zone>, NoMemory>
     requires speeds { AreSpeeds (pos longest_track) speeds.now }
     requires train { length_cm ≤ longest_train }
@@ -82,13 +82,13 @@ fn static_zones(alloc: Global, speeds: &[SpeedStep], length_cm: u32) -> Result<V
     let mut first = None;
     for i in 1..speeds.len() {
         let step = speeds[i - 1];
-        let border = speeds[i].start;
+        let start = speeds[i].start;
         zones.push_reserved(Zone {
             first,
-            past: Some(end_for(length_cm, step.delayed, border)),
+            past: Some(end_for(length_cm, step.delayed, start)),
             limit: step.speed as u16,
         });
-        first = Some(border as i32);
+        first = Some(start as i32);
     }
     zones.push_reserved(Zone {
         first,
@@ -101,7 +101,7 @@ fn static_zones(alloc: Global, speeds: &[SpeedStep], length_cm: u32) -> Result<V
 /// The speeds of zones, and at most `top`.
 fn steps_of(alloc: Global, zones: &[Zone], top: u16) -> Result<Steps, NoMemory>
     requires { length zones.now ≤ 128 }
-    ensures speeds { IfOk result (λ steps. (c : ℤ) → speeds_of steps.before steps.list.items c ≡ limits_of top zones.now c) }
+    ensures speeds { IfOk result (λ steps. (c : ℤ) → speeds_of steps.before steps.list.items c ≡ zone_limits top zones.now c) }
     ensures rising { IfOk result (λ steps. AreRising steps.list.items) }
     ensures few { IfOk result (λ steps. vec_len steps.list ≤ 2 * length zones.now) }
 {
@@ -112,8 +112,8 @@ fn steps_of(alloc: Global, zones: &[Zone], top: u16) -> Result<Steps, NoMemory>
     Ok(steps)
 }
 
-/// At which place the restriction with this identity stands.
-fn place_of(held: &[Restriction], id: u16) -> Option<usize>
+/// At which index the restriction with this identity stands.
+fn index_of(held: &[Restriction], id: u16) -> Option<usize>
     ensures { result ≡ position (has_id id) held.now }
 {
     held.iter().position(|held| held.id == id)
@@ -174,7 +174,7 @@ impl Profile {
     fn is_held(&self, id: u16) -> bool
         ensures { result ≡ finite.contains_key self.now.restrictions id }
     {
-        place_of(&self.held, id).is_some()
+        index_of(&self.held, id).is_some()
     }
 
     // The first fault of a restriction.
@@ -227,10 +227,10 @@ impl Profile {
         ensures refused { IfErr result (λ fault. revoke_fault self.old.restrictions id ≡ Some fault) }
         ensures unchanged { OnErr result (self.new ≡ self.old) }
     {
-        let Some(place) = place_of(&self.held, id) else {
+        let Some(index) = index_of(&self.held, id) else {
             return Err(RevokeFault::Unknown { id });
         };
-        let lifted = self.held.remove(place);
+        let lifted = self.held.remove(index);
         raise(
             &mut self.steps,
             lifted,
@@ -276,7 +276,7 @@ impl Profile {
         self.steps.lowest(from, to)
     }
 
-    /// The first fall of the MRSP past the border where the cell `after` begins, with the lower speed in km/h.
+    /// The first fall of the MRSP past the start of the cell `after`, with the lower speed in km/h.
     /// (SUBSET-026-3 3.13.8.2; own cell form)
     pub fn next_fall(&self, after: i32) -> Option<Fall>
         ensures value { MatchOption result (HasNoFall (mrsp_of self.now) after) (IsNextFall (mrsp_of self.now) after) }

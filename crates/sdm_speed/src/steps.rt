@@ -35,9 +35,9 @@ struct Rest<'a> {
     later: &'a [Step],
 }
 
-/// The places of steps in their list: from the first one up to, but not including, the second.
+/// The indices of steps in their list: from the first one up to, but not including, the second.
 #[derive(Clone, Copy)]
-pub struct Places {
+pub struct Range {
     pub from: usize,
     pub to: usize,
 }
@@ -139,7 +139,7 @@ impl Steps {
         i < self.list.len() && self.list[i].start == cell
     }
 
-    /// The cell where the step at this place starts.
+    /// The cell where the step at this index starts.
     pub fn start(&self, i: usize) -> i32
         requires { i < length self.now.list.items }
         ensures { (d : Step) → result ≡ (slice_index_or self.now.list.items i d).start }
@@ -147,7 +147,7 @@ impl Steps {
         self.list[i].start
     }
 
-    /// Gives the step at this place a speed.
+    /// Gives the step at this index a speed.
     pub fn set_speed(&mut self, i: usize, speed: u16)
         requires { i < length self.old.list.items }
         ensures before { self.new.before ≡ self.old.before }
@@ -167,7 +167,7 @@ impl Steps {
             .partition_point(|step| i64::from(step.start) < cell)
     }
 
-    // The speed up to where the step at this place starts.
+    // The speed up to where the step at this index starts.
     fn speed_to(&self, i: usize) -> u16
         requires { i ≤ length self.now.list.items }
         ensures { result ≡ speed_to self.now.before self.now.list.items i }
@@ -233,30 +233,30 @@ impl Steps {
         };
     }
 
-    // Lets a step start at a border, if there is one.
-    fn split_at(&mut self, border: Option<i32>)
+    // Lets a step start at a cell, if there is one.
+    fn split_at(&mut self, first: Option<i32>)
         requires rising { AreRising self.old.list.items }
         requires room { vec_len self.old.list < vec_capacity self.old.list }
         ensures speeds { (c : ℤ) → speeds_of self.new.before self.new.list.items c ≡ speeds_of self.old.before self.old.list.items c }
         ensures before { self.new.before ≡ self.old.before }
-        ensures start { (b : ℤ) → border ≡ Some b → IsStart b self.new.list.items }
+        ensures start { (b : ℤ) → first ≡ Some b → IsStart b self.new.list.items }
         ensures starts { KeepsStarts self.old.list.items self.new.list.items }
-        ensures only { (c : ℤ) → IsStart c self.new.list.items → (border ≡ Some c) ⊎ IsStart c self.old.list.items }
+        ensures only { (c : ℤ) → IsStart c self.new.list.items → (first ≡ Some c) ⊎ IsStart c self.old.list.items }
         ensures rising { AreRising self.new.list.items }
         ensures few { vec_len self.new.list ≤ vec_len self.old.list + 1 }
         ensures room { vec_capacity self.new.list ≡ vec_capacity self.old.list }
     {
-        if let Some(cell) = border {
+        if let Some(cell) = first {
             self.split(cell);
         }
     }
 
-    /// The places of the steps whose starts the zone covers.
-    pub fn covered(&self, zone: Zone) -> Places
+    /// The indices of the steps whose starts the zone covers.
+    pub fn covered(&self, zone: Zone) -> Range
         requires { AreRising self.now.list.items }
         ensures { AreCovered zone self.now.list.items result.from result.to }
     {
-        Places {
+        Range {
             from: match zone.first {
                 None => 0,
                 Some(first) => self.started_before(i64::from(first)),
@@ -310,7 +310,7 @@ impl Steps {
         lowest_up_to(rest.later, rest.speed, to)
     }
 
-    /// The first fall past the border of the cell `after`.
+    /// The first fall past the start of the cell `after`.
     pub fn next_fall(&self, after: i32) -> Option<Fall>
         requires { AreRising self.now.list.items }
         ensures { IsFallAfter (speeds_of self.now.before self.now.list.items) after result }

@@ -7,33 +7,34 @@ use Rattle.sdm_rules.specs.declared.rows.Row.{Row}
 use Rattle.sdm_rules.specs.Machines.{KeepsOrder}
 use Rattle.sdm_rules.specs.Opening.{IsOpen}
 use Rattle.sdm_rules.specs.Stop.{IsSafe}
-use Rattle.sdm_rules.specs.Promises.{BeginsRelease, HasOnlyGaps, IsWithinCeiling}
+use Rattle.sdm_rules.specs.Promises.{BeginsReleaseMonitoring, HasOnlyGaps, IsWithinCeiling}
 use Rattle.sdm_rules.specs.Supervision.{Supervision, situation_of, commands_in, row_in, row_of, after_reading}
 use Rattle.sdm_laws.proofs.Headline.{machines, stop, release}
 use Rattle.sdm_laws.proofs.Gaps.{gaps}
 use Rattle.sdm_laws.proofs.Ceiling.{within_ceiling}
-use Rattle.sdm_braking.specs.Lines.{IsLine}
+use Rattle.sdm_braking.specs.Braking.{IsSupervisable}
 use Rattle.sdm_rules.specs.declared.commands.State.{State}
 use Rattle.sdm_rules.specs.declared.commands.Triggers.{Triggers}
 use Rattle.sdm_rules.specs.Commands.{commands_after}
-use Rattle.sdm_supervisor.specs.declared.situations.Situation.{Situation}
-use Rattle.sdm_supervisor.specs.Situations.{IsFoundAt, state_found, triggers_found}
-use Rattle.sdm_supervisor.proofs.SituationLaws.{commands_are}
+use Rattle.sdm_supervisor.specs.declared.findings.Findings.{Findings}
+use Rattle.sdm_supervisor.specs.Findings.{IsFoundAt, state_found, triggers_found}
+use Rattle.sdm_supervisor.proofs.FindingLaws.{commands_are}
 
--- a state on an accepted line is open
-pub is_open : (s : Supervision) → IsLine s.line → IsOpen s
-is_open s line = record { bands = line.train.bands; usable = line.usable }
+-- a state whose train and track are accepted is open
+pub is_open : (s : Supervision) → IsSupervisable s.train_and_track → IsOpen s
+is_open s accepted = record { bands = accepted.train.bands; usable = accepted.usable }
 
 module _ (s : Supervision) (r : OdometerReading) where
-  -- the commands after a reading, from the triggers and the type of supervision that were found
-  pub held_is : (found : Situation) → IsFoundAt s r found → (held : Held) (t : Triggers) (state : State) (stopped early : Bool) →
-      t ≡ triggers_found found → state ≡ state_found found → stopped ≡ (r.speed == 0) → early ≡ s.line.national.early_release →
-      held ≡ commands_after s.commands t state stopped early found.in_use → held ≡ commands_in s.line s.commands r (situation_of s r)
+  -- the commands after a reading, from the triggers and the type of speed and distance monitoring that were found
+  pub held_is : (found : Findings) → IsFoundAt s r found → (held : Held) (t : Triggers) (state : State) (stopped early : Bool) →
+      t ≡ triggers_found found → state ≡ state_found found → stopped ≡ (r.speed == 0) → early ≡ s.train_and_track.national.early_release →
+      held ≡ commands_after s.commands t state stopped early found.in_use →
+          held ≡ commands_in s.train_and_track s.commands r (situation_of s r)
   held_is found is held t state stopped early t_is state_is stopped_is early_is e =
       e ∙ (λ k. commands_after s.commands (t_is k) (state_is k) stopped (early_is k) found.in_use) ∙ commands_are s r found is s.commands stopped stopped_is
 
   -- the state after a reading, by the commands after it
-  pub taken : (held : Held) → held ≡ commands_in s.line s.commands r (situation_of s r) → record s { last_time = Some r.time; commands = held } ≡ after_reading s r
+  pub taken : (held : Held) → held ≡ commands_in s.train_and_track s.commands r (situation_of s r) → record s { last_time = Some r.time; commands = held } ≡ after_reading s r
   unfolding after_reading
   taken held e = λ k. record s { last_time = Some r.time; commands = e k }
 
@@ -51,5 +52,5 @@ module _ (s : Supervision) (r : OdometerReading) where
     pub ceiling_of : row.held.eb ≡ false → IsWithinCeiling r row
     ceiling_of eb = subst (λ (x : Row). IsWithinCeiling r x) (sym is) (within_ceiling s r (subst (λ (x : Row). x.held.eb ≡ false) is eb))
 
-  pub release_of : IsOpen s → BeginsRelease s r
+  pub release_of : IsOpen s → BeginsReleaseMonitoring s r
   release_of opened = release s r opened

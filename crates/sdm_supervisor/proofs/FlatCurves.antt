@@ -4,7 +4,7 @@ use Rattle.std.proofs.Common.{◌≡◌, ℕ, zero, suc, ℤ, pos, neg_ℤ, unsi
 use Rattle.std.proofs.lemmas.Int.{ints}
 use Rattle.sdm_num.specs.Fractions.{Fraction, floor, whole}
 use Rattle.sdm_num.specs.Bounds.{mm_below}
-use Rattle.sdm_rules.specs.Cells.{border_of}
+use Rattle.sdm_rules.specs.Cells.{place_of_cell}
 use Rattle.sdm_rules.specs.Slopes.{Slopes, SlopeMap, meaning_of}
 use Rattle.sdm_rules.specs.Curves.{cell_at, cell_start, back, arc_back, exact_at, exact, stepped, as_is, to_grain}
 use Rattle.sdm_laws.proofs.BandSteps.{place_up}
@@ -71,19 +71,20 @@ stepped_floor decel f v = stepped_arc decel f v ∙ ap floor (sym (exact_arc dec
 -- ---- its rows
 
 -- the row of a line, by the stepped place
-pub row_by_place : (s : FlatSupervision) (l : FlatLine) (at : ℤ) → at ≡ stepped (flat_slopes s.decel) (border_of (pos s.end)) 0 l.speed →
+pub row_by_place : (s : FlatSupervision) (l : FlatLine) (at : ℤ) →
+    at ≡ stepped (flat_slopes s.decel) (place_of_cell (pos s.end)) 0 l.speed →
     flat_row s l ≡ record {
       time = l.time;
       ebi = mm_below at;
       covered = not (int_lt at l.front);
-      eb = ((nat_lt 0 l.speed && int_lt at l.front) || int_lt (border_of (pos s.end)) l.front) || (s.eb && nat_lt 0 l.speed);
+      eb = ((nat_lt 0 l.speed && int_lt at l.front) || int_lt (place_of_cell (pos s.end)) l.front) || (s.eb && nat_lt 0 l.speed);
     }
 unfolding flat_row flat_after
 row_by_place s l at is =
     let no_shift : pos 1 *ℤ (l.front +ℤ pos 0) ≡ l.front = omega (arith, ints) in
-    rw (no_shift, is, stepped_floor s.decel (border_of (pos s.end)) l.speed)
+    rw (no_shift, is, stepped_floor s.decel (place_of_cell (pos s.end)) l.speed)
 
 -- what it shows is the exact place, in whole millimetres
-pub shown_place : (s : FlatSupervision) (l : FlatLine) → (flat_row s l).ebi ≡ whole_mm (exact (flat_slopes s.decel) (border_of (pos s.end)) 0 l.speed)
+pub shown_place : (s : FlatSupervision) (l : FlatLine) → (flat_row s l).ebi ≡ whole_mm (exact (flat_slopes s.decel) (place_of_cell (pos s.end)) 0 l.speed)
 unfolding flat_row
 shown_place s l = refl

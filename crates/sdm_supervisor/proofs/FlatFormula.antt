@@ -1,4 +1,4 @@
--- With one slope the energy of a way is the slope for each of its grains; so the exact place is the foot less the square over
+-- With one slope the energy of a distance is the slope for each of its grains; so the exact place is the foot less the square over
 -- twice the deceleration, and rounding it to a grain first and to a millimetre then is rounding it once.
 use Rattle.std.proofs.Common.{◌≡◌, ℕ, ℤ, pos, neg_ℤ, ◌-◌, ◌*◌, ◌<◌, ◌+ℤ◌, ◌*ℤ◌, ◌≤ℤ◌, ◌<ℤ◌, ap, sym, ◌∙◌, refl, arith}
 use Rattle.std.proofs.lemmas.Int.{ints}
@@ -8,7 +8,7 @@ use Rattle.sdm_num.specs.Fractions.{Fraction, whole}
 use Rattle.sdm_num.specs.Bounds.{mm_below}
 use Rattle.sdm_num.proofs.Ints.{scales, scale-+ℤ, scale-neg, scale-scale, scale-swap, scale-≤, scale-≤_cancel}
 use Rattle.sdm_num.proofs.Floors.{floor_low, floor_high, floor_is, scale-<_cancel}
-use Rattle.sdm_rules.specs.Cells.{border_of}
+use Rattle.sdm_rules.specs.Cells.{place_of_cell}
 use Rattle.sdm_rules.specs.Curves.{arc_back, back, grain_energy, exact}
 use Rattle.sdm_rules.specs.Flat.{flat_slopes}
 use Rattle.sdm_rules.specs.Supervision.{whole_mm}
@@ -38,10 +38,10 @@ arc_formula : (decel : ℕ) (f : ℤ) (e : ℕ) (y : Fraction) → 0 < decel →
 arc_formula decel f e y some h =
     let m_is : y.m ≡ h.t = h.finer ∙ omega arith in
     let used : rate decel * h.d ≡ h.t * e = sym (one_energy decel (1 * y.m) h.d y.n) ∙ h.is.used in
-    (omega (arith, m_is, h.positive), rw m_is (by_way (rate decel) h.t h.d e y.n f h.is.way used))
+    (omega (arith, m_is, h.positive), rw m_is (by_distance (rate decel) h.t h.d e y.n f h.is.distance used))
   where
-    by_way : (r t d e : ℕ) (n f : ℤ) → pos t *ℤ f ≡ n +ℤ pos d → r * d ≡ t * e → pos r *ℤ n ≡ pos t *ℤ (pos r *ℤ f +ℤ neg_ℤ (pos e))
-    by_way r t d e n f way used =
+    by_distance : (r t d e : ℕ) (n f : ℤ) → pos t *ℤ f ≡ n +ℤ pos d → r * d ≡ t * e → pos r *ℤ n ≡ pos t *ℤ (pos r *ℤ f +ℤ neg_ℤ (pos e))
+    by_distance r t d e n f distance used =
         let n_is : n ≡ pos t *ℤ f +ℤ neg_ℤ (pos d) = omega (arith, ints) in
         let turned : r * t ≡ t * r = omega arith in
         rw n_is (simp scales (rw (turned, used)))
@@ -103,16 +103,16 @@ floor_in_common k a low high N M c k_pos a_pos low_is high_is m_is below above =
     (scale-<_cancel k N (pos a *ℤ (c +ℤ pos 1)) (rw (← high_is, ← m_is) above))
 
 -- for a whole speed in mm/s the exact place, rounded down to a millimetre, is END - v² / (2A)
-pub ebi_is : (decel end v : ℕ) → 0 < decel → whole_mm (exact (flat_slopes decel) (border_of (pos end)) 0 (notches_of_mm_s v)) ≡ ebi_mm decel end v
+pub ebi_is : (decel end v : ℕ) → 0 < decel → whole_mm (exact (flat_slopes decel) (place_of_cell (pos end)) 0 (notches_of_mm_s v)) ≡ ebi_mm decel end v
 ebi_is decel end v some =
-    let x = exact (flat_slopes decel) (border_of (pos end)) 0 (notches_of_mm_s v) in
+    let x = exact (flat_slopes decel) (place_of_cell (pos end)) 0 (notches_of_mm_s v) in
     let c = whole_mm x in
-    let formula = exact_formula decel (border_of (pos end)) (notches_of_mm_s v) x some refl in
+    let formula = exact_formula decel (place_of_cell (pos end)) (notches_of_mm_s v) x some refl in
     let bounds = rounded_once x.m (rate decel) x.n _ c formula.0 (omega arith) formula.1 refl in
-    let way : rate decel * (end * centimetre) ≡ common * (200 * decel * end) = omega arith in
+    let distance : rate decel * (end * centimetre) ≡ common * (200 * decel * end) = omega arith in
     let used : energy_of (notches_of_mm_s v) ≡ common * (v * v) = omega arith in
     let unit : rate decel * millimetre ≡ common * (20 * decel) = omega arith in
-    let whole_way : pos (rate decel * (end * centimetre)) +ℤ neg_ℤ (pos (energy_of (notches_of_mm_s v))) ≡ pos common *ℤ (pos (200 * decel * end) +ℤ neg_ℤ (pos (v * v)))
-    = rw (way, used) (sym (difference common (200 * decel * end) (v * v))) in
+    let whole_distance : pos (rate decel * (end * centimetre)) +ℤ neg_ℤ (pos (energy_of (notches_of_mm_s v))) ≡ pos common *ℤ (pos (200 * decel * end) +ℤ neg_ℤ (pos (v * v)))
+    = rw (distance, used) (sym (difference common (200 * decel * end) (v * v))) in
     sym (floor_in_common common (20 * decel) _ _ _ _ c (omega arith) (omega arith)
-    (in_common (rate decel) common (20 * decel) c unit) (in_common (rate decel) common (20 * decel) (c +ℤ pos 1) unit) whole_way bounds.0 bounds.1)
+    (in_common (rate decel) common (20 * decel) c unit) (in_common (rate decel) common (20 * decel) (c +ℤ pos 1) unit) whole_distance bounds.0 bounds.1)

@@ -1,7 +1,7 @@
 mod VerdictLaws
 mod LimitOrder
 mod SilentLaw
-mod SituationLaws
+mod FindingLaws
 mod FindLaws
 mod CycleLaws
 mod CurveLaws

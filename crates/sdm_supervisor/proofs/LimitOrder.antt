@@ -4,7 +4,7 @@ use Rattle.std.proofs.Common.{◌≡◌, ℕ, ℤ, pos, neg_ℤ, true, false, �
 use Rattle.std.specs.Prelude.{option_map}
 use Rattle.std.specs.Option.{option_map_or}
 use Rattle.std.proofs.lemmas.Int.{ints}
-use Rattle.sdm_num.specs.Units.{way_in}
+use Rattle.sdm_num.specs.Units.{distance_at}
 use Rattle.sdm_num.specs.Fractions.{Fraction, less, lesser, whole}
 use Rattle.sdm_num.specs.Readings.{OdometerReading}
 use Rattle.sdm_num.proofs.Comparisons.{not_lt_is, not_lt_of}
@@ -15,10 +15,10 @@ use Rattle.sdm_rules.specs.declared.targets.Target.{Target}
 use Rattle.sdm_rules.specs.declared.targets.TargetKind.{TargetKind}
 use Rattle.sdm_rules.specs.declared.targets.TargetKind.TheVariants.{Mrsp, Loa, Eoa, Svl}
 use Rattle.sdm_rules.specs.Curves.{stepped}
-use Rattle.sdm_rules.specs.Data.{LineData}
+use Rattle.sdm_rules.specs.Data.{TrainAndTrack}
 use Rattle.sdm_rules.specs.Decelerations.{slopes_of}
-use Rattle.sdm_rules.specs.Limits.{SupervisionLimits, computed, d_bec_for, ebd_limits_of, guidance_place, limits_before, limits_of, limits_of_kind, sbd_limits_of, v_bec_for}
-use Rattle.sdm_rules.specs.Reaction.{driver_time, line_times, warning_time}
+use Rattle.sdm_rules.specs.Limits.{SupervisionLimits, computed, d_bec_for, ebd_limits_of, guidance_place, limits_from_sbi, limits_of, limits_of_kind, sbd_limits_of, v_bec_for}
+use Rattle.sdm_rules.specs.Reaction.{driver_time, reaction_times, warning_time}
 use Rattle.sdm_rules.specs.Targets.{foot_speed_of, target_speed}
 use Rattle.sdm_rules.specs.Triggers.{is_past}
 
@@ -46,39 +46,40 @@ of_lesser front x y =
 
 -- where a front end is not past what the driver's time asks for, it is past none of these
 module _ (front z : ℤ) (times : Times) (v : ℕ) (ebi : Option Fraction) (of_ebi : is_past 0 front (whole z) ≡ false → option_map_or (is_past 0 front) ebi false ≡ false) where
-  of_driver : (guide : Option Fraction) → is_past 0 front (less (whole z) (way_in v driver_time)) ≡ false → is_past 0 front (limits_before times v guide ebi (whole z)).permitted ≡ false →
-      IsPastNone front (limits_before times v guide ebi (whole z))
+  of_driver : (guide : Option Fraction) → is_past 0 front (less (whole z) (distance_at v driver_time)) ≡ false → is_past 0 front (limits_from_sbi times v guide ebi (whole z)).permitted ≡ false →
+      IsPastNone front (limits_from_sbi times v guide ebi (whole z))
   of_driver guide driver permitted =
-      let sbi = of_less front (whole z) (way_in v driver_time) driver in
+      let sbi = of_less front (whole z) (distance_at v driver_time) driver in
       record {
         ebi = of_ebi sbi;
         sbi = sbi;
-        warning = later (z +ℤ neg_ℤ (pos (way_in v driver_time * 1))) (z +ℤ neg_ℤ (pos (way_in v warning_time * 1))) (pos 1 *ℤ (front +ℤ pos 0)) (omega (arith, ints)) driver;
+        warning = later (z +ℤ neg_ℤ (pos (distance_at v driver_time * 1))) (z +ℤ neg_ℤ (pos (distance_at v warning_time * 1))) (pos 1 *ℤ (front +ℤ pos 0)) (omega (arith, ints)) driver;
         permitted = permitted;
       }
 
-  of_indication : (guide : Option ℤ) → is_past 0 front (limits_before times v (option_map whole guide) ebi (whole z)).indication ≡ false →
-      IsPastNone front (limits_before times v (option_map whole guide) ebi (whole z))
+  of_indication : (guide : Option ℤ) → is_past 0 front (limits_from_sbi times v (option_map whole guide) ebi (whole z)).indication ≡ false →
+      IsPastNone front (limits_from_sbi times v (option_map whole guide) ebi (whole z))
   of_indication None ahead =
-      let driver = of_less front (less (whole z) (way_in v driver_time)) (way_in v times.indication) ahead in
+      let driver = of_less front (less (whole z) (distance_at v driver_time)) (distance_at v times.indication) ahead in
       of_driver None driver driver
   of_indication (Some g) ahead =
-      let permitted = of_less front (lesser (whole g) (less (whole z) (way_in v driver_time))) (way_in v times.indication) ahead in
-      of_driver (Some (whole g)) (of_lesser front g (z +ℤ neg_ℤ (pos (way_in v driver_time * 1))) permitted) permitted
+      let permitted = of_less front (lesser (whole g) (less (whole z) (distance_at v driver_time)))
+          (distance_at v times.indication) ahead in
+      of_driver (Some (whole g)) (of_lesser front g (z +ℤ neg_ℤ (pos (distance_at v driver_time * 1))) permitted) permitted
 
 -- ---- the limits of a target
 
-module _ (d : LineData) (r : OdometerReading) (t : Target) (front : ℤ) where
+module _ (d : TrainAndTrack) (r : OdometerReading) (t : Target) (front : ℤ) where
   ebd : (guide : Option ℤ) → is_past 0 front (ebd_limits_of computed d r t (option_map whole guide)).indication ≡ false → IsPastNone front (ebd_limits_of computed d r t (option_map whole guide))
   ebd guide =
-      let bs = way_in r.speed (line_times d).bs in
+      let bs = distance_at r.speed (reaction_times d).bs in
       let ebi = stepped (slopes_of Safe d) t.place (foot_speed_of t) (v_bec_for d r t) +ℤ neg_ℤ (pos (d_bec_for d r t * 1)) in
-      of_indication front (ebi +ℤ neg_ℤ (pos (bs * 1))) (line_times d) r.speed (Some (whole ebi)) (of_less front (whole ebi) bs) guide
+      of_indication front (ebi +ℤ neg_ℤ (pos (bs * 1))) (reaction_times d) r.speed (Some (whole ebi)) (of_less front (whole ebi) bs) guide
 
   sbd : (guide : Option ℤ) → is_past 0 front (sbd_limits_of computed d r t (option_map whole guide)).indication ≡ false → IsPastNone front (sbd_limits_of computed d r t (option_map whole guide))
   sbd guide =
-      let sbi = stepped (slopes_of Expected d) t.place 0 r.speed +ℤ neg_ℤ (pos (way_in r.speed (line_times d).bs * 1)) in
-      of_indication front sbi (line_times d) r.speed None (λ _. refl) guide
+      let sbi = stepped (slopes_of Expected d) t.place 0 r.speed +ℤ neg_ℤ (pos (distance_at r.speed (reaction_times d).bs * 1)) in
+      of_indication front sbi (reaction_times d) r.speed None (λ _. refl) guide
 
   -- a guide is at a whole place, where there is one
   guided : (P : Option Fraction → Type 0) → ((guide : Option ℤ) → P (option_map whole guide)) → P (guidance_place computed d r t)

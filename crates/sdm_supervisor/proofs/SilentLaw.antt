@@ -10,7 +10,7 @@ use Rattle.sdm_num.specs.Readings.{OdometerReading}
 use Rattle.sdm_rules.specs.declared.targets.Target.{Target}
 use Rattle.sdm_rules.specs.declared.targets.TargetKind.{TargetKind}
 use Rattle.sdm_rules.specs.declared.targets.TargetKind.TheVariants.{Mrsp, Loa, Eoa, Svl}
-use Rattle.sdm_rules.specs.Data.{LineData}
+use Rattle.sdm_rules.specs.Data.{TrainAndTrack}
 use Rattle.sdm_rules.specs.Limits.{SupervisionLimits, computed, limits_of, limits_of_kind, v_bec_for}
 use Rattle.sdm_rules.specs.Margins.{ebi_margin, sbi_margin, warning_margin}
 use Rattle.sdm_rules.specs.Supervision.{is_covered_for, is_met_by_speed}
@@ -53,7 +53,7 @@ nearer_unless None b none = none
 nearer_unless (Some x) b none = rw none refl
 
 -- whatever its limits, a target above the train's speed says only whether it is covered
-pub says_if_covered : (d : LineData) (r : OdometerReading) (l : SupervisionLimits) (t : Target) (said : Verdict) → r.speed < target_speed t →
+pub says_if_covered : (d : TrainAndTrack) (r : OdometerReading) (l : SupervisionLimits) (t : Target) (said : Verdict) → r.speed < target_speed t →
     both said (verdict_at d r l t) ≡ record said { covered = said.covered && is_covered_for d r t }
 unfolding verdict_at
 says_if_covered d r l t said slower = λ k. record {
@@ -77,7 +77,7 @@ ebi_not_passed_yet r t None ahead = refl
 ebi_not_passed_yet r t (Some ebi) ahead = not_passed_yet r ebi_margin t ebi ahead
 
 -- a target whose EBI is not passed is covered; the EOA has none
-covered_yet : (d : LineData) (r : OdometerReading) (t : Target) (kind : TargetKind) (met : Bool) → IsPastNone (front_of r kind) (limits_of_kind computed d r t kind) →
+covered_yet : (d : TrainAndTrack) (r : OdometerReading) (t : Target) (kind : TargetKind) (met : Bool) → IsPastNone (front_of r kind) (limits_of_kind computed d r t kind) →
     option_map_or (λ ebi. not (is_past 0 r.max ebi) || met) (limits_of_kind computed d r t kind).ebi true ≡ true
 covered_yet d r t Mrsp met none = rw none.ebi refl
 covered_yet d r t Loa met none = rw none.ebi refl
@@ -92,13 +92,13 @@ all_counted : (r : OdometerReading) (t : Target) (l : SupervisionLimits) → tar
 all_counted r t l reached = rw (le-leb (target_speed t) r.speed reached) refl
 
 -- a target that is not above the train's speed says where its limits lie
-pub says_all : (d : LineData) (r : OdometerReading) (l : SupervisionLimits) (t : Target) (said : Verdict) → target_speed t ≤ r.speed →
+pub says_all : (d : TrainAndTrack) (r : OdometerReading) (l : SupervisionLimits) (t : Target) (said : Verdict) → target_speed t ≤ r.speed →
     both said (verdict_at d r l t) ≡ record (both said (verdict_at d r l t)) { nearest = nearer_where said.nearest (Some (nearest_at l)) }
 unfolding verdict_at
 says_all d r l t said reached = λ k. record (both said (verdict_at d r l t)) { nearest = nearer_where said.nearest (all_counted r t l reached k) }
 
 -- up to its indication limit, a target that is not above the train's speed says only where its limits lie
-pub says_where : (d : LineData) (r : OdometerReading) (t : Target) (said : Verdict) → target_speed t ≤ r.speed → is_past 0 (front_of r t.kind) (limits_of computed d r t).indication ≡ false →
+pub says_where : (d : TrainAndTrack) (r : OdometerReading) (t : Target) (said : Verdict) → target_speed t ≤ r.speed → is_past 0 (front_of r t.kind) (limits_of computed d r t).indication ≡ false →
     both said (verdict_at d r (limits_of computed d r t) t) ≡ record said { nearest = nearer_where said.nearest (Some (nearest_at (limits_of computed d r t))) }
 unfolding verdict_at limits_of
 says_where d r t said reached ahead =

@@ -2,7 +2,7 @@
 use Rattle.std.specs.Prelude.{◌≡◌, ℕ, ℤ, pos, neg_ℤ, [], ◌∷◌, ◌*◌, ◌+ℤ◌, ◌≤◌}
 use Rattle.std.specs.Int.{int_div_euclid}
 use Rattle.sdm_rules.specs.Slopes.{SlopeMap, meaning_of}
-use Rattle.sdm_rules.specs.Cells.{border_of}
+use Rattle.sdm_rules.specs.Cells.{place_of_cell}
 use Rattle.sdm_rules.specs.Ranges.{longest_track}
 use Rattle.sdm_curve.specs.Made.{BrakeCurve, IsMadeFrom}
 
@@ -16,7 +16,7 @@ pub record IsFlatCurve (decel end : ℕ) (map : SlopeMap) (curve : BrakeCurve) :
   pub high : decel ≤ 400
   pub near : end ≤ longest_track
   pub map_is : map ≡ flat_map decel
-  pub place_is : curve.place ≡ border_of (pos end)
+  pub place_is : curve.place ≡ place_of_cell (pos end)
   pub speed_is : curve.speed ≡ 0
   pub made : IsMadeFrom (meaning_of map) curve
 

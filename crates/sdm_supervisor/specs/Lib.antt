@@ -1,5 +1,5 @@
 pub mod Verdicts
-pub mod Situations
+pub mod Findings
 pub mod Supervised
 pub mod FlatLines
 pub mod Flats

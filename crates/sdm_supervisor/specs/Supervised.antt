@@ -5,8 +5,8 @@ use Rattle.sdm_rules.specs.declared.authorities.Authority.TheVariants.{Stop, Lim
 use Rattle.sdm_rules.specs.declared.data.SlopeKind.TheVariants.{Safe}
 use Rattle.sdm_rules.specs.declared.targets.Target.{Target}
 use Rattle.sdm_rules.specs.declared.targets.TargetKind.TheVariants.{Loa, Svl}
-use Rattle.sdm_rules.specs.Cells.{border_of}
-use Rattle.sdm_rules.specs.Data.{LineData}
+use Rattle.sdm_rules.specs.Cells.{place_of_cell}
+use Rattle.sdm_rules.specs.Data.{TrainAndTrack}
 use Rattle.sdm_rules.specs.Decelerations.{slopes_of}
 use Rattle.sdm_rules.specs.Records.{authority_fault}
 use Rattle.sdm_rules.specs.Supervision.{Supervision, profile_of}
@@ -18,7 +18,7 @@ use Rattle.sdm_braking.specs.Kept.{IsKept}
 use Rattle.sdm_braking.specs.KeptCurves.{IsCurveOn}
 
 -- the speed profile is that of the data (own)
-pub record IsProfileOf (d : LineData) (p : ProfileData) : Type 0 where
+pub record IsProfileOf (d : TrainAndTrack) (p : ProfileData) : Type 0 where
   pub max_speed : unsigned_abs d.train.max_speed ≡ p.max_speed
   pub length_cm : d.train.length_cm ≡ p.length_cm
   pub track_cm : d.track.length_cm ≡ p.track_cm
@@ -26,21 +26,22 @@ pub record IsProfileOf (d : LineData) (p : ProfileData) : Type 0 where
 
 -- what every supervisor keeps beside its state: its profile is that of its data, its authority is accepted, and the targets that it keeps
 -- are those of its profile and its authority (own)
-pub record IsSupervised (d : LineData) (p : ProfileData) (a : Authority) (k : Kept) : Type 0 where
+pub record IsSupervisorOf (d : TrainAndTrack) (p : ProfileData) (a : Authority) (k : Kept) : Type 0 where
   pub profile : IsProfileOf d p
   pub authority : authority_fault d.track.length_cm a ≡ None
   pub kept : IsKept d p a k
 
--- the curve is the EBD of the fall of the MRSP at the border where a cell begins (SUBSET-026-3 3.13.8.3)
+-- the curve is the EBD of the fall of the MRSP at the start of a cell (SUBSET-026-3 3.13.8.3)
 pub record IsFallCurve (s : Supervision) (at : ℤ) (curve : BrakeCurve) : Type 0 where
   pub falls : is_fall (profile_of s) at ≡ true
-  pub ebd : IsCurveOn (slopes_of Safe s.line) (border_of at) (foot_speed_of (fall_at (profile_of s) at)) curve
+  pub ebd : IsCurveOn (slopes_of Safe s.train_and_track) (place_of_cell at) (foot_speed_of (fall_at (profile_of s) at)) curve
 
 -- the target by which an authority is kept by the emergency brake: the SvL, or the LOA (SUBSET-026-3 3.13.8.2)
 abbrev pub last_of : Authority → Target
-last_of (Stop eoa svl release) = record { kind = Svl; place = border_of (pos svl); speed = 0 }
-last_of (Limit loa speed) = record { kind = Loa; place = border_of (pos loa); speed = speed }
+last_of (Stop eoa svl release) = record { kind = Svl; place = place_of_cell (pos svl); speed = 0 }
+last_of (Limit loa speed) = record { kind = Loa; place = place_of_cell (pos loa); speed = speed }
 
 -- the curve is the EBD of the SvL or of the LOA (SUBSET-026-3 3.13.8.3)
 abbrev pub IsAuthorityCurve : Supervision → BrakeCurve → Type 0
-IsAuthorityCurve s curve = IsCurveOn (slopes_of Safe s.line) (last_of s.authority).place (foot_speed_of (last_of s.authority)) curve
+IsAuthorityCurve s curve = IsCurveOn (slopes_of Safe s.train_and_track) (last_of s.authority).place
+    (foot_speed_of (last_of s.authority)) curve

@@ -9,7 +9,7 @@ use Rattle.sdm_num.specs.Readings.{OdometerReading}
 use Rattle.sdm_rules.specs.declared.targets.TargetKind.{TargetKind}
 use Rattle.sdm_rules.specs.declared.targets.TargetKind.TheVariants.{Mrsp, Loa, Eoa, Svl}
 use Rattle.sdm_rules.specs.declared.targets.Target.{Target}
-use Rattle.sdm_rules.specs.Data.{LineData}
+use Rattle.sdm_rules.specs.Data.{TrainAndTrack}
 use Rattle.sdm_rules.specs.Margins.{ebi_margin, sbi_margin, warning_margin}
 use Rattle.sdm_rules.specs.Targets.{target_speed, with_margin}
 use Rattle.sdm_rules.specs.Limits.{SupervisionLimits, computed, limits_of}
@@ -29,7 +29,7 @@ front_of r Loa = r.max
 abbrev pub passes_at : OdometerReading → (ℕ → ℕ) → Target → Fraction → Bool
 passes_at r margin t limit = nat_lt (with_margin margin t) r.speed && is_past 0 (front_of r t.kind) limit
 
--- so by an EBI, where the target has one (own)
+-- the target is passed by its EBI, where it has one (own)
 abbrev pub passes_ebi_at : OdometerReading → Target → Option Fraction → Bool
 passes_ebi_at r t limit = option_map_or (passes_at r ebi_margin t) limit false
 
@@ -75,7 +75,7 @@ nearest_of r limits [] = None
 nearest_of r limits (t ∷ ts) = nearer_where (counted r t (limits t)) (nearest_of r limits ts)
 
 -- what one target says at a reading, by its limits (SUBSET-026-3 3.13.10; own)
-unfoldable pub verdict_at : LineData → OdometerReading → SupervisionLimits → Target → Verdict
+unfoldable pub verdict_at : TrainAndTrack → OdometerReading → SupervisionLimits → Target → Verdict
 verdict_at d r l t = record {
   over = passes_at r no_margin t l.permitted;
   warn = passes_at r warning_margin t l.warning;
@@ -87,7 +87,7 @@ verdict_at d r l t = record {
 }
 
 -- what targets say at a reading (SUBSET-026-3 3.13.10; own)
-unfoldable pub verdict_of : LineData → OdometerReading → List Target → Verdict
+unfoldable pub verdict_of : TrainAndTrack → OdometerReading → List Target → Verdict
 verdict_of d r ts =
     let limits = limits_of computed d r in
     record {

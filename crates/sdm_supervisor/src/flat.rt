@@ -3,7 +3,7 @@
 ghost use Rattle.std.specs.Prelude.{◌≡◌, ◌≤◌, ℕ, None, Some, ◌||◌, ◌&&◌, nat_lt, int_lt, IsTrue, IfOk, IfErr, OnErr};
 ghost use Rattle.sdm_num.specs.Units.{notches_of_mm_s};
 ghost use Rattle.sdm_rules.specs.Records.{time_fault};
-ghost use Rattle.sdm_rules.specs.Cells.{border_of};
+ghost use Rattle.sdm_rules.specs.Cells.{place_of_cell};
 ghost use Rattle.sdm_rules.specs.Flat.{KeepsFlatOrder, StopsByFlatEnd, after_flat_line, flat_opening, flat_row};
 ghost use Rattle.sdm_rules.specs.Ranges.{longest_track};
 ghost use Rattle.sdm_supervisor.specs.Flats.{ebi_mm, flat_map};

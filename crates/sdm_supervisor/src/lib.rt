@@ -3,7 +3,7 @@
 #![tactic(auto)]
 
 pub mod flat;
-pub mod situations;
+pub mod findings;
 pub mod supervisors;
 pub mod verdicts;
 

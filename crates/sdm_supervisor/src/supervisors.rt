@@ -1,25 +1,25 @@
 //! The supervisor of a journey. All its memory is taken when it begins; a record takes none. What it is worth is said by the clauses of
-//! `cycle`: its emergency command lies between that of a machine with exact limits and that of the same machine with every limit one
-//! millimetre earlier, and from every covered row the train stops before the supervised location.
+//! `cycle`: its emergency command lies between that of a machine with exact limits of targets and that of the same machine with each
+//! a millimetre earlier, and from every covered row every motion within the reading's bounds stops at or before the SvL, if there is one.
 
 ghost use Rattle.std.specs.Prelude.{◌≡◌, ◌≤◌, ◌≤ℤ◌, pos, MatchOption, IsTrue, false, None, Some, IfOk, IfErr, OnOk, OnErr};
 ghost use Rattle.sdm_num.specs.Readings.{IsReading};
 ghost use Rattle.sdm_rules.specs.Machines.{KeepsOrder};
 ghost use Rattle.sdm_rules.specs.Opening.{IsAccepted, IsOpen};
-ghost use Rattle.sdm_rules.specs.Promises.{BeginsRelease, HasOnlyGaps, IsWithinCeiling};
+ghost use Rattle.sdm_rules.specs.Promises.{BeginsReleaseMonitoring, HasOnlyGaps, IsWithinCeiling};
 ghost use Rattle.sdm_rules.specs.Records.{authority_fault, restrict_fault, revoke_fault, time_fault};
 ghost use Rattle.sdm_rules.specs.Stop.{IsSafe};
 ghost use Rattle.sdm_rules.specs.Supervision.{after_authority, after_reading, after_restriction, after_revocation, opening, profile_of, row_of};
 ghost use Rattle.sdm_rules.specs.Targets.{is_fall};
 ghost use Rattle.sdm_rules.specs.Ranges.{top_kmh};
-ghost use Rattle.sdm_decel.specs.Slopes.{line_of};
+ghost use Rattle.sdm_decel.specs.Slopes.{train_and_track_from};
 ghost use Rattle.sdm_supervisor.specs.Supervised.{IsAuthorityCurve, IsFallCurve};
-ghost use Rattle.sdm_braking.specs.Lines.{IsRefusal};
-ghost use Rattle.sdm_supervisor.specs.Situations.{IsFoundAt, IsInRange};
+ghost use Rattle.sdm_braking.specs.Braking.{IsRefusal};
+ghost use Rattle.sdm_supervisor.specs.Findings.{IsFoundAt, AreFindingsInRange};
 
-use crate::situations::Situation;
+use crate::findings::Findings;
 use crate::verdicts::Verdict;
-use sdm_braking::{Kept, Line, released_kmh};
+use sdm_braking::{Kept, Braking, release_kmh_at};
 use sdm_curve::Curve;
 use sdm_national::National;
 use sdm_num::Reading;
@@ -36,7 +36,7 @@ use std::marker::Model;
 /// restrictions in force, the time of the last reading, and the commands that are held. (SUBSET-026-3 3.13.10; own)
 #[derive(Drop)]
 pub struct Supervisor {
-    line: Line,
+    braking: Braking,
     authority: Authority,
     profile: Profile,
     /// Kept between records: the targets of the profile and the authority with their curves.
@@ -49,15 +49,15 @@ impl Model for Supervisor {
     ghost use Rattle.std.specs.Coded.{codes};
     ghost use Rattle.sdm_rules.specs.Codes.{coded_restrictions};
     ghost use Rattle.sdm_rules.specs.Supervision.{Supervision};
-    ghost use Rattle.sdm_supervisor.specs.Supervised.{IsSupervised};
+    ghost use Rattle.sdm_supervisor.specs.Supervised.{IsSupervisorOf};
 
     ghost Value = { Supervision };
 
     ghost coded = { Prim.hlevel (codes, coded_restrictions) };
 
-    ghost view = { λ s. record { line = s.line; authority = s.authority; restrictions = s.profile.restrictions; last_time = s.last_time; commands = s.held } };
+    ghost view = { λ s. record { train_and_track = s.braking; authority = s.authority; restrictions = s.profile.restrictions; last_time = s.last_time; commands = s.held } };
 
-    ghost invariant = { λ s. IsSupervised s.line s.profile s.authority s.kept };
+    ghost invariant = { λ s. IsSupervisorOf s.braking s.profile s.authority s.kept };
 }
 
 /// Before the first reading no command is held. (own)
@@ -80,34 +80,34 @@ impl Supervisor {
         track: Track,
         authority: Authority,
     ) -> Result<Supervisor, OpenFault>
-        ensures opening { IfOk result (λ s. s ≡ opening (line_of train national track) authority) }
-        ensures accepted { OnOk result (IsAccepted (line_of train national track) authority) }
-        ensures refused { IfErr result (IsRefusal (line_of train national track) authority) }
+        ensures opening { IfOk result (λ s. s ≡ opening (train_and_track_from train national track) authority) }
+        ensures accepted { OnOk result (IsAccepted (train_and_track_from train national track) authority) }
+        ensures refused { IfErr result (IsRefusal (train_and_track_from train national track) authority) }
     {
-        match Line::open(alloc, train, national, track) {
-            Ok(line) => Supervisor::on_line(alloc, line, authority),
+        match Braking::open(alloc, train, national, track) {
+            Ok(braking) => Supervisor::with_braking(alloc, braking, authority),
             Err(fault) => Err(fault),
         }
     }
 
-    /// The supervisor on a line, with its first authority.
-    fn on_line(alloc: Global, line: Line, authority: Authority) -> Result<Supervisor, OpenFault>
-        ensures opening { IfOk result (λ s. s ≡ opening line authority) }
-        ensures accepted { OnOk result (IsAccepted line authority) }
-        ensures refused { IfErr result (IsRefusal line authority) }
+    /// The supervisor of a train on its track, with its first authority.
+    fn with_braking(alloc: Global, braking: Braking, authority: Authority) -> Result<Supervisor, OpenFault>
+        ensures opening { IfOk result (λ s. s ≡ opening braking authority) }
+        ensures accepted { OnOk result (IsAccepted braking authority) }
+        ensures refused { IfErr result (IsRefusal braking authority) }
     {
-        if let Err(fault) = check_authority(&authority, line.track_cm()) {
+        if let Err(fault) = check_authority(&authority, braking.track_cm()) {
             return Err(OpenFault::BadAuthority(fault));
         }
-        let Ok(profile) = Profile::begin(alloc, line.track(), line.max_speed_kmh(), line.train_cm())
+        let Ok(profile) = Profile::begin(alloc, braking.track(), braking.max_speed_kmh(), braking.train_cm())
         else {
             return Err(OpenFault::Memory);
         };
-        let Ok(kept) = Kept::begin(alloc, &line, &profile, &authority) else {
+        let Ok(kept) = Kept::begin(alloc, &braking, &profile, &authority) else {
             return Err(OpenFault::Memory);
         };
         Ok(Supervisor {
-            line,
+            braking,
             authority,
             profile,
             kept,
@@ -119,13 +119,13 @@ impl Supervisor {
     /// Takes a new authority in place of the old one; no command changes. Refused where `check_authority` refuses it for the track; nothing
     /// is then changed. (SUBSET-026-3 3.8; refusals own)
     pub fn authority(&mut self, a: Authority) -> Result<(), AuthorityFault>
-        ensures accepted { OnOk result (authority_fault self.old.line.track.length_cm a ≡ None) }
+        ensures accepted { OnOk result (authority_fault self.old.train_and_track.track.length_cm a ≡ None) }
         ensures taken { OnOk result (self.new ≡ after_authority self.old a) }
-        ensures refused { IfErr result (λ fault. authority_fault self.old.line.track.length_cm a ≡ Some fault) }
+        ensures refused { IfErr result (λ fault. authority_fault self.old.train_and_track.track.length_cm a ≡ Some fault) }
         ensures unchanged { OnErr result (self.new ≡ self.old) }
     {
-        check_authority(&a, self.line.track_cm())?;
-        self.kept.take_authority(&self.line, &a);
+        check_authority(&a, self.braking.track_cm())?;
+        self.kept.take_authority(&self.braking, &a);
         self.authority = a;
         Ok(())
     }
@@ -135,13 +135,14 @@ impl Supervisor {
     pub fn restrict(&mut self, r: Restriction) -> Result<(), RestrictFault>
         requires slowest { 1 ≤ r.speed }
         requires fastest { r.speed ≤ top_kmh }
-        ensures accepted { OnOk result (restrict_fault self.old.line.track.length_cm self.old.restrictions r ≡ None) }
+        ensures accepted { OnOk result (restrict_fault self.old.train_and_track.track.length_cm self.old.restrictions r ≡ None) }
         ensures taken { OnOk result (self.new ≡ after_restriction self.old r) }
-        ensures refused { IfErr result (λ fault. restrict_fault self.old.line.track.length_cm self.old.restrictions r ≡ Some fault) }
+        ensures refused { IfErr result
+            (λ fault. restrict_fault self.old.train_and_track.track.length_cm self.old.restrictions r ≡ Some fault) }
         ensures unchanged { OnErr result (self.new ≡ self.old) }
     {
         let changed = self.profile.impose(r)?;
-        self.kept.take_profile(&self.line, &self.profile, changed);
+        self.kept.take_profile(&self.braking, &self.profile, changed);
         Ok(())
     }
 
@@ -153,11 +154,11 @@ impl Supervisor {
         ensures unchanged { OnErr result (self.new ≡ self.old) }
     {
         let changed = self.profile.lift(id)?;
-        self.kept.take_profile(&self.line, &self.profile, changed);
+        self.kept.take_profile(&self.braking, &self.profile, changed);
         Ok(())
     }
 
-    /// The EBD of the fall of the MRSP at the border where a cell begins; none where the MRSP does not fall there. (SUBSET-026-3
+    /// The EBD of the fall of the MRSP at the start of a cell; none where the MRSP does not fall there. (SUBSET-026-3
     /// 3.13.8.3; own)
     pub fn fall_curve(&self, cell: i32) -> Option<&Curve>
         requires { pos 0 ≤ℤ cell }
@@ -178,26 +179,26 @@ impl Supervisor {
     }
 
     /// What is found at a reading, before the commands are decided.
-    fn find(&self, reading: &Reading) -> Situation
+    fn find(&self, reading: &Reading) -> Findings
         requires { IsReading reading.now }
         ensures found { IsFoundAt self.now reading.now result }
-        ensures range { IsInRange result }
+        ensures range { AreFindingsInRange result }
         ensures accepted { IsOpen self.now }
     {
         let front = reading.max_mm();
         let cell = front.cell();
-        let release_kmh = released_kmh(self.kept.release, front);
-        let released = release_kmh.is_some();
-        let end = self.line.end_of(&self.authority);
+        let release_kmh = release_kmh_at(self.kept.release, front);
+        let in_release_monitoring = release_kmh.is_some();
+        let end = self.braking.end_of(&self.authority);
         let falls = self.kept.falls.ahead(cell, end);
-        let asked = self.line.asked(reading);
-        Situation {
+        let asked = self.braking.asked(reading);
+        Findings {
             speed: reading.speed_mm_s(),
             ceiling_kmh: self.profile.lowest(reading.min_mm().cell(), cell),
             past_end: self.kept.end.is_passed_by(reading.min_mm()),
             release_kmh,
-            in_use: self.line.is_service_in_use(),
-            verdict: Verdict::of(&self.line, &asked, falls, &self.kept.end, released),
+            in_use: self.braking.is_service_in_use(),
+            verdict: Verdict::of(&self.braking, &asked, falls, &self.kept.end, in_release_monitoring),
         }
     }
 
@@ -214,10 +215,10 @@ impl Supervisor {
     /// Judges a reading, and takes its time and the commands after it. TimeBack comes exactly where its time is before that of the last
     /// reading, and changes nothing. (SUBSET-026-3 3.13.10; own)
     ///
-    /// The row is that of the definitions. Its emergency command keeps the order of the three machines: that with exact limits, this one,
-    /// and that with every limit one millimetre earlier. From a covered row every motion within the bounds of the reading stops by the
-    /// SvL and meets each speed target; a row without emergency command that isn't covered has a gap, which is a speed target. Without
-    /// emergency command the speed is at most the ceiling with its EBI margin.
+    /// The row is that of the definitions. Its emergency command keeps the order of the three machines: that with exact limits of targets,
+    /// this one, and that with every limit one millimetre earlier. From a covered row every motion within the bounds of the reading stops
+    /// by the SvL, where there is one, and meets each speed target; a row without emergency command that isn't covered has a gap, which is
+    /// a speed target. Without emergency command the estimated speed is at most the ceiling with its EBI margin.
     pub fn cycle(&mut self, reading: &Reading) -> Result<Row, CycleFault>
         ensures in_time { OnOk result (time_fault self.old.last_time reading.now.time ≡ None) }
         ensures row { IfOk result (λ row. row ≡ row_of self.old reading.now) }
@@ -226,7 +227,7 @@ impl Supervisor {
         ensures safe { IfOk result (λ row. IsTrue row.covered → IsSafe self.old reading.now) }
         ensures gaps { IfOk result (λ row. row.held.eb ≡ false → HasOnlyGaps self.old reading.now) }
         ensures ceiling { IfOk result (λ row. row.held.eb ≡ false → IsWithinCeiling reading.now row) }
-        ensures release { OnOk result (BeginsRelease self.old reading.now) }
+        ensures release { OnOk result (BeginsReleaseMonitoring self.old reading.now) }
         ensures time_back { IfErr result (λ fault. time_fault self.old.last_time reading.now.time ≡ Some fault) }
         ensures unchanged { OnErr result (self.new ≡ self.old) }
     {
@@ -249,7 +250,7 @@ impl Supervisor {
             found.triggers(),
             found.state(),
             found.speed.notches() == 0,
-            self.line.has_early_release(),
+            self.braking.has_early_release(),
             found.in_use,
         );
         self.last_time = Some(reading.time());

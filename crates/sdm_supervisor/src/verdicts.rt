@@ -7,7 +7,7 @@ ghost use Rattle.sdm_num.specs.Readings.{OdometerReading};
 ghost use Rattle.sdm_rules.specs.Limits.{computed, limits_of};
 ghost use Rattle.sdm_rules.specs.Supervision.{is_covered_for};
 ghost use Rattle.sdm_rules.specs.Margins.{ebi_margin};
-ghost use Rattle.sdm_rules.specs.Data.{LineData};
+ghost use Rattle.sdm_rules.specs.Data.{TrainAndTrack};
 ghost use Rattle.sdm_rules.specs.declared.targets.Target.{Target};
 ghost use Rattle.sdm_rules.specs.Targets.{target_speed, with_margin};
 ghost use Rattle.sdm_rules.specs.Triggers.{is_past};
@@ -18,7 +18,7 @@ ghost use Rattle.sdm_braking.specs.KeptCurves.{AreKept, AreSpeedsOf, IsKeptTarge
 ghost use Rattle.sdm_braking.specs.KeptFalls.{IsKeptFall, target_of};
 ghost use Rattle.sdm_supervisor.specs.Verdicts.{both, front_of, nearer, nearer_limits, nearer_where, nearest_at, passes_ebi_at, verdict_at, verdict_of};
 
-use sdm_braking::{AskedReading, KeptEnd, KeptFall, KeptTarget, Line};
+use sdm_braking::{AskedReading, KeptEnd, KeptFall, KeptTarget, Braking};
 use sdm_limits::Limits;
 use sdm_num::{Early, Place, Reading, Speed};
 use sdm_targets::{Target, TargetKind};
@@ -108,7 +108,7 @@ impl Verdict {
     // What no target says: nothing is passed.
     #[tactic(auto, unfolding(crate::specs::Verdicts::verdict_of))]
     fn of_none() -> Verdict
-        ensures { (d : LineData) (r : OdometerReading) → result ≡ verdict_of d r [] }
+        ensures { (d : TrainAndTrack) (r : OdometerReading) → result ≡ verdict_of d r [] }
     {
         Verdict {
             over: false,
@@ -170,19 +170,19 @@ fn is_before(reading: &Reading, ebi: Option<Early>) -> bool
 
 /// Whether a target above the train's speed is covered: it is met by speed, as most such targets are, or the max safe front end is at or
 /// before its EBI. (own)
-fn is_covered_above(line: &Line, asked: &AskedReading, kept: &KeptTarget) -> bool
-    requires asked { IsAsked line.now asked.now }
-    requires kept { IsKeptTarget line.now kept.now }
-    ensures { result ≡ is_covered_for line.now asked.now.reading.now kept.now.target }
+fn is_covered_above(braking: &Braking, asked: &AskedReading, kept: &KeptTarget) -> bool
+    requires asked { IsAsked braking.now asked.now }
+    requires kept { IsKeptTarget braking.now kept.now }
+    ensures { result ≡ is_covered_for braking.now asked.now.reading.now kept.now.target }
 {
-    asked.is_met_by_speed(kept) || is_before(asked.reading, line.ebi(asked, kept))
+    asked.is_met_by_speed(kept) || is_before(asked.reading, braking.ebi(asked, kept))
 }
 
 /// Whether a target is covered: the max safe front end is at or before its EBI, if it has one, or it is met by speed. (own)
 fn is_covered_for(asked: &AskedReading, kept: &KeptTarget, ebi: Option<Early>) -> bool
     requires target { IsTarget kept.now.target }
     requires speeds { AreSpeedsOf kept.now.target kept.now.speeds }
-    ensures { (d : LineData) → IsAsked d asked.now →
+    ensures { (d : TrainAndTrack) → IsAsked d asked.now →
         place_where ebi ≡ (limits_of computed d asked.now.reading.now kept.now.target).ebi →
         result ≡ is_covered_for d asked.now.reading.now kept.now.target }
 {
@@ -195,7 +195,7 @@ impl Verdict {
     fn add_passed(&mut self, asked: &AskedReading, kept: &KeptTarget, limits: &Limits)
         requires target { IsTarget kept.now.target }
         requires speeds { AreSpeedsOf kept.now.target kept.now.speeds }
-        ensures { (d : LineData) → IsAsked d asked.now →
+        ensures { (d : TrainAndTrack) → IsAsked d asked.now →
             places_of limits.now ≡ limits_of computed d asked.now.reading.now kept.now.target →
             self.new ≡ record (both self.old (verdict_at d asked.now.reading.now
             (limits_of computed d asked.now.reading.now kept.now.target) kept.now.target)) { nearest = self.old.nearest } }
@@ -212,18 +212,18 @@ impl Verdict {
     }
 
     /// Adds what a target says. (SUBSET-026-3 3.13.10; own)
-    fn add(&mut self, line: &Line, asked: &AskedReading, kept: &KeptTarget)
-        requires asked { IsAsked line.now asked.now }
-        requires kept { IsKeptTarget line.now kept.now }
-        ensures { self.new ≡ both self.old (verdict_at line.now asked.now.reading.now
-            (limits_of computed line.now asked.now.reading.now kept.now.target) kept.now.target) }
+    fn add(&mut self, braking: &Braking, asked: &AskedReading, kept: &KeptTarget)
+        requires asked { IsAsked braking.now asked.now }
+        requires kept { IsKeptTarget braking.now kept.now }
+        ensures { self.new ≡ both self.old (verdict_at braking.now asked.now.reading.now
+            (limits_of computed braking.now asked.now.reading.now kept.now.target) kept.now.target) }
     {
         // A target above the train's speed is not passed, and none of its limits counts.
         if asked.reading.speed_mm_s() < kept.speeds.permitted {
-            self.covered = self.covered && is_covered_above(line, asked, kept);
+            self.covered = self.covered && is_covered_above(braking, asked, kept);
             return;
         }
-        let limits = line.limits(asked, kept);
+        let limits = braking.limits(asked, kept);
         self.nearest = nearer_where(self.nearest, Some(Nearest::of(&limits)));
         let front = front_of(asked.reading, kept.target.kind);
         // No limit lies before the indication limit: up to there none is passed.
@@ -234,54 +234,54 @@ impl Verdict {
     }
 
     /// Adds what falls say, where nothing was said before. (SUBSET-026-3 3.13.10; own)
-    fn add_falls(&mut self, line: &Line, asked: &AskedReading, falls: &[KeptFall])
-        requires asked { IsAsked line.now asked.now }
-        requires falls { All (IsKeptFall line.now) falls.now }
-        requires none { self.old ≡ verdict_of line.now asked.now.reading.now [] }
-        ensures { self.new ≡ verdict_of line.now asked.now.reading.now (map target_of falls.now) }
+    fn add_falls(&mut self, braking: &Braking, asked: &AskedReading, falls: &[KeptFall])
+        requires asked { IsAsked braking.now asked.now }
+        requires falls { All (IsKeptFall braking.now) falls.now }
+        requires none { self.old ≡ verdict_of braking.now asked.now.reading.now [] }
+        ensures { self.new ≡ verdict_of braking.now asked.now.reading.now (map target_of falls.now) }
     {
         for fall in falls {
-            self.add(line, asked, &fall.kept);
+            self.add(braking, asked, &fall.kept);
         }
     }
 
     /// Adds what the targets at the end of the authority say; in release speed monitoring the EOA and the SvL are none.
     /// (SUBSET-026-3 3.13.10; own)
-    fn add_end(&mut self, line: &Line, asked: &AskedReading, end: &KeptEnd, released: bool)
-        requires asked { IsAsked line.now asked.now }
-        requires end { AreKept line.now end.now }
-        ensures { (ts : List Target) → self.old ≡ verdict_of line.now asked.now.reading.now ts →
-            self.new ≡ verdict_of line.now asked.now.reading.now (ts ++ targets_in end.now released) }
+    fn add_end(&mut self, braking: &Braking, asked: &AskedReading, end: &KeptEnd, in_release_monitoring: bool)
+        requires asked { IsAsked braking.now asked.now }
+        requires end { AreKept braking.now end.now }
+        ensures { (ts : List Target) → self.old ≡ verdict_of braking.now asked.now.reading.now ts →
+            self.new ≡ verdict_of braking.now asked.now.reading.now (ts ++ targets_in end.now in_release_monitoring) }
     {
         match end {
             KeptEnd::Stop { eoa, svl } => {
-                if released {
+                if in_release_monitoring {
                     return;
                 }
-                self.add(line, asked, eoa);
-                self.add(line, asked, svl);
+                self.add(braking, asked, eoa);
+                self.add(braking, asked, svl);
             }
-            KeptEnd::Limit { loa } => self.add(line, asked, loa),
+            KeptEnd::Limit { loa } => self.add(braking, asked, loa),
         }
     }
 
     /// What falls and the targets at the end of the authority say together at a reading. (SUBSET-026-3 3.13.10; own)
     pub fn of(
-        line: &Line,
+        braking: &Braking,
         asked: &AskedReading,
         falls: &[KeptFall],
         end: &KeptEnd,
-        released: bool,
+        in_release_monitoring: bool,
     ) -> Verdict
-        requires asked { IsAsked line.now asked.now }
-        requires falls { All (IsKeptFall line.now) falls.now }
-        requires end { AreKept line.now end.now }
+        requires asked { IsAsked braking.now asked.now }
+        requires falls { All (IsKeptFall braking.now) falls.now }
+        requires end { AreKept braking.now end.now }
         ensures { result ≡
-            verdict_of line.now asked.now.reading.now (map target_of falls.now ++ targets_in end.now released) }
+            verdict_of braking.now asked.now.reading.now (map target_of falls.now ++ targets_in end.now in_release_monitoring) }
     {
         let mut said = Verdict::of_none();
-        said.add_falls(line, asked, falls);
-        said.add_end(line, asked, end, released);
+        said.add_falls(braking, asked, falls);
+        said.add_end(braking, asked, end, in_release_monitoring);
         said
     }
 }

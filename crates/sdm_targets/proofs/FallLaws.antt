@@ -7,7 +7,7 @@ use Rattle.std.proofs.lemmas.List.{append-nil}
 use Rattle.sdm_rules.specs.declared.targets.Fall.{Fall}
 use Rattle.sdm_rules.specs.declared.targets.Target.{Target}
 use Rattle.sdm_rules.specs.declared.targets.TargetKind.TheVariants.{Mrsp}
-use Rattle.sdm_rules.specs.Cells.{cells, border_of}
+use Rattle.sdm_rules.specs.Cells.{cells, place_of_cell}
 use Rattle.sdm_rules.specs.Targets.{is_fall, fall_at, IsNextFall}
 use Rattle.sdm_speed.proofs.ZoneLaws.{int_gap_is}
 use Rattle.sdm_targets.specs.Lists.{falls_past}
@@ -33,11 +33,11 @@ none_left profile after end none =
     ap (map (fall_at profile)) (skip (is_fall profile) (after +ℤ pos 1) (int_gap after end) 0 (int_gap after end) (omega arith) (λ k a b.
     by_lt_z end after
     (λ (l : end <ℤ after). let empty = int_gap_none after end (omega (arith, ints)) in absurd (omega (arith, ints)))
-    (λ (g : after ≤ℤ end). let way = int_gap_is after end g in none k (omega (arith, ints)) (omega (arith, ints)))))
+    (λ (g : after ≤ℤ end). let distance = int_gap_is after end g in none k (omega (arith, ints)) (omega (arith, ints)))))
 
 -- the next fall comes first, and then those past it
 pub next_first : (profile : ℤ → ℕ) (after end : ℤ) (fall : Fall) → IsNextFall profile after fall → fall.cell ≤ℤ end →
-    falls_past profile after end ≡ record { kind = Mrsp; place = border_of fall.cell; speed = fall.speed } ∷ falls_past profile fall.cell end
+    falls_past profile after end ≡ record { kind = Mrsp; place = place_of_cell fall.cell; speed = fall.speed } ∷ falls_past profile fall.cell end
 next_first profile after end fall next on =
     let beyond = next.beyond in
     let n = int_gap fall.cell end in
@@ -57,5 +57,5 @@ all_in profile after end found all both none = sym (append-nil found) ∙ ap (λ
 
 -- one more is in it
 pub one_more_in : (profile : ℤ → ℕ) (after end : ℤ) (fall : Fall) (found all : List Target) → found ++ falls_past profile after end ≡ all → IsNextFall profile after fall → fall.cell ≤ℤ end →
-    (found ++ record { kind = Mrsp; place = border_of fall.cell; speed = fall.speed } ∷ []) ++ falls_past profile fall.cell end ≡ all
+    (found ++ record { kind = Mrsp; place = place_of_cell fall.cell; speed = fall.speed } ∷ []) ++ falls_past profile fall.cell end ≡ all
 one_more_in profile after end fall found all both next on = rw append_assoc (ap (λ (left : List Target). found ++ left) (sym (next_first profile after end fall next on)) ∙ both)

@@ -6,7 +6,7 @@ use Rattle.sdm_rules.specs.declared.authorities.Authority.TheVariants.{Stop, Lim
 use Rattle.sdm_rules.specs.declared.targets.Fall.{Fall}
 use Rattle.sdm_rules.specs.declared.targets.Target.{Target}
 use Rattle.sdm_rules.specs.declared.targets.TargetKind.TheVariants.{Mrsp}
-use Rattle.sdm_rules.specs.Cells.{cells, border_of}
+use Rattle.sdm_rules.specs.Cells.{cells, place_of_cell}
 use Rattle.sdm_rules.specs.Ranges.{most_speeds, longest_track, top_kmh}
 use Rattle.sdm_rules.specs.Records.{most_restrictions}
 use Rattle.sdm_rules.specs.Targets.{is_fall, fall_at}
@@ -14,7 +14,7 @@ use Rattle.sdm_rules.specs.Targets.{is_fall, fall_at}
 -- a target lies on the longest track, both ends included, and its speed is at most 500 km/h (ranges own)
 pub record IsTarget (t : Target) : Type 0 where
   pub not_before : pos 0 ≤ℤ t.place
-  pub on_track : t.place ≤ℤ border_of (pos longest_track)
+  pub on_track : t.place ≤ℤ place_of_cell (pos longest_track)
   pub speed : t.speed ≤ top_kmh
 
 -- the room of a list (own)
@@ -25,7 +25,7 @@ room = 170
 abbrev pub most_falls : ℕ
 most_falls = most_speeds + most_restrictions
 
--- the targets at the falls past the border of a cell, up to and with that of the cell `end`, in order (SUBSET-026-3 3.13.8.2; own
+-- the targets at the falls past the start of a cell, up to and with that of the cell `end`, in order (SUBSET-026-3 3.13.8.2; own
 -- cell form)
 abbrev pub falls_past : (ℤ → ℕ) → ℤ → ℤ → List Target
 falls_past profile after end = map (fall_at profile) (filter (is_fall profile) (cells (after +ℤ pos 1) (int_gap after end)))
@@ -37,4 +37,4 @@ IsOnTrack (Limit loa speed) = (pos loa ≤ℤ pos longest_track) × (speed ≤ t
 
 -- the target at a fall (SUBSET-026-3 3.13.8.2; own cell form)
 abbrev pub target_at : Fall → Target
-target_at fall = record { kind = Mrsp; place = border_of fall.cell; speed = fall.speed }
+target_at fall = record { kind = Mrsp; place = place_of_cell fall.cell; speed = fall.speed }

@@ -76,7 +76,7 @@ fn end_of(authority: &Authority) -> u32
     }
 }
 
-/// Puts the falls past the border of the cell `after`, up to and with that of the cell `end`, into an empty list.
+/// Puts the falls past the start of the cell `after`, up to and with that of the cell `end`, into an empty list.
 fn push_falls(profile: &Profile, after: i32, end: u32, into: &mut TargetList)
     requires { into.old ≡ [] }
     ensures falls { into.new ≡ falls_past (mrsp_of profile.now) after (pos end) }
@@ -99,15 +99,15 @@ fn push_falls(profile: &Profile, after: i32, end: u32, into: &mut TargetList)
 }
 
 /// Puts the targets at the end of the authority behind the others.
-fn push_ends(authority: &Authority, released: bool, into: &mut TargetList)
+fn push_ends(authority: &Authority, in_release_monitoring: bool, into: &mut TargetList)
     requires on_track { IsOnTrack authority.now }
     requires few { length into.old ≤ most_falls }
-    ensures ends { into.new ≡ into.old ++ ends_of authority.now released }
+    ensures ends { into.new ≡ into.old ++ ends_of authority.now in_release_monitoring }
     ensures each { All IsTarget into.old → All IsTarget into.new }
 {
     match *authority {
         Authority::Stop { eoa, svl, .. } => {
-            if released {
+            if in_release_monitoring {
                 return;
             }
             into.push(Target {

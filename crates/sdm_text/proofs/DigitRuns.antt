@@ -1,4 +1,4 @@
--- A run of digits ends at the first byte that is none: so what stands after a number at the front of bytes is settled.
+-- A run of digits ends at the first byte that is none: so what stands after a number at the beginning of bytes is settled.
 use Rattle.std.proofs.Common.{◌≡◌, ◌⊎◌, inl, inr, ◌≤◌, ◌<◌, ℕ, suc, ◌-◌, ℤ, pos, neg_ℤ, Bool, true, false, cond, eqb, eqb-true, List, [], ◌∷◌, ◌++◌, Some, None, length, take, drop, get_or, length-take, take-append-drop, length-append, append_assoc, refl, sym, ap, ◌∙◌, arith}
 use Rattle.std.proofs.lemmas.Bool.{and_parts, and_from, false≢true, leb-true, le-leb, ne_eqb}
 use Rattle.std.proofs.lemmas.List.{take_all}
@@ -72,7 +72,7 @@ digits_after_first c ds n is = by_first (eqb c 45) is
     by_first true is = (parts_of_digits ds (cond_some _ _ _ is).0).2
     by_first false is = (and_parts _ _ (parts_of_digits (c ∷ ds) (cond_some _ _ _ is).0).2).1
 
--- numbers at the front of the same bytes are one, and end at one place
+-- numbers at the beginning of the same bytes are one, and end at one place
 same_fields : (f g a b : List ℕ) (n m : ℤ) → number_of f ≡ Some n → number_of g ≡ Some m → BeginsWithNoDigit a → BeginsWithNoDigit b → f ++ a ≡ g ++ b → (n ≡ m) × (a ≡ b)
 same_fields [] g a b n m p q f h is = cc
 same_fields (c ∷ ds) [] a b n m p q f h is = cc

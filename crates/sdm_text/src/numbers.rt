@@ -167,9 +167,9 @@ fn first_digits(bytes: &[u8]) -> Run
     ensures fits { result.number < 10 ^ most_digits }
     ensures ended { result.count < most_digits → BeginsWithNoDigit (drop result.count bytes.now) }
 {
-    let front = &bytes[..bytes.len().min(MOST_DIGITS)];
+    let prefix = &bytes[..bytes.len().min(MOST_DIGITS)];
     let mut number = 0u64;
-    for (count, byte) in front.iter().enumerate() {
+    for (count, byte) in prefix.iter().enumerate() {
         let digit = digit_of(*byte);
         if digit > 9 {
             return Run { count, number };
@@ -177,7 +177,7 @@ fn first_digits(bytes: &[u8]) -> Run
         number = 10 * number + digit;
     }
     Run {
-        count: front.len(),
+        count: prefix.len(),
         number,
     }
 }

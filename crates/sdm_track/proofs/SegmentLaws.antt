@@ -1,5 +1,5 @@
--- The segments made so far, as the window moves on: they are right for every cell before the window's next border, and end with
--- the value there. Where the lowest gradient changes at a border, a segment more keeps this; where it does not, they stay.
+-- The segments made so far, as the window moves on: they are right for every cell before the window's next change, and end with
+-- the value there. Where the lowest gradient changes, a segment more keeps this; where it does not, they stay.
 use Rattle.std.proofs.Common.{◌≡◌, ◌≢◌, ℕ, ℤ, pos, List, [], ◌∷◌, ◌++◌, length, get_or, All, ◌+◌, ◌-◌, ◌<◌, ◌≤◌, ◌-ℤ◌, ◌≤ℤ◌, ◌<ℤ◌, inl, inr, refl, sym, ap, ◌∙◌, arith, length-append}
 use Rattle.std.specs.Int.{int_min}
 use Rattle.std.proofs.lemmas.Int.{ints, by_lt_z}
@@ -14,8 +14,8 @@ use Rattle.sdm_track.specs.declared.window.Window.{Window}
 use Rattle.sdm_track.specs.declared.under_train.Segment.{Segment}
 use Rattle.sdm_track.specs.Steps.{IsFromZero, IsRising, LiesIn}
 use Rattle.sdm_track.specs.Ranges.{AreGradients}
-use Rattle.sdm_track.specs.Windows.{start_of, level, IsUnder, IsBeforeBorder, IsNext, IsLowestEntry}
-use Rattle.sdm_track.specs.Segments.{IsSegment, AreSegments, gradient_in}
+use Rattle.sdm_track.specs.Windows.{gradient_start, level, IsUnder, IsBeforeChange, IsNext, IsLowestEntry}
+use Rattle.sdm_track.specs.Segments.{IsSegment, AreSegments, segment_gradient}
 use Rattle.sdm_track.proofs.StepLaws.{lies_on, value_is, value_before, value_from}
 use Rattle.sdm_track.proofs.LowestLaws.{lowest_is, int_min_lower}
 use Rattle.sdm_track.proofs.LowLaws.{low_of_first}
@@ -23,9 +23,9 @@ use Rattle.sdm_track.proofs.WindowLaws.{lowest_under}
 
 -- ---- the segment in which a cell lies
 
--- a segment that is read at the place where a cell lies has the gradient there
+-- a segment that is read at the index where a cell lies has the gradient there
 pub read_is : (list : List Segment) (i : ℕ) (c : ℤ) (s : Segment) → IsRising (λ s. s.start) list → LiesIn (λ s. s.start) list i c → s ≡ get_or list i s →
-    s.value ≡ gradient_in list c
+    s.value ≡ segment_gradient list c
 read_is list i c s rise lies is = ap (λ (s : Segment). s.value) is ∙ sym (value_is (λ s. s.start) (λ s. s.value) list i c s (pos 0) rise lies)
 
 -- ---- a list of segments, as one more is added
@@ -39,7 +39,7 @@ pub record EndsWith (out : List Segment) (at value : ℤ) : Type 0 where
   pub differ : (i : ℕ) (d : Segment) → i + 1 < length out → (get_or out i d).value ≢ (get_or out (i + 1) d).value
   pub begun : (i : ℕ) (d : Segment) → i < length out → (get_or out i d).start ≤ℤ at
   pub last : (d : Segment) → (get_or out (length out - 1) d).value ≡ value
-  pub on : (c : ℤ) → at ≤ℤ c → gradient_in out c ≡ value
+  pub on : (c : ℤ) → at ≤ℤ c → segment_gradient out c ≡ value
 
 -- one segment, from 0
 ends_first : (s : Segment) → s.start ≡ pos 0 → IsSegment s → EndsWith (s ∷ []) (pos 0) s.value
@@ -111,31 +111,31 @@ module _ (out : List Segment) (s : Segment) (at value : ℤ) (h : EndsWith out a
 abbrev gradient_under : List Gradient → ℕ → ℤ → ℤ
 gradient_under entries length_cm c = lowest int_min (track_gradient entries) (c -ℤ pos length_cm) length_cm
 
--- of the segments made so far: the window lies under the train, they are right before its next border and end there
+-- of the segments made so far: the window lies under the train, they are right before its next change and end there
 pub record IsSoFar (entries : List Gradient) (length_cm : ℕ) (w : Window) (out : List Segment) (value : ℤ) : Type 0 where
   pub window : 0 < length entries → IsUnder entries length_cm w
   pub not_before : pos 0 ≤ℤ w.at
-  pub right : (c : ℤ) → IsBeforeBorder entries length_cm w c → gradient_in out c ≡ gradient_under entries length_cm c
+  pub right : (c : ℤ) → IsBeforeChange entries length_cm w c → segment_gradient out c ≡ gradient_under entries length_cm c
   pub ends : EndsWith out w.at value
   pub few : length out ≤ w.rear + w.front + 1
   pub rear_known : w.rear ≤ length entries - 1
   pub front_known : w.front ≤ length entries - 1
 
--- from the window's place to its next border the gradient is the window's lowest
-under_window : (entries : List Gradient) (length_cm : ℕ) (w : Window) (grad c : ℤ) → IsRising start_of entries → IsUnder entries length_cm w →
-    IsLowestEntry entries w.rear (w.front + 1) grad → w.at ≤ℤ c → IsBeforeBorder entries length_cm w c →
+-- from the window's place to its next change the gradient is the window's lowest
+under_window : (entries : List Gradient) (length_cm : ℕ) (w : Window) (grad c : ℤ) → IsRising gradient_start entries → IsUnder entries length_cm w →
+    IsLowestEntry entries w.rear (w.front + 1) grad → w.at ≤ℤ c → IsBeforeChange entries length_cm w c →
     gradient_under entries length_cm c ≡ grad
 under_window entries length_cm w grad c rise u h le before =
     lowest_under entries length_cm w.rear w.front c grad rise
-    (lies_on start_of entries w.rear (w.at -ℤ pos length_cm) (c -ℤ pos length_cm) u.rear (omega (arith, ints)) before.rear)
-    (lies_on start_of entries w.front w.at c u.front le before.front) h
+    (lies_on gradient_start entries w.rear (w.at -ℤ pos length_cm) (c -ℤ pos length_cm) u.rear (omega (arith, ints)) before.rear)
+    (lies_on gradient_start entries w.front w.at c u.front le before.front) h
 
 -- the first window, at cell 0
 abbrev pub first_window : Window
 first_window = record { rear = 0; front = 0; at = pos 0 }
 
--- before the first border the gradient is that of the first entry; level without entries
-under_first : (entries : List Gradient) (length_cm : ℕ) → IsRising start_of entries → (c : ℤ) → IsBeforeBorder entries length_cm first_window c →
+-- before the first change the gradient is that of the first entry; level without entries
+under_first : (entries : List Gradient) (length_cm : ℕ) → IsRising gradient_start entries → (c : ℤ) → IsBeforeChange entries length_cm first_window c →
     gradient_under entries length_cm c ≡ (get_or entries 0 level).grad
 under_first [] length_cm rise c before = lowest_is (λ a b. a ≤ℤ b) int_min int_min_lower (track_gradient []) (c -ℤ pos length_cm) c length_cm (pos 0) (omega (arith, ints)) (record {
   none_below = λ d a b. omega (arith, ints);
@@ -148,11 +148,11 @@ under_first (x ∷ xs) length_cm rise c before =
     lowest_under (x ∷ xs) length_cm 0 0 c x.grad rise
     (record { known = omega arith; begun = λ d p. absurd (omega arith); goes_on = before.rear })
     (record { known = omega arith; begun = λ d p. absurd (omega arith); goes_on = before.front })
-    (record { place = 0; lowest = (low_of_first (x ∷ xs)).0; reached = refl })
+    (record { index = 0; lowest = (low_of_first (x ∷ xs)).0; reached = refl })
 
 module _ (entries : List Gradient) (length_cm : ℕ) (gradients : AreGradients (pos longest_track) entries) where
   -- the cells up to cell 0 lie in the first entry
-  lies_in_first : (c : ℤ) → 0 < length entries → c ≤ℤ pos 0 → LiesIn start_of entries 0 c
+  lies_in_first : (c : ℤ) → 0 < length entries → c ≤ℤ pos 0 → LiesIn gradient_start entries 0 c
   lies_in_first c some le = record {
     known = some;
     begun = λ d p. absurd (omega arith);
@@ -176,7 +176,7 @@ module _ (entries : List Gradient) (length_cm : ℕ) (gradients : AreGradients (
     front_known = omega arith;
   })
 
-  -- the window moves on to the next border
+  -- the window moves on to the next change
   module _ (old new : Window) (out : List Segment) (value grad : ℤ) (made : IsSoFar entries length_cm old out value) (next : IsNext entries length_cm old new)
       (lowest_there : IsLowestEntry entries new.rear (new.front + 1) grad) where
     rear_in : new.rear ≤ length entries - 1
@@ -188,7 +188,7 @@ module _ (entries : List Gradient) (length_cm : ℕ) (gradients : AreGradients (
     -- the segment that the window's lowest gradient gives
     pub next_segment : length_cm ≤ longest_train → IsSegment (record { start = new.at; value = grad })
     next_segment short =
-        let entry = gradients.each lowest_there.place level (omega (arith, lowest_there.lowest.to_front, next.under.front.known)) in
+        let entry = gradients.each lowest_there.index level (omega (arith, lowest_there.lowest.to_front, next.under.front.known)) in
         record {
           not_before = (let a = made.not_before in let b = next.later in omega (arith, ints));
           not_past = (let a = next.on_track in omega (arith, ints));

@@ -21,16 +21,16 @@ module _ {E : Type 0} (start : E → ℤ) where
 
   -- the step in which a cell lies
   pub record Found (es : List E) (c : ℤ) : Type 0 where
-    pub place : ℕ
-    pub lies : LiesIn start es place c
+    pub index : ℕ
+    pub lies : LiesIn start es index c
 
   found_up_to : (es : List E) (d : E) (i : ℕ) (c : ℤ) → i < length es → IsBeforeNext start es i c → Found es c
-  found_up_to es d zero c known before = record { place = 0; lies = record { known = known; begun = λ e p. absurd (omega arith); goes_on = before } }
+  found_up_to es d zero c known before = record { index = 0; lies = record { known = known; begun = λ e p. absurd (omega arith); goes_on = before } }
   found_up_to es d (suc i) c known before =
       by_lt_z c (start (get_or es (suc i) d))
       (λ (lt : c <ℤ start (get_or es (suc i) d)).
       found_up_to es d i c (omega arith) (record { before = λ e m. let s : i + 1 ≡ suc i = omega arith in rw (s, get_or_default es (suc i) e d known) lt }))
-      (λ (le : start (get_or es (suc i) d) ≤ℤ c). record { place = suc i; lies = record { known = known; begun = λ e p. rw (get_or_default es (suc i) e d known) le; goes_on = before } })
+      (λ (le : start (get_or es (suc i) d) ≤ℤ c). record { index = suc i; lies = record { known = known; begun = λ e p. rw (get_or_default es (suc i) e d known) le; goes_on = before } })
 
   -- every cell lies in a step, if there is one
   pub found : (es : List E) (c : ℤ) → 0 < length es → Found es c

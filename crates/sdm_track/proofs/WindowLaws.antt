@@ -1,4 +1,4 @@
--- How the entries under the train change as the front end moves on to the next border, and that the lowest gradient of the cells
+-- How the entries under the train change as the front end moves on to the next change, and that the lowest gradient of the cells
 -- under the train is the lowest of these entries: each cell there lies in one of them, and each of them has a cell there.
 use Rattle.std.proofs.Common.{◌≡◌, ℕ, ℤ, pos, List, length, get_or, ◌+◌, ◌<◌, ◌≤◌, ◌+ℤ◌, ◌-ℤ◌, ◌≤ℤ◌, ◌<ℤ◌, inl, inr, refl, ◌∙◌, arith}
 use Rattle.std.specs.Int.{int_min}
@@ -12,15 +12,15 @@ use Rattle.sdm_rules.specs.Ranges.{longest_track}
 use Rattle.sdm_track.specs.declared.window.Window.{Window}
 use Rattle.sdm_track.specs.Steps.{IsRising, LiesIn, IsBeforeNext}
 use Rattle.sdm_track.specs.Ranges.{AreGradients}
-use Rattle.sdm_track.specs.Windows.{start_of, level, IsUnder, IsNext, IsLowestEntry}
+use Rattle.sdm_track.specs.Windows.{gradient_start, level, IsUnder, IsNext, IsLowestEntry}
 use Rattle.sdm_track.proofs.StepLaws.{found, lies_in_order, lies_at_start, lies_on, value_is}
 use Rattle.sdm_track.proofs.LowestLaws.{IsLowest, lowest_is, int_min_lower}
 
--- ---- the next border
+-- ---- the next change
 
 -- the window keeps at least one entry: its rear one is not its front one when it leaves alone
 keeps_one : (entries : List Gradient) (length_cm rear front : ℕ) (at : ℤ) → rear ≤ front → 1 ≤ length_cm → rear + 1 < length entries →
-    IsBeforeNext start_of entries front at → at ≡ (get_or entries (rear + 1) level).start +ℤ pos length_cm → rear + 1 ≤ front
+    IsBeforeNext gradient_start entries front at → at ≡ (get_or entries (rear + 1) level).start +ℤ pos length_cm → rear + 1 ≤ front
 keeps_one entries length_cm rear front at ordered long room first is = elim (cases_lt rear front) [
   | inl lt ↦ omega arith
   | inr ge ↦ (let e : front ≡ rear = omega arith in let l = (rw e at first).before level room in absurd (omega (arith, ints)))
@@ -29,7 +29,8 @@ keeps_one entries length_cm rear front at ordered long room first is = elim (cas
 module _ (entries : List Gradient) (length_cm : ℕ) (w : Window) (at : ℤ) (gradients : AreGradients (pos longest_track) entries)
     (under : IsUnder entries length_cm w) (long : 1 ≤ length_cm) (room : w.rear + 1 < length entries) where
   -- a cell before the start of the next entry
-  before_next : (i : ℕ) (c : ℤ) → i + 1 < length entries → c <ℤ (get_or entries (i + 1) level).start → IsBeforeNext start_of entries i c
+  before_next : (i : ℕ) (c : ℤ) → i + 1 < length entries → c <ℤ (get_or entries (i + 1) level).start →
+      IsBeforeNext gradient_start entries i c
   before_next i c known lt = record { before = λ d more. rw (get_or_default entries (i + 1) d level known) lt }
 
   -- an entry comes under the front end first
@@ -37,8 +38,8 @@ module _ (entries : List Gradient) (length_cm : ℕ) (w : Window) (at : ℤ) (gr
       IsNext entries length_cm w (record { rear = w.rear; front = w.front + 1; at = at })
   enters more is first = record {
     under = record {
-      front = lies_at_start start_of entries (w.front + 1) level at gradients.rise more is;
-      rear = lies_on start_of entries w.rear (w.at -ℤ pos length_cm) (at -ℤ pos length_cm) under.rear (omega (arith, ints, under.front.goes_on.before level more))
+      front = lies_at_start gradient_start entries (w.front + 1) level at gradients.rise more is;
+      rear = lies_on gradient_start entries w.rear (w.at -ℤ pos length_cm) (at -ℤ pos length_cm) under.rear (omega (arith, ints, under.front.goes_on.before level more))
           (before_next w.rear (at -ℤ pos length_cm) room (omega (arith, ints)));
       ordered = omega (arith, under.ordered);
     };
@@ -53,11 +54,12 @@ module _ (entries : List Gradient) (length_cm : ℕ) (w : Window) (at : ℤ) (gr
   pub leaves : (w.front + 1 < length entries → at <ℤ (get_or entries (w.front + 1) level).start) → at ≡ (get_or entries (w.rear + 1) level).start +ℤ pos length_cm →
       IsNext entries length_cm w (record { rear = w.rear + 1; front = w.front; at = at })
   leaves still is =
-      let first : IsBeforeNext start_of entries w.front at = record { before = λ d more. rw (get_or_default entries (w.front + 1) d level more) (still more) } in
+      let first : IsBeforeNext gradient_start entries w.front at = record { before = λ d more. rw (get_or_default entries (w.front + 1) d level more) (still more) } in
       record {
         under = record {
-          front = lies_on start_of entries w.front w.at at under.front (omega (arith, ints, under.rear.goes_on.before level room)) first;
-          rear = lies_at_start start_of entries (w.rear + 1) level (at -ℤ pos length_cm) gradients.rise room (omega (arith, ints));
+          front = lies_on gradient_start entries w.front w.at at under.front
+              (omega (arith, ints, under.rear.goes_on.before level room)) first;
+          rear = lies_at_start gradient_start entries (w.rear + 1) level (at -ℤ pos length_cm) gradients.rise room (omega (arith, ints));
           ordered = keeps_one entries length_cm w.rear w.front at under.ordered long room first is;
         };
         later = omega (arith, ints, under.rear.goes_on.before level room);
@@ -75,8 +77,8 @@ module _ (entries : List Gradient) (length_cm : ℕ) (w : Window) (at : ℤ) (gr
       IsNext entries length_cm w (record { rear = w.rear + 1; front = w.front + 1; at = at })
   both more is also = record {
     under = record {
-      front = lies_at_start start_of entries (w.front + 1) level at gradients.rise more is;
-      rear = lies_at_start start_of entries (w.rear + 1) level (at -ℤ pos length_cm) gradients.rise room (omega (arith, ints));
+      front = lies_at_start gradient_start entries (w.front + 1) level at gradients.rise more is;
+      rear = lies_at_start gradient_start entries (w.rear + 1) level (at -ℤ pos length_cm) gradients.rise room (omega (arith, ints));
       ordered = omega (arith, under.ordered);
     };
     later = omega (arith, ints, under.front.goes_on.before level more);
@@ -93,10 +95,10 @@ record HasCell (entries : List Gradient) (back front : ℤ) (k : ℕ) : Type 0 w
   at : ℤ
   from_back : back ≤ℤ at
   to_front : at ≤ℤ front
-  lies : LiesIn start_of entries k at
+  lies : LiesIn gradient_start entries k at
 
-module _ (entries : List Gradient) (rear front : ℕ) (back at : ℤ) (rise : IsRising start_of entries) (long : back ≤ℤ at)
-    (in_rear : LiesIn start_of entries rear back) (in_front : LiesIn start_of entries front at) where
+module _ (entries : List Gradient) (rear front : ℕ) (back at : ℤ) (rise : IsRising gradient_start entries) (long : back ≤ℤ at)
+    (in_rear : LiesIn gradient_start entries rear back) (in_front : LiesIn gradient_start entries front at) where
   -- the rear entry has the rear cell, each other one its first cell
   has_cell : (k : ℕ) → rear ≤ k → k ≤ front → HasCell entries back at k
   has_cell k low high = elim (cases_lt rear k) [
@@ -113,7 +115,7 @@ module _ (entries : List Gradient) (rear front : ℕ) (back at : ℤ) (rise : Is
             | inl l ↦ (let r = rise.rises k front level l in_front.known in let begun = in_front.begun level (omega arith) in omega (arith, ints))
             | inr g ↦ (let e : k ≡ front = omega arith in rw e (in_front.begun level (omega arith)))
           ];
-          lies = lies_at_start start_of entries k level _ rise known refl;
+          lies = lies_at_start gradient_start entries k level _ rise known refl;
         })
     | inr ge ↦ (let e : k ≡ rear = omega arith in rw e (record { at = back; from_back = omega (arith, ints); to_front = long; lies = in_rear }))
   ]
@@ -121,22 +123,22 @@ module _ (entries : List Gradient) (rear front : ℕ) (back at : ℤ) (rise : Is
   -- the lowest of the entries is the lowest of the cells
   lowest_cell : (grad : ℤ) → IsLowestEntry entries rear (front + 1) grad → IsLowest (λ a b. a ≤ℤ b) (track_gradient entries) back at grad
   lowest_cell grad h =
-      let cell = has_cell h.place h.lowest.from_rear (omega (arith, h.lowest.to_front)) in
+      let cell = has_cell h.index h.lowest.from_rear (omega (arith, h.lowest.to_front)) in
       record {
         none_below = λ c a b.
-            let here = found start_of entries c (omega (arith, in_rear.known)) in
-            let above : rear ≤ here.place = lies_in_order start_of entries rear here.place level back c rise in_rear here.lies a in
-            let below : here.place ≤ front = lies_in_order start_of entries here.place front level c at rise here.lies in_front b in
-            rw (← h.reached, value_is start_of (λ e. e.grad) entries here.place c level (pos 0) rise here.lies) (h.lowest.none_below here.place above (omega arith));
+            let here = found gradient_start entries c (omega (arith, in_rear.known)) in
+            let above : rear ≤ here.index = lies_in_order gradient_start entries rear here.index level back c rise in_rear here.lies a in
+            let below : here.index ≤ front = lies_in_order gradient_start entries here.index front level c at rise here.lies in_front b in
+            rw (← h.reached, value_is gradient_start (λ e. e.grad) entries here.index c level (pos 0) rise here.lies) (h.lowest.none_below here.index above (omega arith));
         at = cell.at;
         from_first = cell.from_back;
         to_last = cell.to_front;
-        reached = value_is start_of (λ e. e.grad) entries h.place cell.at level (pos 0) rise cell.lies ∙ h.reached;
+        reached = value_is gradient_start (λ e. e.grad) entries h.index cell.at level (pos 0) rise cell.lies ∙ h.reached;
       }
 
 -- so it is the gradient of a front end in the cell `at`
-pub lowest_under : (entries : List Gradient) (length_cm rear front : ℕ) (at grad : ℤ) → IsRising start_of entries → LiesIn start_of entries rear (at -ℤ pos length_cm) →
-    LiesIn start_of entries front at → IsLowestEntry entries rear (front + 1) grad → lowest int_min (track_gradient entries) (at -ℤ pos length_cm) length_cm ≡ grad
+pub lowest_under : (entries : List Gradient) (length_cm rear front : ℕ) (at grad : ℤ) → IsRising gradient_start entries → LiesIn gradient_start entries rear (at -ℤ pos length_cm) →
+    LiesIn gradient_start entries front at → IsLowestEntry entries rear (front + 1) grad → lowest int_min (track_gradient entries) (at -ℤ pos length_cm) length_cm ≡ grad
 lowest_under entries length_cm rear front at grad rise in_rear in_front h =
     lowest_is (λ a b. a ≤ℤ b) int_min int_min_lower (track_gradient entries) (at -ℤ pos length_cm) at length_cm grad (omega (arith, ints))
     (lowest_cell entries rear front (at -ℤ pos length_cm) at rise (omega (arith, ints)) in_rear in_front grad h)

@@ -8,8 +8,8 @@ use Rattle.sdm_track.specs.Steps.{IsFromZero, IsRising}
 
 -- the gradient of a front end in the cell, in per mille: of the last segment whose start is at most the cell, before all of
 -- them of the first one (own)
-abbrev pub gradient_in : List Segment → ℤ → ℤ
-gradient_in segments cell = value_at (λ s. s.start) (λ s. s.value) (pos 0) segments cell
+abbrev pub segment_gradient : List Segment → ℤ → ℤ
+segment_gradient segments cell = value_at (λ s. s.start) (λ s. s.value) (pos 0) segments cell
 
 -- a segment starts at cell 0 or later, before the longest train has left the longest track; the gradient is in per mille (own)
 pub record IsSegment (s : Segment) : Type 0 where

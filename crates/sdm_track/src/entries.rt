@@ -14,7 +14,7 @@ const MOST_SPEEDS: usize = 128;
 const MOST_AREAS: usize = 64;
 
 /// An entry of one of the lists.
-trait Entry {
+trait Listed {
     ghost start: { Self → ℤ };
 
     // the first cell in which the next entry may start
@@ -35,7 +35,7 @@ trait Entry {
         ensures { result ≡ int_lt (start next.now) (past self.now) };
 }
 
-impl Entry for Gradient {
+impl Listed for Gradient {
     ghost start = { λ e. e.start };
 
     ghost past = { λ e. e.start +ℤ pos 1 };
@@ -61,7 +61,7 @@ impl Entry for Gradient {
     }
 }
 
-impl Entry for SpeedStep {
+impl Listed for SpeedStep {
     ghost start = { λ e. e.start };
 
     ghost past = { λ e. e.start +ℤ pos 1 };
@@ -87,7 +87,7 @@ impl Entry for SpeedStep {
     }
 }
 
-impl Entry for Area {
+impl Listed for Area {
     ghost start = { λ e. e.start };
 
     ghost past = { λ e. e.end };
@@ -126,7 +126,7 @@ fn count_fault<E>(list: Section, least: usize, most: usize, entries: &[E]) -> Op
 }
 
 /// The first value that is refused.
-fn value_fault<E: Entry>(list: Section, length_cm: u32, entries: &[E]) -> Option<TrackFault>
+fn value_fault<E: Listed>(list: Section, length_cm: u32, entries: &[E]) -> Option<TrackFault>
     requires { length entries.now < 2 ^ 32 }
     ensures { result ≡ value_fault list (E.refused_key (pos length_cm)) 1 entries.now }
 {
@@ -143,7 +143,7 @@ fn value_fault<E: Entry>(list: Section, length_cm: u32, entries: &[E]) -> Option
 }
 
 /// The fault of a list whose first entry starts past 0.
-fn gap_fault<E: Entry>(list: Section, entries: &[E]) -> Option<TrackFault>
+fn gap_fault<E: Listed>(list: Section, entries: &[E]) -> Option<TrackFault>
     ensures { result ≡ gap_fault list E.start entries.now }
 {
     match entries.first() {
@@ -153,7 +153,7 @@ fn gap_fault<E: Entry>(list: Section, entries: &[E]) -> Option<TrackFault>
 }
 
 /// The first entry that starts too early after the one before it.
-fn order_fault<E: Entry>(list: Section, entries: &[E]) -> Option<TrackFault>
+fn order_fault<E: Listed>(list: Section, entries: &[E]) -> Option<TrackFault>
     requires { length entries.now < 2 ^ 32 }
     ensures { result ≡ order_fault list E.start E.past 1 entries.now }
 {
@@ -169,7 +169,7 @@ fn order_fault<E: Entry>(list: Section, entries: &[E]) -> Option<TrackFault>
 }
 
 /// The first rule that a list of steps breaks, which begins at 0 and has from `least` to `most` entries.
-fn steps_fault<E: Entry>(
+fn steps_fault<E: Listed>(
     list: Section,
     least: usize,
     most: usize,

@@ -4,7 +4,7 @@ ghost use Rattle.std.specs.Prelude.{◌≡◌, ℤ, pos, ◌<◌, ◌≤◌, len
 ghost use Rattle.sdm_rules.specs.Ranges.{track_fault, longest_train};
 ghost use Rattle.sdm_rules.specs.Decelerations.{is_in_force, under_train};
 ghost use Rattle.sdm_track.specs.Ranges.{IsTrack, IsGradient, IsSpeedStep, IsArea, track_data};
-ghost use Rattle.sdm_track.specs.Segments.{AreSegments, gradient_in};
+ghost use Rattle.sdm_track.specs.Segments.{AreSegments, segment_gradient};
 
 use crate::entries::{areas_fault, gradients_fault, speeds_fault};
 use crate::under_train::{self, Segments};
@@ -126,7 +126,7 @@ impl Track {
         self.areas.len()
     }
 
-    /// The gradient at a place in the list, counted from 0.
+    /// The gradient at an index of the list, counted from 0.
     pub fn gradient(&self, i: usize) -> &Gradient
         requires { i < length self.now.gradients }
         ensures value { slice_get self.now.gradients i ≡ Some result.now }
@@ -135,7 +135,7 @@ impl Track {
         &self.gradients[i]
     }
 
-    /// The entry of the static speed profile at a place in the list, counted from 0.
+    /// The entry of the static speed profile at an index of the list, counted from 0.
     pub fn speed(&self, i: usize) -> &SpeedStep
         requires { i < length self.now.speeds }
         ensures value { slice_get self.now.speeds i ≡ Some result.now }
@@ -144,7 +144,7 @@ impl Track {
         &self.speeds[i]
     }
 
-    /// The area at a place in the list, counted from 0.
+    /// The area at an index of the list, counted from 0.
     pub fn area(&self, i: usize) -> &Area
         requires { i < length self.now.areas }
         ensures value { slice_get self.now.areas i ≡ Some result.now }
@@ -158,7 +158,7 @@ impl Track {
     pub fn compensated(&self, alloc: Global, length_cm: u32) -> Result<Segments, NoMemory>
         requires shortest { 1 ≤ length_cm }
         requires longest { length_cm ≤ longest_train }
-        ensures value { IfOk result (λ segments. (c : ℤ) → gradient_in segments c ≡ (under_train self.now (pos length_cm) c).grad) }
+        ensures value { IfOk result (λ segments. (c : ℤ) → segment_gradient segments c ≡ (under_train self.now (pos length_cm) c).grad) }
         ensures in_range { IfOk result (λ segments. AreSegments segments) }
     {
         under_train::compensated(alloc, &self.gradients, length_cm)

@@ -10,7 +10,7 @@ ghost use Rattle.sdm_rules.specs.Ranges.{steepest, longest_track, longest_train}
 ghost use Rattle.sdm_track.specs.Steps.{LiesIn};
 ghost use Rattle.sdm_track.specs.Ranges.{AreGradients};
 ghost use Rattle.sdm_track.specs.Windows.{level};
-ghost use Rattle.sdm_track.specs.Segments.{IsSegment, AreSegments, gradient_in};
+ghost use Rattle.sdm_track.specs.Segments.{IsSegment, AreSegments, segment_gradient};
 
 use crate::lows::Lows;
 use crate::window::Window;
@@ -69,7 +69,7 @@ impl Segments {
         self.list.len()
     }
 
-    /// The first cell of the segment at a place in the list, counted from 0.
+    /// The first cell of the segment at an index of the list, counted from 0.
     pub fn start(&self, i: usize) -> i32
         requires { i < length self.now }
         ensures value { option_map (λ s. s.start) (slice_get self.now i) ≡ Some result }
@@ -79,20 +79,20 @@ impl Segments {
         self.list[i].start
     }
 
-    /// The gradient of the segment at a place in the list, counted from 0: that of every cell which lies in it.
+    /// The gradient of the segment at an index of the list, counted from 0: that of every cell which lies in it.
     pub fn value(&self, i: usize) -> i16
         requires { i < length self.now }
         ensures value { option_map (λ s. s.value) (slice_get self.now i) ≡ Some result }
         ensures downhill { neg_ℤ steepest ≤ℤ result }
         ensures uphill { result ≤ℤ steepest }
-        ensures in_its_cells { (c : ℤ) → LiesIn (λ s. s.start) self.now i c → gradient_in self.now c ≡ result }
+        ensures in_its_cells { (c : ℤ) → LiesIn (λ s. s.start) self.now i c → segment_gradient self.now c ≡ result }
     {
         self.list[i].value
     }
 
     /// The gradient for a front end in the cell; before cell 0 that of the first segment.
     pub fn at(&self, cell: i32) -> i16
-        ensures value { result ≡ gradient_in self.now cell }
+        ensures value { result ≡ segment_gradient self.now cell }
         ensures downhill { neg_ℤ steepest ≤ℤ result }
         ensures uphill { result ≤ℤ steepest }
     {
@@ -120,7 +120,7 @@ pub fn compensated(
     requires gradients { AreGradients (pos longest_track) entries.now }
     requires long { 1 ≤ length_cm }
     requires short { length_cm ≤ longest_train }
-    ensures value { IfOk result (λ segments. (c : ℤ) → gradient_in segments c ≡ lowest int_min (track_gradient entries.now) (c -ℤ pos length_cm) length_cm) }
+    ensures value { IfOk result (λ segments. (c : ℤ) → segment_gradient segments c ≡ lowest int_min (track_gradient entries.now) (c -ℤ pos length_cm) length_cm) }
     ensures in_range { IfOk result (λ segments. AreSegments segments) }
 {
     let mut list = Vec::new(alloc);

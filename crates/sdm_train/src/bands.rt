@@ -13,12 +13,12 @@ pub fn band_value_fault(bands: &[Band]) -> Option<TrainFault>
     requires { length bands.now ≤ most_bands }
     ensures { result ≡ band_value_fault 1 bands.now }
 {
-    let mut place = 1;
+    let mut index = 1;
     for band in bands {
         if let Some(key) = band_refused(band) {
-            return Some(TrainFault::Value { band: place, key });
+            return Some(TrainFault::Value { band: index, key });
         }
-        place += 1;
+        index += 1;
     }
     None
 }
@@ -45,29 +45,29 @@ pub fn band_order_fault(bands: &[Band]) -> Option<TrainFault>
     ensures { result ≡ band_order_fault 1 (pos 0) bands.now }
 {
     let mut above = 0;
-    let mut place = 1;
+    let mut index = 1;
     for band in bands {
-        if place as usize == bands.len() {
-            return order_of_last(place, band.upper);
+        if index as usize == bands.len() {
+            return order_of_last(index, band.upper);
         }
         let Some(upper) = band.upper else {
-            return Some(TrainFault::BandOrder { band: place });
+            return Some(TrainFault::BandOrder { band: index });
         };
         if upper <= above {
-            return Some(TrainFault::BandOrder { band: place });
+            return Some(TrainFault::BandOrder { band: index });
         }
         above = upper;
-        place += 1;
+        index += 1;
     }
     None
 }
 
-// The last band, at this place, has no upper speed.
-fn order_of_last(place: u32, upper: Option<i64>) -> Option<TrainFault>
-    ensures { result ≡ order_of_last place upper }
+// The last band, at this index, has no upper speed.
+fn order_of_last(index: u32, upper: Option<i64>) -> Option<TrainFault>
+    ensures { result ≡ order_of_last index upper }
 {
     match upper {
         None => None,
-        Some(_) => Some(TrainFault::BandOrder { band: place }),
+        Some(_) => Some(TrainFault::BandOrder { band: index }),
     }
 }

@@ -7,10 +7,10 @@ use Rattle.std.proofs.lemmas.Int.{ints, clamps}
 use Rattle.sdm_rules.specs.declared.data.SlopeKind.{SlopeKind}
 use Rattle.sdm_rules.specs.declared.data.SlopeKind.TheVariants.{Safe, Expected, Normal}
 use Rattle.sdm_rules.specs.Cells.{lowest}
-use Rattle.sdm_rules.specs.Data.{LineData}
+use Rattle.sdm_rules.specs.Data.{TrainAndTrack}
 use Rattle.sdm_rules.specs.Decelerations.{a_gradient, track_gradient, slope_at, slope_under}
 use Rattle.sdm_rules.specs.Opening.{IsAccepted, IsAcceptedKind}
-use Rattle.sdm_rules.specs.Trial.{trial_authority, trial_line, trial_train, trial_track}
+use Rattle.sdm_rules.specs.Trial.{trial_authority, trial_train_and_track, trial_train, trial_track}
 
 -- ---- the gradients
 
@@ -59,8 +59,8 @@ record IsModerate (slope : ℤ) : Type 0 where
   high : slope ≤ℤ pos 23_000_000_000_000
 
 -- the trial's data with a train of any length: at a number the lowest gradient would be computed cell by cell
-abbrev line_with : ℤ → LineData
-line_with length_cm = record trial_line { train = record trial_train { length_cm = length_cm } }
+abbrev line_with : ℤ → TrainAndTrack
+line_with length_cm = record trial_train_and_track { train = record trial_train { length_cm = length_cm } }
 
 -- so much from the brakes, with what a gentle gradient adds, is a moderate slope
 moderate : (brakes : ℕ) (a : ℤ) → 11_200_000_000_000 ≤ brakes → brakes ≤ 23_000_000_000_000 → IsSlight a → IsModerate (pos brakes +ℤ a)
@@ -93,16 +93,16 @@ unfolding slope_at
 slope_moderate kind length_cm band cell lt = moderate_over kind length_cm band _ lt (lowest_gentle _ track_gentle (unsigned_abs length_cm) _)
 
 -- so it is with the trial's own train
-line_moderate : (kind : SlopeKind) (band cell : ℕ) → band < 2 → IsModerate (slope_at kind trial_line band (pos cell))
+line_moderate : (kind : SlopeKind) (band cell : ℕ) → band < 2 → IsModerate (slope_at kind trial_train_and_track band (pos cell))
 line_moderate kind band cell lt = slope_moderate kind (pos 20_000) band (pos cell) lt
 
 -- the slopes of each kind are accepted
-kind_accepted : (kind : SlopeKind) → IsAcceptedKind kind trial_line
+kind_accepted : (kind : SlopeKind) → IsAcceptedKind kind trial_train_and_track
 kind_accepted kind = record {
   strong = λ band cell lt. let h = line_moderate kind band cell lt in omega (arith, ints, h.low);
   even = λ band lt cell cell'. let h = line_moderate kind band cell lt in let k = line_moderate kind band cell' lt in omega (arith, ints, h.high, k.low);
 }
 
 -- the data of every trial are accepted at the opening
-pub accepted : IsAccepted trial_line trial_authority
+pub accepted : IsAccepted trial_train_and_track trial_authority
 accepted = (kind_accepted, refl)

@@ -6,7 +6,7 @@ use Rattle.std.proofs.lemmas.Bool.{le-ltb}
 use Rattle.std.proofs.lemmas.Int.{ints}
 use Rattle.sdm_num.specs.Readings.{IsReading, OdometerReading}
 use Rattle.sdm_rules.specs.declared.authorities.Authority.{Authority}
-use Rattle.sdm_rules.specs.Data.{LineData}
+use Rattle.sdm_rules.specs.Data.{TrainAndTrack}
 use Rattle.sdm_rules.specs.Records.{time_fault, most_records}
 use Rattle.sdm_rules.specs.Supervision.{Supervision, after_reading, opening}
 use Rattle.sdm_rules.specs.Trial.{number_at, reading_by, reading_in_cycle}
@@ -49,5 +49,6 @@ unfolding after_reading
 next_in_time s seed i = rw (le-ltb (5 * suc i) (5 * i) (omega arith)) refl
 
 -- at the opening no reading is too early
-pub first_in_time : (d : LineData) (a : Authority) (seed i : ℕ) → time_fault (opening d a).last_time (reading_in_cycle seed i).time ≡ None
+pub first_in_time : (d : TrainAndTrack) (a : Authority) (seed i : ℕ) →
+    time_fault (opening d a).last_time (reading_in_cycle seed i).time ≡ None
 first_in_time d a seed i = refl

@@ -5,7 +5,7 @@ use Rattle.std.proofs.lemmas.Bool.{le-ltb}
 use Rattle.sdm_num.specs.Readings.{OdometerReading}
 use Rattle.sdm_rules.specs.Records.{journey_from, most_records, step, time_fault, with_row}
 use Rattle.sdm_rules.specs.Supervision.{Supervision, after_reading, opening, row_of}
-use Rattle.sdm_rules.specs.Trial.{reading_in_cycle, reading_record, readings_from, trial_authority, trial_journey, trial_line}
+use Rattle.sdm_rules.specs.Trial.{reading_in_cycle, reading_record, readings_from, trial_authority, trial_journey, trial_train_and_track}
 use Rattle.sdm_trial.proofs.CycleReadings.{first_in_time, next_in_time}
 
 -- a reading that is not too early gives its row, and the rest follows from the state after it
@@ -32,4 +32,4 @@ all_taken seed (suc n) i s few in_time =
 
 -- so does each reading of a trial
 pub trial_taken : (seed cycles : ℕ) → cycles ≤ most_records → ((trial_journey seed cycles).refused ≡ None) × (length (trial_journey seed cycles).rows ≡ cycles)
-trial_taken seed cycles few = all_taken seed cycles 1 (opening trial_line trial_authority) (omega arith) (first_in_time trial_line trial_authority seed 1)
+trial_taken seed cycles few = all_taken seed cycles 1 (opening trial_train_and_track trial_authority) (omega arith) (first_in_time trial_train_and_track trial_authority seed 1)

@@ -3,9 +3,9 @@
 
 ghost use Rattle.std.specs.Prelude.{◌≡◌, ◌≤◌, ℕ, None, IfOk, length};
 ghost use Rattle.sdm_rules.specs.Opening.{IsAccepted};
-ghost use Rattle.sdm_rules.specs.Trial.{trial_authority, trial_journey, trial_line, trial_national, trial_track, trial_train};
+ghost use Rattle.sdm_rules.specs.Trial.{trial_authority, trial_journey, trial_train_and_track, trial_national, trial_track, trial_train};
 ghost use Rattle.sdm_rules.specs.Records.{most_records};
-ghost use Rattle.sdm_data.specs.Given.{line_of};
+ghost use Rattle.sdm_data.specs.Given.{train_and_track_of};
 
 use sdm_data::JourneyData;
 use sdm_national::National;
@@ -114,7 +114,7 @@ fn track(alloc: Global) -> Result<Track, NoMemory>
 
 /// The data of every trial. (own)
 pub fn trial_data(alloc: Global) -> Result<JourneyData, NoMemory>
-    ensures line { IfOk result (λ journey. line_of journey ≡ trial_line) }
+    ensures data { IfOk result (λ journey. train_and_track_of journey ≡ trial_train_and_track) }
     ensures authority { IfOk result (λ journey. journey.authority ≡ trial_authority) }
 {
     Ok(JourneyData {
@@ -128,7 +128,7 @@ pub fn trial_data(alloc: Global) -> Result<JourneyData, NoMemory>
 /// A trial is never refused: its data open a supervision state, and each reading of at most 100,000 cycles gives a row. (own)
 #[tactic(auto, using(crate::proofs::Accepted::accepted, crate::proofs::Cycles::trial_taken))]
 pub fn law_of_trial()
-    ensures accepted { IsAccepted trial_line trial_authority }
+    ensures accepted { IsAccepted trial_train_and_track trial_authority }
     ensures taken { (seed cycles : ℕ) → cycles ≤ most_records → (trial_journey seed cycles).refused ≡ None }
     ensures rows { (seed cycles : ℕ) → cycles ≤ most_records → length (trial_journey seed cycles).rows ≡ cycles }
 {}

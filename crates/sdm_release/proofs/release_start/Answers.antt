@@ -2,7 +2,7 @@
 -- ones.
 use Rattle.std.proofs.Common.{◌+◌, ◌∙◌, ap, rules}
 use Rattle.sdm_num.specs.Fractions.{less}
-use Rattle.sdm_num.specs.Units.{way_in}
+use Rattle.sdm_num.specs.Units.{distance_at}
 use Rattle.sdm_rules.specs.Slopes.{meaning_of}
 use Rattle.sdm_rules.specs.Curves.{exact, stepped}
 use Rattle.sdm_limits.specs.Sides.{place_of}
@@ -17,8 +17,8 @@ returns-clause-at c =
     earlier_of_two c.less-before_eoa.result c.less-before_svl.result
     (stepped (meaning_of a.expected.now) a.sbd.now.place a.sbd.now.speed a.release)
     (stepped (meaning_of a.safe.now) a.ebd.now.place a.ebd.now.speed a.release)
-    (way_in a.release a.times.now.bs)
-    (way_in a.release (a.times.now.traction + a.times.now.berem + a.times.now.bs))
+    (distance_at a.release a.times.now.bs)
+    (distance_at a.release (a.times.now.traction + a.times.now.berem + a.times.now.bs))
     (search rules)
     (search rules)
 
@@ -30,4 +30,4 @@ returns-clause-stands c =
     let emergency_time = a.times.now.traction + a.times.now.berem + a.times.now.bs in
     let eoa = early_before c.less-before_eoa.result sbd c.distance_at-service.result a.release a.times.now.bs c.distance_at-service.ensures.value (c.less-before_eoa.ensures.stands sbd c.place.ensures.stands) in
     let svl = early_before c.less-before_svl.result ebd c.distance_at-emergency.result a.release emergency_time c.distance_at-emergency.ensures.value (c.less-before_svl.ensures.stands ebd c.place-2.ensures.stands) in
-    c.earlier.ensures.stands (less sbd (way_in a.release a.times.now.bs)) (less ebd (way_in a.release emergency_time)) eoa svl
+    c.earlier.ensures.stands (less sbd (distance_at a.release a.times.now.bs)) (less ebd (distance_at a.release emergency_time)) eoa svl

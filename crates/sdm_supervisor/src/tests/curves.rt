@@ -28,7 +28,7 @@ const SLOW: Restriction = Restriction {
     delayed: true,
 };
 
-/// Where the fall at a border in cm has a speed on its EBD, in mm; none where there is no fall.
+/// Where the fall at a place in cm has a speed on its EBD, in mm; none where there is no fall.
 fn on_fall(supervisor: &Supervisor, map: &BandMap, cell: i32, v: Speed) -> Option<i64>
     requires cell { pos 0 ≤ℤ cell }
     requires map { meaning_of map.now ≡ slopes_of Safe supervisor.now.line }
@@ -62,7 +62,7 @@ fn is_restricted(supervisor: &Supervisor, map: &BandMap) -> bool
         && on_fall(supervisor, map, 50_000, Speed::of_mm_s(30_000)) == Some(345_380)
 }
 
-/// Whether the profile falls at none of the borders about the restriction but the one where it begins.
+/// Whether the profile falls in none of the cells about the restriction but the one where it begins.
 fn falls_once(supervisor: &Supervisor) -> bool {
     supervisor.fall_curve(0).is_none()
         && supervisor.fall_curve(49_999).is_none()

@@ -1,8 +1,8 @@
 -- The entries so far, and then those of what is left, are the entries of the whole list.
 use Rattle.std.proofs.Common.{◌≡◌}
 use Rattle.sdm_data.specs.Members.{entries_from}
-use Rattle.sdm_data.proofs.EntriesLeft.{with_front, left}
+use Rattle.sdm_data.proofs.EntriesLeft.{with_prefix, left}
 use Rattle.sdm_data.proofs.lists.entries.Given as goal
 
 abbrev pub invariant-loop-value : goal.invariant-loop-value
-invariant-loop-value g l = with_front l.entries.items (entries_from (g.T.Entry.entry_in l.version) l.index (left l.list l.value-index)) ≡ entries_from (g.T.Entry.entry_in l.version) 1 (left l.list 0)
+invariant-loop-value g l = with_prefix l.entries.items (entries_from (g.T.ReadEntry.entry_in l.version) l.index (left l.list l.value-index)) ≡ entries_from (g.T.ReadEntry.entry_in l.version) 1 (left l.list 0)

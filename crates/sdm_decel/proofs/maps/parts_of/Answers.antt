@@ -3,7 +3,7 @@ use Rattle.std.proofs.Common.{◌≡◌, ℤ, List, pos, map, unsigned_abs, w64,
 use Rattle.std.proofs.lemmas.Int.{ints}
 use Rattle.sdm_rules.specs.Decelerations.{UnderTrain, under_train}
 use Rattle.sdm_rules.specs.Ranges.{longest_train}
-use Rattle.sdm_decel.specs.Borders.{AreStretches}
+use Rattle.sdm_decel.specs.StretchCells.{AreStretches}
 use Rattle.sdm_decel.specs.Slopes.{slopes_of_bands}
 use Rattle.sdm_decel.proofs.Sizes.{stays, size_within}
 use Rattle.sdm_decel.proofs.Stretches.{nat_is}

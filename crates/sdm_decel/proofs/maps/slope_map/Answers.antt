@@ -1,7 +1,7 @@
 -- What a map is made of is well formed and gives the slopes of the kind, so the map stands for them, or its fault is theirs.
 use Rattle.std.proofs.Common.{Ok, Err, Result, IfOk}
 use Rattle.std.proofs.lemmas.Result.{IfOk-weaker, IfErr-weaker}
-use Rattle.sdm_decel.specs.Slopes.{line_of}
+use Rattle.sdm_decel.specs.Slopes.{train_and_track_from}
 use Rattle.sdm_decel.proofs.Making.{map_data_is, stands_for, stretches_kept, accepts, refuses}
 use Rattle.sdm_decel.proofs.maps.slope_map.Goals as goal
 
@@ -11,13 +11,13 @@ IfOk-both (Err e) P Q R f p q = tt
 
 pub new-requires : goal.new-requires
 new-requires c =
-    let d = line_of c.args.train.now c.args.national.now c.args.track.now in
+    let d = train_and_track_from c.args.train.now c.args.national.now c.args.track.now in
     let q = c.q_of.ensures in
     rw (c.deref.ensures.value, c.deref-2.ensures.value, c.deref-3.ensures.value) (map_data_is c.args.kind d c.q_of.result _ _ _ c.in-Ok.ensures q.value q.least q.greatest)
 
 pub returns : goal.returns
 returns c =
-    let d = line_of c.args.train.now c.args.national.now c.args.track.now in
+    let d = train_and_track_from c.args.train.now c.args.national.now c.args.track.now in
     let q = c.q_of.ensures in
     let made = rw (c.deref.ensures.value, c.deref-2.ensures.value, c.deref-3.ensures.value) at c.new.ensures.kept in
     let accepted = rw (c.deref.ensures.value, c.deref-2.ensures.value, c.deref-3.ensures.value) at c.new.ensures.accepted in

@@ -1,4 +1,4 @@
--- So far the sink took the front of the piece, and its count has not fallen.
+-- So far the sink took a prefix of the piece, and its count has not fallen.
 use Rattle.std.proofs.Common.{length, ◌-◌, ◌≤◌, take}
 use Rattle.std.specs.Io.KnownBytes.{Appends}
 use Rattle.sdm_io.proofs.writing.write_piece.Given as goal

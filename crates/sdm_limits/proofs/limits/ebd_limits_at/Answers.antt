@@ -1,7 +1,7 @@
 -- A limit stands for the exact one, since each is as many grains before its place as the exact one is before its own.
 use Rattle.std.proofs.Common.{Some, rules}
 use Rattle.sdm_num.specs.Fractions.{less}
-use Rattle.sdm_num.specs.Units.{way_in}
+use Rattle.sdm_num.specs.Units.{distance_at}
 use Rattle.sdm_limits.specs.Sides.{place_where}
 use Rattle.sdm_limits.proofs.Places.{ebd_places, early_before}
 use Rattle.sdm_limits.proofs.limits.ebd_limits_at.Goals as goal
@@ -16,4 +16,4 @@ returns-clause-stands c = λ g x guided early.
     let ebi = less x c.args.d_bec in
     let at_ebi = c.less-ebi.ensures.stands x early in
     let at_sbi = early_before c.less-sbi.result ebi c.distance_at.result c.args.v c.args.times.now.bs (search rules) (c.less-sbi.ensures.stands ebi at_ebi) in
-    c.limits_from_sbi.ensures.stands g (Some ebi) (less ebi (way_in c.args.v c.args.times.now.bs)) guided at_ebi at_sbi
+    c.limits_from_sbi.ensures.stands g (Some ebi) (less ebi (distance_at c.args.v c.args.times.now.bs)) guided at_ebi at_sbi

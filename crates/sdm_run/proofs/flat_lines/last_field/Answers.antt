@@ -1,4 +1,4 @@
--- The number at the front of bytes is one, and what stands after it too.
+-- The number at the beginning of bytes is one, and what stands after it too.
 use Rattle.std.proofs.Common.{w64}
 use Rattle.std.proofs.lemmas.Int.{to_z-of_z}
 use Rattle.sdm_text.proofs.DigitRuns.{same_number}

@@ -1,4 +1,4 @@
--- The number at the front of bytes is one, so that where it lies out of the range none lies within.
+-- The number at the beginning of bytes is one, so that where it lies out of the range none lies within.
 use Rattle.std.proofs.Common.{◌≡◌, ◌≤ℤ◌, ℤ, true, int_lt, to_z, of_z, w64, arith, rules}
 use Rattle.std.proofs.lemmas.Int.{ints, to_z-of_z}
 use Rattle.sdm_text.proofs.DigitRuns.{same_number}

@@ -1,4 +1,4 @@
--- Each turn writes the row of the first line that is left, or a front of it.
+-- Each turn writes the row of the first line that is left, or a prefix of it.
 use Rattle.std.proofs.Common.{◌≡◌, ◌<◌, ◌∙◌, length, add-one, inl, refl, subst, arith}
 use Rattle.std.proofs.lemmas.Bool.Decides.{nat_tests}
 use Rattle.std.specs.Io.KnownBytes.{Appends}
@@ -13,7 +13,7 @@ lines-init g c = record { left = all_left _ _ _ _ _ c.in-Ok.ensures; few = omega
 
 pub lines-preserved : goal.lines-preserved
 lines-preserved g c =
-    let piece : c.bytes.result.now ≡ flat_text c.in-Some.turn.row = c.bytes.ensures.value ∙ c.put_row.ensures in
+    let piece : c.bytes.result.now ≡ flat_text c.in-Some.taken.row = c.bytes.ensures.value ∙ c.put_row.ensures in
     let row = subst (Appends (g.O.Sink.taken c.lines.out) (g.O.Sink.taken c.write_piece.new.sink)) piece c.in-Ok-write_piece.ensures.ok in
     record {
       left = rw add-one (written _ _ _ _ _ _ _ _ _ c.lines.invariant.left c.in-Some.ensures.accepted.lines _ _ c.in-Some.ensures.accepted.accepted row);
@@ -24,7 +24,7 @@ lines-preserved g c =
 
 pub returns-in_default-write_piece-clause-answer : goal.returns-in_default-write_piece-clause-answer
 returns-in_default-write_piece-clause-answer g c =
-    let piece : c.bytes.result.now ≡ flat_text c.in-Some.turn.row = c.bytes.ensures.value ∙ c.put_row.ensures in
+    let piece : c.bytes.result.now ≡ flat_text c.in-Some.taken.row = c.bytes.ensures.value ∙ c.put_row.ensures in
     let part = subst (AppendsPart (g.O.Sink.taken c.lines.out) (g.O.Sink.taken c.write_piece.new.sink)) piece c.in_default-write_piece.ensures.err in
     cut_answer _ _ _ _ _ _ _ _ _ c.lines.invariant.left c.in-Some.ensures.accepted.lines _ _ c.in-Some.ensures.accepted.accepted part
 

@@ -2,7 +2,7 @@
 use Rattle.std.proofs.Common.{◌≡◌, suc, ◌+◌, Bool, Ok, ap, refl, subst, ◌∙◌, arith}
 use Rattle.std.specs.Prelude.{Result}
 use Rattle.sdm_report.specs.declared.outcome.Outcome.{Outcome}
-use Rattle.sdm_run.specs.RunParts.{IsTurn}
+use Rattle.sdm_run.specs.RunParts.{IsTurnAnswer}
 use Rattle.sdm_run.proofs.RunTexts.{all_left_of, left_alone, took_more, cut_off}
 use Rattle.sdm_run.proofs.journey_records.run_records.Goals as goal
 
@@ -17,7 +17,7 @@ records-init g c = record {
 
 pub records-preserved : goal.records-preserved
 records-preserved g c =
-    let step = subst (λ (r : Result Bool Outcome). IsTurn (g.O.Sink.taken c.records.out) (g.O.Sink.taken c.turn.new.out) c.records.number c.records.supervisor c.turn.new.supervisor c.records.records c.turn.new.records r)
+    let step = subst (λ (r : Result Bool Outcome). IsTurnAnswer (g.O.Sink.taken c.records.out) (g.O.Sink.taken c.turn.new.out) c.records.number c.records.supervisor c.turn.new.supervisor c.records.records c.turn.new.records r)
     (c.in-Ok-true.is ∙ ap Ok c.in-Ok-true.field-0-test) c.turn.ensures.turn in
     let one : c.records.number + 1 ≡ suc c.records.number = omega arith in
     record {

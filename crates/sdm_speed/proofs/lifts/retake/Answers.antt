@@ -4,7 +4,7 @@ use Rattle.std.proofs.lemmas.Int.{to_z-of_z}
 use Rattle.sdm_rules.specs.Profile.{Zone, covers, zone_of}
 use Rattle.sdm_speed.specs.declared.steps.Step.{Step}
 use Rattle.sdm_speed.specs.Borders.{retaken, speed_under}
-use Rattle.sdm_speed.proofs.CapLaws.{front_stays, rest_stays, one_more, not_yet}
+use Rattle.sdm_speed.proofs.CapLaws.{prefix_stays, rest_stays, one_more, not_yet}
 use Rattle.sdm_speed.proofs.StepLaws.{none}
 use Rattle.sdm_speed.proofs.SteadyLaws.{retaken_same}
 use Rattle.sdm_speed.proofs.lifts.retake.Goals as goal
@@ -15,7 +15,7 @@ loop-i-init c =
     let steps = c.args.steps.now.list.items in
     record {
       before = refl;
-      list = sym (front_stays (retaken speed) steps c.covered-covered.result.from
+      list = sym (prefix_stays (retaken speed) steps c.covered-covered.result.from
           (λ k d l m. retaken_same speed c.zone_of.result c.args.steps.now.before steps k d c.requires.rising (rw c.zone_of.ensures c.requires.speeds) m (c.covered-covered.ensures.before k d l m)));
       len = refl;
       room = refl;

@@ -1,4 +1,4 @@
--- Each border closes a zone and opens the next; the last zone has no end.
+-- Each start closes a zone and opens the next; the last zone has no end.
 use Rattle.std.proofs.Common.{◌≡◌, ◌+◌, ◌-◌, ◌<◌, pos, length, get_or, refl, sym, ◌∙◌, w32, w64, to_z, of_z, arith, rules, append_assoc}
 use Rattle.std.proofs.lemmas.Int.{ints, to_z-of_z}
 use Rattle.std.proofs.lemmas.List.Elements.{All-push}

@@ -1,4 +1,4 @@
--- The zones closed so far and those of the rest are all; the open one began where the entry before this border starts.
+-- The zones closed so far and those of the rest are all; the open one began where the entry before this one starts.
 use Rattle.std.proofs.Common.{◌≡◌, ℤ, pos, Some, ◌++◌, ◌-◌, ◌+◌, All, get_or, length, vec_len, vec_capacity}
 use Rattle.sdm_rules.specs.Profile.{zones_of_track}
 use Rattle.sdm_speed.specs.Zones.{IsZone}

@@ -7,7 +7,7 @@ use Rattle.sdm_text.proofs.numbers.first_digits.Given as goal
 
 abbrev pub invariant-loop-count : goal.invariant-loop-count
 invariant-loop-count l = record {
-  digits : list_all is_ascii_digit (take l.count l.front) ≡ true;
-  writes : l.number ≡ digits_value 10 (take l.count l.front);
+  digits : list_all is_ascii_digit (take l.count l.prefix) ≡ true;
+  writes : l.number ≡ digits_value 10 (take l.count l.prefix);
   small : l.number < 10 ^ l.count;
 }

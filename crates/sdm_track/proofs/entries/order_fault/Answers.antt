@@ -13,4 +13,4 @@ pub returns : goal.returns
 returns g c =
     let left = drop (c.loop-i.i - 1) c.args.entries.now in
     let few : length left ≤ 1 = omega (arith, length-drop (c.loop-i.i - 1) c.args.entries.now) in
-    sym (order_fault-few c.args.list g.E.Entry.start g.E.Entry.past c.loop-i.i left few) ∙ c.loop-i.invariant
+    sym (order_fault-few c.args.list g.E.Listed.start g.E.Listed.past c.loop-i.i left few) ∙ c.loop-i.invariant

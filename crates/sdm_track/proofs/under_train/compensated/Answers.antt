@@ -1,4 +1,4 @@
--- Each step keeps: the segments made are right up to the window's next border, and end with its lowest gradient.
+-- Each step keeps: the segments made are right up to the window's next change, and end with its lowest gradient.
 use Rattle.std.proofs.Common.{◌≡◌, ◌≢◌, w64, to_z, of_z, sym, ◌∙◌, ap, rules}
 use Rattle.std.proofs.lemmas.Int.{to_z-of_z, of_z-to_z}
 use Rattle.sdm_track.specs.declared.under_train.Segment.{Segment}

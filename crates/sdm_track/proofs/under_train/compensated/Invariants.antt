@@ -1,4 +1,4 @@
--- The segments made so far are right for every cell before the next border, and the lows are those of the window.
+-- The segments made so far are right for every cell before the next change, and the lows are those of the window.
 use Rattle.std.proofs.Common.{◌+◌, ◌-◌, ◌*◌, length}
 use Rattle.sdm_track.specs.Windows.{AreLows}
 use Rattle.sdm_track.proofs.SegmentLaws.{IsSoFar}
@@ -7,7 +7,7 @@ use Rattle.sdm_track.proofs.under_train.compensated.Given as goal
 abbrev pub invariant-loop-window : goal.invariant-loop-window
 invariant-loop-window l = record {
   so_far : IsSoFar l.entries l.length_cm l.window l.list.items l.value;
-  lows : AreLows l.entries l.window.rear (l.window.front + 1) l.lows.places.items;
+  lows : AreLows l.entries l.window.rear (l.window.front + 1) l.lows.indices.items;
 }
 
 abbrev pub decreases-loop-window : goal.decreases-loop-window

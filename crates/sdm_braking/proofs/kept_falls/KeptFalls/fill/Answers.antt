@@ -31,7 +31,7 @@ loop-fall-preserved c =
     let cell_is : to_z w32 (of_z w32 fall.cell) ≡ fall.cell = to_z-of_z w32 fall.cell (search rules) in
     rw cell_is (record {
       falls = begun_next (mrsp_of p) _ was now i fall known placed.before placed.fall c.in-Some.ensures.value inv.falls;
-      each = each_placed c.args.line.now was now i known placed.before placed.past placed.kept inv.each;
+      each = each_placed c.args.braking.now was now i known placed.before placed.past placed.kept inv.each;
       whole = omega (arith, placed.len, inv.whole);
       few = omega (arith, more, inv.few);
       room = placed.room ∙ inv.room;

@@ -10,7 +10,7 @@ use Rattle.sdm_braking.proofs.kept_falls.KeptFalls.fill.Given as goal
 abbrev pub invariant-loop-fall : goal.invariant-loop-fall
 invariant-loop-fall l = record {
   falls : IsBegun (mrsp_of l.profile) l.at (take l.count l.self.list);
-  each : All (IsKeptFall l.line) l.self.list;
+  each : All (IsKeptFall l.braking) l.self.list;
   whole : length l.self.list ≡ l.count;
   few : l.count ≤ passed (zones_of l.profile) l.at;
   room : l.self.room ≡ l.fn.self.room;

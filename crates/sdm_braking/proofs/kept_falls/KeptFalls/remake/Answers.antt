@@ -2,7 +2,7 @@
 -- the same.
 use Rattle.std.proofs.Common.{◌≡◌, ◌+◌, ◌<◌, ◌≤◌, ◌^◌, ◌-ℤ◌, ◌≤ℤ◌, List, pos, length, take, drop, SFits, w32, w64, to_z, of_z, refl, sym, ap, subst, ◌∙◌, arith, rules, length-drop}
 use Rattle.std.proofs.lemmas.Int.{ints, to_z-of_z}
-use Rattle.sdm_rules.specs.Data.{LineData}
+use Rattle.sdm_rules.specs.Data.{TrainAndTrack}
 use Rattle.sdm_speed.specs.Falls.{AreAtFalls}
 use Rattle.sdm_speed.specs.Profiles.{mrsp_of}
 use Rattle.sdm_speed.proofs.FallLists.{falls_from, rest_at}
@@ -26,7 +26,7 @@ loop-fall-init c =
     let at_is = one_before first cells.not_before first_fits in
     let list_is = c.deref.ensures.value ∙ ap (λ (v : KeptFallsData). v.list) c.self.view_is in
     let wide : to_z w64 (of_z w64 c.from.result) ≡ at = omega (arith, ints, c.from.ensures, first_is, at_is) in
-    let parts : (h : AreOfProfileBefore c.args.line.now c.args.profile.now c.args.changed c.args.self.now) → ArePartedPast at ks i = λ h. subst (λ (xs : List KeptFall). ArePartedPast at xs i) list_is
+    let parts : (h : AreOfProfileBefore c.args.braking.now c.args.profile.now c.args.changed c.args.self.now) → ArePartedPast at ks i = λ h. subst (λ (xs : List KeptFall). ArePartedPast at xs i) list_is
     ((rw wide at c.reached-i.ensures.parted) (mrsp_of h.old) first_cell (subst (λ (xs : List KeptFall). AreAtFalls fall_of (mrsp_of h.old) first_cell xs) (sym list_is) h.kept.falls)) in
     let low : first_cell ≤ℤ at = omega (arith, ints, cells.not_before) in
     let bound = subst (λ (xs : List KeptFall). i ≤ length xs) list_is c.reached-i.ensures.bound in
@@ -76,7 +76,7 @@ loop-fall-smaller c =
 pub loop-fall-preserved : goal.loop-fall-preserved
 loop-fall-preserved c =
     let inv = c.loop-fall.invariant in
-    let d = c.args.line.now in
+    let d = c.args.braking.now in
     let i = c.loop-fall.i in
     let fall = c.in-Some.fall in
     let next = c.in-Some.ensures.value in
@@ -137,6 +137,6 @@ returns c =
     let here = falls_from fall_of p (mrsp_of b.old) _ c.args.changed.past (drop i ks) inv.to (rw past_is at c.in_default.ensures.value) (λ x l. b.same.from x l) left in
     record {
       falls = begun_all p _ ks i (subst (λ (xs : List KeptFall). IsBegun p (to_z w32 c.loop-fall.at-bits) xs) (sym last.before) inv.made) here;
-      each = last.each c.args.line.now inv.each;
+      each = last.each c.args.braking.now inv.each;
       room = rw b.speeds (omega (arith, b.kept.room, last.room, inv.room));
     }

@@ -13,9 +13,9 @@ abbrev pub invariant-loop-fall : goal.invariant-loop-fall
 invariant-loop-fall l = record {
   place : l.i ≤ length l.self.list;
   made : IsBegun (mrsp_of l.profile) l.at (take l.i l.self.list);
-  left : (h : AreOfProfileBefore l.line l.profile l.changed l.fn.self) → AreAtFalls fall_of (mrsp_of h.old) l.at (drop l.i l.self.list);
-  few : (h : AreOfProfileBefore l.line l.profile l.changed l.fn.self) → l.i ≤ passed h.zones l.at;
-  each : All (IsKeptFall l.line) l.self.list;
+  left : (h : AreOfProfileBefore l.braking l.profile l.changed l.fn.self) → AreAtFalls fall_of (mrsp_of h.old) l.at (drop l.i l.self.list);
+  few : (h : AreOfProfileBefore l.braking l.profile l.changed l.fn.self) → l.i ≤ passed h.zones l.at;
+  each : All (IsKeptFall l.braking) l.self.list;
   room : l.self.room ≡ l.fn.self.room;
   from : (l.changed.first -ℤ pos 1) ≤ℤ l.at;
   to : l.at ≤ℤ l.changed.past;

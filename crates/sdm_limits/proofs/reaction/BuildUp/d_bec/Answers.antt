@@ -1,6 +1,6 @@
--- Each part of the sum is one of the gains, maxima and ways that the formula names.
+-- Each part of the sum is one of the gains, maxima and distances that the formula names.
 use Rattle.std.proofs.Common.{◌+◌, rules}
-use Rattle.sdm_limits.proofs.Ways.{d_bec_is}
+use Rattle.sdm_limits.proofs.Distances.{d_bec_is}
 use Rattle.sdm_limits.proofs.reaction.BuildUp.d_bec.Goals as goal
 
 pub returns-clause-value : goal.returns-clause-value

@@ -4,7 +4,7 @@ use Rattle.std.proofs.lemmas.Int.{ints}
 use Rattle.std.proofs.lemmas.List.{append-nil}
 use Rattle.std.proofs.lemmas.List.Elements.{All-nil}
 use Rattle.sdm_speed.specs.declared.steps.Step.{Step}
-use Rattle.sdm_speed.specs.Held.{IsHeld}
+use Rattle.sdm_speed.specs.Held.{IsHeldRestriction}
 use Rattle.sdm_speed.proofs.BorderLaws.{borders_none}
 use Rattle.sdm_speed.proofs.HeldLaws.{len_is}
 use Rattle.sdm_speed.proofs.profiles.Profile.begin.Goals as goal
@@ -33,7 +33,7 @@ invariant_of-result c =
       };
       distinct = rw held_is tt;
       each_static = each;
-      each_held = rw held_is (All-nil IsHeld);
+      each_held = rw held_is (All-nil IsHeldRestriction);
       statics = statics;
       statics_rising = c.in_ok-statics.ensures.rising;
       steps = λ cell. rw (c.reset.ensures.before, c.reset.ensures.list, held_is, append-nil) (statics cell);

@@ -2,13 +2,13 @@
 use Rattle.std.proofs.Common.{◌≡◌, ◌<◌, length, get_or, refl, sym, ap, ◌∙◌, add-one, arith}
 use Rattle.sdm_rules.specs.Profile.{Zone}
 use Rattle.sdm_speed.specs.Steps.{capped_step}
-use Rattle.sdm_speed.proofs.CapLaws.{front_stays, rest_stays, lowered_is, one_more, not_yet, stays}
+use Rattle.sdm_speed.proofs.CapLaws.{prefix_stays, rest_stays, lowered_is, one_more, not_yet, stays}
 use Rattle.sdm_speed.proofs.steps.Steps.cap.Goals as goal
 
 pub loop-i-init : goal.loop-i-init
 loop-i-init c = record {
   before = refl;
-  list = sym (front_stays (capped_step c.args.zone) c.args.self.now.list.items c.covered-covered.result.from (λ k d l m. stays c.args.zone _ (c.covered-covered.ensures.before k d l m)));
+  list = sym (prefix_stays (capped_step c.args.zone) c.args.self.now.list.items c.covered-covered.result.from (λ k d l m. stays c.args.zone _ (c.covered-covered.ensures.before k d l m)));
   len = refl;
   room = refl;
 }

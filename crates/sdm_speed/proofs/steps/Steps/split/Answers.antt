@@ -3,7 +3,7 @@ use Rattle.std.proofs.Common.{◌≡◌, ◌<◌, ◌<ℤ◌, ◌≤ℤ◌, w32,
 use Rattle.std.proofs.lemmas.Int.{ints, to_z-of_z, by_lt_z}
 use Rattle.std.proofs.lemmas.List.{get_or_default}
 use Rattle.sdm_speed.specs.declared.steps.Step.{Step}
-use Rattle.sdm_speed.proofs.SplitLaws.{insert_same, insert_rising, insert_start, insert_keeps, insert_only, start_of}
+use Rattle.sdm_speed.proofs.SplitLaws.{insert_same, insert_rising, insert_start, insert_keeps, insert_only, index_is_start}
 use Rattle.sdm_speed.proofs.steps.Steps.split.Goals as goal
 use Rattle.sdm_speed.proofs.steps.Steps.split.Goals.{else-i-len-via-then-i-len+else-index-cell, else-i-len-via-else-i-len}
 
@@ -14,7 +14,7 @@ returns-then-index-cell-clause-start c =
     let start_is : to_z w32 (of_z w32 step.start) ≡ step.start = to_z-of_z w32 step.start (search rules) in
     let here : step.start ≡ c.args.cell = sym start_is ∙ ap (to_z w32) c.if-index-cell.true ∙ cell_is in
     let whole = c.args.self.now.list.ok.0 in
-    rw (← here, c.index.ensures) (start_of c.args.self.now.list.items c.started_before-i.result step (omega (arith, c.if-i-len.true, c.len.ensures)))
+    rw (← here, c.index.ensures) (index_is_start c.args.self.now.list.items c.started_before-i.result step (omega (arith, c.if-i-len.true, c.len.ensures)))
 
 pub returns-clause-speeds : goal.returns-clause-speeds
 returns-clause-speeds c cell =

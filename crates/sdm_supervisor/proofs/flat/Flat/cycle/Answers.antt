@@ -4,7 +4,7 @@ use Rattle.std.proofs.lemmas.Int.{ints, to_z-of_z}
 use Rattle.std.proofs.Math.Facts.{to_z_pos}
 use Rattle.sdm_num.specs.Units.{centimetre}
 use Rattle.sdm_num.specs.Bounds.{mm_below}
-use Rattle.sdm_rules.specs.Cells.{border_of}
+use Rattle.sdm_rules.specs.Cells.{place_of_cell}
 use Rattle.sdm_rules.specs.Curves.{exact, stepped}
 use Rattle.sdm_rules.specs.Supervision.{whole_mm}
 use Rattle.sdm_rules.specs.declared.rows.FlatRow.{FlatRow}
@@ -33,10 +33,10 @@ module _ (c : goal.After-is_passed_by) where
   held_is : c.args.self.now.eb ≡ c.self.inside.eb
   held_is = ap (λ (s : FlatSupervision). s.eb) (sym c.self.view_is)
 
-  at_is : c.place-limit.result.at ≡ stepped (flat_slopes c.args.self.now.decel) (border_of (pos c.args.self.now.end)) 0 c.args.speed
-  at_is = rw (decel_is, end_is, ← same_stepped c.self.inside.decel (border_of (pos c.self.inside.end_cm)) c.args.speed) (rw (c.self.invariant.map_is, c.self.invariant.place_is, c.self.invariant.speed_is) at c.place-limit.ensures.at)
+  at_is : c.place-limit.result.at ≡ stepped (flat_slopes c.args.self.now.decel) (place_of_cell (pos c.args.self.now.end)) 0 c.args.speed
+  at_is = rw (decel_is, end_is, ← same_stepped c.self.inside.decel (place_of_cell (pos c.self.inside.end_cm)) c.args.speed) (rw (c.self.invariant.map_is, c.self.invariant.place_is, c.self.invariant.speed_is) at c.place-limit.ensures.at)
 
-  place_is : c.of_cm_from_0-end.result ≡ border_of (pos c.args.self.now.end)
+  place_is : c.of_cm_from_0-end.result ≡ place_of_cell (pos c.args.self.now.end)
   place_is = rw end_is c.of_cm_from_0-end.ensures
 
   passed : c.is_passed_by.result ≡ int_lt c.place-limit.result.at c.args.front
@@ -45,7 +45,7 @@ module _ (c : goal.After-is_passed_by) where
   ebi : to_z w64 (of_z w64 c.whole_mm.result) ≡ mm_below c.place-limit.result.at
   ebi = to_z-of_z w64 c.whole_mm.result (search (rules, ints)) ∙ c.whole_mm.ensures
 
-  eb : c.held_after-eb.result ≡ (((nat_lt 0 c.args.speed && int_lt c.place-limit.result.at c.args.front) || int_lt (border_of (pos c.args.self.now.end)) c.args.front) || (c.args.self.now.eb && nat_lt 0 c.args.speed))
+  eb : c.held_after-eb.result ≡ (((nat_lt 0 c.args.speed && int_lt c.place-limit.result.at c.args.front) || int_lt (place_of_cell (pos c.args.self.now.end)) c.args.front) || (c.args.self.now.eb && nat_lt 0 c.args.speed))
   eb = c.held_after-eb.ensures ∙ rw (c.is_emergency.ensures, place_is, held_is)
 
   row_is : record { time = c.args.time; ebi = to_z w64 (of_z w64 c.whole_mm.result); covered = not c.is_passed_by.result; eb = c.held_after-eb.result } ≡ flat_row c.args.self.now line
@@ -68,4 +68,4 @@ returns-clause-stop c covered = flat_stop c.args.self.now (line c) (some c) (sub
 
 pub returns-clause-ebi : goal.returns-clause-ebi
 returns-clause-ebi c v is =
-    ap (λ (r : FlatRow). r.ebi) (row_is c) ∙ shown_place c.args.self.now (line c) ∙ ap (λ (n : ℕ). whole_mm (exact (flat_slopes c.args.self.now.decel) (border_of (pos c.args.self.now.end)) 0 n)) is ∙ ebi_is c.args.self.now.decel c.args.self.now.end v (some c)
+    ap (λ (r : FlatRow). r.ebi) (row_is c) ∙ shown_place c.args.self.now (line c) ∙ ap (λ (n : ℕ). whole_mm (exact (flat_slopes c.args.self.now.decel) (place_of_cell (pos c.args.self.now.end)) 0 n)) is ∙ ebi_is c.args.self.now.decel c.args.self.now.end v (some c)

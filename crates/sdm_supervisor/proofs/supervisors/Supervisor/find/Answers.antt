@@ -6,24 +6,24 @@ use Rattle.sdm_rules.specs.Cells.{cell_of, lowest}
 use Rattle.sdm_rules.specs.Supervision.{Supervision, release_of, is_past_end}
 use Rattle.sdm_rules.specs.Targets.{targets_of}
 use Rattle.sdm_speed.specs.Profiles.{mrsp_of}
-use Rattle.sdm_supervisor.specs.declared.situations.Situation.{Situation}
+use Rattle.sdm_supervisor.specs.declared.findings.Findings.{Findings}
 use Rattle.sdm_braking.specs.KeptCurves.{targets_in}
 use Rattle.sdm_braking.specs.KeptFalls.{target_of}
-use Rattle.sdm_supervisor.specs.Situations.{IsFoundAt}
+use Rattle.sdm_supervisor.specs.Findings.{IsFoundAt}
 use Rattle.sdm_supervisor.specs.Verdicts.{verdict_of}
 use Rattle.sdm_supervisor.proofs.CycleLaws.{is_open}
-use Rattle.sdm_braking.proofs.ReleaseLaws.{released_is, released_in_range}
+use Rattle.sdm_braking.proofs.ReleaseLaws.{release_speed_at_is, release_speed_in_range}
 use Rattle.sdm_supervisor.proofs.FindLaws.{found_is}
 use Rattle.sdm_braking.proofs.WalkLaws.{ends_kept, targets_are}
 use Rattle.sdm_supervisor.proofs.supervisors.Supervisor.find.Goals as goal
 
 module _ (c : goal.After-of) where
-  abbrev found : Situation
+  abbrev found : Findings
   found = record {
     speed = c.speed_mm_s.result;
     ceiling_kmh = c.lowest.result;
     past_end = c.is_passed_by.result;
-    release_kmh = c.released_kmh-release_kmh.result;
+    release_kmh = c.release_kmh_at-release_kmh.result;
     in_use = c.is_service_in_use.result;
     verdict = c.of.result;
   }
@@ -37,40 +37,41 @@ module _ (c : goal.After-of) where
   ceiling : c.lowest.result ≡ lowest min (mrsp_of c.self.inside.profile) (cell_of c.args.reading.now.min) (int_gap (cell_of c.args.reading.now.min) (cell_of c.args.reading.now.max))
   ceiling = c.lowest.ensures.value ∙ (λ k. lowest min (mrsp_of c.self.inside.profile) (back k) (int_gap (back k) (front k)))
 
-  released : c.released_kmh-release_kmh.result ≡ release_of c.self.inside.line c.self.inside.authority c.args.reading.now.max
-  released =
-      c.released_kmh-release_kmh.ensures ∙ released_is c.self.inside.line c.self.inside.authority c.self.inside.kept.release c.max_mm-front.result c.self.invariant.kept.release
-      ∙ ap (release_of c.self.inside.line c.self.inside.authority) c.max_mm-front.ensures
+  in_release_monitoring : c.release_kmh_at-release_kmh.result ≡
+      release_of c.self.inside.braking c.self.inside.authority c.args.reading.now.max
+  in_release_monitoring =
+      c.release_kmh_at-release_kmh.ensures ∙ release_speed_at_is c.self.inside.braking c.self.inside.authority c.self.inside.kept.release c.max_mm-front.result c.self.invariant.kept.release
+      ∙ ap (release_of c.self.inside.braking c.self.inside.authority) c.max_mm-front.ensures
 
   after : to_z w32 (of_z w32 c.cell-cell.result) ≡ cell_of c.max_mm-front.result
   after = to_z-of_z w32 c.cell-cell.result (search (rules, ints)) ∙ c.cell-cell.ensures
 
-  targets : map target_of c.ahead-falls.result.now ++ targets_in c.self.inside.kept.end c.is_some-released.result ≡ targets_of (mrsp_of c.self.inside.profile) c.self.inside.authority c.args.reading.now.max (is_some (release_of c.self.inside.line c.self.inside.authority c.args.reading.now.max))
+  targets : map target_of c.ahead-falls.result.now ++ targets_in c.self.inside.kept.end c.is_some-in_release_monitoring.result ≡ targets_of (mrsp_of c.self.inside.profile) c.self.inside.authority c.args.reading.now.max (is_some (release_of c.self.inside.braking c.self.inside.authority c.args.reading.now.max))
   targets =
-      targets_are c.self.inside.line (mrsp_of c.self.inside.profile) c.self.inside.authority c.ahead-falls.result.now c.self.inside.kept.end _ c.max_mm-front.result c.end_of-end.result c.is_some-released.result (after) c.end_of-end.ensures.value
-      (c.ahead-falls.ensures.each c.self.inside.line c.self.invariant.kept.falls.each) (c.ahead-falls.ensures.falls (mrsp_of c.self.inside.profile) c.self.invariant.kept.falls.falls) c.self.invariant.kept.end
-      ∙ (λ k. targets_of (mrsp_of c.self.inside.profile) c.self.inside.authority (c.max_mm-front.ensures k) ((c.is_some-released.ensures ∙ ap is_some released) k))
+      targets_are c.self.inside.braking (mrsp_of c.self.inside.profile) c.self.inside.authority c.ahead-falls.result.now c.self.inside.kept.end _ c.max_mm-front.result c.end_of-end.result c.is_some-in_release_monitoring.result (after) c.end_of-end.ensures.value
+      (c.ahead-falls.ensures.each c.self.inside.braking c.self.invariant.kept.falls.each) (c.ahead-falls.ensures.falls (mrsp_of c.self.inside.profile) c.self.invariant.kept.falls.falls) c.self.invariant.kept.end
+      ∙ (λ k. targets_of (mrsp_of c.self.inside.profile) c.self.inside.authority (c.max_mm-front.ensures k) ((c.is_some-in_release_monitoring.ensures ∙ ap is_some in_release_monitoring) k))
 
 pub of-requires-clause-falls : goal.of-requires-clause-falls
-of-requires-clause-falls c = c.ahead-falls.ensures.each c.self.inside.line c.self.invariant.kept.falls.each
+of-requires-clause-falls c = c.ahead-falls.ensures.each c.self.inside.braking c.self.invariant.kept.falls.each
 
 pub of-requires-clause-end : goal.of-requires-clause-end
-of-requires-clause-end c = ends_kept c.self.inside.line c.self.inside.authority c.self.inside.kept.end c.self.invariant.kept.end
+of-requires-clause-end c = ends_kept c.self.inside.braking c.self.inside.authority c.self.inside.kept.end c.self.invariant.kept.end
 
 pub returns-clause-found : goal.returns-clause-found
 returns-clause-found c =
     subst (λ (s : Supervision). IsFoundAt s c.args.reading.now (found c)) c.self.view_is
-    (found_is c.self.inside.line c.self.inside.authority c.self.inside.profile c.self.inside.last_time c.self.inside.held c.args.reading.now (found c) c.self.invariant.profile
-    c.speed_mm_s.ensures (ceiling c) (c.is_passed_by.ensures c.self.inside.line c.self.inside.authority c.self.invariant.kept.end ∙ ap (is_past_end c.self.inside.authority) c.min_mm-2.ensures) (released c) c.is_service_in_use.ensures
-    (c.of.ensures ∙ (λ k. verdict_of c.self.inside.line (c.asked-asked.ensures.reading k) (targets c k))))
+    (found_is c.self.inside.braking c.self.inside.authority c.self.inside.profile c.self.inside.last_time c.self.inside.held c.args.reading.now (found c) c.self.invariant.profile
+    c.speed_mm_s.ensures (ceiling c) (c.is_passed_by.ensures c.self.inside.braking c.self.inside.authority c.self.invariant.kept.end ∙ ap (is_past_end c.self.inside.authority) c.min_mm-2.ensures) (in_release_monitoring c) c.is_service_in_use.ensures
+    (c.of.ensures ∙ (λ k. verdict_of c.self.inside.braking (c.asked-asked.ensures.reading k) (targets c k))))
 
 pub returns-clause-accepted : goal.returns-clause-accepted
-returns-clause-accepted c = is_open c.args.self.now (rw (← c.self.view_is) c.end_of-end.ensures.line)
+returns-clause-accepted c = is_open c.args.self.now (rw (← c.self.view_is) c.end_of-end.ensures.accepted)
 
 pub returns-clause-range : goal.returns-clause-range
 returns-clause-range c = record {
   ceiling = search rules;
   release =
-      rw c.released_kmh-release_kmh.ensures
-      (released_in_range c.self.inside.line c.self.inside.authority c.self.inside.kept.release c.max_mm-front.result c.self.invariant.kept.release);
+      rw c.release_kmh_at-release_kmh.ensures
+      (release_speed_in_range c.self.inside.braking c.self.inside.authority c.self.inside.kept.release c.max_mm-front.result c.self.invariant.kept.release);
 }

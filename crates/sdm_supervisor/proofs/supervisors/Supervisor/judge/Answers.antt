@@ -2,15 +2,15 @@
 use Rattle.std.proofs.Common.{◌≡◌, Some, ◌∙◌, ap, sym, subst}
 use Rattle.std.specs.Prelude.{◌==◌}
 use Rattle.sdm_rules.specs.Supervision.{Supervision, situation_of, commands_in, row_of, after_reading}
-use Rattle.sdm_supervisor.specs.Situations.{IsFoundAt, row_found}
+use Rattle.sdm_supervisor.specs.Findings.{IsFoundAt, row_found}
 use Rattle.sdm_supervisor.proofs.CycleLaws.{held_is, taken}
 use Rattle.sdm_supervisor.proofs.FindLaws.{state_of}
-use Rattle.sdm_supervisor.proofs.SituationLaws.{row_is}
+use Rattle.sdm_supervisor.proofs.FindingLaws.{row_is}
 use Rattle.sdm_supervisor.proofs.supervisors.Supervisor.judge.Goals as goal
 
 module _ (c : goal.After-row) where
   abbrev state : Supervision
-  state = state_of c.self.inside.line c.self.inside.authority c.self.inside.profile c.self.inside.last_time c.self.inside.held
+  state = state_of c.self.inside.braking c.self.inside.authority c.self.inside.profile c.self.inside.last_time c.self.inside.held
 
   same : state ≡ c.args.self.now
   same = c.self.view_is
@@ -18,7 +18,7 @@ module _ (c : goal.After-row) where
   found : IsFoundAt state c.args.reading.now c.find-found.result
   found = subst (λ (s : Supervision). IsFoundAt s c.args.reading.now c.find-found.result) (sym same) c.find-found.ensures.found
 
-  held : c.next-held.result ≡ commands_in state.line state.commands c.args.reading.now (situation_of state c.args.reading.now)
+  held : c.next-held.result ≡ commands_in state.train_and_track state.commands c.args.reading.now (situation_of state c.args.reading.now)
   held =
       held_is state c.args.reading.now c.find-found.result found c.next-held.result c.triggers.result c.state.result (c.notches.result == 0) c.has_early_release.result
       c.triggers.ensures c.state.ensures (ap (λ n. n == 0) (c.notches.ensures.value ∙ found.speed)) c.has_early_release.ensures c.next-held.ensures

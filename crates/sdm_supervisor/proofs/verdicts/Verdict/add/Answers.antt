@@ -12,7 +12,7 @@ use Rattle.sdm_supervisor.proofs.verdicts.Verdict.add.Goals.{then-self, else-sel
 
 pub returns-then-lt : goal.returns-then-lt
 returns-then-lt c =
-    let d = c.args.line.now in
+    let d = c.args.braking.now in
     let r = c.args.asked.now.reading.now in
     let t = c.args.kept.now.target in
     let slower : r.speed < target_speed t = subst (λ (n : ℕ). r.speed < n) c.requires.kept.speeds.permitted (grind (arith, nat_tests)) in
@@ -22,7 +22,7 @@ returns-then-lt c =
 
 pub returns-then-not-is_past : goal.returns-then-not-is_past
 returns-then-not-is_past c =
-    let d = c.args.line.now in
+    let d = c.args.braking.now in
     let r = c.args.asked.now.reading.now in
     let t = c.args.kept.now.target in
     let reached : target_speed t ≤ r.speed = subst (λ (n : ℕ). n ≤ r.speed) c.requires.kept.speeds.permitted (grind (arith, nat_tests)) in
@@ -33,7 +33,7 @@ returns-then-not-is_past c =
 
 pub returns : goal.returns
 returns c =
-    let d = c.args.line.now in
+    let d = c.args.braking.now in
     let r = c.args.asked.now.reading.now in
     let t = c.args.kept.now.target in
     let l = limits_of computed d r t in

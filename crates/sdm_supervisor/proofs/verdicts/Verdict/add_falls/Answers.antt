@@ -8,7 +8,7 @@ use Rattle.sdm_supervisor.proofs.verdicts.Verdict.add_falls.Goals as goal
 
 pub loop-fall-preserved : goal.loop-fall-preserved
 loop-fall-preserved c =
-    said_more c.args.line.now c.args.asked.now.reading.now c.args.falls.now c.loop-fall.fall-index c.fall-item.result _ _ c.loop-fall-test.true c.fall-item.is c.loop-fall.invariant (rw c.deref.ensures at c.add.ensures)
+    said_more c.args.braking.now c.args.asked.now.reading.now c.args.falls.now c.loop-fall.fall-index c.fall-item.result _ _ c.loop-fall-test.true c.fall-item.is c.loop-fall.invariant (rw c.deref.ensures at c.add.ensures)
 
 pub returns : goal.returns
-returns c = c.loop-fall.invariant ∙ ap (λ ks. verdict_of c.args.line.now c.args.asked.now.reading.now (map target_of ks)) (take_all c.loop-fall.fall-index c.args.falls.now c.loop-fall-test.false)
+returns c = c.loop-fall.invariant ∙ ap (λ ks. verdict_of c.args.braking.now c.args.asked.now.reading.now (map target_of ks)) (take_all c.loop-fall.fall-index c.args.falls.now c.loop-fall-test.false)

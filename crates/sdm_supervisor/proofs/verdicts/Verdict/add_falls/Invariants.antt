@@ -5,4 +5,4 @@ use Rattle.sdm_supervisor.specs.Verdicts.{verdict_of}
 use Rattle.sdm_supervisor.proofs.verdicts.Verdict.add_falls.Given as goal
 
 abbrev pub invariant-loop-fall : goal.invariant-loop-fall
-invariant-loop-fall l = l.self ≡ verdict_of l.line l.asked.reading.now (map target_of (take l.fall-index l.falls))
+invariant-loop-fall l = l.self ≡ verdict_of l.braking l.asked.reading.now (map target_of (take l.fall-index l.falls))

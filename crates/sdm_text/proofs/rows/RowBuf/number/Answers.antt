@@ -6,9 +6,9 @@ use Rattle.std.proofs.Math.Seq.{take-append-add}
 use Rattle.std.proofs.lemmas.List.{take-append-le, take-take}
 use Rattle.sdm_text.proofs.rows.RowBuf.number.Goals as goal
 
--- the front of the copied bytes is put
-front_put : (bytes copied rest : List ℕ) (len most k : ℕ) → len ≤ length bytes → k ≤ length copied → most ≡ len + k → take most (take len bytes ++ (copied ++ rest)) ≡ take len bytes ++ take k copied
-front_put bytes copied rest len most k within few is =
+-- a prefix of the copied bytes is put
+prefix_put : (bytes copied rest : List ℕ) (len most k : ℕ) → len ≤ length bytes → k ≤ length copied → most ≡ len + k → take most (take len bytes ++ (copied ++ rest)) ≡ take len bytes ++ take k copied
+prefix_put bytes copied rest len most k within few is =
     let at : most ≡ length (take len bytes) + k = omega (arith, length-take len bytes) in
     rw at (take-append-add (take len bytes) (copied ++ rest) k ∙ ap (λ (t : List ℕ). take len bytes ++ t) (take-append-le k copied rest few))
 
@@ -21,4 +21,4 @@ returns c =
     let long : start + length (signed_decimal c.args.n) ≡ 20 = rw number at c.write_number-start.ensures.start in
     let text : take (20 - start) (drop start c.write_number-start.new.text) ≡ signed_decimal c.args.n = rw number at c.write_number-start.ensures.text in
     let is : take (20 - start) copied ≡ signed_decimal c.args.n = rw c.copy_from_slice.ensures.after (take-take (20 - start) _ _ (omega arith) ∙ text) in
-    front_put row.bytes copied _ row.len (row.len + 20 - start) (20 - start) (omega (arith, c.self.invariant)) (omega (arith, c.copy_from_slice.ensures.len)) (omega arith) ∙ rw (is, c.self.view_is) refl
+    prefix_put row.bytes copied _ row.len (row.len + 20 - start) (20 - start) (omega (arith, c.self.invariant)) (omega (arith, c.copy_from_slice.ensures.len)) (omega arith) ∙ rw (is, c.self.view_is) refl

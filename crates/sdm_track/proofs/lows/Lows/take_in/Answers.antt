@@ -14,6 +14,6 @@ loop-self-preserved c = goes c.args.entries.now c.args.window.rear (c.args.windo
 
 pub returns : goal.returns
 returns c =
-    let place = c.args.window.front + 1 in
+    let index = c.args.window.front + 1 in
     let end : c.args.window.front + 2 ≡ c.args.window.front + 1 + 1 = omega arith in
-    rw (end, c.in_ok-push_back.ensures.items) (comes_in c.args.entries.now c.args.window.rear place _ (omega arith) (sym c.loop-self-test.ensures) c.loop-self.invariant)
+    rw (end, c.in_ok-push_back.ensures.items) (comes_in c.args.entries.now c.args.window.rear index _ (omega arith) (sym c.loop-self-test.ensures) c.loop-self.invariant)

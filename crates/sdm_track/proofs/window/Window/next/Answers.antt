@@ -1,4 +1,4 @@
--- At the next border an entry comes under the front end, or leaves the rear end, or both.
+-- At the next change an entry comes under the front end, or leaves the rear end, or both.
 use Rattle.std.proofs.Common.{◌+◌, arith}
 use Rattle.std.proofs.lemmas.Int.{ints}
 use Rattle.sdm_track.specs.Windows.{level}

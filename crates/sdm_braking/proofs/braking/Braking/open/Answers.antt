@@ -1,0 +1,28 @@
+-- The train and the track are within their ranges, and the slopes of each kind were accepted in turn.
+use Rattle.sdm_decel.specs.Slopes.{train_and_track_from}
+use Rattle.sdm_braking.specs.Braking.{IsSupervisable}
+use Rattle.sdm_laws.proofs.Decided.{all_kinds}
+use Rattle.sdm_braking.proofs.braking.Braking.open.Goals as goal
+
+module _ (c : goal.After-length_cm-length) where
+  accepted : IsSupervisable (train_and_track_from c.args.train c.args.national c.args.track)
+  accepted = record {
+    train = c.band_count-bands.ensures.accepted;
+    track = c.length_cm-length.ensures.in_range;
+    usable = all_kinds _ c.in_ok-safe.ensures.accepted c.in_ok-expected.ensures.accepted c.in_ok-normal.ensures.accepted;
+  }
+
+pub invariant_of-result : goal.invariant_of-result
+invariant_of-result c = (
+  accepted c,
+  record {
+    safe_is = c.in_ok-safe.ensures.slopes;
+    expected_is = c.in_ok-expected.ensures.slopes;
+    normal_is = c.in_ok-normal.ensures.slopes;
+    times_are = c.times_of-times.ensures.value;
+    in_range = c.times_of-times.ensures.range;
+  },
+)
+
+pub returns-clause-accepted : goal.returns-clause-accepted
+returns-clause-accepted c = accepted c

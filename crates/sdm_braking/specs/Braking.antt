@@ -1,0 +1,36 @@
+-- The data of a journey beside the slope maps that they give (own).
+use Rattle.std.specs.Prelude.{◌≡◌, ⊤}
+use Rattle.sdm_rules.specs.declared.authorities.Authority.{Authority}
+use Rattle.sdm_rules.specs.declared.data.SlopeKind.TheVariants.{Safe, Expected, Normal}
+use Rattle.sdm_rules.specs.declared.data.Times.{Times}
+use Rattle.sdm_rules.specs.declared.faults.OpenFault.{OpenFault}
+use Rattle.sdm_rules.specs.declared.faults.OpenFault.TheVariants.{TooWeak, TooVaried, BadAuthority, Memory}
+use Rattle.sdm_rules.specs.Slopes.{SlopeMap, meaning_of}
+use Rattle.sdm_rules.specs.Data.{TrainAndTrack}
+use Rattle.sdm_rules.specs.Decelerations.{slopes_of}
+use Rattle.sdm_rules.specs.Reaction.{reaction_times}
+use Rattle.sdm_rules.specs.Opening.{HasAcceptedSlopes, IsOpenFault}
+use Rattle.sdm_train.specs.Trains.{IsTrain}
+use Rattle.sdm_track.specs.Ranges.{IsTrack}
+use Rattle.sdm_limits.specs.Ranges.{AreTimes}
+
+-- data that supervision accepts: a train and a track within their ranges, and slopes of all kinds that curves can stand on (own)
+pub record IsSupervisable (d : TrainAndTrack) : Type 0 where
+  pub train : IsTrain d.train
+  pub track : IsTrack d.track
+  pub usable : HasAcceptedSlopes d
+
+-- the slope maps and the times of reaction are those of the data (own)
+pub record IsBrakingOf (d : TrainAndTrack) (safe expected normal : SlopeMap) (times : Times) : Type 0 where
+  pub safe_is : meaning_of safe ≡ slopes_of Safe d
+  pub expected_is : meaning_of expected ≡ slopes_of Expected d
+  pub normal_is : meaning_of normal ≡ slopes_of Normal d
+  pub times_are : times ≡ reaction_times d
+  pub in_range : AreTimes times
+
+-- the first fault of an opening; want of memory may come at any time (own)
+abbrev pub IsRefusal : TrainAndTrack → Authority → OpenFault → Type 0
+IsRefusal d a (TooWeak kind band cell slope) = IsOpenFault d a (TooWeak kind band cell slope)
+IsRefusal d a (TooVaried kind band least greatest) = IsOpenFault d a (TooVaried kind band least greatest)
+IsRefusal d a (BadAuthority fault) = IsOpenFault d a (BadAuthority fault)
+IsRefusal d a Memory = ⊤

@@ -1,0 +1,244 @@
+//! How a train is braked on its track: its data with what is found from them once, at the opening: the slope maps of the three kinds and
+//! the times of reaction.
+
+ghost use Rattle.std.specs.Prelude.{◌≡◌, ◌≤◌, ◌&&◌, pos, unsigned_abs, IfOk, IfErr};
+ghost use Rattle.sdm_rules.specs.declared.authorities.Authority.{Authority};
+ghost use Rattle.sdm_rules.specs.declared.data.SlopeKind.TheVariants.{Safe, Expected, Normal};
+ghost use Rattle.sdm_rules.specs.Opening.{IsAcceptedKind, AreBefore};
+ghost use Rattle.sdm_rules.specs.Data.{TrainAndTrack};
+ghost use Rattle.sdm_rules.specs.Decelerations.{slopes_of};
+ghost use Rattle.sdm_rules.specs.Reaction.{reaction_times, service_in_use, v_delta0};
+ghost use Rattle.sdm_rules.specs.Slopes.{meaning_of};
+ghost use Rattle.sdm_rules.specs.Ranges.{longest_train, top_kmh};
+ghost use Rattle.sdm_decel.specs.Slopes.{train_and_track_from, IsFaultOfKind};
+ghost use Rattle.sdm_limits.specs.Ranges.{AreTimes};
+ghost use Rattle.sdm_braking.specs.Braking.{IsSupervisable, IsRefusal};
+
+use sdm_curve::{BandMap, CurveFault};
+use sdm_decel::slope_map;
+use sdm_limits::OfTrain;
+use sdm_national::National;
+use sdm_num::Speed;
+use sdm_rules::{OpenFault, SlopeKind, Times};
+use sdm_track::Track;
+use sdm_train::Train;
+use std::alloc::Global;
+use std::marker::Model;
+
+/// The data of a journey, all accepted, with their slope maps and times of reaction. (SUBSET-026-3 3.13.2)
+#[derive(Drop)]
+pub struct Braking {
+    train: Train,
+    national: National,
+    track: Track,
+    safe: BandMap,
+    expected: BandMap,
+    normal: BandMap,
+    times: Times,
+}
+
+impl Model for Braking {
+    ghost use Rattle.sdm_rules.specs.Data.{TrainAndTrack};
+    ghost use Rattle.sdm_decel.specs.Slopes.{train_and_track_from};
+    ghost use Rattle.sdm_braking.specs.Braking.{IsBrakingOf, IsSupervisable};
+
+    ghost Value = { TrainAndTrack };
+
+    ghost view = { λ l. train_and_track_from l.train l.national l.track };
+
+    ghost invariant = { λ l. IsSupervisable (train_and_track_from l.train l.national l.track) × IsBrakingOf (train_and_track_from l.train l.national l.track) l.safe l.expected l.normal l.times };
+}
+
+/// What the opening says of a fault of the slopes of a kind.
+fn refusal(kind: SlopeKind, fault: CurveFault) -> OpenFault
+    ensures { (d : TrainAndTrack) (a : Authority) → AreBefore kind d → IsFaultOfKind kind d fault → IsRefusal d a result }
+{
+    match fault {
+        CurveFault::TooWeak { band, cell, slope } => OpenFault::TooWeak {
+            kind,
+            band,
+            cell,
+            slope,
+        },
+        CurveFault::TooVaried {
+            band,
+            least,
+            greatest,
+        } => OpenFault::TooVaried {
+            kind,
+            band,
+            least,
+            greatest,
+        },
+        CurveFault::Memory => OpenFault::Memory,
+    }
+}
+
+/// The map of a kind, or why the opening is refused; the slopes of the kinds before it are accepted. (SUBSET-026-3 3.13.6)
+fn map_of(
+    alloc: Global,
+    kind: SlopeKind,
+    train: &Train,
+    national: &National,
+    track: &Track,
+) -> Result<BandMap, OpenFault>
+    requires { AreBefore kind (train_and_track_from train.now national.now track.now) }
+    ensures slopes { IfOk result (λ m. meaning_of m ≡ slopes_of kind (train_and_track_from train.now national.now track.now)) }
+    ensures accepted { IfOk result (λ _. IsAcceptedKind kind (train_and_track_from train.now national.now track.now)) }
+    ensures refused { IfErr result (λ fault. (a : Authority) → IsRefusal (train_and_track_from train.now national.now track.now) a fault) }
+{
+    match slope_map(alloc, kind, train, national, track) {
+        Ok(map) => Ok(map),
+        Err(fault) => Err(refusal(kind, fault)),
+    }
+}
+
+/// Whether the service brake is in use: the train has one, and the national values permit it. (SUBSET-026-3 3.13.9.3; own)
+fn is_service_in_use(train: &Train, national: &National) -> bool
+    ensures { result ≡ (train.now.service_brake && national.now.service_in_target) }
+{
+    train.service_brake() && national.service_in_target()
+}
+
+/// The times of reaction of the data. (SUBSET-026-3 3.13.9.3)
+#[tactic(auto, unfolding(sdm_rules::specs::Reaction::reaction_times))]
+fn times_of(train: &Train, national: &National, track: &Track) -> Times
+    ensures value { result ≡ reaction_times (train_and_track_from train.now national.now track.now) }
+    ensures range { AreTimes result }
+{
+    Times::of(
+        train.traction_cutoff_time() as u32,
+        train.traction_cutoff_interface(),
+        train.emergency_time() as u32,
+        train.service_time() as u32,
+        is_service_in_use(train, national),
+    )
+}
+
+impl Braking {
+    /// The braking of these data, or the first fault of their slopes: of the safe, then of the expected, then of the normal ones. Takes
+    /// the memory of the maps.
+    pub fn open(
+        alloc: Global,
+        train: Train,
+        national: National,
+        track: Track,
+    ) -> Result<Braking, OpenFault>
+        ensures data { IfOk result (λ braking. braking ≡ train_and_track_from train national track) }
+        ensures accepted { IfOk result IsSupervisable }
+        ensures refused { IfErr result (λ fault. (a : Authority) → IsRefusal (train_and_track_from train national track) a fault) }
+    {
+        let safe = map_of(alloc, SlopeKind::Safe, &train, &national, &track)?;
+        let expected = map_of(alloc, SlopeKind::Expected, &train, &national, &track)?;
+        let normal = map_of(alloc, SlopeKind::Normal, &train, &national, &track)?;
+        let times = times_of(&train, &national, &track);
+        // `band_count` and `length_cm` say that the train and the track are within their ranges.
+        let _bands = train.band_count();
+        let _length = track.length_cm();
+        Ok(Braking {
+            train,
+            national,
+            track,
+            safe,
+            expected,
+            normal,
+            times,
+        })
+    }
+
+    /// The track.
+    pub fn track(&self) -> &Track
+        ensures value { result.now ≡ self.now.track }
+        ensures accepted { IsSupervisable self.now }
+    {
+        &self.track
+    }
+
+    /// The length of the track in cm.
+    pub fn track_cm(&self) -> u32
+        ensures value { pos result ≡ self.now.track.length_cm }
+        ensures accepted { IsSupervisable self.now }
+    {
+        self.track.length_cm()
+    }
+
+    /// The maximum train speed in km/h, 1 to 500.
+    pub fn max_speed_kmh(&self) -> u16
+        ensures value { result ≡ unsigned_abs self.now.train.max_speed }
+        ensures least { 1 ≤ result }
+        ensures greatest { result ≤ top_kmh }
+    {
+        self.train.max_speed() as u16
+    }
+
+    /// The train length in cm, 1 to 150,000.
+    pub fn train_cm(&self) -> u32
+        ensures value { pos result ≡ self.now.train.length_cm }
+        ensures least { 1 ≤ result }
+        ensures greatest { result ≤ longest_train }
+    {
+        self.train.length() as u32
+    }
+
+    /// The map of A_safe, on which EBDs stand.
+    pub fn safe(&self) -> &BandMap
+        ensures { meaning_of result.now ≡ slopes_of Safe self.now }
+    {
+        &self.safe
+    }
+
+    /// The map of A_expected, on which SBDs stand.
+    pub fn expected(&self) -> &BandMap
+        ensures { meaning_of result.now ≡ slopes_of Expected self.now }
+    {
+        &self.expected
+    }
+
+    /// The map of A_normal_service, on which guidance curves stand.
+    pub fn normal(&self) -> &BandMap
+        ensures { meaning_of result.now ≡ slopes_of Normal self.now }
+    {
+        &self.normal
+    }
+
+    /// The times of reaction.
+    pub fn times(&self) -> &Times
+        ensures value { result.now ≡ reaction_times self.now }
+        ensures range { AreTimes result.now }
+    {
+        &self.times
+    }
+
+    /// Whether the service brake is in use. (SUBSET-026-3 3.13.9.3; own)
+    pub fn is_service_in_use(&self) -> bool
+        ensures { result ≡ service_in_use self.now }
+    {
+        is_service_in_use(&self.train, &self.national)
+    }
+
+    /// Whether guidance curves are permitted (Q_NVGUIPERM).
+    pub fn has_guidance(&self) -> bool
+        ensures { result ≡ self.now.national.guidance }
+    {
+        self.national.guidance()
+    }
+
+    /// Whether the emergency brake may be released before standstill (Q_NVEMRRLS).
+    pub fn has_early_release(&self) -> bool
+        ensures { result ≡ self.now.national.early_release }
+    {
+        self.national.early_release()
+    }
+
+    /// V_delta0: by how much the true speed may be above the estimated one; 0 where the compensation is inhibited.
+    /// (SUBSET-026-3 3.13.9.3.2)
+    pub fn v_delta0(&self, under: Speed) -> Speed
+        ensures { result ≡ v_delta0 self.now under }
+    {
+        if self.national.inhibit_under_reading() {
+            Speed::new(0)
+        } else {
+            under
+        }
+    }
+}
