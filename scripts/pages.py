@@ -1,6 +1,7 @@
 """A part of a page that a script writes: it is printed, put between its marks, or compared with what stands there, to the byte."""
 
 import itertools
+import os
 import sys
 from dataclasses import dataclass
 from pathlib import Path
@@ -41,10 +42,11 @@ class Part:
         """What is wrong with the page: its marks, or the first lines that aren't as they would be written."""
         page, text = self.page.relative_to(ROOT), self.text()
         if not self.has_marks(text):
-            return [f"{page}: the marks of what {self.writer} writes are gone, or doubled"]
+            return [f"{page}: the marks where {self.writer} puts its part are gone, or doubled"]
         pairs = itertools.zip_longest(text.split("\n"), self.written(text, part).split("\n"))
         differ = [(number, *pair) for number, pair in enumerate(pairs, 1) if pair[0] != pair[1]]
-        return [f"{page}:{number}: stale, run {self.writer}: has {shown(old)}, not {shown(new)}" for number, old, new in differ[:SHOWN]]
+        stale = f"stale, run {self.writer}"
+        return [f"{page}:{number}: {stale}: has {shown(old, new)}, not {shown(new, old)}" for number, old, new in differ[:SHOWN]]
 
     def checked(self, part: str, more: list[str]) -> int:
         """Tells what is wrong with the page, and more that is; the exit status."""
@@ -64,9 +66,12 @@ class Part:
         return 0
 
 
-def shown(line: str | None) -> str:
-    """The beginning of a line, for a message."""
-    return "no line" if line is None else f"{line[:60]!r}"
+def shown(line: str | None, other: str | None) -> str:
+    """A line from a little before the place where another differs from it, for a message."""
+    if line is None:
+        return "no line"
+    start = max(len(os.path.commonprefix([line, other or ""])) - 20, 0)
+    return repr(("…" if start else "") + line[start : start + 60])
 
 
 def told(name: str, count: int, faults: list[str]) -> int:

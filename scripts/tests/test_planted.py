@@ -27,7 +27,7 @@ PLANTED = [
     ("clauses", [Fault(DEFINITIONS, r"\| as 3\.13\.10 \|", "| as 3.13.11 |", STALE)]),
     ("crates", [Fault("crates.txt", "^sdm_limits: ", "sdm_limits: itoa ", STALE)]),
     ("crates", [Fault("docs/ARCHITECTURE.md", r"^(\| `sdm_limits` \|)[^|]*\|", r"\1  |", "says nothing of what sdm_limits does")]),
-    ("crates", [Fault("docs/ARCHITECTURE.md", r"^<!-- The table ends here. -->\n", "", "the marks of what")]),
+    ("crates", [Fault("docs/ARCHITECTURE.md", r"^<!-- The table ends here. -->\n", "", "puts its part are gone")]),
     ("definitions", [Fault(DEFINITIONS, r"^(\| `\w+` .*\n)(\| `\w+` .*\n)", r"\2\1", STALE)]),
     ("definitions", [Fault(DEFINITIONS, r"^Own because this is the program's interface\.\n", "", STALE)]),
     ("definitions", [
