@@ -29,11 +29,10 @@ PROGRESS = 2000  # journeys between two lines of progress
 
 def own_tests():
     """Whether the model passes its own tests."""
-    words = [sys.executable, "-B", "-m", "unittest", "discover", "-s", "model/tests", "-t", "."]
-    done = subprocess.run(words, cwd=TOP / "tools", capture_output=True, text=True)
-    print("the model's own tests: " + (done.stderr.splitlines() or ["nothing was told"])[-1])
+    done = subprocess.run(["scripts/unit-tests", "tools", "model/tests"], cwd=TOP, capture_output=True, text=True)
+    print("the model's own tests: " + (done.stdout.splitlines() or ["nothing was told"])[-1])
     if done.returncode:
-        print(done.stderr)
+        print(done.stdout)
     return done.returncode == 0
 
 

@@ -119,6 +119,16 @@ class Gate(OverACopy):
         (self.top / "scripts/check-links").unlink()
         self.assertIn("< scripts/check-links", self.told(".ci/run"))
 
+    def test_a_folder_without_tests_is_told(self):
+        for folder, script in (("tools/laboratory/tests", "scripts/check-laboratory"), ("tools/model/tests", "scripts/check-model")):
+            for path in (self.top / folder).glob("test_*.py"):
+                path.unlink()
+            copies.stand_in(self.top)
+            copies.marked_as_it_is(self.top)
+            copies.keep_examples(self.top, {"approach"})
+            with self.subTest(script):
+                self.assertIn("has no test", self.told(script, *(["--journeys", "1"] if "model" in script else [])))
+
     def test_setup_tells_what_it_can_not_install(self):
         tools = self.top / "tools-there"
         tools.mkdir()
