@@ -5,8 +5,8 @@
 //     FAULT_FILE    the file descriptor, for read and write
 //     FAULT_AT      the number, from 1, of the call that is faulted; 0 for every one; wanting for none
 //     FAULT_KIND    fail: the call fails with FAULT_ERROR; short: it moves at most one byte; interrupt: it fails with EINTR,
-//                   and the same call made again does not count; cut: the first call moves at most FAULT_AT bytes, and those
-//                   after it fail with FAULT_ERROR
+//                   and the same call made again does not count; cut: the calls move at most FAULT_AT bytes in sum, and
+//                   those after them fail with FAULT_ERROR
 //     FAULT_COUNTS  a file that takes the counts of all calls at the end
 #define _GNU_SOURCE
 #include <errno.h>
@@ -97,8 +97,11 @@ static long allowed(enum call which, int which_file, long *counts, size_t size) 
     counts[which_file]++;
     if (which != call || which_file != file || at < 0)
         return (long)size;
-    if (kind == CUT && counts[which_file] == 1)
-        return (long)size < at ? (long)size : at;
+    if (kind == CUT && at > 0) {
+        long most = (long)size < at ? (long)size : at;
+        at -= most;
+        return most;
+    }
     if (kind != CUT && at != 0 && at != counts[which_file])
         return (long)size;
     if (kind == SHORT)
