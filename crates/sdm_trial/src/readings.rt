@@ -21,6 +21,7 @@ pub struct Readings {
 
 impl Model for Readings {
     ghost use Rattle.std.specs.Prelude.{◌≡◌, ◌≤◌, ◌+◌};
+    ghost use Rattle.sdm_rules.specs.Records.{most_records};
     ghost use Rattle.sdm_rules.specs.Trial.{number_at};
     ghost use Rattle.sdm_trial.specs.Made.{MadeReadings};
 

@@ -28,6 +28,7 @@ pub struct Summary {
 
 impl Model for Summary {
     ghost use Rattle.std.specs.Prelude.{◌<◌, ◌≤◌, pos};
+    ghost use Rattle.sdm_rules.specs.Records.{most_records};
     ghost use Rattle.sdm_trial.specs.Summaries.{Counts};
 
     ghost Value = { Counts };
