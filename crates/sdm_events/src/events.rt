@@ -2,6 +2,7 @@
 //! function of its own.
 
 ghost use Rattle.std.specs.Prelude.{◌≡◌, ◌≤◌, ◌≤ℤ◌, pos, negsuc, drop, IfOk};
+ghost use Rattle.std.specs.Str.{bytes_eq};
 ghost use Rattle.csv.specs.Records.{fields_of};
 ghost use Rattle.sdm_num.specs.Readings.{reading_of};
 ghost use Rattle.sdm_events.specs.Journey.{IsInForm};
@@ -23,19 +24,32 @@ pub fn event_of(fields: &ByteRecord) -> Result<Event, EventFault>
     let Some(kind) = fields.get(0) else {
         return Err(EventFault::UnknownKind);
     };
-    if kind == b"read".as_slice() {
+    if is_kind(kind, b"read") {
         read_event(fields)
-    } else if kind == b"end".as_slice() {
+    } else if is_kind(kind, b"end") {
         end_event(fields)
-    } else if kind == b"limit".as_slice() {
+    } else if is_kind(kind, b"limit") {
         limit_event(fields)
-    } else if kind == b"restrict".as_slice() {
+    } else if is_kind(kind, b"restrict") {
         restrict_event(fields)
-    } else if kind == b"revoke".as_slice() {
+    } else if is_kind(kind, b"revoke") {
         revoke_event(fields)
     } else {
         Err(EventFault::UnknownKind)
     }
+}
+
+// A field is the name of a kind: as long, and beginning with it. At a name that stands here `starts_with` is a few compares, where
+// `==` of slices calls a loop.
+#[inline]
+#[tactic(auto, using(crate::proofs::Fields::same_text, crate::proofs::Fields::other_length))]
+fn is_kind(field: &[u8], kind: &[u8]) -> bool
+    ensures { result ≡ bytes_eq field.now kind.now }
+{
+    if field.len() != kind.len() {
+        return false;
+    }
+    field.starts_with(kind)
 }
 
 // `read`: an odometer reading.
