@@ -14,7 +14,7 @@ import specs
 from citations import Graph
 from evidence import Cases, Tests
 from pages import Part, told
-from specs import ROOT, meaning_of, source_of
+from specs import ROOT, meaning_of, source_from
 
 PART = Part(
     "definitions",
@@ -140,7 +140,7 @@ class Matrix:
         if where in self.reasons:
             out += ["", f"Own because {self.reasons[where]}."]
         out += ["", "| Definition | Source | Meaning | Contract | Shown by |", "|---|---|---|---|---|"]
-        return out + [self.line(d, source_of(d.comment) or source_of(head)) for d in specs.definitions(path)]
+        return out + [self.line(d, source_from(path, d)) for d in specs.definitions(path)]
 
     def tables(self):
         """The two parts of the document."""
@@ -170,9 +170,9 @@ def named_in(text):
 def comment_problems(matrix):
     """Definitions without a source or a comment, and files whose own definitions have no reason."""
     for path in specs.all_spec_files():
-        where, head, own = path.relative_to(ROOT).as_posix(), specs.head_of(path), False
+        where, own = path.relative_to(ROOT).as_posix(), False
         for definition in specs.definitions(path):
-            source = source_of(definition.comment) or source_of(head)
+            source = source_from(path, definition)
             own = own or "own" in (source or "")
             if not source:
                 yield f"{where}:{definition.line}: {definition.name} has no source"

@@ -128,6 +128,12 @@ def source_of(comment):
     return found[-1].strip() if found else None
 
 
+def source_from(path, definition):
+    """The source of a definition: what its comment names, or the file's head where that is own and names no clause."""
+    head = source_of(head_of(path))
+    return source_of(definition.comment) or (head if head and "SUBSET-026-3" not in head else None)
+
+
 def meaning_of(comment):
     """The comment without its source."""
     text = re.sub(r"\s+", " ", SOURCE.sub("", comment)).strip()
