@@ -11,8 +11,8 @@ ghost use Rattle.sdm_targets.specs.Lists.{IsTarget};
 ghost use Rattle.sdm_braking.specs.Asked.{IsAsked};
 ghost use Rattle.sdm_braking.specs.KeptCurves.{AreSpeedsOf};
 
-use crate::kept_targets::KeptTarget;
 use crate::braking::Braking;
+use crate::kept_targets::KeptTarget;
 use sdm_curve::AskedSpeed;
 use sdm_limits::BuildUp;
 use sdm_num::{Reading, Speed};

@@ -9,9 +9,9 @@ ghost use Rattle.sdm_speed.specs.Profiles.{ProfileData};
 ghost use Rattle.sdm_braking.specs.Kept.{IsKept};
 ghost use Rattle.sdm_braking.specs.KeptFalls.{AreOfProfileBefore};
 
+use crate::braking::Braking;
 use crate::kept_ends::KeptEnd;
 use crate::kept_falls::KeptFalls;
-use crate::braking::Braking;
 use crate::releases::Release;
 use sdm_num::NoMemory;
 use sdm_speed::{Changed, Profile};

@@ -12,8 +12,8 @@ ghost use Rattle.sdm_rules.specs.Ranges.{longest_track, top_kmh};
 ghost use Rattle.sdm_braking.specs.KeptCurves.{IsKeptAt, IsKeptEnd, brake_curve_of};
 ghost use Rattle.sdm_braking.specs.Braking.{IsSupervisable};
 
-use crate::kept_targets::KeptTarget;
 use crate::braking::Braking;
+use crate::kept_targets::KeptTarget;
 use sdm_curve::Curve;
 use sdm_num::Place;
 use sdm_targets::{Authority, Target, TargetKind};

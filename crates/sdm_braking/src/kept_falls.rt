@@ -16,8 +16,8 @@ ghost use Rattle.sdm_speed.specs.Zones.{IsFallInRange};
 ghost use Rattle.sdm_targets.specs.Lists.{falls_past, target_at, IsTarget};
 ghost use Rattle.sdm_braking.specs.KeptFalls.{at_fall, AreKeptFalls, AreOfProfileBefore, ArePartedPast, IsFallAt, IsKeptFall, IsNextUpTo, KeptFallsData, fall_of, first_cell};
 
-use crate::kept_targets::KeptTarget;
 use crate::braking::Braking;
+use crate::kept_targets::KeptTarget;
 use sdm_num::{NoMemory, Place};
 use sdm_rules::Fall;
 use sdm_speed::{Changed, MOST_RESTRICTIONS, Profile};

@@ -4,20 +4,20 @@
 #![tactic(auto)]
 
 pub mod asked;
+pub mod braking;
 pub mod kept;
 pub mod kept_ends;
 pub mod kept_falls;
 pub mod kept_targets;
 pub mod limits;
-pub mod braking;
 pub mod releases;
 pub mod speeds;
 
 pub use asked::AskedReading;
+pub use braking::Braking;
 pub use kept::Kept;
 pub use kept_ends::KeptEnd;
 pub use kept_falls::{KeptFall, KeptFalls};
 pub use kept_targets::KeptTarget;
-pub use braking::Braking;
 pub use releases::{Release, release_kmh_at};
 pub use speeds::SpeedLimits;

@@ -13,8 +13,8 @@ ghost use Rattle.sdm_braking.specs.Asked.{IsAsked};
 ghost use Rattle.sdm_braking.specs.KeptCurves.{IsCurveOn, IsKeptTarget, guide_at};
 
 use crate::asked::AskedReading;
-use crate::kept_targets::KeptTarget;
 use crate::braking::Braking;
+use crate::kept_targets::KeptTarget;
 use sdm_curve::Curve;
 use sdm_limits::{Limits, ebd_limits_at, sbd_limits};
 use sdm_num::Early;

@@ -13,8 +13,8 @@ ghost use Rattle.sdm_limits.specs.Sides.{place_of};
 ghost use Rattle.sdm_braking.specs.Releases.{IsReleaseOf, release_speed_at};
 ghost use Rattle.sdm_braking.specs.KeptCurves.{IsCurveOn, IsKeptEnd};
 
-use crate::kept_ends::KeptEnd;
 use crate::braking::Braking;
+use crate::kept_ends::KeptEnd;
 use sdm_curve::Curve;
 use sdm_num::{Early, Place, Speed};
 use sdm_release::release_start;

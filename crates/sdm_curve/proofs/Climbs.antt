@@ -56,7 +56,7 @@ climb_through on band foot p w v distance u d b z usable lt b_is z_is p_is above
 -- the square that is asked for lies in the band
 pub climb_end : (on : Slopes) (band : ℕ) (foot p : ℤ) (w v distance u d b z : ℕ) → IsUsable on → band < length on.uppers → b ≡ upper_square on 1 band → z ≡ v * v → p ≡ foot +ℤ neg_ℤ (pos distance) → u < b → z ≤ b →
     IsKnot on band p d (grain_energy on (z - u)) → IsClimb on band foot w v distance u →
-        foot +ℤ neg_ℤ (pos (distance + d)) ≡ stepped on foot w v
+    foot +ℤ neg_ℤ (pos (distance + d)) ≡ stepped on foot w v
 climb_end on band foot p w v distance u d b z usable lt b_is z_is p_is above within knot h =
     let left = length on.uppers - suc band in
     back_more foot distance d
@@ -66,7 +66,7 @@ climb_end on band foot p w v distance u d b z usable lt b_is z_is p_is above wit
 -- in the last band, which has no border
 pub climb_end_last : (on : Slopes) (band : ℕ) (foot p : ℤ) (w v distance u d z : ℕ) → IsUsable on → band ≡ length on.uppers → z ≡ v * v → p ≡ foot +ℤ neg_ℤ (pos distance) →
     IsKnot on band p d (grain_energy on (z - u)) → IsClimb on band foot w v distance u →
-        foot +ℤ neg_ℤ (pos (distance + d)) ≡ stepped on foot w v
+    foot +ℤ neg_ℤ (pos (distance + d)) ≡ stepped on foot w v
 climb_end_last on band foot p w v distance u d z usable last z_is p_is knot h =
     back_more foot distance d
     ∙ (sym (knot_back on band (foot +ℤ neg_ℤ (pos distance)) d (v * v - u) (usable.positive band (omega arith)) (rw (p_is, z_is) at knot)) ∙ h.same 0 (omega arith))
@@ -122,12 +122,12 @@ descent_through on band lower foot p w v distance u d b z usable e b_is z_is p_i
 -- the square that is asked for lies in the band
 pub descent_end : (on : Slopes) (band lower : ℕ) (foot p : ℤ) (w v distance u d b z : ℕ) → IsUsable on → band ≡ suc lower → b ≡ upper_square on 1 lower → z ≡ v * v → p ≡ foot +ℤ pos distance → b < u → b ≤ z →
     IsKnotPast on band p d (grain_energy on (u - z)) → IsDescent on band foot w v distance u →
-        foot +ℤ pos (distance + d) ≡ stepped on foot w v
+    foot +ℤ pos (distance + d) ≡ stepped on foot w v
 descent_end on band lower foot p w v distance u d b z usable e b_is z_is p_is below within knot h0 =
     let h = rw e at h0 in
     on_more foot distance d
     ∙ (sym (knot_forward on (suc lower) (foot +ℤ pos distance) d (u - v * v) (usable.positive (suc lower) h.known)
-        (rw (e, p_is, z_is) at knot))
+    (rw (e, p_is, z_is) at knot))
     ∙ (ap floor (sym (descend_stop to_grain on 1 lower (whole (foot +ℤ pos distance)) u (v * v) (omega arith) (omega arith))) ∙ h.same))
 
 -- in the first band

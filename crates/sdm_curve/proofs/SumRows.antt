@@ -38,10 +38,10 @@ sums_row starts slopes band n sums e h = record {
 -- the sum of the next segment is this one's and its energy
 pub sum_next : (starts : List ℤ) (slopes : List ℕ) (row i sum slope gap sum' : ℕ) → sum ≡ sum_before starts slopes row i → slope ≡ get_or slopes (row + i) 0 →
     segment_start starts (i + 1) ≡ segment_start starts i +ℤ pos gap → sum' ≡ sum + 27 * slope * gap →
-        sum' ≡ sum_before starts slopes row (i + 1)
+    sum' ≡ sum_before starts slopes row (i + 1)
 sum_next starts slopes row i sum slope gap sum' sum_is slope_is gap_is sum'_is =
     let length_is : segment_length starts i ≡ gap =
-        (let one : i + 1 ≡ suc i = omega arith in let e = rw one at gap_is in omega (arith, ints)) in
+    (let one : i + 1 ≡ suc i = omega arith in let e = rw one at gap_is in omega (arith, ints)) in
     let one : i + 1 ≡ suc i = omega arith in
     rw one (sum'_is ∙ (rw (sum_is, slope_is, sym length_is) (sym (sum-suc starts slopes row i))))
 

@@ -96,7 +96,7 @@ spot_of m band i rate level quotient place h known some rate_is low high place_i
     let distance : place +ℤ neg_ℤ (segment_start m.starts i) ≡ quotient = omega (arith, ints) in
     let distance' : (place +ℤ pos 1) +ℤ neg_ℤ (segment_start m.starts i) ≡ quotient +ℤ pos 1 = omega (arith, ints) in
     let value =
-        rw (distance, sym rate_is) at (integral_in_segment m band i place h known here (λ k l n. omega (arith, ints, later k l n))) in
+    rw (distance, sym rate_is) at (integral_in_segment m band i place h known here (λ k l n. omega (arith, ints, later k l n))) in
     let value' = rw (distance', sym rate_is) at (integral_in_segment m band i (place +ℤ pos 1) h known (λ q. omega (arith, ints, here q)) later) in
     record {
       last = record { low = omega (arith, ints, value, low); high = omega (arith, ints, value', high) };
@@ -116,7 +116,7 @@ spot_of m band i rate level quotient place h known some rate_is low high place_i
 -- at a level from 0 on
 pub spot_from_0 : (m : SlopeMap) (band i rate level sum grains : ℕ) (place : ℤ) → AreStarts m.starts → 0 < rate → rate ≡ 27 * slope_of m band i → IsLevelIn m band i level →
     sum ≡ sum_of m band i → grains ≡ (level - sum) / rate → place ≡ segment_start m.starts i +ℤ pos grains →
-        IsSpotAt m band i (pos level) place
+    IsSpotAt m band i (pos level) place
 spot_from_0 m band i rate level sum grains place h some rate_is at sum_at grains_is place_is =
     let low = at.low in
     let rest = div-add-mod' (level - sum) rate in

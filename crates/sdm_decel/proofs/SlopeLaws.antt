@@ -35,7 +35,7 @@ module _ (kind : SlopeKind) (train_and_track : TrainAndTrack) (d : MapData) (giv
   strong_at band cell lt h =
       let there = gives.slope band lt (pos cell) in
       subst (λ (n : ℕ). IsStrongSlope n (slope_at kind train_and_track band (pos cell))) gives.q
-          (subst (λ (z : ℤ). IsStrongSlope d.q z) (sym there) h)
+      (subst (λ (z : ℤ). IsStrongSlope d.q z) (sym there) h)
 
   strong : AreStrong d → opening.IsStrong kind train_and_track
   strong h = λ band cell lt. let known = band_known band lt in strong_at band cell known (strong_cells d band gives.starts (h band known) (pos cell))

@@ -42,8 +42,11 @@ pub distance_finer : (on : Slopes) (band k n n' : ℕ) (y x : ℤ) (d r : ℕ) �
     IsDistance on band n' (pos k *ℤ y) (pos k *ℤ x) (k * d) (k * r)
 distance_finer on band k n n' y x d r e n_pos h =
     let used = ap (λ (z : ℕ). k * z) h.used in
-    record { distance = ap (λ (z : ℤ). pos k *ℤ z) h.distance ∙ scale-+ℤ k y (pos d); used =
-        omega (arith, energy-finer on band n n' k d y e n_pos) }
+    record {
+      distance = ap (λ (z : ℤ). pos k *ℤ z) h.distance ∙ scale-+ℤ k y (pos d);
+      used =
+          omega (arith, energy-finer on band n n' k d y e n_pos);
+    }
 
 -- two distances to one end: what lies between their beginnings
 pub distance_between_starts : (on : Slopes) (band n : ℕ) (y y' x : ℤ) (d d' r r' : ℕ) → IsPositive on band → r' ≤ r →

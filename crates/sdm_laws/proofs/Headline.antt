@@ -26,8 +26,12 @@ nearness kind d bands accepted f w v = (rounding (slopes_of kind d) f w v (accep
 pub limits : LawOfLimits
 limits s r o =
     let usable = open_usable s o in
-    record { limits = λ t. limits_near s.train_and_track usable r t; release_start = start_near s.train_and_track usable; fine =
-        omega arith }
+    record {
+      limits = λ t. limits_near s.train_and_track usable r t;
+      release_start = start_near s.train_and_track usable;
+      fine =
+          omega arith;
+    }
 
 pub machines : LawOfMachines
 machines s r o = keeps_order s r (open_usable s o)

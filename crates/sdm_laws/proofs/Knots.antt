@@ -88,7 +88,7 @@ climb_knot on left band at d u z some lt further knot =
 pub descend_knot : (on : Slopes) (band : ℕ) (at : ℤ) (d u z : ℕ) → IsPositive on (suc band) → upper_square on 1 band < u →
     z < upper_square on 1 band → IsKnotPast on (suc band) at d (grain_energy on (u - upper_square on 1 band)) →
     forward_through_bands to_grain on 1 (suc band) (whole at) u z ≡ forward_through_bands to_grain on 1 band (whole (at +ℤ pos d))
-        (upper_square on 1 band) z
+    (upper_square on 1 band) z
 descend_knot on band at d u z some lt further knot =
     descend_on to_grain on 1 band (whole at) u z lt further
     ∙ ap (λ (p : ℤ). forward_through_bands to_grain on 1 band (whole p) (upper_square on 1 band) z) (knot_forward on (suc band) at d (u - upper_square on 1 band) some knot)

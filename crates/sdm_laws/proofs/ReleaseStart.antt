@@ -50,7 +50,7 @@ begins_release_monitoring_at s r eoa svl release near e some =
     let n = start_near s.train_and_track near eoa svl release in
     let b = is_indicated (limits_of computed s.train_and_track r) (situation_of s r) in
     let is = ap (λ (a : Authority). is_some (release_of s.train_and_track a r.max)) e ∙ some_if
-        (nat_lt 0 release && is_past 0 r.max low) release in
+    (nat_lt 0 release && is_past 0 r.max low) release in
     record {
       always = λ past. state_by (release_of s.train_and_track s.authority r.max) b (is ∙ and_from _ _ (lt-ltb 0 release some) ((exact_sooner low exact n).passed r.max past));
       only = λ state. (low_sooner low exact n).passed r.max (and_parts (nat_lt 0 release) (is_past 0 r.max low) (sym is ∙ state_only (release_of s.train_and_track s.authority r.max) b state)).1;

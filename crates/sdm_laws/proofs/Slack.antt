@@ -79,7 +79,7 @@ module _ (on : Slopes) (s k : ℕ) (s_pos : 0 < s) (fair : AreFair on k) where
   -- back through the bands
   climb_past : (left band : ℕ) (x x' : Fraction) (u z e : ℕ) → band + left ≤ length on.uppers → IsPastBy x x' e →
       IsPastBy (back_through_bands as_is on s left band x u z) (whole (floor (back_through_bands to_grain on s left band x' u z)))
-          (slack_after k (suc left) e)
+      (slack_after k (suc left) e)
   climb_past zero band x x' u z e known past = past_floor _ _ (k * e) (back_past band (z - u) x x' e (omega arith) past)
   climb_past (suc left) band x x' u z e known past =
       let upper = upper_square on s band in
@@ -99,7 +99,7 @@ module _ (on : Slopes) (s k : ℕ) (s_pos : 0 < s) (fair : AreFair on k) where
   -- and forward
   descend_past : (band : ℕ) (x x' : Fraction) (u z e : ℕ) → band ≤ length on.uppers → IsPastBy x x' e →
       IsPastBy (forward_through_bands as_is on s band x u z) (whole (floor (forward_through_bands to_grain on s band x' u z)))
-          (slack_after k (suc band) e)
+      (slack_after k (suc band) e)
   descend_past zero x x' u z e known past = past_floor _ _ (k * e) (forward_past zero (u - z) x x' e known past)
   descend_past (suc band) x x' u z e known past =
       let upper = upper_square on s band in

@@ -37,7 +37,7 @@ forward slopes scale band (suc fuel) place energy =
     let rate = 27 * slopes.slope band cell in
     let distance = unsigned_abs (cell_start (scale * place.m) (cell +ℤ pos 1) +ℤ neg_ℤ place.n) in
     let next = forward slopes scale band fuel
-        (record { n = cell_start (scale * place.m) (cell +ℤ pos 1); m = place.m }) (energy - rate * distance) in
+    (record { n = cell_start (scale * place.m) (cell +ℤ pos 1); m = place.m }) (energy - rate * distance) in
     if nat_le energy (rate * distance) then record { n = pos rate *ℤ place.n +ℤ pos energy; m = rate * place.m } else next
 
 -- the energy of a change of the square by `change`, for each part of a grain (own unit)

@@ -103,4 +103,4 @@ unfoldable pub release_start : CurvePlaces → TrainAndTrack → ℕ → ℕ →
 release_start P d eoa svl release =
     let v = notches release in
     release_start_at (reaction_times d) v (P (slopes_of Safe d) (place_of_cell (pos svl)) 0 v)
-        (P (slopes_of Expected d) (place_of_cell (pos eoa)) 0 v)
+    (P (slopes_of Expected d) (place_of_cell (pos eoa)) 0 v)

@@ -15,7 +15,7 @@ use Rattle.sdm_rules.specs.Supervision.{Supervision, situation_of, commands_in, 
 unfoldable pub machine_after : CurvePlaces → ℕ → Supervision → OdometerReading → Bool → Bool
 machine_after P shift s r held =
     emergency_after held (triggers_of (limits_of P s.train_and_track r) shift (situation_of s r))
-        (r.speed == 0) s.train_and_track.national.early_release
+    (r.speed == 0) s.train_and_track.national.early_release
 
 -- the exact machine: where it commands the emergency brake, the supervisor must (own)
 abbrev pub must_after : Supervision → OdometerReading → Bool → Bool

@@ -31,7 +31,7 @@ from_rule fault (Some f) kept rest y e = cc
 abbrev after_national_rule : TrainData → NationalFields → TrackData → Authority → Result (TrainAndTrack × Authority) DataFault
 after_national_rule train national track authority =
     unless_broken data_faults.Track (track_fault track) track >>= λ _. Ok
-        (record { train = train; national = national; track = track }, authority)
+    (record { train = train; national = national; track = track }, authority)
 
 abbrev after_train_rule : TrainData → NationalFields → TrackData → Authority → Result (TrainAndTrack × Authority) DataFault
 after_train_rule train national track authority = unless_broken data_faults.National (national_fault national) national >>= λ _. after_national_rule train national track authority

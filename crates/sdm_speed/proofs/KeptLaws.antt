@@ -50,7 +50,7 @@ module _ (f : Inside) (kept : IsKeptProfile f) where
       lowest_limit-append f.max_speed cell statics (held_zones_of f)
       ∙ ap (λ n. lowest_limit n cell statics) (sym (lowest_by_identity f.max_speed cell (pos f.length_cm) f.held.items kept.distinct))
       ∙ sym (lowest_limit-append f.max_speed cell statics
-          (map (zone_of (pos f.length_cm)) (finite.values (profile_data_of f).restrictions)))
+      (map (zone_of (pos f.length_cm)) (finite.values (profile_data_of f).restrictions)))
 
   zones_mrsp : zone_limits f.max_speed zones ≡ mrsp_of (profile_data_of f)
   zones_mrsp = λ k cell. zones_at cell k

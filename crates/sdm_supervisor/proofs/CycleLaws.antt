@@ -29,7 +29,7 @@ module _ (s : Supervision) (r : OdometerReading) where
   pub held_is : (found : Findings) → IsFoundAt s r found → (held : Held) (t : Triggers) (state : State) (stopped early : Bool) →
       t ≡ triggers_found found → state ≡ state_found found → stopped ≡ (r.speed == 0) → early ≡ s.train_and_track.national.early_release →
       held ≡ commands_after s.commands t state stopped early found.in_use →
-          held ≡ commands_in s.train_and_track s.commands r (situation_of s r)
+      held ≡ commands_in s.train_and_track s.commands r (situation_of s r)
   held_is found is held t state stopped early t_is state_is stopped_is early_is e =
       e ∙ (λ k. commands_after s.commands (t_is k) (state_is k) stopped (early_is k) found.in_use) ∙ commands_are s r found is s.commands stopped stopped_is
 

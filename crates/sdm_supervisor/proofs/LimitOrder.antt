@@ -64,7 +64,7 @@ module _ (front z : ℤ) (times : Times) (v : ℕ) (ebi : Option Fraction) (of_e
       of_driver None driver driver
   of_indication (Some g) ahead =
       let permitted = of_less front (lesser (whole g) (less (whole z) (distance_at v driver_time)))
-          (distance_at v times.indication) ahead in
+      (distance_at v times.indication) ahead in
       of_driver (Some (whole g)) (of_lesser front g (z +ℤ neg_ℤ (pos (distance_at v driver_time * 1))) permitted) permitted
 
 -- ---- the limits of a target

@@ -2,8 +2,8 @@
 //! and every reading gives its row. Nothing above this crate knows of brake curves; nothing in it knows of text.
 #![tactic(auto)]
 
-pub mod flat;
 pub mod findings;
+pub mod flat;
 pub mod supervisors;
 pub mod verdicts;
 

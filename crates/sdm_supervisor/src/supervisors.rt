@@ -19,7 +19,7 @@ ghost use Rattle.sdm_supervisor.specs.Findings.{IsFoundAt, AreFindingsInRange};
 
 use crate::findings::Findings;
 use crate::verdicts::Verdict;
-use sdm_braking::{Kept, Braking, release_kmh_at};
+use sdm_braking::{Braking, Kept, release_kmh_at};
 use sdm_curve::Curve;
 use sdm_national::National;
 use sdm_num::Reading;
@@ -91,7 +91,11 @@ impl Supervisor {
     }
 
     /// The supervisor of a train on its track, with its first authority.
-    fn with_braking(alloc: Global, braking: Braking, authority: Authority) -> Result<Supervisor, OpenFault>
+    fn with_braking(
+        alloc: Global,
+        braking: Braking,
+        authority: Authority,
+    ) -> Result<Supervisor, OpenFault>
         ensures opening { IfOk result (λ s. s ≡ opening braking authority) }
         ensures accepted { OnOk result (IsAccepted braking authority) }
         ensures refused { IfErr result (IsRefusal braking authority) }
@@ -99,8 +103,12 @@ impl Supervisor {
         if let Err(fault) = check_authority(&authority, braking.track_cm()) {
             return Err(OpenFault::BadAuthority(fault));
         }
-        let Ok(profile) = Profile::begin(alloc, braking.track(), braking.max_speed_kmh(), braking.train_cm())
-        else {
+        let Ok(profile) = Profile::begin(
+            alloc,
+            braking.track(),
+            braking.max_speed_kmh(),
+            braking.train_cm(),
+        ) else {
             return Err(OpenFault::Memory);
         };
         let Ok(kept) = Kept::begin(alloc, &braking, &profile, &authority) else {
@@ -142,7 +150,8 @@ impl Supervisor {
         ensures unchanged { OnErr result (self.new ≡ self.old) }
     {
         let changed = self.profile.impose(r)?;
-        self.kept.take_profile(&self.braking, &self.profile, changed);
+        self.kept
+            .take_profile(&self.braking, &self.profile, changed);
         Ok(())
     }
 
@@ -154,7 +163,8 @@ impl Supervisor {
         ensures unchanged { OnErr result (self.new ≡ self.old) }
     {
         let changed = self.profile.lift(id)?;
-        self.kept.take_profile(&self.braking, &self.profile, changed);
+        self.kept
+            .take_profile(&self.braking, &self.profile, changed);
         Ok(())
     }
 
@@ -198,7 +208,13 @@ impl Supervisor {
             past_end: self.kept.end.is_passed_by(reading.min_mm()),
             release_kmh,
             in_use: self.braking.is_service_in_use(),
-            verdict: Verdict::of(&self.braking, &asked, falls, &self.kept.end, in_release_monitoring),
+            verdict: Verdict::of(
+                &self.braking,
+                &asked,
+                falls,
+                &self.kept.end,
+                in_release_monitoring,
+            ),
         }
     }
 

@@ -18,7 +18,7 @@ ghost use Rattle.sdm_braking.specs.KeptCurves.{AreKept, AreSpeedsOf, IsKeptTarge
 ghost use Rattle.sdm_braking.specs.KeptFalls.{IsKeptFall, target_of};
 ghost use Rattle.sdm_supervisor.specs.Verdicts.{both, front_of, nearer, nearer_limits, nearer_where, nearest_at, passes_ebi_at, verdict_at, verdict_of};
 
-use sdm_braking::{AskedReading, KeptEnd, KeptFall, KeptTarget, Braking};
+use sdm_braking::{AskedReading, Braking, KeptEnd, KeptFall, KeptTarget};
 use sdm_limits::Limits;
 use sdm_num::{Early, Place, Reading, Speed};
 use sdm_targets::{Target, TargetKind};
@@ -247,7 +247,13 @@ impl Verdict {
 
     /// Adds what the targets at the end of the authority say; in release speed monitoring the EOA and the SvL are none.
     /// (SUBSET-026-3 3.13.10; own)
-    fn add_end(&mut self, braking: &Braking, asked: &AskedReading, end: &KeptEnd, in_release_monitoring: bool)
+    fn add_end(
+        &mut self,
+        braking: &Braking,
+        asked: &AskedReading,
+        end: &KeptEnd,
+        in_release_monitoring: bool,
+    )
         requires asked { IsAsked braking.now asked.now }
         requires end { AreKept braking.now end.now }
         ensures { (ts : List Target) → self.old ≡ verdict_of braking.now asked.now.reading.now ts →

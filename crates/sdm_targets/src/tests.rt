@@ -159,7 +159,13 @@ fn fill(alloc: Global, text: &str, into: &mut TargetList) -> Result<(), Fail> {
     let front = columns.next().ok_or("no front end")?.trim().parse::<i32>()?;
     let in_release_monitoring = columns.next().ok_or("no flag")?.trim() == "1";
     match check_authority(&authority, profile.track_cm()) {
-        Ok(()) => targets_of(&profile, &authority, Place::of_mm(front), in_release_monitoring, into),
+        Ok(()) => targets_of(
+            &profile,
+            &authority,
+            Place::of_mm(front),
+            in_release_monitoring,
+            into,
+        ),
         Err(_) => return Err("no authority")?,
     }
     Ok(())

@@ -8,7 +8,7 @@ use Rattle.sdm_supervisor.proofs.verdicts.Verdict.add_end.Goals as goal
 pub returns-then-in_release_monitoring : goal.returns-then-in_release_monitoring
 returns-then-in_release_monitoring c ts said =
     rw (c.in-Stop.is, c.if-in_release_monitoring.true)
-        (said ∙ ap (verdict_of c.args.braking.now c.args.asked.now.reading.now) (sym (append-nil ts)))
+    (said ∙ ap (verdict_of c.args.braking.now c.args.asked.now.reading.now) (sym (append-nil ts)))
 
 pub returns-else-in_release_monitoring : goal.returns-else-in_release_monitoring
 returns-else-in_release_monitoring c ts said =
