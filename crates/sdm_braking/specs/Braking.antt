@@ -14,13 +14,13 @@ use Rattle.sdm_train.specs.Trains.{IsTrain}
 use Rattle.sdm_track.specs.Ranges.{IsTrack}
 use Rattle.sdm_limits.specs.Ranges.{AreTimes}
 
--- data that supervision accepts: a train and a track within their ranges, and slopes of all kinds that curves can stand on (own)
+-- data that supervision accepts: a train and a track within their ranges, and slopes of all kinds that curves can stand on
 pub record IsSupervisable (d : TrainAndTrack) : Type 0 where
   pub train : IsTrain d.train
   pub track : IsTrack d.track
   pub usable : HasAcceptedSlopes d
 
--- the slope maps and the times of reaction are those of the data (own)
+-- the slope maps and the times of reaction are those of the data
 pub record IsBrakingOf (d : TrainAndTrack) (safe expected normal : SlopeMap) (times : Times) : Type 0 where
   pub safe_is : meaning_of safe ≡ slopes_of Safe d
   pub expected_is : meaning_of expected ≡ slopes_of Expected d
@@ -28,7 +28,7 @@ pub record IsBrakingOf (d : TrainAndTrack) (safe expected normal : SlopeMap) (ti
   pub times_are : times ≡ reaction_times d
   pub in_range : AreTimes times
 
--- the first fault of an opening; want of memory may come at any time (own)
+-- the first fault of an opening; want of memory may come at any time
 abbrev pub IsRefusal : TrainAndTrack → Authority → OpenFault → Type 0
 IsRefusal d a (TooWeak kind band cell slope) = IsOpenFault d a (TooWeak kind band cell slope)
 IsRefusal d a (TooVaried kind band least greatest) = IsOpenFault d a (TooVaried kind band least greatest)

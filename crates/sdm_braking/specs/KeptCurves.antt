@@ -27,7 +27,7 @@ use Rattle.sdm_braking.specs.declared.kept_ends.KeptEnd.TheVariants.{Stop as Kep
 use Rattle.sdm_braking.specs.declared.kept_falls.KeptFall.{KeptFall}
 use Rattle.sdm_braking.specs.declared.speeds.SpeedLimits.{SpeedLimits}
 
--- a curve that was made from a map of these slopes, with its foot at a place in grains and a foot speed in notches (own)
+-- a curve that was made from a map of these slopes, with its foot at a place in grains and a foot speed in notches
 pub record IsCurveOn (on : Slopes) (foot : ℤ) (foot_speed : ℕ) (curve : BrakeCurve) : Type 0 where
   pub place : curve.place ≡ foot
   pub speed : curve.speed ≡ foot_speed
@@ -68,12 +68,12 @@ pub record IsKeptTarget (d : TrainAndTrack) (k : KeptTarget) : Type 0 where
   pub brake : IsCurveOn (slopes_of (brake_kind k.target.kind) d) k.target.place (foot_speed_of k.target) k.brake
   pub guide : IsGuideOf d k.target k.guide
 
--- a kept target is this one, with its curves (own)
+-- a kept target is this one, with its curves
 pub record IsKeptAt (d : TrainAndTrack) (t : Target) (k : KeptTarget) : Type 0 where
   pub at : k.target ≡ t
   pub kept : IsKeptTarget d k
 
--- what is kept of the end of an authority: its targets with their curves (own)
+-- what is kept of the end of an authority: its targets with their curves
 abbrev pub IsKeptEnd : TrainAndTrack → Authority → KeptEnd → Type 0
 IsKeptEnd d (Stop eoa svl release) (KeptStop e s) =
     IsKeptAt d (record { kind = Eoa; place = place_of_cell (pos eoa); speed = 0 }) e × IsKeptAt d (record { kind = Svl; place = place_of_cell (pos svl); speed = 0 }) s
@@ -81,7 +81,7 @@ IsKeptEnd d (Stop eoa svl release) (KeptLimit l) = ⊥
 IsKeptEnd d (Limit loa speed) (KeptStop e s) = ⊥
 IsKeptEnd d (Limit loa speed) (KeptLimit l) = IsKeptAt d (record { kind = Loa; place = place_of_cell (pos loa); speed = speed }) l
 
--- the EBD of the SvL or of the LOA (own)
+-- the EBD of the SvL or of the LOA
 abbrev pub brake_curve_of : KeptEnd → BrakeCurve
 brake_curve_of (KeptStop e s) = s.brake
 brake_curve_of (KeptLimit l) = l.brake
@@ -91,7 +91,7 @@ abbrev pub targets_in : KeptEnd → Bool → List Target
 targets_in (KeptStop e s) in_release_monitoring = if in_release_monitoring then [] else e.target ∷ s.target ∷ []
 targets_in (KeptLimit l) in_release_monitoring = l.target ∷ []
 
--- the targets at the end of an authority stand beside their curves (own)
+-- the targets at the end of an authority stand beside their curves
 abbrev pub AreKept : TrainAndTrack → KeptEnd → Type 0
 AreKept d (KeptStop e s) = IsKeptTarget d e × IsKeptTarget d s
 AreKept d (KeptLimit l) = IsKeptTarget d l

@@ -4,20 +4,20 @@ use Rattle.std.specs.List.{concat}
 use Rattle.std.specs.Str.{bytes_eq}
 use Rattle.sdm_rules.specs.Flat.{before_all}
 
--- the lines of an input, each with the LF that ends it; the last may do without one (own)
+-- the lines of an input, each with the LF that ends it; the last may do without one
 abbrev pub ended_lines : List ℕ → List (List ℕ)
 ended_lines [] = []
 ended_lines (c ∷ cs) = if c == 10 then (c ∷ []) ∷ ended_lines cs else before_all c (ended_lines cs)
 
--- a dividing line: `%%`, ended by LF, by CR and LF, or by the end of the input (own)
+-- a dividing line: `%%`, ended by LF, by CR and LF, or by the end of the input
 abbrev pub is_dividing_line : List ℕ → Bool
 is_dividing_line line = bytes_eq line (codes "%%\n") || bytes_eq line (codes "%%\r\n") || bytes_eq line (codes "%%")
 
--- the offset after the first `k` lines (own)
+-- the offset after the first `k` lines
 abbrev pub offset_after : ℕ → List (List ℕ) → ℕ
 offset_after k lines = length (concat (take k lines))
 
--- Where the data part of an input ends, and where its records begin: about the first dividing line (own).
+-- Where the data part of an input ends, and where its records begin: about the first dividing line.
 unfoldable pub divide : List ℕ → Option (ℕ × ℕ)
 divide input =
     let lines = ended_lines input in

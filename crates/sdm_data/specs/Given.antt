@@ -9,7 +9,7 @@ use Rattle.sdm_data.specs.declared.tracks.GivenTrack.{GivenTrack}
 use Rattle.sdm_data.specs.declared.journeys.JourneyData.{JourneyData}
 use Rattle.sdm_data.specs.Sections.{RootMembers}
 
--- the root with its tables (own)
+-- the root with its tables
 abbrev pub root_of : Root → RootMembers
 root_of r = record {
   version = r.version;
@@ -19,18 +19,18 @@ root_of r = record {
   authority = table_view r.authority.now;
 }
 
--- the train that was given, with all of its bands (own)
+-- the train that was given, with all of its bands
 abbrev pub given_train : GivenTrain → TrainData
 given_train t = record (train_of t.own) { bands = t.bands.items }
 
--- a train with the first of its bands alone, as many as a train may have (own)
+-- a train with the first of its bands alone, as many as a train may have
 abbrev pub with_first_bands : TrainData → TrainData
 with_first_bands t = record t { bands = take most_bands t.bands }
 
--- the track that was given (own)
+-- the track that was given
 abbrev pub given_track : GivenTrack → TrackData
 given_track t = record { length_cm = t.length; gradients = t.gradients.items; speeds = t.speeds.items; areas = t.areas.items }
 
--- the data of a journey but for its authority (own)
+-- the data of a journey but for its authority
 abbrev pub train_and_track_of : JourneyData → TrainAndTrack
 train_and_track_of j = record { train = j.train; national = j.national; track = j.track }

@@ -9,13 +9,13 @@ use Rattle.sdm_rules.specs.Ranges.{train_fault, national_fault, track_fault}
 use Rattle.sdm_data.specs.Members.{◌>>=◌}
 use Rattle.sdm_data.specs.Sections.{root_in, train_in, national_in, track_in, authority_in}
 
--- data that break no rule, or the fault that names the first one (own)
+-- data that break no rule, or the fault that names the first one
 abbrev pub unless_broken : {A F : Type 0} → (F → DataFault) → Option F → A → Result A DataFault
 unless_broken fault None kept = Ok kept
 unless_broken fault (Some f) kept = Err (fault f)
 
 -- Section by section in the order root, train with its bands, national values, track with its lists, authority; and then the
--- rules of the train, of the national values and of the track (own).
+-- rules of the train, of the national values and of the track.
 unfoldable pub data_of : Members → Result (TrainAndTrack × Authority) DataFault
 data_of members = do
   root ← root_in members

@@ -22,7 +22,7 @@ use Rattle.sdm_data.specs.Members.{◌>>=◌, SectionMembers, section_of, at, or
 
 -- ---- the root
 
--- the version of the data, and the tables of their sections (own)
+-- the version of the data, and the tables of their sections
 pub record RootMembers : Type 0 where
   pub version : Version
   pub train : Members
@@ -30,7 +30,7 @@ pub record RootMembers : Type 0 where
   pub track : Members
   pub authority : Members
 
--- the root of the document (own)
+-- the root of the document
 unfoldable pub root_in : Members → Result RootMembers DataFault
 root_in members = do
   let root = section_of sections.Root 0 members
@@ -45,7 +45,7 @@ root_in members = do
 
 -- ---- the train
 
--- a speed band; in the last there is no upper speed (own)
+-- a speed band; in the last there is no upper speed
 unfoldable pub band_in : Version → ℕ → Members → Result Band DataFault
 band_in version index members = do
   let band = section_of sections.Band index members
@@ -60,7 +60,7 @@ band_in version index members = do
   kn_down ← required as_integer band 8
   Ok (record { upper = upper; emergency = emergency; service = service; normal = normal; kdry = kdry; kwet = kwet; kn_up = kn_up; kn_down = kn_down })
 
--- the train with all the bands that are given (own)
+-- the train with all the bands that are given
 unfoldable pub train_in : Version → Members → Result TrainData DataFault
 train_in version members = do
   let train = section_of sections.Train 0 members
@@ -89,7 +89,7 @@ train_in version members = do
 
 -- ---- the national values
 
--- the national values (own)
+-- the national values
 unfoldable pub national_in : Version → Members → Result NationalFields DataFault
 national_in version members = do
   let national = section_of sections.National 0 members
@@ -111,7 +111,7 @@ national_in version members = do
 
 -- ---- the track
 
--- a gradient (own)
+-- a gradient
 unfoldable pub gradient_in : Version → ℕ → Members → Result Gradient DataFault
 gradient_in version index members = do
   let gradient = section_of sections.Gradient index members
@@ -120,7 +120,7 @@ gradient_in version index members = do
   grad ← required as_integer gradient 2
   Ok (record { start = start; grad = grad })
 
--- an entry of the static speed profile; `delayed` may be absent and is true then (own)
+-- an entry of the static speed profile; `delayed` may be absent and is true then
 unfoldable pub speed_in : Version → ℕ → Members → Result SpeedStep DataFault
 speed_in version index members = do
   let speed = section_of sections.Speed index members
@@ -130,7 +130,7 @@ speed_in version index members = do
   delayed ← optional as_bool speed 3
   Ok (record { start = start; speed = kmh; delayed = unwrap_or delayed true })
 
--- an area of reduced adhesion (own)
+-- an area of reduced adhesion
 unfoldable pub adhesion_in : Version → ℕ → Members → Result Area DataFault
 adhesion_in version index members = do
   let area = section_of sections.Adhesion index members
@@ -139,11 +139,11 @@ adhesion_in version index members = do
   end ← required as_integer area 2
   Ok (record { start = start; end = end })
 
--- no tables where the key of a list is absent (own)
+-- no tables where the key of a list is absent
 abbrev pub or_no_tables : Option (List Members) → List Members
 or_no_tables tables = unwrap_or tables []
 
--- the track; the gradients and the areas of reduced adhesion may be absent (own)
+-- the track; the gradients and the areas of reduced adhesion may be absent
 unfoldable pub track_in : Version → Members → Result TrackData DataFault
 track_in version members = do
   let track = section_of sections.Track 0 members
@@ -159,7 +159,7 @@ track_in version members = do
 
 -- ---- the authority
 
--- an authority to an end; the release speed may be absent and is 0 then (own)
+-- an authority to an end; the release speed may be absent and is 0 then
 unfoldable pub end_in : SectionMembers → Result Authority DataFault
 end_in authority = do
   _ ← known authority end_keys
@@ -169,7 +169,7 @@ end_in authority = do
   release ← within authority 4 0 top_kmh (unwrap_or kmh (pos 0))
   Ok (Stop eoa svl release)
 
--- an authority to a limit (own)
+-- an authority to a limit
 unfoldable pub limit_in : SectionMembers → Result Authority DataFault
 limit_in authority = do
   _ ← known authority limit_keys
@@ -177,7 +177,7 @@ limit_in authority = do
   speed ← number authority 6 1 top_kmh
   Ok (Limit loa speed)
 
--- the authority: its kind comes first, since the other keys depend on it (own)
+-- the authority: its kind comes first, since the other keys depend on it
 unfoldable pub authority_in : Members → Result Authority DataFault
 authority_in members = do
   let authority = section_of sections.Authority 0 members

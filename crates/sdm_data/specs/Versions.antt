@@ -7,18 +7,18 @@ use Rattle.sdm_rules.specs.FaultLines.{key_names}
 use Rattle.sdm_data.specs.declared.versions.Version.{Version}
 use Rattle.sdm_data.specs.declared.versions.Version.TheVariants.{One}
 
--- the version of a number (own)
+-- the version of a number
 abbrev pub version_of : ℤ → Option Version
 version_of n = if int_eq n (pos 1) then Some One else None
 
--- the keys of a section in data of a version (own)
+-- the keys of a section in data of a version
 abbrev pub known_keys : Version → Section → List (List ℕ)
 known_keys One section = key_names section
 
--- the keys of an authority to an end: `kind`, `eoa`, `svl` and `release` (own)
+-- the keys of an authority to an end: `kind`, `eoa`, `svl` and `release`
 abbrev pub end_keys : List (List ℕ)
 end_keys = take 4 (key_names Authority)
 
--- the keys of an authority to a limit: `kind`, `loa` and `speed` (own)
+-- the keys of an authority to a limit: `kind`, `loa` and `speed`
 abbrev pub limit_keys : List (List ℕ)
 limit_keys = take 1 (key_names Authority) ++ drop 4 (key_names Authority)

@@ -8,15 +8,15 @@ use Rattle.sdm_rules.specs.declared.faults.DataFault.{DataFault}
 use Rattle.sdm_data.specs.declared.section_tables.SectionTable.{SectionTable}
 use Rattle.sdm_data.specs.Members.{SectionMembers, section_of}
 
--- an answer, with its value as what it stands for (own)
+-- an answer, with its value as what it stands for
 abbrev pub seen : {A B : Type 0} → (A → B) → Result A DataFault → Result B DataFault
 seen as_what (Ok x) = Ok (as_what x)
 seen as_what (Err fault) = Err fault
 
--- a table that is read as a section (own)
+-- a table that is read as a section
 abbrev pub members_of : SectionTable → SectionMembers
 members_of s = section_of s.section s.index (table_view s.table.now)
 
--- the tables among some values (own)
+-- the tables among some values
 abbrev pub tables_in : List Value → List Members
 tables_in values = filter_map (λ value. as_table (view value)) values

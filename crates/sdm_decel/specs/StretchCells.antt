@@ -15,16 +15,16 @@ pub record AreGradientsUnder (track : TrackData) (length_cm : ℕ) (segments : L
   pub in_range : AreSegments segments
   pub at : (c : ℤ) → segment_gradient segments c ≡ (under_train track (pos length_cm) c).grad
 
--- where the gradient under the train may change (own)
+-- where the gradient under the train may change
 abbrev pub gradient_starts : List Segment → List ℕ
 gradient_starts segments = map (λ s. unsigned_abs s.start) segments
 
--- where an area of reduced adhesion comes into force, and where the rear end has left it (own)
+-- where an area of reduced adhesion comes into force, and where the rear end has left it
 abbrev pub area_ends : ℕ → List Area → List ℕ
 area_ends length_cm areas = flat_map (λ a. unsigned_abs a.start ∷ unsigned_abs (a.end +ℤ pos length_cm) ∷ []) areas
 
 -- the first cells of the segments of track in each of which the same lies under the train; what lies under it before cell 0 is
--- taken as at cell 0 (own)
+-- taken as at cell 0
 pub record AreStretches (track : TrackData) (length_cm : ℤ) (cells : List ℤ) : Type 0 where
   pub starts : AreStarts cells
   pub few : length cells ≤ 2_000

@@ -5,11 +5,11 @@ use Rattle.sdm_rules.specs.declared.records.Event.TheVariants.{Read, Authority, 
 use Rattle.sdm_rules.specs.Ranges.{top_kmh}
 use Rattle.csv.specs.Reading.{default_config, records, strip_bom}
 
--- a record is the list of its fields, of any bytes (own)
+-- a record is the list of its fields, of any bytes
 abbrev pub Record : Type 0
 Record = List (List ℕ)
 
--- the records of bytes: comma separated, with no header row and of any lengths, after a byte order mark if there is one (own)
+-- the records of bytes: comma separated, with no header row and of any lengths, after a byte order mark if there is one
 abbrev pub records_of : List ℕ → List Record
 records_of bytes = records default_config (strip_bom bytes)
 

@@ -10,12 +10,12 @@ use Rattle.sdm_laws.specs.Energy.{IsKnot, IsKnotPast}
 
 -- ---- rounding
 
--- how many grains a stepped place may lie before the exact one, by the number of bands (own)
+-- how many grains a stepped place may lie before the exact one, by the number of bands
 abbrev pub slack_of : ℕ → ℕ
 slack_of bands = slack_after (variation bands) bands 0
 
 -- the stepped place of the speed `v` stands for the exact one, within the slack of the number of bands and within a
--- millimetre (own)
+-- millimetre
 pub record IsRounded (on : Slopes) (f : ℤ) (w v : ℕ) : Type 0 where
   pub early : IsEarlyFor (record { at = stepped on f w v; slack = slack_of (bands_of on.uppers) }) (exact on f w v)
   pub bounded : slack_of (bands_of on.uppers) ≤ most_slack
@@ -23,41 +23,41 @@ pub record IsRounded (on : Slopes) (f : ℤ) (w v : ℕ) : Type 0 where
   pub fine : most_slack < millimetre
 
 -- On usable slopes, for every foot and every speed, the stepped place is at most the exact one, and less than a millimetre
--- before it (own).
+-- before it.
 abbrev pub LawOfRounding : Type 0
 LawOfRounding = (on : Slopes) (f : ℤ) (w v : ℕ) → IsUsable on → IsRounded on f w v
 
 -- ---- exact places
 
--- On usable slopes every exact place is a fraction: its denominator is above 0 (own).
+-- On usable slopes every exact place is a fraction: its denominator is above 0.
 abbrev pub LawOfFractions : Type 0
 LawOfFractions = (on : Slopes) (s : ℕ) (f : ℤ) (w u : ℕ) → IsUsable on → 0 < s → 0 < (exact_at on s f w u).m
 
--- On usable slopes the place of a greater square is before that of a less one (own).
+-- On usable slopes the place of a greater square is before that of a less one.
 abbrev pub LawOfOrder : Type 0
 LawOfOrder =
     (on : Slopes) (s : ℕ) (f : ℤ) (w u' u : ℕ) → IsUsable on → 0 < s → u' < u →
     IsBefore (exact_at on s f w u) (exact_at on s f w u')
 
--- On usable slopes, at `k` times the scale, the place of `k` times the square is `k` times the place (own).
+-- On usable slopes, at `k` times the scale, the place of `k` times the square is `k` times the place.
 abbrev pub LawOfScale : Type 0
 LawOfScale =
     (on : Slopes) (s k : ℕ) (f : ℤ) (w u : ℕ) → IsUsable on → 0 < s → 0 < k →
     IsSame (exact_at on (k * s) f w (k * u)) (times k (exact_at on s f w u))
 
--- the curve is at its foot at its foot speed (own)
+-- the curve is at its foot at its foot speed
 pub record IsAtFoot (on : Slopes) (f : ℤ) (w : ℕ) : Type 0 where
   pub exact_foot : (s : ℕ) → exact_at on s f w (s * (w * w)) ≡ whole (pos s *ℤ f)
   pub stepped_foot : stepped on f w w ≡ f
 
--- At its foot speed every curve is at its foot, exact and stepped (own).
+-- At its foot speed every curve is at its foot, exact and stepped.
 abbrev pub LawOfFoot : Type 0
 LawOfFoot = (on : Slopes) (f : ℤ) (w : ℕ) → IsAtFoot on f w
 
 -- ---- knots
 
 -- What the two facts of a knot give: the stepped end of an arc from a whole grain, back and forward; and so the stepped
--- place goes back from a border of the band to the next, and forward to the one below (own).
+-- place goes back from a border of the band to the next, and forward to the one below.
 pub record HasKnots (on : Slopes) (band : ℕ) : Type 0 where
   pub back :
       (at : ℤ) (d change : ℕ) → IsKnot on band at d (grain_energy on change) →
@@ -76,6 +76,6 @@ pub record HasKnots (on : Slopes) (band : ℕ) : Type 0 where
       forward_through_bands to_grain on 1 band (whole at) u z
       ≡ forward_through_bands to_grain on 1 below (whole (at +ℤ pos d)) (upper_square on 1 below) z
 
--- In each band of usable slopes the facts of knots give stepped places (own).
+-- In each band of usable slopes the facts of knots give stepped places.
 abbrev pub LawOfKnots : Type 0
 LawOfKnots = (on : Slopes) (band : ℕ) → IsUsable on → band ≤ length on.uppers → HasKnots on band

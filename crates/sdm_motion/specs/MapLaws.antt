@@ -10,7 +10,7 @@ use Rattle.sdm_laws.specs.MotionLaws.{IsWithinCurve, IsSteepest, IsHeldByCurve, 
 use Rattle.sdm_curve.specs.Maps.{handed_in, IsKeptMap}
 
 -- Of one stretch: a train within the curve that brakes at least with the slope `a`, the steepest of its stretch, is within the
--- curve after it. Places are in 1/m grain, squares in 1/m squared notch (own).
+-- curve after it. Places are in 1/m grain, squares in 1/m squared notch.
 abbrev pub LawOfMapStretch : Type 0
 LawOfMapStretch =
     (map : SlopeMap) (m : ℕ) (f : ℤ) (w a : ℕ) (x y : Point) → IsKeptMap (handed_in map) → 0 < m → 0 < a →
@@ -18,14 +18,14 @@ LawOfMapStretch =
     IsWithinCurve (meaning_of map) m f w x → IsWithinCurve (meaning_of map) m f w y
 
 -- Of braking: a train that begins within the curve and brakes step by step, at least as the slopes of its stretch, is held by
--- the curve at every point (own).
+-- the curve at every point.
 abbrev pub LawOfMapBraking : Type 0
 LawOfMapBraking =
     (map : SlopeMap) (m : ℕ) (f : ℤ) (w : ℕ) (x : Point) (ys : List Point) → IsKeptMap (handed_in map) → 0 < m →
     IsBraking (meaning_of map) m x ys → IsWithinCurve (meaning_of map) m f w x → All (IsHeldByCurve (meaning_of map) m f w) (x ∷ ys)
 
 -- Of the reaction: in every motion that begins with at most the speed of its start, the ends of the slices and the first
--- braking point lie at most D_bec past the beginning, with a speed of at most V_bec, for any target speed (own).
+-- braking point lie at most D_bec past the beginning, with a speed of at most V_bec, for any target speed.
 abbrev pub LawOfMapReaction : Type 0
 LawOfMapReaction =
     (map : SlopeMap) (s : ℕ) (start : Start) (target : ℕ) (p : ℤ) (v : ℕ) (xs : List Slice) (first : Point) (more : List Point) →
@@ -33,7 +33,7 @@ LawOfMapReaction =
     All (IsInReach s start target p) (slice_ends p v xs ++ first ∷ [])
 
 -- Of a whole motion, at the scale `s`: where its first braking point is within the curve, the curve holds it at every
--- braking point (own).
+-- braking point.
 abbrev pub LawOfMapMotion : Type 0
 LawOfMapMotion =
     (map : SlopeMap) (s : ℕ) (start : Start) (f : ℤ) (w : ℕ) (p : ℤ) (v : ℕ) (xs : List Slice) (first : Point) (more : List Point) →

@@ -6,18 +6,18 @@ use Rattle.sdm_rules.specs.declared.motions.Start.{Start}
 use Rattle.sdm_rules.specs.Slopes.{Slopes}
 use Rattle.sdm_rules.specs.Motion.{IsMotion, last_point, slice_ends}
 
--- a point within 10^21 of 0, in 1/s² grains, with a square of at most 10^17, in 1/s² squared notches (own)
+-- a point within 10^21 of 0, in 1/s² grains, with a square of at most 10^17, in 1/s² squared notches
 pub record IsPointInRange (x : Point) : Type 0 where
   pub low : neg_ℤ (pos (10 ^ 21)) ≤ℤ x.place
   pub high : x.place ≤ℤ pos (10 ^ 21)
   pub square : x.square ≤ 10 ^ 17
 
--- where slices end that begin at the place `p` with the speed `v` (own)
+-- where slices end that begin at the place `p` with the speed `v`
 abbrev pub first_of : ℤ → ℕ → List Slice → Point
 first_of p v xs = last_point (record { place = p; square = v * v }) (slice_ends p v xs)
 
 -- the slices and points are a motion that begins exactly at the front and with the speed of the start, and every point is
--- in its ranges (own)
+-- in its ranges
 pub record IsKnownMotion (s : ℕ) (start : Start) (on : Slopes) (xs : List Slice) (points : List Point) : Type 0 where
   pub first : Point
   pub more : List Point

@@ -7,13 +7,13 @@ use Rattle.sdm_report.specs.declared.outcome.InputFault.TheVariants.{NoSplit, To
 use Rattle.sdm_report.specs.declared.outcome.Outcome.{Outcome}
 use Rattle.sdm_report.specs.declared.outcome.Outcome.TheVariants.{Done, Usage, ReadFault, WriteFault, TooLong, BadData, Refused, BadEvent, Memory}
 
--- the end of an input whose data part is refused (own)
+-- the end of an input whose data part is refused
 abbrev pub end_of_data : InputFault → ends.End
 end_of_data NoSplit = ends.NoSplit
 end_of_data Toml = ends.Toml
 end_of_data (Data fault) = ends.Data fault
 
--- the line of an outcome; none where all was done (own)
+-- the line of an outcome; none where all was done
 unfoldable pub outcome_line : Outcome → List ℕ
 outcome_line Done = []
 outcome_line Usage = fault_line (codes "bad words")
@@ -25,7 +25,7 @@ outcome_line (Refused fault) = end_line (ends.Refused fault)
 outcome_line (BadEvent number cause) = end_line (ends.BadEvent number cause)
 outcome_line Memory = fault_line memory_text
 
--- the exit status of an outcome (own)
+-- the exit status of an outcome
 abbrev pub exit_code : Outcome → ℕ
 exit_code Done = 0
 exit_code Usage = 1

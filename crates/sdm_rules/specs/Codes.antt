@@ -5,7 +5,7 @@ use Rattle.std.specs.Ordering.{nat_cmp}
 use Rattle.std.specs.FinMap as finite
 use Rattle.sdm_rules.specs.declared.restrictions.Restriction.{Restriction}
 
--- restrictions as tuples of numbers (own)
+-- restrictions as tuples of numbers
 abbrev pub coded_restriction : Coded Restriction
 coded_restriction =
     code_by ((ℕ × ℕ) × ((ℕ × ℕ) × Bool)) (coded× (coded× coded_ℕ coded_ℕ) (coded× (coded× coded_ℕ coded_ℕ) coded_bool))
@@ -13,6 +13,6 @@ coded_restriction =
     (λ p. record { id = p.0.0; start = p.0.1; end = p.1.0.0; speed = p.1.0.1; delayed = p.1.1 })
     (λ _. refl)
 
--- restrictions by identity as lists of such tuples of numbers (own)
+-- restrictions by identity as lists of such tuples of numbers
 abbrev pub coded_restrictions : Coded (finite.FinMap nat_cmp Restriction)
 coded_restrictions = finite.code coded_ℕ coded_restriction

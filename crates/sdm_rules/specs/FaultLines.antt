@@ -32,7 +32,7 @@ use Rattle.sdm_rules.specs.Input.{End, Done, TooLong, NoSplit, Toml, Data, Refus
 
 -- ---- keys of the data part
 
--- the names of a section's keys, by number from 1 (own)
+-- the names of a section's keys, by number from 1
 unfoldable pub key_names : Section → List (List ℕ)
 key_names sections.Root = codes "version" ∷ codes "train" ∷ codes "national" ∷ codes "track" ∷ codes "authority" ∷ []
 key_names sections.Train =
@@ -46,12 +46,12 @@ key_names sections.Speed = codes "start" ∷ codes "speed" ∷ codes "delayed" �
 key_names sections.Adhesion = codes "start" ∷ codes "end" ∷ []
 key_names sections.Authority = codes "kind" ∷ codes "eoa" ∷ codes "svl" ∷ codes "release" ∷ codes "loa" ∷ codes "speed" ∷ []
 
--- the name of a key of a section, if it has one (own)
+-- the name of a key of a section, if it has one
 abbrev pub key_name : Section → ℕ → Option (List ℕ)
 key_name section zero = None
 key_name section (suc i) = slice_get (key_names section) i
 
--- the path of a list of the data part, or of a section (own)
+-- the path of a list of the data part, or of a section
 unfoldable pub list_path : Section → List ℕ
 list_path sections.Root = codes "root"
 list_path sections.Train = codes "train"
@@ -63,11 +63,11 @@ list_path sections.Speed = codes "track.speed"
 list_path sections.Adhesion = codes "track.adhesion"
 list_path sections.Authority = codes "authority"
 
--- the path of an entry of a list, by its index from 1 (own)
+-- the path of an entry of a list, by its index from 1
 abbrev pub entry_path : Section → ℕ → List ℕ
 entry_path list index = list_path list ++ codes "[" ++ decimal index ++ codes "]"
 
--- the path of a section; in a list it has an index (own)
+-- the path of a section; in a list it has an index
 unfoldable pub section_path : Section → ℕ → List ℕ
 section_path sections.Root index = list_path sections.Root
 section_path sections.Train index = list_path sections.Train
@@ -79,17 +79,17 @@ section_path sections.Speed index = entry_path sections.Speed index
 section_path sections.Adhesion index = entry_path sections.Adhesion index
 section_path sections.Authority index = list_path sections.Authority
 
--- the path of a key below its section's; where the number names no key, the section's path alone (own)
+-- the path of a key below its section's; where the number names no key, the section's path alone
 abbrev pub below : List ℕ → Option (List ℕ) → List ℕ
 below path None = path
 below path (Some name) = path ++ codes "." ++ name
 
--- the path of a key of root: its name alone (own)
+-- the path of a key of root: its name alone
 abbrev pub at_root : Option (List ℕ) → List ℕ
 at_root None = list_path sections.Root
 at_root (Some name) = name
 
--- the path of a key (own)
+-- the path of a key
 unfoldable pub key_path : Section → ℕ → ℕ → List ℕ
 key_path sections.Root index key = at_root (key_name sections.Root key)
 key_path sections.Train index key = below (section_path sections.Train index) (key_name sections.Train key)
@@ -101,39 +101,39 @@ key_path sections.Speed index key = below (section_path sections.Speed index) (k
 key_path sections.Adhesion index key = below (section_path sections.Adhesion index) (key_name sections.Adhesion key)
 key_path sections.Authority index key = below (section_path sections.Authority index) (key_name sections.Authority key)
 
--- the path of a key that a fault names (own)
+-- the path of a key that a fault names
 abbrev pub at_path : At → List ℕ
 at_path at = key_path at.section at.index at.key
 
 -- ---- faults of the data part
 
--- the path of a train's value: of the train's own keys where the band is 0 (own)
+-- the path of a train's value: of the train's own keys where the band is 0
 abbrev pub train_path : ℕ → ℕ → List ℕ
 train_path zero key = key_path sections.Train 0 key
 train_path (suc i) key = key_path sections.Band (suc i) key
 
--- the text of a fault of the train (own)
+-- the text of a fault of the train
 unfoldable pub train_text : TrainFault → List ℕ
 train_text train_faults.BandCount = codes "band count"
 train_text (train_faults.BandOrder band) = codes "band order " ++ entry_path sections.Band band
 train_text (train_faults.Value band key) = codes "value " ++ train_path band key
 
--- the text of a fault of the national values (own)
+-- the text of a fault of the national values
 unfoldable pub national_text : NationalFault → List ℕ
 national_text (national_faults.Value key) = codes "value " ++ key_path sections.National 0 key
 
--- the text of a fault of the track (own)
+-- the text of a fault of the track
 unfoldable pub track_text : TrackFault → List ℕ
 track_text (track_faults.Count list) = codes "count " ++ list_path list
 track_text (track_faults.Order list index) = codes "order " ++ entry_path list index
 track_text (track_faults.Value list index key) = codes "value " ++ key_path list index key
 track_text (track_faults.Gap list) = codes "gap " ++ list_path list
 
--- the text of want of memory, wherever it comes up (own)
+-- the text of want of memory, wherever it comes up
 unfoldable pub memory_text : List ℕ
 memory_text = codes "no memory"
 
--- the text of the first rule that the data part breaks (own)
+-- the text of the first rule that the data part breaks
 unfoldable pub data_text : DataFault → List ℕ
 data_text (data_faults.Missing at) = codes "bad data: missing " ++ at_path at
 data_text (data_faults.UnknownKey section index) = codes "bad data: unknown key in " ++ section_path section index
@@ -146,48 +146,48 @@ data_text data_faults.Memory = memory_text
 
 -- ---- refusals of the opening and of records
 
--- the text why an authority is refused (own)
+-- the text why an authority is refused
 unfoldable pub authority_text : AuthorityFault → List ℕ
 authority_text SvlBeforeEoa = codes "supervised location before end"
 authority_text BeyondTrack = codes "beyond track"
 authority_text BadSpeed = codes "bad speed"
 
--- the name of a kind of slope (own)
+-- the name of a kind of slope
 unfoldable pub kind_text : SlopeKind → List ℕ
 kind_text Safe = codes "safe"
 kind_text Expected = codes "expected"
 kind_text Normal = codes "normal"
 
--- the text why an opening is refused (own)
+-- the text why an opening is refused
 unfoldable pub open_text : OpenFault → List ℕ
 open_text (open_faults.TooWeak kind band cell slope) = codes "refused: too weak: " ++ kind_text kind ++ codes " band " ++ decimal band ++ codes " cell " ++ signed_decimal cell
 open_text (open_faults.TooVaried kind band least greatest) = codes "refused: too varied: " ++ kind_text kind ++ codes " band " ++ decimal band
 open_text (open_faults.BadAuthority fault) = codes "refused: " ++ authority_text fault
 open_text open_faults.Memory = memory_text
 
--- the text why a field is refused (own)
+-- the text why a field is refused
 unfoldable pub field_text : FieldFault → List ℕ
 field_text NotNumber = codes "not a number"
 field_text OutOfRange = codes "out of range"
 
--- the text why the form of a record is refused (own)
+-- the text why the form of a record is refused
 unfoldable pub form_text : EventFault → List ℕ
 form_text event_faults.UnknownKind = codes "unknown kind"
 form_text event_faults.FieldCount = codes "field count"
 form_text (event_faults.Field column fault) = codes "field " ++ decimal column ++ codes ": " ++ field_text fault
 form_text event_faults.TooMany = codes "too many events"
 
--- the text why a restriction is refused (own)
+-- the text why a restriction is refused
 unfoldable pub restrict_text : RestrictFault → List ℕ
 restrict_text restrict_faults.Full = codes "too many restrictions"
 restrict_text (restrict_faults.IdInUse id) = codes "identity in use"
 restrict_text restrict_faults.Value = codes "restriction value"
 
--- the text why a revocation is refused (own)
+-- the text why a revocation is refused
 unfoldable pub revoke_text : RevokeFault → List ℕ
 revoke_text (revoke_faults.Unknown id) = codes "identity unknown"
 
--- the text why a record is refused (own)
+-- the text why a record is refused
 unfoldable pub cause_text : EventCause → List ℕ
 cause_text (causes.Form fault) = form_text fault
 cause_text (causes.Authority fault) = authority_text fault
@@ -198,11 +198,11 @@ cause_text causes.Line = codes "line"
 
 -- ---- the line
 
--- a line of the fault stream (own)
+-- a line of the fault stream
 unfoldable pub fault_line : List ℕ → List ℕ
 fault_line text = codes "sdm: " ++ text ++ codes "\n"
 
--- the line of an end; none where the input was read whole (own)
+-- the line of an end; none where the input was read whole
 unfoldable pub end_line : End → List ℕ
 end_line Done = []
 end_line TooLong = fault_line (codes "input too long")

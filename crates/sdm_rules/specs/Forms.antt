@@ -11,16 +11,16 @@ use Rattle.sdm_rules.specs.declared.faults.EventFault.TheVariants.{UnknownKind, 
 use Rattle.sdm_rules.specs.Numbers.{read_int}
 use Rattle.sdm_rules.specs.Ranges.{longest_track, top_kmh}
 
--- the rest with the number of a column, or why that column is refused; columns count from 1, the kind being column 1 (own)
+-- the rest with the number of a column, or why that column is refused; columns count from 1, the kind being column 1
 abbrev pub with_number : ℕ → Result ℤ FieldFault → (ℤ → Result Event EventFault) → Result Event EventFault
 with_number column (Err fault) rest = Err (Field column fault)
 with_number column (Ok n) rest = rest n
 
--- a column of a record, read with its range (own)
+-- a column of a record, read with its range
 abbrev pub column : ℕ → List ℕ → ℤ → ℤ → (ℤ → Result Event EventFault) → Result Event EventFault
 column n field least greatest rest = with_number n (read_int field least greatest) rest
 
--- `read`: time in ds; est, min and max front end in mm; speed in mm/s; acceleration in cm/s²; under-reading in mm/s (own)
+-- `read`: time in ds; est, min and max front end in mm; speed in mm/s; acceleration in cm/s²; under-reading in mm/s
 unfoldable pub read_form : List (List ℕ) → Result Event EventFault
 read_form (time ∷ est ∷ min ∷ max ∷ speed ∷ accel ∷ under ∷ []) =
     column 2 time (pos 0) (pos 100_000_000) (λ time.
@@ -33,7 +33,7 @@ read_form (time ∷ est ∷ min ∷ max ∷ speed ∷ accel ∷ under ∷ []) =
     Ok (record_kinds.Read (reading_of (unsigned_abs time) est min max (unsigned_abs speed) accel (unsigned_abs under))))))))))
 read_form _ = Err FieldCount
 
--- `end`: EOA and SvL in cm, release speed in km/h (own)
+-- `end`: EOA and SvL in cm, release speed in km/h
 unfoldable pub end_form : List (List ℕ) → Result Event EventFault
 end_form (eoa ∷ svl ∷ release ∷ []) =
     column 2 eoa (pos 0) (pos longest_track) (λ eoa.
@@ -42,7 +42,7 @@ end_form (eoa ∷ svl ∷ release ∷ []) =
     Ok (record_kinds.Authority (Stop (unsigned_abs eoa) (unsigned_abs svl) (unsigned_abs release))))))
 end_form _ = Err FieldCount
 
--- `limit`: LOA in cm, speed in km/h (own)
+-- `limit`: LOA in cm, speed in km/h
 unfoldable pub limit_form : List (List ℕ) → Result Event EventFault
 limit_form (loa ∷ speed ∷ []) =
     column 2 loa (pos 0) (pos longest_track) (λ loa.
@@ -50,7 +50,7 @@ limit_form (loa ∷ speed ∷ []) =
     Ok (record_kinds.Authority (Limit (unsigned_abs loa) (unsigned_abs speed)))))
 limit_form _ = Err FieldCount
 
--- `restrict`: identity, start and end in cm, speed in km/h, delayed 0 or 1 (own)
+-- `restrict`: identity, start and end in cm, speed in km/h, delayed 0 or 1
 unfoldable pub restrict_form : List (List ℕ) → Result Event EventFault
 restrict_form (id ∷ start ∷ end ∷ speed ∷ delayed ∷ []) =
     column 2 id (pos 0) (pos 65_535) (λ id.
@@ -61,12 +61,12 @@ restrict_form (id ∷ start ∷ end ∷ speed ∷ delayed ∷ []) =
     Ok (record_kinds.Restrict (record { id = unsigned_abs id; start = unsigned_abs start; end = unsigned_abs end; speed = unsigned_abs speed; delayed = unsigned_abs delayed == 1 })))))))
 restrict_form _ = Err FieldCount
 
--- `revoke`: identity (own)
+-- `revoke`: identity
 unfoldable pub revoke_form : List (List ℕ) → Result Event EventFault
 revoke_form (id ∷ []) = column 2 id (pos 0) (pos 65_535) (λ id. Ok (record_kinds.Revoke (unsigned_abs id)))
 revoke_form _ = Err FieldCount
 
--- the event of a record, or why its form is refused: its kind, then the count of its fields, then the first column (own)
+-- the event of a record, or why its form is refused: its kind, then the count of its fields, then the first column
 unfoldable pub event_of : List (List ℕ) → Result Event EventFault
 event_of [] = Err UnknownKind
 event_of (kind ∷ fields) =

@@ -12,31 +12,31 @@ use Rattle.sdm_rules.specs.Curves.{cell_start, grain_energy, upper_square}
 
 -- ---- braking, with places in 1/m grain and squares in 1/m squared notch
 
--- the square at the lower speed of a band (own)
+-- the square at the lower speed of a band
 abbrev pub lower_square : Slopes → ℕ → ℕ → ℕ
 lower_square on m zero = 0
 lower_square on m (suc band) = upper_square on m band
 
--- the square `u` lies in the band, its borders included (own)
+-- the square `u` lies in the band, its borders included
 pub record IsInBand (on : Slopes) (m band u : ℕ) : Type 0 where
   pub known : band ≤ length on.uppers
   pub above : lower_square on m band ≤ u
   pub below : band < length on.uppers → u ≤ upper_square on m band
 
--- the cell has a part strictly between the places `p` and `p'` (own)
+-- the cell has a part strictly between the places `p` and `p'`
 pub record HasPart (m : ℕ) (cell p p' : ℤ) : Type 0 where
   pub apart : p <ℤ p'
   pub begins : cell_start m cell <ℤ p'
   pub ends : p <ℤ (cell_start m cell +ℤ pos (m * centimetre))
 
--- the train brakes at least with the slope `a` from a place and square to later ones (own)
+-- the train brakes at least with the slope `a` from a place and square to later ones
 pub record BrakesAtLeast (on : Slopes) (a : ℕ) (p : ℤ) (u : ℕ) (p' : ℤ) (u' : ℕ) : Type 0 where
   pub forward : p ≤ℤ p'
   pub slower : u' ≤ u
   pub enough : (pos (27 * a) *ℤ p') ≤ℤ (pos (27 * a) *ℤ p +ℤ pos (grain_energy on (u - u')))
 
 -- one step of braking: some band holds both squares, all cells between both places have one slope in it, and the train brakes at
--- least with it (own)
+-- least with it
 pub record IsStep (on : Slopes) (m : ℕ) (x y : Point) : Type 0 where
   pub band : ℕ
   pub slope : ℕ
@@ -45,7 +45,7 @@ pub record IsStep (on : Slopes) (m : ℕ) (x y : Point) : Type 0 where
   pub one_slope : (cell : ℤ) → HasPart m cell x.place y.place → on.slope band cell ≡ slope
   pub brakes : BrakesAtLeast on slope x.place x.square y.place y.square
 
--- the points after the first follow it step by step of braking, down to a square of 0 (own)
+-- the points after the first follow it step by step of braking, down to a square of 0
 abbrev pub IsBraking : Slopes → ℕ → Point → List Point → Type 0
 IsBraking on m x [] = x.square ≡ 0
 IsBraking on m x (y ∷ ys) = IsStep on m x y × IsBraking on m y ys
@@ -57,38 +57,38 @@ abbrev pub accel_in : Start → Phase → ℕ
 accel_in start Traction = start.accel1
 accel_in start Build = start.accel2
 
--- from the speed `v` a slice gains and moves no more than its acceleration, `a` cm/s², allows (own)
+-- from the speed `v` a slice gains and moves no more than its acceleration, `a` cm/s², allows
 pub record IsSlice (a v : ℕ) (x : Slice) : Type 0 where
   pub gains : x.to ≤ v + 54 * a * x.time
   pub moves : 2 * x.length ≤ 1_000_000 * (v + x.to) * x.time
 
--- from the speed `v` on, each slice gains and moves no more than its phase allows, one after the other (own)
+-- from the speed `v` on, each slice gains and moves no more than its phase allows, one after the other
 abbrev pub AreSlices : Start → ℕ → List Slice → Type 0
 AreSlices start v [] = ⊤
 AreSlices start v (x ∷ xs) = IsSlice (accel_in start x.phase) v x × AreSlices start x.to xs
 
--- the sum of the times of slices (own)
+-- the sum of the times of slices
 abbrev pub time_of : List Slice → ℕ
 time_of [] = 0
 time_of (x ∷ xs) = x.time + time_of xs
 
--- all slices are of the phase (own)
+-- all slices are of the phase
 abbrev pub IsIn : Phase → List Slice → Type 0
 IsIn phase xs = All (λ x. x.phase ≡ phase) xs
 
--- where the train is at the end of each slice, from a place and a speed on (own)
+-- where the train is at the end of each slice, from a place and a speed on
 abbrev pub slice_ends : ℤ → ℕ → List Slice → List Point
 slice_ends p v [] = []
 slice_ends p v (x ∷ xs) = record { place = p +ℤ pos x.length; square = x.to * x.to } ∷ slice_ends (p +ℤ pos x.length) x.to xs
 
--- the last of one or more points (own)
+-- the last of one or more points
 abbrev pub last_point : Point → List Point → Point
 last_point x [] = x
 last_point x (y ∷ ys) = last_point y ys
 
 -- ---- a whole motion
 
--- the part of a motion before braking, from the speed `v` on: slices of traction and then of the build-up, each with its time (own)
+-- the part of a motion before braking, from the speed `v` on: slices of traction and then of the build-up, each with its time
 pub record IsReaction (s : ℕ) (start : Start) (v : ℕ) (xs : List Slice) : Type 0 where
   pub traction : List Slice
   pub build : List Slice
@@ -100,22 +100,22 @@ pub record IsReaction (s : ℕ) (start : Start) (v : ℕ) (xs : List Slice) : Ty
   pub slices : AreSlices start v xs
 
 -- a motion that begins at the place `p` with the speed `v`: slices before braking, and braking from the point `first` on, at which they
--- end (own)
+-- end
 pub record IsMotion (s : ℕ) (start : Start) (on : Slopes) (p : ℤ) (v : ℕ) (xs : List Slice) (first : Point) (more : List Point) : Type 0 where
   pub reaction : IsReaction s start v xs
   pub begins : first ≡ last_point (record { place = p; square = v * v }) (slice_ends p v xs)
   pub braking : IsBraking on (s * s) first more
 
--- a motion that begins at most at the front end and with at most the speed of the start (own)
+-- a motion that begins at most at the front end and with at most the speed of the start
 pub record IsMotionFrom (s : ℕ) (start : Start) (on : Slopes) (p : ℤ) (v : ℕ) (xs : List Slice) (first : Point) (more : List Point) : Type 0 where
   pub place : p ≤ℤ (pos (s * s) *ℤ start.front)
   pub speed : v ≤ s * start.speed
   pub motion : IsMotion s start on p v xs first more
 
--- the point lies at or before a place in grains (own)
+-- the point lies at or before a place in grains
 abbrev pub IsBy : ℕ → ℤ → Point → Type 0
 IsBy s place x = x.place ≤ℤ (pos (s * s) *ℤ place)
 
--- at or past a place in grains the speed is at most `w` notches (own)
+-- at or past a place in grains the speed is at most `w` notches
 abbrev pub KeepsTo : ℕ → ℤ → ℕ → Point → Type 0
 KeepsTo s place w x = (pos (s * s) *ℤ place) ≤ℤ x.place → x.square ≤ s * s * (w * w)

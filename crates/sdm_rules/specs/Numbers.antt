@@ -6,28 +6,28 @@ use Rattle.std.specs.Str.Parse.{digits_value}
 use Rattle.sdm_rules.specs.declared.faults.FieldFault.{FieldFault}
 use Rattle.sdm_rules.specs.declared.faults.FieldFault.TheVariants.{NotNumber, OutOfRange}
 
--- the most digits of a number (own)
+-- the most digits of a number
 abbrev pub most_digits : ℕ
 most_digits = 18
 
--- the bytes are 1 to 18 digits; leading zeros are accepted (own)
+-- the bytes are 1 to 18 digits; leading zeros are accepted
 abbrev pub is_digits : List ℕ → Bool
 is_digits ds = nat_le 1 (length ds) && nat_le (length ds) most_digits && list_all is_ascii_digit ds
 
--- the number of digits after a minus sign (own)
+-- the number of digits after a minus sign
 abbrev pub negated : List ℕ → Option ℤ
 negated ds = if is_digits ds then Some (neg_ℤ (pos (digits_value 10 ds))) else None
 
--- the number that a field writes, if it is of this form (own)
+-- the number that a field writes, if it is of this form
 abbrev pub number_of : List ℕ → Option ℤ
 number_of [] = None
 number_of (c ∷ ds) = if c == 45 then negated ds else if is_digits (c ∷ ds) then Some (pos (digits_value 10 (c ∷ ds))) else None
 
--- the number where it is from `least` to `greatest`, both included, or why it is refused (own)
+-- the number where it is from `least` to `greatest`, both included, or why it is refused
 abbrev pub in_range : ℤ → ℤ → Option ℤ → Result ℤ FieldFault
 in_range least greatest None = Err NotNumber
 in_range least greatest (Some n) = if int_le least n && int_le n greatest then Ok n else Err OutOfRange
 
--- the number of a field within a range, or why it is refused (own)
+-- the number of a field within a range, or why it is refused
 unfoldable pub read_int : List ℕ → ℤ → ℤ → Result ℤ FieldFault
 read_int field least greatest = in_range least greatest (number_of field)

@@ -18,42 +18,42 @@ use Rattle.sdm_rules.specs.Reaction.{reaction_start}
 use Rattle.sdm_rules.specs.Limits.{v_bec_for}
 use Rattle.sdm_rules.specs.Supervision.{Supervision, situation_of}
 
--- a motion from a start, of some scale, which then brakes at least as the slopes ask (own)
+-- a motion from a start, of some scale, which then brakes at least as the slopes ask
 abbrev pub IsMotionOn : Slopes → Start → ℕ → ℤ → ℕ → List Slice → Point → List Point → Type 0
 IsMotionOn on start s p v xs first more = (0 < s) × IsMotionFrom s start on p v xs first more
 
--- every braking point of every motion lies at or before the place, in grains (own)
+-- every braking point of every motion lies at or before the place, in grains
 abbrev pub StopsBy : Slopes → Start → ℤ → Type 0
 StopsBy on start place =
     (s : ℕ) (p : ℤ) (v : ℕ) (xs : List Slice) (first : Point) (more : List Point) →
     IsMotionOn on start s p v xs first more → All (IsBy s place) (first ∷ more)
 
--- at or past the place, at slice ends and braking points of every motion, the speed is at most `w` notches (own)
+-- at or past the place, at slice ends and braking points of every motion, the speed is at most `w` notches
 abbrev pub SlowsTo : Slopes → Start → ℤ → ℕ → Type 0
 SlowsTo on start place w =
     (s : ℕ) (p : ℤ) (v : ℕ) (xs : List Slice) (first : Point) (more : List Point) →
     IsMotionOn on start s p v xs first more → All (KeepsTo s place w) (slice_ends p v xs ++ first ∷ more)
 
--- every motion within the bounds of a reading that brakes from T_traction + T_berem after it on stops at or before the SvL, in cm (own)
+-- every motion within the bounds of a reading that brakes from T_traction + T_berem after it on stops at or before the SvL, in cm
 abbrev pub StopsBySvl : TrainAndTrack → OdometerReading → ℕ → Type 0
 StopsBySvl d r svl = StopsBy (slopes_of Safe d) (reaction_start d r) (place_of_cell (pos svl))
 
 -- every motion within the bounds of a reading that brakes from T_traction + T_berem after it on has, at or past the target, at most
--- the target's speed with its EBI margin (own)
+-- the target's speed with its EBI margin
 abbrev pub MeetsTarget : TrainAndTrack → OdometerReading → Target → Type 0
 MeetsTarget d r t = SlowsTo (slopes_of Safe d) (reaction_start d r) t.place (foot_speed_of t)
 
--- the target limits the speed: it is a fall of the MRSP or an LOA (own)
+-- the target limits the speed: it is a fall of the MRSP or an LOA
 abbrev pub IsSpeedTarget : Target → Type 0
 IsSpeedTarget t = (t.kind ≢ Eoa) × (t.kind ≢ Svl)
 
--- the promise of a covered reading: the train stops at or before the SvL, where there is one, and meets each target of speed (own)
+-- the promise of a covered reading: the train stops at or before the SvL, where there is one, and meets each target of speed
 pub record IsSafe (s : Supervision) (r : OdometerReading) : Type 0 where
   pub stops : (eoa svl release : ℕ) → s.authority ≡ Stop eoa svl release → StopsBySvl s.train_and_track r svl
   pub meets : (t : Target) → Contains (situation_of s r).targets t → IsSpeedTarget t → MeetsTarget s.train_and_track r t
 
 -- a target of speed that keeps a row from being covered where no emergency brake is commanded: V_est is at most its foot speed
--- V_target + dV_ebi(V_target), so V_est cannot trigger its EBI, and V_bec, with the under-reading, is above it (own)
+-- V_target + dV_ebi(V_target), so V_est cannot trigger its EBI, and V_bec, with the under-reading, is above it
 pub record IsUncoveredSpeedTarget (s : Supervision) (r : OdometerReading) (t : Target) : Type 0 where
   pub is_speed : IsSpeedTarget t
   pub slow : r.speed ≤ foot_speed_of t

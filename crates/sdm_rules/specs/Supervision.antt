@@ -107,8 +107,8 @@ abbrev pub is_covered_for : TrainAndTrack → OdometerReading → Target → Boo
 is_covered_for d r t = option_map_or (λ ebi. not (is_past 0 r.max ebi) || is_met_by_speed t.kind (v_bec_for d r t) (foot_speed_of t)) (limits_of computed d r t).ebi true
 
 -- covered: the state isn't R, and each target with an EBI has the max safe front end at or before its computed EBI, or V_bec at most
--- its foot speed. Then `IsSafe` is promised, of every motion that brakes from T_traction + T_berem after the reading on; else nothing
--- is said (own)
+-- its foot speed. Then `IsSafe` is promised, of every motion that brakes from T_traction + T_berem after the reading on; else no
+-- stop is promised (own)
 unfoldable pub is_covered_in : TrainAndTrack → OdometerReading → Situation → Bool
 is_covered_in d r now = not (is_some now.release) && list_all (is_covered_for d r) now.targets
 

@@ -8,13 +8,13 @@ use Rattle.sdm_rules.specs.declared.commands.Status.{Status}
 use Rattle.sdm_rules.specs.declared.commands.Status.TheVariants.{N, I, O, W, X}
 use Rattle.sdm_rules.specs.declared.rows.Row.{Row}
 
--- the letter of a type of speed and distance monitoring (own)
+-- the letter of a type of speed and distance monitoring
 abbrev pub state_text : State → List ℕ
 state_text C = codes "C"
 state_text T = codes "T"
 state_text R = codes "R"
 
--- the letter of a status (own)
+-- the letter of a status
 abbrev pub status_text : Status → List ℕ
 status_text N = codes "N"
 status_text I = codes "I"
@@ -22,30 +22,30 @@ status_text O = codes "O"
 status_text W = codes "W"
 status_text X = codes "X"
 
--- the text of a flag: 1 or 0 (own)
+-- the text of a flag: 1 or 0
 abbrev pub flag_text : Bool → List ℕ
 flag_text b = if b then codes "1" else codes "0"
 
--- the text of a place in mm; `-` where there is none (own)
+-- the text of a place in mm; `-` where there is none
 abbrev pub place_text : Option ℤ → List ℕ
 place_text None = codes "-"
 place_text (Some z) = signed_decimal z
 
--- the fields of a row in order: time in ds, the ceiling in km/h, places in mm (own)
+-- the fields of a row in order: time in ds, the ceiling in km/h, places in mm
 abbrev pub fields_of : Row → List (List ℕ)
 fields_of r =
     decimal r.time ∷ state_text r.state ∷ status_text r.held.status ∷ flag_text r.held.tco ∷ flag_text r.held.sb ∷ flag_text r.held.eb ∷ flag_text r.covered
     ∷ decimal r.ceiling ∷ place_text r.ebi ∷ place_text r.sbi ∷ place_text r.warning ∷ place_text r.permitted ∷ place_text r.indication ∷ []
 
--- the line of fields, with commas between them and a line feed at the end (own)
+-- the line of fields, with commas between them and a line feed at the end
 abbrev pub text_line : List (List ℕ) → List ℕ
 text_line fields = join_with_byte 44 fields ++ codes "\n"
 
--- the text of a row (own)
+-- the text of a row
 unfoldable pub row_text : Row → List ℕ
 row_text r = text_line (fields_of r)
 
--- the text of rows, one after the other (own)
+-- the text of rows, one after the other
 abbrev pub run_text : List Row → List ℕ
 run_text [] = []
 run_text (r ∷ rs) = row_text r ++ run_text rs

@@ -12,8 +12,7 @@ pub struct Row {
     pub state: State,
     /// The commands after the reading, with the status.
     pub held: Held,
-    /// Whether the stop is promised, of every motion within the reading's bounds that brakes from T_traction + T_berem after it on;
-    /// where it isn't, nothing is said.
+    /// Whether the stop is promised, of every motion within the reading's bounds that brakes from T_traction + T_berem after it on.
     pub covered: bool,
     /// The ceiling in km/h.
     pub ceiling: u16,

@@ -14,7 +14,7 @@ use Rattle.sdm_report.specs.OutcomeLines.{end_of_data}
 use Rattle.sdm_run.specs.declared.words.Command.{Command}
 use Rattle.sdm_run.specs.declared.words.Command.TheVariants.{Flat, Run, Trial}
 
--- the end that an outcome tells, if it tells one (own)
+-- the end that an outcome tells, if it tells one
 abbrev pub told_end : Outcome → Option ends.End
 told_end Done = Some ends.Done
 told_end Usage = None
@@ -26,19 +26,19 @@ told_end (Refused fault) = Some (ends.Refused fault)
 told_end (BadEvent number cause) = Some (ends.BadEvent number cause)
 told_end Memory = None
 
--- a fault or want of memory came before the end (own)
+-- a fault or want of memory came before the end
 abbrev pub IsCutShort : Outcome → Type 0
 IsCutShort outcome = (outcome ≡ ReadFault) ⊎ (outcome ≡ WriteFault) ⊎ (outcome ≡ Memory)
 
--- the outcome is that of the end, unless it was cut short (own)
+-- the outcome is that of the end, unless it was cut short
 abbrev pub IsOutcomeOf : ends.End → Outcome → Type 0
 IsOutcomeOf end outcome = (told_end outcome ≡ Some end) ⊎ IsCutShort outcome
 
--- no line, or each with its line feed (own)
+-- no line, or each with its line feed
 abbrev pub AreWholeLines : List ℕ → Type 0
 AreWholeLines text = (text ≡ []) ⊎ ((prefix : List ℕ) × (text ≡ prefix ++ 10 ∷ []))
 
--- the bytes taken grew by whole lines at the beginning of the text (own)
+-- the bytes taken grew by whole lines at the beginning of the text
 pub record AppendsLines (old new : Option (List ℕ)) (text : List ℕ) : Type 0 where
   pub prefix : List ℕ
   pub rest : List ℕ
@@ -48,7 +48,7 @@ pub record AppendsLines (old new : Option (List ℕ)) (text : List ℕ) : Type 0
 
 -- What out took of the defined text: where an end is told, the whole text before it; after a write fault a prefix of it,
 -- after want of memory whole lines, and else nothing. A text is empty that ends as too long, with bad data, or with a refused
--- opening (own).
+-- opening.
 abbrev pub TakesFor : Outcome → Option (List ℕ) → Option (List ℕ) → List ℕ → Type 0
 TakesFor Done old new text = Appends old new text
 TakesFor Usage old new text = Keeps old new
@@ -60,16 +60,16 @@ TakesFor (Refused fault) old new text = Appends old new text
 TakesFor (BadEvent number cause) old new text = Appends old new text
 TakesFor Memory old new text = AppendsLines old new text
 
--- the outcome answers the defined output, of which out took its part (own)
+-- the outcome answers the defined output, of which out took its part
 pub record IsAnswer (output : Output) (old new : Option (List ℕ)) (outcome : Outcome) : Type 0 where
   pub ended : IsOutcomeOf output.end outcome
   pub taken : TakesFor outcome old new output.text
 
--- the outcome is that of the defined end, and out took the whole text; or memory was wanting (own)
+-- the outcome is that of the defined end, and out took the whole text; or memory was wanting
 abbrev pub IsComplete : Output → Option (List ℕ) → Option (List ℕ) → Outcome → Type 0
 IsComplete output old new outcome = ((told_end outcome ≡ Some output.end) × Appends old new output.text) ⊎ (outcome ≡ Memory)
 
--- an outcome that comes before any row, whatever the input tells (own)
+-- an outcome that comes before any row, whatever the input tells
 abbrev pub LeavesOutUntouched : Outcome → Type 0
 LeavesOutUntouched Done = ⊥
 LeavesOutUntouched Usage = Unit {0}
@@ -81,7 +81,7 @@ LeavesOutUntouched (Refused fault) = Unit {0}
 LeavesOutUntouched (BadEvent number cause) = ⊥
 LeavesOutUntouched Memory = ⊥
 
--- an outcome that comes before the bytes of the input are answered (own)
+-- an outcome that comes before the bytes of the input are answered
 abbrev pub ComesOfReadingAlone : Outcome → Type 0
 ComesOfReadingAlone Done = ⊥
 ComesOfReadingAlone Usage = Unit {0}
@@ -93,7 +93,7 @@ ComesOfReadingAlone (Refused fault) = ⊥
 ComesOfReadingAlone (BadEvent number cause) = ⊥
 ComesOfReadingAlone Memory = ⊥
 
--- an outcome that comes after the end of the input (own)
+-- an outcome that comes after the end of the input
 abbrev pub NeedsTheWholeInput : Outcome → Type 0
 NeedsTheWholeInput Done = Unit {0}
 NeedsTheWholeInput Usage = ⊥
@@ -106,7 +106,7 @@ NeedsTheWholeInput (BadEvent number cause) = Unit {0}
 NeedsTheWholeInput Memory = ⊥
 
 -- an outcome that `flat` may have: there is no data part and no opening, and no line is refused for another cause than its
--- form or its time (own)
+-- form or its time
 abbrev pub IsFlatOutcome : Outcome → Type 0
 IsFlatOutcome Done = Unit {0}
 IsFlatOutcome Usage = ⊥
@@ -118,7 +118,7 @@ IsFlatOutcome (Refused fault) = ⊥
 IsFlatOutcome (BadEvent number cause) = (1 ≤ number) × (cause ≡ Line)
 IsFlatOutcome Memory = Unit {0}
 
--- an outcome that records may have, once the supervisor is opened: none is refused as a line (own)
+-- an outcome that records may have, once the supervisor is opened: none is refused as a line
 abbrev pub IsRecordsOutcome : Outcome → Type 0
 IsRecordsOutcome Done = Unit {0}
 IsRecordsOutcome Usage = ⊥
@@ -130,7 +130,7 @@ IsRecordsOutcome (Refused fault) = ⊥
 IsRecordsOutcome (BadEvent number cause) = (1 ≤ number) × (cause ≢ Line)
 IsRecordsOutcome Memory = Unit {0}
 
--- an outcome that `run` may have: want of memory is never told inside another fault (own)
+-- an outcome that `run` may have: want of memory is never told inside another fault
 abbrev pub IsRunOutcome : Outcome → Type 0
 IsRunOutcome Done = Unit {0}
 IsRunOutcome Usage = ⊥
@@ -144,7 +144,7 @@ IsRunOutcome (Refused fault) = fault ≢ open_faults.Memory
 IsRunOutcome (BadEvent number cause) = (1 ≤ number) × (cause ≢ Line)
 IsRunOutcome Memory = Unit {0}
 
--- an outcome that `trial` may have: it reads nothing, and no data and no reading of it are refused (own)
+-- an outcome that `trial` may have: it reads nothing, and no data and no reading of it are refused
 abbrev pub IsTrialOutcome : Outcome → Type 0
 IsTrialOutcome Done = Unit {0}
 IsTrialOutcome Usage = ⊥
@@ -156,13 +156,13 @@ IsTrialOutcome (Refused fault) = ⊥
 IsTrialOutcome (BadEvent number cause) = ⊥
 IsTrialOutcome Memory = Unit {0}
 
--- an outcome that a command may have (own)
+-- an outcome that a command may have
 abbrev pub IsPossible : Command → Outcome → Type 0
 IsPossible (Flat decel end) outcome = IsFlatOutcome outcome
 IsPossible Run outcome = IsRunOutcome outcome
 IsPossible (Trial seed cycles) outcome = IsTrialOutcome outcome
 
--- the command reads the input to its end (own)
+-- the command reads the input to its end
 abbrev pub ReadsInput : Command → Type 0
 ReadsInput (Flat decel end) = Unit {0}
 ReadsInput Run = Unit {0}

@@ -14,17 +14,17 @@ use Rattle.sdm_data.specs.Journey.{data_of}
 use Rattle.sdm_events.specs.Journey.{Record, records_of}
 
 -- How the parts of an input are read: about the dividing line a TOML document and CSV records, as `toml` and `csv` define them
--- (own).
+--.
 abbrev pub run_reader : Reader Members Record
 run_reader = record { divide = divide; document = document_of; data_of = data_of; records = records_of; form = event_of }
 
--- the rows and the end of records, of which the first has the number `n`, from a supervision state on, as text (own)
+-- the rows and the end of records, of which the first has the number `n`, from a supervision state on, as text
 abbrev pub output_of_records : ℕ → Supervision → List Record → Output
 output_of_records n s records =
     let journey = journey_from event_of n s records in
     record { text = run_text journey.rows; end = end_of_journey journey.refused }
 
--- what `run` defines for the bytes of an input: the text of the rows of THE RUN, and its end (own)
+-- what `run` defines for the bytes of an input: the text of the rows of THE RUN, and its end
 pub record IsRunOutput (bytes : List ℕ) (output : Output) : Type 0 where
   pub rows : List Row
   pub run : IsRun run_reader bytes rows output.end

@@ -20,13 +20,13 @@ use Rattle.sdm_run.specs.Journeys.{output_of_records}
 
 -- ---- the data part
 
--- the data part is a document with these data, which break no rule (own)
+-- the data part is a document with these data, which break no rule
 pub record IsDataOf (bytes : List ℕ) (train_and_track : TrainAndTrack) (a : Authority) : Type 0 where
   pub members : Members
   pub document : document_of bytes ≡ Some members
   pub read : data_of members ≡ Ok (train_and_track, a)
 
--- the data part is a document with data that open this supervision state (own)
+-- the data part is a document with data that open this supervision state
 pub record IsOpeningOf (bytes : List ℕ) (s : Supervision) : Type 0 where
   pub train_and_track : TrainAndTrack
   pub authority : Authority
@@ -35,7 +35,7 @@ pub record IsOpeningOf (bytes : List ℕ) (s : Supervision) : Type 0 where
   pub state : s ≡ opening train_and_track authority
 
 -- the outcome of a data part that opens none: no document, the first rule that is broken, or the first fault of the opening; want
--- of memory may come at any time (own)
+-- of memory may come at any time
 abbrev pub IsRefusedBy : List ℕ → Outcome → Type 0
 IsRefusedBy bytes Done = ⊥
 IsRefusedBy bytes Usage = ⊥
@@ -52,7 +52,7 @@ IsRefusedBy bytes Memory = ⊤
 -- ---- the records
 
 -- The record of the number `n` was taken, and its row was written: what it and the records after it define is its text and what
--- these define from the next state on (own).
+-- these define from the next state on.
 pub record TakesRecord (old new : Option (List ℕ)) (n : ℕ) (s t : Supervision) (records more : List Record) : Type 0 where
   pub text : List ℕ
   pub first : output_of_records n s records ≡ record { text = text ++ (output_of_records (suc n) t more).text; end = (output_of_records (suc n) t more).end }
@@ -61,7 +61,7 @@ pub record TakesRecord (old new : Option (List ℕ)) (n : ℕ) (s t : Supervisio
   pub counted : n ≤ most_records
   pub fewer : length more < length records
 
--- what the answer of a turn says: a record was taken, none was left, or the run ends (own)
+-- what the answer of a turn says: a record was taken, none was left, or the run ends
 abbrev pub IsTurnAnswer : Option (List ℕ) → Option (List ℕ) → ℕ → Supervision → Supervision → List Record → List Record → Result Bool Outcome → Type 0
 IsTurnAnswer old new n s t records more (Ok true) = TakesRecord old new n s t records more
 IsTurnAnswer old new n s t records more (Ok false) = (records ≡ []) × (new ≡ old)

@@ -5,7 +5,7 @@ use Rattle.sdm_rules.specs.declared.faults.CycleFault.{CycleFault}
 use Rattle.sdm_rules.specs.Records.{time_fault}
 use Rattle.sdm_rules.specs.Flat.{FlatSupervision, FlatLine, flat_line, flat_row, after_flat_line, lines_of}
 
--- the bytes write a line that is accepted: this is its row, and this the state after it (own)
+-- the bytes write a line that is accepted: this is its row, and this the state after it
 pub record IsAcceptedLine (old new : FlatSupervision) (bytes : List ℕ) (row : FlatRow) : Type 0 where
   pub line : FlatLine
   pub read : flat_line bytes ≡ Some line
@@ -13,16 +13,16 @@ pub record IsAcceptedLine (old new : FlatSupervision) (bytes : List ℕ) (row : 
   pub row_is : row ≡ flat_row old line
   pub after : new ≡ after_flat_line old line
 
--- the bytes are no line of the form due, or its time is before that of the last accepted one (own)
+-- the bytes are no line of the form due, or its time is before that of the last accepted one
 abbrev pub IsRefusedLine : FlatSupervision → List ℕ → Type 0
 IsRefusedLine s bytes = (flat_line bytes ≡ None) ⊎ ((l : FlatLine) × (fault : CycleFault) × (flat_line bytes ≡ Some l) × (time_fault s.last_time l.time ≡ Some fault))
 
--- the first line of the bytes is accepted, and `after` are the bytes of the lines after it (own)
+-- the first line of the bytes is accepted, and `after` are the bytes of the lines after it
 pub record TakesLine (old new : FlatSupervision) (bytes : List ℕ) (row : FlatRow) (after : List ℕ) : Type 0 where
   pub text : List ℕ
   pub lines : lines_of bytes ≡ text ∷ lines_of after
   pub accepted : IsAcceptedLine old new text row
 
--- the first line of the bytes is refused (own)
+-- the first line of the bytes is refused
 abbrev pub RefusesLine : FlatSupervision → List ℕ → Type 0
 RefusesLine s bytes = (text : List ℕ) (more : List (List ℕ)) → lines_of bytes ≡ text ∷ more → IsRefusedLine s text

@@ -9,34 +9,34 @@ use Rattle.sdm_rules.specs.Records.{most_records}
 use Rattle.sdm_run.specs.declared.words.Command.{Command}
 use Rattle.sdm_run.specs.declared.words.Command.TheVariants.{Flat, Run, Trial}
 
--- `flat` with its two numbers, if both are read (own)
+-- `flat` with its two numbers, if both are read
 abbrev pub flat_of : Result ℤ FieldFault → Result ℤ FieldFault → Option Command
 flat_of (Ok decel) (Ok end) = Some (Flat (unsigned_abs decel) (unsigned_abs end))
 flat_of (Ok decel) (Err fault) = None
 flat_of (Err fault) end = None
 
--- the words after `flat`: A in cm/s², END in cm (own)
+-- the words after `flat`: A in cm/s², END in cm
 abbrev pub flat_command : List (List ℕ) → Option Command
 flat_command (decel ∷ end ∷ []) = flat_of (read_int decel (pos 5) (pos 400)) (read_int end (pos 0) (pos longest_track))
 flat_command _ = None
 
--- `run` has no words after it (own)
+-- `run` has no words after it
 abbrev pub run_command : List (List ℕ) → Option Command
 run_command [] = Some Run
 run_command _ = None
 
--- `trial` with its two numbers, if both are read (own)
+-- `trial` with its two numbers, if both are read
 abbrev pub trial_of : Result ℤ FieldFault → Result ℤ FieldFault → Option Command
 trial_of (Ok seed) (Ok cycles) = Some (Trial (unsigned_abs seed) (unsigned_abs cycles))
 trial_of (Ok seed) (Err fault) = None
 trial_of (Err fault) cycles = None
 
--- the words after `trial`: NUMBER and CYCLES (own)
+-- the words after `trial`: NUMBER and CYCLES
 abbrev pub trial_command : List (List ℕ) → Option Command
 trial_command (seed ∷ cycles ∷ []) = trial_of (read_int seed (pos 0) (pos 65_535)) (read_int cycles (pos 1) (pos most_records))
 trial_command _ = None
 
--- the shapes of the words, each with its command: `run`, `flat A END`, and `trial NUMBER CYCLES` (own)
+-- the shapes of the words, each with its command: `run`, `flat A END`, and `trial NUMBER CYCLES`
 unfoldable pub command_of : List (List ℕ) → Option Command
 command_of [] = None
 command_of (name ∷ more) =
@@ -45,11 +45,11 @@ command_of (name ∷ more) =
     else if bytes_eq name (codes "trial") then trial_command more
     else None
 
--- the command that the words ask for, if they ask for one (own)
+-- the command that the words ask for, if they ask for one
 abbrev pub asked_by : List (String Global) → Option Command
 asked_by words = command_of (map string_bytes words)
 
--- the numbers of a command are in their ranges (own)
+-- the numbers of a command are in their ranges
 abbrev pub IsCommandInRange : Command → Type 0
 IsCommandInRange (Flat decel end) = (5 ≤ decel) × (decel ≤ 400) × (end ≤ longest_track)
 IsCommandInRange Run = Unit {0}

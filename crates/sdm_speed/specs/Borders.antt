@@ -10,34 +10,34 @@ use Rattle.sdm_speed.specs.Steps.{IsStart, KeepsStarts, speeds_of}
 abbrev pub speed_under : ℤ → ℕ → List Step → List Restriction → ℤ → ℕ
 speed_under length_cm before statics held cell = lowest_limit (speeds_of before statics cell) cell (map (zone_of length_cm) held)
 
--- the zone of a restriction begins or ends at the cell, for a train of a length in cm (own)
+-- the zone of a restriction begins or ends at the cell, for a train of a length in cm
 abbrev pub IsEnd : ℤ → ℤ → Restriction → Type 0
 IsEnd length_cm cell r = (pos r.start ≡ cell) ⊎ (end_for length_cm r.delayed (pos r.end) ≡ cell)
 
--- the zone of one of the restrictions begins or ends at the cell (own)
+-- the zone of one of the restrictions begins or ends at the cell
 abbrev pub IsEndOfOne : ℤ → ℤ → List Restriction → Type 0
 IsEndOfOne length_cm cell [] = ⊥
 IsEndOfOne length_cm cell (r ∷ rs) = IsEnd length_cm cell r ⊎ IsEndOfOne length_cm cell rs
 
--- a static step starts at the cell, or the zone of one of the restrictions begins or ends there (own)
+-- a static step starts at the cell, or the zone of one of the restrictions begins or ends there
 abbrev pub IsBorder : ℤ → List Step → List Restriction → ℤ → Type 0
 IsBorder length_cm statics held cell = IsStart cell statics ⊎ IsEndOfOne length_cm cell held
 
--- steps start at these borders, and at no other cells (own)
+-- steps start at these borders, and at no other cells
 pub record AreAtBorders (length_cm : ℤ) (statics : List Step) (held : List Restriction) (steps : List Step) : Type 0 where
   pub each : (c : ℤ) → IsBorder length_cm statics held c → IsStart c steps
   pub no_other : (c : ℤ) → IsStart c steps → IsBorder length_cm statics held c
 
--- the step with the speed that holds at its start (own)
+-- the step with the speed that holds at its start
 abbrev pub retaken : (ℤ → ℕ) → Step → Step
 retaken speed s = record { start = s.start; speed = speed s.start }
 
--- each step has the speed that holds at its start (own)
+-- each step has the speed that holds at its start
 abbrev pub AreSpeedsAt : (ℤ → ℕ) → List Step → Type 0
 AreSpeedsAt speed [] = Unit {0}
 AreSpeedsAt speed (s ∷ ss) = (s.speed ≡ speed s.start) × AreSpeedsAt speed ss
 
--- of steps that a zone splits, those that were stay, and steps start at its ends and nowhere else (own)
+-- of steps that a zone splits, those that were stay, and steps start at its ends and nowhere else
 pub record HasStartsOf (z : Zone) (old new : List Step) : Type 0 where
   pub kept : KeepsStarts old new
   pub first : (b : ℤ) → z.first ≡ Some b → IsStart b new

@@ -9,7 +9,7 @@ use Rattle.sdm_speed.specs.declared.changes.Changed.{Changed}
 abbrev pub cells_of : ℤ → Restriction → Changed
 cells_of length_cm r = record { first = pos r.start; past = end_for length_cm r.delayed (pos r.end) }
 
--- two profiles are the same before the first of these cells, and from the one past the last on (own)
+-- two profiles are the same before the first of these cells, and from the one past the last on
 pub record AreSameOutside (p q : ℤ → ℕ) (changed : Changed) : Type 0 where
   pub before : (c : ℤ) → c <ℤ changed.first → q c ≡ p c
   pub from : (c : ℤ) → changed.past ≤ℤ c → q c ≡ p c

@@ -6,25 +6,25 @@ use Rattle.sdm_rules.specs.declared.restrictions.Restriction.{Restriction}
 use Rattle.sdm_rules.specs.Ranges.{longest_track}
 use Rattle.sdm_speed.specs.Zones.{IsLimit}
 
--- the restriction has the identity (own)
+-- the restriction has the identity
 abbrev pub has_id : ℕ → Restriction → Bool
 has_id id r = r.id == id
 
--- a restriction beside its identity (own)
+-- a restriction beside its identity
 abbrev pub keyed : Restriction → ℕ × Restriction
 keyed r = (r.id, r)
 
--- the restrictions as a map from identities (own)
+-- the restrictions as a map from identities
 abbrev pub by_identity : List Restriction → finite.FinMap nat_cmp Restriction
 by_identity rs = finite.from_entries (map keyed rs)
 
--- a restriction that is held covers a cell of the longest track, and has a limit (own)
+-- a restriction that is held covers a cell of the longest track, and has a limit
 pub record IsHeldRestriction (r : Restriction) : Type 0 where
   pub some_cell : r.start < r.end
   pub on_track : r.end ≤ longest_track
   pub limited : IsLimit r.speed
 
--- no two of the restrictions have one identity (own)
+-- no two of the restrictions have one identity
 abbrev pub AreDistinct : List Restriction → Type 0
 AreDistinct [] = Unit {0}
 AreDistinct (r ∷ rs) = (finite.find nat_cmp r.id (map keyed rs) ≡ None) × AreDistinct rs

@@ -9,7 +9,7 @@ use Rattle.sdm_speed.specs.Zones.{IsZone, zone_limits}
 use Rattle.sdm_speed.specs.Steps.{AreRising, speeds_of}
 use Rattle.sdm_speed.specs.Profiles.{ProfileData, IsProfile}
 
--- the value that callers see (own)
+-- the value that callers see
 abbrev pub profile_data_of : Inside → ProfileData
 profile_data_of f = record {
   max_speed = f.max_speed;
@@ -19,15 +19,15 @@ profile_data_of f = record {
   restrictions = by_identity f.held.items;
 }
 
--- the zones of the static speed profile (own)
+-- the zones of the static speed profile
 abbrev pub static_zones_of : Inside → List Zone
 static_zones_of f = zones_of_track (pos f.length_cm) f.speeds.items
 
--- the zones of the restrictions held, in the order in which they were put into force (own)
+-- the zones of the restrictions held, in the order in which they were put into force
 abbrev pub held_zones_of : Inside → List Zone
 held_zones_of f = map (zone_of (pos f.length_cm)) f.held.items
 
--- the steps give the lowest limits, without and with the restrictions held; there is room for as many steps as may be (own)
+-- the steps give the lowest limits, without and with the restrictions held; there is room for as many steps as may be
 pub record IsKeptProfile (f : Inside) : Type 0 where
   pub in_range : IsProfile (profile_data_of f)
   pub distinct : AreDistinct f.held.items

@@ -17,7 +17,7 @@ use Rattle.sdm_braking.specs.declared.kept.Kept.{Kept}
 use Rattle.sdm_braking.specs.Kept.{IsKept}
 use Rattle.sdm_braking.specs.KeptCurves.{IsCurveOn}
 
--- the speed profile is that of the data (own)
+-- the speed profile is that of the data
 pub record IsProfileOf (d : TrainAndTrack) (p : ProfileData) : Type 0 where
   pub max_speed : unsigned_abs d.train.max_speed ≡ p.max_speed
   pub length_cm : d.train.length_cm ≡ p.length_cm
@@ -25,7 +25,7 @@ pub record IsProfileOf (d : TrainAndTrack) (p : ProfileData) : Type 0 where
   pub speeds : d.track.speeds ≡ p.speeds
 
 -- what every supervisor keeps beside its state: its profile is that of its data, its authority is accepted, and the targets that it keeps
--- are those of its profile and its authority (own)
+-- are those of its profile and its authority
 pub record IsSupervisorOf (d : TrainAndTrack) (p : ProfileData) (a : Authority) (k : Kept) : Type 0 where
   pub profile : IsProfileOf d p
   pub authority : authority_fault d.track.length_cm a ≡ None

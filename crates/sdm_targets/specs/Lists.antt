@@ -17,11 +17,11 @@ pub record IsTarget (t : Target) : Type 0 where
   pub on_track : t.place ≤ℤ place_of_cell (pos longest_track)
   pub speed : t.speed ≤ top_kmh
 
--- the room of a list (own)
+-- the room of a list
 abbrev pub room : ℕ
 room = 170
 
--- the most falls of a profile: each lies where an entry or a restriction begins (own)
+-- the most falls of a profile: each lies where an entry or a restriction begins
 abbrev pub most_falls : ℕ
 most_falls = most_speeds + most_restrictions
 
@@ -30,7 +30,7 @@ most_falls = most_speeds + most_restrictions
 abbrev pub falls_past : (ℤ → ℕ) → ℤ → ℤ → List Target
 falls_past profile after end = map (fall_at profile) (filter (is_fall profile) (cells (after +ℤ pos 1) (int_gap after end)))
 
--- the ends of the authority lie on the longest track, and a limit's speed is at most 500 km/h (own)
+-- the ends of the authority lie on the longest track, and a limit's speed is at most 500 km/h
 abbrev pub IsOnTrack : Authority → Type 0
 IsOnTrack (Stop eoa svl release) = (pos eoa ≤ℤ pos longest_track) × (pos svl ≤ℤ pos longest_track)
 IsOnTrack (Limit loa speed) = (pos loa ≤ℤ pos longest_track) × (speed ≤ top_kmh)

@@ -4,7 +4,7 @@ use Rattle.sdm_rules.specs.declared.data.Band.{Band}
 use Rattle.sdm_rules.specs.Data.{TrainData, HasBands}
 use Rattle.sdm_rules.specs.Ranges.{train_fault, longest_train, top_kmh}
 
--- the ranges of a band's numbers (own)
+-- the ranges of a band's numbers
 pub record IsBand (b : Band) : Type 0 where
   pub upper : IfSome b.upper (λ kmh. (pos 1 ≤ℤ kmh) × (kmh ≤ℤ pos top_kmh))
   pub emergency : (pos 1 ≤ℤ b.emergency) × (b.emergency ≤ℤ pos 400)  -- cm/s²
@@ -15,7 +15,7 @@ pub record IsBand (b : Band) : Type 0 where
   pub kn_up : (pos 0 ≤ℤ b.kn_up) × (b.kn_up ≤ℤ pos 1000)  -- cm/s²
   pub kn_down : (pos 0 ≤ℤ b.kn_down) × (b.kn_down ≤ℤ pos 1000)  -- cm/s²
 
--- an accepted train: the ranges of its numbers, and its bands (own)
+-- an accepted train: the ranges of its numbers, and its bands
 pub record IsTrain (t : TrainData) : Type 0 where
   pub length_cm : (pos 1 ≤ℤ t.length_cm) × (t.length_cm ≤ℤ pos longest_train)
   pub max_speed : (pos 1 ≤ℤ t.max_speed) × (t.max_speed ≤ℤ pos top_kmh)  -- km/h

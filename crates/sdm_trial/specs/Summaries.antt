@@ -5,7 +5,6 @@ use Rattle.sdm_rules.specs.declared.rows.Row.{Row}
 use Rattle.sdm_rules.specs.Trial.{ebi_sum}
 
 -- how many rows there are, how many of them are covered or have a brake commanded, and the sum of the EBI places in mm, modulo 10^9
--- (own)
 pub record Counts : Type 0 where
   pub rows : ℕ
   pub covered : ℕ
@@ -13,7 +12,7 @@ pub record Counts : Type 0 where
   pub service : ℕ
   pub ebi : ℤ
 
--- the counts of rows (own)
+-- the counts of rows
 abbrev pub counts_of : List Row → Counts
 counts_of rows = record {
   rows = length rows;
