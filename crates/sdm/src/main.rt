@@ -1,7 +1,7 @@
 //! The program: the words and the standard streams, handed to the top call.
 #![tactic(auto)]
 
-use sdm_io::{StdSink, StdSource};
+use sdm_io::{BlockSink, StdSink, StdSource};
 use sdm_run::{Outcome, sdm_main, told};
 use std::env;
 use std::io::ErrorKind;
@@ -27,13 +27,12 @@ fn words_of(rt: &HostRuntime) -> Option<Vec<String>> {
 
 fn main(rt: HostRuntime) -> ExitCode {
     let mut err = StdSink::new(rt.stderr());
-    let outcome = match words_of(&rt) {
-        Some(words) => {
+    let outcome = match (words_of(&rt), BlockSink::new(rt.alloc(), rt.stdout())) {
+        (Some(words), Ok(mut out)) => {
             let mut input = StdSource::new(rt.stdin());
-            let mut out = StdSink::new(rt.stdout());
             sdm_main(rt.alloc(), &words, &mut input, &mut out, &mut err)
         }
-        None => told(Outcome::Memory, &mut err),
+        _ => told(Outcome::Memory, &mut err),
     };
     ExitCode::from(outcome.code())
 }

@@ -26,8 +26,8 @@ pub enum Unread {
     Memory,
 }
 
-// The most bytes that are asked for at once: 4 KiB.
-const CHUNK: usize = 4_096;
+// The most bytes that are asked for at once: 64 KiB.
+const CHUNK: usize = 65_536;
 
 // One turn of the reading loop, with so many bytes still free below the limit: the next bytes are kept after those before. True
 // where at least one was taken, so that there may be more; false at the end of the input, which takes none.
