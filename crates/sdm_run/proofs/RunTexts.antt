@@ -23,14 +23,9 @@ use Rattle.sdm_report.specs.declared.outcome.Outcome.TheVariants.{Done, Usage, R
 use Rattle.sdm_events.specs.Journey.{Record}
 use Rattle.sdm_run.specs.Answers.{IsAnswer, LeavesOutUntouched, IsOutcomeOf, IsRecordsOutcome, AreWholeLines, TakesFor}
 use Rattle.sdm_run.specs.Journeys.{output_of_records}
-use Rattle.sdm_run.specs.RunParts.{TakesRecord}
+use Rattle.sdm_run.specs.RunParts.{TakesRecord, text_of}
 
 -- ---- one record
-
--- the text of a record: that of its row, where it is a reading
-abbrev text_of : Option Row → List ℕ
-text_of None = []
-text_of (Some row) = row_text row
 
 -- it is no line, or ends with a line feed
 whole_text : (row : Option Row) → AreWholeLines (text_of row)

@@ -4,11 +4,16 @@ use Rattle.std.specs.Io.KnownBytes.{Appends}
 use Rattle.toml.specs.Data.{Members}
 use Rattle.sdm_rules.specs.declared.authorities.Authority.{Authority}
 use Rattle.sdm_rules.specs.declared.faults.DataFault.TheVariants as data_faults
+use Rattle.sdm_rules.specs.declared.faults.EventFault.{EventFault}
 use Rattle.sdm_rules.specs.declared.faults.OpenFault.TheVariants as open_faults
+use Rattle.sdm_rules.specs.declared.records.Event.{Event}
+use Rattle.sdm_rules.specs.declared.records.Event.TheVariants as record_kinds
+use Rattle.sdm_rules.specs.declared.rows.Row.{Row}
 use Rattle.sdm_rules.specs.Data.{TrainAndTrack}
 use Rattle.sdm_rules.specs.Opening.{IsAccepted, IsOpenFault}
 use Rattle.sdm_rules.specs.Records.{most_records}
-use Rattle.sdm_rules.specs.Supervision.{Supervision, opening}
+use Rattle.sdm_rules.specs.Supervision.{Supervision, opening, row_of}
+use Rattle.sdm_rules.specs.Text.{row_text}
 use Rattle.sdm_report.specs.declared.outcome.InputFault.TheVariants.{NoSplit, Toml, Data}
 use Rattle.sdm_report.specs.declared.outcome.Outcome.{Outcome}
 use Rattle.sdm_report.specs.declared.outcome.Outcome.TheVariants.{Done, Usage, ReadFault, WriteFault, TooLong, BadData, Refused, BadEvent, Memory}
@@ -50,6 +55,23 @@ IsRefusedBy bytes (BadEvent number cause) = ⊥
 IsRefusedBy bytes Memory = ⊤
 
 -- ---- the records
+
+-- the row of an event that is taken: a reading has one
+abbrev pub row_at : Supervision → Event → Option Row
+row_at s (record_kinds.Read r) = Some (row_of s r)
+row_at s (record_kinds.Authority a) = None
+row_at s (record_kinds.Restrict r) = None
+row_at s (record_kinds.Revoke id) = None
+
+-- the row of a record that is taken: one whose form is refused has none
+abbrev pub row_of_record : Supervision → Result Event EventFault → Option Row
+row_of_record s (Ok e) = row_at s e
+row_of_record s (Err fault) = None
+
+-- the text of a row, empty where there is none
+abbrev pub text_of : Option Row → List ℕ
+text_of None = []
+text_of (Some row) = row_text row
 
 -- The record of the number `n` was taken, and its row was written: what it and the records after it define is its text and what
 -- these define from the next state on.

@@ -1,6 +1,6 @@
 //! The records of `run`: each is taken, and its row written, before the next one is read.
 
-ghost use Rattle.std.specs.Prelude.{◌≡◌, ◌⊎◌, ◌≤◌, false, Ok, Err, IfOk, IfErr, OnOk, OnErr, is_ok};
+ghost use Rattle.std.specs.Prelude.{◌≡◌, ◌⊎◌, ◌≤◌, [], false, Some, Ok, Err, IfErr, OnOk, OnErr, is_ok};
 ghost use Rattle.std.specs.Io.KnownBytes.{Appends};
 ghost use Rattle.csv.specs.Records.{fields_of};
 ghost use Rattle.sdm_io.specs.Causes.{HasCause, Rose};
@@ -11,8 +11,9 @@ ghost use Rattle.sdm_events.specs.Journey.{IsInForm, records_of};
 ghost use Rattle.sdm_rules.specs.declared.records.Event.TheVariants as record_kinds;
 ghost use Rattle.sdm_run.specs.Answers.{IsAnswer, IsRecordsOutcome};
 ghost use Rattle.sdm_run.specs.Journeys.{output_of_records};
+ghost use Rattle.sdm_rules.specs.Supervision.{row_of};
 ghost use Rattle.sdm_rules.specs.Text.{row_text};
-ghost use Rattle.sdm_run.specs.RunParts.{IsTurnAnswer};
+ghost use Rattle.sdm_run.specs.RunParts.{IsTurnAnswer, row_at, row_of_record, text_of};
 
 use crate::endings::Ended;
 use sdm_events::{ByteRecord, Event, EventFault, Records, event_of};
@@ -20,53 +21,71 @@ use sdm_io::{Failed, Sink, write_piece};
 use sdm_num::{NoMemory, Reading};
 use sdm_report::{EventCause, Outcome, row_bytes};
 use sdm_rules::{Authority, MOST_RECORDS, Restriction};
-use sdm_supervisor::{CycleFault, Row, Supervisor};
+use sdm_supervisor::{CycleFault, Supervisor};
 use sdm_text::RowBuf;
 use std::alloc::Global;
 
-// Takes a reading: its row.
+// Takes a reading, and puts its row.
 #[tactic(auto, unfolding(sdm_rules::specs::Records::step))]
-fn take_reading(supervisor: &mut Supervisor, reading: &Reading) -> Result<Option<Row>, EventCause>
-    ensures accepted { IfOk result (λ row. step supervisor.old (record_kinds.Read reading.now) ≡ Ok (record { after = supervisor.new; row = row })) }
+fn take_reading(
+    supervisor: &mut Supervisor,
+    reading: &Reading,
+    text: &mut RowBuf,
+) -> Result<(), EventCause>
+    requires { text.old ≡ [] }
+    ensures accepted { OnOk result (step supervisor.old (record_kinds.Read reading.now) ≡ Ok (record { after = supervisor.new; row = Some (row_of supervisor.old reading.now) })) }
+    ensures text { OnOk result (text.new ≡ row_text (row_of supervisor.old reading.now)) }
     ensures refused { IfErr result (λ cause. step supervisor.old (record_kinds.Read reading.now) ≡ Err cause) }
 {
     match supervisor.cycle(reading) {
-        Ok(row) => Ok(Some(row)),
+        Ok(row) => {
+            row_bytes(&row, text);
+            Ok(())
+        }
         Err(CycleFault::TimeBack { last, time }) => Err(EventCause::TimeBack { last, time }),
     }
 }
 
-// Takes an event: its row, where it is a reading.
+// Takes an event, and puts its row, where it is a reading.
 #[tactic(auto, unfolding(sdm_rules::specs::Records::step))]
-fn take_event(supervisor: &mut Supervisor, event: Event) -> Result<Option<Row>, EventCause>
-    requires { IsInForm event }
-    ensures accepted { IfOk result (λ row. step supervisor.old event ≡ Ok (record { after = supervisor.new; row = row })) }
+fn take_event(
+    supervisor: &mut Supervisor,
+    event: Event,
+    text: &mut RowBuf,
+) -> Result<(), EventCause>
+    requires form { IsInForm event }
+    requires empty { text.old ≡ [] }
+    ensures accepted { OnOk result (step supervisor.old event ≡ Ok (record { after = supervisor.new; row = row_at supervisor.old event })) }
+    ensures text { OnOk result (text.new ≡ text_of (row_at supervisor.old event)) }
     ensures refused { IfErr result (λ cause. step supervisor.old event ≡ Err cause) }
 {
     match event {
-        Event::Read(reading) => take_reading(supervisor, &reading),
+        Event::Read(reading) => take_reading(supervisor, &reading, text),
         Event::Authority(a) => match supervisor.authority(a) {
-            Ok(()) => Ok(None),
+            Ok(()) => Ok(()),
             Err(fault) => Err(EventCause::Authority(fault)),
         },
         Event::Restrict(r) => match supervisor.restrict(r) {
-            Ok(()) => Ok(None),
+            Ok(()) => Ok(()),
             Err(fault) => Err(EventCause::Restrict(fault)),
         },
         Event::Revoke { id } => match supervisor.revoke(id) {
-            Ok(()) => Ok(None),
+            Ok(()) => Ok(()),
             Err(fault) => Err(EventCause::Revoke(fault)),
         },
     }
 }
 
-// Takes the record of a number, which counts from 1: its row, where it is a reading.
+// Takes the record of a number, which counts from 1, and puts its row, where it is a reading.
 fn take_record(
     supervisor: &mut Supervisor,
     number: u32,
     record: &ByteRecord,
-) -> Result<Option<Row>, EventCause>
-    ensures accepted { IfOk result (λ row. step_of supervisor.old (event_at event_of number (fields_of record.now)) ≡ Ok (record { after = supervisor.new; row = row })) }
+    text: &mut RowBuf,
+) -> Result<(), EventCause>
+    requires { text.old ≡ [] }
+    ensures accepted { OnOk result (step_of supervisor.old (event_at event_of number (fields_of record.now)) ≡ Ok (record { after = supervisor.new; row = row_of_record supervisor.old (event_at event_of number (fields_of record.now)) })) }
+    ensures text { OnOk result (text.new ≡ text_of (row_of_record supervisor.old (event_at event_of number (fields_of record.now)))) }
     ensures counted { OnOk result (number ≤ most_records) }
     ensures refused { IfErr result (λ cause. step_of supervisor.old (event_at event_of number (fields_of record.now)) ≡ Err cause) }
 {
@@ -74,7 +93,7 @@ fn take_record(
         return Err(EventCause::Form(EventFault::TooMany));
     }
     match event_of(record) {
-        Ok(event) => take_event(supervisor, event),
+        Ok(event) => take_event(supervisor, event, text),
         Err(fault) => Err(EventCause::Form(fault)),
     }
 }
@@ -97,15 +116,13 @@ impl RowWriter {
         }
     }
 
-    // Writes a row.
-    fn write<O: Sink>(&mut self, row: &Row, out: &mut O) -> Result<(), Failed>
-        ensures ok { OnOk result (Appends (O.taken out.old) (O.taken out.new) (row_text row.now)) }
-        ensures err { OnErr result (AppendsPart (O.taken out.old) (O.taken out.new) (row_text row.now)) }
+    // Writes the row that was put.
+    fn write<O: Sink>(&mut self, out: &mut O) -> Result<(), Failed>
+        ensures ok { OnOk result (Appends (O.taken out.old) (O.taken out.new) self.old.text) }
+        ensures err { OnErr result (AppendsPart (O.taken out.old) (O.taken out.new) self.old.text) }
         ensures cause { HasCause (O.faults out.old) (O.faults out.new) result }
         ensures due { self.new.is_flush_due ≡ is_ok result }
     {
-        self.text.clear();
-        row_bytes(row, &mut self.text);
         let written = write_piece(out, self.text.bytes());
         self.is_flush_due = written.is_ok();
         written
@@ -135,13 +152,17 @@ fn turn<O: Sink>(
         Ok(false) => return Ok(false),
         Err(NoMemory) => return Err(Outcome::Memory),
     }
-    match take_record(supervisor, number, record) {
-        Ok(Some(row)) => match rows.write(&row, out) {
-            Ok(()) => Ok(true),
-            Err(_) => Err(Outcome::WriteFault),
-        },
-        Ok(None) => Ok(true),
-        Err(cause) => Err(Outcome::BadEvent { number, cause }),
+    rows.text.clear();
+    match take_record(supervisor, number, record, &mut rows.text) {
+        Ok(()) => {}
+        Err(cause) => return Err(Outcome::BadEvent { number, cause }),
+    }
+    if rows.text.bytes().is_empty() {
+        return Ok(true);
+    }
+    match rows.write(out) {
+        Ok(()) => Ok(true),
+        Err(_) => Err(Outcome::WriteFault),
     }
 }
 
