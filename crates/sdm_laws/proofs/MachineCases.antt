@@ -75,13 +75,13 @@ at_14_m_s place = reading_at 0 place 756_000
 commanded : CurvePlaces → ℕ → ℤ → Bool
 commanded P shift place =
     let r = at_14_m_s place in
-    emergency_after false (triggers_of (limits_of P two_bands.line r) shift (situation_with two_bands.line two_bands.authority [] r)) false false
+    emergency_after false (triggers_of (limits_of P two_bands.train_and_track r) shift (situation_with two_bands.train_and_track two_bands.authority [] r)) false false
 
 commanded_by : (P : CurvePlaces) (shift : ℕ) (place : ℤ) → machine_after P shift two_bands (at_14_m_s place) false ≡ commanded P shift place
 unfolding machine_after two_bands at_14_m_s reading_at two_band_line plain_train_and_track plain_national commanded emergency_after
 commanded_by P shift place =
     let r = at_14_m_s place in
-    ap (λ now. emergency_after false (triggers_of (limits_of P two_bands.line r) shift now) false false) (opening_situation two_bands.line two_bands.authority r)
+    ap (λ now. emergency_after false (triggers_of (limits_of P two_bands.train_and_track r) shift now) false false) (opening_situation two_bands.train_and_track two_bands.authority r)
 
 -- 0.7 m/s² in two bands that meet at 18 km/h, cell by cell the same
 even : ℕ → ℤ → ℕ
@@ -92,7 +92,7 @@ even (suc (suc band)) cell = 0
 even_slopes : Slopes
 even_slopes = record { q = 100; uppers = 270_000 ∷ []; slope = even }
 
-each_slope : (kind : SlopeKind) (band : ℕ) (cell : ℤ) → unsigned_abs (slope_at kind two_bands.line band cell) ≡ even band cell
+each_slope : (kind : SlopeKind) (band : ℕ) (cell : ℤ) → unsigned_abs (slope_at kind two_bands.train_and_track band cell) ≡ even band cell
 unfolding two_bands two_band_line band_up_to plain_train_and_track plain_national plain_band slope_at even
 each_slope Safe zero (pos cell) = refl
 each_slope Safe zero (negsuc cell) = refl
@@ -113,7 +113,7 @@ each_slope Normal (suc zero) (negsuc cell) = refl
 each_slope Normal (suc (suc band)) (pos cell) = refl
 each_slope Normal (suc (suc band)) (negsuc cell) = refl
 
-same_slopes : (kind : SlopeKind) → slopes_of kind two_bands.line ≡ even_slopes
+same_slopes : (kind : SlopeKind) → slopes_of kind two_bands.train_and_track ≡ even_slopes
 unfolding two_bands two_band_line band_up_to plain_train_and_track plain_band slopes_of even_slopes
 same_slopes kind = ap (λ f. record { q = 100; uppers = 270_000 ∷ []; slope = f }) (fun_ext (λ band. fun_ext (λ cell. each_slope kind band cell)))
 
@@ -139,12 +139,12 @@ svl = record { kind = Svl; place = pos 540_000_000_000_000; speed = 0 }
 
 -- their limits with a place of both curves at 14 m/s: no time of reaction, so EBI and SBI lie there, too
 limits_with : Fraction → Target → SupervisionLimits
-limits_with x t = limits_of (λ on f w v. x) two_bands.line (at_14_m_s (pos 0)) t
+limits_with x t = limits_of (λ on f w v. x) two_bands.train_and_track (at_14_m_s (pos 0)) t
 
 -- the limits of both targets follow from the place of the curves at 14 m/s
 limits_by_place : (P : CurvePlaces) (place : ℤ) (x : Fraction) →
     P even_slopes (pos 540_000_000_000_000) 0 756_000 ≡ x →
-    (limits_of P two_bands.line (at_14_m_s place) eoa ≡ limits_with x eoa) × (limits_of P two_bands.line (at_14_m_s place) svl ≡ limits_with x svl)
+    (limits_of P two_bands.train_and_track (at_14_m_s place) eoa ≡ limits_with x eoa) × (limits_of P two_bands.train_and_track (at_14_m_s place) svl ≡ limits_with x svl)
 unfolding two_bands two_band_line plain_train_and_track plain_national at_14_m_s reading_at eoa svl limits_with limits_of reaction_times
 limits_by_place P place x at = (
   rw (same_slopes Expected, at) refl,
@@ -176,14 +176,14 @@ decided x shift place = emergency_after false (triggers_of (limits_with x) shift
 
 commanded_at : (P : CurvePlaces) (shift : ℕ) (place : ℤ) (x : Fraction) →
     P even_slopes (pos 540_000_000_000_000) 0 756_000 ≡ x →
-    situation_with two_bands.line two_bands.authority [] (at_14_m_s place) ≡ seen_at place →
+    situation_with two_bands.train_and_track two_bands.authority [] (at_14_m_s place) ≡ seen_at place →
     machine_after P shift two_bands (at_14_m_s place) false ≡ decided x shift place
 unfolding commanded decided
 commanded_at P shift place x at seen =
     let limits = limits_by_place P place x at in
     commanded_by P shift place
-    ∙ (ap (λ now. emergency_after false (triggers_of (limits_of P two_bands.line (at_14_m_s place)) shift now) false false) seen
-    ∙ ap (λ t. emergency_after false t false false) (triggers_of_two (limits_of P two_bands.line (at_14_m_s place)) (limits_with x) shift place limits.0 limits.1))
+    ∙ (ap (λ now. emergency_after false (triggers_of (limits_of P two_bands.train_and_track (at_14_m_s place)) shift now) false false) seen
+    ∙ ap (λ t. emergency_after false t false false) (triggers_of_two (limits_of P two_bands.train_and_track (at_14_m_s place)) (limits_with x) shift place limits.0 limits.1))
 
 -- the front ends on the exact EBI, a millimetre less a grain before it, and a millimetre before it
 on_the_limit : ℤ
@@ -195,15 +195,15 @@ within_a_millimetre = pos 464_399_460_000_001
 a_millimetre_before : ℤ
 a_millimetre_before = pos 464_399_460_000_000
 
-seen_on : situation_with two_bands.line two_bands.authority [] (at_14_m_s on_the_limit) ≡ seen_at on_the_limit
+seen_on : situation_with two_bands.train_and_track two_bands.authority [] (at_14_m_s on_the_limit) ≡ seen_at on_the_limit
 unfolding two_bands two_band_line plain_train_and_track plain_national at_14_m_s reading_at situation_with seen_at eoa svl on_the_limit targets_of mrsp
 seen_on = refl
 
-seen_within : situation_with two_bands.line two_bands.authority [] (at_14_m_s within_a_millimetre) ≡ seen_at within_a_millimetre
+seen_within : situation_with two_bands.train_and_track two_bands.authority [] (at_14_m_s within_a_millimetre) ≡ seen_at within_a_millimetre
 unfolding two_bands two_band_line plain_train_and_track plain_national at_14_m_s reading_at situation_with seen_at eoa svl within_a_millimetre targets_of mrsp
 seen_within = refl
 
-seen_before : situation_with two_bands.line two_bands.authority [] (at_14_m_s a_millimetre_before) ≡ seen_at a_millimetre_before
+seen_before : situation_with two_bands.train_and_track two_bands.authority [] (at_14_m_s a_millimetre_before) ≡ seen_at a_millimetre_before
 unfolding two_bands two_band_line plain_train_and_track plain_national at_14_m_s reading_at situation_with seen_at eoa svl a_millimetre_before targets_of mrsp
 seen_before = refl
 
@@ -215,7 +215,7 @@ three_commands place =
     ∷ may_after two_bands (at_14_m_s place) false
     ∷ []
 
-three_decided : (place : ℤ) → situation_with two_bands.line two_bands.authority [] (at_14_m_s place) ≡ seen_at place →
+three_decided : (place : ℤ) → situation_with two_bands.train_and_track two_bands.authority [] (at_14_m_s place) ≡ seen_at place →
     three_commands place ≡ decided exact_860_m 0 place ∷ decided (whole (pos 464_399_999_999_999)) 0 place ∷ decided exact_860_m millimetre place ∷ []
 unfolding three_commands
 three_decided place seen =
