@@ -11,5 +11,5 @@ use Rattle.sdm_braking.specs.Releases.{IsReleaseOf}
 -- curves, and the release speed of the authority with the start of its monitoring
 pub record IsKept (d : TrainAndTrack) (p : ProfileData) (a : Authority) (k : Kept) : Type 0 where
   pub falls : AreKeptFalls d p k.falls
-  pub end : IsKeptEnd d a k.end
+  pub end : IsKeptEnd d a k.end.value
   pub release : IsReleaseOf d a k.release

@@ -23,14 +23,15 @@ use std::alloc::Global;
 pub struct Kept {
     /// The falls of the profile.
     pub falls: KeptFalls,
-    /// The end of the authority.
-    pub end: KeptEnd,
+    /// The end of the authority, in a box, so that a supervisor is small where it is moved.
+    pub end: Box<KeptEnd>,
     /// What the authority says of release speed monitoring.
     pub release: Option<Release>,
 }
 
 impl Kept {
-    /// What is to be kept of a profile and an authority. Takes the room for all falls that there may be.
+    /// What is to be kept of a profile and an authority. Takes the room for all falls that there may be, and for
+    /// the end of an authority.
     pub fn begin(
         alloc: Global,
         braking: &Braking,
@@ -41,7 +42,7 @@ impl Kept {
         ensures { IfOk result (IsKept braking.now profile.now authority.now) }
     {
         let falls = KeptFalls::begin(alloc, braking, profile)?;
-        let end = braking.keep_end(authority);
+        let end = Box::new(alloc, braking.keep_end(authority))?;
         let release = braking.release(authority, &end);
         Ok(Kept {
             falls,
@@ -56,7 +57,7 @@ impl Kept {
         ensures { (p : ProfileData) (before : Authority) →
             IsKept braking.now p before self.old → IsKept braking.now p authority.now self.new }
     {
-        self.end = braking.keep_end(authority);
+        *self.end = braking.keep_end(authority);
         self.release = braking.release(authority, &self.end);
     }
 

@@ -46,9 +46,9 @@ module _ (c : goal.After-of) where
   after : to_z w32 (of_z w32 c.cell-cell.result) ≡ cell_of c.max_mm-front.result
   after = to_z-of_z w32 c.cell-cell.result (search (rules, ints)) ∙ c.cell-cell.ensures
 
-  targets : map target_of c.ahead-falls.result.now ++ targets_in c.self.inside.kept.end c.is_some-in_release_monitoring.result ≡ targets_of (mrsp_of c.self.inside.profile) c.self.inside.authority c.args.reading.now.max (is_some (release_of c.self.inside.braking c.self.inside.authority c.args.reading.now.max))
+  targets : map target_of c.ahead-falls.result.now ++ targets_in c.self.inside.kept.end.value c.is_some-in_release_monitoring.result ≡ targets_of (mrsp_of c.self.inside.profile) c.self.inside.authority c.args.reading.now.max (is_some (release_of c.self.inside.braking c.self.inside.authority c.args.reading.now.max))
   targets =
-      targets_are c.self.inside.braking (mrsp_of c.self.inside.profile) c.self.inside.authority c.ahead-falls.result.now c.self.inside.kept.end _ c.max_mm-front.result c.end_of-end.result c.is_some-in_release_monitoring.result (after) c.end_of-end.ensures.value
+      targets_are c.self.inside.braking (mrsp_of c.self.inside.profile) c.self.inside.authority c.ahead-falls.result.now c.self.inside.kept.end.value _ c.max_mm-front.result c.end_of-end.result c.is_some-in_release_monitoring.result (after) c.end_of-end.ensures.value
       (c.ahead-falls.ensures.each c.self.inside.braking c.self.invariant.kept.falls.each) (c.ahead-falls.ensures.falls (mrsp_of c.self.inside.profile) c.self.invariant.kept.falls.falls) c.self.invariant.kept.end
       ∙ (λ k. targets_of (mrsp_of c.self.inside.profile) c.self.inside.authority (c.max_mm-front.ensures k) ((c.is_some-in_release_monitoring.ensures ∙ ap is_some in_release_monitoring) k))
 
@@ -56,7 +56,7 @@ pub of-requires-clause-falls : goal.of-requires-clause-falls
 of-requires-clause-falls c = c.ahead-falls.ensures.each c.self.inside.braking c.self.invariant.kept.falls.each
 
 pub of-requires-clause-end : goal.of-requires-clause-end
-of-requires-clause-end c = ends_kept c.self.inside.braking c.self.inside.authority c.self.inside.kept.end c.self.invariant.kept.end
+of-requires-clause-end c = ends_kept c.self.inside.braking c.self.inside.authority c.self.inside.kept.end.value c.self.invariant.kept.end
 
 pub returns-clause-found : goal.returns-clause-found
 returns-clause-found c =
