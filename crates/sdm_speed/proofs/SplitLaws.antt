@@ -1,12 +1,15 @@
 -- A step that is put where it starts, with the speed that holds there, changes no speed: before its start it says nothing, and from there
--- on it says what held.
-use Rattle.std.proofs.Common.{◌≡◌, ◌⊎◌, ℕ, zero, suc, ℤ, List, [], ◌∷◌, length, get_or, Bool, true, false, if◌then◌else◌, int_le, inl, inr, ◌<◌, ◌≤ℤ◌, ◌<ℤ◌, refl, sym, ap, ◌∙◌, arith}
+-- on it says what held. Where both ends of a zone were put, the zone covers the steps from the one to the other.
+use Rattle.std.proofs.Common.{◌≡◌, ◌⊎◌, ℕ, zero, suc, ℤ, List, [], ◌∷◌, length, get_or, take, Bool, true, false, if◌then◌else◌, int_le, Option, Some, None, inl, inr, ◌<◌, ◌≤◌, ◌≤ℤ◌, ◌<ℤ◌, refl, sym, ap, ◌∙◌, arith}
 use Rattle.std.specs.List.{insert}
+use Rattle.std.proofs.lemmas.Bool.{cases_lt}
 use Rattle.std.proofs.lemmas.Int.{ints, by_lt_z}
-use Rattle.sdm_num.proofs.Comparisons.{not_le_is}
+use Rattle.std.proofs.lemmas.List.{get_or-take}
+use Rattle.sdm_num.proofs.Comparisons.{le_is, lt_is, not_le_is, not_lt_is}
+use Rattle.sdm_rules.specs.Profile.{Zone, covers}
 use Rattle.sdm_speed.specs.declared.steps.Step.{Step}
-use Rattle.sdm_speed.specs.Steps.{AreAfter, AreRising, IsStart, KeepsStarts, speed_to, speeds_of}
-use Rattle.sdm_speed.proofs.StepLaws.{first_begun}
+use Rattle.sdm_speed.specs.Steps.{AreAfter, AreCovered, AreRising, ArePartedAt, IsSplit, IsSplitAt, IsStart, KeepsStarts, speed_to, speeds_of}
+use Rattle.sdm_speed.proofs.StepLaws.{first_begun, none}
 
 either : (b : Bool) (v : ℕ) → (if b then v else v) ≡ v
 either true v = refl
@@ -83,3 +86,82 @@ pub index_is_start : (ss : List Step) (i : ℕ) (d : Step) → i < length ss →
 index_is_start [] i d known = absurd (omega arith)
 index_is_start (s ∷ ss) zero d known = inl refl
 index_is_start (s ∷ ss) (suc i) d known = inr (index_is_start ss i d (omega arith))
+
+-- ---- where the ends of a zone were put
+
+-- the same index in lists that begin alike
+get_same : (xs ys : List Step) (i k : ℕ) (d : Step) → take i xs ≡ take i ys → k < i → get_or xs k d ≡ get_or ys k d
+get_same xs ys i k d same l = sym (get_or-take i xs k d l) ∙ ap (λ (ss : List Step). get_or ss k d) same ∙ get_or-take i ys k d l
+
+-- no more steps start before a cell than before a later one
+parted_earlier : (ss : List Step) (a b : ℤ) (i j : ℕ) → a ≤ℤ b → ArePartedAt a ss i → ArePartedAt b ss j → i ≤ j
+parted_earlier ss a b i j le first past = elim (cases_lt j i) [
+  | inl lt ↦ (let bound = first.bound in let before = first.before j none lt in let from = past.from j none (omega arith) (omega arith) in absurd (omega (arith, ints)))
+  | inr ge ↦ ge
+]
+
+module _ (limit : ℕ) where
+  -- the zone of this limit between two ends
+  abbrev zone : Option ℤ → Option ℤ → Zone
+  zone first past = record { first = first; past = past; limit = limit }
+
+  -- a cell in the zone, before it, and past it
+  covered_cell : (f p c : ℤ) → f ≤ℤ c → c <ℤ p → covers c (zone (Some f) (Some p)) ≡ true
+  covered_cell f p c from before = rw (le_is f c from, lt_is c p before) refl
+
+  cell_before : (f c : ℤ) (past : Option ℤ) → c <ℤ f → covers c (zone (Some f) past) ≡ false
+  cell_before f c past before = rw (not_le_is f c before) refl
+
+  cell_past : (f p c : ℤ) → p ≤ℤ c → covers c (zone (Some f) (Some p)) ≡ false
+  cell_past f p c past =
+      by_lt_z c f
+      (λ (lt : c <ℤ f). cell_before f c (Some p) lt)
+      (λ (le : f ≤ℤ c). rw (le_is f c le, not_lt_is c p past) refl)
+
+  -- from the first end up to the other; where that comes first, the zone covers nothing
+  between : (f p : ℤ) (old mid new : List Step) (from to : ℕ) → IsSplitAt f old mid from → IsSplitAt p mid new to → AreCovered (zone (Some f) (Some p)) new from to
+  between f p old mid new from to first past =
+      by_lt_z p f
+      (λ (lt : p <ℤ f).
+      let none_of = parted_earlier mid p f to from (omega (arith, ints)) past.parted_before first.parted in
+      let off : (c : ℤ) → covers c (zone (Some f) (Some p)) ≡ false = λ c. by_lt_z c f (λ (l : c <ℤ f). cell_before f c (Some p) l) (λ (l : f ≤ℤ c). cell_past f p c (omega (arith, ints))) in
+      record {
+        bound = past.parted.bound;
+        before = λ k d l m. off _;
+        within = λ k d l m. absurd (omega arith);
+        past = λ k d l m. off _;
+      })
+      (λ (le : f ≤ℤ p).
+      let some = parted_earlier mid f p from to le first.parted past.parted_before in
+      let bound = past.parted_before.bound in
+      let same : (k : ℕ) (d : Step) → k < to → get_or new k d ≡ get_or mid k d = λ k d l. get_same new mid to k d past.same_before l in
+      record {
+        bound = past.parted.bound;
+        before = λ k d l m. cell_before f _ (Some p) (rw (same k d (omega arith)) (first.parted.before k d l));
+        within = λ k d l m. covered_cell f p _ (rw (same k d m) (first.parted.from k d l (omega arith))) (past.parted.before k d m);
+        past = λ k d l m. cell_past f p _ (past.parted.from k d l m);
+      })
+
+  -- the zone covers the steps from where one end was put up to where the other was; an end that there isn't lies before or past all
+  pub split_covered : (first past : Option ℤ) (old mid new : List Step) (from to : ℕ) → IsSplit first 0 old mid from → IsSplit past (length mid) mid new to → AreCovered (zone first past) new from to
+  split_covered None None old mid new from to one both =
+      rw both.1 (record {
+        bound = rw both.0 (omega arith);
+        before = λ k d l m. absurd (omega (arith, one.0));
+        within = λ k d l m. refl;
+        past = λ k d l m. absurd (omega (arith, both.0));
+      })
+  split_covered None (Some p) old mid new from to one both = record {
+    bound = both.parted.bound;
+    before = λ k d l m. absurd (omega (arith, one.0));
+    within = λ k d l m. rw (lt_is (get_or new k d).start p (both.parted.before k d m)) refl;
+    past = λ k d l m. rw (not_lt_is (get_or new k d).start p (both.parted.from k d l m)) refl;
+  }
+  split_covered (Some f) None old mid new from to one both =
+      rw both.1 (record {
+        bound = rw both.0 (omega arith);
+        before = λ k d l m. cell_before f (get_or mid k d).start None (one.parted.before k d l);
+        within = λ k d l m. rw (le_is f (get_or mid k d).start (one.parted.from k d l (omega (arith, both.0)))) refl;
+        past = λ k d l m. absurd (omega (arith, both.0));
+      })
+  split_covered (Some f) (Some p) old mid new from to one both = between f p old mid new from to one both

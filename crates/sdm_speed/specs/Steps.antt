@@ -1,5 +1,5 @@
 -- Speeds of all cells as steps: what they are, and what a zone makes of them (own).
-use Rattle.std.specs.Prelude.{◌≡◌, ◌⊎◌, ℕ, zero, suc, ℤ, true, false, List, [], ◌∷◌, length, slice_index_or, Option, MatchOption, is_none, min, if◌then◌else◌, ◌<◌, ◌≤◌, ◌≤ℤ◌, ◌<ℤ◌}
+use Rattle.std.specs.Prelude.{◌≡◌, ◌⊎◌, ℕ, zero, suc, ℤ, true, false, List, [], ◌∷◌, length, slice_index_or, Option, Some, None, MatchOption, is_none, min, take, if◌then◌else◌, ◌<◌, ◌≤◌, ◌≤ℤ◌, ◌<ℤ◌}
 use Rattle.sdm_rules.specs.declared.targets.Fall.{Fall}
 use Rattle.sdm_rules.specs.Cells.{last_at}
 use Rattle.sdm_rules.specs.Profile.{Zone, capped, covers}
@@ -25,6 +25,17 @@ pub record ArePartedAt (cell : ℤ) (steps : List Step) (i : ℕ) : Type 0 where
   pub bound : i ≤ length steps
   pub before : (k : ℕ) (d : Step) → k < i → (slice_index_or steps k d).start <ℤ cell
   pub from : (k : ℕ) (d : Step) → i ≤ k → k < length steps → cell ≤ℤ (slice_index_or steps k d).start
+
+-- the first `i` steps start before the cell, in the old list as in the new one, and these are the same in both
+pub record IsSplitAt (cell : ℤ) (old new : List Step) (i : ℕ) : Type 0 where
+  pub parted : ArePartedAt cell new i
+  pub parted_before : ArePartedAt cell old i
+  pub same_before : take i new ≡ take i old
+
+-- new steps have one that starts at a border, if there is one: the first `i` start before it, now as before, and are the same
+abbrev pub IsSplit : Option ℤ → ℕ → List Step → List Step → ℕ → Type 0
+IsSplit None otherwise old new i = (i ≡ otherwise) × (new ≡ old)
+IsSplit (Some border) otherwise old new i = IsSplitAt border old new i
 
 -- the speed in km/h up to where the step at this index starts, the first of which has the index 0
 abbrev pub speed_to : ℕ → List Step → ℕ → ℕ

@@ -2,12 +2,12 @@
 //! cell, and the falls are among the starts. A zone lowers them in place: its ends become starts, and each step that it covers takes
 //! its limit. A step can take another speed, and go again, where a restriction has gone.
 
-ghost use Rattle.std.specs.Prelude.{◌≡◌, ◌⊎◌, ◌+◌, ◌<◌, ◌≤◌, ◌+ℤ◌, ◌≤ℤ◌, ℕ, ℤ, pos, [], Some, true, IfOk, length, map, min, set, slice_index_or, vec_len, vec_capacity};
+ghost use Rattle.std.specs.Prelude.{◌≡◌, ◌⊎◌, ◌+◌, ◌<◌, ◌≤◌, ◌+ℤ◌, ◌≤ℤ◌, ℕ, ℤ, pos, [], Some, true, IfOk, length, map, min, set, take, slice_index_or, vec_len, vec_capacity};
 ghost use Rattle.std.specs.Int.{int_gap};
 ghost use Rattle.sdm_rules.specs.Cells.{lowest};
 ghost use Rattle.sdm_rules.specs.Profile.{capped};
 ghost use Rattle.sdm_speed.specs.Borders.{AreSpeedsAt, HasStartsOf};
-ghost use Rattle.sdm_speed.specs.Steps.{AreAfter, AreCovered, AreRising, ArePartedAt, IsFallAfter, IsStart, KeepsStarts, capped_before, capped_step, speed_to, speeds_of};
+ghost use Rattle.sdm_speed.specs.Steps.{AreAfter, AreCovered, AreRising, ArePartedAt, IsFallAfter, IsSplit, IsStart, KeepsStarts, capped_before, capped_step, speed_to, speeds_of};
 
 use crate::zones::Zone;
 use sdm_num::NoMemory;
@@ -209,8 +209,8 @@ impl Steps {
         }
     }
 
-    // Lets a step start at a cell, for which there is room. No speed changes.
-    fn split(&mut self, cell: i32)
+    // Lets a step start at a cell, for which there is room, and tells how many start before it. No speed changes.
+    fn split(&mut self, cell: i32) -> usize
         requires rising { AreRising self.old.list.items }
         requires room { vec_len self.old.list < vec_capacity self.old.list }
         ensures speeds { (c : ℤ) → speeds_of self.new.before self.new.list.items c ≡ speeds_of self.old.before self.old.list.items c }
@@ -218,36 +218,42 @@ impl Steps {
         ensures start { IsStart cell self.new.list.items }
         ensures starts { KeepsStarts self.old.list.items self.new.list.items }
         ensures only { (c : ℤ) → IsStart c self.new.list.items → (c ≡ cell) ⊎ IsStart c self.old.list.items }
+        ensures parted { ArePartedAt cell self.new.list.items result }
+        ensures parted_before { ArePartedAt cell self.old.list.items result }
+        ensures same_before { take result self.new.list.items ≡ take result self.old.list.items }
         ensures rising { AreRising self.new.list.items }
         ensures few { vec_len self.new.list ≤ vec_len self.old.list + 1 }
         ensures room { vec_capacity self.new.list ≡ vec_capacity self.old.list }
     {
         let i = self.started_before(i64::from(cell));
         if i < self.list.len() && self.list[i].start == cell {
-            return;
+            return i;
         }
         let speed = self.speed_to(i);
         let step = Step { start: cell, speed };
         let Ok(()) = self.list.insert(i, step) else {
             unreachable!()
         };
+        i
     }
 
-    // Lets a step start at a cell, if there is one.
-    fn split_at(&mut self, first: Option<i32>)
+    // Lets a step start at a border of a zone, if there is one, and tells how many start before it; else `otherwise`.
+    fn split_at(&mut self, border: Option<i32>, otherwise: usize) -> usize
         requires rising { AreRising self.old.list.items }
         requires room { vec_len self.old.list < vec_capacity self.old.list }
         ensures speeds { (c : ℤ) → speeds_of self.new.before self.new.list.items c ≡ speeds_of self.old.before self.old.list.items c }
         ensures before { self.new.before ≡ self.old.before }
-        ensures start { (b : ℤ) → first ≡ Some b → IsStart b self.new.list.items }
+        ensures start { (b : ℤ) → border ≡ Some b → IsStart b self.new.list.items }
         ensures starts { KeepsStarts self.old.list.items self.new.list.items }
-        ensures only { (c : ℤ) → IsStart c self.new.list.items → (first ≡ Some c) ⊎ IsStart c self.old.list.items }
+        ensures only { (c : ℤ) → IsStart c self.new.list.items → (border ≡ Some c) ⊎ IsStart c self.old.list.items }
+        ensures split { IsSplit border otherwise self.old.list.items self.new.list.items result }
         ensures rising { AreRising self.new.list.items }
         ensures few { vec_len self.new.list ≤ vec_len self.old.list + 1 }
         ensures room { vec_capacity self.new.list ≡ vec_capacity self.old.list }
     {
-        if let Some(cell) = first {
-            self.split(cell);
+        match border {
+            None => otherwise,
+            Some(cell) => self.split(cell),
         }
     }
 
@@ -269,14 +275,13 @@ impl Steps {
     }
 
     // Each step that the zone covers takes at most its limit, and so do the cells before the first step.
-    fn cap(&mut self, zone: Zone)
-        requires { AreRising self.old.list.items }
+    fn cap(&mut self, zone: Zone, covered: Range)
+        requires { AreCovered zone self.old.list.items covered.from covered.to }
         ensures before { self.new.before ≡ capped_before zone self.old.before }
         ensures list { self.new.list.items ≡ map (capped_step zone) self.old.list.items }
         ensures len { vec_len self.new.list ≡ vec_len self.old.list }
         ensures room { vec_capacity self.new.list ≡ vec_capacity self.old.list }
     {
-        let covered = self.covered(zone);
         let limit = zone.limit;
         self.before = capped_before(self.before, zone);
         for i in covered.from..covered.to {
@@ -295,9 +300,10 @@ impl Steps {
         ensures few { vec_len self.new.list ≤ vec_len self.old.list + 2 }
         ensures room { vec_capacity self.new.list ≡ vec_capacity self.old.list }
     {
-        self.split_at(zone.first);
-        self.split_at(zone.past);
-        self.cap(zone);
+        let from = self.split_at(zone.first, 0);
+        let all = self.list.len();
+        let to = self.split_at(zone.past, all);
+        self.cap(zone, Range { from, to });
     }
 
     /// The lowest speed of the cells from `from` to `to`.

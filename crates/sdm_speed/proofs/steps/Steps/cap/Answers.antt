@@ -8,7 +8,7 @@ use Rattle.sdm_speed.proofs.steps.Steps.cap.Goals as goal
 pub loop-i-init : goal.loop-i-init
 loop-i-init c = record {
   before = refl;
-  list = sym (prefix_stays (capped_step c.args.zone) c.args.self.now.list.items c.covered-covered.result.from (λ k d l m. stays c.args.zone _ (c.covered-covered.ensures.before k d l m)));
+  list = sym (prefix_stays (capped_step c.args.zone) c.args.self.now.list.items c.args.covered.from (λ k d l m. stays c.args.zone _ (c.requires.before k d l m)));
   len = refl;
   room = refl;
 }
@@ -20,7 +20,7 @@ loop-i-preserved c =
     let step = c.index.result.now in
     let i = c.loop-i.i in
     let inv = c.loop-i.invariant in
-    let covered = c.covered-covered.ensures in
+    let covered = c.requires in
     let known : i < length steps = omega (arith, covered.bound) in
     let read : step ≡ get_or steps i step = (rw inv.list at c.index.ensures) ∙ not_yet (capped_step zone) steps i step known in
     let limit_is = ap (λ (z : Zone). z.limit) c.zone.view_is in
@@ -35,4 +35,4 @@ loop-i-preserved c =
 
 pub returns-clause-list : goal.returns-clause-list
 returns-clause-list c =
-    c.loop-i.invariant.list ∙ rest_stays (capped_step c.args.zone) c.args.self.now.list.items c.loop-i.i (λ k d l m. stays c.args.zone _ (c.covered-covered.ensures.past k d (omega (arith, c.loop-i-test.false)) m))
+    c.loop-i.invariant.list ∙ rest_stays (capped_step c.args.zone) c.args.self.now.list.items c.loop-i.i (λ k d l m. stays c.args.zone _ (c.requires.past k d (omega (arith, c.loop-i-test.false)) m))

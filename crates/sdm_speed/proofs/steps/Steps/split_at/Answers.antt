@@ -6,7 +6,7 @@ use Rattle.sdm_speed.proofs.steps.Steps.split_at.Goals as goal
 pub returns-in-Some-clause-only : goal.returns-in-Some-clause-only
 returns-in-Some-clause-only c x start =
     let cell_is : to_z w32 (of_z w32 c.in-Some.cell) ≡ c.in-Some.cell = to_z-of_z w32 c.in-Some.cell (search rules) in
-    let border_is : c.args.first ≡ Some c.in-Some.cell = c.in-Some.is in
+    let border_is : c.args.border ≡ Some c.in-Some.cell = c.in-Some.is in
     elim (c.split.ensures.only x start) [
       | inl e ↦ inl (border_is ∙ ap Some (sym (e ∙ cell_is)))
       | inr rest ↦ inr rest
