@@ -3,7 +3,7 @@ use Rattle.std.proofs.Common.{◌≡◌, ◌⊎◌, ℕ, zero, suc, ℤ, List, [
 use Rattle.std.specs.List.{remove}
 use Rattle.std.proofs.lemmas.Int.{ints}
 use Rattle.sdm_speed.specs.declared.steps.Step.{Step}
-use Rattle.sdm_speed.specs.Borders.{AreSpeedsAt}
+use Rattle.sdm_speed.specs.ZoneEnds.{AreSpeedsAt}
 use Rattle.sdm_speed.specs.Steps.{AreAfter, AreRising, IsStart}
 use Rattle.sdm_speed.proofs.StepLaws.{after_all, after_earlier, rising_of, start_after}
 

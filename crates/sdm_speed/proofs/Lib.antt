@@ -9,7 +9,7 @@ pub mod SplitLaws
 pub mod CapLaws
 pub mod SteadyLaws
 pub mod JoinLaws
-pub mod BorderLaws
+pub mod ZoneEndLaws
 pub mod LowestLaws
 pub mod FallLaws
 pub mod FallLists

@@ -4,7 +4,7 @@ use Rattle.std.specs.Int.{int_gap}
 use Rattle.std.proofs.lemmas.Int.{ints, by_lt_z}
 use Rattle.sdm_rules.specs.Profile.{Zone, capped, covers}
 use Rattle.sdm_speed.specs.declared.steps.Step.{Step}
-use Rattle.sdm_speed.specs.Borders.{AreSpeedsAt, retaken}
+use Rattle.sdm_speed.specs.ZoneEnds.{AreSpeedsAt, retaken}
 use Rattle.sdm_speed.specs.Steps.{AreAfter, AreRising, IsStart, speeds_of}
 use Rattle.sdm_speed.proofs.StepLaws.{first_begun, none_begun, speed_at_start, start_after}
 use Rattle.sdm_speed.proofs.ZoneLaws.{int_gap_is, not_capped}

@@ -3,7 +3,7 @@ use Rattle.std.specs.Prelude.{◌≡◌, ℤ, pos, List, ◌++◌, All, map, vec
 use Rattle.sdm_rules.specs.Profile.{Zone, zones_of_track, zone_of}
 use Rattle.sdm_rules.specs.Records.{most_restrictions}
 use Rattle.sdm_speed.specs.declared.profiles.Profile.TheInside.{Inside}
-use Rattle.sdm_speed.specs.Borders.{AreAtBorders}
+use Rattle.sdm_speed.specs.ZoneEnds.{AreAtZoneEnds}
 use Rattle.sdm_speed.specs.Held.{AreDistinct, IsHeldRestriction, by_identity}
 use Rattle.sdm_speed.specs.Zones.{IsZone, zone_limits}
 use Rattle.sdm_speed.specs.Steps.{AreRising, speeds_of}
@@ -38,6 +38,6 @@ pub record IsKeptProfile (f : Inside) : Type 0 where
   pub steps : (c : ℤ) → speeds_of f.steps.before f.steps.list.items c ≡ zone_limits f.max_speed (static_zones_of f ++ held_zones_of f) c
   pub steps_rising : AreRising f.steps.list.items
   pub steps_before : f.steps.before ≡ f.statics.before
-  pub borders : AreAtBorders (pos f.length_cm) f.statics.list.items f.held.items f.steps.list.items
+  pub zone_ends : AreAtZoneEnds (pos f.length_cm) f.statics.list.items f.held.items f.steps.list.items
   pub held_room : most_restrictions ≤ vec_capacity f.held
   pub steps_room : vec_len f.statics.list + 2 * most_restrictions ≤ vec_capacity f.steps.list

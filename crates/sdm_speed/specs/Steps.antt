@@ -32,10 +32,10 @@ pub record IsSplitAt (cell : ℤ) (old new : List Step) (i : ℕ) : Type 0 where
   pub parted_before : ArePartedAt cell old i
   pub same_before : take i new ≡ take i old
 
--- new steps have one that starts at a border, if there is one: the first `i` start before it, now as before, and are the same
+-- new steps have one that starts at an end of a zone, if there is one: the first `i` start before it, now as before, and are the same
 abbrev pub IsSplit : Option ℤ → ℕ → List Step → List Step → ℕ → Type 0
 IsSplit None otherwise old new i = (i ≡ otherwise) × (new ≡ old)
-IsSplit (Some border) otherwise old new i = IsSplitAt border old new i
+IsSplit (Some end) otherwise old new i = IsSplitAt end old new i
 
 -- the speed in km/h up to where the step at this index starts, the first of which has the index 0
 abbrev pub speed_to : ℕ → List Step → ℕ → ℕ

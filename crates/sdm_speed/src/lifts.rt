@@ -4,7 +4,7 @@
 ghost use Rattle.std.specs.Prelude.{◌≡◌, ◌⊎◌, ◌≤◌, ℕ, ℤ, pos, true, All, map, vec_capacity};
 ghost use Rattle.sdm_rules.specs.Profile.{capped, zone_of};
 ghost use Rattle.sdm_rules.specs.Ranges.{longest_train};
-ghost use Rattle.sdm_speed.specs.Borders.{AreAtBorders, AreSpeedsAt, IsBorder, IsEnd, IsEndOfOne, retaken, speed_under};
+ghost use Rattle.sdm_speed.specs.ZoneEnds.{AreAtZoneEnds, AreSpeedsAt, IsZoneEnd, IsEnd, IsEndOfOne, retaken, speed_under};
 ghost use Rattle.sdm_speed.specs.Held.{IsHeldRestriction};
 ghost use Rattle.sdm_speed.specs.Steps.{AreRising, IsStart, speeds_of};
 
@@ -43,12 +43,12 @@ fn is_end_of_one(held: &[Restriction], length_cm: u32, cell: i32) -> bool
 }
 
 /// Whether a static step starts at a cell, or the zone of a restriction begins or ends there.
-fn is_border(statics: &Steps, held: &[Restriction], length_cm: u32, cell: i32) -> bool
+fn is_zone_end(statics: &Steps, held: &[Restriction], length_cm: u32, cell: i32) -> bool
     requires rising { AreRising statics.now.list.items }
     requires held { All IsHeldRestriction held.now }
     requires train { length_cm ≤ longest_train }
-    ensures yes { result ≡ true → IsBorder (pos length_cm) statics.now.list.items held.now cell }
-    ensures no { IsBorder (pos length_cm) statics.now.list.items held.now cell → result ≡ true }
+    ensures yes { result ≡ true → IsZoneEnd (pos length_cm) statics.now.list.items held.now cell }
+    ensures no { IsZoneEnd (pos length_cm) statics.now.list.items held.now cell → result ≡ true }
 {
     statics.starts_at(cell) || is_end_of_one(held, length_cm, cell)
 }
@@ -78,8 +78,8 @@ fn retake(
     }
 }
 
-/// Takes out the step that starts at a cell, where that is no border of what is left.
-fn join_unless_border(
+/// Takes out the step that starts at a cell, where that is no end of a zone that is left.
+fn join_unless_zone_end(
     steps: &mut Steps,
     cell: i32,
     statics: &Steps,
@@ -94,11 +94,11 @@ fn join_unless_border(
     ensures rising { AreRising steps.new.list.items }
     ensures speeds { (speed : ℤ → ℕ) → AreSpeedsAt speed steps.old.list.items → AreSpeedsAt speed steps.new.list.items }
     ensures fewer { (c : ℤ) → IsStart c steps.new.list.items → IsStart c steps.old.list.items }
-    ensures here { IsStart cell steps.new.list.items → IsBorder (pos length_cm) statics.now.list.items held.now cell }
-    ensures others { (c : ℤ) → IsBorder (pos length_cm) statics.now.list.items held.now c → IsStart c steps.old.list.items → IsStart c steps.new.list.items }
+    ensures here { IsStart cell steps.new.list.items → IsZoneEnd (pos length_cm) statics.now.list.items held.now cell }
+    ensures others { (c : ℤ) → IsZoneEnd (pos length_cm) statics.now.list.items held.now c → IsStart c steps.old.list.items → IsStart c steps.new.list.items }
     ensures room { vec_capacity steps.new.list ≡ vec_capacity steps.old.list }
 {
-    if !is_border(statics, held, length_cm, cell) {
+    if !is_zone_end(statics, held, length_cm, cell) {
         steps.join(cell);
     }
 }
@@ -114,8 +114,8 @@ pub fn raise(
     requires rising { AreRising steps.old.list.items }
     requires speeds { (c : ℤ) → speeds_of steps.old.before steps.old.list.items c ≡ capped c (zone_of (pos length_cm) lifted) (speed_under (pos length_cm) statics.now.before statics.now.list.items held.now c) }
     requires before { steps.old.before ≡ statics.now.before }
-    requires each { (c : ℤ) → IsBorder (pos length_cm) statics.now.list.items held.now c → IsStart c steps.old.list.items }
-    requires no_other { (c : ℤ) → IsStart c steps.old.list.items → IsBorder (pos length_cm) statics.now.list.items held.now c ⊎ IsEnd (pos length_cm) c lifted }
+    requires each { (c : ℤ) → IsZoneEnd (pos length_cm) statics.now.list.items held.now c → IsStart c steps.old.list.items }
+    requires no_other { (c : ℤ) → IsStart c steps.old.list.items → IsZoneEnd (pos length_cm) statics.now.list.items held.now c ⊎ IsEnd (pos length_cm) c lifted }
     requires statics { AreRising statics.now.list.items }
     requires held { All IsHeldRestriction held.now }
     requires lifted { IsHeldRestriction lifted }
@@ -123,11 +123,11 @@ pub fn raise(
     ensures before { steps.new.before ≡ statics.now.before }
     ensures speeds { (c : ℤ) → speeds_of steps.new.before steps.new.list.items c ≡ speed_under (pos length_cm) statics.now.before statics.now.list.items held.now c }
     ensures rising { AreRising steps.new.list.items }
-    ensures borders { AreAtBorders (pos length_cm) statics.now.list.items held.now steps.new.list.items }
+    ensures zone_ends { AreAtZoneEnds (pos length_cm) statics.now.list.items held.now steps.new.list.items }
     ensures room { vec_capacity steps.new.list ≡ vec_capacity steps.old.list }
 {
     let cells = cells_of(lifted, length_cm);
     retake(steps, lifted, statics, held, length_cm);
-    join_unless_border(steps, cells.first, statics, held, length_cm);
-    join_unless_border(steps, cells.past, statics, held, length_cm);
+    join_unless_zone_end(steps, cells.first, statics, held, length_cm);
+    join_unless_zone_end(steps, cells.past, statics, held, length_cm);
 }

@@ -6,7 +6,7 @@ ghost use Rattle.std.specs.Prelude.{◌≡◌, ◌⊎◌, ◌+◌, ◌<◌, ◌�
 ghost use Rattle.std.specs.Int.{int_gap};
 ghost use Rattle.sdm_rules.specs.Cells.{lowest};
 ghost use Rattle.sdm_rules.specs.Profile.{capped};
-ghost use Rattle.sdm_speed.specs.Borders.{AreSpeedsAt, HasStartsOf};
+ghost use Rattle.sdm_speed.specs.ZoneEnds.{AreSpeedsAt, HasStartsOf};
 ghost use Rattle.sdm_speed.specs.Steps.{AreAfter, AreCovered, AreRising, ArePartedAt, IsFallAfter, IsSplit, IsStart, KeepsStarts, capped_before, capped_step, speed_to, speeds_of};
 
 use crate::zones::Zone;
@@ -237,21 +237,21 @@ impl Steps {
         i
     }
 
-    // Lets a step start at a border of a zone, if there is one, and tells how many start before it; else `otherwise`.
-    fn split_at(&mut self, border: Option<i32>, otherwise: usize) -> usize
+    // Lets a step start at an end of a zone, if there is one, and tells how many start before it; else `otherwise`.
+    fn split_at(&mut self, end: Option<i32>, otherwise: usize) -> usize
         requires rising { AreRising self.old.list.items }
         requires room { vec_len self.old.list < vec_capacity self.old.list }
         ensures speeds { (c : ℤ) → speeds_of self.new.before self.new.list.items c ≡ speeds_of self.old.before self.old.list.items c }
         ensures before { self.new.before ≡ self.old.before }
-        ensures start { (b : ℤ) → border ≡ Some b → IsStart b self.new.list.items }
+        ensures start { (b : ℤ) → end ≡ Some b → IsStart b self.new.list.items }
         ensures starts { KeepsStarts self.old.list.items self.new.list.items }
-        ensures only { (c : ℤ) → IsStart c self.new.list.items → (border ≡ Some c) ⊎ IsStart c self.old.list.items }
-        ensures split { IsSplit border otherwise self.old.list.items self.new.list.items result }
+        ensures only { (c : ℤ) → IsStart c self.new.list.items → (end ≡ Some c) ⊎ IsStart c self.old.list.items }
+        ensures split { IsSplit end otherwise self.old.list.items self.new.list.items result }
         ensures rising { AreRising self.new.list.items }
         ensures few { vec_len self.new.list ≤ vec_len self.old.list + 1 }
         ensures room { vec_capacity self.new.list ≡ vec_capacity self.old.list }
     {
-        match border {
+        match end {
             None => otherwise,
             Some(cell) => self.split(cell),
         }

@@ -1,10 +1,10 @@
 -- One of the two ends of this restriction is the cell.
 use Rattle.std.proofs.Common.{◌≡◌, pos, get_or, inl, inr, w32, to_z, of_z, sym, ap, ◌∙◌, rules}
 use Rattle.std.proofs.lemmas.Int.{to_z-of_z}
-use Rattle.sdm_speed.specs.Borders.{IsEnd}
+use Rattle.sdm_speed.specs.ZoneEnds.{IsEnd}
 use Rattle.sdm_speed.specs.Changes.{cells_of}
 use Rattle.sdm_speed.specs.declared.changes.Changed.{Changed}
-use Rattle.sdm_speed.proofs.BorderLaws.{end_at}
+use Rattle.sdm_speed.proofs.ZoneEndLaws.{end_at}
 use Rattle.sdm_speed.proofs.HeldLaws.{none}
 use Rattle.sdm_speed.proofs.lifts.is_end_of_one.Goals as goal
 use Rattle.sdm_speed.proofs.lifts.is_end_of_one.Goals.{then-cells-cell-via-then-cells-cell, then-cells-cell-via-else-cells-cell+then-cells-cell-2}

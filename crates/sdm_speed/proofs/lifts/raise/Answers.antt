@@ -1,16 +1,16 @@
--- The steps have the speeds at their starts, and these are the borders that are left, where alone the speeds change.
+-- The steps have the speeds at their starts, and these are the ends of zones that are left, where alone the speeds change.
 use Rattle.std.proofs.Common.{◌≡◌, ℤ, pos, inl, inr, w32, to_z, of_z, subst, sym, ap, ◌∙◌, rules}
 use Rattle.std.proofs.lemmas.Int.{to_z-of_z}
 use Rattle.sdm_rules.specs.Profile.{end_for}
 use Rattle.sdm_speed.specs.declared.changes.Changed.{Changed}
-use Rattle.sdm_speed.specs.Borders.{IsBorder, speed_under}
+use Rattle.sdm_speed.specs.ZoneEnds.{IsZoneEnd, speed_under}
 use Rattle.sdm_speed.specs.Steps.{IsStart}
-use Rattle.sdm_speed.proofs.BorderLaws.{under_before, under_same}
+use Rattle.sdm_speed.proofs.ZoneEndLaws.{under_before, under_same}
 use Rattle.sdm_speed.proofs.SteadyLaws.{retaken_only, retaken_rising, retaken_speeds, retaken_starts, speeds_by_starts}
 use Rattle.sdm_speed.proofs.lifts.raise.Goals as goal
 
-pub returns-clause-borders : goal.returns-clause-borders
-returns-clause-borders c =
+pub returns-clause-zone_ends : goal.returns-clause-zone_ends
+returns-clause-zone_ends c =
     let length_cm = pos c.args.length_cm in
     let statics = c.args.statics.now.list.items in
     let held = c.args.held.now in
@@ -19,21 +19,21 @@ returns-clause-borders c =
     let cells = c.cells_of-cells.result in
     let first_is : to_z w32 (of_z w32 cells.first) ≡ pos c.args.lifted.start = to_z-of_z w32 cells.first (search rules) ∙ ap (λ (x : Changed). x.first) c.cells_of-cells.ensures in
     let past_is : to_z w32 (of_z w32 cells.past) ≡ end_for length_cm c.args.lifted.delayed (pos c.args.lifted.end) = to_z-of_z w32 cells.past (search rules) ∙ ap (λ (x : Changed). x.past) c.cells_of-cells.ensures in
-    let one = c.join_unless_border.ensures in
-    let both = c.join_unless_border-2.ensures in
+    let one = c.join_unless_zone_end.ensures in
+    let both = c.join_unless_zone_end-2.ensures in
     record {
-      each = λ x border. both.others x border (one.others x border (rw c.retake.ensures.list (retaken_starts speed x steps (c.requires.each x border))));
+      each = λ x zone_end. both.others x zone_end (one.others x zone_end (rw c.retake.ensures.list (retaken_starts speed x steps (c.requires.each x zone_end))));
       no_other = λ x start. elim (c.requires.no_other x (retaken_only speed x steps (rw c.retake.ensures.list at (one.fewer x (both.fewer x start))))) [
-        | inl border ↦ border
+        | inl zone_end ↦ zone_end
         | inr end ↦ elim end [
-          | inl e ↦ subst (IsBorder length_cm statics held) (first_is ∙ e) (one.here (subst (λ z. IsStart z c.join_unless_border.new.steps.list.items) (sym (first_is ∙ e)) (both.fewer x start)))
-          | inr e ↦ subst (IsBorder length_cm statics held) (past_is ∙ e) (both.here (subst (λ z. IsStart z c.join_unless_border-2.new.steps.list.items) (sym (past_is ∙ e)) start))
+          | inl e ↦ subst (IsZoneEnd length_cm statics held) (first_is ∙ e) (one.here (subst (λ z. IsStart z c.join_unless_zone_end.new.steps.list.items) (sym (first_is ∙ e)) (both.fewer x start)))
+          | inr e ↦ subst (IsZoneEnd length_cm statics held) (past_is ∙ e) (both.here (subst (λ z. IsStart z c.join_unless_zone_end-2.new.steps.list.items) (sym (past_is ∙ e)) start))
         ]
       ];
     }
 
 pub returns-clause-before : goal.returns-clause-before
-returns-clause-before c = c.join_unless_border-2.ensures.before ∙ c.join_unless_border.ensures.before ∙ c.retake.ensures.before ∙ c.requires.before
+returns-clause-before c = c.join_unless_zone_end-2.ensures.before ∙ c.join_unless_zone_end.ensures.before ∙ c.retake.ensures.before ∙ c.requires.before
 
 pub returns-clause-speeds : goal.returns-clause-speeds
 returns-clause-speeds c =
@@ -42,17 +42,17 @@ returns-clause-speeds c =
     let held = c.args.held.now in
     let before = c.args.statics.now.before in
     let speed = speed_under length_cm before statics held in
-    let one = c.join_unless_border.ensures in
-    let both = c.join_unless_border-2.ensures in
-    let borders = returns-clause-borders c in
-    let steps = c.join_unless_border-2.new.steps.list.items in
+    let one = c.join_unless_zone_end.ensures in
+    let both = c.join_unless_zone_end-2.ensures in
+    let zone_ends = returns-clause-zone_ends c in
+    let steps = c.join_unless_zone_end-2.new.steps.list.items in
     rw (returns-clause-before c) (speeds_by_starts speed before steps both.rising
     (both.speeds speed (one.speeds speed (rw c.retake.ensures.list (retaken_speeds speed c.args.steps.now.list.items))))
-    (λ x after. under_before length_cm before statics held x steps c.requires.statics borders.each after)
-    (λ x off. under_same length_cm before statics held x (λ border. off (borders.each x border))))
+    (λ x after. under_before length_cm before statics held x steps c.requires.statics zone_ends.each after)
+    (λ x off. under_same length_cm before statics held x (λ zone_end. off (zone_ends.each x zone_end))))
 
-pub join_unless_border-requires : goal.join_unless_border-requires
-join_unless_border-requires c = record {
+pub join_unless_zone_end-requires : goal.join_unless_zone_end-requires
+join_unless_zone_end-requires c = record {
   rising = rw c.retake.ensures.list (retaken_rising _ c.args.steps.now.list.items c.requires.rising);
   statics = c.requires.statics;
   held = c.requires.held;

@@ -3,7 +3,7 @@ use Rattle.std.proofs.Common.{◌≡◌, ◌<◌, ℕ, pos, length, get_or, refl
 use Rattle.std.proofs.lemmas.Int.{to_z-of_z}
 use Rattle.sdm_rules.specs.Profile.{Zone, covers, zone_of}
 use Rattle.sdm_speed.specs.declared.steps.Step.{Step}
-use Rattle.sdm_speed.specs.Borders.{retaken, speed_under}
+use Rattle.sdm_speed.specs.ZoneEnds.{retaken, speed_under}
 use Rattle.sdm_speed.proofs.CapLaws.{prefix_stays, rest_stays, one_more, not_yet}
 use Rattle.sdm_speed.proofs.StepLaws.{none}
 use Rattle.sdm_speed.proofs.SteadyLaws.{retaken_same}

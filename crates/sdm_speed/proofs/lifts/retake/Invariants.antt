@@ -1,6 +1,6 @@
 -- The steps so far have the speeds that are left, and the others are as they were.
 use Rattle.std.proofs.Common.{◌≡◌, ◌++◌, pos, map, take, drop, vec_len, vec_capacity}
-use Rattle.sdm_speed.specs.Borders.{retaken, speed_under}
+use Rattle.sdm_speed.specs.ZoneEnds.{retaken, speed_under}
 use Rattle.sdm_speed.proofs.lifts.retake.Given as goal
 
 abbrev pub invariant-loop-i : goal.invariant-loop-i

@@ -1,6 +1,6 @@
 -- The static speed, lowered by the restrictions so far.
 use Rattle.std.proofs.Common.{◌≡◌, pos, take}
-use Rattle.sdm_speed.specs.Borders.{speed_under}
+use Rattle.sdm_speed.specs.ZoneEnds.{speed_under}
 use Rattle.sdm_speed.proofs.lifts.speed_under.Given as goal
 
 abbrev pub invariant-loop-r : goal.invariant-loop-r

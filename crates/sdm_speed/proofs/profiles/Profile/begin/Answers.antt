@@ -5,7 +5,7 @@ use Rattle.std.proofs.lemmas.List.{append-nil}
 use Rattle.std.proofs.lemmas.List.Elements.{All-nil}
 use Rattle.sdm_speed.specs.declared.steps.Step.{Step}
 use Rattle.sdm_speed.specs.Held.{IsHeldRestriction}
-use Rattle.sdm_speed.proofs.BorderLaws.{borders_none}
+use Rattle.sdm_speed.proofs.ZoneEndLaws.{zone_ends_none}
 use Rattle.sdm_speed.proofs.HeldLaws.{len_is}
 use Rattle.sdm_speed.proofs.profiles.Profile.begin.Goals as goal
 
@@ -39,7 +39,7 @@ invariant_of-result c =
       steps = λ cell. rw (c.reset.ensures.before, c.reset.ensures.list, held_is, append-nil) (statics cell);
       steps_rising = rw c.reset.ensures.list c.in_ok-statics.ensures.rising;
       steps_before = c.reset.ensures.before;
-      borders = rw (c.reset.ensures.list, held_is) (borders_none _ _);
+      zone_ends = rw (c.reset.ensures.list, held_is) (zone_ends_none _ _);
       held_room = omega (arith, c.in_ok-held.ensures.exact);
       steps_room = omega (arith, c.reset.ensures.room, c.in_ok-steps.ensures.room, c.in_ok-statics.ensures.few, c.deref-2.ensures.len, c.len.ensures);
     }

@@ -13,7 +13,7 @@ use Rattle.sdm_speed.specs.ProfileFields.{profile_data_of, static_zones_of, held
 use Rattle.sdm_speed.proofs.ZoneLaws.{lowest_limit-push}
 use Rattle.sdm_speed.proofs.HeldLaws.{len_is, missing_of, distinct_more, inserted}
 use Rattle.sdm_speed.proofs.KeptLaws.{held_count, with_held}
-use Rattle.sdm_speed.proofs.BorderLaws.{borders_more, few_starts}
+use Rattle.sdm_speed.proofs.ZoneEndLaws.{zone_ends_more, few_starts}
 use Rattle.sdm_speed.proofs.ChangeLaws.{imposed_outside}
 use Rattle.sdm_speed.proofs.RestrictLaws.{IsAcceptedRestriction, accepted}
 use Rattle.sdm_speed.proofs.profiles.Profile.impose.Goals as goal
@@ -50,7 +50,7 @@ lower-requires c =
     let ok_held = c.self.inside.held.ok.0 in
     record {
       rising = kept.steps_rising;
-      room = omega (arith, ok.room, held_count _ kept _ c.self.view_is, few_starts _ _ _ _ kept.steps_rising kept.borders, kept.steps_room);
+      room = omega (arith, ok.room, held_count _ kept _ c.self.view_is, few_starts _ _ _ _ kept.steps_rising kept.zone_ends, kept.steps_room);
     }
 
 pub invariant_of-self : goal.invariant_of-self
@@ -75,7 +75,7 @@ invariant_of-self c =
       steps = λ cell. rw c.push_reserved.ensures.items (c.lower.ensures.speeds cell ∙ ap (capped cell c.zone_of.result) (kept.steps cell) ∙ lowered cell);
       steps_rising = c.lower.ensures.rising;
       steps_before = rw c.zone_of.ensures at c.lower.ensures.before ∙ kept.steps_before;
-      borders = rw c.push_reserved.ensures.items (borders_more length_cm _ held c.args.r _ _ kept.borders (rw c.zone_of.ensures at c.lower.ensures.starts));
+      zone_ends = rw c.push_reserved.ensures.items (zone_ends_more length_cm _ held c.args.r _ _ kept.zone_ends (rw c.zone_of.ensures at c.lower.ensures.starts));
       held_room = omega (arith, kept.held_room, c.push_reserved.ensures.capacity);
       steps_room = omega (arith, kept.steps_room, c.lower.ensures.room);
     }

@@ -6,7 +6,7 @@ use Rattle.sdm_speed.specs.Held.{AreDistinct, IsHeldRestriction}
 use Rattle.sdm_speed.specs.ProfileFields.{profile_data_of, static_zones_of}
 use Rattle.sdm_speed.proofs.ZoneLaws.{lowest_limit-after}
 use Rattle.sdm_speed.proofs.ChangeLaws.{lifted_outside, cells_in_range}
-use Rattle.sdm_speed.proofs.BorderLaws.{each_left, limit_less, no_other_left}
+use Rattle.sdm_speed.proofs.ZoneEndLaws.{each_left, limit_less, no_other_left}
 use Rattle.sdm_speed.proofs.HeldLaws.{get_at, len_is, contains_is, distinct_less, none, removed, All-remove}
 use Rattle.sdm_speed.proofs.KeptLaws.{held_count, with_held}
 use Rattle.sdm_speed.proofs.profiles.Profile.lift.Goals as goal
@@ -31,8 +31,8 @@ raise-requires c =
           ∙ ap (λ n. lowest_limit n cell (map (zone_of length_cm) held)) (sym (kept.statics cell))
           ∙ rw c.remove-lifted.ensures.value (limit_less _ cell length_cm held c.in-Some.index c.remove-lifted.result known);
       before = kept.steps_before;
-      each = λ cell. each_left length_cm _ held c.in-Some.index _ kept.borders cell;
-      no_other = λ cell start. rw c.remove-lifted.ensures.value (no_other_left length_cm _ held c.in-Some.index _ kept.borders cell c.remove-lifted.result start);
+      each = λ cell. each_left length_cm _ held c.in-Some.index _ kept.zone_ends cell;
+      no_other = λ cell start. rw c.remove-lifted.ensures.value (no_other_left length_cm _ held c.in-Some.index _ kept.zone_ends cell c.remove-lifted.result start);
       statics = kept.statics_rising;
       held = All-remove IsHeldRestriction _ _ kept.each_held;
       lifted = rw c.remove-lifted.ensures.value (kept.each_held c.in-Some.index c.remove-lifted.result known);
@@ -62,7 +62,7 @@ invariant_of-self c =
           ∙ sym (lowest_limit-after top cell (static_zones_of c.self.inside) (map (zone_of length_cm) left.items));
       steps_before = raised.before;
       steps_rising = raised.rising;
-      borders = raised.borders;
+      zone_ends = raised.zone_ends;
       held_room = omega (arith, kept.held_room, c.remove-lifted.ensures.capacity);
       steps_room = omega (arith, kept.steps_room, raised.room);
     }

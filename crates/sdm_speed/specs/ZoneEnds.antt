@@ -19,14 +19,14 @@ abbrev pub IsEndOfOne : ℤ → ℤ → List Restriction → Type 0
 IsEndOfOne length_cm cell [] = ⊥
 IsEndOfOne length_cm cell (r ∷ rs) = IsEnd length_cm cell r ⊎ IsEndOfOne length_cm cell rs
 
--- a static step starts at the cell, or the zone of one of the restrictions begins or ends there
-abbrev pub IsBorder : ℤ → List Step → List Restriction → ℤ → Type 0
-IsBorder length_cm statics held cell = IsStart cell statics ⊎ IsEndOfOne length_cm cell held
+-- an end of a zone: a static step starts at the cell, or the zone of one of the restrictions begins or ends there
+abbrev pub IsZoneEnd : ℤ → List Step → List Restriction → ℤ → Type 0
+IsZoneEnd length_cm statics held cell = IsStart cell statics ⊎ IsEndOfOne length_cm cell held
 
--- steps start at these borders, and at no other cells
-pub record AreAtBorders (length_cm : ℤ) (statics : List Step) (held : List Restriction) (steps : List Step) : Type 0 where
-  pub each : (c : ℤ) → IsBorder length_cm statics held c → IsStart c steps
-  pub no_other : (c : ℤ) → IsStart c steps → IsBorder length_cm statics held c
+-- steps start at these cells, and at no others
+pub record AreAtZoneEnds (length_cm : ℤ) (statics : List Step) (held : List Restriction) (steps : List Step) : Type 0 where
+  pub each : (c : ℤ) → IsZoneEnd length_cm statics held c → IsStart c steps
+  pub no_other : (c : ℤ) → IsStart c steps → IsZoneEnd length_cm statics held c
 
 -- the step with the speed that holds at its start
 abbrev pub retaken : (ℤ → ℕ) → Step → Step

@@ -1,4 +1,4 @@
--- The speeds under restrictions change only at borders, and steps that start at borders are no more than these.
+-- The speeds under restrictions change only at ends of zones, and steps that start at these are no more than they.
 use Rattle.std.proofs.Common.{◌≡◌, ◌⊎◌, ℕ, zero, suc, ℤ, pos, List, [], ◌∷◌, ◌++◌, Some, map, length, get_or, Bool, int_le, int_lt, min, if◌then◌else◌, inl, inr, ◌+◌, ◌*◌, ◌<◌, ◌≤◌, ◌-ℤ◌, ◌≤ℤ◌, ◌<ℤ◌, refl, sym, ap, ◌∙◌, arith}
 use Rattle.std.specs.List.{remove}
 use Rattle.std.proofs.lemmas.Int.{ints, by_lt_z}
@@ -6,7 +6,7 @@ use Rattle.sdm_num.proofs.Comparisons.{le_is, not_le_is, lt_is, not_lt_is}
 use Rattle.sdm_rules.specs.declared.restrictions.Restriction.{Restriction}
 use Rattle.sdm_rules.specs.Profile.{capped, covers, end_for, lowest_limit, zone_of}
 use Rattle.sdm_speed.specs.declared.steps.Step.{Step}
-use Rattle.sdm_speed.specs.Borders.{AreAtBorders, HasStartsOf, IsBorder, IsEnd, IsEndOfOne, speed_under}
+use Rattle.sdm_speed.specs.ZoneEnds.{AreAtZoneEnds, HasStartsOf, IsZoneEnd, IsEnd, IsEndOfOne, speed_under}
 use Rattle.sdm_speed.specs.Steps.{AreAfter, AreRising, IsStart, speeds_of}
 use Rattle.sdm_speed.proofs.StepLaws.{none_begun}
 use Rattle.sdm_speed.proofs.ZoneLaws.{capped_in_any_order}
@@ -57,17 +57,17 @@ limit_less n c length_cm (r ∷ rs) (suc i) d known =
     ap (capped c (zone_of length_cm r)) (limit_less n c length_cm rs i d (omega arith))
     ∙ capped_in_any_order c (zone_of length_cm r) (zone_of length_cm (get_or rs i d)) (lowest_limit n c (map (zone_of length_cm) (remove rs i)))
 
--- ---- steps that start at the borders
+-- ---- steps that start at the ends of zones
 
-pub borders_none : (length_cm : ℤ) (statics : List Step) → AreAtBorders length_cm statics [] statics
-borders_none length_cm statics = record {
-  each = λ c border. elim border [ inl start ↦ start | inr none ↦ absurd none ];
+pub zone_ends_none : (length_cm : ℤ) (statics : List Step) → AreAtZoneEnds length_cm statics [] statics
+zone_ends_none length_cm statics = record {
+  each = λ c zone_end. elim zone_end [ inl start ↦ start | inr none ↦ absurd none ];
   no_other = λ c start. inl start;
 }
 
-pub borders_more : (length_cm : ℤ) (statics : List Step) (held : List Restriction) (r : Restriction) (old new : List Step) → AreAtBorders length_cm statics held old → HasStartsOf (zone_of length_cm r) old new → AreAtBorders length_cm statics (held ++ r ∷ []) new
-borders_more length_cm statics held r old new at starts = record {
-  each = λ c border. elim border [
+pub zone_ends_more : (length_cm : ℤ) (statics : List Step) (held : List Restriction) (r : Restriction) (old new : List Step) → AreAtZoneEnds length_cm statics held old → HasStartsOf (zone_of length_cm r) old new → AreAtZoneEnds length_cm statics (held ++ r ∷ []) new
+zone_ends_more length_cm statics held r old new at starts = record {
+  each = λ c zone_end. elim zone_end [
     | inl start ↦ starts.kept c (at.each c (inl start))
     | inr end ↦ elim (end_of_more length_cm c held r end) [
       | inl one ↦ starts.kept c (at.each c (inr one))
@@ -86,12 +86,12 @@ borders_more length_cm statics held r old new at starts = record {
   ];
 }
 
-module _ (length_cm : ℤ) (statics : List Step) (held : List Restriction) (i : ℕ) (steps : List Step) (at : AreAtBorders length_cm statics held steps) (c : ℤ) where
+module _ (length_cm : ℤ) (statics : List Step) (held : List Restriction) (i : ℕ) (steps : List Step) (at : AreAtZoneEnds length_cm statics held steps) (c : ℤ) where
   -- what is left when a restriction is taken out
-  pub each_left : IsBorder length_cm statics (remove held i) c → IsStart c steps
-  each_left border = elim border [ inl static ↦ at.each c (inl static) | inr end ↦ at.each c (inr (end_among length_cm c held i end)) ]
+  pub each_left : IsZoneEnd length_cm statics (remove held i) c → IsStart c steps
+  each_left zone_end = elim zone_end [ inl static ↦ at.each c (inl static) | inr end ↦ at.each c (inr (end_among length_cm c held i end)) ]
 
-  pub no_other_left : (d : Restriction) → IsStart c steps → IsBorder length_cm statics (remove held i) c ⊎ IsEnd length_cm c (get_or held i d)
+  pub no_other_left : (d : Restriction) → IsStart c steps → IsZoneEnd length_cm statics (remove held i) c ⊎ IsEnd length_cm c (get_or held i d)
   no_other_left d start = elim (at.no_other c start) [
     | inl static ↦ inl (inl static)
     | inr end ↦ elim (end_less length_cm c held i d end) [ inl one ↦ inl (inr one) | inr here ↦ inr here ]
@@ -146,14 +146,14 @@ start_past c b (s ∷ ss) after (inl e) = let first = after.0 in omega (arith, i
 start_past c b (s ∷ ss) after (inr later) = let first = after.0 in let rest = start_past s.start b ss after.1 later in omega (arith, ints)
 
 module _ (length_cm : ℤ) (v : ℕ) (statics : List Step) (held : List Restriction) where
-  -- no border, no change
-  pub under_same : (c : ℤ) → (IsBorder length_cm statics held c → ⊥) → speed_under length_cm v statics held c ≡ speed_under length_cm v statics held (c -ℤ pos 1)
+  -- no end of a zone, no change
+  pub under_same : (c : ℤ) → (IsZoneEnd length_cm statics held c → ⊥) → speed_under length_cm v statics held c ≡ speed_under length_cm v statics held (c -ℤ pos 1)
   under_same c off =
       ap (λ n. lowest_limit n c (map (zone_of length_cm) held)) (starts_same v statics c (λ start. off (inl start)))
       ∙ ends_same length_cm (speeds_of v statics (c -ℤ pos 1)) held c (λ end. off (inr end))
 
-  -- before all borders
-  pub under_before : (c : ℤ) (ss : List Step) → AreRising statics → ((b : ℤ) → IsBorder length_cm statics held b → IsStart b ss) → AreAfter c ss → speed_under length_cm v statics held c ≡ v
+  -- before all ends of zones
+  pub under_before : (c : ℤ) (ss : List Step) → AreRising statics → ((b : ℤ) → IsZoneEnd length_cm statics held b → IsStart b ss) → AreAfter c ss → speed_under length_cm v statics held c ≡ v
   under_before c ss rising each after =
       ap (λ n. lowest_limit n c (map (zone_of length_cm) held)) (none_begun c v statics c (after_all_starts c statics rising (λ b start. start_past c b ss after (each b (inl start)))) (omega (arith, ints)))
       ∙ limit_before length_cm v held c (λ b end. start_past c b ss after (each b (inr end)))
@@ -227,19 +227,19 @@ module _ (length_cm : ℤ) where
       omega (arith, begun_rises (pos r.start) at c le, begun_rises (past_of r) at c le, ends_more rs at c lt later)
 
   module _ (statics : List Step) (held : List Restriction) where
-    one_more : (at c : ℤ) → at <ℤ c → IsBorder length_cm statics held c → (passed_steps statics at + passed_ends held at) + 1 ≤ passed_steps statics c + passed_ends held c
+    one_more : (at c : ℤ) → at <ℤ c → IsZoneEnd length_cm statics held c → (passed_steps statics at + passed_ends held at) + 1 ≤ passed_steps statics c + passed_ends held c
     one_more at c lt (inl start) = omega (arith, steps_more statics at c lt start, ends_rise held at c (omega (arith, ints)))
     one_more at c lt (inr end) = omega (arith, steps_rise statics at c (omega (arith, ints)), ends_more held at c lt end)
 
-    few_after : (at : ℤ) (ss : List Step) → AreAfter at ss → ((c : ℤ) → IsStart c ss → IsBorder length_cm statics held c) → length ss + (passed_steps statics at + passed_ends held at) ≤ length statics + 2 * length held
+    few_after : (at : ℤ) (ss : List Step) → AreAfter at ss → ((c : ℤ) → IsStart c ss → IsZoneEnd length_cm statics held c) → length ss + (passed_steps statics at + passed_ends held at) ≤ length statics + 2 * length held
     few_after at [] after no_other = omega (arith, steps_most statics at, ends_most held at)
     few_after at (s ∷ ss) after no_other =
         let here = one_more at s.start after.0 (no_other s.start (inl refl)) in
         let rest = few_after s.start ss after.1 (λ c later. no_other c (inr later)) in
         omega (arith, here, rest)
 
-    -- each start is another border
-    pub few_starts : (ss : List Step) → AreRising ss → AreAtBorders length_cm statics held ss → length ss ≤ length statics + 2 * length held
-    few_starts [] rising borders = omega arith
-    few_starts (s ∷ ss) rising borders =
-        let few = few_after (s.start -ℤ pos 1) (s ∷ ss) (omega (arith, ints), rising) borders.no_other in omega (arith, few)
+    -- each start is another end of a zone
+    pub few_starts : (ss : List Step) → AreRising ss → AreAtZoneEnds length_cm statics held ss → length ss ≤ length statics + 2 * length held
+    few_starts [] rising zone_ends = omega arith
+    few_starts (s ∷ ss) rising zone_ends =
+        let few = few_after (s.start -ℤ pos 1) (s ∷ ss) (omega (arith, ints), rising) zone_ends.no_other in omega (arith, few)
