@@ -49,21 +49,21 @@ def differences(program, case):
     lines = difference(("model", "program"), model, run(program, case.words, case.data))
     if case.due:
         lines += difference(("model", "stored"), model, case.due)
-    return lines, model.status
+    return lines, model.code
 
 
 def compare(title, program, cases, count):
     """Compares all cases and tells each that differs; how many differ, where there are none that is one."""
     done, differ, ends, begun = 0, 0, collections.Counter(), time.monotonic()
     for done, case in enumerate(cases, 1):
-        lines, status = differences(program, case)
-        ends[status] += 1
+        lines, code = differences(program, case)
+        ends[code] += 1
         if lines:
             differ += 1
             print("\n".join([f"{case.name}: {' '.join(case.words) or '(no words)'}", *lines]), flush=True)
         if done % PROGRESS == 0:
             print(f"  {done} of {count}, {differ} differ, {time.monotonic() - begun:.0f} s", flush=True)
-    by_end = ", ".join(f"{ends[status]} with {status}" for status in sorted(ends))
+    by_end = ", ".join(f"{ends[code]} with {code}" for code in sorted(ends))
     print(f"{title}: {done - differ} the same, {differ} differ ({by_end or 'none was found'})", flush=True)
     return differ if done else 1
 

@@ -46,10 +46,10 @@ class Journey:
 def example(name):
     """The journey of a folder of examples/, whose end was found apart from the program."""
     folder = EXAMPLES / name
-    code = int((folder / "status").read_text()) if (folder / "status").exists() else 0
-    fault = (folder / "fault").read_bytes() if (folder / "fault").exists() else b""
+    code = int((folder / "code").read_text()) if (folder / "code").exists() else 0
+    err = (folder / "err").read_bytes() if (folder / "err").exists() else b""
     words = tuple((folder / "args").read_text().split("\n")[:-1])
-    return Journey(name, words, (folder / "input").read_bytes(), Ended(code, (folder / "rows").read_bytes(), fault))
+    return Journey(name, words, (folder / "input").read_bytes(), Ended(code, (folder / "rows").read_bytes(), err))
 
 
 def thousand_rows(program):

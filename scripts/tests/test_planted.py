@@ -37,7 +37,12 @@ PLANTED = [
         Fault("scripts/own-reasons.txt", r"^\S+/Commands\.antt: .*\n", "", "no reason for what is own in"),
         Fault("scripts/shown-by.txt", " train_fault: sdm_train::", " train_fault: sdm_track::", "is no test of a function"),
     ]),
-    ("laboratory", [Fault("vectors/flat/curve/rows", r"\d$", "x", "changed: flat/curve/rows")]),
+    ("laboratory", [
+        Fault("vectors/flat/curve/rows", r"\d$", "x", "changed: flat/curve/rows"),
+        Fault("vectors/flat/curve/err", r"\A", "sdm: bad words\n", "changed: flat/curve/err"),
+        Fault("vectors/data/version/code", "5", "6", "changed: data/version/code"),
+        Fault("vectors/data/index", "^version\t.*\n", "", "changed: data/index"),
+    ]),
     ("laboratory", [Fault("tools/why", "The program's row is the same", "It is the same", "FAIL: test_the_program_s_row")]),
     ("links", [
         Fault("docs/SAFETY.md", r"\(PROMISES\.md\)", "(PROMISE.md)", "PROMISE.md leads nowhere"),

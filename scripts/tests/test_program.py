@@ -85,12 +85,12 @@ class Answers(OverACopy):
         copies.alter(self.top, f"{EXAMPLE}/rows", "^0,T,W", "0,T,X")
         self.assertIn("approach: the rows differ", self.told("scripts/examples"))
 
-    def test_another_fault_line_or_status_of_an_example_is_told(self):
-        copies.alter(self.top, "examples/refused-data/fault", "$", ".")
-        copies.alter(self.top, "examples/refused-record/status", r"\d", "5")
+    def test_another_fault_line_or_code_of_an_example_is_told(self):
+        copies.alter(self.top, "examples/refused-data/err", "$", ".")
+        copies.alter(self.top, "examples/refused-record/code", r"\d", "5")
         told = self.told("scripts/examples")
         self.assertIn("refused-data: the fault line differs", told)
-        self.assertIn("refused-record: the status is", told)
+        self.assertIn("refused-record: the code is 7 and not 5", told)
 
     def test_an_example_without_its_files_is_told(self):
         (self.top / EXAMPLE / "rows").unlink()

@@ -1,16 +1,14 @@
 """Journeys as files, as in examples/ and vectors/: a folder with `input`, and beside it what the input leads to.
 
-`args` are the words, one a line (`run` where the file is absent), `rows` is what is written (nothing where it is absent
-and there is a `fault`), `fault` the line that tells the end (absent for none), `status` the code, where the fault line
-isn't to tell it.
+`args` are the words, one a line (`run` where the file is absent), `rows` is what goes to standard output, `err` what goes to
+standard error, `code` the exit status. Where none of these three is there, nothing is due.
 """
 from collections import namedtuple
 
 from .program import Fault, Result
 
 Case = namedtuple("Case", "name words data due")  # due is the Result that the files tell, None where they tell none
-CODES = {"": 0, "bad words": 1, "read fault": 2, "write fault": 3, "input too long": 4, "bad data": 5, "refused": 6,
-         "bad event": 7, "no memory": 8}
+DUE = {"rows": "", "err": "", "code": "0"}  # the files that tell what is due, and what counts for one that is absent
 
 
 def text_of(path, absent):
@@ -21,18 +19,12 @@ def text_of(path, absent):
         return absent
 
 
-def code_of(fault):
-    """The code that goes with a fault line (docs/FORMATS.md, "How a run ends")."""
-    told = fault.removeprefix("sdm: ").strip()
-    return next((code for text, code in CODES.items() if text and told.startswith(text)), 0)
-
-
 def due_of(folder):
     """The result that the files of a folder tell."""
-    rows, fault = text_of(folder / "rows", None), text_of(folder / "fault", "")
-    if rows is None and not fault:
+    if not any((folder / name).exists() for name in DUE):
         return None
-    return Result(rows or "", fault, int(text_of(folder / "status", code_of(fault))))
+    rows, err, code = (text_of(folder / name, absent) for name, absent in DUE.items())
+    return Result(rows, err, int(code))
 
 
 def case_of(folder, name):
@@ -60,8 +52,8 @@ def difference(names, one, other):
     if len(lines[0]) != len(lines[1]):
         number = min(map(len, lines))
         return [f"  row {number} differs", *shown(text[number - 1] or "(no such row)" for text in lines)]
-    if one.fault != other.fault:
-        return ["  the fault line differs", *shown(each.fault.rstrip("\n") or "(none)" for each in (one, other))]
-    if one.status != other.status:
-        return ["  the status differs", *shown((one.status, other.status))]
+    if one.err != other.err:
+        return ["  the fault line differs", *shown(each.err.rstrip("\n") or "(none)" for each in (one, other))]
+    if one.code != other.code:
+        return ["  the code differs", *shown((one.code, other.code))]
     return []

@@ -17,7 +17,7 @@ MARK = CRATE / "out" / "sdm.sources"
 READ_BY_THE_PROVER = ["crates/*/src", "crates/*/specs", "crates/*/proofs"]
 PATIENCE = 120  # s, for one run
 
-Result = namedtuple("Result", "rows fault status")  # what a run wrote, what it told of its end, and its code
+Result = namedtuple("Result", "rows err code")  # what a run wrote, what it told of its end, and its exit status
 
 
 class Fault(Exception):

@@ -5,7 +5,7 @@
     python3 tools/model/journeys.py input SEED               the input of one seed
     python3 tools/model/journeys.py specials DIR             a folder for each input at the limits of the formats
 
-A line has `seed`, `name` (what the journey is about), `args`, `input` (base64), `rows`, `fault`, `status`.
+A line has `seed`, `name` (what the journey is about), `args`, `input` (base64), `rows`, `err`, `code`.
 """
 import base64
 import json
@@ -502,14 +502,14 @@ def specials():
 
 
 def write_folder(folder, words, name, data):
-    rows, fault, status = collect(words, data)
+    rows, err, code = collect(words, data)
     folder.mkdir(parents=True, exist_ok=True)
     (folder / "args").write_text("".join(word + "\n" for word in words))
     (folder / "input").write_bytes(data)
     (folder / "rows").write_text(rows)
-    if status:
-        (folder / "fault").write_text(fault)
-        (folder / "status").write_text(f"{status}\n")
+    if code:
+        (folder / "err").write_text(err)
+        (folder / "code").write_text(f"{code}\n")
 
 
 def main(words):
@@ -528,9 +528,9 @@ def main(words):
         if words[0] == "folder":
             write_folder(Path(words[1]) / f"{seed:06}", args, name, data)
         else:
-            rows, fault, status = collect(args, data)
+            rows, err, code = collect(args, data)
             print(json.dumps({"seed": seed, "name": name, "args": args, "input": base64.b64encode(data).decode(),
-                              "rows": rows, "fault": fault, "status": status}))
+                              "rows": rows, "err": err, "code": code}))
 
 
 if __name__ == "__main__":

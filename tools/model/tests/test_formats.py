@@ -16,7 +16,7 @@ class Examples(unittest.TestCase):
         for folder in sorted(path for path in EXAMPLES.iterdir() if path.is_dir()):
             words = (folder / "args").read_text().split("\n")[:-1]
             read = lambda name, absent: (folder / name).read_text() if (folder / name).exists() else absent
-            due = read("rows", ""), read("fault", ""), int(read("status", "0"))
+            due = read("rows", ""), read("err", ""), int(read("code", "0"))
             with self.subTest(folder.name):
                 self.assertEqual(collect(words, (folder / "input").read_bytes()), due)
 
