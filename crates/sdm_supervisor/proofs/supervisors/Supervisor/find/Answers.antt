@@ -7,7 +7,7 @@ use Rattle.sdm_rules.specs.Supervision.{Supervision, release_of, is_past_end}
 use Rattle.sdm_rules.specs.Targets.{targets_of}
 use Rattle.sdm_speed.specs.Profiles.{mrsp_of}
 use Rattle.sdm_supervisor.specs.declared.findings.Findings.{Findings}
-use Rattle.sdm_braking.specs.KeptCurves.{targets_in}
+use Rattle.sdm_braking.specs.KeptCurves.{IsKeptEnd, targets_in}
 use Rattle.sdm_braking.specs.KeptFalls.{target_of}
 use Rattle.sdm_supervisor.specs.Findings.{IsFoundAt}
 use Rattle.sdm_supervisor.specs.Verdicts.{verdict_of}
@@ -46,23 +46,30 @@ module _ (c : goal.After-of) where
   after : to_z w32 (of_z w32 c.cell-cell.result) ≡ cell_of c.max_mm-front.result
   after = to_z-of_z w32 c.cell-cell.result (search (rules, ints)) ∙ c.cell-cell.ensures
 
-  targets : map target_of c.ahead-falls.result.now ++ targets_in c.self.inside.kept.end.value c.is_some-in_release_monitoring.result ≡ targets_of (mrsp_of c.self.inside.profile) c.self.inside.authority c.args.reading.now.max (is_some (release_of c.self.inside.braking c.self.inside.authority c.args.reading.now.max))
+  -- the end of the authority is read out of its box, for its place and for its targets
+  end_passed : IsKeptEnd c.self.inside.braking c.self.inside.authority c.deref.result.now
+  end_passed = rw c.deref.ensures c.self.invariant.kept.end
+
+  end_judged : IsKeptEnd c.self.inside.braking c.self.inside.authority c.deref-2.result.now
+  end_judged = rw c.deref-2.ensures c.self.invariant.kept.end
+
+  targets : map target_of c.ahead-falls.result.now ++ targets_in c.deref-2.result.now c.is_some-in_release_monitoring.result ≡ targets_of (mrsp_of c.self.inside.profile) c.self.inside.authority c.args.reading.now.max (is_some (release_of c.self.inside.braking c.self.inside.authority c.args.reading.now.max))
   targets =
-      targets_are c.self.inside.braking (mrsp_of c.self.inside.profile) c.self.inside.authority c.ahead-falls.result.now c.self.inside.kept.end.value _ c.max_mm-front.result c.end_of-end.result c.is_some-in_release_monitoring.result (after) c.end_of-end.ensures.value
-      (c.ahead-falls.ensures.each c.self.inside.braking c.self.invariant.kept.falls.each) (c.ahead-falls.ensures.falls (mrsp_of c.self.inside.profile) c.self.invariant.kept.falls.falls) c.self.invariant.kept.end
+      targets_are c.self.inside.braking (mrsp_of c.self.inside.profile) c.self.inside.authority c.ahead-falls.result.now c.deref-2.result.now _ c.max_mm-front.result c.end_of-end.result c.is_some-in_release_monitoring.result (after) c.end_of-end.ensures.value
+      (c.ahead-falls.ensures.each c.self.inside.braking c.self.invariant.kept.falls.each) (c.ahead-falls.ensures.falls (mrsp_of c.self.inside.profile) c.self.invariant.kept.falls.falls) end_judged
       ∙ (λ k. targets_of (mrsp_of c.self.inside.profile) c.self.inside.authority (c.max_mm-front.ensures k) ((c.is_some-in_release_monitoring.ensures ∙ ap is_some in_release_monitoring) k))
 
 pub of-requires-clause-falls : goal.of-requires-clause-falls
 of-requires-clause-falls c = c.ahead-falls.ensures.each c.self.inside.braking c.self.invariant.kept.falls.each
 
 pub of-requires-clause-end : goal.of-requires-clause-end
-of-requires-clause-end c = ends_kept c.self.inside.braking c.self.inside.authority c.self.inside.kept.end.value c.self.invariant.kept.end
+of-requires-clause-end c = rw c.deref-2.ensures (ends_kept c.self.inside.braking c.self.inside.authority c.self.inside.kept.end.value c.self.invariant.kept.end)
 
 pub returns-clause-found : goal.returns-clause-found
 returns-clause-found c =
     subst (λ (s : Supervision). IsFoundAt s c.args.reading.now (found c)) c.self.view_is
     (found_is c.self.inside.braking c.self.inside.authority c.self.inside.profile c.self.inside.last_time c.self.inside.held c.args.reading.now (found c) c.self.invariant.profile
-    c.speed_mm_s.ensures (ceiling c) (c.is_passed_by.ensures c.self.inside.braking c.self.inside.authority c.self.invariant.kept.end ∙ ap (is_past_end c.self.inside.authority) c.min_mm-2.ensures) (in_release_monitoring c) c.is_service_in_use.ensures
+    c.speed_mm_s.ensures (ceiling c) (c.is_passed_by.ensures c.self.inside.braking c.self.inside.authority (end_passed c) ∙ ap (is_past_end c.self.inside.authority) c.min_mm-2.ensures) (in_release_monitoring c) c.is_service_in_use.ensures
     (c.of.ensures ∙ (λ k. verdict_of c.self.inside.braking (c.asked-asked.ensures.reading k) (targets c k))))
 
 pub returns-clause-accepted : goal.returns-clause-accepted
