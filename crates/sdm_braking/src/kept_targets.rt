@@ -6,7 +6,7 @@ ghost use Rattle.sdm_rules.specs.declared.data.SlopeKind.TheVariants.{Normal};
 ghost use Rattle.sdm_rules.specs.Decelerations.{slopes_of};
 ghost use Rattle.sdm_rules.specs.Targets.{foot_speed_of};
 ghost use Rattle.sdm_targets.specs.Lists.{IsTarget};
-ghost use Rattle.sdm_braking.specs.KeptCurves.{AreSpeedsOf, IsCurveOn, IsGuideOf, IsKeptTarget, brake_kind};
+ghost use Rattle.sdm_braking.specs.KeptCurves.{AreSpeedsOf, IsCurveOn, IsGuideOf, IsKeptTarget, brake_kind, is_guided};
 
 use crate::braking::Braking;
 use crate::speeds::SpeedLimits;
@@ -42,6 +42,16 @@ impl Braking {
         }
     }
 
+    /// Whether a target has a guidance curve; the SvL has none of its own. (SUBSET-026-3 3.13.8.5; own)
+    fn is_guided(&self, target: &Target) -> bool
+        ensures { result ≡ is_guided self.now target.now.kind }
+    {
+        match target.kind {
+            TargetKind::Mrsp | TargetKind::Loa | TargetKind::Eoa => self.has_guidance(),
+            TargetKind::Svl => false,
+        }
+    }
+
     /// The guidance curve of a target, where it has one: its foot is at the target place, with the target speed. (SUBSET-026-3
     /// 3.13.8.5; own feet)
     fn guidance_curve(&self, target: &Target, speeds: &SpeedLimits) -> Option<Curve>
@@ -49,11 +59,7 @@ impl Braking {
         requires speeds { AreSpeedsOf target.now speeds.now }
         ensures { IsGuideOf self.now target.now result }
     {
-        let guided = match target.kind {
-            TargetKind::Mrsp | TargetKind::Loa | TargetKind::Eoa => self.has_guidance(),
-            TargetKind::Svl => false,
-        };
-        if !guided {
+        if !self.is_guided(target) {
             return None;
         }
         Some(Curve::from_foot(self.normal(), target.place, speeds.permitted))
@@ -74,7 +80,8 @@ impl Braking {
         }
     }
 
-    /// Makes what is kept of a target that of another, where it stands: nothing so large is moved then.
+    /// Makes what is kept of a target that of another, where it stands: nothing so large is moved then, and a guidance curve that there
+    /// isn't and wasn't isn't written.
     pub fn keep_in_place(&self, kept: &mut KeptTarget, target: Target)
         requires { IsTarget target }
         ensures target { kept.new.target ≡ target }
@@ -84,6 +91,8 @@ impl Braking {
         kept.target = target;
         kept.speeds = speeds;
         kept.brake = self.brake_curve(&target, &speeds);
-        kept.guide = self.guidance_curve(&target, &speeds);
+        if kept.guide.is_some() || self.is_guided(&target) {
+            kept.guide = self.guidance_curve(&target, &speeds);
+        }
     }
 }
