@@ -31,7 +31,7 @@ const SLOW: Restriction = Restriction {
 /// Where the fall at a place in cm has a speed on its EBD, in mm; none where there is no fall.
 fn on_fall(supervisor: &Supervisor, map: &BandMap, cell: i32, v: Speed) -> Option<i64>
     requires cell { pos 0 ≤ℤ cell }
-    requires map { meaning_of map.now ≡ slopes_of Safe supervisor.now.line }
+    requires map { meaning_of map.now ≡ slopes_of Safe supervisor.now.train_and_track }
 {
     let curve = supervisor.fall_curve(cell)?;
     Some(curve.place(map, v).whole_mm())
@@ -39,7 +39,7 @@ fn on_fall(supervisor: &Supervisor, map: &BandMap, cell: i32, v: Speed) -> Optio
 
 /// Where the EBD of the end of the authority has a speed, in mm.
 fn on_end(supervisor: &Supervisor, map: &BandMap, v: Speed) -> i64
-    requires { meaning_of map.now ≡ slopes_of Safe supervisor.now.line }
+    requires { meaning_of map.now ≡ slopes_of Safe supervisor.now.train_and_track }
 {
     let curve = supervisor.authority_curve();
     curve.place(map, v).whole_mm()
@@ -47,7 +47,7 @@ fn on_end(supervisor: &Supervisor, map: &BandMap, v: Speed) -> i64
 
 /// With the EOA and the SvL at 2000 m, and no restriction.
 fn is_at_2_km(supervisor: &Supervisor, map: &BandMap) -> bool
-    requires { meaning_of map.now ≡ slopes_of Safe supervisor.now.line }
+    requires { meaning_of map.now ≡ slopes_of Safe supervisor.now.train_and_track }
 {
     on_fall(supervisor, map, 50_000, Speed::of_kmh(80)).is_none()
         && on_end(supervisor, map, Speed::of_mm_s(0)) == 2_000_000
@@ -56,7 +56,7 @@ fn is_at_2_km(supervisor: &Supervisor, map: &BandMap) -> bool
 
 /// With the restriction in force: 80 km/h has 7.5 km/h of EBI margin, and from 30 m/s it is (900 − 24.3055…²) / 2 = 154.62 m to there.
 fn is_restricted(supervisor: &Supervisor, map: &BandMap) -> bool
-    requires { meaning_of map.now ≡ slopes_of Safe supervisor.now.line }
+    requires { meaning_of map.now ≡ slopes_of Safe supervisor.now.train_and_track }
 {
     on_fall(supervisor, map, 50_000, Speed::new(1_312_500)) == Some(500_000)
         && on_fall(supervisor, map, 50_000, Speed::of_mm_s(30_000)) == Some(345_380)
@@ -74,14 +74,14 @@ fn falls_once(supervisor: &Supervisor) -> bool {
 
 /// With the LOA of 60 km/h at 1500 m, where the foot speed is 67.5 km/h.
 fn is_limited(supervisor: &Supervisor, map: &BandMap) -> bool
-    requires { meaning_of map.now ≡ slopes_of Safe supervisor.now.line }
+    requires { meaning_of map.now ≡ slopes_of Safe supervisor.now.train_and_track }
 {
     on_end(supervisor, map, Speed::new(1_012_500)) == 1_500_000
 }
 
 /// A supervisor with 160 km/h on 2 km, up to an EOA at their end, and the map of A_safe of its data.
 fn begun(alloc: Global) -> Result<(Supervisor, BandMap), Fail>
-    ensures { IfOk result (λ both. meaning_of both.1 ≡ slopes_of Safe both.0.line) }
+    ensures { IfOk result (λ both. meaning_of both.1 ≡ slopes_of Safe both.0.train_and_track) }
 {
     let mut data = base(alloc);
     set_line(alloc, &mut data, "end 200000 200000 0")?;
