@@ -1,19 +1,21 @@
--- The headline: an accepted state has usable slopes, from which the order of the machines and the stop follow; no record
--- changes the data, so a state stays accepted, and the headline goes on from record to record.
-use Rattle.std.proofs.Common.{List, [], ◌∷◌, arith}
+-- The headline of one reading: an accepted state has usable slopes, from which the order of the machines and the stop follow. No
+-- record changes the data, so a state stays accepted.
+use Rattle.std.proofs.Common.{◌≡◌, ℕ, Option, Some, None, refl, arith}
 use Rattle.std.specs.Prelude.{IfOk}
+use Rattle.sdm_num.specs.Readings.{OdometerReading}
+use Rattle.sdm_rules.specs.declared.authorities.Authority.{Authority}
+use Rattle.sdm_rules.specs.declared.restrictions.Restriction.{Restriction}
+use Rattle.sdm_rules.specs.declared.faults.EventCause.{EventCause}
 use Rattle.sdm_rules.specs.declared.records.Event.{Event}
 use Rattle.sdm_rules.specs.declared.records.Event.TheVariants as record_kinds
 use Rattle.sdm_rules.specs.Decelerations.{slopes_of}
-use Rattle.sdm_rules.specs.Supervision.{Supervision, after_reading}
-use Rattle.sdm_rules.specs.Records.{step}
+use Rattle.sdm_rules.specs.Supervision.{Supervision, after_reading, after_authority, after_restriction, after_revocation}
+use Rattle.sdm_rules.specs.Records.{step, unless}
 use Rattle.sdm_rules.specs.Opening.{IsOpen}
-use Rattle.sdm_rules.specs.Headline.{IsSafeAt, AreSafe}
-use Rattle.sdm_laws.specs.SupervisionLaws.{IsKeptOpen, LawOfLimits, LawOfNearness, LawOfMachines, LawOfStop, LawOfReleaseStart, LawOfSupervision, LawOfJourneys}
+use Rattle.sdm_laws.specs.SupervisionLaws.{IsKeptOpen, LawOfLimits, LawOfNearness, LawOfMachines, LawOfStop, LawOfReleaseStart, LawOfSupervision}
 use Rattle.sdm_laws.proofs.AcceptedSlopes.{accepted_usable}
 use Rattle.sdm_laws.proofs.Slack.{rounding}
 use Rattle.sdm_laws.proofs.MachineOrder.{AreUsable, keeps_order, limits_near}
-use Rattle.sdm_laws.proofs.JourneyOrder.{if_unless, if_ok, stays_in_order}
 use Rattle.sdm_laws.proofs.ReleaseStart.{begins_release_monitoring_at, start_near}
 use Rattle.sdm_laws.proofs.Stops.{covered_is_safe}
 
@@ -45,27 +47,33 @@ release s r o = λ eoa svl speed is some. begins_release_monitoring_at s r eoa s
 pub supervision : LawOfSupervision
 supervision s r o = record { order = machines s r o; safe = stop s r o }
 
--- ---- over every list of records
+-- ---- over each record
 
-stays : (s : Supervision) (e : Event) → IsOpen s → IfOk (step s e) (λ t. IsOpen t.after)
-unfolding step after_reading
-stays s (record_kinds.Read r) o = if_unless (λ t. IsOpen t.after) _ _ _ (record { bands = o.bands; usable = o.usable })
-stays s (record_kinds.Authority a) o = if_unless (λ t. IsOpen t.after) _ _ _ (record { bands = o.bands; usable = o.usable })
-stays s (record_kinds.Restrict r) o = if_unless (λ t. IsOpen t.after) _ _ _ (record { bands = o.bands; usable = o.usable })
-stays s (record_kinds.Revoke id) o = if_unless (λ t. IsOpen t.after) _ _ _ (record { bands = o.bands; usable = o.usable })
+if_unless : {F : Type 0} (P : Supervision → Type 0) (cause : F → EventCause) (o : Option F) (s : Supervision) → P s → IfOk (unless cause o s) P
+if_unless P cause None s h = h
+if_unless P cause (Some fault) s h = tt
+
+-- what holds after each kind of record, where none is refused, holds after the record
+pub over_kinds :
+    (P : Event → Supervision → Type 0) (s : Supervision) →
+    ((r : OdometerReading) → P (record_kinds.Read r) (after_reading s r)) →
+    ((a : Authority) → P (record_kinds.Authority a) (after_authority s a)) →
+    ((r : Restriction) → P (record_kinds.Restrict r) (after_restriction s r)) →
+    ((id : ℕ) → P (record_kinds.Revoke id) (after_revocation s id)) →
+    (e : Event) → IfOk (step s e) (P e)
+unfolding step
+over_kinds P s read authority restrict revoke (record_kinds.Read r) = if_unless (P (record_kinds.Read r)) _ _ _ (read r)
+over_kinds P s read authority restrict revoke (record_kinds.Authority a) = if_unless (P (record_kinds.Authority a)) _ _ _ (authority a)
+over_kinds P s read authority restrict revoke (record_kinds.Restrict r) = if_unless (P (record_kinds.Restrict r)) _ _ _ (restrict r)
+over_kinds P s read authority restrict revoke (record_kinds.Revoke id) = if_unless (P (record_kinds.Revoke id)) _ _ _ (revoke id)
+
+-- a state with the same data is open
+pub still_open : (s t : Supervision) → t.train_and_track ≡ s.train_and_track → IsOpen s → IsOpen t
+still_open s t same o = record { bands = rw same o.bands; usable = rw same o.usable }
+
+stays : (s : Supervision) (e : Event) → IsOpen s → IfOk (step s e) IsOpen
+unfolding after_reading
+stays s e o = over_kinds (λ _. IsOpen) s (λ r. still_open s _ refl o) (λ a. still_open s _ refl o) (λ r. still_open s _ refl o) (λ id. still_open s _ refl o) e
 
 pub kept_open : IsKeptOpen
 kept_open = record { opens = λ d a bands accepted. record { bands = bands; usable = accepted.0 }; stays = stays }
-
-safe_at : (s : Supervision) (e : Event) → IsOpen s → IsSafeAt s e
-safe_at s (record_kinds.Read r) o = stop s r o
-safe_at s (record_kinds.Authority a) o = tt
-safe_at s (record_kinds.Restrict r) o = tt
-safe_at s (record_kinds.Revoke id) o = tt
-
-all_safe : (s : Supervision) (es : List Event) → IsOpen s → AreSafe s es
-all_safe s [] o = tt
-all_safe s (e ∷ es) o = if_ok (λ t. IsOpen t.after) (λ t. IsSafeAt s e × AreSafe t.after es) (step s e) (stays s e o) (λ t k. (safe_at s e o, all_safe t.after es k))
-
-pub journeys : LawOfJourneys
-journeys s must may es o h = record { order = stays_in_order s must may es (open_usable s o) h; safe = all_safe s es o }

@@ -25,7 +25,6 @@ pub mod TriggerOrder
 pub mod Nearness
 pub mod CurveNearness
 pub mod MachineOrder
-pub mod JourneyOrder
 pub mod Ceiling
 pub mod Gaps
 pub mod ReleaseStart
@@ -33,6 +32,7 @@ pub mod AcceptedSlopes
 pub mod StopFacts
 pub mod Stops
 pub mod Headline
+pub mod Journeys
 pub mod FlatFacts
 pub mod Settled
 pub mod Search

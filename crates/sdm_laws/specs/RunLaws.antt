@@ -2,8 +2,8 @@
 use Rattle.std.specs.Prelude.{◌≡◌, ◌⊎◌, ℕ, List}
 use Rattle.sdm_rules.specs.declared.authorities.Authority.{Authority}
 use Rattle.sdm_rules.specs.declared.faults.OpenFault.{OpenFault}
-use Rattle.sdm_rules.specs.declared.rows.Row.{Row}
 use Rattle.sdm_rules.specs.Data.{TrainAndTrack}
+use Rattle.sdm_rules.specs.Records.{Turn}
 use Rattle.sdm_rules.specs.Opening.{IsAccepted, IsOpenFault}
 use Rattle.sdm_rules.specs.Input.{Reader, End, IsRun}
 
@@ -17,13 +17,13 @@ pub record IsDecided (d : TrainAndTrack) (a : Authority) : Type 0 where
 abbrev pub LawOfOpening : Type 0
 LawOfOpening = (d : TrainAndTrack) (a : Authority) → IsDecided d a
 
--- there are rows and an end of the input, and no others
+-- there are turns and an end of the input, and no others
 pub record HasOneRun {Table Fields : Type 0} (reader : Reader Table Fields) (bytes : List ℕ) : Type 0 where
-  pub rows : List Row
+  pub turns : List Turn
   pub end : End
-  pub is : IsRun reader bytes rows end
-  pub only : (rows' : List Row) (end' : End) → IsRun reader bytes rows' end' → (rows' ≡ rows) × (end' ≡ end)
+  pub is : IsRun reader bytes turns end
+  pub only : (turns' : List Turn) (end' : End) → IsRun reader bytes turns' end' → (turns' ≡ turns) × (end' ≡ end)
 
--- all bytes have rows and an end, and no others, whatever the parts of an input are read by
+-- all bytes have turns and an end, and no others, whatever the parts of an input are read by
 abbrev pub LawOfOneRun : Type 0 → Type 0 → Type 0
 LawOfOneRun Table Fields = (reader : Reader Table Fields) (bytes : List ℕ) → HasOneRun reader bytes

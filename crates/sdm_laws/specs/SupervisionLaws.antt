@@ -1,11 +1,12 @@
 -- The laws of supervision, as statements over an accepted supervision state alone (own).
-use Rattle.std.specs.Prelude.{◌≡◌, ◌<◌, ℕ, ℤ, Bool, false, IsTrue, IfOk, List, Option, Some, None, ⊤}
+use Rattle.std.specs.Prelude.{◌≡◌, ◌<◌, ℕ, ℤ, Bool, false, IsTrue, IfOk, List, Option, Some, None, Result, ⊤}
 use Rattle.sdm_num.specs.Units.{millimetre}
 use Rattle.sdm_num.specs.Fractions.{Fraction, IsAtMost, more}
 use Rattle.sdm_num.specs.Bounds.{IsEarlyFor}
 use Rattle.sdm_num.specs.Readings.{OdometerReading}
 use Rattle.sdm_rules.specs.declared.authorities.Authority.{Authority}
 use Rattle.sdm_rules.specs.declared.data.SlopeKind.{SlopeKind}
+use Rattle.sdm_rules.specs.declared.faults.EventFault.{EventFault}
 use Rattle.sdm_rules.specs.declared.records.Event.{Event}
 use Rattle.sdm_rules.specs.Slopes.{IsUsable}
 use Rattle.sdm_rules.specs.Curves.{exact, stepped, most_slack}
@@ -15,11 +16,11 @@ use Rattle.sdm_rules.specs.declared.targets.Target.{Target}
 use Rattle.sdm_rules.specs.Limits.{SupervisionLimits, computed, exact_places, limits_of, release_start}
 use Rattle.sdm_rules.specs.Supervision.{Supervision, opening, row_of}
 use Rattle.sdm_rules.specs.Machines.{KeepsOrder, InOrder, held_after}
-use Rattle.sdm_rules.specs.Records.{step}
+use Rattle.sdm_rules.specs.Records.{step, journey_from}
 use Rattle.sdm_rules.specs.Stop.{IsSafe}
 use Rattle.sdm_rules.specs.Promises.{BeginsReleaseMonitoring, HasOnlyGaps, IsWithinCeiling}
 use Rattle.sdm_rules.specs.Opening.{IsAccepted, IsAcceptedKind, IsOpen}
-use Rattle.sdm_rules.specs.Headline.{IsSupervised, IsSupervisedOver}
+use Rattle.sdm_rules.specs.Headline.{IsSupervised, AreTurnsSafe}
 
 -- the slopes of accepted data are usable
 abbrev pub LawOfAcceptedSlopes : Type 0
@@ -28,7 +29,7 @@ LawOfAcceptedSlopes = (kind : SlopeKind) (d : TrainAndTrack) → HasBands d.trai
 -- an accepted opening is open, and a state stays open over each record: no record changes the data
 pub record IsKeptOpen : Type 0 where
   pub opens : (d : TrainAndTrack) (a : Authority) → HasBands d.train.bands → IsAccepted d a → IsOpen (opening d a)
-  pub stays : (s : Supervision) (e : Event) → IsOpen s → IfOk (step s e) (λ t. IsOpen t.after)
+  pub stays : (s : Supervision) (e : Event) → IsOpen s → IfOk (step s e) IsOpen
 
 -- on accepted slopes each computed place of a curve lies at most `most_slack` grains before the exact one, never past it
 abbrev pub LawOfNearness : Type 0
@@ -94,6 +95,9 @@ LawOfReleaseStart = (s : Supervision) (r : OdometerReading) → IsOpen s → Beg
 abbrev pub LawOfSupervision : Type 0
 LawOfSupervision = (s : Supervision) (r : OdometerReading) → IsOpen s → IsSupervised s r
 
--- THE HEADLINE over every list of records
-abbrev pub LawOfJourneys : Type 0
-LawOfJourneys = (s : Supervision) (must may : Bool) (es : List Event) → IsOpen s → InOrder must s.commands.eb may → IsSupervisedOver s must may es
+-- THE HEADLINE over every journey: from an accepted supervision state on, in which the three commands stand in order, each turn is
+-- safe, whatever the records and by whatever form they are read
+abbrev pub LawOfJourneys : Type 0 → Type 0
+LawOfJourneys Record =
+    (form : ℕ → Record → Result Event EventFault) (n : ℕ) (s : Supervision) (must may : Bool) (records : List Record) →
+    IsOpen s → InOrder must s.commands.eb may → AreTurnsSafe must may (journey_from form n s records).turns

@@ -62,7 +62,7 @@ pub fn law_of_supervision()
     ensures { LawOfSupervision }
 {}
 
-/// The headline over every list of records, from an accepted supervision state on.
-pub fn law_of_journeys()
-    ensures { LawOfJourneys }
+/// The headline over every journey, from an accepted supervision state on.
+pub fn law_of_journeys<Record>()
+    ensures { LawOfJourneys Record }
 {}

@@ -1,4 +1,4 @@
--- What `run` defines for the bytes of its input: the rows and the end, of which there is one pair for all bytes (own).
+-- What `run` defines for the bytes of its input: the turns of its journey and its end, of which there is one pair for all bytes (own).
 use Rattle.std.specs.Prelude.{◌≡◌, ◌⊎◌, MatchBool, nat_lt, ℕ, List, [], Option, Some, None, Result, Ok, Err, length, take, drop}
 use Rattle.sdm_rules.specs.declared.authorities.Authority.{Authority}
 use Rattle.sdm_rules.specs.declared.records.Event.{Event}
@@ -6,10 +6,9 @@ use Rattle.sdm_rules.specs.declared.faults.DataFault.{DataFault}
 use Rattle.sdm_rules.specs.declared.faults.EventFault.{EventFault}
 use Rattle.sdm_rules.specs.declared.faults.EventCause.{EventCause}
 use Rattle.sdm_rules.specs.declared.faults.OpenFault.{OpenFault}
-use Rattle.sdm_rules.specs.declared.rows.Row.{Row}
 use Rattle.sdm_rules.specs.Data.{TrainAndTrack}
 use Rattle.sdm_rules.specs.Supervision.{opening}
-use Rattle.sdm_rules.specs.Records.{journey_from}
+use Rattle.sdm_rules.specs.Records.{Journey, Turn, event_at, journey_from}
 use Rattle.sdm_rules.specs.Opening.{IsAccepted, IsOpenFault}
 
 -- the most bytes of an input
@@ -42,27 +41,33 @@ end_of_journey None = Done
 end_of_journey (Some (n, cause)) = BadEvent n cause
 
 module _ {Table Fields : Type 0} (reader : Reader Table Fields) where
-  -- the rows and the end from accepted data and an accepted authority on
-  pub record IsOpened (train_and_track : TrainAndTrack) (a : Authority) (records : List Fields) (rows : List Row) (end : End) : Type 0 where
+  -- the journey of records after an accepted opening
+  abbrev pub journey_of : TrainAndTrack → Authority → List Fields → Journey
+  journey_of train_and_track a records = journey_from (event_at reader.form) 1 (opening train_and_track a) records
+
+  -- the turns and the end from accepted data and an accepted authority on
+  pub record IsOpened (train_and_track : TrainAndTrack) (a : Authority) (records : List Fields) (turns : List Turn) (end : End) : Type 0 where
     pub accepted : IsAccepted train_and_track a
-    pub rows_are : rows ≡ (journey_from reader.form 1 (opening train_and_track a) records).rows
-    pub end_is : end ≡ end_of_journey (journey_from reader.form 1 (opening train_and_track a) records).refused
+    pub turns_are : turns ≡ (journey_of train_and_track a records).turns
+    pub end_is : end ≡ end_of_journey (journey_of train_and_track a records).refused
 
-  -- the rows and the end from the data on; rows are written only after an accepted opening
-  abbrev pub IsAfterData : List Row → End → List Fields → Result (TrainAndTrack × Authority) DataFault → Type 0
-  IsAfterData rows end records (Err fault) = (rows ≡ []) × (end ≡ Data fault)
-  IsAfterData rows end records (Ok x) = IsOpened x.0 x.1 records rows end ⊎ ((fault : OpenFault) × IsOpenFault x.0 x.1 fault × (rows ≡ []) × (end ≡ Refused fault))
+  -- the turns and the end from the data on; there are turns only after an accepted opening
+  abbrev pub IsAfterData : List Turn → End → List Fields → Result (TrainAndTrack × Authority) DataFault → Type 0
+  IsAfterData turns end records (Err fault) = (turns ≡ []) × (end ≡ Data fault)
+  IsAfterData turns end records (Ok x) =
+      IsOpened x.0 x.1 records turns end ⊎ ((fault : OpenFault) × IsOpenFault x.0 x.1 fault × (turns ≡ []) × (end ≡ Refused fault))
 
-  -- the rows and the end from the TOML document on
-  abbrev pub IsAfterDocument : List Row → End → List Fields → Option Table → Type 0
-  IsAfterDocument rows end records None = (rows ≡ []) × (end ≡ Toml)
-  IsAfterDocument rows end records (Some table) = IsAfterData rows end records (reader.data_of table)
+  -- the turns and the end from the TOML document on
+  abbrev pub IsAfterDocument : List Turn → End → List Fields → Option Table → Type 0
+  IsAfterDocument turns end records None = (turns ≡ []) × (end ≡ Toml)
+  IsAfterDocument turns end records (Some table) = IsAfterData turns end records (reader.data_of table)
 
-  -- the rows and the end from the division of the input on
-  abbrev pub IsAfterDivision : List Row → End → List ℕ → Option (ℕ × ℕ) → Type 0
-  IsAfterDivision rows end bytes None = (rows ≡ []) × (end ≡ NoSplit)
-  IsAfterDivision rows end bytes (Some x) = IsAfterDocument rows end (reader.records (drop x.1 bytes)) (reader.document (take x.0 bytes))
+  -- the turns and the end from the division of the input on
+  abbrev pub IsAfterDivision : List Turn → End → List ℕ → Option (ℕ × ℕ) → Type 0
+  IsAfterDivision turns end bytes None = (turns ≡ []) × (end ≡ NoSplit)
+  IsAfterDivision turns end bytes (Some x) = IsAfterDocument turns end (reader.records (drop x.1 bytes)) (reader.document (take x.0 bytes))
 
-  -- THE RUN: these are the rows and the end of the input
-  abbrev pub IsRun : List ℕ → List Row → End → Type 0
-  IsRun bytes rows end = MatchBool (nat_lt most_bytes (length bytes)) ((rows ≡ []) × (end ≡ TooLong)) (IsAfterDivision rows end bytes (reader.divide bytes))
+  -- THE RUN: these are the turns and the end of the input
+  abbrev pub IsRun : List ℕ → List Turn → End → Type 0
+  IsRun bytes turns end =
+      MatchBool (nat_lt most_bytes (length bytes)) ((turns ≡ []) × (end ≡ TooLong)) (IsAfterDivision turns end bytes (reader.divide bytes))

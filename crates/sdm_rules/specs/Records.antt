@@ -1,5 +1,5 @@
 -- What each record makes of the supervision state, or why it is refused (own).
-use Rattle.std.specs.Prelude.{ℕ, suc, ℤ, pos, List, [], ◌∷◌, Option, Some, None, Result, Ok, Err, ◌||◌, nat_lt, nat_le, ◌==◌, int_lt, if◌then◌else◌}
+use Rattle.std.specs.Prelude.{ℕ, suc, ℤ, pos, List, [], ◌∷◌, Option, Some, None, Result, Ok, Err, ◌||◌, nat_lt, nat_le, ◌==◌, int_lt, filter_map, if◌then◌else◌}
 use Rattle.std.specs.Ordering.{nat_cmp}
 use Rattle.std.specs.FinMap as finite
 use Rattle.sdm_rules.specs.declared.authorities.Authority.{Authority}
@@ -64,27 +64,51 @@ time_cause (TimeBack last time) = causes.TimeBack last time
 
 -- ---- one record
 
--- the state after a record, and a row where it is a reading
-pub record Step : Type 0 where
+-- the state, unless there is a fault, which is then the cause of a refusal
+abbrev pub unless : {F : Type 0} → (F → EventCause) → Option F → Supervision → Result Supervision EventCause
+unless cause None s = Ok s
+unless cause (Some fault) s = Err (cause fault)
+
+-- the state after a record, or why it is refused
+unfoldable pub step : Supervision → Event → Result Supervision EventCause
+step s (record_kinds.Read r) = unless time_cause (time_fault s.last_time r.time) (after_reading s r)
+step s (record_kinds.Authority a) = unless causes.Authority (authority_fault s.train_and_track.track.length_cm a) (after_authority s a)
+step s (record_kinds.Restrict r) =
+    unless causes.Restrict (restrict_fault s.train_and_track.track.length_cm s.restrictions r) (after_restriction s r)
+step s (record_kinds.Revoke id) = unless causes.Revoke (revoke_fault s.restrictions id) (after_revocation s id)
+
+-- ---- turns
+
+-- a turn of a journey: what a record says, with the states before and after it
+pub record Turn : Type 0 where
+  pub before : Supervision
+  pub event : Event
   pub after : Supervision
-  pub row : Option Row
 
--- the step, unless there is a fault, which is then the cause of a refusal
-abbrev pub unless : {F : Type 0} → (F → EventCause) → Option F → Step → Result Step EventCause
-unless cause None step = Ok step
-unless cause (Some fault) step = Err (cause fault)
+-- the turn of an event that leads to a state, or why it is refused
+abbrev pub turn_to : Supervision → Event → Result Supervision EventCause → Result Turn EventCause
+turn_to s e (Ok after) = Ok (record { before = s; event = e; after = after })
+turn_to s e (Err cause) = Err cause
 
--- a step without a row
-abbrev pub quiet : Supervision → Step
-quiet s = record { after = s; row = None }
+-- the turn of a record as it is written, or why it is refused: its form is tested first
+abbrev pub turn_of : Supervision → Result Event EventFault → Result Turn EventCause
+turn_of s (Ok e) = turn_to s e (step s e)
+turn_of s (Err fault) = Err (causes.Form fault)
 
--- the step of a record, or why it is refused
-unfoldable pub step : Supervision → Event → Result Step EventCause
-step s (record_kinds.Read r) = unless time_cause (time_fault s.last_time r.time) (record { after = after_reading s r; row = Some (row_of s r) })
-step s (record_kinds.Authority a) = unless causes.Authority (authority_fault s.train_and_track.track.length_cm a)
-    (quiet (after_authority s a))
-step s (record_kinds.Restrict r) = unless causes.Restrict (restrict_fault s.train_and_track.track.length_cm s.restrictions r) (quiet (after_restriction s r))
-step s (record_kinds.Revoke id) = unless causes.Revoke (revoke_fault s.restrictions id) (quiet (after_revocation s id))
+-- the row of an event: a reading has one
+abbrev pub row_at : Supervision → Event → Option Row
+row_at s (record_kinds.Read r) = Some (row_of s r)
+row_at s (record_kinds.Authority a) = None
+row_at s (record_kinds.Restrict r) = None
+row_at s (record_kinds.Revoke id) = None
+
+-- the row of a turn, if it has one
+abbrev pub row_of_turn : Turn → Option Row
+row_of_turn t = row_at t.before t.event
+
+-- the rows of turns
+abbrev pub rows_of : List Turn → List Row
+rows_of turns = filter_map row_of_turn turns
 
 -- ---- a list of records
 
@@ -92,32 +116,22 @@ step s (record_kinds.Revoke id) = unless causes.Revoke (revoke_fault s.restricti
 abbrev pub most_records : ℕ
 most_records = 100_000
 
--- the rows of a journey, and the number of the first record that is refused, from 1, with its cause; an accepted journey has
--- none
+-- a journey: its turns up to the first record that is refused, and that record's number, from 1, with its cause; an accepted
+-- journey has none
 pub record Journey : Type 0 where
-  pub rows : List Row
+  pub turns : List Turn
   pub refused : Option (ℕ × EventCause)
 
--- the event of a record, by its form; past the greatest count none is read
+-- the event of a record of a number, by its form; past the greatest count none is read
 abbrev pub event_at : {A : Type 0} → (A → Result Event EventFault) → ℕ → A → Result Event EventFault
 event_at form n x = if nat_lt most_records n then Err TooMany else form x
 
--- the step of a record as it is written, or why it is refused: its form is tested first
-abbrev pub step_of : Supervision → Result Event EventFault → Result Step EventCause
-step_of s (Ok e) = step s e
-step_of s (Err fault) = Err (causes.Form fault)
+-- the journey from a turn on: the rest follows only where the record is accepted
+abbrev pub go_on : ℕ → Result Turn EventCause → (Supervision → Journey) → Journey
+go_on n (Ok t) rest = let later = rest t.after in record { turns = t ∷ later.turns; refused = later.refused }
+go_on n (Err cause) rest = record { turns = []; refused = Some (n, cause) }
 
--- a journey with the row, if there is one, before its rows
-abbrev pub with_row : Option Row → Journey → Journey
-with_row None rest = rest
-with_row (Some row) rest = record rest { rows = row ∷ rest.rows }
-
--- the journey from a record on: the rest follows only where the record is accepted
-abbrev pub go_on : ℕ → Result Step EventCause → (Supervision → Journey) → Journey
-go_on n (Ok x) rest = with_row x.row (rest x.after)
-go_on n (Err cause) rest = record { rows = []; refused = Some (n, cause) }
-
--- the journey of records, of which the first has the number `n`; `form` is the form of a record
-abbrev pub journey_from : {A : Type 0} → (A → Result Event EventFault) → ℕ → Supervision → List A → Journey
-journey_from form n s [] = record { rows = []; refused = None }
-journey_from form n s (x ∷ xs) = go_on n (step_of s (event_at form n x)) (λ t. journey_from form (suc n) t xs)
+-- the journey of records, of which the first has the number `n`; `form` gives the event of a record of a number
+abbrev pub journey_from : {A : Type 0} → (ℕ → A → Result Event EventFault) → ℕ → Supervision → List A → Journey
+journey_from form n s [] = record { turns = []; refused = None }
+journey_from form n s (x ∷ xs) = go_on n (turn_of s (form n x)) (λ t. journey_from form (suc n) t xs)

@@ -1,4 +1,4 @@
--- The text of rows (own).
+-- The text of rows and of turns (own).
 use Rattle.std.specs.Prelude.{ℕ, ℤ, Bool, List, [], ◌∷◌, ◌++◌, Option, Some, None, codes, decimal, if◌then◌else◌}
 use Rattle.std.specs.Fmt.{signed_decimal}
 use Rattle.std.specs.List.{join_with_byte}
@@ -7,6 +7,7 @@ use Rattle.sdm_rules.specs.declared.commands.State.TheVariants.{C, T, R}
 use Rattle.sdm_rules.specs.declared.commands.Status.{Status}
 use Rattle.sdm_rules.specs.declared.commands.Status.TheVariants.{N, I, O, W, X}
 use Rattle.sdm_rules.specs.declared.rows.Row.{Row}
+use Rattle.sdm_rules.specs.Records.{Turn, row_of_turn}
 
 -- the letter of a type of speed and distance monitoring
 abbrev pub state_text : State → List ℕ
@@ -45,7 +46,16 @@ text_line fields = join_with_byte 44 fields ++ codes "\n"
 unfoldable pub row_text : Row → List ℕ
 row_text r = text_line (fields_of r)
 
--- the text of rows, one after the other
-abbrev pub run_text : List Row → List ℕ
-run_text [] = []
-run_text (r ∷ rs) = row_text r ++ run_text rs
+-- the text of a row; empty where there is none
+abbrev pub text_of_row : Option Row → List ℕ
+text_of_row None = []
+text_of_row (Some row) = row_text row
+
+-- what is told of turns, one after the other, by what is told of each
+abbrev pub told : (Turn → List ℕ) → List Turn → List ℕ
+told tell [] = []
+told tell (t ∷ ts) = tell t ++ told tell ts
+
+-- the text of `run`: that of the row of each turn
+abbrev pub run_text : List Turn → List ℕ
+run_text turns = told (λ t. text_of_row (row_of_turn t)) turns

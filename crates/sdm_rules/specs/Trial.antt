@@ -12,7 +12,7 @@ use Rattle.sdm_rules.specs.declared.rows.Row.{Row}
 use Rattle.sdm_rules.specs.Data.{TrainAndTrack, TrackData, TrainData}
 use Rattle.sdm_rules.specs.Flat.{Output}
 use Rattle.sdm_rules.specs.Input.{end_of_journey}
-use Rattle.sdm_rules.specs.Records.{Journey, journey_from}
+use Rattle.sdm_rules.specs.Records.{Journey, event_at, journey_from, rows_of}
 use Rattle.sdm_rules.specs.Supervision.{opening}
 
 -- the next number of the generator
@@ -87,7 +87,7 @@ reading_record r = Ok (record_kinds.Read r)
 
 -- the journey of so many cycles from a seed
 abbrev pub trial_journey : ℕ → ℕ → Journey
-trial_journey seed cycles = journey_from reading_record 1 (opening trial_train_and_track trial_authority) (readings_from seed 1 cycles)
+trial_journey seed cycles = journey_from (event_at reading_record) 1 (opening trial_train_and_track trial_authority) (readings_from seed 1 cycles)
 
 -- ---- the summary
 
@@ -113,4 +113,4 @@ summary_text rows =
 abbrev pub trial_output : ℕ → ℕ → Output
 trial_output seed cycles =
     let journey = trial_journey seed cycles in
-    record { text = summary_text journey.rows; end = end_of_journey journey.refused }
+    record { text = summary_text (rows_of journey.turns); end = end_of_journey journey.refused }
