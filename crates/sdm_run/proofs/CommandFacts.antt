@@ -2,7 +2,7 @@
 use Rattle.std.proofs.Common.{◌≡◌, ℕ, ◌≤◌, ◌<◌, List, [], Option, Some, None, length, nat_lt, true, false, inl, refl, subst, sym, arith}
 use Rattle.std.proofs.lemmas.Bool.Decides.{nat_tests}
 use Rattle.std.proofs.KnownBytes.{Appends-nil}
-use Rattle.std.specs.Prelude.{IfSome}
+use Rattle.std.specs.Prelude.{IfSome, Bool, MatchBool, IsTrue}
 use Rattle.sdm_io.specs.Told.{Told}
 use Rattle.sdm_rules.specs.Input.{most_bytes}
 use Rattle.sdm_rules.specs.Input as ends
@@ -12,8 +12,9 @@ use Rattle.sdm_run.specs.declared.words.Command.TheVariants.{Flat, Run, Trial}
 use Rattle.sdm_report.specs.declared.outcome.Outcome.{Outcome}
 use Rattle.sdm_report.specs.declared.outcome.Outcome.TheVariants.{TooLong}
 use Rattle.sdm_run.specs.Words.{IsCommandInRange}
-use Rattle.sdm_run.specs.Answers.{IsAnswer, ReadsInput}
-use Rattle.sdm_run.specs.Commands.{AreRowsSafe, IsOutputOf, OfInput, within_limit}
+use Rattle.sdm_run.specs.Answers.{IsAnswer}
+use Rattle.sdm_run.specs.Commands.{AreRowsSafe, IsOutputOf, within_limit}
+use Rattle.sdm_run.specs.Shapes.{OfInput, Shape, shape_of}
 use Rattle.sdm_run.proofs.FlatOrder.{flat_rows_safe}
 use Rattle.sdm_run.proofs.RunAnswers.{run_rows_safe, run_too_long}
 use Rattle.sdm_run.proofs.TrialRuns.{trial_rows_safe}
@@ -26,40 +27,48 @@ rows_safe Run bytes h = run_rows_safe bytes
 rows_safe (Trial seed cycles) bytes h = trial_rows_safe seed cycles
 
 -- what holds of all bytes holds of those that a command answers
-of_input : (command : Command) (left : Option (List ℕ)) (P : List ℕ → Type 0) → ((bytes : List ℕ) → P bytes) → OfInput command left P
-of_input (Flat decel end) None P h = tt
-of_input (Flat decel end) (Some bytes) P h = h bytes
-of_input Run None P h = tt
-of_input Run (Some bytes) P h = h bytes
-of_input (Trial seed cycles) left P h = h
+pub of_input : (shape : Shape) (left : Option (List ℕ)) (P : List ℕ → Type 0) → ((bytes : List ℕ) → P bytes) → OfInput shape left P
+of_input shape left P h = by_reading shape.reads_input left
+  where
+    by_reading : (reads : Bool) (left : Option (List ℕ)) → MatchBool reads (Told left P) ((bytes : List ℕ) → P bytes)
+    by_reading true None = tt
+    by_reading true (Some bytes) = h bytes
+    by_reading false left = h
 
--- so of the command of words, whatever the input tells
-pub rows_told : (o : Option Command) (command : Command) (left : Option (List ℕ)) → o ≡ Some command → IsCommandInRange command → IfSome o (λ command. OfInput command left (AreRowsSafe command))
-rows_told o command left is range = rw is (of_input command left (AreRowsSafe command) (λ bytes. rows_safe command bytes range))
+-- the promise of a command's rows, at the command that the words ask for
+pub rows_told : (o : Option Command) (command : Command) (left : Option (List ℕ)) → o ≡ Some command → IsCommandInRange command →
+    IfSome o (λ command. OfInput (shape_of command) left (AreRowsSafe command))
+rows_told o command left is range = rw is (of_input (shape_of command) left (AreRowsSafe command) (λ bytes. rows_safe command bytes range))
 
 -- ---- the bytes that are answered
 
--- what answers the bytes that were read, if any are, answers those of the input
+-- what holds of the bytes that were read, if any are, holds of those that a command answers: a command that reads none answers all alike
 answered :
-    (command : Command) (left : Option (List ℕ)) (bytes : List ℕ) (A : Output → Type 0) →
-    (ReadsInput command → Told left (λ told. bytes ≡ told)) →
-    ((output : Output) → IsOutputOf command bytes output → A output) →
-    OfInput command left (λ told. (output : Output) → IsOutputOf command told output → A output)
-answered (Flat decel end) None bytes A whole h = tt
-answered (Flat decel end) (Some told) bytes A whole h = rw (sym (whole tt)) h
-answered Run None bytes A whole h = tt
-answered Run (Some told) bytes A whole h = rw (sym (whole tt)) h
-answered (Trial seed cycles) left bytes A whole h = λ told. h
+    (reads : Bool) (left : Option (List ℕ)) (bytes : List ℕ) (P : List ℕ → Type 0) →
+    (IsTrue reads → Told left (λ told. bytes ≡ told)) → P bytes → (reads ≡ false → (other : List ℕ) → P other) →
+    MatchBool reads (Told left P) ((bytes : List ℕ) → P bytes)
+answered true None bytes P whole h alike = tt
+answered true (Some told) bytes P whole h alike = subst P (whole refl) h
+answered false left bytes P whole h alike = alike refl
 
--- so for the command of words
+-- a command that reads nothing has the same output for all bytes
+outputs_alike : (command : Command) (A : Output → Type 0) (bytes : List ℕ) → ((output : Output) → IsOutputOf command bytes output → A output) →
+    (shape_of command).reads_input ≡ false → (other : List ℕ) (output : Output) → IsOutputOf command other output → A output
+outputs_alike (Flat decel end) A bytes h none other = absurd cc
+outputs_alike Run A bytes h none other = absurd cc
+outputs_alike (Trial seed cycles) A bytes h none other = h
+
+-- what answers the bytes that were read answers those of the input, at the command that the words ask for
 pub answer_told :
     (o : Option Command) (command : Command) (left : Option (List ℕ)) (read bytes : List ℕ) (A : Output → Type 0) →
     o ≡ Some command →
-    (ReadsInput command → Told left (λ told. read ≡ told)) →
+    (IsTrue (shape_of command).reads_input → Told left (λ told. read ≡ told)) →
     bytes ≡ read →
     ((output : Output) → IsOutputOf command bytes output → A output) →
-    IfSome o (λ command. OfInput command left (λ told. (output : Output) → IsOutputOf command told output → A output))
-answer_told o command left read bytes A is whole same h = rw is (answered command left read A whole (subst (λ (b : List ℕ). (output : Output) → IsOutputOf command b output → A output) same h))
+    IfSome o (λ command. OfInput (shape_of command) left (λ told. (output : Output) → IsOutputOf command told output → A output))
+answer_told o command left read bytes A is whole same h =
+    let of_read = subst (λ (b : List ℕ). (output : Output) → IsOutputOf command b output → A output) same h in
+    rw is (answered (shape_of command).reads_input left read (λ told. (output : Output) → IsOutputOf command told output → A output) whole of_read (outputs_alike command A read of_read))
 
 -- ---- the limit
 
@@ -76,20 +85,19 @@ pub within_answer : (bytes : List ℕ) (flat : Output) (old new : Option (List �
     (output : Output) → output ≡ within_limit bytes flat → IsAnswer output old new outcome
 within_answer bytes flat old new outcome short h output is = rw (is, within bytes flat short) h
 
-too_long : (command : Command) (bytes : List ℕ) (old : Option (List ℕ)) → ReadsInput command → most_bytes < length bytes → (output : Output) → IsOutputOf command bytes output → IsAnswer output old old TooLong
+too_long : (command : Command) (bytes : List ℕ) (old : Option (List ℕ)) → IsTrue (shape_of command).reads_input → most_bytes < length bytes → (output : Output) → IsOutputOf command bytes output → IsAnswer output old old TooLong
 too_long (Flat decel end) bytes old reads long output is = rw (is, above bytes (flat_output decel end bytes) long) (record { ended = inl refl; taken = Appends-nil old })
 too_long Run bytes old reads long output is = run_too_long bytes old long output is
-too_long (Trial seed cycles) bytes old reads long output is = absurd reads
+too_long (Trial seed cycles) bytes old reads long output is = absurd cc
 
-too_long_of : (command : Command) (left old : Option (List ℕ)) → ReadsInput command → Told left (λ bytes. most_bytes < length bytes) →
-    OfInput command left (λ bytes. (output : Output) → IsOutputOf command bytes output → IsAnswer output old old TooLong)
-too_long_of (Flat decel end) None old reads long = tt
-too_long_of (Flat decel end) (Some bytes) old reads long = too_long (Flat decel end) bytes old reads long
-too_long_of Run None old reads long = tt
-too_long_of Run (Some bytes) old reads long = too_long Run bytes old reads long
-too_long_of (Trial seed cycles) left old reads long = absurd reads
+too_long_of : (reads : Bool) (left : Option (List ℕ)) (P : List ℕ → Type 0) → IsTrue reads → Told left (λ bytes. most_bytes < length bytes) →
+    ((bytes : List ℕ) → most_bytes < length bytes → P bytes) → MatchBool reads (Told left P) ((bytes : List ℕ) → P bytes)
+too_long_of true None P reads long h = tt
+too_long_of true (Some bytes) P reads long h = h bytes long
+too_long_of false left P reads long h = absurd cc
 
--- and one above it as too long, whatever the input tells
-pub too_long_told : (o : Option Command) (command : Command) (left old : Option (List ℕ)) → o ≡ Some command → ReadsInput command → Told left (λ bytes. most_bytes < length bytes) →
-    IfSome o (λ command. OfInput command left (λ bytes. (output : Output) → IsOutputOf command bytes output → IsAnswer output old old TooLong))
-too_long_told o command left old is reads long = rw is (too_long_of command left old reads long)
+-- an input above the limit is answered as too long, whatever it tells
+pub too_long_told : (o : Option Command) (command : Command) (left old : Option (List ℕ)) → o ≡ Some command → IsTrue (shape_of command).reads_input → Told left (λ bytes. most_bytes < length bytes) →
+    IfSome o (λ command. OfInput (shape_of command) left (λ bytes. (output : Output) → IsOutputOf command bytes output → IsAnswer output old old TooLong))
+too_long_told o command left old is reads long =
+    rw is (too_long_of (shape_of command).reads_input left (λ bytes. (output : Output) → IsOutputOf command bytes output → IsAnswer output old old TooLong) reads long (λ bytes long. too_long command bytes old reads long))

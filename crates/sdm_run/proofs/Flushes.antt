@@ -1,18 +1,19 @@
 -- What out took stands when it gives on what it holds back, so an answer is one of a write fault where that fails. An answer with no
 -- fault is complete.
 use Rattle.std.proofs.Common.{◌≡◌, ◌∙◌, ℕ, List, [], ◌++◌, Option, None, Some, length, length-append, take, inl, inr, refl, sym, subst, append-nil, arith}
-use Rattle.std.specs.Prelude.{IfSome}
+use Rattle.std.specs.Prelude.{IfSome, Bool, true, false, MatchBool}
 use Rattle.std.proofs.lemmas.List.{take_all, take-append-le}
 use Rattle.std.specs.Io.KnownBytes.{Appends, Keeps}
-use Rattle.sdm_io.specs.Told.{AppendsPart}
+use Rattle.sdm_io.specs.Told.{AppendsPart, Told}
 use Rattle.sdm_rules.specs.Input as ends
 use Rattle.sdm_rules.specs.Flat.{Output}
 use Rattle.sdm_report.specs.declared.outcome.Outcome.{Outcome}
 use Rattle.sdm_report.specs.declared.outcome.Outcome.TheVariants.{Done, Usage, ReadFault, WriteFault, TooLong, BadData, Refused, BadEvent, Memory}
 use Rattle.sdm_run.specs.declared.words.Command.{Command}
-use Rattle.sdm_run.specs.declared.words.Command.TheVariants.{Flat, Run, Trial}
 use Rattle.sdm_run.specs.Answers.{IsAnswer, IsComplete, IsOutcomeOf, TakesFor, told_end}
-use Rattle.sdm_run.specs.Commands.{IsOutputOf, OfInput}
+use Rattle.sdm_run.specs.Commands.{IsOutputOf}
+use Rattle.sdm_run.specs.Shapes.{OfInput, shape_of}
+use Rattle.sdm_run.proofs.CommandFacts.{of_input}
 
 -- ---- what out took stands
 
@@ -107,20 +108,20 @@ complete output old new outcome h read write = complete_end output old new outco
 
 -- a fact of the output of the command that the words ask for, whatever the input tells
 abbrev OfAsked : Option Command → Option (List ℕ) → (Output → Type 0) → Type 0
-OfAsked asked left P = IfSome asked (λ command. OfInput command left (λ bytes. (output : Output) → IsOutputOf command bytes output → P output))
+OfAsked asked left P = IfSome asked (λ command. OfInput (shape_of command) left (λ bytes. (output : Output) → IsOutputOf command bytes output → P output))
 
 module _ (A B : Output → Type 0) (so : (output : Output) → A output → B output) where
-  of_bytes : (command : Command) (left : Option (List ℕ)) → OfAsked (Some command) left A → OfAsked (Some command) left B
-  of_bytes (Flat decel end) None h = tt
-  of_bytes (Flat decel end) (Some bytes) h = λ output is. so output (h output is)
-  of_bytes Run None h = tt
-  of_bytes Run (Some bytes) h = λ output is. so output (h output is)
-  of_bytes (Trial seed cycles) left h = λ bytes output is. so output (h bytes output is)
+  of_bytes : (reads : Bool) (left : Option (List ℕ)) (Is : List ℕ → Output → Type 0) →
+      MatchBool reads (Told left (λ bytes. (output : Output) → Is bytes output → A output)) ((bytes : List ℕ) (output : Output) → Is bytes output → A output) →
+      MatchBool reads (Told left (λ bytes. (output : Output) → Is bytes output → B output)) ((bytes : List ℕ) (output : Output) → Is bytes output → B output)
+  of_bytes true None Is h = tt
+  of_bytes true (Some bytes) Is h = λ output is. so output (h output is)
+  of_bytes false left Is h = λ bytes output is. so output (h bytes output is)
 
   -- what follows of every output follows of that one
   of_command : (asked : Option Command) (left : Option (List ℕ)) → OfAsked asked left A → OfAsked asked left B
   of_command None left h = tt
-  of_command (Some command) left h = of_bytes command left h
+  of_command (Some command) left h = of_bytes (shape_of command).reads_input left (IsOutputOf command) h
 
 -- an answer is complete where neither the input nor out failed
 pub complete_told :
@@ -137,8 +138,5 @@ complete_told asked left old new outcome Read Write read write h =
 -- what holds of every output holds of that of the command that the words ask for
 pub told_of_all : (B : Output → Type 0) → ((output : Output) → B output) → (asked : Option Command) (left : Option (List ℕ)) → OfAsked asked left B
 told_of_all B h None left = tt
-told_of_all B h (Some (Flat decel end)) None = tt
-told_of_all B h (Some (Flat decel end)) (Some bytes) = λ output is. h output
-told_of_all B h (Some Run) None = tt
-told_of_all B h (Some Run) (Some bytes) = λ output is. h output
-told_of_all B h (Some (Trial seed cycles)) left = λ bytes output is. h output
+told_of_all B h (Some command) left =
+    of_input (shape_of command) left (λ bytes. (output : Output) → IsOutputOf command bytes output → B output) (λ bytes output is. h output)

@@ -3,7 +3,6 @@ pub mod FlatTexts
 pub mod FlatOrder
 pub mod TrialRuns
 pub mod CommandFacts
-pub mod RunTurnLaws
 pub mod RunData
 pub mod RunTexts
 pub mod RunAnswers

@@ -13,5 +13,5 @@ pub one_output : (command : Command) (bytes : List ℕ) → HasOneOutput command
 one_output (Flat decel end) bytes = record { output = within_limit bytes (flat_output decel end bytes); is = refl; only = λ other is. is }
 one_output Run bytes =
     let one = one_run run_reader bytes in
-    record { output = output_by one.rows one.end; is = record { rows = one.rows; run = one.is; text_is = refl }; only = λ other is. only_output bytes one.rows one.end one.is other is }
+    record { output = output_by one.turns one.end; is = record { turns = one.turns; run = one.is; text_is = refl }; only = λ other is. only_output bytes one.turns one.end one.is other is }
 one_output (Trial seed cycles) bytes = record { output = trial_output seed cycles; is = refl; only = λ other is. is }

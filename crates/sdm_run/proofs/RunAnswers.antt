@@ -1,44 +1,53 @@
 -- What the parts of `run` say makes the output of the whole: an input has one run, so it is enough to name one.
 use Rattle.std.proofs.Common.{◌≡◌, ℕ, ◌≤◌, ◌<◌, true, false, List, [], Option, Some, None, take, drop, length, nat_lt, inl, inr, refl, ap, ◌∙◌, sym, subst, arith}
 use Rattle.std.proofs.lemmas.Bool.Decides.{nat_tests}
+use Rattle.std.specs.Prelude.{Result, Ok, Err, Bool, MatchBool, not}
 use Rattle.std.proofs.KnownBytes.{Appends-nil}
-use Rattle.sdm_rules.specs.declared.rows.Row.{Row}
+use Rattle.sdm_rules.specs.declared.turns.Row.{Row}
+use Rattle.toml.specs.Data.{Members}
+use Rattle.sdm_rules.specs.declared.authorities.Authority.{Authority}
+use Rattle.sdm_rules.specs.declared.faults.DataFault.{DataFault}
+use Rattle.sdm_rules.specs.Data.{TrainAndTrack, HasBands}
 use Rattle.sdm_rules.specs.Flat.{Output}
-use Rattle.sdm_rules.specs.Forms.{event_of}
-use Rattle.sdm_rules.specs.Input.{most_bytes, End, IsRun, IsAfterDivision}
+use Rattle.sdm_rules.specs.Input.{most_bytes, End, IsRun, IsOpened, IsAfterData, IsAfterDocument, IsAfterDivision, journey_of}
 use Rattle.sdm_rules.specs.Input as ends
-use Rattle.sdm_rules.specs.Records.{journey_from}
+use Rattle.sdm_rules.specs.Records.{Turn}
 use Rattle.sdm_rules.specs.Supervision.{Supervision, opening}
 use Rattle.sdm_rules.specs.Text.{run_text}
+use Rattle.sdm_rules.specs.Headline.{AreTurnsSafe}
+use Rattle.sdm_laws.proofs.Journeys.{turns_safe}
 use Rattle.sdm_laws.proofs.OneRun.{one_run}
 use Rattle.sdm_report.specs.declared.outcome.InputFault.TheVariants.{NoSplit, Toml, Data}
 use Rattle.sdm_report.specs.declared.outcome.Outcome.{Outcome}
 use Rattle.sdm_report.specs.declared.outcome.Outcome.TheVariants.{Done, Usage, ReadFault, WriteFault, TooLong, BadData, Refused, BadEvent, Memory}
 use Rattle.sdm_data.specs.Division.{divide}
-use Rattle.sdm_events.specs.Journey.{records_of}
-use Rattle.sdm_run.specs.Answers.{ComesOfReadingAlone, LeavesOutUntouched, IsAnswer, IsRecordsOutcome, IsRunOutcome}
+use Rattle.sdm_data.specs.Document.{document_of}
+use Rattle.sdm_data.specs.Journey.{data_of}
+use Rattle.sdm_events.specs.Journey.{Record, records_of}
+use Rattle.sdm_run.specs.Answers.{ComesOfReadingAlone, LeavesOutUntouched, IsAnswer}
 use Rattle.sdm_run.specs.Journeys.{run_reader, output_of_records, IsRunOutput}
 use Rattle.sdm_run.specs.RunParts.{IsOpeningOf, IsRefusedBy}
-use Rattle.sdm_run.specs.RunTurns.{AreRunRowsSafe}
-use Rattle.sdm_run.proofs.RunTurnLaws.{rows_of_turns}
-use Rattle.sdm_run.proofs.RunData.{opening_open}
+use Rattle.sdm_run.specs.Commands.{AreRunRowsSafe}
+use Rattle.sdm_run.specs.Shapes.{IsOutcomeIn, records_shape, run_shape, is_of_line}
+use Rattle.sdm_run.proofs.RunData.{has_bands}
+use Rattle.sdm_run.proofs.RunTexts.{of_records}
 
--- the output of rows and an end
-abbrev pub output_by : List Row → End → Output
-output_by rows end = record { text = run_text rows; end = end }
+-- the output of turns and an end
+abbrev pub output_by : List Turn → End → Output
+output_by turns end = record { text = run_text turns; end = end }
 
--- an output of the input is that of any rows and end that are its run
-pub only_output : (bytes : List ℕ) (rows : List Row) (end : End) → IsRun run_reader bytes rows end → (output : Output) → IsRunOutput bytes output → output ≡ output_by rows end
-only_output bytes rows end run output is =
+-- an output of the input is that of any turns and end that are its run
+pub only_output : (bytes : List ℕ) (turns : List Turn) (end : End) → IsRun run_reader bytes turns end → (output : Output) → IsRunOutput bytes output → output ≡ output_by turns end
+only_output bytes turns end run output is =
     let one = one_run run_reader bytes in
-    let mine = one.only rows end run in
-    let its = one.only is.rows output.end is.run in
+    let mine = one.only turns end run in
+    let its = one.only is.turns output.end is.run in
     λ k. record { text = (is.text_is ∙ ap run_text (its.0 ∙ sym mine.0)) k; end = (its.1 ∙ sym mine.1) k }
 
 -- what answers the output of one run answers each output
-pub answers_all : (bytes : List ℕ) (rows : List Row) (end : End) (old new : Option (List ℕ)) (outcome : Outcome) → IsRun run_reader bytes rows end → IsAnswer (output_by rows end) old new outcome →
+pub answers_all : (bytes : List ℕ) (turns : List Turn) (end : End) (old new : Option (List ℕ)) (outcome : Outcome) → IsRun run_reader bytes turns end → IsAnswer (output_by turns end) old new outcome →
     (output : Output) → IsRunOutput bytes output → IsAnswer output old new outcome
-answers_all bytes rows end old new outcome run answer output is = subst (λ (o : Output). IsAnswer o old new outcome) (sym (only_output bytes rows end run output is)) answer
+answers_all bytes turns end old new outcome run answer output is = subst (λ (o : Output). IsAnswer o old new outcome) (sym (only_output bytes turns end run output is)) answer
 
 -- ---- the limit
 
@@ -48,8 +57,8 @@ run_too_long bytes old long =
     answers_all bytes [] ends.TooLong old old TooLong (rw yes (refl, refl)) (record { ended = inl refl; taken = Appends-nil old })
 
 -- an input within the limit has the run of its parts
-pub run_of_parts : (bytes : List ℕ) (rows : List Row) (end : End) → length bytes ≤ most_bytes → IsAfterDivision run_reader rows end bytes (divide bytes) → IsRun run_reader bytes rows end
-run_of_parts bytes rows end short parts =
+pub run_of_parts : (bytes : List ℕ) (turns : List Turn) (end : End) → length bytes ≤ most_bytes → IsAfterDivision run_reader turns end bytes (divide bytes) → IsRun run_reader bytes turns end
+run_of_parts bytes turns end short parts =
     let no : nat_lt most_bytes (length bytes) ≡ false = grind (arith, nat_tests) in rw no parts
 
 -- ---- the data part
@@ -86,17 +95,43 @@ refused bytes data_end start old (BadEvent number cause) short cut none = absurd
 pub recorded : (bytes : List ℕ) (data_end start : ℕ) (s : Supervision) (old new : Option (List ℕ)) (outcome : Outcome) → length bytes ≤ most_bytes → divide bytes ≡ Some (data_end, start) →
     IsOpeningOf (take data_end bytes) s → IsAnswer (output_of_records 1 s (records_of (drop start bytes))) old new outcome → (output : Output) → IsRunOutput bytes output → IsAnswer output old new outcome
 recorded bytes data_end start s old new outcome short cut is answer =
-    let journey = journey_from event_of 1 (opening is.train_and_track is.authority) (records_of (drop start bytes)) in
-    let run = run_of_parts bytes journey.rows (ends.end_of_journey journey.refused) short (rw (cut, is.given.document, is.given.read) (inl (record { accepted = is.accepted; rows_are = refl; end_is = refl }))) in
-    answers_all bytes journey.rows (ends.end_of_journey journey.refused) old new outcome run (subst (λ (t : Supervision). IsAnswer (output_of_records 1 t (records_of (drop start bytes))) old new outcome) is.state answer)
+    let journey = journey_of run_reader is.train_and_track is.authority (records_of (drop start bytes)) in
+    let run = run_of_parts bytes journey.turns (ends.end_of_journey journey.refused) short (rw (cut, is.given.document, is.given.read) (inl (record { accepted = is.accepted; turns_are = refl; end_is = refl }))) in
+    answers_all bytes journey.turns (ends.end_of_journey journey.refused) old new outcome run (subst (λ (t : Supervision). IsAnswer (output_of_records 1 t (records_of (drop start bytes))) old new outcome) is.state answer)
 
--- ---- the rows
+-- ---- the turns
 
--- the rows of an input are those of turns, each of which is safe
+-- there are turns only after an accepted opening of data that break no rule, and those are safe
+module _ (records : List Record) (turns : List Turn) (end : End) where
+  none_safe : turns ≡ [] → AreTurnsSafe false false turns
+  none_safe none = rw none tt
+
+  opened_safe : (d : TrainAndTrack) (a : Authority) → HasBands d.train.bands → IsOpened run_reader d a records turns end → AreTurnsSafe false false turns
+  opened_safe d a bands o =
+      rw o.turns_are
+      (turns_safe _ 1 (opening d a) false false records (record { bands = bands; usable = o.accepted.0 }) (record { needed = λ h. h; allowed = λ h. h }))
+
+  after_data_safe : (members : Members) (r : Result (TrainAndTrack × Authority) DataFault) → data_of members ≡ r → IsAfterData run_reader turns end records r → AreTurnsSafe false false turns
+  after_data_safe members (Err fault) read h = none_safe h.0
+  after_data_safe members (Ok x) read (inl o) = opened_safe x.0 x.1 (has_bands members x.0 x.1 read) o
+  after_data_safe members (Ok x) read (inr f) = none_safe f.2
+
+  after_document_safe : (document : Option Members) → IsAfterDocument run_reader turns end records document → AreTurnsSafe false false turns
+  after_document_safe None h = none_safe h.0
+  after_document_safe (Some members) h = after_data_safe members (data_of members) refl h
+
+after_division_safe : (bytes : List ℕ) (turns : List Turn) (end : End) (division : Option (ℕ × ℕ)) → IsAfterDivision run_reader turns end bytes division → AreTurnsSafe false false turns
+after_division_safe bytes turns end None h = rw h.0 tt
+after_division_safe bytes turns end (Some x) h = after_document_safe (records_of (drop x.1 bytes)) turns end (document_of (take x.0 bytes)) h
+
+within_safe : (bytes : List ℕ) (turns : List Turn) (end : End) (long : Bool) →
+    MatchBool long ((turns ≡ []) × (end ≡ ends.TooLong)) (IsAfterDivision run_reader turns end bytes (divide bytes)) → AreTurnsSafe false false turns
+within_safe bytes turns end true h = rw h.0 tt
+within_safe bytes turns end false h = after_division_safe bytes turns end (divide bytes) h
+
+-- each turn of a run is safe
 pub run_rows_safe : (bytes : List ℕ) → AreRunRowsSafe bytes
-run_rows_safe bytes ends s cut is =
-    rows_of_turns event_of 1 s false false (records_of (drop ends.1 bytes)) (opening_open (take ends.0 bytes) s is)
-    (rw is.state (record { needed = λ h. h; allowed = λ h. h }))
+run_rows_safe bytes output told = within_safe bytes told.turns output.end (nat_lt most_bytes (length bytes)) told.run
 
 -- ---- no outcome of these comes before the bytes are answered
 
@@ -111,16 +146,8 @@ refused_not_before bytes (Refused fault) h b = b
 refused_not_before bytes (BadEvent number cause) h b = b
 refused_not_before bytes Memory h b = b
 
-pub records_not_before : (outcome : Outcome) → IsRecordsOutcome outcome → ComesOfReadingAlone outcome → ⊥
-records_not_before Done h b = b
-records_not_before Usage h b = h
-records_not_before ReadFault h b = h
-records_not_before WriteFault h b = b
-records_not_before TooLong h b = h
-records_not_before (BadData fault) h b = b
-records_not_before (Refused fault) h b = b
-records_not_before (BadEvent number cause) h b = b
-records_not_before Memory h b = b
+pub records_not_before : (outcome : Outcome) → IsOutcomeIn records_shape outcome → ComesOfReadingAlone outcome → ⊥
+records_not_before = of_records (λ outcome. ComesOfReadingAlone outcome → ⊥) (λ h. h) (λ h. h) (λ number cause from_1 possible h. h) (λ h. h)
 
 pub flat_not_before : (outcome : Outcome) → (LeavesOutUntouched outcome → ⊥) → ComesOfReadingAlone outcome → ⊥
 flat_not_before Done h b = b
@@ -134,13 +161,5 @@ flat_not_before (BadEvent number cause) h b = b
 flat_not_before Memory h b = b
 
 -- an outcome that records may have is one that `run` may have
-pub records_possible : (outcome : Outcome) → IsRecordsOutcome outcome → IsRunOutcome outcome
-records_possible Done h = h
-records_possible Usage h = h
-records_possible ReadFault h = absurd h
-records_possible WriteFault h = h
-records_possible TooLong h = absurd h
-records_possible (BadData fault) h = absurd h
-records_possible (Refused fault) h = absurd h
-records_possible (BadEvent number cause) h = h
-records_possible Memory h = h
+pub records_possible : (outcome : Outcome) → IsOutcomeIn records_shape outcome → IsOutcomeIn run_shape outcome
+records_possible = of_records (IsOutcomeIn run_shape) tt tt (λ number cause from_1 possible. (from_1, ap not possible)) tt

@@ -1,4 +1,4 @@
--- Data that break no rule make a train whose bands are in order, so an accepted opening of them is open.
+-- Data that break no rule make a train whose bands are in order.
 use Rattle.std.proofs.Common.{◌≡◌, ℕ, List, Option, Some, None, length, refl, ap, subst}
 use Rattle.std.specs.Prelude.{Result, Ok, Err}
 use Rattle.toml.specs.Data.{Members}
@@ -6,15 +6,12 @@ use Rattle.sdm_rules.specs.declared.authorities.Authority.{Authority}
 use Rattle.sdm_rules.specs.declared.data.NationalFields.{NationalFields}
 use Rattle.sdm_rules.specs.declared.faults.DataFault.{DataFault}
 use Rattle.sdm_rules.specs.declared.faults.DataFault.TheVariants as data_faults
-use Rattle.sdm_rules.specs.Data.{TrainData, TrackData, TrainAndTrack}
-use Rattle.sdm_rules.specs.Opening.{IsOpen}
+use Rattle.sdm_rules.specs.Data.{TrainData, TrackData, TrainAndTrack, HasBands}
 use Rattle.sdm_rules.specs.Ranges.{train_fault, national_fault, track_fault}
-use Rattle.sdm_rules.specs.Supervision.{Supervision}
 use Rattle.sdm_train.proofs.Accepted.{IsTrain_of}
 use Rattle.sdm_data.specs.Members.{◌>>=◌}
 use Rattle.sdm_data.specs.Sections.{RootMembers, root_in, train_in, national_in, track_in, authority_in}
 use Rattle.sdm_data.specs.Journey.{unless_broken, data_of}
-use Rattle.sdm_run.specs.RunParts.{IsOpeningOf}
 
 -- where the whole holds a value, so does its first part
 from_first : {A B : Type 0} (first : Result A DataFault) (rest : A → Result B DataFault) (y : B) → (first >>= rest) ≡ Ok y → (x : A) × (rest x ≡ Ok y)
@@ -69,7 +66,6 @@ train_accepted table train_and_track a e =
     let of_track = from_rule data_faults.Track (track_fault track.0) track.0 (λ _. Ok (record { train = train.0; national = national.0; track = track.0 }, authority.0)) (train_and_track, a) of_national.1 in
     subst (λ (t : TrainData). train_fault (length t.bands) t ≡ None) (ap (train_or train.0) of_track.1) of_train.0
 
-pub opening_open : (bytes : List ℕ) (s : Supervision) → IsOpeningOf bytes s → IsOpen s
-opening_open bytes s is =
-    let train = IsTrain_of is.train_and_track.train (train_accepted is.given.members is.train_and_track is.authority is.given.read) in
-    rw is.state (record { bands = train.bands; usable = is.accepted.0 })
+-- the bands of data that break no rule are in order
+pub has_bands : (table : Members) (d : TrainAndTrack) (a : Authority) → data_of table ≡ Ok (d, a) → HasBands d.train.bands
+has_bands table d a read = (IsTrain_of d.train (train_accepted table d a read)).bands

@@ -1,6 +1,7 @@
 -- The output of records, record by record: what was written and the output of the records that are left are the output of all.
 use Rattle.std.proofs.Common.{◌≡◌, ℕ, suc, ◌+◌, ◌≤◌, List, [], ◌∷◌, ◌++◌, length, take, Option, Some, None, inl, inr, refl, ap, ◌∙◌, sym, subst, append_assoc, length-append, arith}
-use Rattle.std.specs.Prelude.{Result, Ok, Err, ◌≢◌, ◌⊎◌}
+use Rattle.std.specs.Prelude.{Result, Ok, Err, ◌⊎◌, Bool, true, false, not, IsTrue}
+use Rattle.std.proofs.lemmas.Bool.{le-ltb}
 use Rattle.std.proofs.Math.Seq.{take-append-add}
 use Rattle.std.proofs.lemmas.List.{append-nil}
 use Rattle.std.specs.Io.KnownBytes.{Appends}
@@ -15,57 +16,101 @@ use Rattle.sdm_rules.specs.declared.records.Event.TheVariants as record_kinds
 use Rattle.sdm_rules.specs.declared.rows.Row.{Row}
 use Rattle.sdm_rules.specs.Flat.{Output}
 use Rattle.sdm_rules.specs.Forms.{event_of}
-use Rattle.sdm_rules.specs.Records.{Step, authority_fault, restrict_fault, revoke_fault, time_fault, time_cause, unless, step, step_of, event_at, most_records}
+use Rattle.sdm_rules.specs.Records.{Turn, authority_fault, restrict_fault, revoke_fault, time_fault, time_cause, unless, step, turn_of, turn_to, row_at, row_of_turn, event_at, most_records}
 use Rattle.sdm_rules.specs.Supervision.{Supervision}
-use Rattle.sdm_rules.specs.Text.{row_text}
+use Rattle.sdm_rules.specs.Text.{row_text, text_of_row}
+use Rattle.sdm_report.specs.declared.outcome.InputFault.TheVariants.{NoSplit, Toml, Data}
 use Rattle.sdm_report.specs.declared.outcome.Outcome.{Outcome}
 use Rattle.sdm_report.specs.declared.outcome.Outcome.TheVariants.{Done, Usage, ReadFault, WriteFault, TooLong, BadData, Refused, BadEvent, Memory}
 use Rattle.sdm_events.specs.Journey.{Record}
-use Rattle.sdm_run.specs.Answers.{IsAnswer, LeavesOutUntouched, IsOutcomeOf, IsRecordsOutcome, AreWholeLines, TakesFor}
+use Rattle.sdm_run.specs.Answers.{IsAnswer, LeavesOutUntouched, IsOutcomeOf, AreWholeLines, TakesFor}
 use Rattle.sdm_run.specs.Journeys.{output_of_records}
-use Rattle.sdm_run.specs.RunParts.{TakesRecord, text_of}
+use Rattle.sdm_run.specs.RunParts.{IsTaken, TakesRecord}
+use Rattle.sdm_run.specs.Shapes.{IsOutcomeIn, is_of_line, records_shape}
 
 -- ---- one record
 
 -- it is no line, or ends with a line feed
-whole_text : (row : Option Row) → AreWholeLines (text_of row)
+whole_text : (row : Option Row) → AreWholeLines (text_of_row row)
 unfolding row_text
 whole_text None = inl refl
 whole_text (Some row) = inr (_, refl)
 
--- the output of an accepted record
-output_first : (n : ℕ) (s t : Supervision) (x : Record) (more : List Record) (row : Option Row) → step_of s (event_at event_of n x) ≡ Ok (record { after = t; row = row }) →
-    output_of_records n s (x ∷ more) ≡ record { text = text_of row ++ (output_of_records (suc n) t more).text; end = (output_of_records (suc n) t more).end }
-output_first n s t x more None e = rw e refl
-output_first n s t x more (Some row) e = rw e refl
+-- the output of records of which the first is a turn
+output_first : (n : ℕ) (s : Supervision) (x : Record) (more : List Record) (turn : Turn) → turn_of s (event_at event_of n x) ≡ Ok turn →
+    output_of_records n s (x ∷ more) ≡
+    record {
+      text = text_of_row (row_of_turn turn) ++ (output_of_records (suc n) turn.after more).text;
+      end = (output_of_records (suc n) turn.after more).end;
+    }
+output_first n s x more turn e = rw e refl
 
-pub took : (old new : Option (List ℕ)) (n : ℕ) (s t : Supervision) (records more : List Record) (x : Record) (row : Option Row) → records ≡ x ∷ more →
-    step_of s (event_at event_of n x) ≡ Ok (record { after = t; row = row }) → n ≤ most_records → Appends old new (text_of row) → TakesRecord old new n s t records more
-took old new n s t records more x row is e counted h = record {
-  text = text_of row;
-  first = ap (output_of_records n s) is ∙ output_first n s t x more row e;
-  whole_lines = whole_text row;
+pub took : (old new : Option (List ℕ)) (n : ℕ) (s t : Supervision) (records more : List Record) (x : Record) (text : List ℕ) → records ≡ x ∷ more →
+    IsTaken s t (event_at event_of n x) text → n ≤ most_records → Appends old new text → TakesRecord old new n s t records more
+took old new n s t records more x text is taken counted h = record {
+  text = text;
+  first = ap (output_of_records n s) is ∙ rw (sym taken.after, taken.text_is) (output_first n s x more taken.turn taken.taken);
+  whole_lines = rw taken.text_is (whole_text (row_of_turn taken.turn));
   taken = h;
   counted = counted;
   fewer = rw is (omega arith);
 }
 
+-- an event that is accepted is taken as a turn
+pub taken_event : (s t : Supervision) (n : ℕ) (x : Record) (e : Event) (text : List ℕ) → n ≤ most_records → event_of x ≡ Ok e → step s e ≡ Ok t →
+    text ≡ text_of_row (row_at s e) → IsTaken s t (event_at event_of n x) text
+taken_event s t n x e text counted form accepted text_is = record {
+  turn = record { before = s; event = e; after = t };
+  taken = rw (le-ltb most_records n counted) (rw (form, accepted) refl);
+  after = refl;
+  text_is = text_is;
+}
+
 -- ---- no record is refused as a line
 
-unless_no_line : {F : Type 0} (make : F → EventCause) (o : Option F) (x : Step) (cause : EventCause) → ((f : F) → make f ≢ causes.Line) → unless make o x ≡ Err cause → cause ≢ causes.Line
-unless_no_line make None x cause never e = λ is. cc
-unless_no_line make (Some f) x cause never e = λ is. never f cc
+turn_no_line : {F : Type 0} (make : F → EventCause) (o : Option F) (s t : Supervision) (e : Event) (cause : EventCause) →
+    ((f : F) → is_of_line (make f) ≡ false) → turn_to s e (unless make o t) ≡ Err cause → is_of_line cause ≡ false
+turn_no_line make None s t e cause never is = cc
+turn_no_line make (Some f) s t e cause never is = subst (λ (c : EventCause). is_of_line c ≡ false) cc (never f)
 
-time_no_line : (f : CycleFault) → time_cause f ≢ causes.Line
-time_no_line (TimeBack last time) = λ is. cc
+time_no_line : (f : CycleFault) → is_of_line (time_cause f) ≡ false
+time_no_line (TimeBack last time) = refl
 
-pub no_line : (s : Supervision) (e : Result Event EventFault) (cause : EventCause) → step_of s e ≡ Err cause → cause ≢ causes.Line
+no_line : (s : Supervision) (e : Result Event EventFault) (cause : EventCause) → turn_of s e ≡ Err cause → is_of_line cause ≡ false
 unfolding step
-no_line s (Err fault) cause e = λ is. cc
-no_line s (Ok (record_kinds.Read r)) cause e = unless_no_line time_cause (time_fault s.last_time r.time) _ cause time_no_line e
-no_line s (Ok (record_kinds.Authority a)) cause e = unless_no_line causes.Authority (authority_fault s.train_and_track.track.length_cm a) _ cause (λ f is. cc) e
-no_line s (Ok (record_kinds.Restrict r)) cause e = unless_no_line causes.Restrict (restrict_fault s.train_and_track.track.length_cm s.restrictions r) _ cause (λ f is. cc) e
-no_line s (Ok (record_kinds.Revoke id)) cause e = unless_no_line causes.Revoke (revoke_fault s.restrictions id) _ cause (λ f is. cc) e
+no_line s (Err fault) cause e = subst (λ (c : EventCause). is_of_line c ≡ false) cc refl
+no_line s (Ok (record_kinds.Read r)) cause e = turn_no_line time_cause (time_fault s.last_time r.time) s _ _ cause time_no_line e
+no_line s (Ok (record_kinds.Authority a)) cause e = turn_no_line causes.Authority (authority_fault s.train_and_track.track.length_cm a) s _ _ cause (λ f. refl) e
+no_line s (Ok (record_kinds.Restrict r)) cause e = turn_no_line causes.Restrict (restrict_fault s.train_and_track.track.length_cm s.restrictions r) s _ _ cause (λ f. refl) e
+no_line s (Ok (record_kinds.Revoke id)) cause e = turn_no_line causes.Revoke (revoke_fault s.restrictions id) s _ _ cause (λ f. refl) e
+
+not_true : (b : Bool) → IsTrue (not b) → b ≡ false
+not_true true h = sym h
+not_true false h = refl
+
+-- a record that is refused ends `run` with an outcome of records
+pub refused_outcome : (n : ℕ) (s : Supervision) (e : Result Event EventFault) (cause : EventCause) → 1 ≤ n → turn_of s e ≡ Err cause →
+    IsOutcomeIn records_shape (BadEvent n cause)
+refused_outcome n s e cause from_1 is = (from_1, ap not (no_line s e cause is))
+
+-- ---- the outcomes of records
+
+-- what holds of the outcomes that records may have
+pub of_records :
+    (P : Outcome → Type 0) → P Done → P WriteFault →
+    ((number : ℕ) (cause : EventCause) → 1 ≤ number → is_of_line cause ≡ false → P (BadEvent number cause)) → P Memory →
+    (outcome : Outcome) → IsOutcomeIn records_shape outcome → P outcome
+of_records P done write bad memory Done h = done
+of_records P done write bad memory Usage h = absurd h
+of_records P done write bad memory ReadFault h = absurd cc
+of_records P done write bad memory WriteFault h = write
+of_records P done write bad memory TooLong h = absurd cc
+of_records P done write bad memory (BadData NoSplit) h = absurd cc
+of_records P done write bad memory (BadData Toml) h = absurd cc
+of_records P done write bad memory (BadData (Data fault)) h = absurd (let no = h.0 in cc)
+of_records P done write bad memory (Refused fault) h = absurd (let no = h.0 in cc)
+of_records P done write bad memory (BadEvent number cause) h = bad number cause h.0 (not_true (is_of_line cause) h.1)
+of_records P done write bad memory Memory h = memory
 
 -- ---- all records
 
@@ -110,40 +155,28 @@ module _ (old mid new : Option (List ℕ)) (whole : Output) (n : ℕ) (s : Super
   all_taken : Appends mid new (output_of_records n s records).text → Appends old new whole.text
   all_taken h = subst (Appends old new) (sym left.text) (prefix_then _ h)
 
-  takes : (outcome : Outcome) → IsRecordsOutcome outcome → TakesFor outcome mid new (output_of_records n s records).text → TakesFor outcome old new whole.text
-  takes Done possible h = all_taken h
-  takes Usage possible h = absurd possible
-  takes ReadFault possible h = absurd possible
-  takes WriteFault possible h =
-      let rest = (output_of_records n s records).text in
-      (length left.done + h.0, rw (left.text, length-append) (omega (arith, h.1)), subst (Appends old new) (sym (ap (take (length left.done + h.0)) left.text ∙ take-append-add left.done rest h.0)) (prefix_then (take h.0 rest) h.2))
-  takes TooLong possible h = absurd possible
-  takes (BadData fault) possible h = absurd possible
-  takes (Refused fault) possible h = absurd possible
-  takes (BadEvent number cause) possible h = all_taken h
-  takes Memory possible h = record {
-    prefix = left.done ++ h.prefix;
-    rest = h.rest;
-    parts = left.text ∙ ap (λ text. left.done ++ text) h.parts ∙ sym (append_assoc left.done h.prefix h.rest);
-    whole_lines = lines_both left.done h.prefix left.whole_lines h.whole_lines;
-    taken = prefix_then h.prefix h.taken;
-  }
+  takes : (outcome : Outcome) → IsOutcomeIn records_shape outcome → TakesFor outcome mid new (output_of_records n s records).text → TakesFor outcome old new whole.text
+  takes = of_records (λ outcome. TakesFor outcome mid new (output_of_records n s records).text → TakesFor outcome old new whole.text)
+      (λ h. all_taken h)
+      (λ h.
+          let rest = (output_of_records n s records).text in
+          (length left.done + h.0, rw (left.text, length-append) (omega (arith, h.1)), subst (Appends old new) (sym (ap (take (length left.done + h.0)) left.text ∙ take-append-add left.done rest h.0)) (prefix_then (take h.0 rest) h.2)))
+      (λ number cause from_1 possible h. all_taken h)
+      (λ h. record {
+        prefix = left.done ++ h.prefix;
+        rest = h.rest;
+        parts = left.text ∙ ap (λ text. left.done ++ text) h.parts ∙ sym (append_assoc left.done h.prefix h.rest);
+        whole_lines = lines_both left.done h.prefix left.whole_lines h.whole_lines;
+        taken = prefix_then h.prefix h.taken;
+      })
 
   -- the run ends with an outcome of what is left
-  pub cut_off : (outcome : Outcome) → IsRecordsOutcome outcome → IsAnswer (output_of_records n s records) mid new outcome → IsAnswer whole old new outcome
+  pub cut_off : (outcome : Outcome) → IsOutcomeIn records_shape outcome → IsAnswer (output_of_records n s records) mid new outcome → IsAnswer whole old new outcome
   cut_off outcome possible h = record { ended = subst (λ end. IsOutcomeOf end outcome) (sym left.end) h.ended; taken = takes outcome possible h.taken }
 
 -- no outcome of records comes before any row
-pub not_first : (outcome : Outcome) → IsRecordsOutcome outcome → LeavesOutUntouched outcome → ⊥
-not_first Done possible first = first
-not_first Usage possible first = possible
-not_first ReadFault possible first = possible
-not_first WriteFault possible first = first
-not_first TooLong possible first = possible
-not_first (BadData fault) possible first = possible
-not_first (Refused fault) possible first = possible
-not_first (BadEvent number cause) possible first = first
-not_first Memory possible first = first
+pub not_first : (outcome : Outcome) → IsOutcomeIn records_shape outcome → LeavesOutUntouched outcome → ⊥
+not_first = of_records (λ outcome. LeavesOutUntouched outcome → ⊥) (λ h. h) (λ h. h) (λ number cause from_1 possible h. h) (λ h. h)
 
 -- what was left alone so far, and by a turn that did not fail, is left alone
 pub left_alone : {S : Type 0} (start old new : S) (Before Failed : Type 0) → (Before → old ≡ start) → (Failed → ⊥) → (Before × (new ≡ old)) ⊎ Failed → new ≡ start

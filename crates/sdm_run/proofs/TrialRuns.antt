@@ -11,9 +11,10 @@ use Rattle.sdm_rules.specs.declared.rows.Row.{Row}
 use Rattle.sdm_report.specs.declared.outcome.Outcome.TheVariants.{Done}
 use Rattle.sdm_rules.specs.Input.{end_of_journey}
 use Rattle.sdm_rules.specs.Opening.{IsOpen}
-use Rattle.sdm_rules.specs.Records.{journey_from, time_fault, most_records}
+use Rattle.sdm_rules.specs.Records.{Journey, event_at, journey_from, rows_of, time_fault, most_records}
 use Rattle.sdm_rules.specs.Supervision.{Supervision, after_reading, opening, row_of}
 use Rattle.sdm_rules.specs.Trial.{reading_in_cycle, reading_record, readings_from, summary_text, trial_authority, trial_journey, trial_train_and_track, trial_output}
+use Rattle.sdm_laws.proofs.Journeys.{turns_safe}
 use Rattle.sdm_laws.proofs.OneFault.{not_both}
 use Rattle.sdm_braking.specs.Braking.{IsRefusal}
 use Rattle.sdm_trial.specs.Made.{MadeReadings, TakesCycle}
@@ -22,8 +23,7 @@ use Rattle.sdm_trial.proofs.Accepted.{accepted}
 use Rattle.sdm_trial.proofs.CycleReadings.{first_in_time, next_in_time}
 use Rattle.sdm_trial.proofs.Cycles.{reading_taken, trial_taken}
 use Rattle.sdm_run.specs.Answers.{IsAnswer}
-use Rattle.sdm_run.specs.RunTurns.{AreTrialRowsSafe}
-use Rattle.sdm_run.proofs.RunTurnLaws.{rows_of_turns}
+use Rattle.sdm_run.specs.Commands.{AreTrialRowsSafe}
 
 -- no fault of the opening but want of memory fits the data of the trial
 pub only_memory : (fault : OpenFault) → IsRefusal trial_train_and_track trial_authority fault → fault ≡ Memory
@@ -35,7 +35,7 @@ only_memory Memory h = refl
 
 -- the rows from a state on of the cycles that are left
 abbrev rows_left : MadeReadings → Supervision → List Row
-rows_left m s = (journey_from reading_record (suc m.made) s (readings_from m.seed (suc m.made) m.left)).rows
+rows_left m s = rows_of (journey_from (event_at reading_record) (suc m.made) s (readings_from m.seed (suc m.made) m.left)).turns
 
 -- what was counted are the rows of the cycles that were made
 pub record IsCycleOf (seed cycles : ℕ) (m : MadeReadings) (s : Supervision) (counts : Counts) : Type 0 where
@@ -45,7 +45,7 @@ pub record IsCycleOf (seed cycles : ℕ) (m : MadeReadings) (s : Supervision) (c
   pub in_time : time_fault s.last_time (reading_in_cycle seed (suc m.made)).time ≡ None
   pub done : List Row
   pub counts_are : counts ≡ counts_of done
-  pub rows : (trial_journey seed cycles).rows ≡ done ++ rows_left m s
+  pub rows : rows_of (trial_journey seed cycles).turns ≡ done ++ rows_left m s
 
 -- at first all cycles are left
 pub first_cycle : (seed cycles : ℕ) → cycles ≤ most_records → IsCycleOf seed cycles (record { seed = seed; made = 0; left = cycles }) (opening trial_train_and_track trial_authority) (counts_of [])
@@ -67,7 +67,7 @@ next_row :
     rows_left (record { seed = seed; made = made; left = suc left }) s ≡
     row_of s (reading_in_cycle seed (suc made)) ∷ rows_left (record { seed = seed; made = suc made; left = left }) (after_reading s (reading_in_cycle seed (suc made)))
 next_row seed made left s few in_time =
-    ap (λ j. j.rows) (reading_taken (suc made) s (reading_in_cycle seed (suc made)) (readings_from seed (suc (suc made)) left) few in_time)
+    ap (λ (j : Journey). rows_of j.turns) (reading_taken (suc made) s (reading_in_cycle seed (suc made)) (readings_from seed (suc (suc made)) left) few in_time)
 
 module _ (seed cycles : ℕ) (m : MadeReadings) (s : Supervision) (counts : Counts) (h : IsCycleOf seed cycles m s counts) where
   -- the reading of the next cycle is not too early
@@ -100,13 +100,13 @@ module _ (seed cycles : ℕ) (m : MadeReadings) (s : Supervision) (counts : Coun
       }
 
 -- where no cycle is left, all rows were counted
-pub all_made : (seed cycles : ℕ) (m : MadeReadings) (s : Supervision) (counts : Counts) → IsCycleOf seed cycles m s counts → m.left ≡ 0 → counts ≡ counts_of (trial_journey seed cycles).rows
+pub all_made : (seed cycles : ℕ) (m : MadeReadings) (s : Supervision) (counts : Counts) → IsCycleOf seed cycles m s counts → m.left ≡ 0 → counts ≡ counts_of (rows_of (trial_journey seed cycles).turns)
 all_made seed cycles m s counts h none =
     let nothing : rows_left m s ≡ [] = rw none refl in
     h.counts_are ∙ ap counts_of (sym (h.rows ∙ ap (λ rows. h.done ++ rows) nothing ∙ append-nil h.done))
 
 -- the whole summary answers a trial
-pub trial_done : (seed cycles : ℕ) (old new : Option (List ℕ)) → cycles ≤ most_records → Appends old new (summary_text (trial_journey seed cycles).rows) → IsAnswer (trial_output seed cycles) old new Done
+pub trial_done : (seed cycles : ℕ) (old new : Option (List ℕ)) → cycles ≤ most_records → Appends old new (summary_text (rows_of (trial_journey seed cycles).turns)) → IsAnswer (trial_output seed cycles) old new Done
 trial_done seed cycles old new few h = record { ended = inl (ap Some (sym (ap end_of_journey (trial_taken seed cycles few).0))); taken = h }
 
 -- ---- the promises of the rows
@@ -114,6 +114,9 @@ trial_done seed cycles old new few h = record { ended = inl (ap Some (sym (ap en
 trial_open : IsOpen (opening trial_train_and_track trial_authority)
 trial_open = record { bands = record { few = omega arith; in_order = (pos 100, refl, omega (arith, ints), refl) }; usable = accepted.0 }
 
--- the rows of a trial are those of turns, each of which is safe
+-- each turn of a trial is safe
 pub trial_rows_safe : (seed cycles : ℕ) → AreTrialRowsSafe seed cycles
-trial_rows_safe seed cycles = rows_of_turns reading_record 1 (opening trial_train_and_track trial_authority) false false (readings_from seed 1 cycles) trial_open (record { needed = λ h. h; allowed = λ h. h })
+trial_rows_safe seed cycles = record {
+  text = refl;
+  safe = turns_safe (event_at reading_record) 1 (opening trial_train_and_track trial_authority) false false (readings_from seed 1 cycles) trial_open (record { needed = λ h. h; allowed = λ h. h });
+}

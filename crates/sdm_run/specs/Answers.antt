@@ -1,18 +1,12 @@
 -- How an outcome answers what a command defines, and what out took for it: one relation for every command (own).
-use Rattle.std.specs.Prelude.{◌≡◌, ◌⊎◌, ◌≢◌, ◌≤◌, ℕ, List, [], ◌∷◌, ◌++◌, Option, Some, None}
+use Rattle.std.specs.Prelude.{◌≡◌, ◌⊎◌, ℕ, List, [], ◌∷◌, ◌++◌, Option, Some, None}
 use Rattle.std.specs.Io.KnownBytes.{Appends, Keeps}
 use Rattle.sdm_io.specs.Told.{AppendsPart}
-use Rattle.sdm_rules.specs.declared.faults.EventCause.TheVariants.{Line}
 use Rattle.sdm_rules.specs.Input as ends
 use Rattle.sdm_rules.specs.Flat.{Output}
-use Rattle.sdm_rules.specs.declared.faults.DataFault.TheVariants as data_faults
-use Rattle.sdm_rules.specs.declared.faults.OpenFault.TheVariants as open_faults
-use Rattle.sdm_report.specs.declared.outcome.InputFault.TheVariants.{NoSplit, Toml, Data}
 use Rattle.sdm_report.specs.declared.outcome.Outcome.{Outcome}
 use Rattle.sdm_report.specs.declared.outcome.Outcome.TheVariants.{Done, Usage, ReadFault, WriteFault, TooLong, BadData, Refused, BadEvent, Memory}
 use Rattle.sdm_report.specs.OutcomeLines.{end_of_data}
-use Rattle.sdm_run.specs.declared.words.Command.{Command}
-use Rattle.sdm_run.specs.declared.words.Command.TheVariants.{Flat, Run, Trial}
 
 -- the end that an outcome tells, if it tells one
 abbrev pub told_end : Outcome → Option ends.End
@@ -104,66 +98,3 @@ NeedsTheWholeInput (BadData fault) = Unit {0}
 NeedsTheWholeInput (Refused fault) = Unit {0}
 NeedsTheWholeInput (BadEvent number cause) = Unit {0}
 NeedsTheWholeInput Memory = ⊥
-
--- an outcome that `flat` may have: there is no data part and no opening, and no line is refused for another cause than its
--- form or its time
-abbrev pub IsFlatOutcome : Outcome → Type 0
-IsFlatOutcome Done = Unit {0}
-IsFlatOutcome Usage = ⊥
-IsFlatOutcome ReadFault = Unit {0}
-IsFlatOutcome WriteFault = Unit {0}
-IsFlatOutcome TooLong = Unit {0}
-IsFlatOutcome (BadData fault) = ⊥
-IsFlatOutcome (Refused fault) = ⊥
-IsFlatOutcome (BadEvent number cause) = (1 ≤ number) × (cause ≡ Line)
-IsFlatOutcome Memory = Unit {0}
-
--- an outcome that records may have, once the supervisor is opened: none is refused as a line
-abbrev pub IsRecordsOutcome : Outcome → Type 0
-IsRecordsOutcome Done = Unit {0}
-IsRecordsOutcome Usage = ⊥
-IsRecordsOutcome ReadFault = ⊥
-IsRecordsOutcome WriteFault = Unit {0}
-IsRecordsOutcome TooLong = ⊥
-IsRecordsOutcome (BadData fault) = ⊥
-IsRecordsOutcome (Refused fault) = ⊥
-IsRecordsOutcome (BadEvent number cause) = (1 ≤ number) × (cause ≢ Line)
-IsRecordsOutcome Memory = Unit {0}
-
--- an outcome that `run` may have: want of memory is never told inside another fault
-abbrev pub IsRunOutcome : Outcome → Type 0
-IsRunOutcome Done = Unit {0}
-IsRunOutcome Usage = ⊥
-IsRunOutcome ReadFault = Unit {0}
-IsRunOutcome WriteFault = Unit {0}
-IsRunOutcome TooLong = Unit {0}
-IsRunOutcome (BadData NoSplit) = Unit {0}
-IsRunOutcome (BadData Toml) = Unit {0}
-IsRunOutcome (BadData (Data fault)) = fault ≢ data_faults.Memory
-IsRunOutcome (Refused fault) = fault ≢ open_faults.Memory
-IsRunOutcome (BadEvent number cause) = (1 ≤ number) × (cause ≢ Line)
-IsRunOutcome Memory = Unit {0}
-
--- an outcome that `trial` may have: it reads nothing, and no data and no reading of it are refused
-abbrev pub IsTrialOutcome : Outcome → Type 0
-IsTrialOutcome Done = Unit {0}
-IsTrialOutcome Usage = ⊥
-IsTrialOutcome ReadFault = ⊥
-IsTrialOutcome WriteFault = Unit {0}
-IsTrialOutcome TooLong = ⊥
-IsTrialOutcome (BadData fault) = ⊥
-IsTrialOutcome (Refused fault) = ⊥
-IsTrialOutcome (BadEvent number cause) = ⊥
-IsTrialOutcome Memory = Unit {0}
-
--- an outcome that a command may have
-abbrev pub IsPossible : Command → Outcome → Type 0
-IsPossible (Flat decel end) outcome = IsFlatOutcome outcome
-IsPossible Run outcome = IsRunOutcome outcome
-IsPossible (Trial seed cycles) outcome = IsTrialOutcome outcome
-
--- the command reads the input to its end
-abbrev pub ReadsInput : Command → Type 0
-ReadsInput (Flat decel end) = Unit {0}
-ReadsInput Run = Unit {0}
-ReadsInput (Trial seed cycles) = ⊥

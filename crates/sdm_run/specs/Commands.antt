@@ -1,13 +1,13 @@
--- What each command defines for the bytes of its input (own).
-use Rattle.std.specs.Prelude.{◌≡◌, ℕ, List, [], Option, Some, None, length, nat_lt, if◌then◌else◌}
-use Rattle.sdm_rules.specs.Input.{most_bytes, TooLong}
-use Rattle.sdm_io.specs.Told.{Told}
+-- What each command defines for the bytes of its input, and what is promised of its rows (own).
+use Rattle.std.specs.Prelude.{◌≡◌, ℕ, false, IsTrue, List, [], Option, Some, None, ⊤, length, nat_lt, if◌then◌else◌}
 use Rattle.sdm_rules.specs.Flat.{Output, flat_output}
-use Rattle.sdm_rules.specs.Trial.{trial_output}
-use Rattle.sdm_run.specs.Answers.{ReadsInput}
+use Rattle.sdm_rules.specs.Headline.{AreTurnsSafe}
+use Rattle.sdm_rules.specs.Input.{most_bytes, TooLong}
+use Rattle.sdm_rules.specs.Records.{rows_of}
+use Rattle.sdm_rules.specs.Trial.{summary_text, trial_journey, trial_output}
 use Rattle.sdm_run.specs.FlatRun.{AreFlatRowsSafe}
 use Rattle.sdm_run.specs.Journeys.{IsRunOutput}
-use Rattle.sdm_run.specs.RunTurns.{AreRunRowsSafe, AreTrialRowsSafe}
+use Rattle.sdm_run.specs.Shapes.{shape_of}
 use Rattle.sdm_run.specs.declared.words.Command.{Command}
 use Rattle.sdm_run.specs.declared.words.Command.TheVariants.{Flat, Run, Trial}
 
@@ -27,11 +27,14 @@ pub record HasOneOutput (command : Command) (bytes : List ℕ) : Type 0 where
   pub is : IsOutputOf command bytes output
   pub only : (other : Output) → IsOutputOf command bytes other → other ≡ output
 
--- the command takes all its memory before it writes
-abbrev pub TakesMemoryFirst : Command → Type 0
-TakesMemoryFirst (Flat decel end) = Unit {0}
-TakesMemoryFirst Run = ⊥
-TakesMemoryFirst (Trial seed cycles) = Unit {0}
+-- whatever turns make an output of `run` (its text is that of their rows), each of them is safe, from no command held on
+abbrev pub AreRunRowsSafe : List ℕ → Type 0
+AreRunRowsSafe bytes = (output : Output) (told : IsRunOutput bytes output) → AreTurnsSafe false false told.turns
+
+-- the text of a trial sums up the rows of its turns, each of which is safe, from no command held on
+pub record AreTrialRowsSafe (seed cycles : ℕ) : Type 0 where
+  pub text : (trial_output seed cycles).text ≡ summary_text (rows_of (trial_journey seed cycles).turns)
+  pub safe : AreTurnsSafe false false (trial_journey seed cycles).turns
 
 -- what is promised of the rows of a command
 abbrev pub AreRowsSafe : Command → List ℕ → Type 0
@@ -41,11 +44,5 @@ AreRowsSafe (Trial seed cycles) bytes = AreTrialRowsSafe seed cycles
 
 -- the words ask for nothing that reads the input
 abbrev pub ReadsNothing : Option Command → Type 0
-ReadsNothing None = Unit {0}
-ReadsNothing (Some command) = ReadsInput command → ⊥
-
--- a fact of the bytes that a command answers: those of the input, where the source tells them; for a command that reads nothing any
-abbrev pub OfInput : Command → Option (List ℕ) → (List ℕ → Type 0) → Type 0
-OfInput (Flat decel end) left P = Told left P
-OfInput Run left P = Told left P
-OfInput (Trial seed cycles) left P = (bytes : List ℕ) → P bytes
+ReadsNothing None = ⊤
+ReadsNothing (Some command) = (shape_of command).reads_input ≡ false

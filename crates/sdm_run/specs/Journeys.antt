@@ -1,11 +1,10 @@
 -- The command `run`: how it reads the parts of its input, and what it defines for the bytes (own).
 use Rattle.std.specs.Prelude.{◌≡◌, ℕ, List}
 use Rattle.toml.specs.Data.{Members}
-use Rattle.sdm_rules.specs.declared.rows.Row.{Row}
 use Rattle.sdm_rules.specs.Flat.{Output}
 use Rattle.sdm_rules.specs.Forms.{event_of}
 use Rattle.sdm_rules.specs.Input.{Reader, IsRun, end_of_journey}
-use Rattle.sdm_rules.specs.Records.{journey_from}
+use Rattle.sdm_rules.specs.Records.{Turn, event_at, journey_from}
 use Rattle.sdm_rules.specs.Supervision.{Supervision}
 use Rattle.sdm_rules.specs.Text.{run_text}
 use Rattle.sdm_data.specs.Division.{divide}
@@ -13,19 +12,18 @@ use Rattle.sdm_data.specs.Document.{document_of}
 use Rattle.sdm_data.specs.Journey.{data_of}
 use Rattle.sdm_events.specs.Journey.{Record, records_of}
 
--- How the parts of an input are read: about the dividing line a TOML document and CSV records, as `toml` and `csv` define them
---.
+-- how the parts of an input are read: about the dividing line a TOML document and CSV records, as `toml` and `csv` define them
 abbrev pub run_reader : Reader Members Record
 run_reader = record { divide = divide; document = document_of; data_of = data_of; records = records_of; form = event_of }
 
--- the rows and the end of records, of which the first has the number `n`, from a supervision state on, as text
+-- the text and the end of records, of which the first has the number `n`, from a supervision state on
 abbrev pub output_of_records : ℕ → Supervision → List Record → Output
 output_of_records n s records =
-    let journey = journey_from event_of n s records in
-    record { text = run_text journey.rows; end = end_of_journey journey.refused }
+    let journey = journey_from (event_at event_of) n s records in
+    record { text = run_text journey.turns; end = end_of_journey journey.refused }
 
--- what `run` defines for the bytes of an input: the text of the rows of THE RUN, and its end
+-- what `run` defines for the bytes of an input: the text of the turns of THE RUN, and its end
 pub record IsRunOutput (bytes : List ℕ) (output : Output) : Type 0 where
-  pub rows : List Row
-  pub run : IsRun run_reader bytes rows output.end
-  pub text_is : output.text ≡ run_text rows
+  pub turns : List Turn
+  pub run : IsRun run_reader bytes turns output.end
+  pub text_is : output.text ≡ run_text turns

@@ -1,9 +1,9 @@
 pub mod Words
+pub mod Shapes
 pub mod Answers
 pub mod FirstLines
 pub mod TakenLines
 pub mod FlatRun
 pub mod Journeys
 pub mod RunParts
-pub mod RunTurns
 pub mod Commands

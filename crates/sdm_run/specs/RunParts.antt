@@ -7,13 +7,11 @@ use Rattle.sdm_rules.specs.declared.faults.DataFault.TheVariants as data_faults
 use Rattle.sdm_rules.specs.declared.faults.EventFault.{EventFault}
 use Rattle.sdm_rules.specs.declared.faults.OpenFault.TheVariants as open_faults
 use Rattle.sdm_rules.specs.declared.records.Event.{Event}
-use Rattle.sdm_rules.specs.declared.records.Event.TheVariants as record_kinds
-use Rattle.sdm_rules.specs.declared.rows.Row.{Row}
 use Rattle.sdm_rules.specs.Data.{TrainAndTrack}
 use Rattle.sdm_rules.specs.Opening.{IsAccepted, IsOpenFault}
-use Rattle.sdm_rules.specs.Records.{most_records}
-use Rattle.sdm_rules.specs.Supervision.{Supervision, opening, row_of}
-use Rattle.sdm_rules.specs.Text.{row_text}
+use Rattle.sdm_rules.specs.Records.{Turn, most_records, row_of_turn, turn_of}
+use Rattle.sdm_rules.specs.Supervision.{Supervision, opening}
+use Rattle.sdm_rules.specs.Text.{text_of_row}
 use Rattle.sdm_report.specs.declared.outcome.InputFault.TheVariants.{NoSplit, Toml, Data}
 use Rattle.sdm_report.specs.declared.outcome.Outcome.{Outcome}
 use Rattle.sdm_report.specs.declared.outcome.Outcome.TheVariants.{Done, Usage, ReadFault, WriteFault, TooLong, BadData, Refused, BadEvent, Memory}
@@ -56,22 +54,12 @@ IsRefusedBy bytes Memory = ⊤
 
 -- ---- the records
 
--- the row of an event that is taken: a reading has one
-abbrev pub row_at : Supervision → Event → Option Row
-row_at s (record_kinds.Read r) = Some (row_of s r)
-row_at s (record_kinds.Authority a) = None
-row_at s (record_kinds.Restrict r) = None
-row_at s (record_kinds.Revoke id) = None
-
--- the row of a record that is taken: one whose form is refused has none
-abbrev pub row_of_record : Supervision → Result Event EventFault → Option Row
-row_of_record s (Ok e) = row_at s e
-row_of_record s (Err fault) = None
-
--- the text of a row, empty where there is none
-abbrev pub text_of : Option Row → List ℕ
-text_of None = []
-text_of (Some row) = row_text row
+-- the record was taken as a turn to the state `t`, whose text was put
+pub record IsTaken (s t : Supervision) (e : Result Event EventFault) (text : List ℕ) : Type 0 where
+  pub turn : Turn
+  pub taken : turn_of s e ≡ Ok turn
+  pub after : turn.after ≡ t
+  pub text_is : text ≡ text_of_row (row_of_turn turn)
 
 -- The record of the number `n` was taken, and its row was written: what it and the records after it define is its text and what
 -- these define from the next state on.

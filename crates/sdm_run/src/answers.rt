@@ -1,6 +1,6 @@
 //! The top call: from the words and the bytes of an input to the bytes of out and of the fault stream, and an outcome.
 
-ghost use Rattle.std.specs.Prelude.{◌≡◌, ◌≢◌, ◌⊎◌, ◌↔◌, ◌+◌, ◌<◌, ◌≤◌, ℕ, List, length, false, Some, Err, IsNone, IfSome, IfOk, OnOk, OnErr};
+ghost use Rattle.std.specs.Prelude.{◌≡◌, ◌≢◌, ◌⊎◌, ◌↔◌, ◌+◌, ◌<◌, ◌≤◌, ℕ, List, length, false, Some, Err, IsNone, IsTrue, IfSome, IfOk, OnOk, OnErr};
 ghost use Rattle.std.specs.Io.KnownBytes.{Appends, IsAtEnd};
 ghost use Rattle.sdm_io.specs.Causes.{Rose};
 ghost use Rattle.sdm_io.specs.Told.{AppendsPart, HoldsNothing, ReadsExactly, ReadsWithin, Told};
@@ -8,8 +8,9 @@ ghost use Rattle.sdm_report.specs.OutcomeLines.{outcome_line};
 ghost use Rattle.sdm_rules.specs.Flat.{Output};
 ghost use Rattle.sdm_rules.specs.Input.{most_bytes};
 ghost use Rattle.sdm_run.specs.declared.words.Command.{Command};
-ghost use Rattle.sdm_run.specs.Answers.{ComesOfReadingAlone, LeavesOutUntouched, NeedsTheWholeInput, IsAnswer, IsComplete, IsPossible, ReadsInput, told_end};
-ghost use Rattle.sdm_run.specs.Commands.{AreRowsSafe, HasOneOutput, IsOutputOf, OfInput, ReadsNothing, TakesMemoryFirst};
+ghost use Rattle.sdm_run.specs.Answers.{ComesOfReadingAlone, LeavesOutUntouched, NeedsTheWholeInput, IsAnswer, IsComplete, told_end};
+ghost use Rattle.sdm_run.specs.Commands.{AreRowsSafe, HasOneOutput, IsOutputOf, ReadsNothing};
+ghost use Rattle.sdm_run.specs.Shapes.{IsOutcomeIn, OfInput, shape_of};
 ghost use Rattle.sdm_run.specs.Words.{IsCommandInRange, asked_by};
 
 use crate::endings::Ended;
@@ -37,12 +38,12 @@ pub fn sdm_main<I: Source, O: Sink, E: Sink>(
     ensures usage { (result ≡ Outcome.Usage) ↔ IsNone (asked_by words.now) }
 
     // what the command defines for the bytes of the input, and what out took of it
-    ensures answer { IfSome (asked_by words.now) (λ command. OfInput command (I.left input.old) (λ bytes.
+    ensures answer { IfSome (asked_by words.now) (λ command. OfInput (shape_of command) (I.left input.old) (λ bytes.
         (output : Output) → IsOutputOf command bytes output
         → IsAnswer output (O.taken out.old) (O.taken out.new) result)) }
-    ensures rows { IfSome (asked_by words.now) (λ command. OfInput command (I.left input.old) (AreRowsSafe command)) }
-    ensures possible { IfSome (asked_by words.now) (λ command. IsPossible command result) }
-    ensures complete { IfSome (asked_by words.now) (λ command. OfInput command (I.left input.old) (λ bytes.
+    ensures rows { IfSome (asked_by words.now) (λ command. OfInput (shape_of command) (I.left input.old) (AreRowsSafe command)) }
+    ensures possible { IfSome (asked_by words.now) (λ command. IsOutcomeIn (shape_of command) result) }
+    ensures complete { IfSome (asked_by words.now) (λ command. OfInput (shape_of command) (I.left input.old) (λ bytes.
         (output : Output) → IsOutputOf command bytes output
         → (Rose (I.faults input.old) (I.faults input.new) → ⊥) → (Rose (O.faults out.old) (O.faults out.new) → ⊥)
         → IsComplete output (O.taken out.old) (O.taken out.new) result)) }
@@ -50,13 +51,13 @@ pub fn sdm_main<I: Source, O: Sink, E: Sink>(
     // what comes before any row leaves out as it is; else out gave on all that it took, unless it failed
     ensures first { LeavesOutUntouched result → out.new ≡ out.old }
     ensures memory { IfSome (asked_by words.now) (λ command.
-        TakesMemoryFirst command → result ≡ Outcome.Memory → out.new ≡ out.old) }
+        IsTrue (shape_of command).takes_memory_first → result ≡ Outcome.Memory → out.new ≡ out.old) }
     ensures given_on { result ≢ Outcome.WriteFault → (out.new ≡ out.old) ⊎ HoldsNothing (O.held out.new) }
 
     // how much of the input was read
     ensures within { ReadsWithin (I.left input.old) (I.left input.new) (most_bytes + 1) }
     ensures too_long { result ≡ Outcome.TooLong → ReadsExactly (I.left input.old) (I.left input.new) (most_bytes + 1) }
-    ensures to_end { IfSome (asked_by words.now) (λ command. ReadsInput command → NeedsTheWholeInput result → IsAtEnd (I.left input.new)) }
+    ensures to_end { IfSome (asked_by words.now) (λ command. IsTrue (shape_of command).reads_input → NeedsTheWholeInput result → IsAtEnd (I.left input.new)) }
     ensures unread { ReadsNothing (asked_by words.now) → input.new ≡ input.old }
 
     // a fault is answered only where it was counted
@@ -80,19 +81,20 @@ pub fn sdm_main<I: Source, O: Sink, E: Sink>(
 
 // The bytes that a command answers: those of the whole input, or none where it reads nothing.
 fn bytes_for<I: Source>(alloc: Global, command: Command, input: &mut I) -> Result<Vec<u8>, Unread>
-    ensures whole { IfOk result (λ v. ReadsInput command → Told (I.left input.old) (λ bytes. v.items ≡ bytes)) }
-    ensures end { OnOk result (ReadsInput command → IsAtEnd (I.left input.new)) }
+    ensures whole { IfOk result (λ v. IsTrue (shape_of command).reads_input → Told (I.left input.old) (λ bytes. v.items ≡ bytes)) }
+    ensures end { OnOk result (IsTrue (shape_of command).reads_input → IsAtEnd (I.left input.new)) }
     ensures short { IfOk result (λ v. length v.items ≤ most_bytes) }
-    ensures reads { OnErr result (ReadsInput command) }
+    ensures reads { OnErr result (IsTrue (shape_of command).reads_input) }
     ensures unread { ReadsNothing (Some command) → input.new ≡ input.old }
     ensures within { ReadsWithin (I.left input.old) (I.left input.new) (most_bytes + 1) }
     ensures one_above { result ≡ Err Unread.TooLong → ReadsExactly (I.left input.old) (I.left input.new) (most_bytes + 1) }
     ensures too_long { result ≡ Err Unread.TooLong → Told (I.left input.old) (λ bytes. most_bytes < length bytes) }
     ensures fault { result ≡ Err Unread.Fault → Rose (I.faults input.old) (I.faults input.new) }
 {
-    match command {
-        Command::Flat { .. } | Command::Run => read_to_end(alloc, input, MOST_BYTES),
-        Command::Trial { .. } => Ok(Vec::new(alloc)),
+    if command.reads_input() {
+        read_to_end(alloc, input, MOST_BYTES)
+    } else {
+        Ok(Vec::new(alloc))
     }
 }
 
@@ -104,10 +106,10 @@ fn run_command<O: Sink>(alloc: Global, command: Command, bytes: &[u8], out: &mut
     ensures answer { (output : Output) → IsOutputOf command bytes.now output
         → IsAnswer output (O.taken out.old) (O.taken out.new) result.outcome }
     ensures rows { AreRowsSafe command bytes.now }
-    ensures possible { IsPossible command result.outcome }
+    ensures possible { IsOutcomeIn (shape_of command) result.outcome }
     ensures not_before { ComesOfReadingAlone result.outcome → ⊥ }
     ensures first { LeavesOutUntouched result.outcome → (result.is_flush_due ≡ false) × (out.new ≡ out.old) }
-    ensures memory { TakesMemoryFirst command → result.outcome ≡ Outcome.Memory
+    ensures memory { IsTrue (shape_of command).takes_memory_first → result.outcome ≡ Outcome.Memory
         → (result.is_flush_due ≡ false) × (out.new ≡ out.old) }
     ensures due { result.is_flush_due ≡ false → (out.new ≡ out.old) ⊎ (result.outcome ≡ Outcome.WriteFault) }
     ensures later { O.faults out.old ≤ O.faults out.new }
@@ -127,10 +129,10 @@ fn outcome_to<O: Sink>(alloc: Global, command: Command, bytes: &[u8], out: &mut 
     ensures answer { (output : Output) → IsOutputOf command bytes.now output
         → IsAnswer output (O.taken out.old) (O.taken out.new) result }
     ensures rows { AreRowsSafe command bytes.now }
-    ensures possible { IsPossible command result }
+    ensures possible { IsOutcomeIn (shape_of command) result }
     ensures not_before { ComesOfReadingAlone result → ⊥ }
     ensures first { LeavesOutUntouched result → out.new ≡ out.old }
-    ensures memory { TakesMemoryFirst command → result ≡ Outcome.Memory → out.new ≡ out.old }
+    ensures memory { IsTrue (shape_of command).takes_memory_first → result ≡ Outcome.Memory → out.new ≡ out.old }
     ensures given_on { result ≢ Outcome.WriteFault → (out.new ≡ out.old) ⊎ HoldsNothing (O.held out.new) }
     ensures write { result ≡ Outcome.WriteFault → Rose (O.faults out.old) (O.faults out.new) }
 {

@@ -5,7 +5,8 @@ ghost use Rattle.sdm_io.specs.Causes.{Rose};
 ghost use Rattle.sdm_rules.specs.Input.{most_bytes};
 ghost use Rattle.sdm_rules.specs.Flat.{flat_output};
 ghost use Rattle.sdm_rules.specs.Ranges.{longest_track};
-ghost use Rattle.sdm_run.specs.Answers.{LeavesOutUntouched, IsAnswer, IsFlatOutcome};
+ghost use Rattle.sdm_run.specs.Answers.{LeavesOutUntouched, IsAnswer};
+ghost use Rattle.sdm_run.specs.Shapes.{IsOutcomeIn, flat_shape};
 ghost use Rattle.sdm_run.specs.TakenLines.{RefusesLine, TakesLine};
 
 use crate::endings::Ended;
@@ -50,7 +51,7 @@ pub fn run_flat<O: Sink>(alloc: Global, decel: u16, end_cm: u32, bytes: &[u8], o
     requires end { end_cm ≤ longest_track }
     requires short { length bytes.now ≤ most_bytes }
     ensures answer { IsAnswer (flat_output decel end_cm bytes.now) (O.taken out.old) (O.taken out.new) result.outcome }
-    ensures possible { IsFlatOutcome result.outcome }
+    ensures possible { IsOutcomeIn flat_shape result.outcome }
     ensures not_first { LeavesOutUntouched result.outcome → ⊥ }
     ensures memory { result.outcome ≡ Outcome.Memory → (result.is_flush_due ≡ false) × (out.new ≡ out.old) }
     ensures due { result.is_flush_due ≡ false → (out.new ≡ out.old) ⊎ (result.outcome ≡ Outcome.WriteFault) }

@@ -6,14 +6,15 @@ ghost use Rattle.csv.specs.Records.{fields_of};
 ghost use Rattle.sdm_io.specs.Causes.{HasCause, Rose};
 ghost use Rattle.sdm_io.specs.Told.{AppendsPart};
 ghost use Rattle.sdm_rules.specs.Forms.{event_of};
-ghost use Rattle.sdm_rules.specs.Records.{event_at, most_records, step, step_of};
+ghost use Rattle.sdm_rules.specs.Records.{event_at, most_records, row_at, step, turn_of};
 ghost use Rattle.sdm_events.specs.Journey.{IsInForm, records_of};
 ghost use Rattle.sdm_rules.specs.declared.records.Event.TheVariants as record_kinds;
-ghost use Rattle.sdm_run.specs.Answers.{IsAnswer, IsRecordsOutcome};
+ghost use Rattle.sdm_run.specs.Answers.{IsAnswer};
 ghost use Rattle.sdm_run.specs.Journeys.{output_of_records};
 ghost use Rattle.sdm_rules.specs.Supervision.{row_of};
-ghost use Rattle.sdm_rules.specs.Text.{row_text};
-ghost use Rattle.sdm_run.specs.RunParts.{IsTurnAnswer, row_at, row_of_record, text_of};
+ghost use Rattle.sdm_rules.specs.Text.{row_text, text_of_row};
+ghost use Rattle.sdm_run.specs.RunParts.{IsTaken, IsTurnAnswer};
+ghost use Rattle.sdm_run.specs.Shapes.{IsOutcomeIn, records_shape};
 
 use crate::endings::Ended;
 use sdm_events::{ByteRecord, Event, EventFault, Records, event_of};
@@ -33,7 +34,7 @@ fn take_reading(
     text: &mut RowBuf,
 ) -> Result<(), EventCause>
     requires { text.old ≡ [] }
-    ensures accepted { OnOk result (step supervisor.old (record_kinds.Read reading.now) ≡ Ok (record { after = supervisor.new; row = Some (row_of supervisor.old reading.now) })) }
+    ensures accepted { OnOk result (step supervisor.old (record_kinds.Read reading.now) ≡ Ok supervisor.new) }
     ensures text { OnOk result (text.new ≡ row_text (row_of supervisor.old reading.now)) }
     ensures refused { IfErr result (λ cause. step supervisor.old (record_kinds.Read reading.now) ≡ Err cause) }
 {
@@ -55,8 +56,8 @@ fn take_event(
 ) -> Result<(), EventCause>
     requires form { IsInForm event }
     requires empty { text.old ≡ [] }
-    ensures accepted { OnOk result (step supervisor.old event ≡ Ok (record { after = supervisor.new; row = row_at supervisor.old event })) }
-    ensures text { OnOk result (text.new ≡ text_of (row_at supervisor.old event)) }
+    ensures accepted { OnOk result (step supervisor.old event ≡ Ok supervisor.new) }
+    ensures text { OnOk result (text.new ≡ text_of_row (row_at supervisor.old event)) }
     ensures refused { IfErr result (λ cause. step supervisor.old event ≡ Err cause) }
 {
     match event {
@@ -84,10 +85,11 @@ fn take_record(
     text: &mut RowBuf,
 ) -> Result<(), EventCause>
     requires { text.old ≡ [] }
-    ensures accepted { OnOk result (step_of supervisor.old (event_at event_of number (fields_of record.now)) ≡ Ok (record { after = supervisor.new; row = row_of_record supervisor.old (event_at event_of number (fields_of record.now)) })) }
-    ensures text { OnOk result (text.new ≡ text_of (row_of_record supervisor.old (event_at event_of number (fields_of record.now)))) }
+    ensures taken { OnOk result
+        (IsTaken supervisor.old supervisor.new (event_at event_of number (fields_of record.now)) text.new) }
     ensures counted { OnOk result (number ≤ most_records) }
-    ensures refused { IfErr result (λ cause. step_of supervisor.old (event_at event_of number (fields_of record.now)) ≡ Err cause) }
+    ensures refused { IfErr result
+        (λ cause. turn_of supervisor.old (event_at event_of number (fields_of record.now)) ≡ Err cause) }
 {
     if MOST_RECORDS < number {
         return Err(EventCause::Form(EventFault::TooMany));
@@ -145,7 +147,7 @@ fn turn<O: Sink>(
         → ((rows.old.is_flush_due ≡ false) × (out.new ≡ out.old)) ⊎ (result ≡ Err Outcome.WriteFault) }
     ensures later { O.faults out.old ≤ O.faults out.new }
     ensures write { result ≡ Err Outcome.WriteFault → Rose (O.faults out.old) (O.faults out.new) }
-    ensures possible { IfErr result IsRecordsOutcome }
+    ensures possible { IfErr result (IsOutcomeIn records_shape) }
 {
     match records.next(record) {
         Ok(true) => {}
@@ -177,7 +179,7 @@ pub fn run_records<O: Sink>(
     ensures due { result.is_flush_due ≡ false → (out.new ≡ out.old) ⊎ (result.outcome ≡ Outcome.WriteFault) }
     ensures later { O.faults out.old ≤ O.faults out.new }
     ensures write { result.outcome ≡ Outcome.WriteFault → Rose (O.faults out.old) (O.faults out.new) }
-    ensures possible { IsRecordsOutcome result.outcome }
+    ensures possible { IsOutcomeIn records_shape result.outcome }
 {
     let mut records = Records::begin(alloc, bytes);
     let mut record = ByteRecord::new(alloc);

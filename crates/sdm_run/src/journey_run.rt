@@ -4,7 +4,8 @@ ghost use Rattle.std.specs.Prelude.{◌≡◌, ◌⊎◌, ◌≤◌, length, fal
 ghost use Rattle.sdm_io.specs.Causes.{Rose};
 ghost use Rattle.sdm_rules.specs.Flat.{Output};
 ghost use Rattle.sdm_rules.specs.Input.{most_bytes};
-ghost use Rattle.sdm_run.specs.Answers.{ComesOfReadingAlone, LeavesOutUntouched, IsAnswer, IsRunOutcome};
+ghost use Rattle.sdm_run.specs.Answers.{ComesOfReadingAlone, LeavesOutUntouched, IsAnswer};
+ghost use Rattle.sdm_run.specs.Shapes.{IsOutcomeIn, run_shape};
 ghost use Rattle.sdm_run.specs.Journeys.{IsRunOutput};
 
 use crate::endings::Ended;
@@ -20,7 +21,7 @@ use std::alloc::Global;
 pub fn run_journey<O: Sink>(alloc: Global, bytes: &[u8], out: &mut O) -> Ended
     requires short { length bytes.now ≤ most_bytes }
     ensures answer { (output : Output) → IsRunOutput bytes.now output → IsAnswer output (O.taken out.old) (O.taken out.new) result.outcome }
-    ensures possible { IsRunOutcome result.outcome }
+    ensures possible { IsOutcomeIn run_shape result.outcome }
     ensures not_before { ComesOfReadingAlone result.outcome → ⊥ }
     ensures first { LeavesOutUntouched result.outcome → (result.is_flush_due ≡ false) × (out.new ≡ out.old) }
     ensures due { result.is_flush_due ≡ false → (out.new ≡ out.old) ⊎ (result.outcome ≡ Outcome.WriteFault) }

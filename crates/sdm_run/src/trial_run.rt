@@ -5,9 +5,10 @@ ghost use Rattle.std.specs.Prelude.{◌≡◌, ◌⊎◌, ◌≤◌, false, IfOk
 ghost use Rattle.sdm_io.specs.Causes.{Rose};
 ghost use Rattle.sdm_rules.specs.Supervision.{opening};
 ghost use Rattle.sdm_rules.specs.Trial.{trial_authority, trial_journey, trial_train_and_track, trial_output};
-ghost use Rattle.sdm_rules.specs.Records.{most_records};
+ghost use Rattle.sdm_rules.specs.Records.{most_records, rows_of};
 ghost use Rattle.sdm_trial.specs.Summaries.{counts_of};
-ghost use Rattle.sdm_run.specs.Answers.{LeavesOutUntouched, IsAnswer, IsTrialOutcome};
+ghost use Rattle.sdm_run.specs.Answers.{LeavesOutUntouched, IsAnswer};
+ghost use Rattle.sdm_run.specs.Shapes.{IsOutcomeIn, trial_shape};
 
 use crate::endings::Ended;
 use sdm_io::{Sink, write_piece};
@@ -44,7 +45,7 @@ fn begin(alloc: Global) -> Result<Supervisor, NoMemory>
 fn summary_of(supervisor: &mut Supervisor, seed: u16, cycles: u32) -> Summary
     requires opening { supervisor.old ≡ opening trial_train_and_track trial_authority }
     requires cycles { cycles ≤ most_records }
-    ensures { result ≡ counts_of (trial_journey seed cycles).rows }
+    ensures { result ≡ counts_of (rows_of (trial_journey seed cycles).turns) }
 {
     let mut readings = Readings::begin(seed, cycles);
     let mut summary = Summary::new();
@@ -62,7 +63,7 @@ fn summary_of(supervisor: &mut Supervisor, seed: u16, cycles: u32) -> Summary
 pub fn run_trial<O: Sink>(alloc: Global, seed: u16, cycles: u32, out: &mut O) -> Ended
     requires { cycles ≤ most_records }
     ensures answer { IsAnswer (trial_output seed cycles) (O.taken out.old) (O.taken out.new) result.outcome }
-    ensures possible { IsTrialOutcome result.outcome }
+    ensures possible { IsOutcomeIn trial_shape result.outcome }
     ensures not_first { LeavesOutUntouched result.outcome → ⊥ }
     ensures memory { result.outcome ≡ Outcome.Memory → (result.is_flush_due ≡ false) × (out.new ≡ out.old) }
     ensures due { result.is_flush_due ≡ false → (out.new ≡ out.old) ⊎ (result.outcome ≡ Outcome.WriteFault) }

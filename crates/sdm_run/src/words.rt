@@ -1,6 +1,7 @@
 //! The words after the program's name, and the commands that they ask for. A new command adds a variant and a shape.
 
 ghost use Rattle.std.specs.Prelude.{◌≡◌, map, string_bytes, IfSome};
+ghost use Rattle.sdm_run.specs.Shapes.{shape_of};
 ghost use Rattle.sdm_run.specs.Words.{IsCommandInRange, asked_by, flat_command, run_command, trial_command};
 
 use sdm_rules::{LONGEST_TRACK_CM, MOST_RECORDS};
@@ -15,6 +16,18 @@ pub enum Command {
     Run,
     /// `trial NUMBER CYCLES`: a journey from a number, from 0 to 65,535, of so many readings, from 1 to 100,000.
     Trial { seed: u16, cycles: u32 },
+}
+
+impl Command {
+    /// Whether it reads the input to its end. (own)
+    pub fn reads_input(self) -> bool
+        ensures { result ≡ (shape_of self).reads_input }
+    {
+        match self {
+            Command::Flat { .. } | Command::Run => true,
+            Command::Trial { .. } => false,
+        }
+    }
 }
 
 /// The command of words; none where they have none of the shapes. (own)

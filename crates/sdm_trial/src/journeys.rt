@@ -4,7 +4,7 @@
 ghost use Rattle.std.specs.Prelude.{◌≡◌, ◌≤◌, ℕ, None, IfOk, length};
 ghost use Rattle.sdm_rules.specs.Opening.{IsAccepted};
 ghost use Rattle.sdm_rules.specs.Trial.{trial_authority, trial_journey, trial_train_and_track, trial_national, trial_track, trial_train};
-ghost use Rattle.sdm_rules.specs.Records.{most_records};
+ghost use Rattle.sdm_rules.specs.Records.{most_records, rows_of};
 ghost use Rattle.sdm_data.specs.Given.{train_and_track_of};
 
 use sdm_data::JourneyData;
@@ -130,5 +130,5 @@ pub fn trial_data(alloc: Global) -> Result<JourneyData, NoMemory>
 pub fn law_of_trial()
     ensures accepted { IsAccepted trial_train_and_track trial_authority }
     ensures taken { (seed cycles : ℕ) → cycles ≤ most_records → (trial_journey seed cycles).refused ≡ None }
-    ensures rows { (seed cycles : ℕ) → cycles ≤ most_records → length (trial_journey seed cycles).rows ≡ cycles }
+    ensures rows { (seed cycles : ℕ) → cycles ≤ most_records → length (rows_of (trial_journey seed cycles).turns) ≡ cycles }
 {}
