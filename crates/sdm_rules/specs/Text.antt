@@ -56,6 +56,6 @@ abbrev pub told : (Turn → List ℕ) → List Turn → List ℕ
 told tell [] = []
 told tell (t ∷ ts) = tell t ++ told tell ts
 
--- the text of `run`: that of the row of each turn
-abbrev pub run_text : List Turn → List ℕ
-run_text turns = told (λ t. text_of_row (row_of_turn t)) turns
+-- what `run` tells of a turn: the text of its row
+abbrev pub run_tells : Turn → List ℕ
+run_tells t = text_of_row (row_of_turn t)

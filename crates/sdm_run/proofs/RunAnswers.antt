@@ -13,7 +13,7 @@ use Rattle.sdm_rules.specs.Input.{most_bytes, End, IsRun, IsOpened, IsAfterData,
 use Rattle.sdm_rules.specs.Input as ends
 use Rattle.sdm_rules.specs.Records.{Turn}
 use Rattle.sdm_rules.specs.Supervision.{Supervision, opening}
-use Rattle.sdm_rules.specs.Text.{run_text}
+use Rattle.sdm_rules.specs.Text.{run_tells, told}
 use Rattle.sdm_rules.specs.Headline.{AreTurnsSafe}
 use Rattle.sdm_laws.proofs.Journeys.{turns_safe}
 use Rattle.sdm_laws.proofs.OneRun.{one_run}
@@ -34,7 +34,7 @@ use Rattle.sdm_run.proofs.RunTexts.{of_records}
 
 -- the output of turns and an end
 abbrev pub output_by : List Turn → End → Output
-output_by turns end = record { text = run_text turns; end = end }
+output_by turns end = record { text = told run_tells turns; end = end }
 
 -- an output of the input is that of any turns and end that are its run
 pub only_output : (bytes : List ℕ) (turns : List Turn) (end : End) → IsRun run_reader bytes turns end → (output : Output) → IsRunOutput bytes output → output ≡ output_by turns end
@@ -42,7 +42,7 @@ only_output bytes turns end run output is =
     let one = one_run run_reader bytes in
     let mine = one.only turns end run in
     let its = one.only is.turns output.end is.run in
-    λ k. record { text = (is.text_is ∙ ap run_text (its.0 ∙ sym mine.0)) k; end = (its.1 ∙ sym mine.1) k }
+    λ k. record { text = (is.text_is ∙ ap (told run_tells) (its.0 ∙ sym mine.0)) k; end = (its.1 ∙ sym mine.1) k }
 
 -- what answers the output of one run answers each output
 pub answers_all : (bytes : List ℕ) (turns : List Turn) (end : End) (old new : Option (List ℕ)) (outcome : Outcome) → IsRun run_reader bytes turns end → IsAnswer (output_by turns end) old new outcome →
@@ -93,11 +93,11 @@ refused bytes data_end start old (BadEvent number cause) short cut none = absurd
 
 -- the records of an input whose data part opens a supervisor
 pub recorded : (bytes : List ℕ) (data_end start : ℕ) (s : Supervision) (old new : Option (List ℕ)) (outcome : Outcome) → length bytes ≤ most_bytes → divide bytes ≡ Some (data_end, start) →
-    IsOpeningOf (take data_end bytes) s → IsAnswer (output_of_records 1 s (records_of (drop start bytes))) old new outcome → (output : Output) → IsRunOutput bytes output → IsAnswer output old new outcome
+    IsOpeningOf (take data_end bytes) s → IsAnswer (output_of_records run_tells 1 s (records_of (drop start bytes))) old new outcome → (output : Output) → IsRunOutput bytes output → IsAnswer output old new outcome
 recorded bytes data_end start s old new outcome short cut is answer =
     let journey = journey_of run_reader is.train_and_track is.authority (records_of (drop start bytes)) in
     let run = run_of_parts bytes journey.turns (ends.end_of_journey journey.refused) short (rw (cut, is.given.document, is.given.read) (inl (record { accepted = is.accepted; turns_are = refl; end_is = refl }))) in
-    answers_all bytes journey.turns (ends.end_of_journey journey.refused) old new outcome run (subst (λ (t : Supervision). IsAnswer (output_of_records 1 t (records_of (drop start bytes))) old new outcome) is.state answer)
+    answers_all bytes journey.turns (ends.end_of_journey journey.refused) old new outcome run (subst (λ (t : Supervision). IsAnswer (output_of_records run_tells 1 t (records_of (drop start bytes))) old new outcome) is.state answer)
 
 -- ---- the turns
 

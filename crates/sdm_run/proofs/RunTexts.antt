@@ -16,7 +16,7 @@ use Rattle.sdm_rules.specs.declared.records.Event.TheVariants as record_kinds
 use Rattle.sdm_rules.specs.declared.rows.Row.{Row}
 use Rattle.sdm_rules.specs.Flat.{Output}
 use Rattle.sdm_rules.specs.Forms.{event_of}
-use Rattle.sdm_rules.specs.Records.{Turn, authority_fault, restrict_fault, revoke_fault, time_fault, time_cause, unless, step, turn_of, turn_to, row_at, row_of_turn, event_at, most_records}
+use Rattle.sdm_rules.specs.Records.{Turn, authority_fault, restrict_fault, revoke_fault, time_fault, time_cause, unless, step, turn_of, turn_to, event_at, most_records}
 use Rattle.sdm_rules.specs.Supervision.{Supervision}
 use Rattle.sdm_rules.specs.Text.{row_text, text_of_row}
 use Rattle.sdm_report.specs.declared.outcome.InputFault.TheVariants.{NoSplit, Toml, Data}
@@ -25,46 +25,47 @@ use Rattle.sdm_report.specs.declared.outcome.Outcome.TheVariants.{Done, Usage, R
 use Rattle.sdm_events.specs.Journey.{Record}
 use Rattle.sdm_run.specs.Answers.{IsAnswer, LeavesOutUntouched, IsOutcomeOf, AreWholeLines, TakesFor}
 use Rattle.sdm_run.specs.Journeys.{output_of_records}
-use Rattle.sdm_run.specs.RunParts.{IsTaken, TakesRecord}
+use Rattle.sdm_run.specs.RunParts.{IsToldEvent, IsToldRecord, TakesRecord}
 use Rattle.sdm_run.specs.Shapes.{IsOutcomeIn, is_of_line, records_shape}
 
 -- ---- one record
 
--- it is no line, or ends with a line feed
-whole_text : (row : Option Row) → AreWholeLines (text_of_row row)
-unfolding row_text
-whole_text None = inl refl
-whole_text (Some row) = inr (_, refl)
-
 -- the output of records of which the first is a turn
-output_first : (n : ℕ) (s : Supervision) (x : Record) (more : List Record) (turn : Turn) → turn_of s (event_at event_of n x) ≡ Ok turn →
-    output_of_records n s (x ∷ more) ≡
-    record {
-      text = text_of_row (row_of_turn turn) ++ (output_of_records (suc n) turn.after more).text;
-      end = (output_of_records (suc n) turn.after more).end;
-    }
-output_first n s x more turn e = rw e refl
+output_first : (tell : Turn → List ℕ) (n : ℕ) (s : Supervision) (x : Record) (more : List Record) (turn : Turn) →
+    turn_of s (event_at event_of n x) ≡ Ok turn →
+    output_of_records tell n s (x ∷ more) ≡
+    record { text = tell turn ++ (output_of_records tell (suc n) turn.after more).text; end = (output_of_records tell (suc n) turn.after more).end }
+output_first tell n s x more turn e = rw e refl
 
-pub took : (old new : Option (List ℕ)) (n : ℕ) (s t : Supervision) (records more : List Record) (x : Record) (text : List ℕ) → records ≡ x ∷ more →
-    IsTaken s t (event_at event_of n x) text → n ≤ most_records → Appends old new text → TakesRecord old new n s t records more
-took old new n s t records more x text is taken counted h = record {
+-- a record that was told and written is taken
+pub took : (tell : Turn → List ℕ) (old new : Option (List ℕ)) (n : ℕ) (s t : Supervision) (records more : List Record) (x : Record) (text : List ℕ) →
+    records ≡ x ∷ more → IsToldRecord tell s t (event_at event_of n x) text → n ≤ most_records → Appends old new text →
+    TakesRecord tell old new n s t records more
+took tell old new n s t records more x text is told counted h = record {
   text = text;
-  first = ap (output_of_records n s) is ∙ rw (sym taken.after, taken.text_is) (output_first n s x more taken.turn taken.taken);
-  whole_lines = rw taken.text_is (whole_text (row_of_turn taken.turn));
+  first = ap (output_of_records tell n s) is ∙ rw (sym told.after, told.text_is) (output_first tell n s x more told.turn told.taken);
+  whole_lines = told.whole_lines;
   taken = h;
   counted = counted;
   fewer = rw is (omega arith);
 }
 
--- an event that is accepted is taken as a turn
-pub taken_event : (s t : Supervision) (n : ℕ) (x : Record) (e : Event) (text : List ℕ) → n ≤ most_records → event_of x ≡ Ok e → step s e ≡ Ok t →
-    text ≡ text_of_row (row_at s e) → IsTaken s t (event_at event_of n x) text
-taken_event s t n x e text counted form accepted text_is = record {
+-- an event that was taken is the turn of its record
+pub told_record : (tell : Turn → List ℕ) (s t : Supervision) (n : ℕ) (x : Record) (e : Event) (text : List ℕ) → n ≤ most_records → event_of x ≡ Ok e →
+    IsToldEvent tell s t e text → IsToldRecord tell s t (event_at event_of n x) text
+told_record tell s t n x e text counted form told = record {
   turn = record { before = s; event = e; after = t };
-  taken = rw (le-ltb most_records n counted) (rw (form, accepted) refl);
+  taken = rw (le-ltb most_records n counted) (rw (form, told.accepted) refl);
   after = refl;
-  text_is = text_is;
+  text_is = told.text_is;
+  whole_lines = told.whole_lines;
 }
+
+-- the text of a row is no line, or ends with a line feed
+pub row_lines : (row : Option Row) → AreWholeLines (text_of_row row)
+unfolding row_text
+row_lines None = inl refl
+row_lines (Some row) = inr (_, refl)
 
 -- ---- no record is refused as a line
 
@@ -116,50 +117,50 @@ of_records P done write bad memory Memory h = memory
 
 -- What is left of the whole output is that of the records that are left, of which the first has the number `n`, after the state
 -- `s`; out took whole lines before it.
-pub record IsLeftOf (old new : Option (List ℕ)) (whole : Output) (n : ℕ) (s : Supervision) (records : List Record) : Type 0 where
+pub record IsLeftOf (tell : Turn → List ℕ) (old new : Option (List ℕ)) (whole : Output) (n : ℕ) (s : Supervision) (records : List Record) : Type 0 where
   pub done : List ℕ
   pub whole_lines : AreWholeLines done
   pub taken : Appends old new done
-  pub text : whole.text ≡ done ++ (output_of_records n s records).text
-  pub end : whole.end ≡ (output_of_records n s records).end
+  pub text : whole.text ≡ done ++ (output_of_records tell n s records).text
+  pub end : whole.end ≡ (output_of_records tell n s records).end
 
 -- at first all is left
-pub all_left_of : (old : Option (List ℕ)) (n : ℕ) (s : Supervision) (records : List Record) → IsLeftOf old old (output_of_records n s records) n s records
-all_left_of old n s records = record { done = []; whole_lines = inl refl; taken = Appends-nil old; text = refl; end = refl }
+pub all_left_of : (tell : Turn → List ℕ) (old : Option (List ℕ)) (n : ℕ) (s : Supervision) (records : List Record) → IsLeftOf tell old old (output_of_records tell n s records) n s records
+all_left_of tell old n s records = record { done = []; whole_lines = inl refl; taken = Appends-nil old; text = refl; end = refl }
 
 lines_both : (a b : List ℕ) → AreWholeLines a → AreWholeLines b → AreWholeLines (a ++ b)
 lines_both a b h (inl none) = rw (none, append-nil) h
 lines_both a b h (inr (prefix, is)) = inr (a ++ prefix, rw is (sym (append_assoc a prefix (10 ∷ []))))
 
-module _ (old mid new : Option (List ℕ)) (whole : Output) (n : ℕ) (s : Supervision) (records : List Record) (left : IsLeftOf old mid whole n s records) where
+module _ (tell : Turn → List ℕ) (old mid new : Option (List ℕ)) (whole : Output) (n : ℕ) (s : Supervision) (records : List Record) (left : IsLeftOf tell old mid whole n s records) where
   -- a record was taken
-  pub took_more : (t : Supervision) (more : List Record) → TakesRecord mid new n s t records more → IsLeftOf old new whole (suc n) t more
+  pub took_more : (t : Supervision) (more : List Record) → TakesRecord tell mid new n s t records more → IsLeftOf tell old new whole (suc n) t more
   took_more t more h = record {
     done = left.done ++ h.text;
     whole_lines = lines_both left.done h.text left.whole_lines h.whole_lines;
     taken = Appends-trans old mid new left.done h.text left.taken h.taken;
-    text = left.text ∙ ap (λ (o : Output). left.done ++ o.text) h.first ∙ sym (append_assoc left.done h.text (output_of_records (suc n) t more).text);
+    text = left.text ∙ ap (λ (o : Output). left.done ++ o.text) h.first ∙ sym (append_assoc left.done h.text (output_of_records tell (suc n) t more).text);
     end = left.end ∙ ap (λ (o : Output). o.end) h.first;
   }
 
   -- no record was left
   pub done_all : records ≡ [] → new ≡ mid → IsAnswer whole old new Done
   done_all none same = record {
-    ended = inl (ap Some (sym (left.end ∙ ap (λ rs. (output_of_records n s rs).end) none)));
-    taken = rw same (subst (Appends old mid) (sym (left.text ∙ ap (λ rs. left.done ++ (output_of_records n s rs).text) none ∙ append-nil left.done)) left.taken);
+    ended = inl (ap Some (sym (left.end ∙ ap (λ rs. (output_of_records tell n s rs).end) none)));
+    taken = rw same (subst (Appends old mid) (sym (left.text ∙ ap (λ rs. left.done ++ (output_of_records tell n s rs).text) none ∙ append-nil left.done)) left.taken);
   }
 
   prefix_then : (text : List ℕ) → Appends mid new text → Appends old new (left.done ++ text)
   prefix_then text h = Appends-trans old mid new left.done text left.taken h
 
-  all_taken : Appends mid new (output_of_records n s records).text → Appends old new whole.text
+  all_taken : Appends mid new (output_of_records tell n s records).text → Appends old new whole.text
   all_taken h = subst (Appends old new) (sym left.text) (prefix_then _ h)
 
-  takes : (outcome : Outcome) → IsOutcomeIn records_shape outcome → TakesFor outcome mid new (output_of_records n s records).text → TakesFor outcome old new whole.text
-  takes = of_records (λ outcome. TakesFor outcome mid new (output_of_records n s records).text → TakesFor outcome old new whole.text)
+  takes : (outcome : Outcome) → IsOutcomeIn records_shape outcome → TakesFor outcome mid new (output_of_records tell n s records).text → TakesFor outcome old new whole.text
+  takes = of_records (λ outcome. TakesFor outcome mid new (output_of_records tell n s records).text → TakesFor outcome old new whole.text)
       (λ h. all_taken h)
       (λ h.
-          let rest = (output_of_records n s records).text in
+          let rest = (output_of_records tell n s records).text in
           (length left.done + h.0, rw (left.text, length-append) (omega (arith, h.1)), subst (Appends old new) (sym (ap (take (length left.done + h.0)) left.text ∙ take-append-add left.done rest h.0)) (prefix_then (take h.0 rest) h.2)))
       (λ number cause from_1 possible h. all_taken h)
       (λ h. record {
@@ -171,7 +172,7 @@ module _ (old mid new : Option (List ℕ)) (whole : Output) (n : ℕ) (s : Super
       })
 
   -- the run ends with an outcome of what is left
-  pub cut_off : (outcome : Outcome) → IsOutcomeIn records_shape outcome → IsAnswer (output_of_records n s records) mid new outcome → IsAnswer whole old new outcome
+  pub cut_off : (outcome : Outcome) → IsOutcomeIn records_shape outcome → IsAnswer (output_of_records tell n s records) mid new outcome → IsAnswer whole old new outcome
   cut_off outcome possible h = record { ended = subst (λ end. IsOutcomeOf end outcome) (sym left.end) h.ended; taken = takes outcome possible h.taken }
 
 -- no outcome of records comes before any row

@@ -6,7 +6,7 @@ use Rattle.sdm_rules.specs.Forms.{event_of}
 use Rattle.sdm_rules.specs.Input.{Reader, IsRun, end_of_journey}
 use Rattle.sdm_rules.specs.Records.{Turn, event_at, journey_from}
 use Rattle.sdm_rules.specs.Supervision.{Supervision}
-use Rattle.sdm_rules.specs.Text.{run_text}
+use Rattle.sdm_rules.specs.Text.{run_tells, told}
 use Rattle.sdm_data.specs.Division.{divide}
 use Rattle.sdm_data.specs.Document.{document_of}
 use Rattle.sdm_data.specs.Journey.{data_of}
@@ -16,14 +16,14 @@ use Rattle.sdm_events.specs.Journey.{Record, records_of}
 abbrev pub run_reader : Reader Members Record
 run_reader = record { divide = divide; document = document_of; data_of = data_of; records = records_of; form = event_of }
 
--- the text and the end of records, of which the first has the number `n`, from a supervision state on
-abbrev pub output_of_records : ℕ → Supervision → List Record → Output
-output_of_records n s records =
+-- the text and the end of records, by what is told of each turn; the first record has the number `n`
+abbrev pub output_of_records : (Turn → List ℕ) → ℕ → Supervision → List Record → Output
+output_of_records tell n s records =
     let journey = journey_from (event_at event_of) n s records in
-    record { text = run_text journey.turns; end = end_of_journey journey.refused }
+    record { text = told tell journey.turns; end = end_of_journey journey.refused }
 
 -- what `run` defines for the bytes of an input: the text of the turns of THE RUN, and its end
 pub record IsRunOutput (bytes : List ℕ) (output : Output) : Type 0 where
   pub turns : List Turn
   pub run : IsRun run_reader bytes turns output.end
-  pub text_is : output.text ≡ run_text turns
+  pub text_is : output.text ≡ told run_tells turns

@@ -9,9 +9,8 @@ use Rattle.sdm_rules.specs.declared.faults.OpenFault.TheVariants as open_faults
 use Rattle.sdm_rules.specs.declared.records.Event.{Event}
 use Rattle.sdm_rules.specs.Data.{TrainAndTrack}
 use Rattle.sdm_rules.specs.Opening.{IsAccepted, IsOpenFault}
-use Rattle.sdm_rules.specs.Records.{Turn, most_records, row_of_turn, turn_of}
+use Rattle.sdm_rules.specs.Records.{Turn, most_records, step, turn_of}
 use Rattle.sdm_rules.specs.Supervision.{Supervision, opening}
-use Rattle.sdm_rules.specs.Text.{text_of_row}
 use Rattle.sdm_report.specs.declared.outcome.InputFault.TheVariants.{NoSplit, Toml, Data}
 use Rattle.sdm_report.specs.declared.outcome.Outcome.{Outcome}
 use Rattle.sdm_report.specs.declared.outcome.Outcome.TheVariants.{Done, Usage, ReadFault, WriteFault, TooLong, BadData, Refused, BadEvent, Memory}
@@ -54,25 +53,35 @@ IsRefusedBy bytes Memory = ⊤
 
 -- ---- the records
 
--- the record was taken as a turn to the state `t`, whose text was put
-pub record IsTaken (s t : Supervision) (e : Result Event EventFault) (text : List ℕ) : Type 0 where
+-- an event was taken, and what is told of its turn was put: no text, or whole lines
+pub record IsToldEvent (tell : Turn → List ℕ) (s t : Supervision) (e : Event) (text : List ℕ) : Type 0 where
+  pub accepted : step s e ≡ Ok t
+  pub text_is : text ≡ tell (record { before = s; event = e; after = t })
+  pub whole_lines : AreWholeLines text
+
+-- a record was taken as a turn to the state `t`, and what is told of it was put
+pub record IsToldRecord (tell : Turn → List ℕ) (s t : Supervision) (e : Result Event EventFault) (text : List ℕ) : Type 0 where
   pub turn : Turn
   pub taken : turn_of s e ≡ Ok turn
   pub after : turn.after ≡ t
-  pub text_is : text ≡ text_of_row (row_of_turn turn)
+  pub text_is : text ≡ tell turn
+  pub whole_lines : AreWholeLines text
 
--- The record of the number `n` was taken, and its row was written: what it and the records after it define is its text and what
--- these define from the next state on.
-pub record TakesRecord (old new : Option (List ℕ)) (n : ℕ) (s t : Supervision) (records more : List Record) : Type 0 where
+-- The record of the number `n` was taken, and what is told of it was written: what it and the records after it define is its text and
+-- what these define from the next state on.
+pub record TakesRecord (tell : Turn → List ℕ) (old new : Option (List ℕ)) (n : ℕ) (s t : Supervision) (records more : List Record) : Type 0 where
   pub text : List ℕ
-  pub first : output_of_records n s records ≡ record { text = text ++ (output_of_records (suc n) t more).text; end = (output_of_records (suc n) t more).end }
+  pub first : output_of_records tell n s records ≡
+      record { text = text ++ (output_of_records tell (suc n) t more).text; end = (output_of_records tell (suc n) t more).end }
   pub whole_lines : AreWholeLines text
   pub taken : Appends old new text
   pub counted : n ≤ most_records
   pub fewer : length more < length records
 
 -- what the answer of a turn says: a record was taken, none was left, or the run ends
-abbrev pub IsTurnAnswer : Option (List ℕ) → Option (List ℕ) → ℕ → Supervision → Supervision → List Record → List Record → Result Bool Outcome → Type 0
-IsTurnAnswer old new n s t records more (Ok true) = TakesRecord old new n s t records more
-IsTurnAnswer old new n s t records more (Ok false) = (records ≡ []) × (new ≡ old)
-IsTurnAnswer old new n s t records more (Err outcome) = IsAnswer (output_of_records n s records) old new outcome
+abbrev pub IsTurnAnswer :
+    (Turn → List ℕ) → Option (List ℕ) → Option (List ℕ) → ℕ → Supervision → Supervision → List Record → List Record →
+    Result Bool Outcome → Type 0
+IsTurnAnswer tell old new n s t records more (Ok true) = TakesRecord tell old new n s t records more
+IsTurnAnswer tell old new n s t records more (Ok false) = (records ≡ []) × (new ≡ old)
+IsTurnAnswer tell old new n s t records more (Err outcome) = IsAnswer (output_of_records tell n s records) old new outcome

@@ -1,4 +1,4 @@
-//! The records of `run`: each is taken, and its row written, before the next one is read.
+//! The records of a journey: each is taken, and what is told of its turn written, before the next one is read.
 
 ghost use Rattle.std.specs.Prelude.{◌≡◌, ◌⊎◌, ◌≤◌, [], false, Some, Ok, Err, IfErr, OnOk, OnErr, is_ok};
 ghost use Rattle.std.specs.Io.KnownBytes.{Appends};
@@ -6,87 +6,35 @@ ghost use Rattle.csv.specs.Records.{fields_of};
 ghost use Rattle.sdm_io.specs.Causes.{HasCause, Rose};
 ghost use Rattle.sdm_io.specs.Told.{AppendsPart};
 ghost use Rattle.sdm_rules.specs.Forms.{event_of};
-ghost use Rattle.sdm_rules.specs.Records.{event_at, most_records, row_at, step, turn_of};
-ghost use Rattle.sdm_events.specs.Journey.{IsInForm, records_of};
-ghost use Rattle.sdm_rules.specs.declared.records.Event.TheVariants as record_kinds;
+ghost use Rattle.sdm_rules.specs.Records.{event_at, most_records, turn_of};
+ghost use Rattle.sdm_events.specs.Journey.{records_of};
 ghost use Rattle.sdm_run.specs.Answers.{IsAnswer};
 ghost use Rattle.sdm_run.specs.Journeys.{output_of_records};
-ghost use Rattle.sdm_rules.specs.Supervision.{row_of};
-ghost use Rattle.sdm_rules.specs.Text.{row_text, text_of_row};
-ghost use Rattle.sdm_run.specs.RunParts.{IsTaken, IsTurnAnswer};
+ghost use Rattle.sdm_run.specs.RunParts.{IsToldRecord, IsTurnAnswer};
 ghost use Rattle.sdm_run.specs.Shapes.{IsOutcomeIn, records_shape};
 
 use crate::endings::Ended;
-use sdm_events::{ByteRecord, Event, EventFault, Records, event_of};
+use crate::tellers::Teller;
+use sdm_events::{ByteRecord, EventFault, Records, event_of};
 use sdm_io::{Failed, Sink, write_piece};
-use sdm_num::{NoMemory, Reading};
-use sdm_report::{EventCause, Outcome, row_bytes};
-use sdm_rules::{Authority, MOST_RECORDS, Restriction};
-use sdm_supervisor::{CycleFault, Supervisor};
+use sdm_num::NoMemory;
+use sdm_report::{EventCause, Outcome};
+use sdm_rules::MOST_RECORDS;
+use sdm_supervisor::Supervisor;
 use sdm_text::RowBuf;
 use std::alloc::Global;
 
-// Takes a reading, and puts its row.
-#[tactic(auto, unfolding(sdm_rules::specs::Records::step))]
-fn take_reading(
-    supervisor: &mut Supervisor,
-    reading: &Reading,
-    text: &mut RowBuf,
-) -> Result<(), EventCause>
-    requires { text.old ≡ [] }
-    ensures accepted { OnOk result (step supervisor.old (record_kinds.Read reading.now) ≡ Ok supervisor.new) }
-    ensures text { OnOk result (text.new ≡ row_text (row_of supervisor.old reading.now)) }
-    ensures refused { IfErr result (λ cause. step supervisor.old (record_kinds.Read reading.now) ≡ Err cause) }
-{
-    match supervisor.cycle(reading) {
-        Ok(row) => {
-            row_bytes(&row, text);
-            Ok(())
-        }
-        Err(CycleFault::TimeBack { last, time }) => Err(EventCause::TimeBack { last, time }),
-    }
-}
-
-// Takes an event, and puts its row, where it is a reading.
-#[tactic(auto, unfolding(sdm_rules::specs::Records::step))]
-fn take_event(
-    supervisor: &mut Supervisor,
-    event: Event,
-    text: &mut RowBuf,
-) -> Result<(), EventCause>
-    requires form { IsInForm event }
-    requires empty { text.old ≡ [] }
-    ensures accepted { OnOk result (step supervisor.old event ≡ Ok supervisor.new) }
-    ensures text { OnOk result (text.new ≡ text_of_row (row_at supervisor.old event)) }
-    ensures refused { IfErr result (λ cause. step supervisor.old event ≡ Err cause) }
-{
-    match event {
-        Event::Read(reading) => take_reading(supervisor, &reading, text),
-        Event::Authority(a) => match supervisor.authority(a) {
-            Ok(()) => Ok(()),
-            Err(fault) => Err(EventCause::Authority(fault)),
-        },
-        Event::Restrict(r) => match supervisor.restrict(r) {
-            Ok(()) => Ok(()),
-            Err(fault) => Err(EventCause::Restrict(fault)),
-        },
-        Event::Revoke { id } => match supervisor.revoke(id) {
-            Ok(()) => Ok(()),
-            Err(fault) => Err(EventCause::Revoke(fault)),
-        },
-    }
-}
-
-// Takes the record of a number, which counts from 1, and puts its row, where it is a reading.
-fn take_record(
+// Takes the record of a number, which counts from 1, and puts what is told of its turn.
+fn take_record<T: Teller>(
+    teller: &T,
     supervisor: &mut Supervisor,
     number: u32,
     record: &ByteRecord,
     text: &mut RowBuf,
 ) -> Result<(), EventCause>
     requires { text.old ≡ [] }
-    ensures taken { OnOk result
-        (IsTaken supervisor.old supervisor.new (event_at event_of number (fields_of record.now)) text.new) }
+    ensures told { OnOk result
+        (IsToldRecord (T.tell teller.now) supervisor.old supervisor.new (event_at event_of number (fields_of record.now)) text.new) }
     ensures counted { OnOk result (number ≤ most_records) }
     ensures refused { IfErr result
         (λ cause. turn_of supervisor.old (event_at event_of number (fields_of record.now)) ≡ Err cause) }
@@ -95,30 +43,30 @@ fn take_record(
         return Err(EventCause::Form(EventFault::TooMany));
     }
     match event_of(record) {
-        Ok(event) => take_event(supervisor, event, text),
+        Ok(event) => teller.take(supervisor, event, text),
         Err(fault) => Err(EventCause::Form(fault)),
     }
 }
 
-// What puts rows together and writes them. Out is to be flushed once it took a row and did not fail.
+// What puts texts together and writes them. Out is to be flushed once it took a text and did not fail.
 #[derive(Drop)]
-struct RowWriter {
+struct TextWriter {
     text: RowBuf,
     is_flush_due: bool,
 }
 
-impl RowWriter {
+impl TextWriter {
     // Nothing is written yet.
-    fn new() -> RowWriter
+    fn new() -> TextWriter
         ensures { result.is_flush_due ≡ false }
     {
-        RowWriter {
+        TextWriter {
             text: RowBuf::new(),
             is_flush_due: false,
         }
     }
 
-    // Writes the row that was put.
+    // Writes the text that was put.
     fn write<O: Sink>(&mut self, out: &mut O) -> Result<(), Failed>
         ensures ok { OnOk result (Appends (O.taken out.old) (O.taken out.new) self.old.text) }
         ensures err { OnErr result (AppendsPart (O.taken out.old) (O.taken out.new) self.old.text) }
@@ -131,20 +79,21 @@ impl RowWriter {
     }
 }
 
-// Takes the next record, which has this number, and writes its row: true. False where no record is left. Else the outcome that the
-// run ends with.
-fn turn<O: Sink>(
+// Takes the next record, which has this number, and writes what is told of its turn: true. False where no record is left. Else the
+// outcome that the run ends with.
+fn turn<T: Teller, O: Sink>(
+    teller: &T,
     supervisor: &mut Supervisor,
     records: &mut Records<'_>,
     record: &mut ByteRecord,
     number: u32,
-    rows: &mut RowWriter,
+    texts: &mut TextWriter,
     out: &mut O,
 ) -> Result<bool, Outcome>
     requires { 1 ≤ number }
-    ensures turn { IsTurnAnswer (O.taken out.old) (O.taken out.new) number supervisor.old supervisor.new records.old records.new result }
-    ensures due { rows.new.is_flush_due ≡ false
-        → ((rows.old.is_flush_due ≡ false) × (out.new ≡ out.old)) ⊎ (result ≡ Err Outcome.WriteFault) }
+    ensures turn { IsTurnAnswer (T.tell teller.now) (O.taken out.old) (O.taken out.new) number supervisor.old supervisor.new records.old records.new result }
+    ensures due { texts.new.is_flush_due ≡ false
+        → ((texts.old.is_flush_due ≡ false) × (out.new ≡ out.old)) ⊎ (result ≡ Err Outcome.WriteFault) }
     ensures later { O.faults out.old ≤ O.faults out.new }
     ensures write { result ≡ Err Outcome.WriteFault → Rose (O.faults out.old) (O.faults out.new) }
     ensures possible { IfErr result (IsOutcomeIn records_shape) }
@@ -154,28 +103,30 @@ fn turn<O: Sink>(
         Ok(false) => return Ok(false),
         Err(NoMemory) => return Err(Outcome::Memory),
     }
-    rows.text.clear();
-    match take_record(supervisor, number, record, &mut rows.text) {
+    texts.text.clear();
+    match take_record(teller, supervisor, number, record, &mut texts.text) {
         Ok(()) => {}
         Err(cause) => return Err(Outcome::BadEvent { number, cause }),
     }
-    if rows.text.bytes().is_empty() {
+    if texts.text.bytes().is_empty() {
         return Ok(true);
     }
-    match rows.write(out) {
+    match texts.write(out) {
         Ok(()) => Ok(true),
         Err(_) => Err(Outcome::WriteFault),
     }
 }
 
-/// Answers the records of these bytes, from a supervision state on. WriteFault comes only where out failed. (own)
-pub fn run_records<O: Sink>(
+/// Answers the records of these bytes, from a supervision state on, by what is told of each turn. WriteFault comes only where out
+/// failed. (own)
+pub fn run_records<T: Teller, O: Sink>(
     alloc: Global,
+    teller: &T,
     supervisor: &mut Supervisor,
     bytes: &[u8],
     out: &mut O,
 ) -> Ended
-    ensures answer { IsAnswer (output_of_records 1 supervisor.old (records_of bytes.now)) (O.taken out.old) (O.taken out.new) result.outcome }
+    ensures answer { IsAnswer (output_of_records (T.tell teller.now) 1 supervisor.old (records_of bytes.now)) (O.taken out.old) (O.taken out.new) result.outcome }
     ensures due { result.is_flush_due ≡ false → (out.new ≡ out.old) ⊎ (result.outcome ≡ Outcome.WriteFault) }
     ensures later { O.faults out.old ≤ O.faults out.new }
     ensures write { result.outcome ≡ Outcome.WriteFault → Rose (O.faults out.old) (O.faults out.new) }
@@ -183,28 +134,29 @@ pub fn run_records<O: Sink>(
 {
     let mut records = Records::begin(alloc, bytes);
     let mut record = ByteRecord::new(alloc);
-    let mut rows = RowWriter::new();
+    let mut texts = TextWriter::new();
     let mut number = 1u32;
     'records: loop {
         match turn(
+            teller,
             supervisor,
             &mut records,
             &mut record,
             number,
-            &mut rows,
+            &mut texts,
             out,
         ) {
             Ok(true) => number += 1,
             Ok(false) => {
                 return Ended {
                     outcome: Outcome::Done,
-                    is_flush_due: rows.is_flush_due,
+                    is_flush_due: texts.is_flush_due,
                 };
             }
             Err(outcome) => {
                 return Ended {
                     outcome,
-                    is_flush_due: rows.is_flush_due,
+                    is_flush_due: texts.is_flush_due,
                 };
             }
         }

@@ -11,6 +11,7 @@ ghost use Rattle.sdm_run.specs.Journeys.{IsRunOutput};
 use crate::endings::Ended;
 use crate::journey_openings::opened;
 use crate::journey_records::run_records;
+use crate::tellers::Rows;
 use sdm_data::split;
 use sdm_io::Sink;
 use sdm_report::{InputFault, Outcome};
@@ -35,7 +36,7 @@ pub fn run_journey<O: Sink>(alloc: Global, bytes: &[u8], out: &mut O) -> Ended
         };
     };
     match opened(alloc, &bytes[..data_end]) {
-        Ok(mut supervisor) => run_records(alloc, &mut supervisor, &bytes[records_start..], out),
+        Ok(mut supervisor) => run_records(alloc, &Rows, &mut supervisor, &bytes[records_start..], out),
         Err(outcome) => Ended {
             outcome,
             is_flush_due: false,

@@ -12,9 +12,9 @@ returns-in-Err-take_record-clause-possible g c = refused_outcome _ c.args.superv
 pub returns-then-is_empty-clause-turn : goal.returns-then-is_empty-clause-turn
 returns-then-is_empty-clause-turn g c =
     let none : length c.take_record.new.text ≡ 0 = search rules in
-    took _ _ c.args.number _ _ _ _ _ _ (c.next.ensures.found (c.in-Ok-true.is ∙ ap Ok c.in-Ok-true.field-0-test)) c.in-Ok.ensures.taken c.in-Ok.ensures.counted
+    took _ _ _ c.args.number _ _ _ _ _ _ (c.next.ensures.found (c.in-Ok-true.is ∙ ap Ok c.in-Ok-true.field-0-test)) c.in-Ok.ensures.told c.in-Ok.ensures.counted
     (subst (Appends (g.O.Sink.taken c.args.out.now) (g.O.Sink.taken c.args.out.now)) (sym (nil_from_length _ none)) (Appends-nil (g.O.Sink.taken c.args.out.now)))
 
 pub returns-in-Ok-write-clause-turn : goal.returns-in-Ok-write-clause-turn
 returns-in-Ok-write-clause-turn g c =
-    took _ _ c.args.number _ _ _ _ _ _ (c.next.ensures.found (c.in-Ok-true.is ∙ ap Ok c.in-Ok-true.field-0-test)) c.in-Ok.ensures.taken c.in-Ok.ensures.counted c.in-Ok-write.ensures.ok
+    took _ _ _ c.args.number _ _ _ _ _ _ (c.next.ensures.found (c.in-Ok-true.is ∙ ap Ok c.in-Ok-true.field-0-test)) c.in-Ok.ensures.told c.in-Ok.ensures.counted c.in-Ok-write.ensures.ok
