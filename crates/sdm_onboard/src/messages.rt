@@ -1,5 +1,5 @@
 //! What comes in: the odometer's readings, and what the radio and the balises bring. The list is a journey in which each call of the
-//! supervisor is made, and each is refused once.
+//! supervisor is made and refused; of two readings that aren't judged one has a clock that goes back, and one a speed out of range.
 
 use sdm_num::Reading;
 use sdm_rules::{Authority, Restriction};

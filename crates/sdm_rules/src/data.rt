@@ -38,9 +38,9 @@ pub struct TrainFields {
     pub traction_cutoff_time: i64,
     /// Whether the onboard equipment can cut the traction off.
     pub traction_cutoff_interface: bool,
-    /// Emergency brake build-up time in ds.
+    /// T_be in ds: from the last covered reading until the emergency brake works in full; no equivalent time. (SUBSET-026-3 3.13.9.3.2)
     pub emergency_time: i64,
-    /// Service brake build-up time in ds.
+    /// Build-up time of the service brake in ds. (SUBSET-026-3 3.13.9.3.3)
     pub service_time: i64,
     /// Whether the onboard equipment can command the service brake.
     pub service_brake: bool,

@@ -83,7 +83,7 @@ impl Train {
         self.fields.traction_cutoff_interface
     }
 
-    /// The emergency brake build-up time in ds, 0 to 300.
+    /// How long the emergency brake takes until it works in full, in ds, 0 to 300.
     pub fn emergency_time(&self) -> i64
         ensures value { result ≡ self.now.emergency_time }
         ensures range { (pos 0 ≤ℤ result) × (result ≤ℤ pos 300) }
