@@ -113,8 +113,8 @@ def foot_at_an_upper_speed():
     return journey
 
 
-def at_borders():
-    """Ends at, one cell before and one behind a border of gradients, at speeds whose ways end at one."""
+def at_gradient_starts():
+    """Ends at, one cell before and one behind where a gradient starts, at speeds whose ways end at one."""
     track = {"gradient": [{"start": 0, "grad": 0}, {"start": 3 * KM, "grad": -30}, {"start": 4 * KM, "grad": 20}]}
     journey = Journey(plain({"length": 1}, track=track, authority=stop(4 * KM)), behind=0, ahead=0)
     for end in (4 * KM - 1, 4 * KM, 4 * KM + 1, 3 * KM, 3 * KM + 1, 3 * KM + 2):
@@ -139,7 +139,7 @@ def curves():
     yield "rounding", "a stepped place a grain before the exact one, at a front end that is exactly there", rounding()
     yield "rounding-forward", "the same going forward", rounding_forward()
     yield "foot-at-an-upper-speed", "guidance curves whose foot is an upper speed", foot_at_an_upper_speed()
-    yield "at-borders", "ends and feet at borders of gradients, walked back and forward", at_borders()
+    yield "at-gradient-starts", "ends and feet where gradients start, walked back and forward", at_gradient_starts()
 
 
 def forward():

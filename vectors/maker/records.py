@@ -46,7 +46,7 @@ def records():
     yield "too-many-restrictions", "a restriction too many, also where its identity is held", text(plain(), [*many, READINGS[0], many[0]])
     yield "one-in-place-of-another", "32 restrictions, one revoked and another set", text(
         plain(), [*many, READINGS[0], "revoke,5", "restrict,99,0,9,5,1", READINGS[1], "restrict,100,0,9,5,1"])
-    yield "accepted-borders", "equal times, a restriction and an authority that end with the track, SvL at the EOA", text(plain(), [
+    yield "accepted-ends", "equal times, a restriction and an authority that end with the track, SvL at the EOA", text(plain(), [
         *READINGS, "read,5,300,300,300,1000,0,0", f"restrict,1,{10 * KM - 1},{10 * KM},5,1", f"end,{10 * KM},{10 * KM},0", READINGS[1],
         f"limit,{10 * KM},500", READINGS[1], "end,0,0,0", "read,100000000,-10,-20,0,5,0,0"])
 

@@ -174,12 +174,12 @@ def openings():
             {"start": 0, "grad": 80}, {"start": 700, "grad": 0}]} | {"length": 10 * KM}, train={"rotating_mass": 50})),
         ("weak-band-first", "a weaker cell in a higher band isn't named", plain(
             bands=[{"upper": 50, "emergency": 80}, {"emergency": 70}], track=downhill)),
-        ("weak-border", "exactly 0.05 m/s² is accepted", plain(short, [{"emergency": 5, "service": 5, "normal": 5}])),
+        ("least-accepted-slope", "exactly 0.05 m/s² is accepted", plain(short, [{"emergency": 5, "service": 5, "normal": 5}])),
         ("weak-below", "below 0.05 m/s² by a notch of avadh", plain(short, [{"emergency": 5, "kwet": 999}], {"avadh": 19})),
         ("weak-past-the-track", "a slope past the track's end is refused too", plain(
             {"length": 30_000}, [{"emergency": 60}], track={"length": 50_000, "gradient": [{"start": 0, "grad": 0}, {"start": 49_999, "grad": -60}]},
             authority=stop(40_000))),
-        ("varied-border", "exactly sixteenfold is accepted", plain(short, [{"emergency": 160}], {"adhesion_max": 10}, {"adhesion": [{"start": 0, "end": 1}]})),
+        ("greatest-accepted-variation", "exactly sixteenfold is accepted", plain(short, [{"emergency": 160}], {"adhesion_max": 10}, {"adhesion": [{"start": 0, "end": 1}]})),
         ("varied", "more than sixteenfold", plain(short, [{"emergency": 161}], {"adhesion_max": 10}, {"adhesion": [{"start": 0, "end": 1}]})),
         ("varied-band-two", "more than sixteenfold in the second band", plain(short, [{"upper": 9}, {"emergency": 100}], {"adhesion_max": 6},
                                                                              {"adhesion": [{"start": 5, "end": 6}]}) | {}),
