@@ -1,6 +1,6 @@
 -- What the limits of targets ask of a reading (own).
 use Rattle.std.specs.Prelude.{◌≡◌, ℕ, Option, Some, None, true, false, ◌<◌, ◌≤◌, ◌^◌}
-use Rattle.sdm_num.specs.Readings.{IsReading}
+use Rattle.sdm_num.specs.Readings.{IsReading, estimate_of}
 use Rattle.sdm_rules.specs.declared.data.SlopeKind.TheVariants.{Normal, Safe}
 use Rattle.sdm_rules.specs.declared.targets.Target.{Target}
 use Rattle.sdm_rules.specs.Data.{TrainAndTrack}
@@ -21,9 +21,9 @@ IsGuidanceAsked d v (Some asked) = (d.national.guidance ≡ true) × (asked.spee
 -- guidance is permitted (SUBSET-026-3 3.13.8.5, 3.13.9.3.2; own)
 pub record IsAsked (d : TrainAndTrack) (a : AskedReading) : Type 0 where
   pub reading : IsReading a.reading.now
-  pub build_up : a.build_up ≡ build_up_from d a.reading.now
-  pub v_bec : (t : Target) → target_speed t ≤ a.reading.now.speed → a.v_bec.speed ≡ v_bec_for d a.reading.now t
+  pub build_up : a.build_up ≡ build_up_from d (estimate_of a.reading.now)
+  pub v_bec : (t : Target) → target_speed t ≤ a.reading.now.speed → a.v_bec.speed ≡ v_bec_for d (estimate_of a.reading.now) t
   pub v_bec_asked : IsAskedOf (slopes_of Safe d) a.v_bec
-  pub d_bec : (t : Target) → target_speed t ≤ a.reading.now.speed → a.d_bec ≡ d_bec_for d a.reading.now t
+  pub d_bec : (t : Target) → target_speed t ≤ a.reading.now.speed → a.d_bec ≡ d_bec_for d (estimate_of a.reading.now) t
   pub small : a.d_bec < 10 ^ 16
   pub guided : IsGuidanceAsked d a.reading.now.speed a.guided_v_est

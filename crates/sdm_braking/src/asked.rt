@@ -2,7 +2,7 @@
 //! target, since the greater of both speeds is the train's: so they are worked out once a reading.
 
 ghost use Rattle.std.specs.Prelude.{◌≡◌};
-ghost use Rattle.sdm_num.specs.Readings.{IsReading};
+ghost use Rattle.sdm_num.specs.Readings.{IsReading, estimate_of};
 ghost use Rattle.sdm_rules.specs.Data.{TrainAndTrack};
 ghost use Rattle.sdm_rules.specs.Limits.{v_bec_for};
 ghost use Rattle.sdm_rules.specs.Supervision.{is_met_by_speed};
@@ -65,7 +65,7 @@ impl AskedReading<'_> {
         requires speeds { AreSpeedsOf kept.now.target kept.now.speeds }
         ensures { (d : TrainAndTrack) → IsAsked d self.now →
             result ≡ is_met_by_speed kept.now.target.kind
-            (v_bec_for d self.now.reading.now kept.now.target) (foot_speed_of kept.now.target) }
+            (v_bec_for d (estimate_of self.now.reading.now) kept.now.target) (foot_speed_of kept.now.target) }
     {
         match kept.target.kind {
             TargetKind::Mrsp | TargetKind::Loa => {

@@ -3,6 +3,7 @@
 
 ghost use Rattle.std.specs.Prelude.{◌≡◌, ◌≤◌, Option, Some};
 ghost use Rattle.sdm_num.specs.Fractions.{Fraction};
+ghost use Rattle.sdm_num.specs.Readings.{estimate_of};
 ghost use Rattle.sdm_rules.specs.Limits.{computed, ebd_limits_of, limits_of, sbd_limits_of};
 ghost use Rattle.sdm_rules.specs.declared.data.SlopeKind.TheVariants.{Expected, Safe};
 ghost use Rattle.sdm_rules.specs.Decelerations.{slopes_of};
@@ -42,7 +43,7 @@ impl Braking {
             kept.now.target.place (foot_speed_of kept.now.target) kept.now.brake }
         requires guide { IsGuide guide }
         ensures { places_of result ≡
-            ebd_limits_of computed self.now asked.now.reading.now kept.now.target (place_where guide) }
+            ebd_limits_of computed self.now (estimate_of asked.now.reading.now) kept.now.target (place_where guide) }
     {
         let place = kept.brake.place_asked(self.safe(), &asked.v_bec);
         let v = asked.reading.speed_mm_s();
@@ -55,7 +56,7 @@ impl Braking {
         requires sbd { IsCurveOn (slopes_of Expected self.now) kept.now.target.place 0 kept.now.brake }
         requires guide { IsGuide guide }
         ensures { places_of result ≡
-            sbd_limits_of computed self.now asked.now.reading.now kept.now.target (place_where guide) }
+            sbd_limits_of computed self.now (estimate_of asked.now.reading.now) kept.now.target (place_where guide) }
     {
         let v = asked.reading.speed_mm_s();
         sbd_limits(self.expected(), &kept.brake, guide, self.times(), v)
@@ -67,7 +68,7 @@ impl Braking {
         requires asked { IsAsked self.now asked.now }
         requires kept { IsKeptTarget self.now kept.now }
         requires no_faster { target_speed kept.now.target ≤ asked.now.reading.now.speed }
-        ensures { places_of result ≡ limits_of computed self.now asked.now.reading.now kept.now.target }
+        ensures { places_of result ≡ limits_of computed self.now (estimate_of asked.now.reading.now) kept.now.target }
     {
         let guide = self.guide(asked, kept);
         match kept.target.kind {
@@ -85,7 +86,7 @@ impl Braking {
         requires ebd { IsCurveOn (slopes_of Safe self.now)
             kept.now.target.place (foot_speed_of kept.now.target) kept.now.brake }
         ensures { (guide : Option Fraction) → Some (place_of result) ≡
-            (ebd_limits_of computed self.now asked.now.reading.now kept.now.target guide).ebi }
+            (ebd_limits_of computed self.now (estimate_of asked.now.reading.now) kept.now.target guide).ebi }
     {
         let reaction = asked.build_up.reaction(kept.speeds.permitted);
         kept.brake
@@ -98,7 +99,7 @@ impl Braking {
     pub fn ebi(&self, asked: &AskedReading, kept: &KeptTarget) -> Option<Early>
         requires asked { IsAsked self.now asked.now }
         requires kept { IsKeptTarget self.now kept.now }
-        ensures { place_where result ≡ (limits_of computed self.now asked.now.reading.now kept.now.target).ebi }
+        ensures { place_where result ≡ (limits_of computed self.now (estimate_of asked.now.reading.now) kept.now.target).ebi }
     {
         match kept.target.kind {
             TargetKind::Mrsp | TargetKind::Loa | TargetKind::Svl => {

@@ -8,7 +8,7 @@ use Rattle.std.proofs.lemmas.List.{nil_from_length}
 use Rattle.std.proofs.Math.Path.{fun_ext}
 use Rattle.sdm_num.specs.Units.{millimetre}
 use Rattle.sdm_num.specs.Fractions.{Fraction, whole}
-use Rattle.sdm_num.specs.Readings.{OdometerReading}
+use Rattle.sdm_num.specs.Readings.{OdometerReading, estimate_of}
 use Rattle.sdm_rules.specs.declared.authorities.Authority.TheVariants.{Stop}
 use Rattle.sdm_rules.specs.declared.data.Band.{Band}
 use Rattle.sdm_rules.specs.declared.data.SlopeKind.{SlopeKind}
@@ -75,13 +75,13 @@ at_14_m_s place = reading_at 0 place 756_000
 commanded : CurvePlaces → ℕ → ℤ → Bool
 commanded P shift place =
     let r = at_14_m_s place in
-    emergency_after false (triggers_of (limits_of P two_bands.train_and_track r) shift (situation_with two_bands.train_and_track two_bands.authority [] r)) false false
+    emergency_after false (triggers_of (limits_of P two_bands.train_and_track (estimate_of r)) shift (situation_with two_bands.train_and_track two_bands.authority [] r)) false false
 
 commanded_by : (P : CurvePlaces) (shift : ℕ) (place : ℤ) → machine_after P shift two_bands (at_14_m_s place) false ≡ commanded P shift place
 unfolding machine_after two_bands at_14_m_s reading_at two_band_line plain_train_and_track plain_national commanded emergency_after
 commanded_by P shift place =
     let r = at_14_m_s place in
-    ap (λ now. emergency_after false (triggers_of (limits_of P two_bands.train_and_track r) shift now) false false) (opening_situation two_bands.train_and_track two_bands.authority r)
+    ap (λ now. emergency_after false (triggers_of (limits_of P two_bands.train_and_track (estimate_of r)) shift now) false false) (opening_situation two_bands.train_and_track two_bands.authority r)
 
 -- 0.7 m/s² in two bands that meet at 18 km/h, cell by cell the same
 even : ℕ → ℤ → ℕ
@@ -139,12 +139,12 @@ svl = record { kind = Svl; place = pos 540_000_000_000_000; speed = 0 }
 
 -- their limits with a place of both curves at 14 m/s: no time of reaction, so EBI and SBI lie there, too
 limits_with : Fraction → Target → SupervisionLimits
-limits_with x t = limits_of (λ on f w v. x) two_bands.train_and_track (at_14_m_s (pos 0)) t
+limits_with x t = limits_of (λ on f w v. x) two_bands.train_and_track (estimate_of (at_14_m_s (pos 0))) t
 
 -- the limits of both targets follow from the place of the curves at 14 m/s
 limits_by_place : (P : CurvePlaces) (place : ℤ) (x : Fraction) →
     P even_slopes (pos 540_000_000_000_000) 0 756_000 ≡ x →
-    (limits_of P two_bands.train_and_track (at_14_m_s place) eoa ≡ limits_with x eoa) × (limits_of P two_bands.train_and_track (at_14_m_s place) svl ≡ limits_with x svl)
+    (limits_of P two_bands.train_and_track (estimate_of (at_14_m_s place)) eoa ≡ limits_with x eoa) × (limits_of P two_bands.train_and_track (estimate_of (at_14_m_s place)) svl ≡ limits_with x svl)
 unfolding two_bands two_band_line plain_train_and_track plain_national at_14_m_s reading_at eoa svl limits_with limits_of reaction_times
 limits_by_place P place x at = (
   rw (same_slopes Expected, at) refl,
@@ -182,8 +182,8 @@ unfolding commanded decided
 commanded_at P shift place x at seen =
     let limits = limits_by_place P place x at in
     commanded_by P shift place
-    ∙ (ap (λ now. emergency_after false (triggers_of (limits_of P two_bands.train_and_track (at_14_m_s place)) shift now) false false) seen
-    ∙ ap (λ t. emergency_after false t false false) (triggers_of_two (limits_of P two_bands.train_and_track (at_14_m_s place)) (limits_with x) shift place limits.0 limits.1))
+    ∙ (ap (λ now. emergency_after false (triggers_of (limits_of P two_bands.train_and_track (estimate_of (at_14_m_s place))) shift now) false false) seen
+    ∙ ap (λ t. emergency_after false t false false) (triggers_of_two (limits_of P two_bands.train_and_track (estimate_of (at_14_m_s place))) (limits_with x) shift place limits.0 limits.1))
 
 -- the front ends on the exact EBI, a millimetre less a grain before it, and a millimetre before it
 on_the_limit : ℤ

@@ -12,7 +12,7 @@ use Rattle.sdm_rules.specs.Slopes.{IsUsable}
 use Rattle.sdm_rules.specs.declared.targets.Target.{Target}
 use Rattle.sdm_rules.specs.declared.targets.TargetKind.{TargetKind}
 use Rattle.sdm_rules.specs.declared.targets.TargetKind.TheVariants.{Mrsp, Loa, Eoa, Svl}
-use Rattle.sdm_num.specs.Readings.{OdometerReading}
+use Rattle.sdm_num.specs.Readings.{OdometerReading, estimate_of}
 use Rattle.sdm_rules.specs.Data.{TrainAndTrack}
 use Rattle.sdm_rules.specs.Limits.{SupervisionLimits, computed, exact_places, limits_from_sbi, limits_of_kind, limits_of, ebd_limits_of, sbd_limits_of, v_bec_for, d_bec_for, guidance_place}
 use Rattle.sdm_rules.specs.Decelerations.{slopes_of}
@@ -48,30 +48,30 @@ before_near times v (Some x) (Some y) ebi ebi' sbi sbi' g e h = record {
   indication = less_near _ _ _ (lesser_near x y _ _ g (less_near sbi sbi' _ h));
 }
 
-guide_near : (d : TrainAndTrack) → AreUsable d → (r : OdometerReading) (t : Target) → AreJustBeforeIfAny (guidance_place computed d r t) (guidance_place exact_places d r t)
+guide_near : (d : TrainAndTrack) → AreUsable d → (r : OdometerReading) (t : Target) → AreJustBeforeIfAny (guidance_place computed d (estimate_of r) t) (guidance_place exact_places d (estimate_of r) t)
 guide_near d h r t =
     elim d.national.guidance as (λ b. AreJustBeforeIfAny (if b then Some (computed (slopes_of Normal d) t.place (target_speed t) r.speed) else None) (if b then Some (exact_places (slopes_of Normal d) t.place (target_speed t) r.speed) else None)) [
       | true ↦ near_on (slopes_of Normal d) (h Normal) t.place (target_speed t) r.speed
       | false ↦ tt
     ]
 
-ebd_near : (d : TrainAndTrack) → AreUsable d → (r : OdometerReading) (t : Target) (g g' : Option Fraction) → AreJustBeforeIfAny g g' → AreLimitsJustBefore (ebd_limits_of computed d r t g) (ebd_limits_of exact_places d r t g')
+ebd_near : (d : TrainAndTrack) → AreUsable d → (r : OdometerReading) (t : Target) (g g' : Option Fraction) → AreJustBeforeIfAny g g' → AreLimitsJustBefore (ebd_limits_of computed d (estimate_of r) t g) (ebd_limits_of exact_places d (estimate_of r) t g')
 ebd_near d h r t g g' n =
-    let x = near_on (slopes_of Safe d) (h Safe) t.place (foot_speed_of t) (v_bec_for d r t) in
-    let e = less_near _ _ (d_bec_for d r t) x in
+    let x = near_on (slopes_of Safe d) (h Safe) t.place (foot_speed_of t) (v_bec_for d (estimate_of r) t) in
+    let e = less_near _ _ (d_bec_for d (estimate_of r) t) x in
     before_near (reaction_times d) r.speed g g' _ _ _ _ n e (less_near _ _ (distance_at r.speed (reaction_times d).bs) e)
 
-sbd_near : (d : TrainAndTrack) → AreUsable d → (r : OdometerReading) (t : Target) (g g' : Option Fraction) → AreJustBeforeIfAny g g' → AreLimitsJustBefore (sbd_limits_of computed d r t g) (sbd_limits_of exact_places d r t g')
+sbd_near : (d : TrainAndTrack) → AreUsable d → (r : OdometerReading) (t : Target) (g g' : Option Fraction) → AreJustBeforeIfAny g g' → AreLimitsJustBefore (sbd_limits_of computed d (estimate_of r) t g) (sbd_limits_of exact_places d (estimate_of r) t g')
 sbd_near d h r t g g' n =
     before_near (reaction_times d) r.speed g g' None None _ _ n tt (less_near _ _ (distance_at r.speed (reaction_times d).bs) (near_on (slopes_of Expected d) (h Expected) t.place 0 r.speed))
 
-kind_near : (d : TrainAndTrack) → AreUsable d → (r : OdometerReading) (t : Target) (k : TargetKind) → AreLimitsJustBefore (limits_of_kind computed d r t k) (limits_of_kind exact_places d r t k)
+kind_near : (d : TrainAndTrack) → AreUsable d → (r : OdometerReading) (t : Target) (k : TargetKind) → AreLimitsJustBefore (limits_of_kind computed d (estimate_of r) t k) (limits_of_kind exact_places d (estimate_of r) t k)
 kind_near d h r t Mrsp = ebd_near d h r t _ _ (guide_near d h r t)
 kind_near d h r t Loa = ebd_near d h r t _ _ (guide_near d h r t)
 kind_near d h r t Eoa = sbd_near d h r t _ _ (guide_near d h r t)
 kind_near d h r t Svl = ebd_near d h r t None None tt
 
-pub limits_near : (d : TrainAndTrack) → AreUsable d → (r : OdometerReading) (t : Target) → AreLimitsJustBefore (limits_of computed d r t) (limits_of exact_places d r t)
+pub limits_near : (d : TrainAndTrack) → AreUsable d → (r : OdometerReading) (t : Target) → AreLimitsJustBefore (limits_of computed d (estimate_of r) t) (limits_of exact_places d (estimate_of r) t)
 unfolding limits_of
 limits_near d h r t = kind_near d h r t t.kind
 
@@ -103,8 +103,8 @@ pub keeps_order : (s : Supervision) (r : OdometerReading) → AreUsable s.train_
 unfolding machine_after commands_in commands_after
 keeps_order s r near must may order =
     let now = situation_of s r in
-    let low = limits_of computed s.train_and_track r in
-    let exact = limits_of exact_places s.train_and_track r in
+    let low = limits_of computed s.train_and_track (estimate_of r) in
+    let exact = limits_of exact_places s.train_and_track (estimate_of r) in
     record {
       needed = emergency_implies _ _ must s.commands.eb _ _
           (triggers_imply exact low 0 0 now (each_of _ (λ t. all_exact_sooner (low t) (exact t) (limits_near s.train_and_track near r t)) now.targets)) order.needed;

@@ -8,7 +8,7 @@ use Rattle.sdm_rules.specs.declared.authorities.Authority.TheVariants.{Stop}
 use Rattle.sdm_rules.specs.declared.commands.State.TheVariants.{C, T, R}
 use Rattle.sdm_rules.specs.Data.{TrainAndTrack}
 use Rattle.sdm_num.specs.Units.{notches}
-use Rattle.sdm_num.specs.Readings.{OdometerReading}
+use Rattle.sdm_num.specs.Readings.{OdometerReading, estimate_of}
 use Rattle.sdm_rules.specs.Decelerations.{slopes_of}
 use Rattle.sdm_rules.specs.Cells.{place_of_cell}
 use Rattle.sdm_rules.specs.Limits.{computed, exact_places, release_start, limits_of}
@@ -48,7 +48,7 @@ begins_release_monitoring_at s r eoa svl release near e some =
     let low = release_start computed s.train_and_track eoa svl release in
     let exact = release_start exact_places s.train_and_track eoa svl release in
     let n = start_near s.train_and_track near eoa svl release in
-    let b = is_indicated (limits_of computed s.train_and_track r) (situation_of s r) in
+    let b = is_indicated (limits_of computed s.train_and_track (estimate_of r)) (situation_of s r) in
     let is = ap (λ (a : Authority). is_some (release_of s.train_and_track a r.max)) e ∙ some_if
     (nat_lt 0 release && is_past 0 r.max low) release in
     record {

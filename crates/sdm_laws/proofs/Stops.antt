@@ -11,7 +11,7 @@ use Rattle.std.specs.Prelude.{IsTrue, Contains, is_some, ◌⊎◌, ◌≢◌}
 use Rattle.std.specs.List.{AllByRecursion, list_all}
 use Rattle.std.specs.Option.{option_map_or}
 use Rattle.sdm_num.specs.Fractions.{IsAtMost, whole, less}
-use Rattle.sdm_num.specs.Readings.{OdometerReading}
+use Rattle.sdm_num.specs.Readings.{OdometerReading, estimate_of}
 use Rattle.sdm_num.proofs.Order.{at_most_trans}
 use Rattle.sdm_num.proofs.Comparisons.{not_lt_of}
 use Rattle.sdm_rules.specs.declared.data.SlopeKind.TheVariants.{Safe}
@@ -90,30 +90,30 @@ module _ (d : TrainAndTrack) (usable : IsUsable (slopes_of Safe d)) (r : Odomete
   pos_m = let h = m.0 in omega (arith, mul-le-mul_left s h)
 
   -- the ends of slices and the first braking point are within D_bec and V_bec
-  bounds : AllByRecursion (IsBounded (p +ℤ pos (s * s * d_bec_for d r t)) (s * v_bec_for d r t)) (slice_ends p v xs ++ first ∷ [])
+  bounds : AllByRecursion (IsBounded (p +ℤ pos (s * s * d_bec_for d (estimate_of r) t)) (s * v_bec_for d (estimate_of r) t)) (slice_ends p v xs ++ first ∷ [])
   bounds = each_in_reach s (reaction_start d r) (slopes_of Safe d) (target_speed t) p v xs first more m.1.motion m.1.speed
 
   -- where the front end is at or before the EBI on a curve from the target, the whole motion is held by that curve
-  held_by_curve : is_past 0 r.max (less (computed (slopes_of Safe d) t.place (foot_speed_of t) (v_bec_for d r t)) (d_bec_for d r t)) ≡ false →
+  held_by_curve : is_past 0 r.max (less (computed (slopes_of Safe d) t.place (foot_speed_of t) (v_bec_for d (estimate_of r) t)) (d_bec_for d (estimate_of r) t)) ≡ false →
       AllByRecursion (IsHeldByCurve (slopes_of Safe d) (s * s) t.place (foot_speed_of t)) (slice_ends p v xs ++ first ∷ more)
   held_by_curve e =
       let on = slopes_of Safe d in
       let w = foot_speed_of t in
       let H : Point → Type 0 = IsHeldByCurve on (s * s) t.place w in
-      let B : Point → Type 0 = IsBounded (p +ℤ pos (s * s * d_bec_for d r t)) (s * v_bec_for d r t) in
-      let h = not_past on usable t.place w (v_bec_for d r t) (d_bec_for d r t) r.max e in
-      let held : (y : Point) → B y → H y = λ y b. within_held on (s * s) t.place w y usable pos_m (within_first on usable s t.place w (v_bec_for d r t) (d_bec_for d r t) r.max p y pos_m h m.1.place b) in
+      let B : Point → Type 0 = IsBounded (p +ℤ pos (s * s * d_bec_for d (estimate_of r) t)) (s * v_bec_for d (estimate_of r) t) in
+      let h = not_past on usable t.place w (v_bec_for d (estimate_of r) t) (d_bec_for d (estimate_of r) t) r.max e in
+      let held : (y : Point) → B y → H y = λ y b. within_held on (s * s) t.place w y usable pos_m (within_first on usable s t.place w (v_bec_for d (estimate_of r) t) (d_bec_for d (estimate_of r) t) r.max p y pos_m h m.1.place b) in
       let split = all_split B (slice_ends p v xs) (first ∷ []) bounds in
       let begins = held first split.1.0 in
       all_join H (slice_ends p v xs) (first ∷ more) (each B H held _ split.0) (each_held on (s * s) t.place w first more usable pos_m m.1.motion.braking begins.within)
 
   -- where V_bec is at most the foot speed, the train is never faster
-  never_faster : v_bec_for d r t ≤ foot_speed_of t → AllByRecursion (KeepsTo s t.place (foot_speed_of t)) (slice_ends p v xs ++ first ∷ more)
+  never_faster : v_bec_for d (estimate_of r) t ≤ foot_speed_of t → AllByRecursion (KeepsTo s t.place (foot_speed_of t)) (slice_ends p v xs ++ first ∷ more)
   never_faster le =
-      let bec = v_bec_for d r t in
+      let bec = v_bec_for d (estimate_of r) t in
       let w = foot_speed_of t in
       let K : Point → Type 0 = KeepsTo s t.place w in
-      let B : Point → Type 0 = IsBounded (p +ℤ pos (s * s * d_bec_for d r t)) (s * bec) in
+      let B : Point → Type 0 = IsBounded (p +ℤ pos (s * s * d_bec_for d (estimate_of r) t)) (s * bec) in
       let split = all_split B (slice_ends p v xs) (first ∷ []) bounds in
       let top : s * bec * (s * bec) ≤ s * s * (w * w) = (let k = mul-le bec bec w w le le in omega (arith, mul-le-mul_left (s * s) k)) in
       let slow : (y : Point) → B y → K y = λ y b past. (let h = b.square in omega arith) in
@@ -128,14 +128,14 @@ either true met e = inr e
 either false met e = inl refl
 
 within_or_slow : (d : TrainAndTrack) (r : OdometerReading) (t : Target) (k : TargetKind) → k ≢ Eoa → k ≢ Svl →
-    option_map_or (λ ebi. not (is_past 0 r.max ebi) || is_met_by_speed k (v_bec_for d r t) (foot_speed_of t)) (limits_of_kind computed d r t k).ebi true ≡ true →
-    (is_past 0 r.max (less (computed (slopes_of Safe d) t.place (foot_speed_of t) (v_bec_for d r t)) (d_bec_for d r t)) ≡ false) ⊎ (v_bec_for d r t ≤ foot_speed_of t)
-within_or_slow d r t Mrsp a b e = elim (either _ (nat_le (v_bec_for d r t) (foot_speed_of t)) e) [ inl x ↦ inl x | inr x ↦ inr (leb-true _ _ x) ]
-within_or_slow d r t Loa a b e = elim (either _ (nat_le (v_bec_for d r t) (foot_speed_of t)) e) [ inl x ↦ inl x | inr x ↦ inr (leb-true _ _ x) ]
+    option_map_or (λ ebi. not (is_past 0 r.max ebi) || is_met_by_speed k (v_bec_for d (estimate_of r) t) (foot_speed_of t)) (limits_of_kind computed d (estimate_of r) t k).ebi true ≡ true →
+    (is_past 0 r.max (less (computed (slopes_of Safe d) t.place (foot_speed_of t) (v_bec_for d (estimate_of r) t)) (d_bec_for d (estimate_of r) t)) ≡ false) ⊎ (v_bec_for d (estimate_of r) t ≤ foot_speed_of t)
+within_or_slow d r t Mrsp a b e = elim (either _ (nat_le (v_bec_for d (estimate_of r) t) (foot_speed_of t)) e) [ inl x ↦ inl x | inr x ↦ inr (leb-true _ _ x) ]
+within_or_slow d r t Loa a b e = elim (either _ (nat_le (v_bec_for d (estimate_of r) t) (foot_speed_of t)) e) [ inl x ↦ inl x | inr x ↦ inr (leb-true _ _ x) ]
 within_or_slow d r t Eoa a b e = absurd (a refl)
 within_or_slow d r t Svl a b e = absurd (b refl)
 
-meets_of : (d : TrainAndTrack) → IsUsable (slopes_of Safe d) → (r : OdometerReading) (t : Target) → IsSpeedTarget t → is_covered_for d r t ≡ true → MeetsTarget d r t
+meets_of : (d : TrainAndTrack) → IsUsable (slopes_of Safe d) → (r : OdometerReading) (t : Target) → IsSpeedTarget t → is_covered_for d r.max (estimate_of r) t ≡ true → MeetsTarget d r t
 unfolding limits_of
 meets_of d usable r t is e s p v xs first more m =
     let K : Point → Type 0 = KeepsTo s t.place (foot_speed_of t) in
@@ -146,29 +146,29 @@ meets_of d usable r t is e s p v xs first more m =
       | inr x ↦ never_faster d usable r t s p v xs first more m x
     ])
 
-stops_of : (d : TrainAndTrack) → IsUsable (slopes_of Safe d) → (r : OdometerReading) (svl : ℕ) → is_covered_for d r (svl_at svl) ≡ true → StopsBySvl d r svl
+stops_of : (d : TrainAndTrack) → IsUsable (slopes_of Safe d) → (r : OdometerReading) (svl : ℕ) → is_covered_for d r.max (estimate_of r) (svl_at svl) ≡ true → StopsBySvl d r svl
 unfolding limits_of svl_at
 stops_of d usable r svl e s p v xs first more m =
     let t = svl_at svl in
-    let past = elim (either _ false e) as (λ _. is_past 0 r.max (less (computed (slopes_of Safe d) t.place 0 (v_bec_for d r t)) (d_bec_for d r t)) ≡ false) [ inl x ↦ x | inr x ↦ absurd (false≢true x) ] in
+    let past = elim (either _ false e) as (λ _. is_past 0 r.max (less (computed (slopes_of Safe d) t.place 0 (v_bec_for d (estimate_of r) t)) (d_bec_for d (estimate_of r) t)) ≡ false) [ inl x ↦ x | inr x ↦ absurd (false≢true x) ] in
     let H : Point → Type 0 = IsHeldByCurve (slopes_of Safe d) (s * s) t.place 0 in
     let rest = (all_split H (slice_ends p v xs) (first ∷ more) (held_by_curve d usable r t s p v xs first more m past)).1 in
     All-from_recursion (IsBy s t.place) (first ∷ more) (each H (IsBy s t.place) (λ y k. k.standing refl) (first ∷ more) rest)
 
 svl_covered : (d : TrainAndTrack) (r : OdometerReading) (profile : ℤ → ℕ) (a : Authority) (in_release_monitoring : Bool) (eoa svl release : ℕ) → a ≡ Stop eoa svl release → in_release_monitoring ≡ false →
-    list_all (is_covered_for d r) (targets_of profile a r.max in_release_monitoring) ≡ true → is_covered_for d r (svl_at svl) ≡ true
+    list_all (is_covered_for d r.max (estimate_of r)) (targets_of profile a r.max in_release_monitoring) ≡ true → is_covered_for d r.max (estimate_of r) (svl_at svl) ≡ true
 svl_covered d r profile a in_release_monitoring eoa svl release e f h =
-    all_svl (is_covered_for d r) profile r.max eoa svl release (subst (λ (b : Bool). list_all (is_covered_for d r) (targets_of profile (Stop eoa svl release) r.max b) ≡ true) f (subst (λ (x : Authority). list_all (is_covered_for d r) (targets_of profile x r.max in_release_monitoring) ≡ true) e h))
+    all_svl (is_covered_for d r.max (estimate_of r)) profile r.max eoa svl release (subst (λ (b : Bool). list_all (is_covered_for d r.max (estimate_of r)) (targets_of profile (Stop eoa svl release) r.max b) ≡ true) f (subst (λ (x : Authority). list_all (is_covered_for d r.max (estimate_of r)) (targets_of profile x r.max in_release_monitoring) ≡ true) e h))
 
 -- THE STOP
 pub covered_is_safe : (s : Supervision) (r : OdometerReading) → AreUsable s.train_and_track → IsTrue (row_of s r).covered → IsSafe s r
 unfolding row_in is_covered_in situation_of
 covered_is_safe s r usable covered =
     let now = situation_of s r in
-    let both = and_parts (not (is_some now.release)) (list_all (is_covered_for s.train_and_track r) now.targets) covered in
+    let both = and_parts (not (is_some now.release)) (list_all (is_covered_for s.train_and_track r.max (estimate_of r)) now.targets) covered in
     let free = not-true (is_some now.release) both.0 in
     record {
       stops = λ eoa svl release e. stops_of s.train_and_track (usable Safe) r svl (svl_covered s.train_and_track r (profile_of s) s.authority (is_some now.release) eoa svl release e free both.1);
       meets = λ t is speed. meets_of s.train_and_track (usable Safe) r t speed
-          (all_of (is_covered_for s.train_and_track r) now.targets t both.1 is);
+          (all_of (is_covered_for s.train_and_track r.max (estimate_of r)) now.targets t both.1 is);
     }

@@ -3,7 +3,7 @@ use Rattle.std.specs.Prelude.{◌≡◌, ◌<◌, ℕ, ℤ, Bool, false, IsTrue,
 use Rattle.sdm_num.specs.Units.{millimetre}
 use Rattle.sdm_num.specs.Fractions.{Fraction, IsAtMost, more}
 use Rattle.sdm_num.specs.Bounds.{IsEarlyFor}
-use Rattle.sdm_num.specs.Readings.{OdometerReading}
+use Rattle.sdm_num.specs.Readings.{OdometerReading, estimate_of}
 use Rattle.sdm_rules.specs.declared.authorities.Authority.{Authority}
 use Rattle.sdm_rules.specs.declared.data.SlopeKind.{SlopeKind}
 use Rattle.sdm_rules.specs.declared.faults.EventFault.{EventFault}
@@ -61,7 +61,7 @@ pub record AreLimitsJustBefore (low x : SupervisionLimits) : Type 0 where
 -- each computed limit, and the computed start of release speed monitoring, is at most the exact one and less than a millimetre before it
 -- (SUBSET-026-3 3.13.9.3, 3.13.9.4)
 pub record AreEarly (d : TrainAndTrack) (r : OdometerReading) : Type 0 where
-  pub limits : (t : Target) → AreLimitsJustBefore (limits_of computed d r t) (limits_of exact_places d r t)
+  pub limits : (t : Target) → AreLimitsJustBefore (limits_of computed d (estimate_of r) t) (limits_of exact_places d (estimate_of r) t)
   pub release_start : (eoa svl release : ℕ) →
       IsJustBefore (release_start computed d eoa svl release) (release_start exact_places d eoa svl release)
   pub fine : most_slack < millimetre

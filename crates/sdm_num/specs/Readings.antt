@@ -1,6 +1,6 @@
--- Odometer readings (SUBSET-026-3 3.6.4, 3.13.2.2; ranges own).
+-- Odometer readings and the estimates in them (SUBSET-026-3 3.6.4, 3.13.2.2; ranges own).
 use Rattle.std.specs.Prelude.{ℕ, ℤ, pos, negsuc, ◌≤◌, ◌≤ℤ◌}
-use Rattle.sdm_num.specs.Units.{place_of_mm, notches_of_mm_s}
+use Rattle.sdm_num.specs.Units.{place_of_mm, notches, notches_of_mm_s, top_kmh}
 
 -- an odometer reading: the train's front end lies between `min` and `max`, and most likely at `est` (SUBSET-026-3 3.6.4, 3.13.2.2)
 pub record OdometerReading : Type 0 where
@@ -23,6 +23,23 @@ pub record IsReading (r : OdometerReading) : Type 0 where
   pub slowing : negsuc 299 ≤ℤ r.accel
   pub gaining : r.accel ≤ℤ pos 300
   pub under : r.under ≤ notches_of_mm_s 10_000
+
+-- what is estimated of the train's motion, whatever its place (SUBSET-026-3 3.13.2.2)
+pub record Estimate : Type 0 where
+  pub speed : ℕ  -- V_est, notches
+  pub accel : ℤ  -- A_est, cm/s²
+  pub under : ℕ  -- how far the true speed may be above the estimated one, notches (3.13.9.3.2)
+
+-- the ranges that every estimate keeps: its speed may be one that no reading has (own)
+pub record IsEstimate (e : Estimate) : Type 0 where
+  pub speed : e.speed ≤ notches top_kmh
+  pub slowing : negsuc 299 ≤ℤ e.accel
+  pub gaining : e.accel ≤ℤ pos 300
+  pub under : e.under ≤ notches_of_mm_s 10_000
+
+-- the estimate of a reading (SUBSET-026-3 3.13.2.2)
+abbrev pub estimate_of : OdometerReading → Estimate
+estimate_of r = record { speed = r.speed; accel = r.accel; under = r.under }
 
 -- a reading as it is handed in: places in mm, speeds in mm/s (own)
 abbrev pub reading_of : ℕ → ℤ → ℤ → ℤ → ℕ → ℤ → ℕ → OdometerReading

@@ -18,6 +18,10 @@ place_of_mm mm = mm *ℤ pos millimetre
 abbrev pub notches : ℕ → ℕ
 notches kmh = 15_000 * kmh
 
+-- the greatest speed of a train, a target or a speed profile, in km/h
+abbrev pub top_kmh : ℕ
+top_kmh = 500
+
 -- a whole speed in mm/s, in notches
 abbrev pub notches_of_mm_s : ℕ → ℕ
 notches_of_mm_s v = 54 * v

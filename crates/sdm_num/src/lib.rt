@@ -11,7 +11,7 @@ pub mod speeds;
 pub use bounds::{Early, Late};
 pub use memory::NoMemory;
 pub use places::{CELL, MILLIMETRE, Place};
-pub use readings::Reading;
+pub use readings::{Estimate, Reading};
 pub use speeds::Speed;
 
 #[cfg(test)]

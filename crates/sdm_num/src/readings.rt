@@ -1,8 +1,8 @@
-//! Odometer readings.
+//! Odometer readings, and what is estimated of the train's motion in them.
 
 ghost use Rattle.std.specs.Prelude.{◌≡◌, ◌≤◌, ◌≤ℤ◌, ◌↔◌, IsTrue, pos, negsuc};
 ghost use Rattle.std.specs.Option.{SomeIff};
-ghost use Rattle.sdm_num.specs.Readings.{IsReading, OdometerReading, reading_of};
+ghost use Rattle.sdm_num.specs.Readings.{Estimate as EstimateOf, IsEstimate, IsReading, OdometerReading, estimate_of, reading_of};
 
 use crate::places::Place;
 use crate::speeds::Speed;
@@ -30,6 +30,49 @@ impl Model for Reading {
     ghost invariant = { λ r. IsReading (record { time = r.time; est = r.est; min = r.min; max = r.max; speed = r.speed; accel = r.accel; under = r.under }) };
 
     ghost inverse = { λ r. record { time = r.time; est = r.est; min = r.min; max = r.max; speed = r.speed; accel = r.accel; under = r.under } };
+}
+
+/// What is estimated of the train's motion: its speed, up to 500 km/h, the acceleration from −300 to 300 cm/s², and how far the true speed
+/// may be above the estimated one, up to 10,000 mm/s. The speed may be one that no reading has. (SUBSET-026-3 3.13.2.2; ranges own)
+#[derive(Clone, Copy, Debug, PartialEq, Eq)]
+pub struct Estimate {
+    speed: Speed,
+    accel: i16,
+    under: Speed,
+}
+
+impl Model for Estimate {
+    ghost Value = { EstimateOf };
+
+    ghost view = { λ e. record { speed = e.speed; accel = e.accel; under = e.under } };
+
+    ghost invariant = { λ e. IsEstimate (record { speed = e.speed; accel = e.accel; under = e.under }) };
+
+    ghost inverse = { λ e. record { speed = e.speed; accel = e.accel; under = e.under } };
+}
+
+impl Estimate {
+    /// The estimated speed.
+    pub fn speed(self) -> Speed
+        ensures value { result ≡ self.speed }
+        ensures range { IsEstimate self }
+    {
+        self.speed
+    }
+
+    /// The estimated acceleration, in cm/s².
+    pub fn accel(self) -> i16
+        ensures { result ≡ self.accel }
+    {
+        self.accel
+    }
+
+    /// How far the true speed may be above the estimated one.
+    pub fn under(self) -> Speed
+        ensures { result ≡ self.under }
+    {
+        self.under
+    }
 }
 
 // The front ends are in order and on the track or near it.
@@ -129,5 +172,16 @@ impl Reading {
         ensures { result ≡ self.under }
     {
         self.under
+    }
+
+    /// What is estimated of the train's motion.
+    pub fn estimate(self) -> Estimate
+        ensures { result ≡ estimate_of self }
+    {
+        Estimate {
+            speed: self.speed,
+            accel: self.accel,
+            under: self.under,
+        }
     }
 }

@@ -4,7 +4,7 @@ use Rattle.std.specs.Prelude.{ℕ, ℤ, pos, Option, Some, None, ◌+◌, if◌t
 use Rattle.std.specs.Option.{option_map_or}
 use Rattle.sdm_num.specs.Units.{notches, distance_at}
 use Rattle.sdm_num.specs.Fractions.{Fraction, less, lesser, whole}
-use Rattle.sdm_num.specs.Readings.{OdometerReading}
+use Rattle.sdm_num.specs.Readings.{Estimate}
 use Rattle.sdm_rules.specs.declared.data.Times.{Times}
 use Rattle.sdm_rules.specs.declared.data.SlopeKind.TheVariants.{Safe, Expected, Normal}
 use Rattle.sdm_rules.specs.declared.targets.TargetKind.{TargetKind}
@@ -58,37 +58,37 @@ abbrev pub sbd_limits_at : Times → ℕ → Option Fraction → Fraction → Su
 sbd_limits_at times v guide place = limits_from_sbi times v guide None (less place (distance_at v times.bs))
 
 -- V_bec for a target (SUBSET-026-3 3.13.9.3.2)
-abbrev pub v_bec_for : TrainAndTrack → OdometerReading → Target → ℕ
-v_bec_for d r t = v_bec (build_up_from d r) (target_speed t)
+abbrev pub v_bec_for : TrainAndTrack → Estimate → Target → ℕ
+v_bec_for d e t = v_bec (build_up_from d e) (target_speed t)
 
 -- D_bec for a target, in grains (SUBSET-026-3 3.13.9.3.2)
-abbrev pub d_bec_for : TrainAndTrack → OdometerReading → Target → ℕ
-d_bec_for d r t = d_bec (build_up_from d r) (target_speed t)
+abbrev pub d_bec_for : TrainAndTrack → Estimate → Target → ℕ
+d_bec_for d e t = d_bec (build_up_from d e) (target_speed t)
 
 -- the limits of a target with an EBD: its foot is at the target place with the foot speed (SUBSET-026-3 3.13.8.3, 3.13.9.3)
-abbrev pub ebd_limits_of : CurvePlaces → TrainAndTrack → OdometerReading → Target → Option Fraction → SupervisionLimits
-ebd_limits_of P d r t guide =
-    ebd_limits_at (reaction_times d) r.speed guide (d_bec_for d r t) (P (slopes_of Safe d) t.place (foot_speed_of t) (v_bec_for d r t))
+abbrev pub ebd_limits_of : CurvePlaces → TrainAndTrack → Estimate → Target → Option Fraction → SupervisionLimits
+ebd_limits_of P d e t guide =
+    ebd_limits_at (reaction_times d) e.speed guide (d_bec_for d e t) (P (slopes_of Safe d) t.place (foot_speed_of t) (v_bec_for d e t))
 
 -- the limits of the EOA, on the SBD: its foot is speed 0 at the EOA (SUBSET-026-3 3.13.8.4, 3.13.9.3)
-abbrev pub sbd_limits_of : CurvePlaces → TrainAndTrack → OdometerReading → Target → Option Fraction → SupervisionLimits
-sbd_limits_of P d r t guide = sbd_limits_at (reaction_times d) r.speed guide (P (slopes_of Expected d) t.place 0 r.speed)
+abbrev pub sbd_limits_of : CurvePlaces → TrainAndTrack → Estimate → Target → Option Fraction → SupervisionLimits
+sbd_limits_of P d e t guide = sbd_limits_at (reaction_times d) e.speed guide (P (slopes_of Expected d) t.place 0 e.speed)
 
 -- the guidance curve's place at V_est, where Q_NVGUIPERM permits guidance: its foot is at the target place with the target
 -- speed (SUBSET-026-3 3.13.8.5; own feet)
-abbrev pub guidance_place : CurvePlaces → TrainAndTrack → OdometerReading → Target → Option Fraction
-guidance_place P d r t = if d.national.guidance then Some (P (slopes_of Normal d) t.place (target_speed t) r.speed) else None
+abbrev pub guidance_place : CurvePlaces → TrainAndTrack → Estimate → Target → Option Fraction
+guidance_place P d e t = if d.national.guidance then Some (P (slopes_of Normal d) t.place (target_speed t) e.speed) else None
 
 -- the limits of a target by its kind; the SvL has no guidance curve of its own (own)
-abbrev pub limits_of_kind : CurvePlaces → TrainAndTrack → OdometerReading → Target → TargetKind → SupervisionLimits
-limits_of_kind P d r t Mrsp = ebd_limits_of P d r t (guidance_place P d r t)
-limits_of_kind P d r t Loa = ebd_limits_of P d r t (guidance_place P d r t)
-limits_of_kind P d r t Eoa = sbd_limits_of P d r t (guidance_place P d r t)
-limits_of_kind P d r t Svl = ebd_limits_of P d r t None
+abbrev pub limits_of_kind : CurvePlaces → TrainAndTrack → Estimate → Target → TargetKind → SupervisionLimits
+limits_of_kind P d e t Mrsp = ebd_limits_of P d e t (guidance_place P d e t)
+limits_of_kind P d e t Loa = ebd_limits_of P d e t (guidance_place P d e t)
+limits_of_kind P d e t Eoa = sbd_limits_of P d e t (guidance_place P d e t)
+limits_of_kind P d e t Svl = ebd_limits_of P d e t None
 
--- the limits of a target at a reading (SUBSET-026-3 3.13.9.3)
-unfoldable pub limits_of : CurvePlaces → TrainAndTrack → OdometerReading → Target → SupervisionLimits
-limits_of P d r t = limits_of_kind P d r t t.kind
+-- the limits of a target by an estimate (SUBSET-026-3 3.13.9.3)
+unfoldable pub limits_of : CurvePlaces → TrainAndTrack → Estimate → Target → SupervisionLimits
+limits_of P d e t = limits_of_kind P d e t t.kind
 
 -- where release speed monitoring starts, with the places of the EBD and the SBD at the release speed V_rel (notches): the
 -- earlier of d_SBD(V_rel) - V_rel * T_bs and d_EBD(V_rel) - V_rel * (T_traction + T_berem + T_bs)

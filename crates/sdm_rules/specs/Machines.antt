@@ -3,7 +3,7 @@
 -- All take the type of speed and distance monitoring from the row machine, and each holds its own command.
 use Rattle.std.specs.Prelude.{◌≡◌, ℕ, Bool, IsTrue, ◌==◌}
 use Rattle.sdm_num.specs.Units.{millimetre}
-use Rattle.sdm_num.specs.Readings.{OdometerReading}
+use Rattle.sdm_num.specs.Readings.{OdometerReading, estimate_of}
 use Rattle.sdm_rules.specs.declared.commands.State.TheVariants.{R}
 use Rattle.sdm_rules.specs.Limits.{CurvePlaces, limits_of, release_start, exact_places}
 use Rattle.sdm_rules.specs.Triggers.{is_past, triggers_of}
@@ -14,7 +14,7 @@ use Rattle.sdm_rules.specs.Supervision.{Supervision, situation_of, commands_in, 
 -- limit so many grains earlier
 unfoldable pub machine_after : CurvePlaces → ℕ → Supervision → OdometerReading → Bool → Bool
 machine_after P shift s r held =
-    emergency_after held (triggers_of (limits_of P s.train_and_track r) shift (situation_of s r))
+    emergency_after held (triggers_of (limits_of P s.train_and_track (estimate_of r)) shift (situation_of s r))
     (r.speed == 0) s.train_and_track.national.early_release
 
 -- the exact machine: where it commands the emergency brake, the supervisor must

@@ -1,7 +1,7 @@
 -- What is promised of a row beside its order and its safety (own).
 use Rattle.std.specs.Prelude.{◌≡◌, ℕ, false, Contains, ◌<◌, ◌≤◌, ◌+◌}
 use Rattle.sdm_num.specs.Units.{notches}
-use Rattle.sdm_num.specs.Readings.{OdometerReading}
+use Rattle.sdm_num.specs.Readings.{OdometerReading, estimate_of}
 use Rattle.sdm_rules.specs.declared.authorities.Authority.TheVariants.{Stop}
 use Rattle.sdm_rules.specs.declared.rows.Row.{Row}
 use Rattle.sdm_rules.specs.declared.targets.Target.{Target}
@@ -12,7 +12,7 @@ use Rattle.sdm_rules.specs.Supervision.{Supervision, situation_of, is_covered_fo
 
 -- of a moving train each target that is not covered is a gap: a target of speed whose foot speed V_est does not pass and V_bec does
 abbrev pub HasOnlyGaps : Supervision → OdometerReading → Type 0
-HasOnlyGaps s r = 0 < r.speed → (t : Target) → Contains (situation_of s r).targets t → is_covered_for s.train_and_track r t ≡ false →
+HasOnlyGaps s r = 0 < r.speed → (t : Target) → Contains (situation_of s r).targets t → is_covered_for s.train_and_track r.max (estimate_of r) t ≡ false →
     IsUncoveredSpeedTarget s r t
 
 -- the speed is at most the ceiling of the row with its EBI margin, in notches (SUBSET-026-3 3.13.10.3; own)

@@ -1,6 +1,7 @@
 -- Which data are accepted, and the first rule that others break: a number outside its range, too many or too few entries,
 -- entries out of order (ranges own). Keys have the numbers of docs/FORMATS.md; indices count from 1.
 use Rattle.std.specs.Prelude.{ℕ, suc, ℤ, pos, neg_ℤ, Bool, true, ◌&&◌, List, [], ◌∷◌, Option, Some, None, ◌-ℤ◌, ◌+ℤ◌, ◌/◌, ◌%◌, ◌==◌, int_le, int_lt, nat_lt, nat_le, length, unsigned_abs, if◌then◌else◌}
+pub use Rattle.sdm_num.specs.Units.{top_kmh}
 use Rattle.sdm_rules.specs.declared.data.Band.{Band}
 use Rattle.sdm_rules.specs.declared.data.Gradient.{Gradient}
 use Rattle.sdm_rules.specs.declared.data.SpeedStep.{SpeedStep}
@@ -18,10 +19,6 @@ use Rattle.sdm_rules.specs.Slopes.{most_bands}
 use Rattle.sdm_rules.specs.Data.{TrainData, TrackData, gradient_unit}
 
 -- ---- the greatest numbers
-
--- the greatest speed of a train, a target or a speed profile, in km/h (own)
-abbrev pub top_kmh : ℕ
-top_kmh = 500
 
 -- the longest track, in cm (own)
 abbrev pub longest_track : ℕ

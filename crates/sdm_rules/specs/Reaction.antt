@@ -1,7 +1,7 @@
 -- The times of reaction, and what the train may do until its emergency brake works (SUBSET-026-3 3.13.9.3). Times are in
 -- ds, speeds in notches, accelerations in cm/s²; 1 cm/s² gains 54 notches in a ds.
 use Rattle.std.specs.Prelude.{ℕ, ℤ, pos, negsuc, Bool, ◌&&◌, ◌+◌, ◌-◌, ◌*◌, ◌/◌, min, max, unsigned_abs, if◌then◌else◌}
-use Rattle.sdm_num.specs.Readings.{OdometerReading}
+use Rattle.sdm_num.specs.Readings.{Estimate, OdometerReading, estimate_of}
 use Rattle.sdm_rules.specs.declared.data.Times.{Times}
 use Rattle.sdm_rules.specs.declared.motions.Start.{Start}
 use Rattle.sdm_rules.specs.Data.{TrainAndTrack}
@@ -78,9 +78,9 @@ d_bec b target =
 abbrev pub build_up_of : Start → BuildUp
 build_up_of start = record { speed = start.speed; accel1 = start.accel1; accel2 = start.accel2; traction = start.traction; berem = start.berem }
 
--- ---- from a reading
+-- ---- from an estimate
 
--- A_est1: the reading's acceleration, 0 if it is negative (SUBSET-026-3 3.13.9.3.2)
+-- A_est1: the estimated acceleration, 0 if it is negative (SUBSET-026-3 3.13.9.3.2)
 abbrev pub a_est1 : ℤ → ℕ
 a_est1 (pos a) = a
 a_est1 (negsuc a) = 0
@@ -93,21 +93,21 @@ a_est2 a = min (a_est1 a) 40
 abbrev pub v_delta0 : TrainAndTrack → ℕ → ℕ
 v_delta0 d under = if d.national.inhibit_under_reading then 0 else under
 
--- the greatest true speed at a reading, V_est + V_delta0, in notches (SUBSET-026-3 3.13.9.3.2)
-abbrev pub v_est_delta0 : TrainAndTrack → OdometerReading → ℕ
-v_est_delta0 d r = r.speed + v_delta0 d r.under
+-- the greatest true speed by an estimate, V_est + V_delta0, in notches (SUBSET-026-3 3.13.9.3.2)
+abbrev pub v_est_delta0 : TrainAndTrack → Estimate → ℕ
+v_est_delta0 d e = e.speed + v_delta0 d e.under
 
 -- the train from the moment on that the emergency brake is commanded, by its times of reaction, its speed V_est + V_delta0 and its
 -- acceleration (SUBSET-026-3 3.13.9.3.2)
 abbrev pub build_up : Times → ℕ → ℤ → BuildUp
 build_up times v0 accel = record { speed = v0; accel1 = a_est1 accel; accel2 = a_est2 accel; traction = times.traction; berem = times.berem }
 
--- the train at a reading, from the moment on that the emergency brake is commanded (SUBSET-026-3 3.13.9.3.2)
-abbrev pub build_up_from : TrainAndTrack → OdometerReading → BuildUp
-build_up_from d r = build_up (reaction_times d) (v_est_delta0 d r) r.accel
+-- the train of an estimate, from the moment on that the emergency brake is commanded (SUBSET-026-3 3.13.9.3.2)
+abbrev pub build_up_from : TrainAndTrack → Estimate → BuildUp
+build_up_from d e = build_up (reaction_times d) (v_est_delta0 d e) e.accel
 
 -- the start of motions from a reading: the true front end and speed are at most these (own)
 abbrev pub reaction_start : TrainAndTrack → OdometerReading → Start
 reaction_start d r =
-    let b = build_up_from d r in
+    let b = build_up_from d (estimate_of r) in
     record { front = r.max; speed = b.speed; accel1 = b.accel1; accel2 = b.accel2; traction = b.traction; berem = b.berem }

@@ -1,6 +1,6 @@
 -- What a covered row promises of every motion from its reading, and why a row is not covered (own).
 use Rattle.std.specs.Prelude.{◌≡◌, ℕ, ℤ, pos, List, ◌∷◌, ◌++◌, ◌<◌, ◌≤◌, ◌≢◌, All, Contains}
-use Rattle.sdm_num.specs.Readings.{OdometerReading}
+use Rattle.sdm_num.specs.Readings.{OdometerReading, estimate_of}
 use Rattle.sdm_rules.specs.declared.motions.Slice.{Slice}
 use Rattle.sdm_rules.specs.declared.motions.Point.{Point}
 use Rattle.sdm_rules.specs.declared.motions.Start.{Start}
@@ -57,4 +57,4 @@ pub record IsSafe (s : Supervision) (r : OdometerReading) : Type 0 where
 pub record IsUncoveredSpeedTarget (s : Supervision) (r : OdometerReading) (t : Target) : Type 0 where
   pub is_speed : IsSpeedTarget t
   pub slow : r.speed ≤ foot_speed_of t
-  pub may_gain : foot_speed_of t < v_bec_for s.train_and_track r t
+  pub may_gain : foot_speed_of t < v_bec_for s.train_and_track (estimate_of r) t

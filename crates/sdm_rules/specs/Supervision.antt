@@ -18,7 +18,7 @@ use Rattle.sdm_rules.specs.declared.commands.State.TheVariants.{C, T, R}
 use Rattle.sdm_rules.specs.declared.commands.Held.{Held}
 use Rattle.sdm_rules.specs.declared.rows.Row.{Row}
 use Rattle.sdm_rules.specs.Cells.{place_of_cell}
-use Rattle.sdm_num.specs.Readings.{OdometerReading}
+use Rattle.sdm_num.specs.Readings.{Estimate, OdometerReading, estimate_of}
 use Rattle.sdm_rules.specs.Data.{TrainAndTrack}
 use Rattle.sdm_rules.specs.Profile.{mrsp, lowest_between}
 use Rattle.sdm_rules.specs.Targets.{targets_of, target_speed, foot_speed_of}
@@ -73,12 +73,12 @@ situation_of s r =
 
 -- the type of speed and distance monitoring; release speed monitoring is decided first (SUBSET-026-3 3.13.10.6; own)
 unfoldable pub state_in : TrainAndTrack → OdometerReading → Situation → State
-state_in d r now = if is_some now.release then R else if is_indicated (limits_of computed d r) now then T else C
+state_in d r now = if is_some now.release then R else if is_indicated (limits_of computed d (estimate_of r)) now then T else C
 
 -- the commands after a reading, from the commands that are held, by the computed limits (SUBSET-026-3 3.13.10)
 unfoldable pub commands_in : TrainAndTrack → Held → OdometerReading → Situation → Held
 commands_in d held r now =
-    commands_after held (triggers_of (limits_of computed d r) 0 now) (state_in d r now) (r.speed == 0) d.national.early_release now.in_use
+    commands_after held (triggers_of (limits_of computed d (estimate_of r)) 0 now) (state_in d r now) (r.speed == 0) d.national.early_release now.in_use
 
 -- ---- the row
 
@@ -102,20 +102,21 @@ is_met_by_speed Loa bec foot = nat_le bec foot
 is_met_by_speed Eoa bec foot = false
 is_met_by_speed Svl bec foot = false
 
--- the max safe front end is at or before the target's computed EBI, or the target is met by speed (own)
-abbrev pub is_covered_for : TrainAndTrack → OdometerReading → Target → Bool
-is_covered_for d r t = option_map_or (λ ebi. not (is_past 0 r.max ebi) || is_met_by_speed t.kind (v_bec_for d r t) (foot_speed_of t)) (limits_of computed d r t).ebi true
+-- the front end is at or before the target's computed EBI, or the target is met by speed (own)
+abbrev pub is_covered_for : TrainAndTrack → ℤ → Estimate → Target → Bool
+is_covered_for d front e t =
+    option_map_or (λ ebi. not (is_past 0 front ebi) || is_met_by_speed t.kind (v_bec_for d e t) (foot_speed_of t)) (limits_of computed d e t).ebi true
 
 -- covered: the state isn't R, and each target with an EBI has the max safe front end at or before its computed EBI, or V_bec at most
 -- its foot speed. Then `IsSafe` is promised, of every motion that brakes from T_traction + T_berem after the reading on; else no
 -- stop is promised (own)
 unfoldable pub is_covered_in : TrainAndTrack → OdometerReading → Situation → Bool
-is_covered_in d r now = not (is_some now.release) && list_all (is_covered_for d r) now.targets
+is_covered_in d r now = not (is_some now.release) && list_all (is_covered_for d r.max (estimate_of r)) now.targets
 
 -- the row of a reading in a situation (own)
 unfoldable pub row_in : TrainAndTrack → Held → OdometerReading → Situation → Row
 row_in d held r now =
-    let limits = limits_of computed d r in
+    let limits = limits_of computed d (estimate_of r) in
     record {
       time = r.time;
       state = state_in d r now;

@@ -8,7 +8,7 @@ use Rattle.std.specs.Option.{option_map_or}
 use Rattle.std.proofs.lemmas.Int.{ints, clamps, by_lt_z}
 use Rattle.sdm_num.specs.Bounds.{mm_below}
 use Rattle.sdm_num.specs.Fractions.{Fraction, floor}
-use Rattle.sdm_num.specs.Readings.{OdometerReading}
+use Rattle.sdm_num.specs.Readings.{OdometerReading, estimate_of}
 use Rattle.sdm_rules.specs.declared.commands.Held.{Held}
 use Rattle.sdm_rules.specs.declared.targets.Target.{Target}
 use Rattle.sdm_rules.specs.declared.targets.TargetKind.{TargetKind}
@@ -144,34 +144,34 @@ module _ (s : Supervision) (r : OdometerReading) where
     unfolding situation_of
     release_is = λ k. option_map_or (λ kmh. nat_lt (notches kmh) (is.speed k)) (is.release k) false
 
-    over_is : found.verdict.over ≡ some_passed (situation_of s r) 0 no_margin (λ t. (limits_of computed s.train_and_track r t).permitted)
+    over_is : found.verdict.over ≡ some_passed (situation_of s r) 0 no_margin (λ t. (limits_of computed s.train_and_track (estimate_of r) t).permitted)
     unfolding verdict_of
-    over_is = (λ k. (is.verdict k).over) ∙ any_is no_margin (λ t. (limits_of computed s.train_and_track r t).permitted)
+    over_is = (λ k. (is.verdict k).over) ∙ any_is no_margin (λ t. (limits_of computed s.train_and_track (estimate_of r) t).permitted)
         (situation_of s r).targets
 
-    warn_is : found.verdict.warn ≡ some_passed (situation_of s r) 0 warning_margin (λ t. (limits_of computed s.train_and_track r t).warning)
+    warn_is : found.verdict.warn ≡ some_passed (situation_of s r) 0 warning_margin (λ t. (limits_of computed s.train_and_track (estimate_of r) t).warning)
     unfolding verdict_of
-    warn_is = (λ k. (is.verdict k).warn) ∙ any_is warning_margin (λ t. (limits_of computed s.train_and_track r t).warning)
+    warn_is = (λ k. (is.verdict k).warn) ∙ any_is warning_margin (λ t. (limits_of computed s.train_and_track (estimate_of r) t).warning)
         (situation_of s r).targets
 
-    serv_is : found.verdict.serv ≡ some_passed (situation_of s r) 0 sbi_margin (λ t. (limits_of computed s.train_and_track r t).sbi)
+    serv_is : found.verdict.serv ≡ some_passed (situation_of s r) 0 sbi_margin (λ t. (limits_of computed s.train_and_track (estimate_of r) t).sbi)
     unfolding verdict_of
-    serv_is = (λ k. (is.verdict k).serv) ∙ any_is sbi_margin (λ t. (limits_of computed s.train_and_track r t).sbi)
+    serv_is = (λ k. (is.verdict k).serv) ∙ any_is sbi_margin (λ t. (limits_of computed s.train_and_track (estimate_of r) t).sbi)
         (situation_of s r).targets
 
-    emer_is : found.verdict.emer ≡ some_ebi_passed (situation_of s r) 0 (λ t. (limits_of computed s.train_and_track r t).ebi)
+    emer_is : found.verdict.emer ≡ some_ebi_passed (situation_of s r) 0 (λ t. (limits_of computed s.train_and_track (estimate_of r) t).ebi)
     unfolding verdict_of
-    emer_is = (λ k. (is.verdict k).emer) ∙ any_ebi_is (λ t. (limits_of computed s.train_and_track r t).ebi) (situation_of s r).targets
+    emer_is = (λ k. (is.verdict k).emer) ∙ any_ebi_is (λ t. (limits_of computed s.train_and_track (estimate_of r) t).ebi) (situation_of s r).targets
 
-    indicated_is : found.verdict.indicated ≡ is_indicated (limits_of computed s.train_and_track r) (situation_of s r)
+    indicated_is : found.verdict.indicated ≡ is_indicated (limits_of computed s.train_and_track (estimate_of r)) (situation_of s r)
     unfolding verdict_of
-    indicated_is = (λ k. (is.verdict k).indicated) ∙ any_is no_margin (λ t. (limits_of computed s.train_and_track r t).indication) (situation_of s r).targets
+    indicated_is = (λ k. (is.verdict k).indicated) ∙ any_is no_margin (λ t. (limits_of computed s.train_and_track (estimate_of r) t).indication) (situation_of s r).targets
 
-    service_is : is_service_found found ≡ is_service (limits_of computed s.train_and_track r) 0 (situation_of s r)
+    service_is : is_service_found found ≡ is_service (limits_of computed s.train_and_track (estimate_of r)) 0 (situation_of s r)
     service_is = λ k. above_is sbi_margin k || serv_is k
 
     -- the triggers are those of the definitions
-    pub triggers_are : triggers_found found ≡ triggers_of (limits_of computed s.train_and_track r) 0 (situation_of s r)
+    pub triggers_are : triggers_found found ≡ triggers_of (limits_of computed s.train_and_track (estimate_of r)) 0 (situation_of s r)
     unfolding triggers_found triggers_of
     triggers_are = λ k. record {
       over = above_is no_margin k || over_is k || release_is k;
@@ -193,13 +193,13 @@ module _ (s : Supervision) (r : OdometerReading) where
         (is.in_use k)
 
     shown_limit_is : (shown : Option Nearest → Option ℤ) (limit : SupervisionLimits → Option Fraction) → IsShownOf shown limit →
-        shown found.verdict.nearest ≡ shown_limit (situation_of s r) (λ t. limit (limits_of computed s.train_and_track r t))
+        shown found.verdict.nearest ≡ shown_limit (situation_of s r) (λ t. limit (limits_of computed s.train_and_track (estimate_of r) t))
     unfolding situation_of verdict_of
-    shown_limit_is shown limit is_shown = ap shown (λ k. (is.verdict k).nearest) ∙ shown_is shown limit is_shown r (limits_of computed s.train_and_track r) _
+    shown_limit_is shown limit is_shown = ap shown (λ k. (is.verdict k).nearest) ∙ shown_is shown limit is_shown r (limits_of computed s.train_and_track (estimate_of r)) _
 
     place_is : (place : Nearest → ℤ) (limit : SupervisionLimits → Fraction) → ((a b : Nearest) → place (nearer_limits a b) ≡ int_min (place a) (place b)) →
         ((l : SupervisionLimits) → place (nearest_at l) ≡ floor (limit l)) →
-        option_map (λ n. mm_below (place n)) found.verdict.nearest ≡ shown_limit (situation_of s r) (λ t. Some (limit (limits_of computed s.train_and_track r t)))
+        option_map (λ n. mm_below (place n)) found.verdict.nearest ≡ shown_limit (situation_of s r) (λ t. Some (limit (limits_of computed s.train_and_track (estimate_of r) t)))
     place_is place limit lesser at = shown_limit_is (λ n. option_map (λ m. mm_below (place m)) n) (λ l. Some (limit l)) (place_shown place limit lesser at)
 
     -- so is the row

@@ -6,7 +6,7 @@ use Rattle.std.proofs.lemmas.Bool.{le-leb, le-ltb, lt-leb}
 use Rattle.std.proofs.Math.Bool.{and-false, and-true, or-false}
 use Rattle.sdm_num.specs.Fractions.{Fraction}
 use Rattle.sdm_num.specs.Units.{notches}
-use Rattle.sdm_num.specs.Readings.{OdometerReading}
+use Rattle.sdm_num.specs.Readings.{OdometerReading, estimate_of}
 use Rattle.sdm_rules.specs.declared.targets.Target.{Target}
 use Rattle.sdm_rules.specs.declared.targets.TargetKind.{TargetKind}
 use Rattle.sdm_rules.specs.declared.targets.TargetKind.TheVariants.{Mrsp, Loa, Eoa, Svl}
@@ -54,7 +54,7 @@ nearer_unless (Some x) b none = rw none refl
 
 -- whatever its limits, a target above the train's speed says only whether it is covered
 pub says_if_covered : (d : TrainAndTrack) (r : OdometerReading) (l : SupervisionLimits) (t : Target) (said : Verdict) → r.speed < target_speed t →
-    both said (verdict_at d r l t) ≡ record said { covered = said.covered && is_covered_for d r t }
+    both said (verdict_at d r l t) ≡ record said { covered = said.covered && is_covered_for d r.max (estimate_of r) t }
 unfolding verdict_at
 says_if_covered d r l t said slower = λ k. record {
   over = or_unless said.over _ (not_passed r no_margin t l.permitted slower) k;
@@ -62,7 +62,7 @@ says_if_covered d r l t said slower = λ k. record {
   serv = or_unless said.serv _ (not_passed r sbi_margin t l.sbi slower) k;
   emer = or_unless said.emer _ (ebi_not_passed r t l.ebi slower) k;
   indicated = or_unless said.indicated _ (not_passed r no_margin t l.indication slower) k;
-  covered = said.covered && is_covered_for d r t;
+  covered = said.covered && is_covered_for d r.max (estimate_of r) t;
   nearest = nearer_unless said.nearest _ (not_counted r t l slower) k;
 }
 
@@ -77,8 +77,8 @@ ebi_not_passed_yet r t None ahead = refl
 ebi_not_passed_yet r t (Some ebi) ahead = not_passed_yet r ebi_margin t ebi ahead
 
 -- a target whose EBI is not passed is covered; the EOA has none
-covered_yet : (d : TrainAndTrack) (r : OdometerReading) (t : Target) (kind : TargetKind) (met : Bool) → IsPastNone (front_of r kind) (limits_of_kind computed d r t kind) →
-    option_map_or (λ ebi. not (is_past 0 r.max ebi) || met) (limits_of_kind computed d r t kind).ebi true ≡ true
+covered_yet : (d : TrainAndTrack) (r : OdometerReading) (t : Target) (kind : TargetKind) (met : Bool) → IsPastNone (front_of r kind) (limits_of_kind computed d (estimate_of r) t kind) →
+    option_map_or (λ ebi. not (is_past 0 r.max ebi) || met) (limits_of_kind computed d (estimate_of r) t kind).ebi true ≡ true
 covered_yet d r t Mrsp met none = rw none.ebi refl
 covered_yet d r t Loa met none = rw none.ebi refl
 covered_yet d r t Eoa met none = refl
@@ -98,11 +98,11 @@ unfolding verdict_at
 says_all d r l t said reached = λ k. record (both said (verdict_at d r l t)) { nearest = nearer_where said.nearest (all_counted r t l reached k) }
 
 -- up to its indication limit, a target that is not above the train's speed says only where its limits lie
-pub says_where : (d : TrainAndTrack) (r : OdometerReading) (t : Target) (said : Verdict) → target_speed t ≤ r.speed → is_past 0 (front_of r t.kind) (limits_of computed d r t).indication ≡ false →
-    both said (verdict_at d r (limits_of computed d r t) t) ≡ record said { nearest = nearer_where said.nearest (Some (nearest_at (limits_of computed d r t))) }
+pub says_where : (d : TrainAndTrack) (r : OdometerReading) (t : Target) (said : Verdict) → target_speed t ≤ r.speed → is_past 0 (front_of r t.kind) (limits_of computed d (estimate_of r) t).indication ≡ false →
+    both said (verdict_at d r (limits_of computed d (estimate_of r) t) t) ≡ record said { nearest = nearer_where said.nearest (Some (nearest_at (limits_of computed d (estimate_of r) t))) }
 unfolding verdict_at limits_of
 says_where d r t said reached ahead =
-    let l = limits_of computed d r t in
+    let l = limits_of computed d (estimate_of r) t in
     let none = past_none d r t (front_of r t.kind) ahead in
     λ k. record {
       over = or_unless said.over _ (not_passed_yet r no_margin t l.permitted none.permitted) k;
@@ -110,6 +110,6 @@ says_where d r t said reached ahead =
       serv = or_unless said.serv _ (not_passed_yet r sbi_margin t l.sbi none.sbi) k;
       emer = or_unless said.emer _ (ebi_not_passed_yet r t l.ebi none.ebi) k;
       indicated = or_unless said.indicated _ (not_passed_yet r no_margin t l.indication ahead) k;
-      covered = and_where said.covered _ (covered_yet d r t t.kind (is_met_by_speed t.kind (v_bec_for d r t) (foot_speed_of t)) none) k;
+      covered = and_where said.covered _ (covered_yet d r t t.kind (is_met_by_speed t.kind (v_bec_for d (estimate_of r) t) (foot_speed_of t)) none) k;
       nearest = nearer_where said.nearest (all_counted r t l reached k);
     }

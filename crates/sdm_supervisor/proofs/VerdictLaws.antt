@@ -5,7 +5,7 @@ use Rattle.std.specs.Int.{int_min}
 use Rattle.std.proofs.lemmas.Int.{ints, clamps}
 use Rattle.std.proofs.lemmas.List.{map-append, take_more}
 use Rattle.std.proofs.Math.Bool.{and-true, and_assoc, or-false, or_assoc}
-use Rattle.sdm_num.specs.Readings.{OdometerReading}
+use Rattle.sdm_num.specs.Readings.{OdometerReading, estimate_of}
 use Rattle.sdm_rules.specs.declared.targets.Target.{Target}
 use Rattle.sdm_rules.specs.Data.{TrainAndTrack}
 use Rattle.sdm_rules.specs.Limits.{computed, limits_of}
@@ -71,33 +71,33 @@ both_none d r a = λ k. record {
   nearest = where_none a.nearest k;
 }
 
-first_of : (d : TrainAndTrack) (r : OdometerReading) (t : Target) (ts : List Target) → verdict_of d r (t ∷ ts) ≡ both (verdict_at d r (limits_of computed d r t) t) (verdict_of d r ts)
+first_of : (d : TrainAndTrack) (r : OdometerReading) (t : Target) (ts : List Target) → verdict_of d r (t ∷ ts) ≡ both (verdict_at d r (limits_of computed d (estimate_of r) t) t) (verdict_of d r ts)
 unfolding verdict_of verdict_at
 first_of d r t ts = refl
 
 -- what a target behind the others says is added to what they said
-pub said_push : (d : TrainAndTrack) (r : OdometerReading) (ts : List Target) (t : Target) → verdict_of d r (ts ++ t ∷ []) ≡ both (verdict_of d r ts) (verdict_at d r (limits_of computed d r t) t)
+pub said_push : (d : TrainAndTrack) (r : OdometerReading) (ts : List Target) (t : Target) → verdict_of d r (ts ++ t ∷ []) ≡ both (verdict_of d r ts) (verdict_at d r (limits_of computed d (estimate_of r) t) t)
 unfolding verdict_of verdict_at
-said_push d r [] t = first_of d r t [] ∙ both_none d r (verdict_at d r (limits_of computed d r t) t)
+said_push d r [] t = first_of d r t [] ∙ both_none d r (verdict_at d r (limits_of computed d (estimate_of r) t) t)
 said_push d r (x ∷ ts) t =
-    first_of d r x (ts ++ t ∷ []) ∙ ap (both (verdict_at d r (limits_of computed d r x) x)) (said_push d r ts t)
-    ∙ sym (both_assoc (verdict_at d r (limits_of computed d r x) x) (verdict_of d r ts) (verdict_at d r (limits_of computed d r t) t))
-    ∙ ap (λ v. both v (verdict_at d r (limits_of computed d r t) t)) (sym (first_of d r x ts))
+    first_of d r x (ts ++ t ∷ []) ∙ ap (both (verdict_at d r (limits_of computed d (estimate_of r) x) x)) (said_push d r ts t)
+    ∙ sym (both_assoc (verdict_at d r (limits_of computed d (estimate_of r) x) x) (verdict_of d r ts) (verdict_at d r (limits_of computed d (estimate_of r) t) t))
+    ∙ ap (λ v. both v (verdict_at d r (limits_of computed d (estimate_of r) t) t)) (sym (first_of d r x ts))
 
 -- and of a kept fall likewise: the falls up to the place `i`, and the one there
 pub said_more : (d : TrainAndTrack) (r : OdometerReading) (ks : List KeptFall) (i : ℕ) (k : KeptFall) (a next : Verdict) → i < length ks → k ≡ get_or ks i k → a ≡ verdict_of d r (map target_of (take i ks)) →
-    next ≡ both a (verdict_at d r (limits_of computed d r k.kept.value.target) k.kept.value.target) → next ≡ verdict_of d r (map target_of (take (i + 1) ks))
+    next ≡ both a (verdict_at d r (limits_of computed d (estimate_of r) k.kept.value.target) k.kept.value.target) → next ≡ verdict_of d r (map target_of (take (i + 1) ks))
 said_more d r ks i k a next known here so_far next_is =
-    next_is ∙ ap (λ v. both v (verdict_at d r (limits_of computed d r k.kept.value.target) k.kept.value.target)) so_far
+    next_is ∙ ap (λ v. both v (verdict_at d r (limits_of computed d (estimate_of r) k.kept.value.target) k.kept.value.target)) so_far
     ∙ sym (said_push d r (map target_of (take i ks)) (target_of k))
     ∙ ap (verdict_of d r) (sym (map-append target_of (take i ks) (k ∷ [])) ∙ ap (map target_of) (ap (λ (x : KeptFall). take i ks ++ x ∷ []) here ∙ sym (take_more ks i k known)))
 
 -- two more targets
-pub said_two : (d : TrainAndTrack) (r : OdometerReading) (ts : List Target) (t u : Target) (a v w : Verdict) → a ≡ verdict_of d r ts → v ≡ both a (verdict_at d r (limits_of computed d r t) t) → w ≡ both v (verdict_at d r (limits_of computed d r u) u) → w ≡ verdict_of d r (ts ++ t ∷ u ∷ [])
+pub said_two : (d : TrainAndTrack) (r : OdometerReading) (ts : List Target) (t u : Target) (a v w : Verdict) → a ≡ verdict_of d r ts → v ≡ both a (verdict_at d r (limits_of computed d (estimate_of r) t) t) → w ≡ both v (verdict_at d r (limits_of computed d (estimate_of r) u) u) → w ≡ verdict_of d r (ts ++ t ∷ u ∷ [])
 said_two d r ts t u a v w a_is v_is w_is =
-    w_is ∙ ap (λ x. both x (verdict_at d r (limits_of computed d r u) u)) (v_is ∙ ap (λ x. both x (verdict_at d r (limits_of computed d r t) t)) a_is ∙ sym (said_push d r ts t))
+    w_is ∙ ap (λ x. both x (verdict_at d r (limits_of computed d (estimate_of r) u) u)) (v_is ∙ ap (λ x. both x (verdict_at d r (limits_of computed d (estimate_of r) t) t)) a_is ∙ sym (said_push d r ts t))
     ∙ sym (said_push d r (ts ++ t ∷ []) u) ∙ ap (verdict_of d r) (append_assoc ts (t ∷ []) (u ∷ []))
 
 -- one more
-pub said_one : (d : TrainAndTrack) (r : OdometerReading) (ts : List Target) (t : Target) (a v : Verdict) → a ≡ verdict_of d r ts → v ≡ both a (verdict_at d r (limits_of computed d r t) t) → v ≡ verdict_of d r (ts ++ t ∷ [])
-said_one d r ts t a v a_is v_is = v_is ∙ ap (λ x. both x (verdict_at d r (limits_of computed d r t) t)) a_is ∙ sym (said_push d r ts t)
+pub said_one : (d : TrainAndTrack) (r : OdometerReading) (ts : List Target) (t : Target) (a v : Verdict) → a ≡ verdict_of d r ts → v ≡ both a (verdict_at d r (limits_of computed d (estimate_of r) t) t) → v ≡ verdict_of d r (ts ++ t ∷ [])
+said_one d r ts t a v a_is v_is = v_is ∙ ap (λ x. both x (verdict_at d r (limits_of computed d (estimate_of r) t) t)) a_is ∙ sym (said_push d r ts t)

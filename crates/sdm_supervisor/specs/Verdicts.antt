@@ -5,7 +5,7 @@ use Rattle.std.specs.Int.{int_min}
 use Rattle.std.specs.List.{list_all, list_any}
 use Rattle.std.specs.Option.{option_map_or}
 use Rattle.sdm_num.specs.Fractions.{Fraction, floor}
-use Rattle.sdm_num.specs.Readings.{OdometerReading}
+use Rattle.sdm_num.specs.Readings.{OdometerReading, estimate_of}
 use Rattle.sdm_rules.specs.declared.targets.TargetKind.{TargetKind}
 use Rattle.sdm_rules.specs.declared.targets.TargetKind.TheVariants.{Mrsp, Loa, Eoa, Svl}
 use Rattle.sdm_rules.specs.declared.targets.Target.{Target}
@@ -82,21 +82,21 @@ verdict_at d r l t = record {
   serv = passes_at r sbi_margin t l.sbi;
   emer = passes_ebi_at r t l.ebi;
   indicated = passes_at r no_margin t l.indication;
-  covered = is_covered_for d r t;
+  covered = is_covered_for d r.max (estimate_of r) t;
   nearest = counted r t l;
 }
 
 -- what targets say at a reading (SUBSET-026-3 3.13.10; own)
 unfoldable pub verdict_of : TrainAndTrack → OdometerReading → List Target → Verdict
 verdict_of d r ts =
-    let limits = limits_of computed d r in
+    let limits = limits_of computed d (estimate_of r) in
     record {
       over = list_any (λ t. passes_at r no_margin t (limits t).permitted) ts;
       warn = list_any (λ t. passes_at r warning_margin t (limits t).warning) ts;
       serv = list_any (λ t. passes_at r sbi_margin t (limits t).sbi) ts;
       emer = list_any (λ t. passes_ebi_at r t (limits t).ebi) ts;
       indicated = list_any (λ t. passes_at r no_margin t (limits t).indication) ts;
-      covered = list_all (is_covered_for d r) ts;
+      covered = list_all (is_covered_for d r.max (estimate_of r)) ts;
       nearest = nearest_of r limits ts;
     }
 

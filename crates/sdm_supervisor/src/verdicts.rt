@@ -3,7 +3,7 @@
 ghost use Rattle.std.specs.Prelude.{◌≡◌, ◌≤◌, ◌&&◌, ◌++◌, All, List, [], map, true, nat_lt, not};
 ghost use Rattle.std.specs.Int.{int_min};
 ghost use Rattle.std.specs.Option.{option_map_or};
-ghost use Rattle.sdm_num.specs.Readings.{OdometerReading};
+ghost use Rattle.sdm_num.specs.Readings.{OdometerReading, estimate_of};
 ghost use Rattle.sdm_rules.specs.Limits.{computed, limits_of};
 ghost use Rattle.sdm_rules.specs.Supervision.{is_covered_for};
 ghost use Rattle.sdm_rules.specs.Margins.{ebi_margin};
@@ -173,7 +173,7 @@ fn is_before(reading: &Reading, ebi: Option<Early>) -> bool
 fn is_covered_above(braking: &Braking, asked: &AskedReading, kept: &KeptTarget) -> bool
     requires asked { IsAsked braking.now asked.now }
     requires kept { IsKeptTarget braking.now kept.now }
-    ensures { result ≡ is_covered_for braking.now asked.now.reading.now kept.now.target }
+    ensures { result ≡ is_covered_for braking.now asked.now.reading.now.max (estimate_of asked.now.reading.now) kept.now.target }
 {
     asked.is_met_by_speed(kept) || is_before(asked.reading, braking.ebi(asked, kept))
 }
@@ -183,8 +183,8 @@ fn is_covered_for(asked: &AskedReading, kept: &KeptTarget, ebi: Option<Early>) -
     requires target { IsTarget kept.now.target }
     requires speeds { AreSpeedsOf kept.now.target kept.now.speeds }
     ensures { (d : TrainAndTrack) → IsAsked d asked.now →
-        place_where ebi ≡ (limits_of computed d asked.now.reading.now kept.now.target).ebi →
-        result ≡ is_covered_for d asked.now.reading.now kept.now.target }
+        place_where ebi ≡ (limits_of computed d (estimate_of asked.now.reading.now) kept.now.target).ebi →
+        result ≡ is_covered_for d asked.now.reading.now.max (estimate_of asked.now.reading.now) kept.now.target }
 {
     is_before(asked.reading, ebi) || asked.is_met_by_speed(kept)
 }
@@ -196,9 +196,9 @@ impl Verdict {
         requires target { IsTarget kept.now.target }
         requires speeds { AreSpeedsOf kept.now.target kept.now.speeds }
         ensures { (d : TrainAndTrack) → IsAsked d asked.now →
-            places_of limits.now ≡ limits_of computed d asked.now.reading.now kept.now.target →
+            places_of limits.now ≡ limits_of computed d (estimate_of asked.now.reading.now) kept.now.target →
             self.new ≡ record (both self.old (verdict_at d asked.now.reading.now
-            (limits_of computed d asked.now.reading.now kept.now.target) kept.now.target)) { nearest = self.old.nearest } }
+            (limits_of computed d (estimate_of asked.now.reading.now) kept.now.target) kept.now.target)) { nearest = self.old.nearest } }
     {
         let reading = asked.reading;
         let target = &kept.target;
@@ -216,7 +216,7 @@ impl Verdict {
         requires asked { IsAsked braking.now asked.now }
         requires kept { IsKeptTarget braking.now kept.now }
         ensures { self.new ≡ both self.old (verdict_at braking.now asked.now.reading.now
-            (limits_of computed braking.now asked.now.reading.now kept.now.target) kept.now.target) }
+            (limits_of computed braking.now (estimate_of asked.now.reading.now) kept.now.target) kept.now.target) }
     {
         // A target above the train's speed is not passed, and none of its limits counts.
         if asked.reading.speed_mm_s() < kept.speeds.permitted {

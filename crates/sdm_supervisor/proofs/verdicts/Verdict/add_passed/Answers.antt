@@ -1,5 +1,6 @@
 -- Each limit is passed as the definitions say, by the speed and the place that are kept or found for it.
 use Rattle.std.proofs.Common.{◌≡◌, ◌&&◌, ◌||◌, ◌∙◌, nat_lt, ap, arith}
+use Rattle.sdm_num.specs.Readings.{estimate_of}
 use Rattle.sdm_rules.specs.Limits.{computed, limits_of}
 use Rattle.sdm_rules.specs.Targets.{at_speed_target, with_margin}
 use Rattle.sdm_rules.specs.Triggers.{is_past, no_margin}
@@ -14,7 +15,7 @@ returns c d asked limits =
     let s = c.args.kept.now.speeds in
     let said = c.args.self.now in
     let permitted : s.permitted ≡ with_margin no_margin t = c.requires.speeds.permitted ∙ ap (at_speed_target t.kind) (omega arith) in
-    λ k. record (both said (verdict_at d r (limits_of computed d r t) t)) {
+    λ k. record (both said (verdict_at d r (limits_of computed d (estimate_of r) t) t)) {
       over = said.over || (c.passes.ensures ∙ (λ i. nat_lt (permitted i) r.speed && is_past 0 (front_of r t.kind) (limits i).permitted)) k;
       warn = said.warn || (c.passes-2.ensures ∙ (λ i. nat_lt (c.requires.speeds.warning i) r.speed && is_past 0 (front_of r t.kind) (limits i).warning)) k;
       serv = said.serv || (c.passes-3.ensures ∙ (λ i. nat_lt (c.requires.speeds.sbi i) r.speed && is_past 0 (front_of r t.kind) (limits i).sbi)) k;
