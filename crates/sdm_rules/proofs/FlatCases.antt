@@ -6,7 +6,7 @@ use Rattle.sdm_rules.specs.declared.faults.EventCause.TheVariants.{Line}
 use Rattle.sdm_rules.specs.Curves.{exact, stepped, exact_at, place_at, arc_back, back, arc_forward, forward}
 use Rattle.sdm_rules.specs.Input.{BadEvent}
 use Rattle.sdm_rules.specs.Numbers.{read_int}
-use Rattle.sdm_rules.specs.Flat.{flat_opening, flat_row, flat_after, flat_line, flat_text, flat_output, lines_of, comma_fields}
+use Rattle.sdm_rules.specs.Flat.{flat_opening, flat_row, flat_after, flat_line, flat_text, flat_output}
 
 -- at 2 m/s the curve is 2 m before the end; a tenth of a millimetre past it is an emergency
 past_the_curve : flat_row (flat_opening 100 1_000) (record { time = 5; front = pos (80_001 * 54_000_000); speed = 108_000 }) ≡ record { time = 5; ebi = pos 8_000; covered = false; eb = true }
@@ -16,16 +16,6 @@ past_the_curve = refl
 at_the_curve : flat_row (flat_opening 100 1_000) (record { time = 5; front = pos (80_000 * 54_000_000); speed = 108_000 }) ≡ record { time = 5; ebi = pos 8_000; covered = true; eb = false }
 unfolding flat_row flat_after exact stepped exact_at place_at arc_back back arc_forward forward
 at_the_curve = refl
-
--- the last line feed may be wanting, an empty line is a line, and an empty text has none
-split_lines : lines_of (codes "ab\n\nc") ≡ codes "ab" ∷ [] ∷ codes "c" ∷ []
-split_lines = refl
-
-last_line_feed : lines_of (codes "ab\n") ≡ codes "ab" ∷ []
-last_line_feed = refl
-
-split_fields : comma_fields (codes "1,,22") ≡ codes "1" ∷ [] ∷ codes "22" ∷ []
-split_fields = refl
 
 a_line : flat_line (codes "5,8000,2000") ≡ Some (record { time = 5; front = pos (8_000 * 540_000_000); speed = 108_000 })
 unfolding flat_line read_int

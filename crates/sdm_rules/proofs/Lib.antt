@@ -8,5 +8,6 @@ mod TriggerCases
 pub mod RowCases
 mod TextCases
 mod InputCases
+mod LineCases
 mod FlatCases
 mod TrialCases

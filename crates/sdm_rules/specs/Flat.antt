@@ -1,6 +1,6 @@
 -- The supervisor of one brake curve on a level track: one band, one deceleration, and an end (own). It is the plainest case
 -- of a brake curve, and its command stays beside the whole supervisor.
-use Rattle.std.specs.Prelude.{ℕ, suc, ℤ, pos, negsuc, Bool, false, not, ◌&&◌, ◌||◌, List, [], ◌∷◌, ◌++◌, Option, Some, None, Result, Ok, Err, ◌*◌, ◌==◌, decimal, nat_lt, int_lt, unsigned_abs, if◌then◌else◌}
+use Rattle.std.specs.Prelude.{ℕ, suc, ℤ, pos, negsuc, Bool, false, not, ◌&&◌, ◌||◌, List, [], ◌∷◌, ◌++◌, Option, Some, None, Result, Ok, Err, ◌*◌, decimal, nat_lt, int_lt, unsigned_abs}
 use Rattle.std.specs.Fmt.{signed_decimal}
 use Rattle.sdm_num.specs.Units.{place_of_mm, notches_of_mm_s, millimetre}
 use Rattle.sdm_num.specs.Fractions.{Fraction}
@@ -17,6 +17,7 @@ use Rattle.sdm_rules.specs.Supervision.{whole_mm}
 use Rattle.sdm_rules.specs.Machines.{InOrder}
 use Rattle.sdm_rules.specs.Records.{time_fault}
 use Rattle.sdm_rules.specs.Numbers.{read_int}
+use Rattle.sdm_rules.specs.Lines.{lines_of, comma_fields}
 use Rattle.sdm_rules.specs.Stop.{StopsBy}
 use Rattle.sdm_rules.specs.Input.{End, Done, BadEvent}
 use Rattle.sdm_rules.specs.Text.{flag_text, text_line}
@@ -87,21 +88,6 @@ abbrev pub StopsByFlatEnd : FlatSupervision → FlatLine → Type 0
 StopsByFlatEnd s l = StopsBy (flat_slopes s.decel) (flat_start l) (place_of_cell (pos s.end))
 
 -- ---- its input
-
--- pieces with a byte put before the first of them
-abbrev pub before_all : ℕ → List (List ℕ) → List (List ℕ)
-before_all c [] = (c ∷ []) ∷ []
-before_all c (piece ∷ more) = (c ∷ piece) ∷ more
-
--- the lines of a text, each ended by LF; the last LF may be wanting, and an empty text has no line
-abbrev pub lines_of : List ℕ → List (List ℕ)
-lines_of [] = []
-lines_of (c ∷ cs) = if c == 10 then [] ∷ lines_of cs else before_all c (lines_of cs)
-
--- the fields of a line, with commas between them
-abbrev pub comma_fields : List ℕ → List (List ℕ)
-comma_fields [] = [] ∷ []
-comma_fields (c ∷ cs) = if c == 44 then [] ∷ comma_fields cs else before_all c (comma_fields cs)
 
 -- the rest with the number of a field, if it is accepted
 abbrev pub with_field : Result ℤ FieldFault → (ℤ → Option FlatLine) → Option FlatLine

@@ -20,6 +20,7 @@ pub mod Promises
 pub mod Opening
 pub mod Headline
 pub mod Numbers
+pub mod Lines
 pub mod Forms
 pub mod Input
 pub mod Text
