@@ -39,9 +39,10 @@ impl Braking {
         ensures reading { result.reading.now ≡ reading.now }
         ensures asked { IsAsked self.now result }
     {
-        let v_est = reading.speed_mm_s();
-        let v_delta0 = self.v_delta0(reading.under_mm_s());
-        let build_up = BuildUp::of(self.times(), v_est, v_delta0, reading.accel());
+        let estimate = reading.estimate();
+        let v_est = estimate.speed();
+        let v_delta0 = self.v_delta0(estimate.under());
+        let build_up = BuildUp::of(self.times(), v_est, v_delta0, estimate.accel());
         // the slowest of the targets stands for all that are no faster than the train
         let reaction = build_up.reaction(Speed::new(0));
         let mut asked = AskedReading {
