@@ -127,12 +127,12 @@ def definition_rows(graph, reached):
 
 
 def type_rows(reached, edge):
-    """The source files that declare types of the definitions, but for those of the edge."""
+    """The source files that declare types and constants of the definitions, but for those of the edge."""
     edge = {CRATES / path for path, _ in edge}
     for path in sorted(reached):
         if path.suffix == ".rt" and path.exists() and path not in edge:
             names = sorted(reached[path])
-            what = f"{len(names)} types" if len(names) > 7 else ", ".join(f"`{name}`" for name in names)
+            what = f"{len(names)} types" if len(names) > 7 else ", ".join(f"`{name}`" for name in names).replace("`TheConstants`", "its constants")
             yield path.relative_to(ROOT), lines_of(path), what
 
 
@@ -148,7 +148,7 @@ def list_of(graph, surface):
     edge = [(f"crates/{path}", lines_of(CRATES / path), what) for path, what in surface.edge]
     out = table("Clauses and code of the edge", edge)
     out += table("Definitions that the clauses reach", list(definition_rows(graph, reached)))
-    out += table("Types that the definitions speak of", list(type_rows(reached, surface.edge)))
+    out += table("Types and constants that the definitions speak of", list(type_rows(reached, surface.edge)))
     return out + ["", f"**Of the toolchain's library** the definitions stand on {toolchain(reached)}."]
 
 

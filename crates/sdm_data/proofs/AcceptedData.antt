@@ -6,6 +6,7 @@ use Rattle.std.proofs.lemmas.List.{take_all}
 use Rattle.sdm_rules.specs.declared.faults.TrainFault.{TrainFault}
 use Rattle.sdm_rules.specs.declared.faults.TrainFault.TheVariants.{BandCount, Value}
 use Rattle.sdm_rules.specs.declared.faults.TrackFault.{TrackFault}
+use Rattle.sdm_rules.specs.declared.faults.Section.TheVariants as sections
 use Rattle.sdm_rules.specs.Data.{TrainData, TrackData}
 use Rattle.sdm_rules.specs.Ranges.{or_else, fault_at, train_refused, band_count_fault, band_value_fault, band_order_fault, train_fault, length_fault, gradients_fault, speeds_fault, areas_fault, track_fault}
 use Rattle.sdm_rules.specs.Slopes.{most_bands}
@@ -59,7 +60,7 @@ accepted_bands t none = by_length (few_or_many (length t.bands))
 -- a track is refused with its length
 length_refused : (t : TrackData) (fault : TrackFault) → length_fault t.length_cm ≡ Some fault → track_fault t ≡ Some fault
 unfolding track_fault
-length_refused t fault is = ap (λ first. or_else first (or_else (gradients_fault t.length_cm t.gradients) (or_else (speeds_fault t.length_cm t.speeds) (areas_fault t.length_cm t.areas)))) is
+length_refused t fault is = ap (λ first. or_else first (or_else (gradients_fault t.length_cm t.gradients) (or_else (speeds_fault t.length_cm t.speeds) (areas_fault sections.Adhesion t.length_cm t.areas)))) is
 
 -- the fault is that of the length as it was given
 pub same_track_fault : (t : TrackData) (n : ℕ) → length_fault (pos n) ≡ length_fault t.length_cm → (length_fault t.length_cm ≡ None → pos n ≡ t.length_cm) → track_fault (record t { length_cm = pos n }) ≡ track_fault t

@@ -1,5 +1,5 @@
 -- What each section of the data part holds, or the first rule that it breaks: UnknownKey, and then key by key Missing, WrongKind
--- and, for some, Value (own). Keys go by their numbers in `key_names`.
+-- and, for some, Value (own).
 use Rattle.std.specs.Prelude.{ℕ, pos, true, List, [], Option, Result, Ok, Err, codes, unwrap_or, if◌then◌else◌}
 use Rattle.std.specs.Str.{bytes_eq}
 use Rattle.toml.specs.Data.{Members, as_integer, as_bool, as_str, as_table}
@@ -13,6 +13,7 @@ use Rattle.sdm_rules.specs.declared.data.Area.{Area}
 use Rattle.sdm_rules.specs.declared.faults.Section.TheVariants as sections
 use Rattle.sdm_rules.specs.declared.faults.DataFault.{DataFault}
 use Rattle.sdm_rules.specs.declared.faults.DataFault.TheVariants.{Value}
+use Rattle.sdm_rules.specs.declared.keys.TheConstants as keys
 use Rattle.sdm_rules.specs.Data.{TrainData, TrackData}
 use Rattle.sdm_rules.specs.FaultLines.{key_names}
 use Rattle.sdm_rules.specs.Ranges.{longest_track, top_kmh}
@@ -35,12 +36,12 @@ unfoldable pub root_in : Members → Result RootMembers DataFault
 root_in members = do
   let root = section_of sections.Root 0 members
   _ ← known root (key_names sections.Root)
-  number ← required as_integer root 1
-  version ← or_fault (Value (at root 1)) (version_of number)
-  train ← required as_table root 2
-  national ← required as_table root 3
-  track ← required as_table root 4
-  authority ← required as_table root 5
+  number ← required as_integer root keys.ROOT_VERSION
+  version ← or_fault (Value (at root keys.ROOT_VERSION)) (version_of number)
+  train ← required as_table root keys.ROOT_TRAIN
+  national ← required as_table root keys.ROOT_NATIONAL
+  track ← required as_table root keys.ROOT_TRACK
+  authority ← required as_table root keys.ROOT_AUTHORITY
   Ok (record { version = version; train = train; national = national; track = track; authority = authority })
 
 -- ---- the train
@@ -50,14 +51,14 @@ unfoldable pub band_in : Version → ℕ → Members → Result Band DataFault
 band_in version index members = do
   let band = section_of sections.Band index members
   _ ← known band (known_keys version sections.Band)
-  upper ← optional as_integer band 1
-  emergency ← required as_integer band 2
-  service ← required as_integer band 3
-  normal ← required as_integer band 4
-  kdry ← required as_integer band 5
-  kwet ← required as_integer band 6
-  kn_up ← required as_integer band 7
-  kn_down ← required as_integer band 8
+  upper ← optional as_integer band keys.BAND_UPPER
+  emergency ← required as_integer band keys.BAND_EMERGENCY
+  service ← required as_integer band keys.BAND_SERVICE
+  normal ← required as_integer band keys.BAND_NORMAL
+  kdry ← required as_integer band keys.BAND_KDRY
+  kwet ← required as_integer band keys.BAND_KWET
+  kn_up ← required as_integer band keys.BAND_KN_UP
+  kn_down ← required as_integer band keys.BAND_KN_DOWN
   Ok (record { upper = upper; emergency = emergency; service = service; normal = normal; kdry = kdry; kwet = kwet; kn_up = kn_up; kn_down = kn_down })
 
 -- the train with all the bands that are given
@@ -65,15 +66,15 @@ unfoldable pub train_in : Version → Members → Result TrainData DataFault
 train_in version members = do
   let train = section_of sections.Train 0 members
   _ ← known train (known_keys version sections.Train)
-  length ← required as_integer train 1
-  max_speed ← required as_integer train 2
-  rotating_mass ← optional as_integer train 3
-  cut_off_time ← required as_integer train 4
-  cut_off_interface ← required as_bool train 5
-  emergency_time ← required as_integer train 6
-  service_time ← required as_integer train 7
-  service_brake ← required as_bool train 8
-  tables ← required as_tables train 9
+  length ← required as_integer train keys.TRAIN_LENGTH
+  max_speed ← required as_integer train keys.TRAIN_MAX_SPEED
+  rotating_mass ← optional as_integer train keys.TRAIN_ROTATING_MASS
+  cut_off_time ← required as_integer train keys.TRAIN_TRACTION_CUTOFF_TIME
+  cut_off_interface ← required as_bool train keys.TRAIN_TRACTION_CUTOFF_INTERFACE
+  emergency_time ← required as_integer train keys.TRAIN_EMERGENCY_TIME
+  service_time ← required as_integer train keys.TRAIN_SERVICE_TIME
+  service_brake ← required as_bool train keys.TRAIN_SERVICE_BRAKE
+  tables ← required as_tables train keys.TRAIN_BAND
   bands ← entries_from (band_in version) 1 tables
   Ok (record {
     length_cm = length;
@@ -94,12 +95,12 @@ unfoldable pub national_in : Version → Members → Result NationalFields DataF
 national_in version members = do
   let national = section_of sections.National 0 members
   _ ← known national (known_keys version sections.National)
-  avadh ← required as_integer national 1
-  adhesion_max ← required as_integer national 2
-  guidance ← required as_bool national 3
-  service_in_target ← required as_bool national 4
-  early_release ← required as_bool national 5
-  inhibit_under_reading ← required as_bool national 6
+  avadh ← required as_integer national keys.NATIONAL_AVADH
+  adhesion_max ← required as_integer national keys.NATIONAL_ADHESION_MAX
+  guidance ← required as_bool national keys.NATIONAL_GUIDANCE
+  service_in_target ← required as_bool national keys.NATIONAL_SERVICE_IN_TARGET
+  early_release ← required as_bool national keys.NATIONAL_EARLY_RELEASE
+  inhibit_under_reading ← required as_bool national keys.NATIONAL_INHIBIT_UNDER_READING
   Ok (record {
     avadh = avadh;
     adhesion_max = adhesion_max;
@@ -116,8 +117,8 @@ unfoldable pub gradient_in : Version → ℕ → Members → Result Gradient Dat
 gradient_in version index members = do
   let gradient = section_of sections.Gradient index members
   _ ← known gradient (known_keys version sections.Gradient)
-  start ← required as_integer gradient 1
-  grad ← required as_integer gradient 2
+  start ← required as_integer gradient keys.GRADIENT_START
+  grad ← required as_integer gradient keys.GRADIENT_GRAD
   Ok (record { start = start; grad = grad })
 
 -- an entry of the static speed profile; `delayed` may be absent and is true then
@@ -125,9 +126,9 @@ unfoldable pub speed_in : Version → ℕ → Members → Result SpeedStep DataF
 speed_in version index members = do
   let speed = section_of sections.Speed index members
   _ ← known speed (known_keys version sections.Speed)
-  start ← required as_integer speed 1
-  kmh ← required as_integer speed 2
-  delayed ← optional as_bool speed 3
+  start ← required as_integer speed keys.SPEED_START
+  kmh ← required as_integer speed keys.SPEED_SPEED
+  delayed ← optional as_bool speed keys.SPEED_DELAYED
   Ok (record { start = start; speed = kmh; delayed = unwrap_or delayed true })
 
 -- an area of reduced adhesion
@@ -135,8 +136,8 @@ unfoldable pub adhesion_in : Version → ℕ → Members → Result Area DataFau
 adhesion_in version index members = do
   let area = section_of sections.Adhesion index members
   _ ← known area (known_keys version sections.Adhesion)
-  start ← required as_integer area 1
-  end ← required as_integer area 2
+  start ← required as_integer area keys.AREA_START
+  end ← required as_integer area keys.AREA_END
   Ok (record { start = start; end = end })
 
 -- no tables where the key of a list is absent
@@ -148,10 +149,10 @@ unfoldable pub track_in : Version → Members → Result TrackData DataFault
 track_in version members = do
   let track = section_of sections.Track 0 members
   _ ← known track (known_keys version sections.Track)
-  length ← required as_integer track 1
-  gradient_tables ← optional as_tables track 2
-  speed_tables ← required as_tables track 3
-  area_tables ← optional as_tables track 4
+  length ← required as_integer track keys.TRACK_LENGTH
+  gradient_tables ← optional as_tables track keys.TRACK_GRADIENT
+  speed_tables ← required as_tables track keys.TRACK_SPEED
+  area_tables ← optional as_tables track keys.TRACK_ADHESION
   gradients ← entries_from (gradient_in version) 1 (or_no_tables gradient_tables)
   speeds ← entries_from (speed_in version) 1 speed_tables
   areas ← entries_from (adhesion_in version) 1 (or_no_tables area_tables)
@@ -163,25 +164,25 @@ track_in version members = do
 unfoldable pub end_in : SectionMembers → Result Authority DataFault
 end_in authority = do
   _ ← known authority end_keys
-  eoa ← number authority 2 0 longest_track
-  svl ← number authority 3 0 longest_track
-  kmh ← optional as_integer authority 4
-  release ← within authority 4 0 top_kmh (unwrap_or kmh (pos 0))
+  eoa ← number authority keys.AUTHORITY_EOA 0 longest_track
+  svl ← number authority keys.AUTHORITY_SVL 0 longest_track
+  kmh ← optional as_integer authority keys.AUTHORITY_RELEASE
+  release ← within authority keys.AUTHORITY_RELEASE 0 top_kmh (unwrap_or kmh (pos 0))
   Ok (Stop eoa svl release)
 
 -- an authority to a limit
 unfoldable pub limit_in : SectionMembers → Result Authority DataFault
 limit_in authority = do
   _ ← known authority limit_keys
-  loa ← number authority 5 0 longest_track
-  speed ← number authority 6 1 top_kmh
+  loa ← number authority keys.AUTHORITY_LOA 0 longest_track
+  speed ← number authority keys.AUTHORITY_SPEED 1 top_kmh
   Ok (Limit loa speed)
 
 -- the authority: its kind comes first, since the other keys depend on it
 unfoldable pub authority_in : Members → Result Authority DataFault
 authority_in members = do
   let authority = section_of sections.Authority 0 members
-  kind ← required as_str authority 1
+  kind ← required as_str authority keys.AUTHORITY_KIND
   if bytes_eq kind (codes "end") then end_in authority
       else if bytes_eq kind (codes "limit") then limit_in authority
-      else Err (Value (at authority 1))
+      else Err (Value (at authority keys.AUTHORITY_KIND))

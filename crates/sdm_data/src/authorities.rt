@@ -7,7 +7,7 @@ ghost use Rattle.sdm_data.specs.Views.{members_of};
 
 use crate::section_tables::SectionTable;
 use crate::versions::{end_keys, limit_keys};
-use sdm_rules::{Authority, DataFault, LONGEST_TRACK_CM, Section, TOP_KMH};
+use sdm_rules::{Authority, DataFault, LONGEST_TRACK_CM, Section, TOP_KMH, keys};
 use toml::Table;
 
 /// The authority that a table holds, or the first rule that it breaks. (own)
@@ -16,10 +16,10 @@ pub fn authority_in(table: &Table) -> Result<Authority, DataFault>
     ensures { result ≡ authority_in (table_view table.now) }
 {
     let authority = SectionTable::new(table, Section::Authority, 0);
-    match authority.text(1)? {
+    match authority.text(keys::AUTHORITY_KIND)? {
         "end" => end_in(&authority),
         "limit" => limit_in(&authority),
-        _ => Err(DataFault::Value(authority.at(1))),
+        _ => Err(DataFault::Value(authority.at(keys::AUTHORITY_KIND))),
     }
 }
 
@@ -29,10 +29,12 @@ fn end_in(authority: &SectionTable) -> Result<Authority, DataFault>
     ensures { result ≡ end_in (members_of authority.now) }
 {
     authority.known(end_keys())?;
-    let eoa = authority.number(2, 0, LONGEST_TRACK_CM)?;
-    let svl = authority.number(3, 0, LONGEST_TRACK_CM)?;
-    let kmh = authority.integer_if_any(4)?.unwrap_or(0);
-    let release = authority.within(4, 0, TOP_KMH, kmh)?;
+    let eoa = authority.number(keys::AUTHORITY_EOA, 0, LONGEST_TRACK_CM)?;
+    let svl = authority.number(keys::AUTHORITY_SVL, 0, LONGEST_TRACK_CM)?;
+    let kmh = authority
+        .integer_if_any(keys::AUTHORITY_RELEASE)?
+        .unwrap_or(0);
+    let release = authority.within(keys::AUTHORITY_RELEASE, 0, TOP_KMH, kmh)?;
     Ok(Authority::Stop {
         eoa,
         svl,
@@ -46,8 +48,8 @@ fn limit_in(authority: &SectionTable) -> Result<Authority, DataFault>
     ensures { result ≡ limit_in (members_of authority.now) }
 {
     authority.known(&limit_keys())?;
-    let loa = authority.number(5, 0, LONGEST_TRACK_CM)?;
-    let speed = authority.number(6, 1, TOP_KMH)?;
+    let loa = authority.number(keys::AUTHORITY_LOA, 0, LONGEST_TRACK_CM)?;
+    let speed = authority.number(keys::AUTHORITY_SPEED, 1, TOP_KMH)?;
     Ok(Authority::Limit {
         loa,
         speed: speed as u16,

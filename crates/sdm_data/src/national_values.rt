@@ -6,7 +6,7 @@ ghost use Rattle.sdm_data.specs.Sections.{national_in};
 
 use crate::section_tables::SectionTable;
 use crate::versions::Version;
-use sdm_rules::{DataFault, NationalFields, Section};
+use sdm_rules::{DataFault, NationalFields, Section, keys};
 use toml::Table;
 
 /// The national values that a table holds, or the first rule that it breaks. (own)
@@ -17,11 +17,11 @@ pub fn national_in(version: Version, table: &Table) -> Result<NationalFields, Da
     let national = SectionTable::new(table, Section::National, 0);
     national.known_in(version)?;
     Ok(NationalFields {
-        avadh: national.integer(1)?,
-        adhesion_max: national.integer(2)?,
-        guidance: national.flag(3)?,
-        service_in_target: national.flag(4)?,
-        early_release: national.flag(5)?,
-        inhibit_under_reading: national.flag(6)?,
+        avadh: national.integer(keys::NATIONAL_AVADH)?,
+        adhesion_max: national.integer(keys::NATIONAL_ADHESION_MAX)?,
+        guidance: national.flag(keys::NATIONAL_GUIDANCE)?,
+        service_in_target: national.flag(keys::NATIONAL_SERVICE_IN_TARGET)?,
+        early_release: national.flag(keys::NATIONAL_EARLY_RELEASE)?,
+        inhibit_under_reading: national.flag(keys::NATIONAL_INHIBIT_UNDER_READING)?,
     })
 }

@@ -8,7 +8,7 @@ ghost use Rattle.sdm_data.specs.Views.{seen};
 
 use crate::section_tables::SectionTable;
 use crate::versions::{Version, version_of};
-use sdm_rules::{DataFault, Section};
+use sdm_rules::{DataFault, Section, keys};
 use sdm_text::key_names;
 use toml::Table;
 
@@ -29,12 +29,12 @@ pub fn root_in(document: &Table) -> Result<Root<'_>, DataFault>
 {
     let root = SectionTable::new(document, Section::Root, 0);
     root.known(key_names(Section::Root))?;
-    let number = root.integer(1)?;
+    let number = root.integer(keys::ROOT_VERSION)?;
     Ok(Root {
-        version: version_of(number).ok_or(DataFault::Value(root.at(1)))?,
-        train: root.table(2)?,
-        national: root.table(3)?,
-        track: root.table(4)?,
-        authority: root.table(5)?,
+        version: version_of(number).ok_or(DataFault::Value(root.at(keys::ROOT_VERSION)))?,
+        train: root.table(keys::ROOT_TRAIN)?,
+        national: root.table(keys::ROOT_NATIONAL)?,
+        track: root.table(keys::ROOT_TRACK)?,
+        authority: root.table(keys::ROOT_AUTHORITY)?,
     })
 }

@@ -11,7 +11,7 @@ ghost use Rattle.sdm_data.specs.Given.{given_track};
 use crate::lists::{ReadEntry, entries};
 use crate::section_tables::SectionTable;
 use crate::versions::Version;
-use sdm_rules::{Area, DataFault, Gradient, Section, SpeedStep};
+use sdm_rules::{Area, DataFault, Gradient, Section, SpeedStep, keys};
 use sdm_track::Track;
 use std::alloc::Global;
 use toml::Table;
@@ -33,8 +33,8 @@ impl ReadEntry for Gradient {
         let gradient = SectionTable::new(table, Section::Gradient, index);
         gradient.known_in(version)?;
         Ok(Gradient {
-            start: gradient.integer(1)?,
-            grad: gradient.integer(2)?,
+            start: gradient.integer(keys::GRADIENT_START)?,
+            grad: gradient.integer(keys::GRADIENT_GRAD)?,
         })
     }
 }
@@ -47,9 +47,9 @@ impl ReadEntry for SpeedStep {
         let speed = SectionTable::new(table, Section::Speed, index);
         speed.known_in(version)?;
         Ok(SpeedStep {
-            start: speed.integer(1)?,
-            speed: speed.integer(2)?,
-            delayed: speed.flag_if_any(3)?.unwrap_or(true),
+            start: speed.integer(keys::SPEED_START)?,
+            speed: speed.integer(keys::SPEED_SPEED)?,
+            delayed: speed.flag_if_any(keys::SPEED_DELAYED)?.unwrap_or(true),
         })
     }
 }
@@ -62,8 +62,8 @@ impl ReadEntry for Area {
         let area = SectionTable::new(table, Section::Adhesion, index);
         area.known_in(version)?;
         Ok(Area {
-            start: area.integer(1)?,
-            end: area.integer(2)?,
+            start: area.integer(keys::AREA_START)?,
+            end: area.integer(keys::AREA_END)?,
         })
     }
 }
@@ -76,10 +76,10 @@ pub fn track_in(alloc: Global, version: Version, table: &Table) -> Result<GivenT
 {
     let track = SectionTable::new(table, Section::Track, 0);
     track.known_in(version)?;
-    let length = track.integer(1)?;
-    let gradients = track.tables_if_any(2)?.unwrap_or(&[]);
-    let speeds = track.tables(3)?;
-    let areas = track.tables_if_any(4)?.unwrap_or(&[]);
+    let length = track.integer(keys::TRACK_LENGTH)?;
+    let gradients = track.tables_if_any(keys::TRACK_GRADIENT)?.unwrap_or(&[]);
+    let speeds = track.tables(keys::TRACK_SPEED)?;
+    let areas = track.tables_if_any(keys::TRACK_ADHESION)?.unwrap_or(&[]);
     Ok(GivenTrack {
         length,
         gradients: entries(alloc, version, gradients)?,

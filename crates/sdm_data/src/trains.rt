@@ -12,7 +12,7 @@ ghost use Rattle.sdm_data.specs.Given.{given_train, with_first_bands};
 use crate::lists::{ReadEntry, entries};
 use crate::section_tables::SectionTable;
 use crate::versions::Version;
-use sdm_rules::{BASE_BAND, Band, DataFault, MOST_BANDS, Section, TrainFields};
+use sdm_rules::{BASE_BAND, Band, DataFault, MOST_BANDS, Section, TrainFields, keys};
 use sdm_train::Train;
 use std::alloc::Global;
 use toml::Table;
@@ -33,14 +33,14 @@ impl ReadEntry for Band {
         let band = SectionTable::new(table, Section::Band, index);
         band.known_in(version)?;
         Ok(Band {
-            upper: band.integer_if_any(1)?,
-            emergency: band.integer(2)?,
-            service: band.integer(3)?,
-            normal: band.integer(4)?,
-            kdry: band.integer(5)?,
-            kwet: band.integer(6)?,
-            kn_up: band.integer(7)?,
-            kn_down: band.integer(8)?,
+            upper: band.integer_if_any(keys::BAND_UPPER)?,
+            emergency: band.integer(keys::BAND_EMERGENCY)?,
+            service: band.integer(keys::BAND_SERVICE)?,
+            normal: band.integer(keys::BAND_NORMAL)?,
+            kdry: band.integer(keys::BAND_KDRY)?,
+            kwet: band.integer(keys::BAND_KWET)?,
+            kn_up: band.integer(keys::BAND_KN_UP)?,
+            kn_down: band.integer(keys::BAND_KN_DOWN)?,
         })
     }
 }
@@ -54,18 +54,18 @@ pub fn train_in(alloc: Global, version: Version, table: &Table) -> Result<GivenT
     let train = SectionTable::new(table, Section::Train, 0);
     train.known_in(version)?;
     let own = TrainFields {
-        length: train.integer(1)?,
-        max_speed: train.integer(2)?,
-        rotating_mass: train.integer_if_any(3)?,
-        traction_cutoff_time: train.integer(4)?,
-        traction_cutoff_interface: train.flag(5)?,
-        emergency_time: train.integer(6)?,
-        service_time: train.integer(7)?,
-        service_brake: train.flag(8)?,
+        length: train.integer(keys::TRAIN_LENGTH)?,
+        max_speed: train.integer(keys::TRAIN_MAX_SPEED)?,
+        rotating_mass: train.integer_if_any(keys::TRAIN_ROTATING_MASS)?,
+        traction_cutoff_time: train.integer(keys::TRAIN_TRACTION_CUTOFF_TIME)?,
+        traction_cutoff_interface: train.flag(keys::TRAIN_TRACTION_CUTOFF_INTERFACE)?,
+        emergency_time: train.integer(keys::TRAIN_EMERGENCY_TIME)?,
+        service_time: train.integer(keys::TRAIN_SERVICE_TIME)?,
+        service_brake: train.flag(keys::TRAIN_SERVICE_BRAKE)?,
         bands: [BASE_BAND; MOST_BANDS],
         band_count: 0,
     };
-    let bands = entries(alloc, version, train.tables(9)?)?;
+    let bands = entries(alloc, version, train.tables(keys::TRAIN_BAND)?)?;
     Ok(GivenTrain { own, bands })
 }
 

@@ -5,7 +5,7 @@ ghost use Rattle.std.specs.Result.{result_err};
 ghost use Rattle.sdm_rules.specs.Ranges.{national_fault};
 ghost use Rattle.sdm_national.specs.Values.{IsNational};
 
-use sdm_rules::{NationalFault, NationalFields, is_within};
+use sdm_rules::{NationalFault, NationalFields, first_refused, keys, outside};
 use std::marker::Model;
 
 /// National values, each number within its range. (SUBSET-026-3 3.13.2.3; ranges own)
@@ -28,20 +28,21 @@ impl Model for National {
 }
 
 impl National {
-    /// National values of these fields. Err(Value) exactly where M_NVAVADH is outside 0 to 20 twentieths, key 1, or
-    /// else A_NVMAXREDADH outside 1 to 400 cm/s², key 2. (ranges own)
+    /// National values of these fields. Err(Value) exactly where M_NVAVADH is outside 0 to 20 twentieths, or else
+    /// A_NVMAXREDADH outside 1 to 400 cm/s², with its key. (ranges own)
     #[tactic(auto, unfolding(sdm_rules::specs::Ranges::national_fault))]
     pub fn new(fields: NationalFields) -> Result<National, NationalFault>
         ensures fault { result_err result ≡ national_fault fields }
         ensures kept { IfOk result (λ national. national ≡ fields) }
     {
-        if !is_within(0, 20, fields.avadh) {
-            return Err(NationalFault::Value { key: 1 });
+        let refused = first_refused(&[
+            outside(keys::NATIONAL_AVADH, fields.avadh, 0, 20),
+            outside(keys::NATIONAL_ADHESION_MAX, fields.adhesion_max, 1, 400),
+        ]);
+        match refused {
+            Some(key) => Err(NationalFault::Value { key }),
+            None => Ok(National { fields }),
         }
-        if !is_within(1, 400, fields.adhesion_max) {
-            return Err(NationalFault::Value { key: 2 });
-        }
-        Ok(National { fields })
     }
 
     /// M_NVAVADH in twentieths, 0 to 20. The clause `accepted` says what holds of all the values.

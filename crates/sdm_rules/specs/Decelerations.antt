@@ -22,9 +22,13 @@ use Rattle.sdm_rules.specs.Data.{TrainData, TrackData, TrainAndTrack, gradient_u
 abbrev pub track_gradient : List Gradient → ℤ → ℤ
 track_gradient entries cell = value_at (λ e. e.start) (λ e. e.grad) (pos 0) entries cell
 
--- The area is in force for a front end in the cell: from its start until the rear end of the train has left it (own)
+-- the area is in force for a front end in the cell: from its start until the rear end of the train has left it (own)
 abbrev pub is_in_force : ℤ → ℤ → Area → Bool
 is_in_force length_cm cell a = int_le a.start cell && int_lt cell (a.end +ℤ length_cm)
+
+-- some area of a list is in force (own)
+abbrev pub any_in_force : List Area → ℤ → ℤ → Bool
+any_in_force areas length_cm cell = list_any (is_in_force length_cm cell) areas
 
 -- what the decelerations of a front end rest on, beside its speed band (own)
 pub record UnderTrain : Type 0 where
@@ -35,7 +39,7 @@ pub record UnderTrain : Type 0 where
 abbrev pub under_train : TrackData → ℤ → ℤ → UnderTrain
 under_train track length_cm cell = record {
   grad = lowest int_min (track_gradient track.gradients) (cell -ℤ length_cm) (unsigned_abs length_cm);
-  reduced = list_any (is_in_force length_cm cell) track.areas;
+  reduced = any_in_force track.areas length_cm cell;
 }
 
 -- ---- the decelerations

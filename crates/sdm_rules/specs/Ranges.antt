@@ -1,5 +1,5 @@
 -- Which data are accepted, and the first rule that others break: a number outside its range, too many or too few entries,
--- entries out of order (ranges own). Keys have the numbers of docs/FORMATS.md; indices count from 1.
+-- entries out of order (ranges own). Indices count from 1.
 use Rattle.std.specs.Prelude.{ℕ, suc, ℤ, pos, neg_ℤ, Bool, true, ◌&&◌, List, [], ◌∷◌, Option, Some, None, ◌-ℤ◌, ◌+ℤ◌, ◌/◌, ◌%◌, ◌==◌, int_le, int_lt, nat_lt, nat_le, length, unsigned_abs, if◌then◌else◌}
 pub use Rattle.sdm_num.specs.Units.{top_kmh}
 use Rattle.sdm_rules.specs.declared.data.Band.{Band}
@@ -15,6 +15,7 @@ use Rattle.sdm_rules.specs.declared.faults.TrackFault.{TrackFault}
 use Rattle.sdm_rules.specs.declared.faults.TrackFault.TheVariants.{Count, Order, Value, Gap}
 use Rattle.sdm_rules.specs.declared.faults.Section.{Section}
 use Rattle.sdm_rules.specs.declared.faults.Section.TheVariants as sections
+use Rattle.sdm_rules.specs.declared.keys.TheConstants as keys
 use Rattle.sdm_rules.specs.Slopes.{most_bands}
 use Rattle.sdm_rules.specs.Data.{TrainData, TrackData, gradient_unit}
 
@@ -40,7 +41,7 @@ most_gradients = 512
 abbrev pub most_speeds : ℕ
 most_speeds = 128
 
--- the most areas of reduced adhesion (own)
+-- the most areas of a list (own)
 abbrev pub most_areas : ℕ
 most_areas = 64
 
@@ -79,25 +80,25 @@ fault_at fault (Some key) = Some (fault key)
 -- the first of the train's own numbers that is refused (own)
 abbrev pub train_refused : TrainData → Option ℕ
 train_refused t = first_refused
-    (refused 1 (is_within (pos 1) (pos longest_train) t.length_cm)
-    ∷ refused 2 (is_within (pos 1) (pos top_kmh) t.max_speed)
-    ∷ refused 3 (is_within_if_any (pos 0) (pos 50) t.rotating_mass)
-    ∷ refused 4 (is_within (pos 0) (pos 300) t.cut_off_time)
-    ∷ refused 6 (is_within (pos 0) (pos 300) t.emergency_time)
-    ∷ refused 7 (is_within (pos 0) (pos 300) t.service_time && ((unsigned_abs t.service_time % 5) == 0))
+    (refused keys.TRAIN_LENGTH (is_within (pos 1) (pos longest_train) t.length_cm)
+    ∷ refused keys.TRAIN_MAX_SPEED (is_within (pos 1) (pos top_kmh) t.max_speed)
+    ∷ refused keys.TRAIN_ROTATING_MASS (is_within_if_any (pos 0) (pos 50) t.rotating_mass)
+    ∷ refused keys.TRAIN_TRACTION_CUTOFF_TIME (is_within (pos 0) (pos 300) t.cut_off_time)
+    ∷ refused keys.TRAIN_EMERGENCY_TIME (is_within (pos 0) (pos 300) t.emergency_time)
+    ∷ refused keys.TRAIN_SERVICE_TIME (is_within (pos 0) (pos 300) t.service_time && ((unsigned_abs t.service_time % 5) == 0))
     ∷ [])
 
 -- the first of a band's numbers that is refused (own)
 abbrev pub band_refused : Band → Option ℕ
 band_refused b = first_refused
-    (refused 1 (is_within_if_any (pos 1) (pos top_kmh) b.upper)
-    ∷ refused 2 (is_within (pos 1) (pos 400) b.emergency)
-    ∷ refused 3 (is_within (pos 1) (pos 400) b.service)
-    ∷ refused 4 (is_within (pos 1) (pos 400) b.normal)
-    ∷ refused 5 (is_within (pos 1) (pos 1000) b.kdry)
-    ∷ refused 6 (is_within (pos 1) (pos 1000) b.kwet)
-    ∷ refused 7 (is_within (pos 0) (pos 1000) b.kn_up)
-    ∷ refused 8 (is_within (pos 0) (pos 1000) b.kn_down)
+    (refused keys.BAND_UPPER (is_within_if_any (pos 1) (pos top_kmh) b.upper)
+    ∷ refused keys.BAND_EMERGENCY (is_within (pos 1) (pos 400) b.emergency)
+    ∷ refused keys.BAND_SERVICE (is_within (pos 1) (pos 400) b.service)
+    ∷ refused keys.BAND_NORMAL (is_within (pos 1) (pos 400) b.normal)
+    ∷ refused keys.BAND_KDRY (is_within (pos 1) (pos 1000) b.kdry)
+    ∷ refused keys.BAND_KWET (is_within (pos 1) (pos 1000) b.kwet)
+    ∷ refused keys.BAND_KN_UP (is_within (pos 0) (pos 1000) b.kn_up)
+    ∷ refused keys.BAND_KN_DOWN (is_within (pos 0) (pos 1000) b.kn_down)
     ∷ [])
 
 -- the first value of the bands that is refused, from the band `i` on (own)
@@ -137,21 +138,21 @@ train_fault count t =
 -- the first rule that national values break (own)
 unfoldable pub national_fault : NationalFields → Option NationalFault
 national_fault n = fault_at (λ key. national_faults.Value key)
-    (first_refused (refused 1 (is_within (pos 0) (pos 20) n.avadh) ∷ refused 2 (is_within (pos 1) (pos 400) n.adhesion_max) ∷ []))
+    (first_refused (refused keys.NATIONAL_AVADH (is_within (pos 0) (pos 20) n.avadh) ∷ refused keys.NATIONAL_ADHESION_MAX (is_within (pos 1) (pos 400) n.adhesion_max) ∷ []))
 
 -- ---- the track
 
 -- the first number of a gradient that is refused, on a track of a length in cm (own)
 abbrev pub gradient_refused : ℤ → Gradient → Option ℕ
-gradient_refused length_cm g = first_refused (refused 1 (is_within (pos 0) (length_cm -ℤ pos 1) g.start) ∷ refused 2 (is_within (neg_ℤ steepest) steepest g.grad) ∷ [])
+gradient_refused length_cm g = first_refused (refused keys.GRADIENT_START (is_within (pos 0) (length_cm -ℤ pos 1) g.start) ∷ refused keys.GRADIENT_GRAD (is_within (neg_ℤ steepest) steepest g.grad) ∷ [])
 
 -- the first number of an entry of the static speed profile that is refused (own)
 abbrev pub speed_refused : ℤ → SpeedStep → Option ℕ
-speed_refused length_cm s = first_refused (refused 1 (is_within (pos 0) (length_cm -ℤ pos 1) s.start) ∷ refused 2 (is_within (pos 1) (pos top_kmh) s.speed) ∷ [])
+speed_refused length_cm s = first_refused (refused keys.SPEED_START (is_within (pos 0) (length_cm -ℤ pos 1) s.start) ∷ refused keys.SPEED_SPEED (is_within (pos 1) (pos top_kmh) s.speed) ∷ [])
 
 -- the first number of an area that is refused; its end is to be past its start (own)
 abbrev pub area_refused : ℤ → Area → Option ℕ
-area_refused length_cm a = first_refused (refused 1 (is_within (pos 0) (length_cm -ℤ pos 1) a.start) ∷ refused 2 (is_within (a.start +ℤ pos 1) length_cm a.end) ∷ [])
+area_refused length_cm a = first_refused (refused keys.AREA_START (is_within (pos 0) (length_cm -ℤ pos 1) a.start) ∷ refused keys.AREA_END (is_within (a.start +ℤ pos 1) length_cm a.end) ∷ [])
 
 -- the first value of a list's entries that is refused, from the entry `i` on (own)
 abbrev pub value_fault : {E : Type 0} → Section → (E → Option ℕ) → ℕ → List E → Option TrackFault
@@ -182,8 +183,8 @@ abbrev pub speed_order : List SpeedStep → Option TrackFault
 speed_order es = order_fault sections.Speed (λ e. e.start) (λ e. e.start +ℤ pos 1) 1 es
 
 -- the fault of areas that overlap (own)
-abbrev pub area_order : List Area → Option TrackFault
-area_order es = order_fault sections.Adhesion (λ e. e.start) (λ e. e.end) 1 es
+abbrev pub area_order : Section → List Area → Option TrackFault
+area_order list es = order_fault list (λ e. e.start) (λ e. e.end) 1 es
 
 -- the first rule that the gradients break; a track may have no gradients (own)
 unfoldable pub gradients_fault : ℤ → List Gradient → Option TrackFault
@@ -197,16 +198,16 @@ speeds_fault length_cm es =
     or_else (count_fault sections.Speed 1 most_speeds es)
     (or_else (value_fault sections.Speed (speed_refused length_cm) 1 es) (or_else (gap_fault sections.Speed (λ e. e.start) es) (speed_order es)))
 
--- the first rule that the areas break; a track may have no areas (own)
-unfoldable pub areas_fault : ℤ → List Area → Option TrackFault
-areas_fault length_cm es = or_else (count_fault sections.Adhesion 0 most_areas es) (or_else (value_fault sections.Adhesion (area_refused length_cm) 1 es) (area_order es))
+-- the first rule that a list of areas breaks; it may be empty (own)
+unfoldable pub areas_fault : Section → ℤ → List Area → Option TrackFault
+areas_fault list length_cm es = or_else (count_fault list 0 most_areas es) (or_else (value_fault list (area_refused length_cm) 1 es) (area_order list es))
 
 -- the fault of a track's length, in cm, that is out of its range (own)
 abbrev pub length_fault : ℤ → Option TrackFault
-length_fault length_cm = if is_within (pos 1) (pos longest_track) length_cm then None else Some (Value sections.Track 0 1)
+length_fault length_cm = if is_within (pos 1) (pos longest_track) length_cm then None else Some (Value sections.Track 0 keys.TRACK_LENGTH)
 
 -- the first rule that a track breaks: of its length, then list by list (own)
 unfoldable pub track_fault : TrackData → Option TrackFault
 track_fault t =
     or_else (length_fault t.length_cm)
-    (or_else (gradients_fault t.length_cm t.gradients) (or_else (speeds_fault t.length_cm t.speeds) (areas_fault t.length_cm t.areas)))
+    (or_else (gradients_fault t.length_cm t.gradients) (or_else (speeds_fault t.length_cm t.speeds) (areas_fault sections.Adhesion t.length_cm t.areas)))

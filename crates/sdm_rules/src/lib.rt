@@ -1,5 +1,5 @@
 //! The profile of SUBSET-026-3 section 3.13 and appendix A.3 that this program keeps: every definition that a contract
-//! cites, in `specs/`, and the plain types that they speak of. There is no code here but the greatest numbers, one test of a
+//! cites, in `specs/`, and the plain types that they speak of. There is no code here but the greatest numbers, the tests of a
 //! range, and the base of made data. `docs/ASSUMPTIONS.md` lists what an assessor must believe: these definitions, and those
 //! of how an input is read, which stand in the crates that read it.
 #![tactic(auto)]
@@ -9,6 +9,7 @@ pub mod base;
 pub mod commands;
 pub mod data;
 pub mod faults;
+pub mod keys;
 pub mod motions;
 pub mod ranges;
 pub mod records;
@@ -28,7 +29,8 @@ pub use faults::{
 };
 pub use motions::{Phase, Point, Slice, Start};
 pub use ranges::{
-    GRADIENT_UNIT, LONGEST_TRACK_CM, LONGEST_TRAIN_CM, MOST_RECORDS, STEEPEST, TOP_KMH, is_within,
+    GRADIENT_UNIT, LONGEST_TRACK_CM, LONGEST_TRAIN_CM, MOST_RECORDS, STEEPEST, TOP_KMH,
+    first_refused, is_within, outside, outside_if_any, refused,
 };
 pub use records::Event;
 pub use restrictions::Restriction;

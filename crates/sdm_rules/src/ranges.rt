@@ -1,7 +1,7 @@
-//! The greatest numbers of the data, for code; `specs/Ranges.antt` has them as definitions. (own)
+//! The greatest numbers of the data, and numbers in their ranges, for code; `specs/Ranges.antt` has them as definitions. (own)
 
 ghost use Rattle.std.specs.Prelude.{◌≡◌};
-ghost use Rattle.sdm_rules.specs.Ranges.{is_within};
+ghost use Rattle.sdm_rules.specs.Ranges.{first_refused, is_within, is_within_if_any, refused};
 
 /// The greatest speed of a train, a target or a speed profile, in km/h.
 pub const TOP_KMH: u32 = 500;
@@ -26,4 +26,40 @@ pub fn is_within(least: i64, greatest: i64, n: i64) -> bool
     ensures { result ≡ is_within least greatest n }
 {
     least <= n && n <= greatest
+}
+
+/// The key of a number that is not accepted.
+pub fn refused(key: u8, accepted: bool) -> Option<u8>
+    ensures { result ≡ refused key accepted }
+{
+    if accepted { None } else { Some(key) }
+}
+
+/// The key of a number that is not from `least` to `greatest`.
+pub fn outside(key: u8, number: i64, least: i64, greatest: i64) -> Option<u8>
+    ensures { result ≡ refused key (is_within least greatest number) }
+{
+    refused(key, is_within(least, greatest, number))
+}
+
+/// So where there is a number.
+pub fn outside_if_any(key: u8, number: Option<i64>, least: i64, greatest: i64) -> Option<u8>
+    ensures { result ≡ refused key (is_within_if_any least greatest number) }
+{
+    match number {
+        None => None,
+        Some(number) => outside(key, number, least, greatest),
+    }
+}
+
+/// The first key of those that were refused.
+pub fn first_refused(keys: &[Option<u8>]) -> Option<u8>
+    ensures { result ≡ first_refused keys.now }
+{
+    for key in keys {
+        if key.is_some() {
+            return *key;
+        }
+    }
+    None
 }

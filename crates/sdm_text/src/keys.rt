@@ -1,10 +1,10 @@
-//! The names of the keys of the data part, in one table: the reader of the data looks them up by it, and a fault line tells
-//! them by it.
+//! The names of the keys of the data part by section and number: the reader of the data looks them up, and a fault line tells
+//! them.
 
 ghost use Rattle.std.specs.Prelude.{◌≡◌, map, option_map};
 ghost use Rattle.sdm_rules.specs.FaultLines.{key_name, key_names};
 
-use sdm_rules::Section;
+use sdm_rules::{Section, keys};
 
 /// The names of a section's keys, in the order of their numbers, which count from 1. (own)
 #[tactic(auto, unfolding(sdm_rules::specs::FaultLines::key_names))]
@@ -12,41 +12,15 @@ pub fn key_names(section: Section) -> &'static [&'static str]
     ensures { map (λ name. name.now) result.now ≡ key_names section }
 {
     match section {
-        Section::Root => &["version", "train", "national", "track", "authority"],
-        Section::Train => &[
-            "length",
-            "max_speed",
-            "rotating_mass",
-            "traction_cutoff_time",
-            "traction_cutoff_interface",
-            "emergency_time",
-            "service_time",
-            "service_brake",
-            "band",
-        ],
-        Section::Band => &[
-            "upper",
-            "emergency",
-            "service",
-            "normal",
-            "kdry",
-            "kwet",
-            "kn_up",
-            "kn_down",
-        ],
-        Section::National => &[
-            "avadh",
-            "adhesion_max",
-            "guidance",
-            "service_in_target",
-            "early_release",
-            "inhibit_under_reading",
-        ],
-        Section::Track => &["length", "gradient", "speed", "adhesion"],
-        Section::Gradient => &["start", "grad"],
-        Section::Speed => &["start", "speed", "delayed"],
-        Section::Adhesion => &["start", "end"],
-        Section::Authority => &["kind", "eoa", "svl", "release", "loa", "speed"],
+        Section::Root => &keys::ROOT,
+        Section::Train => &keys::TRAIN,
+        Section::Band => &keys::BAND,
+        Section::National => &keys::NATIONAL,
+        Section::Track => &keys::TRACK,
+        Section::Gradient => &keys::GRADIENT,
+        Section::Speed => &keys::SPEED,
+        Section::Adhesion => &keys::AREA,
+        Section::Authority => &keys::AUTHORITY,
     }
 }
 

@@ -153,18 +153,18 @@ are_speeds length_cm es e =
       rise = starts_rise sections.Speed (λ e. e.start) 1 es gap.1;
     }
 
-are_areas : (length_cm : ℤ) (es : List Area) → areas_fault length_cm es ≡ None → AreAreas length_cm es
+are_areas : (list : Section) (length_cm : ℤ) (es : List Area) → areas_fault list length_cm es ≡ None → AreAreas length_cm es
 unfolding areas_fault
-are_areas length_cm es e =
-    let count = neither (count_fault sections.Adhesion 0 most_areas es) _ e in
-    let values = neither (value_fault sections.Adhesion (area_refused length_cm) 1 es) _ count.1 in
+are_areas list length_cm es e =
+    let count = neither (count_fault list 0 most_areas es) _ e in
+    let values = neither (value_fault list (area_refused length_cm) 1 es) _ count.1 in
     let each = λ (k : ℕ) (d : Area) (l : k < length es).
-    is_area length_cm (get_or es k d) (each_accepted sections.Adhesion (area_refused length_cm) 1 es values.0 k d l) in
+    is_area length_cm (get_or es k d) (each_accepted list (area_refused length_cm) 1 es values.0 k d l) in
     record {
-      few = (count_within sections.Adhesion 0 most_areas es count.0).1;
+      few = (count_within list 0 most_areas es count.0).1;
       each = each;
       apart = all_in_order (λ a. a.start) (λ a. a.end) es (λ k d l. (let some = (each k d l).some_cell in omega (arith, ints)))
-          (each_in_order sections.Adhesion (λ a. a.start) (λ a. a.end) 1 es values.1);
+          (each_in_order list (λ a. a.start) (λ a. a.end) 1 es values.1);
     }
 
 pub track_accepted : (t : TrackData) → track_fault t ≡ None → IsTrack t
@@ -172,12 +172,12 @@ unfolding track_fault
 track_accepted t e =
     let long = neither (length_fault t.length_cm) _ e in
     let gradients = neither (gradients_fault t.length_cm t.gradients) _ long.1 in
-    let speeds = neither (speeds_fault t.length_cm t.speeds) (areas_fault t.length_cm t.areas) gradients.1 in
+    let speeds = neither (speeds_fault t.length_cm t.speeds) (areas_fault sections.Adhesion t.length_cm t.areas) gradients.1 in
     let length = within (pos 1) (pos longest_track) t.length_cm (passed _ (Value sections.Track 0 1) long.0) in
     record {
       shortest = length.0;
       longest = length.1;
       gradients = are_gradients t.length_cm t.gradients gradients.0;
       speeds = are_speeds t.length_cm t.speeds speeds.0;
-      areas = are_areas t.length_cm t.areas speeds.1;
+      areas = are_areas sections.Adhesion t.length_cm t.areas speeds.1;
     }

@@ -4,13 +4,16 @@
 ghost use Rattle.std.specs.Prelude.{◌≡◌, ℕ, ℤ, pos, neg_ℤ, ◌+◌, ◌^◌, ◌+ℤ◌, ◌-ℤ◌, ◌<◌, ◌≤◌, Option, Bool, int_lt, length};
 ghost use Rattle.sdm_rules.specs.Ranges.{gradient_refused, speed_refused, area_refused, count_fault, value_fault, gap_fault, order_fault, gradients_fault, speeds_fault, areas_fault, or_else};
 
-use sdm_rules::{Area, Gradient, STEEPEST, Section, SpeedStep, TOP_KMH, TrackFault, is_within};
+use sdm_rules::{
+    Area, Gradient, STEEPEST, Section, SpeedStep, TOP_KMH, TrackFault, first_refused, is_within,
+    keys, outside,
+};
 
 /// The most gradients of a track. (own)
 const MOST_GRADIENTS: usize = 512;
 /// The most entries of a static speed profile. (own)
 const MOST_SPEEDS: usize = 128;
-/// The most areas of reduced adhesion. (own)
+/// The most areas of a list. (own)
 const MOST_AREAS: usize = 64;
 
 /// An entry of one of the lists.
@@ -47,13 +50,15 @@ impl Listed for Gradient {
     }
 
     fn refused_key(&self, length_cm: u32) -> Option<u8> {
-        if !is_within(0, i64::from(length_cm) - 1, self.start) {
-            return Some(1);
-        }
-        if !is_within(-STEEPEST, STEEPEST, self.grad) {
-            return Some(2);
-        }
-        None
+        first_refused(&[
+            outside(
+                keys::GRADIENT_START,
+                self.start,
+                0,
+                i64::from(length_cm) - 1,
+            ),
+            outside(keys::GRADIENT_GRAD, self.grad, -STEEPEST, STEEPEST),
+        ])
     }
 
     fn overlaps(&self, next: &Gradient) -> bool {
@@ -73,13 +78,10 @@ impl Listed for SpeedStep {
     }
 
     fn refused_key(&self, length_cm: u32) -> Option<u8> {
-        if !is_within(0, i64::from(length_cm) - 1, self.start) {
-            return Some(1);
-        }
-        if !is_within(1, i64::from(TOP_KMH), self.speed) {
-            return Some(2);
-        }
-        None
+        first_refused(&[
+            outside(keys::SPEED_START, self.start, 0, i64::from(length_cm) - 1),
+            outside(keys::SPEED_SPEED, self.speed, 1, i64::from(TOP_KMH)),
+        ])
     }
 
     fn overlaps(&self, next: &SpeedStep) -> bool {
@@ -101,10 +103,10 @@ impl Listed for Area {
     fn refused_key(&self, length_cm: u32) -> Option<u8> {
         let length = i64::from(length_cm);
         if !is_within(0, length - 1, self.start) {
-            return Some(1);
+            return Some(keys::AREA_START);
         }
         if !is_within(self.start + 1, length, self.end) {
-            return Some(2);
+            return Some(keys::AREA_END);
         }
         None
     }
@@ -209,16 +211,16 @@ pub fn speeds_fault(length_cm: u32, entries: &[SpeedStep]) -> Option<TrackFault>
     steps_fault(Section::Speed, 1, MOST_SPEEDS, length_cm, entries)
 }
 
-/// The first rule that the areas of reduced adhesion break. They need not begin at 0.
+/// The first rule that a list of areas breaks. It need not begin at 0.
 #[tactic(auto, unfolding(sdm_rules::specs::Ranges::areas_fault))]
-pub fn areas_fault(length_cm: u32, entries: &[Area]) -> Option<TrackFault>
-    ensures { result ≡ areas_fault (pos length_cm) entries.now }
+pub fn areas_fault(list: Section, length_cm: u32, areas: &[Area]) -> Option<TrackFault>
+    ensures { result ≡ areas_fault list (pos length_cm) areas.now }
 {
-    if let Some(fault) = count_fault(Section::Adhesion, 0, MOST_AREAS, entries) {
+    if let Some(fault) = count_fault(list, 0, MOST_AREAS, areas) {
         return Some(fault);
     }
-    if let Some(fault) = value_fault(Section::Adhesion, length_cm, entries) {
+    if let Some(fault) = value_fault(list, length_cm, areas) {
         return Some(fault);
     }
-    order_fault(Section::Adhesion, entries)
+    order_fault(list, areas)
 }

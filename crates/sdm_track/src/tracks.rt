@@ -2,14 +2,14 @@
 
 ghost use Rattle.std.specs.Prelude.{◌≡◌, ℤ, pos, ◌<◌, ◌≤◌, length, slice_get, Some, None, IfOk, IfErr};
 ghost use Rattle.sdm_rules.specs.Ranges.{track_fault, longest_train};
-ghost use Rattle.sdm_rules.specs.Decelerations.{is_in_force, under_train};
+ghost use Rattle.sdm_rules.specs.Decelerations.{any_in_force, is_in_force, under_train};
 ghost use Rattle.sdm_track.specs.Ranges.{IsTrack, IsGradient, IsSpeedStep, IsArea, track_data};
 ghost use Rattle.sdm_track.specs.Segments.{AreSegments, segment_gradient};
 
 use crate::entries::{areas_fault, gradients_fault, speeds_fault};
 use crate::under_train::{self, Segments};
 use sdm_num::NoMemory;
-use sdm_rules::{Area, Gradient, LONGEST_TRACK_CM, Section, SpeedStep, TrackFault};
+use sdm_rules::{Area, Gradient, LONGEST_TRACK_CM, Section, SpeedStep, TrackFault, keys};
 use std::alloc::Global;
 use std::marker::Model;
 
@@ -49,7 +49,7 @@ fn fault_of(
         return Some(TrackFault::Value {
             list: Section::Track,
             index: 0,
-            key: 1,
+            key: keys::TRACK_LENGTH,
         });
     }
     if let Some(fault) = gradients_fault(length_cm, gradients) {
@@ -58,7 +58,7 @@ fn fault_of(
     if let Some(fault) = speeds_fault(length_cm, speeds) {
         return Some(fault);
     }
-    areas_fault(length_cm, areas)
+    areas_fault(Section::Adhesion, length_cm, areas)
 }
 
 // Whether the area is in force for a front end in the cell.
@@ -68,6 +68,13 @@ fn is_in_force(area: &Area, cell: i32, length_cm: u32) -> bool
     let front = i64::from(cell);
     let rear = front - i64::from(length_cm);
     area.start <= front && rear < area.end
+}
+
+// Whether some area of a list is.
+fn any_in_force(areas: &[Area], cell: i32, length_cm: u32) -> bool
+    ensures { result ≡ any_in_force areas.now (pos length_cm) cell }
+{
+    areas.iter().any(|area| is_in_force(area, cell, length_cm))
 }
 
 impl Track {
@@ -116,6 +123,14 @@ impl Track {
         ensures in_range { IsTrack self.now }
     {
         self.speeds.len()
+    }
+
+    /// The areas of reduced adhesion: at most 64.
+    pub fn areas(&self) -> &[Area]
+        ensures value { result.now ≡ self.now.areas }
+        ensures in_range { IsTrack self.now }
+    {
+        &self.areas
     }
 
     /// How many areas of reduced adhesion there are: at most 64.
@@ -169,8 +184,6 @@ impl Track {
     pub fn reduced(&self, cell: i32, length_cm: u32) -> bool
         ensures { result ≡ (under_train self.now (pos length_cm) cell).reduced }
     {
-        self.areas
-            .iter()
-            .any(|area| is_in_force(area, cell, length_cm))
+        any_in_force(&self.areas, cell, length_cm)
     }
 }

@@ -5,8 +5,7 @@ ghost use Rattle.std.specs.Prelude.{◌≡◌, ◌≤◌, length, pos};
 ghost use Rattle.sdm_rules.specs.Slopes.{most_bands};
 ghost use Rattle.sdm_rules.specs.Ranges.{band_order_fault, band_refused, band_value_fault, order_of_last};
 
-use crate::ranges::{first_refused, outside, outside_if_any};
-use sdm_rules::{Band, TOP_KMH, TrainFault};
+use sdm_rules::{Band, TOP_KMH, TrainFault, first_refused, keys, outside, outside_if_any};
 
 /// The first number of the bands that is refused.
 pub fn band_value_fault(bands: &[Band]) -> Option<TrainFault>
@@ -28,14 +27,14 @@ fn band_refused(band: &Band) -> Option<u8>
     ensures { result ≡ band_refused band.now }
 {
     first_refused(&[
-        outside_if_any(1, band.upper, 1, i64::from(TOP_KMH)),
-        outside(2, band.emergency, 1, 400),
-        outside(3, band.service, 1, 400),
-        outside(4, band.normal, 1, 400),
-        outside(5, band.kdry, 1, 1000),
-        outside(6, band.kwet, 1, 1000),
-        outside(7, band.kn_up, 0, 1000),
-        outside(8, band.kn_down, 0, 1000),
+        outside_if_any(keys::BAND_UPPER, band.upper, 1, i64::from(TOP_KMH)),
+        outside(keys::BAND_EMERGENCY, band.emergency, 1, 400),
+        outside(keys::BAND_SERVICE, band.service, 1, 400),
+        outside(keys::BAND_NORMAL, band.normal, 1, 400),
+        outside(keys::BAND_KDRY, band.kdry, 1, 1000),
+        outside(keys::BAND_KWET, band.kwet, 1, 1000),
+        outside(keys::BAND_KN_UP, band.kn_up, 0, 1000),
+        outside(keys::BAND_KN_DOWN, band.kn_down, 0, 1000),
     ])
 }
 

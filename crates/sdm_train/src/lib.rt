@@ -2,7 +2,6 @@
 #![tactic(auto)]
 
 mod bands;
-mod ranges;
 mod rules;
 mod trains;
 

@@ -1,13 +1,18 @@
-//! The rules of a train, in their order: its own numbers, the count of its bands, and the rules of the bands. Keys have
-//! the numbers that docs/FORMATS.md gives them.
+//! The rules of a train, in their order: its own numbers, the count of its bands, and the rules of the bands.
 
 ghost use Rattle.std.specs.Prelude.{◌≡◌, ◌==◌, ◌%◌, ◌&&◌, pos, unsigned_abs};
 ghost use Rattle.sdm_rules.specs.Data.{train_of};
 ghost use Rattle.sdm_rules.specs.Ranges.{band_count_fault, is_within, train_fault, train_refused};
 
 use crate::bands::{band_order_fault, band_value_fault};
-use crate::ranges::{first_refused, outside, outside_if_any, refused};
-use sdm_rules::{LONGEST_TRAIN_CM, MOST_BANDS, TOP_KMH, TrainFault, TrainFields, is_within};
+use sdm_rules::keys::{
+    TRAIN_EMERGENCY_TIME, TRAIN_LENGTH, TRAIN_MAX_SPEED, TRAIN_ROTATING_MASS, TRAIN_SERVICE_TIME,
+    TRAIN_TRACTION_CUTOFF_TIME,
+};
+use sdm_rules::{
+    LONGEST_TRAIN_CM, MOST_BANDS, TOP_KMH, TrainFault, TrainFields, first_refused, is_within,
+    outside, outside_if_any, refused,
+};
 
 /// The first rule that the train breaks.
 #[tactic(auto, unfolding(sdm_rules::specs::Ranges::train_fault))]
@@ -32,12 +37,17 @@ fn train_refused(fields: &TrainFields) -> Option<u8>
     ensures { result ≡ train_refused (train_of fields.now) }
 {
     first_refused(&[
-        outside(1, fields.length, 1, i64::from(LONGEST_TRAIN_CM)),
-        outside(2, fields.max_speed, 1, i64::from(TOP_KMH)),
-        outside_if_any(3, fields.rotating_mass, 0, 50),
-        outside(4, fields.traction_cutoff_time, 0, 300),
-        outside(6, fields.emergency_time, 0, 300),
-        refused(7, is_service_time(fields.service_time)),
+        outside(TRAIN_LENGTH, fields.length, 1, i64::from(LONGEST_TRAIN_CM)),
+        outside(TRAIN_MAX_SPEED, fields.max_speed, 1, i64::from(TOP_KMH)),
+        outside_if_any(TRAIN_ROTATING_MASS, fields.rotating_mass, 0, 50),
+        outside(
+            TRAIN_TRACTION_CUTOFF_TIME,
+            fields.traction_cutoff_time,
+            0,
+            300,
+        ),
+        outside(TRAIN_EMERGENCY_TIME, fields.emergency_time, 0, 300),
+        refused(TRAIN_SERVICE_TIME, is_service_time(fields.service_time)),
     ])
 }
 
