@@ -3,3 +3,4 @@ pub mod Ints
 pub mod Floors
 pub mod Order
 pub mod Sides
+mod BoundCases

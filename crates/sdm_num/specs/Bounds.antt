@@ -3,7 +3,7 @@
 use Rattle.std.specs.Prelude.{ℕ, ℤ, pos, neg_ℤ, ◌<◌, ◌+ℤ◌, unsigned_abs}
 use Rattle.std.specs.Int.{int_div_euclid, int_min, int_max}
 use Rattle.sdm_num.specs.Units.{millimetre}
-use Rattle.sdm_num.specs.Fractions.{Fraction, IsAtMost, whole}
+use Rattle.sdm_num.specs.Fractions.{Fraction, IsAtMost, IsSame, whole}
 
 -- a place in grains, and how many grains the exact place may be from it
 pub record Bound : Type 0 where
@@ -21,6 +21,20 @@ pub record IsLateFor (l : Bound) (x : Fraction) : Type 0 where
   pub positive : 0 < x.m
   pub not_before : IsAtMost x (whole l.at)
   pub near : IsAtMost (whole (l.at +ℤ neg_ℤ (pos l.slack))) x
+
+-- the number is what an operation makes of a place that P holds of
+pub record IsResultOf (P : Fraction → Type 0) (op : Fraction → Fraction) (z : Fraction) : Type 0 where
+  pub place : Fraction
+  pub holds : P place
+  pub same : IsSame (op place) z
+
+-- the number is what an operation makes of two places, of which P and Q hold
+pub record IsResultOfTwo (P Q : Fraction → Type 0) (op : Fraction → Fraction → Fraction) (z : Fraction) : Type 0 where
+  pub left : Fraction
+  pub right : Fraction
+  pub left_holds : P left
+  pub right_holds : Q right
+  pub same : IsSame (op left right) z
 
 -- the most slack that a bound may have: a millimetre
 abbrev pub most_room : ℕ

@@ -4,7 +4,7 @@
 ghost use Rattle.std.specs.Prelude.{◌≡◌, ℕ, ℤ, pos, neg_ℤ, IsTrue, ◌↔◌, ◌≤◌, ◌<◌, ◌*ℤ◌, ◌+ℤ◌, ◌≤ℤ◌, ◌<ℤ◌, ◌+◌, ◌^◌, min};
 ghost use Rattle.sdm_num.specs.Units.{IsPlace};
 ghost use Rattle.sdm_num.specs.Fractions.{Fraction, greater, less, lesser, more, whole};
-ghost use Rattle.sdm_num.specs.Bounds.{Bound, IsEarlyFor, IsLateFor, earlier_of, later_of, mm_above, mm_below, most_room};
+ghost use Rattle.sdm_num.specs.Bounds.{Bound, IsEarlyFor, IsLateFor, IsResultOf, IsResultOfTwo, earlier_of, later_of, mm_above, mm_below, most_room};
 
 use crate::places::Place;
 use std::marker::Model;
@@ -71,6 +71,7 @@ impl Early {
         requires { IsPlace (self.at +ℤ neg_ℤ (pos grains)) }
         ensures value { result ≡ record self { at = self.at +ℤ neg_ℤ (pos grains) } }
         ensures stands { (x : Fraction) → IsEarlyFor self x → IsEarlyFor result (less x grains) }
+        ensures only { (z : Fraction) → IsEarlyFor result z → IsResultOf (IsEarlyFor self) (λ x. less x grains) z }
     {
         Early {
             at: self.at.less(grains),
@@ -82,6 +83,7 @@ impl Early {
     pub fn earlier(self, other: Early) -> Early
         ensures value { result ≡ earlier_of self other }
         ensures stands { (x y : Fraction) → IsEarlyFor self x → IsEarlyFor other y → IsEarlyFor result (lesser x y) }
+        ensures only { (z : Fraction) → IsEarlyFor result z → IsResultOfTwo (IsEarlyFor self) (IsEarlyFor other) lesser z }
     {
         if other.at.grains() < self.at.grains() {
             Early {
@@ -165,6 +167,7 @@ impl Late {
         requires { IsPlace (self.at +ℤ pos grains) }
         ensures value { result ≡ record self { at = self.at +ℤ pos grains } }
         ensures stands { (x : Fraction) → IsLateFor self x → IsLateFor result (more x grains) }
+        ensures only { (z : Fraction) → IsLateFor result z → IsResultOf (IsLateFor self) (λ x. more x grains) z }
     {
         Late {
             at: self.at.more(grains),
@@ -176,6 +179,7 @@ impl Late {
     pub fn later(self, other: Late) -> Late
         ensures value { result ≡ later_of self other }
         ensures stands { (x y : Fraction) → IsLateFor self x → IsLateFor other y → IsLateFor result (greater x y) }
+        ensures only { (z : Fraction) → IsLateFor result z → IsResultOfTwo (IsLateFor self) (IsLateFor other) greater z }
     {
         if self.at.grains() < other.at.grains() {
             Late {

@@ -1,7 +1,7 @@
 use Rattle.std.proofs.Common.{subst, sym, ◌∙◌}
 use Rattle.sdm_num.specs.Fractions.{lesser}
 use Rattle.sdm_num.specs.Bounds.{Bound, IsEarlyFor}
-use Rattle.sdm_num.proofs.Sides.{bound, IsEarlyFor_lesser, earlier_is, earlier_swap}
+use Rattle.sdm_num.proofs.Sides.{bound, early_only_lesser, IsEarlyFor_lesser, earlier_is, earlier_swap}
 use Rattle.sdm_num.proofs.bounds.Early.earlier.Goals as goal
 
 pub returns-then-grains-clause-value : goal.returns-then-grains-clause-value
@@ -21,3 +21,9 @@ returns-else-grains-clause-value c =
 
 pub returns-else-grains-clause-stands : goal.returns-else-grains-clause-stands
 returns-else-grains-clause-stands c = λ x y h k. subst (λ (b : Bound). IsEarlyFor b (lesser x y)) (sym (returns-else-grains-clause-value c)) (IsEarlyFor_lesser c.args.self c.args.other x y h k)
+
+pub returns-then-grains-clause-only : goal.returns-then-grains-clause-only
+returns-then-grains-clause-only c = λ z h. early_only_lesser c.args.self c.args.other z (subst (λ (b : Bound). IsEarlyFor b z) (returns-then-grains-clause-value c) h)
+
+pub returns-else-grains-clause-only : goal.returns-else-grains-clause-only
+returns-else-grains-clause-only c = λ z h. early_only_lesser c.args.self c.args.other z (subst (λ (b : Bound). IsEarlyFor b z) (returns-else-grains-clause-value c) h)

@@ -1,7 +1,7 @@
 use Rattle.std.proofs.Common.{subst, sym, ◌∙◌}
 use Rattle.sdm_num.specs.Fractions.{greater}
 use Rattle.sdm_num.specs.Bounds.{Bound, IsLateFor}
-use Rattle.sdm_num.proofs.Sides.{bound, IsLateFor_greater, later_is, later_swap}
+use Rattle.sdm_num.proofs.Sides.{bound, late_only_greater, IsLateFor_greater, later_is, later_swap}
 use Rattle.sdm_num.proofs.bounds.Late.later.Goals as goal
 
 pub returns-then-grains-clause-value : goal.returns-then-grains-clause-value
@@ -21,3 +21,9 @@ returns-else-grains-clause-value c =
 
 pub returns-else-grains-clause-stands : goal.returns-else-grains-clause-stands
 returns-else-grains-clause-stands c = λ x y h k. subst (λ (b : Bound). IsLateFor b (greater x y)) (sym (returns-else-grains-clause-value c)) (IsLateFor_greater c.args.self c.args.other x y h k)
+
+pub returns-then-grains-clause-only : goal.returns-then-grains-clause-only
+returns-then-grains-clause-only c = λ z h. late_only_greater c.args.self c.args.other z (subst (λ (b : Bound). IsLateFor b z) (returns-then-grains-clause-value c) h)
+
+pub returns-else-grains-clause-only : goal.returns-else-grains-clause-only
+returns-else-grains-clause-only c = λ z h. late_only_greater c.args.self c.args.other z (subst (λ (b : Bound). IsLateFor b z) (returns-else-grains-clause-value c) h)
