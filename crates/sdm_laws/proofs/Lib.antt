@@ -20,6 +20,7 @@ pub mod Reaction
 mod MotionCases
 mod MachineCases
 mod StopCases
+mod PromiseCases
 pub mod Segments
 pub mod TriggerOrder
 pub mod Nearness
@@ -33,6 +34,7 @@ pub mod StopFacts
 pub mod Stops
 pub mod Headline
 pub mod Journeys
+pub mod PrintedLimits
 pub mod FlatFacts
 pub mod Settled
 pub mod Search
@@ -40,3 +42,4 @@ pub mod Decided
 pub mod OneFault
 pub mod OneRun
 mod OpenCases
+mod HeadlineCases

@@ -1,10 +1,7 @@
 -- The three machines for the emergency command differ, so that their order says something: two bands of 0.7 m/s² meet at 18 km/h, EOA
 -- and SvL lie at 1000 m, and the train runs at 14 m/s. The exact EBI is at 860 m; rounding at the border costs the computed one a grain.
-use Rattle.std.proofs.Common.{◌≡◌, refl, ap, sym, ◌∙◌, ◌*◌}
-use Rattle.std.specs.Prelude.{ℕ, zero, suc, ℤ, map, pos, negsuc, unsigned_abs, Bool, true, false, List, [], ◌∷◌, Option, Some, None, is_some}
-use Rattle.std.specs.FinMap as finite
-use Rattle.std.specs.Ordering.{nat_cmp}
-use Rattle.std.proofs.lemmas.List.{nil_from_length}
+use Rattle.std.proofs.Common.{◌≡◌, refl, ap, ◌∙◌}
+use Rattle.std.specs.Prelude.{ℕ, zero, suc, ℤ, pos, negsuc, unsigned_abs, Bool, true, false, List, [], ◌∷◌, Option, Some, None}
 use Rattle.std.proofs.Math.Path.{fun_ext}
 use Rattle.sdm_num.specs.Units.{millimetre}
 use Rattle.sdm_num.specs.Fractions.{Fraction, whole}
@@ -13,22 +10,21 @@ use Rattle.sdm_rules.specs.declared.authorities.Authority.TheVariants.{Stop}
 use Rattle.sdm_rules.specs.declared.data.Band.{Band}
 use Rattle.sdm_rules.specs.declared.data.SlopeKind.{SlopeKind}
 use Rattle.sdm_rules.specs.declared.data.SlopeKind.TheVariants.{Safe, Expected, Normal}
-use Rattle.sdm_rules.specs.declared.restrictions.Restriction.{Restriction}
-use Rattle.sdm_rules.specs.declared.authorities.Authority.{Authority}
 use Rattle.sdm_rules.specs.declared.targets.Target.{Target}
 use Rattle.sdm_rules.specs.declared.targets.TargetKind.TheVariants.{Eoa, Svl}
 use Rattle.sdm_rules.specs.Slopes.{Slopes}
 use Rattle.sdm_rules.specs.Data.{TrainAndTrack}
 use Rattle.sdm_rules.specs.Decelerations.{slope_at, slopes_of}
-use Rattle.sdm_rules.specs.Profile.{mrsp, lowest_between}
+use Rattle.sdm_rules.specs.Profile.{mrsp}
 use Rattle.sdm_rules.specs.Targets.{targets_of}
-use Rattle.sdm_rules.specs.Reaction.{reaction_times, service_in_use}
+use Rattle.sdm_rules.specs.Reaction.{reaction_times}
 use Rattle.sdm_rules.specs.Curves.{place_at, stepped, exact, exact_at, arc_back, back, arc_forward, forward}
 use Rattle.sdm_rules.specs.Limits.{CurvePlaces, SupervisionLimits, computed, exact_places, limits_of}
 use Rattle.sdm_rules.specs.Triggers.{Situation, triggers_of}
-use Rattle.sdm_rules.specs.Commands.{commands_after, emergency_after}
-use Rattle.sdm_rules.specs.Supervision.{Supervision, opening, release_of, is_past_end, situation_of, commands_in, state_in}
-use Rattle.sdm_rules.specs.Machines.{machine_after, must_after, may_after, held_after}
+use Rattle.sdm_rules.specs.Commands.{emergency_after}
+use Rattle.sdm_rules.specs.Supervision.{Supervision, opening}
+use Rattle.sdm_rules.specs.Machines.{machine_after, must_after, may_after}
+use Rattle.sdm_rules.proofs.Openings.{opening_situation, situation_with}
 use Rattle.sdm_rules.proofs.Journeys.{plain_band, plain_national, plain_train_and_track, reading_at}
 
 -- 0.7 m/s² for each brake, up to a speed in km/h
@@ -42,30 +38,6 @@ two_band_line =
 
 unfoldable two_bands : Supervision
 two_bands = opening two_band_line (Stop 100_000 100_000 0)
-
--- where no restriction is in force; a finite map doesn't compute
-none_in_force : finite.entries (finite.empty {X = Restriction} {R = nat_cmp}) ≡ []
-none_in_force = nil_from_length _ (sym (finite.len-entries finite.empty) ∙ finite.len-empty nat_cmp Restriction)
-
--- what the triggers look at with these restrictions in force
-situation_with : TrainAndTrack → Authority → List Restriction → OdometerReading → Situation
-situation_with d a restrictions r =
-    let release = release_of d a r.max in
-    let profile = mrsp d.train d.track restrictions in
-    record {
-      speed = r.speed;
-      ceiling_kmh = lowest_between profile r.min r.max;
-      est = r.est;
-      front = r.max;
-      targets = targets_of profile a r.max (is_some release);
-      past_end = is_past_end a r.min;
-      release = release;
-      in_use = service_in_use d;
-    }
-
-opening_situation : (d : TrainAndTrack) (a : Authority) (r : OdometerReading) → situation_of (opening d a) r ≡ situation_with d a [] r
-unfolding situation_of situation_with
-opening_situation d a r = ap (λ es. situation_with d a (map (λ e. e.1) es) r) none_in_force
 
 -- 14 m/s, 756,000 notches, with the front ends at a place in grains
 unfoldable at_14_m_s : ℤ → OdometerReading
@@ -185,7 +157,10 @@ commanded_at P shift place x at seen =
     ∙ (ap (λ now. emergency_after false (triggers_of (limits_of P two_bands.train_and_track (estimate_of (at_14_m_s place))) shift now) false false) seen
     ∙ ap (λ t. emergency_after false t false false) (triggers_of_two (limits_of P two_bands.train_and_track (estimate_of (at_14_m_s place))) (limits_with x) shift place limits.0 limits.1))
 
--- the front ends on the exact EBI, a millimetre less a grain before it, and a millimetre before it
+-- the front ends a grain past the exact EBI, on it, a millimetre less a grain before it, and a millimetre before it
+past_the_limit : ℤ
+past_the_limit = pos 464_400_000_000_001
+
 on_the_limit : ℤ
 on_the_limit = pos 464_400_000_000_000
 
@@ -194,6 +169,10 @@ within_a_millimetre = pos 464_399_460_000_001
 
 a_millimetre_before : ℤ
 a_millimetre_before = pos 464_399_460_000_000
+
+seen_past : situation_with two_bands.train_and_track two_bands.authority [] (at_14_m_s past_the_limit) ≡ seen_at past_the_limit
+unfolding two_bands two_band_line plain_train_and_track plain_national at_14_m_s reading_at situation_with seen_at eoa svl past_the_limit targets_of mrsp
+seen_past = refl
 
 seen_on : situation_with two_bands.train_and_track two_bands.authority [] (at_14_m_s on_the_limit) ≡ seen_at on_the_limit
 unfolding two_bands two_band_line plain_train_and_track plain_national at_14_m_s reading_at situation_with seen_at eoa svl on_the_limit targets_of mrsp
@@ -226,10 +205,10 @@ three_decided place seen =
     )
     refl
 
--- on the exact EBI the exact machine doesn't command, the others do; of places before it within a millimetre only the early machine
--- does, down to the last grain; a millimetre before it none does
+-- past the exact EBI all command; on it the exact machine doesn't, the others do; of places before it within a millimetre only the early
+-- machine does, down to the last grain; a millimetre before it none does
 machines_differ :
-    three_commands on_the_limit ∷ three_commands within_a_millimetre ∷ three_commands a_millimetre_before ∷ []
-    ≡ (false ∷ true ∷ true ∷ []) ∷ (false ∷ false ∷ true ∷ []) ∷ (false ∷ false ∷ false ∷ []) ∷ []
-unfolding on_the_limit within_a_millimetre a_millimetre_before decided limits_with exact_860_m seen_at eoa svl two_bands two_band_line plain_train_and_track plain_national at_14_m_s reading_at triggers_of limits_of reaction_times emergency_after
-machines_differ = rw (three_decided on_the_limit seen_on, three_decided within_a_millimetre seen_within, three_decided a_millimetre_before seen_before) refl
+    three_commands past_the_limit ∷ three_commands on_the_limit ∷ three_commands within_a_millimetre ∷ three_commands a_millimetre_before ∷ []
+    ≡ (true ∷ true ∷ true ∷ []) ∷ (false ∷ true ∷ true ∷ []) ∷ (false ∷ false ∷ true ∷ []) ∷ (false ∷ false ∷ false ∷ []) ∷ []
+unfolding past_the_limit on_the_limit within_a_millimetre a_millimetre_before decided limits_with exact_860_m seen_at eoa svl two_bands two_band_line plain_train_and_track plain_national at_14_m_s reading_at triggers_of limits_of reaction_times emergency_after
+machines_differ = rw (three_decided past_the_limit seen_past, three_decided on_the_limit seen_on, three_decided within_a_millimetre seen_within, three_decided a_millimetre_before seen_before) refl

@@ -47,14 +47,21 @@ start_without_under_reading : reaction_start (timed_line true) gaining_reading �
 unfolding timed_line plain_train_and_track plain_national gaining_reading reaction_times
 start_without_under_reading = refl
 
+-- without an interface the traction pushes for its whole 2 s, and 1 s of the brake's 3 s is left
+start_without_interface :
+    reaction_start (record (timed_line false) { train = record ((timed_line false).train) { cut_off_interface = false } }) gaining_reading
+    ≡ record { front = pos 1_784_700_000_000_000; speed = 2_187_000; accel1 = 50; accel2 = 40; traction = 20; berem = 10 }
+unfolding timed_line plain_train_and_track plain_national gaining_reading reaction_times
+start_without_interface = refl
+
 -- ---- a motion from a reading
 
-braked_line : TrainAndTrack
+unfoldable pub braked_line : TrainAndTrack
 braked_line =
     let line = plain_train_and_track (pos 10_000) (Some (pos 0)) plain_band [] [] in
     record line { train = record (line.train) { emergency_time = pos 20 } }
 
-reading_at_760_m : OdometerReading
+unfoldable pub reading_at_760_m : OdometerReading
 reading_at_760_m = reading_at 0 (pos 410_400_000_000_000) 1_080_000
 
 -- 1 m/s² in the one band
@@ -77,18 +84,18 @@ unfolding braked_line plain_train_and_track plain_band slopes_of plain_slopes
 safe_slopes = ap (λ f. record { q = 100; uppers = []; slope = f }) (fun_ext (λ band. fun_ext (λ cell. each_slope band cell)))
 
 -- 40 m while the brake builds up
-before_braking : List Slice
+unfoldable pub before_braking : List Slice
 before_braking =
     record { phase = Build; time = 10; to = 1_080_000; length = 10_800_000_000_000 }
     ∷ record { phase = Build; time = 5; to = 1_080_000; length = 5_400_000_000_000 }
     ∷ record { phase = Build; time = 5; to = 1_080_000; length = 5_400_000_000_000 }
     ∷ []
 
-at_800_m : Point
+unfoldable pub at_800_m : Point
 at_800_m = record { place = pos 432_000_000_000_000; square = 1_166_400_000_000 }
 
 -- and then 50, 50 and 100 m at 1 m/s², to the SvL itself
-braking : List Point
+unfoldable pub braking : List Point
 braking =
     record { place = pos 459_000_000_000_000; square = 874_800_000_000 }
     ∷ record { place = pos 486_000_000_000_000; square = 583_200_000_000 }
@@ -126,7 +133,7 @@ the_braking = (
 )
 
 -- it stops at the SvL to the grain
-stops_at_the_svl : IsMotionOn (slopes_of Safe braked_line) (reaction_start braked_line reading_at_760_m) 1 (pos 410_400_000_000_000) 1_080_000 before_braking at_800_m braking
+pub stops_at_the_svl : IsMotionOn (slopes_of Safe braked_line) (reaction_start braked_line reading_at_760_m) 1 (pos 410_400_000_000_000) 1_080_000 before_braking at_800_m braking
 unfolding braked_line plain_train_and_track plain_national reading_at_760_m reading_at reaction_times before_braking at_800_m
 stops_at_the_svl = rw safe_slopes (
   omega arith,
@@ -146,6 +153,81 @@ stops_at_the_svl = rw safe_slopes (
       };
       begins = refl;
       braking = the_braking;
+    };
+  },
+)
+
+-- a train that stands, at scale 2, a quarter of a grain before where the front end is at most
+unfoldable pub standing : Slice
+standing = record { phase = Build; time = 40; to = 0; length = 0 }
+
+unfoldable pub where_it_stands : Point
+where_it_stands = record { place = pos 1_641_599_999_999_999; square = 0 }
+
+pub stands_before_the_front : IsMotionOn (slopes_of Safe braked_line) (reaction_start braked_line reading_at_760_m) 2 (pos 1_641_599_999_999_999) 0 (standing ∷ []) where_it_stands []
+unfolding braked_line plain_train_and_track plain_national reading_at_760_m reading_at reaction_times standing where_it_stands
+stands_before_the_front = (
+  omega arith,
+  record {
+    place = omega (arith, ints);
+    speed = omega arith;
+    motion = record {
+      reaction = record {
+        traction = [];
+        build = record { phase = Build; time = 40; to = 0; length = 0 } ∷ [];
+        split = refl;
+        in_traction = λ k d l. absurd (omega arith);
+        in_build = λ k d l. first_only k d l;
+        traction_time = refl;
+        build_time = refl;
+        slices = (record { gains = omega arith; moves = omega arith }, tt);
+      };
+      begins = refl;
+      braking = refl;
+    };
+  },
+)
+  where
+    first_only : IsIn Build (record { phase = Build; time = 40; to = 0; length = 0 } ∷ [])
+    first_only zero d l = refl
+    first_only (suc k) d l = absurd (omega arith)
+
+-- a train that runs on for 1 s, and whose speed then drops before its brake works
+unfoldable pub stopping : List Slice
+stopping =
+    record { phase = Build; time = 10; to = 1_080_000; length = 10_800_000_000_000 }
+    ∷ record { phase = Build; time = 10; to = 0; length = 0 }
+    ∷ []
+
+all_stopping : IsIn Build stopping
+unfolding stopping
+all_stopping zero d l = refl
+all_stopping (suc zero) d l = refl
+all_stopping (suc (suc k)) d l = absurd (omega arith)
+
+unfoldable pub at_780_m : Point
+at_780_m = record { place = pos 421_200_000_000_000; square = 0 }
+
+pub stops_before_braking : IsMotionOn (slopes_of Safe braked_line) (reaction_start braked_line reading_at_760_m) 1 (pos 410_400_000_000_000) 1_080_000 stopping at_780_m []
+unfolding braked_line plain_train_and_track plain_national reading_at_760_m reading_at reaction_times stopping at_780_m
+stops_before_braking = (
+  omega arith,
+  record {
+    place = omega (arith, ints);
+    speed = omega arith;
+    motion = record {
+      reaction = record {
+        traction = [];
+        build = stopping;
+        split = refl;
+        in_traction = λ k d l. absurd (omega arith);
+        in_build = all_stopping;
+        traction_time = refl;
+        build_time = refl;
+        slices = (record { gains = omega arith; moves = omega arith }, (record { gains = omega arith; moves = omega arith }, tt));
+      };
+      begins = refl;
+      braking = refl;
     };
   },
 )

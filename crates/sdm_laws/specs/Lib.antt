@@ -2,5 +2,6 @@ pub mod Energy
 pub mod CurveLaws
 pub mod MotionLaws
 pub mod SupervisionLaws
+pub mod PrintedLimits
 pub mod FlatLaws
 pub mod RunLaws

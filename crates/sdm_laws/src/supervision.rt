@@ -1,6 +1,7 @@
 //! The laws of supervision: of every accepted supervision state and reading, and of every list of records. Each function
 //! makes no call and only states its clause.
 
+ghost use Rattle.sdm_laws.specs.PrintedLimits.{LawOfPrintedLimits};
 ghost use Rattle.sdm_laws.specs.SupervisionLaws.{IsKeptOpen, LawOfAcceptedSlopes, LawOfCeiling, LawOfGaps, LawOfJourneys, LawOfLimits, LawOfMachines, LawOfNearness, LawOfReleaseStart, LawOfStop, LawOfSupervision};
 
 /// The slopes of accepted data are usable: brake curves on them have their laws.
@@ -25,6 +26,13 @@ pub fn law_of_nearness()
 /// millimetre before it.
 pub fn law_of_limits()
     ensures { LawOfLimits }
+{}
+
+/// Each printed limit of a row is at or before the exact limits that it is printed of, and less than two millimetres before the least
+/// of them.
+#[tactic(auto, using(crate::proofs::PrintedLimits::printed_limits))]
+pub fn law_of_printed_limits()
+    ensures { LawOfPrintedLimits }
 {}
 
 /// Over each reading the commands of the exact machine, the supervisor and the early machine stay in order.

@@ -1,7 +1,7 @@
 -- What bounds stand for and what not, at both ends and in between.
-use Rattle.std.proofs.Common.{◌≡◌, pos, negsuc, arith}
+use Rattle.std.proofs.Common.{pos, arith}
 use Rattle.std.proofs.lemmas.Int.{ints}
-use Rattle.sdm_num.specs.Fractions.{Fraction, whole}
+use Rattle.sdm_num.specs.Fractions.{whole}
 use Rattle.sdm_num.specs.Bounds.{Bound, IsEarlyFor, IsLateFor}
 
 -- ---- early: from 5 to 7

@@ -1,5 +1,6 @@
 pub mod FaultLaws
 pub mod Journeys
+pub mod Openings
 mod ReactionCases
 mod DecelerationCases
 mod ProfileCases

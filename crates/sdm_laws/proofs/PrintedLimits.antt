@@ -1,0 +1,203 @@
+-- A printed limit: it is the least of computed ones, each rounded down to a millimetre, and each of these lies just before its exact
+-- one. What a least place is of its list, and what stands in the list of printed places, each by induction.
+use Rattle.std.proofs.Common.{◌≡◌, ℕ, ℤ, zero, suc, pos, Bool, true, false, cond, nat_le, List, [], ◌∷◌, Option, Some, None, ◌⊎◌, inl, inr, ◌<◌, ◌≤◌, ◌+◌, ◌*◌, ◌+ℤ◌, ◌*ℤ◌, ◌≤ℤ◌, ◌<ℤ◌, refl, sym, ap, ◌∙◌, subst, arith}
+use Rattle.std.specs.Prelude.{Contains, filter, filter_map, option_map, fold}
+use Rattle.std.specs.Int.{int_min}
+use Rattle.std.specs.List.{cons_option}
+use Rattle.std.proofs.lemmas.Int.{ints, clamps, by_lt_z}
+use Rattle.std.proofs.lemmas.Bool.{le-leb, leb-true}
+use Rattle.sdm_num.specs.Units.{millimetre, place_of_mm}
+use Rattle.sdm_num.specs.Fractions.{Fraction, IsAtMost, IsBefore, floor, more, whole}
+use Rattle.sdm_num.proofs.Ints.{scale-+ℤ, scale-≤}
+use Rattle.sdm_num.proofs.Floors.{floor_low, floor_high}
+use Rattle.sdm_num.proofs.Order.{at_most_in, at_most_trans, at_most_before, whole_at_most}
+use Rattle.sdm_num.specs.Readings.{estimate_of}
+use Rattle.sdm_rules.specs.declared.targets.Target.{Target}
+use Rattle.sdm_rules.specs.Curves.{most_slack}
+use Rattle.sdm_rules.specs.Targets.{target_speed}
+use Rattle.sdm_rules.specs.Limits.{computed, exact_places, limits_of}
+use Rattle.sdm_rules.specs.Triggers.{Situation}
+use Rattle.sdm_rules.specs.Supervision.{situation_of, row_in, least_of, shown_limit, whole_mm}
+use Rattle.sdm_laws.specs.SupervisionLaws.{IsJustBefore, AreJustBeforeIfAny}
+use Rattle.sdm_laws.specs.PrintedLimits.{IsPrintedOf, IsPrinted, LawOfPrintedLimits}
+use Rattle.sdm_laws.proofs.Headline.{limits}
+
+-- ---- one limit
+
+-- rounded down to a millimetre, a place just before another one is at most it, and less than two millimetres before it
+at_most_printed : (low x : Fraction) → IsJustBefore low x → IsAtMost (whole (place_of_mm (whole_mm low))) x
+at_most_printed low x h =
+    at_most_trans (whole (place_of_mm (whole_mm low))) (whole (floor low)) x (omega arith)
+    (whole_at_most _ _ (let f = floor_low millimetre (floor low) (omega arith) in omega (arith, ints, f)))
+    (at_most_trans (whole (floor low)) low x h.low_positive (at_most_in (floor low) low (floor_low low.m low.n h.low_positive)) h.not_past)
+
+-- what lies below the next grain is below a place further on with so many grains more
+below_further : (m : ℕ) (n z w : ℤ) (d : ℕ) → n <ℤ (pos m *ℤ (z +ℤ pos 1)) → ((z +ℤ pos 1) +ℤ pos d) ≤ℤ w → (pos 1 *ℤ (n +ℤ pos (d * m))) <ℤ (pos m *ℤ w)
+below_further m n z w d lt le =
+    let further = scale-≤ m ((z +ℤ pos 1) +ℤ pos d) w le in
+    let parts = scale-+ℤ m (z +ℤ pos 1) (pos d) in
+    omega (arith, ints, further, parts)
+
+near_printed : (low x : Fraction) → IsJustBefore low x → IsBefore x (whole (place_of_mm (whole_mm low) +ℤ pos (2 * millimetre)))
+near_printed low x h =
+    let high = floor_high millimetre (floor low) (omega arith) in
+    at_most_before x (more low most_slack) _ h.positive h.low_positive h.near
+    (record { crossed = below_further low.m low.n (floor low) _ most_slack (floor_high low.m low.n h.low_positive) (omega (arith, ints, high)) })
+
+-- ---- the least of a list
+
+IsIn : ℤ → List ℤ → Type 0
+IsIn v [] = ⊥
+IsIn v (x ∷ xs) = (x ≡ v) ⊎ IsIn v xs
+
+record IsLeast (m x : ℤ) (xs : List ℤ) : Type 0 where
+  first : m ≤ℤ x
+  others : (v : ℤ) → IsIn v xs → m ≤ℤ v
+
+least_is : (x : ℤ) (xs : List ℤ) → IsLeast (fold int_min x xs) x xs
+unfolding IsIn
+least_is x [] = record { first = omega (arith, ints); others = λ v h. absurd h }
+least_is x (y ∷ ys) =
+    let h = least_is (int_min x y) ys in
+    record {
+      first = (let f = h.first in omega (arith, ints, clamps, f));
+      others = λ v e. elim e [
+        | inl is ↦ (let f = h.first in let same : y ≡ v = is in omega (arith, ints, clamps, f, same))
+        | inr later ↦ h.others v later
+      ];
+    }
+
+least_in : (x : ℤ) (xs : List ℤ) → IsIn (fold int_min x xs) (x ∷ xs)
+unfolding IsIn
+least_in x [] = inl refl
+least_in x (y ∷ ys) = elim (least_in (int_min x y) ys) [
+  | inl is ↦ by_lt_z y x (λ (lt : y <ℤ x). inr (inl (let f : int_min x y ≡ y = omega (arith, ints, clamps) in sym f ∙ is))) (λ (le : x ≤ℤ y). inl (let f : int_min x y ≡ x = omega (arith, ints, clamps) in sym f ∙ is))
+  | inr later ↦ inr (inr later)
+]
+
+-- ---- what is printed of a list of targets
+
+shown : (Target → Option ℤ) → (Target → Bool) → List Target → List ℤ
+shown f p ts = filter_map f (filter p ts)
+
+record IsShown (f : Target → Option ℤ) (p : Target → Bool) (ts : List Target) (v : ℤ) : Type 0 where
+  target : Target
+  there : Contains ts target
+  passes : p target ≡ true
+  is : f target ≡ Some v
+
+in_cons : (o : Option ℤ) (vs : List ℤ) (v : ℤ) → IsIn v vs → IsIn v (cons_option o vs)
+unfolding IsIn
+in_cons None vs v h = h
+in_cons (Some w) vs v h = inr h
+
+keeps : (f : Target → Option ℤ) (p : Target → Bool) (x : Target) (xs : List Target) (v : ℤ) → IsIn v (shown f p xs) → IsIn v (shown f p (x ∷ xs))
+unfolding shown
+keeps f p x xs v h = elim (p x) as (λ b. IsIn v (filter_map f (cond b (x ∷ filter p xs) (filter p xs)))) [ true ↦ in_cons (f x) _ v h | false ↦ h ]
+
+adds : (f : Target → Option ℤ) (p : Target → Bool) (x : Target) (xs : List Target) (v : ℤ) → p x ≡ true → f x ≡ Some v → IsIn v (shown f p (x ∷ xs))
+unfolding shown IsIn
+adds f p x xs v e k = rw (e, k) (inl refl)
+
+in_shown : (f : Target → Option ℤ) (p : Target → Bool) (ts : List Target) (t : Target) (v : ℤ) → Contains ts t → p t ≡ true → f t ≡ Some v → IsIn v (shown f p ts)
+in_shown f p [] t v (k, lt, is) e j = absurd (omega arith)
+in_shown f p (x ∷ xs) t v (zero, lt, is) e j = adds f p x xs v (subst (λ (y : Target). p y ≡ true) (sym is) e) (subst (λ (y : Target). f y ≡ Some v) (sym is) j)
+in_shown f p (x ∷ xs) t v (suc k, lt, is) e j = keeps f p x xs v (in_shown f p xs t v (k, omega arith, is) e j)
+
+later : (f : Target → Option ℤ) (p : Target → Bool) (x : Target) (xs : List Target) (v : ℤ) → IsShown f p xs v → IsShown f p (x ∷ xs) v
+later f p x xs v h = record { target = h.target; there = (suc h.there.0, omega arith, h.there.2); passes = h.passes; is = h.is }
+
+from_cons : (f : Target → Option ℤ) (p : Target → Bool) (x : Target) (xs : List Target) (v : ℤ) (o : Option ℤ) → p x ≡ true → f x ≡ o → (IsIn v (shown f p xs) → IsShown f p xs v) → IsIn v (cons_option o (shown f p xs)) → IsShown f p (x ∷ xs) v
+unfolding IsIn
+from_cons f p x xs v None e j rest h = later f p x xs v (rest h)
+from_cons f p x xs v (Some w) e j rest h = elim h [
+  | inl is ↦ record { target = x; there = (zero, omega arith, refl); passes = e; is = subst (λ (y : ℤ). f x ≡ Some y) is j }
+  | inr i ↦ later f p x xs v (rest i)
+]
+
+from_shown : (f : Target → Option ℤ) (p : Target → Bool) (ts : List Target) (v : ℤ) → IsIn v (shown f p ts) → IsShown f p ts v
+unfolding shown IsIn
+from_shown f p [] v h = absurd h
+from_shown f p (x ∷ xs) v h =
+    elim (p x) as (λ b. p x ≡ b → IsIn v (filter_map f (cond b (x ∷ filter p xs) (filter p xs))) → IsShown f p (x ∷ xs) v) [
+      | true ↦ λ e i. from_cons f p x xs v (f x) e refl (λ j. from_shown f p xs v j) i
+      | false ↦ λ e i. later f p x xs v (from_shown f p xs v i)
+    ] refl h
+
+-- ---- a printed limit
+
+-- the exact place of which a computed one is printed
+record HasExact (x : Option Fraction) (v : ℤ) : Type 0 where
+  place : Fraction
+  is : x ≡ Some place
+  not_past : IsAtMost (whole (place_of_mm v)) place
+  near : IsBefore place (whole (place_of_mm v +ℤ pos (2 * millimetre)))
+
+has_exact : (low x : Option Fraction) (v : ℤ) → AreJustBeforeIfAny low x → option_map whole_mm low ≡ Some v → HasExact x v
+has_exact None x v h e = cc
+has_exact (Some a) None v h e = absurd h
+has_exact (Some a) (Some b) v h e =
+    let is : whole_mm a ≡ v = cc in
+    record { place = b; is = refl; not_past = subst (λ (w : ℤ). IsAtMost (whole (place_of_mm w)) b) is (at_most_printed a b h); near = subst (λ (w : ℤ). IsBefore b (whole (place_of_mm w +ℤ pos (2 * millimetre)))) is (near_printed a b h) }
+
+-- the computed place beside an exact one
+record HasComputed (low : Option Fraction) (b : Fraction) : Type 0 where
+  place : Fraction
+  is : low ≡ Some place
+  just : IsJustBefore place b
+
+has_computed : (low x : Option Fraction) (b : Fraction) → AreJustBeforeIfAny low x → x ≡ Some b → HasComputed low b
+has_computed None None b h e = cc
+has_computed None (Some y) b h e = absurd h
+has_computed (Some a) None b h e = cc
+has_computed (Some a) (Some y) b h e = record { place = a; is = refl; just = (let is : y ≡ b = cc in subst (λ (z : Fraction). IsJustBefore a z) is h) }
+
+module _ (now : Situation) (low exact : Target → Option Fraction) (near : (t : Target) → AreJustBeforeIfAny (low t) (exact t)) where
+  abbrev mm_of : Target → Option ℤ
+  mm_of t = option_map whole_mm (low t)
+
+  abbrev is_slow : Target → Bool
+  is_slow t = nat_le (target_speed t) now.speed
+
+  -- the place that is printed of a target stands in the list
+  printed_in : (t : Target) (x : Fraction) → IsPrintedOf now exact t x → (v : ℤ) × IsIn v (shown mm_of is_slow now.targets) × IsAtMost (whole (place_of_mm v)) x
+  printed_in t x h =
+      let c = has_computed (low t) (exact t) x (near t) h.has in
+      (whole_mm c.place, in_shown mm_of is_slow now.targets t (whole_mm c.place) h.there (le-leb _ _ h.slow) (ap (option_map whole_mm) c.is), at_most_printed c.place x c.just)
+
+  printed_by : (vs : List ℤ) → shown mm_of is_slow now.targets ≡ vs → IsPrinted now exact (least_of vs)
+  unfolding IsIn
+  printed_by [] e = λ t x h. let i = printed_in t x h in (rw e at i.1)
+  printed_by (v ∷ vs) e =
+      let least = fold int_min v vs in
+      let from = from_shown mm_of is_slow now.targets least (subst (λ (l : List ℤ). IsIn least l) (sym e) (least_in v vs)) in
+      let x = has_exact (low from.target) (exact from.target) least (near from.target) from.is in
+      record {
+        not_past = λ t y h.
+            let i = printed_in t y h in
+            let le : least ≤ℤ i.0 = elim (subst (λ (l : List ℤ). IsIn i.0 l) e i.1) [ inl is ↦ (let f = (least_is v vs).first in let same : v ≡ i.0 = is in omega (arith, ints, f, same)) | inr j ↦ (least_is v vs).others i.0 j ] in
+            at_most_trans (whole (place_of_mm least)) (whole (place_of_mm i.0)) y (omega arith) (whole_at_most _ _ (omega (arith, ints, le))) i.2;
+        target = from.target;
+        place = x.place;
+        printed = record { there = from.there; slow = leb-true _ _ from.passes; has = x.is };
+        near = x.near;
+      }
+
+  pub printed : IsPrinted now exact (shown_limit now low)
+  unfolding shown
+  printed = printed_by _ refl
+
+pub printed_limits : LawOfPrintedLimits
+unfolding row_in
+printed_limits s r o =
+    let now = situation_of s r in
+    let low = limits_of computed s.train_and_track (estimate_of r) in
+    let exact = limits_of exact_places s.train_and_track (estimate_of r) in
+    let near = (limits s r o).limits in
+    record {
+      ebi = printed now (λ t. (low t).ebi) (λ t. (exact t).ebi) (λ t. (near t).ebi);
+      sbi = printed now (λ t. Some (low t).sbi) (λ t. Some (exact t).sbi) (λ t. (near t).sbi);
+      warning = printed now (λ t. Some (low t).warning) (λ t. Some (exact t).warning) (λ t. (near t).warning);
+      permitted = printed now (λ t. Some (low t).permitted) (λ t. Some (exact t).permitted) (λ t. (near t).permitted);
+      indication = printed now (λ t. Some (low t).indication) (λ t. Some (exact t).indication) (λ t. (near t).indication);
+    }
