@@ -9,7 +9,7 @@ use Rattle.sdm_num.proofs.Order.{lesser_cases}
 use Rattle.sdm_rules.specs.declared.data.Times.{Times}
 use Rattle.sdm_rules.specs.Limits.{limits_from_sbi, ebd_limits_at}
 use Rattle.sdm_limits.specs.declared.limits.Limits.{Limits}
-use Rattle.sdm_limits.specs.Sides.{place_of, places_of}
+use Rattle.sdm_limits.specs.Sides.{IsFine, place_of, places_of}
 
 -- a whole place less so many grains
 pub whole_less : (at z : ℤ) (k : ℕ) → at ≡ z +ℤ neg_ℤ (pos k) → whole at ≡ less (whole z) k
@@ -23,6 +23,10 @@ earlier_place e d =
     lesser_cases (λ z. whole (int_min e.at d.at) ≡ z) (whole e.at) (whole d.at)
     (λ le. let least : int_min e.at d.at ≡ e.at = omega (arith, ints, clamps, le.crossed) in ap whole least)
     (λ le. let least : int_min e.at d.at ≡ d.at = omega (arith, ints, clamps, le.crossed) in ap whole least)
+
+-- and has no more slack than both
+pub earlier_fine : (e d : Bound) → IsFine e → IsFine d → IsFine (earlier_of e d)
+earlier_fine e d h k = omega (arith, ints, clamps)
 
 -- limits before an SBI that lies the service brake's distance before an EBI, and that D_bec before a whole place
 pub ebd_places :

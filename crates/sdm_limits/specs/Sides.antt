@@ -1,9 +1,11 @@
 -- What limits that were found say of the limits of the profile: where they lie, and which exact ones they stand for (own).
-use Rattle.std.specs.Prelude.{ℕ, Option, Some, None, option_map, ⊤}
+use Rattle.std.specs.Prelude.{ℕ, ◌≤◌, Option, Some, None, option_map, ⊤}
+use Rattle.std.specs.Option.{ForSome}
 use Rattle.sdm_num.specs.Fractions.{Fraction, whole}
 use Rattle.sdm_num.specs.Bounds.{Bound, IsEarlyFor}
 use Rattle.sdm_rules.specs.declared.data.Times.{Times}
 use Rattle.sdm_rules.specs.Slopes.{SlopeMap, meaning_of}
+use Rattle.sdm_rules.specs.Curves.{most_slack}
 use Rattle.sdm_rules.specs.Limits.{CurvePlaces, SupervisionLimits, ebd_limits_at, sbd_limits_at}
 use Rattle.sdm_curve.specs.Made.{BrakeCurve}
 use Rattle.sdm_limits.specs.declared.limits.Limits.{Limits}
@@ -51,3 +53,19 @@ pub record StandFor (l : Limits) (x : SupervisionLimits) : Type 0 where
   pub warning : IsEarlyFor l.warning x.warning
   pub permitted : IsEarlyFor l.permitted x.permitted
   pub indication : IsEarlyFor l.indication x.indication
+
+-- what a bound stands for is less than a millimetre past it: its slack is at most that of a curve's place
+abbrev pub IsFine : Bound → Type 0
+IsFine e = e.slack ≤ most_slack
+
+-- so it is of a bound, if there is one
+abbrev pub IsFineWhere : Option Bound → Type 0
+IsFineWhere e = ForSome e IsFine
+
+-- each limit that was found stands for places less than a millimetre past it
+pub record AreFine (l : Limits) : Type 0 where
+  pub ebi : IsFineWhere l.ebi
+  pub sbi : IsFine l.sbi
+  pub warning : IsFine l.warning
+  pub permitted : IsFine l.permitted
+  pub indication : IsFine l.indication

@@ -12,7 +12,7 @@ ghost use Rattle.sdm_rules.specs.Slopes.{meaning_of};
 ghost use Rattle.sdm_rules.specs.Ranges.{top_kmh};
 ghost use Rattle.sdm_curve.specs.Made.{IsMadeFrom};
 ghost use Rattle.sdm_limits.specs.Ranges.{AreTimes, IsGuide, IsNearZero, curve_reach, reach};
-ghost use Rattle.sdm_limits.specs.Sides.{IsEarlyWhere, StandFor, ebd_limits_by, place_of, place_where, places_of, sbd_limits_by};
+ghost use Rattle.sdm_limits.specs.Sides.{AreFine, IsEarlyWhere, IsFine, IsFineWhere, StandFor, ebd_limits_by, place_of, place_where, places_of, sbd_limits_by};
 
 use crate::reaction::Reaction;
 use crate::times::{T_DRIVER, T_WARNING};
@@ -56,6 +56,7 @@ pub fn ebd_limits(
         ebd_limits_by computed safe.now ebd.now (place_where guide) times.now v reaction.now }
     ensures stands { (g : Option Fraction) → IsEarlyWhere guide g →
         StandFor result (ebd_limits_by exact_places safe.now ebd.now g times.now v reaction.now) }
+    ensures slack { IsFineWhere guide → AreFine result }
 {
     let place = ebd.place(safe, reaction.v_bec);
     ebd_limits_at(place, guide, times, v, reaction.d_bec)
@@ -78,6 +79,7 @@ pub fn ebd_limits_at(
     ensures at { places_of result ≡ ebd_limits_at times.now v (place_where guide) d_bec (place_of place) }
     ensures stands { (g : Option Fraction) (x : Fraction) → IsEarlyWhere guide g → IsEarlyFor place x →
         StandFor result (ebd_limits_at times.now v g d_bec x) }
+    ensures slack { IsFineWhere guide → IsFine place → AreFine result }
 {
     // d_EBI = d_EBD(V_bec) - D_bec (SUBSET-026-3 3.13.9.3.2)
     let ebi = place.less(d_bec);
@@ -103,6 +105,7 @@ pub fn sbd_limits(
         sbd_limits_by computed expected.now sbd.now (place_where guide) times.now v }
     ensures stands { (g : Option Fraction) → IsEarlyWhere guide g →
         StandFor result (sbd_limits_by exact_places expected.now sbd.now g times.now v) }
+    ensures slack { IsFineWhere guide → AreFine result }
 {
     // d_SBI = d_SBD(V_est) - V_est * T_bs (SUBSET-026-3 3.13.9.3.3; form own)
     let sbi = sbd.place(expected, v).less(v.distance_at(times.bs));
@@ -126,6 +129,7 @@ fn limits_from_sbi(
     ensures stands { (g e : Option Fraction) (s : Fraction) →
         IsEarlyWhere guide g → IsEarlyWhere ebi e → IsEarlyFor sbi s →
         StandFor result (limits_from_sbi times.now v g e s) }
+    ensures slack { IsFineWhere guide → IsFineWhere ebi → IsFine sbi → AreFine result }
 {
     // d_P = d_SBI - V_est * T_driver, or the guidance curve's place where that is earlier (SUBSET-026-3 3.13.9.3.5)
     let driver = sbi.less(v.distance_at(T_DRIVER));
@@ -142,7 +146,7 @@ fn limits_from_sbi(
 }
 
 // The permitted limit: the place that the driver's time asks for, or the guide where that is earlier.
-#[tactic(auto, using(crate::proofs::Places::earlier_place))]
+#[tactic(auto, using(crate::proofs::Places::earlier_place, crate::proofs::Places::earlier_fine))]
 fn guided(guide: Option<Early>, driver: Early) -> Early
     requires guide { IsGuide guide }
     requires near { IsNearZero (2 * reach) driver.at }
@@ -150,6 +154,7 @@ fn guided(guide: Option<Early>, driver: Early) -> Early
         option_map_or (λ g. lesser g (place_of driver)) (place_where guide) (place_of driver) }
     ensures stands { (g : Option Fraction) (d : Fraction) → IsEarlyWhere guide g → IsEarlyFor driver d →
         IsEarlyFor result (option_map_or (λ x. lesser x d) g d) }
+    ensures slack { IsFineWhere guide → IsFine driver → IsFine result }
     ensures near { IsNearZero (2 * reach) result.at }
 {
     match guide {

@@ -1,11 +1,13 @@
 -- A motion as it is handed in, by what the code tests.
-use Rattle.std.proofs.Common.{◌≡◌, ℕ, ℤ, pos, List, [], ◌∷◌, All, Some, slice_get, ◌*◌, ◌*ℤ◌, ◌∙◌, refl}
+use Rattle.std.proofs.Common.{◌≡◌, ℕ, ℤ, pos, List, [], ◌∷◌, All, Some, slice_get, ◌*◌, ◌*ℤ◌, ◌∙◌, refl, arith}
+use Rattle.std.proofs.lemmas.Int.{ints}
 use Rattle.sdm_rules.specs.declared.motions.Point.{Point}
 use Rattle.sdm_rules.specs.declared.motions.Slice.{Slice}
 use Rattle.sdm_rules.specs.declared.motions.Start.{Start}
 use Rattle.sdm_rules.specs.Slopes.{Slopes}
 use Rattle.sdm_rules.specs.Motion.{IsReaction}
-use Rattle.sdm_motion.specs.Motions.{first_of, IsPointInRange, IsKnownMotion}
+use Rattle.sdm_rules.specs.Stop.{IsMotionOn}
+use Rattle.sdm_motion.specs.Motions.{first_of, IsPointInRange, IsKnownMotion, LawOfKnownMotion}
 use Rattle.sdm_motion.specs.Steps.{AreBraking}
 
 pub known_of : (s : ℕ) (start : Start) (on : Slopes) (xs : List Slice) (points : List Point) (x : Point) (p : ℤ) (v : ℕ) → p ≡ pos (s * s) *ℤ start.front → v ≡ s * start.speed →
@@ -29,3 +31,17 @@ known_of s start on xs points x p v p_is v_is at ranges reaction is braking = kn
 
 pub known_braking : (s : ℕ) (start : Start) (on : Slopes) (xs : List Slice) (points : List Point) → IsKnownMotion s start on xs points → AreBraking on (s * s) points
 known_braking s start on xs points h = rw h.split h.motion.braking
+
+-- it begins exactly at the front and with the speed of the start, which motions are at most at and at most have
+pub known_motion : LawOfKnownMotion
+known_motion s start on xs points some h =
+    let motion : IsMotionOn on start s (pos (s * s) *ℤ start.front) (s * start.speed) xs h.first h.more =
+    (some, record { place = omega (arith, ints); speed = omega arith; motion = h.motion }) in
+    record {
+      first = h.first;
+      more = h.more;
+      split = h.split;
+      motion = motion;
+      stops = λ place all. rw h.split (all s _ _ xs h.first h.more motion);
+      slows = λ place w all. rw h.split (all s _ _ xs h.first h.more motion);
+    }

@@ -1,10 +1,11 @@
 -- Motions as they are handed in: a list of slices and a list of points (own).
-use Rattle.std.specs.Prelude.{◌≡◌, ℕ, ℤ, pos, neg_ℤ, List, ◌∷◌, ◌*◌, ◌^◌, ◌≤◌, ◌*ℤ◌, ◌≤ℤ◌, All}
+use Rattle.std.specs.Prelude.{◌≡◌, ℕ, ℤ, pos, neg_ℤ, List, ◌∷◌, ◌++◌, ◌*◌, ◌^◌, ◌<◌, ◌≤◌, ◌*ℤ◌, ◌≤ℤ◌, All}
 use Rattle.sdm_rules.specs.declared.motions.Point.{Point}
 use Rattle.sdm_rules.specs.declared.motions.Slice.{Slice}
 use Rattle.sdm_rules.specs.declared.motions.Start.{Start}
 use Rattle.sdm_rules.specs.Slopes.{Slopes}
-use Rattle.sdm_rules.specs.Motion.{IsMotion, last_point, slice_ends}
+use Rattle.sdm_rules.specs.Motion.{IsBy, IsMotion, KeepsTo, last_point, slice_ends}
+use Rattle.sdm_rules.specs.Stop.{IsMotionOn, SlowsTo, StopsBy}
 
 -- a point within 10^21 of 0, in 1/s² grains, with a square of at most 10^17, in 1/s² squared notches
 pub record IsPointInRange (x : Point) : Type 0 where
@@ -24,3 +25,17 @@ pub record IsKnownMotion (s : ℕ) (start : Start) (on : Slopes) (xs : List Slic
   pub split : points ≡ first ∷ more
   pub motion : IsMotion s start on (pos (s * s) *ℤ start.front) (s * start.speed) xs first more
   pub ranges : All IsPointInRange points
+
+-- the slices and points are a motion that the promises of a start speak of, so what is promised of every motion holds of them
+pub record IsPromisedMotion (s : ℕ) (start : Start) (on : Slopes) (xs : List Slice) (points : List Point) : Type 0 where
+  pub first : Point
+  pub more : List Point
+  pub split : points ≡ first ∷ more
+  pub motion : IsMotionOn on start s (pos (s * s) *ℤ start.front) (s * start.speed) xs first more
+  pub stops : (place : ℤ) → StopsBy on start place → All (IsBy s place) points
+  pub slows : (place : ℤ) (w : ℕ) → SlowsTo on start place w → All (KeepsTo s place w) (slice_ends (pos (s * s) *ℤ start.front) (s * start.speed) xs ++ points)
+
+-- what is known as a motion is one of those that the promises speak of
+abbrev pub LawOfKnownMotion : Type 0
+LawOfKnownMotion = (s : ℕ) (start : Start) (on : Slopes) (xs : List Slice) (points : List Point) → 0 < s →
+    IsKnownMotion s start on xs points → IsPromisedMotion s start on xs points

@@ -2,6 +2,7 @@
 //! function makes no call and only states its law.
 
 ghost use Rattle.sdm_motion.specs.MapLaws.{LawOfMapBraking, LawOfMapMotion, LawOfMapReaction, LawOfMapStretch};
+ghost use Rattle.sdm_motion.specs.Motions.{LawOfKnownMotion};
 
 /// Over one stretch, a train within a curve that brakes at least with the steepest slope of its stretch stays within it.
 pub fn law_of_stretch()
@@ -22,4 +23,11 @@ pub fn law_of_reaction()
 /// A motion whose first braking point is within a curve stays within it.
 pub fn law_of_motion()
     ensures { LawOfMapMotion }
+{}
+
+/// What `is_motion` accepts is a motion that the promises of its start speak of: where every motion stops by a place or slows to a
+/// speed, so does this one.
+#[tactic(auto, using(crate::proofs::Known::known_motion))]
+pub fn law_of_known_motion()
+    ensures { LawOfKnownMotion }
 {}

@@ -6,6 +6,7 @@
 ghost use Rattle.std.specs.Prelude.{◌≡◌, ◌≤◌};
 ghost use Rattle.sdm_num.specs.Bounds.{IsEarlyFor};
 ghost use Rattle.sdm_num.specs.Units.{notches};
+ghost use Rattle.sdm_rules.specs.Curves.{most_slack};
 ghost use Rattle.sdm_rules.specs.Limits.{computed, exact_places, release_start_at};
 ghost use Rattle.sdm_rules.specs.Slopes.{meaning_of};
 ghost use Rattle.sdm_rules.specs.Ranges.{top_kmh};
@@ -38,6 +39,7 @@ pub fn release_start(
     ensures stands { IsEarlyFor result (release_start_at times.now release
         (exact_places (meaning_of safe.now) ebd.now.place ebd.now.speed release)
         (exact_places (meaning_of expected.now) sbd.now.place sbd.now.speed release)) }
+    ensures slack { result.slack ≤ most_slack }
 {
     // d_SBD(V_rel) - V_rel * T_bs (SUBSET-026-3 3.13.9.4; form own)
     let service = release.distance_at(times.bs);
