@@ -91,7 +91,7 @@ fn turn<T: Teller, O: Sink>(
     out: &mut O,
 ) -> Result<bool, Outcome>
     requires { 1 ≤ number }
-    ensures turn { IsTurnAnswer (T.tell teller.now) (O.taken out.old) (O.taken out.new) number supervisor.old supervisor.new records.old records.new result }
+    ensures turn { IsTurnAnswer (T.tell teller.now) (O.taken out.old) (O.taken out.new) number supervisor.old supervisor.new records.old.left records.new.left result }
     ensures due { texts.new.is_flush_due ≡ false
         → ((texts.old.is_flush_due ≡ false) × (out.new ≡ out.old)) ⊎ (result ≡ Err Outcome.WriteFault) }
     ensures later { O.faults out.old ≤ O.faults out.new }
