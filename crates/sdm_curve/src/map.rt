@@ -205,8 +205,8 @@ impl BandMap {
         self.natural_slope(band, i) as i64
     }
 
-    // The slope as it is kept.
-    fn natural_slope(&self, band: usize, i: usize) -> u64
+    /// The same as a natural.
+    pub fn natural_slope(&self, band: usize, i: usize) -> u64
         requires known_band { band < bands_of self.now.uppers }
         requires known { i < length self.now.starts }
         ensures value { result ≡ slope_of self.now band i }

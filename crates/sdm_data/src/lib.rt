@@ -3,6 +3,7 @@
 #![tactic(auto)]
 
 mod authorities;
+mod base;
 mod division;
 mod documents;
 mod journeys;
@@ -14,6 +15,7 @@ mod tracks;
 mod trains;
 mod versions;
 
+pub use base::{BASE_PART, REALISTIC_PART};
 pub use division::split;
 pub use documents::{DocumentFault, read_document};
 pub use journeys::{JourneyData, data_of};

@@ -4,9 +4,12 @@
 mod data_parts;
 mod faults;
 
-use self::data_parts::{DISTINCT, DISTINCT_DATA, PLAIN, PLAIN_DATA, REALISTIC, REALISTIC_DATA};
+use self::data_parts::{DISTINCT, DISTINCT_DATA, PLAIN_DATA, REALISTIC_DATA};
 use self::faults::{BAND, FAULTS, SHORT};
-use crate::{At, DataFault, DocumentFault, JourneyData, data_of, read_document, split};
+use crate::{
+    At, BASE_PART, DataFault, DocumentFault, JourneyData, REALISTIC_PART, data_of, read_document,
+    split,
+};
 use std::alloc::{AllocError, Global};
 use std::test::Fail;
 
@@ -157,9 +160,9 @@ fn told_at(alloc: Global, fault: &str, at: At) -> Result<String, AllocError> {
 
 #[test]
 fn data_parts_are_read_to_their_values(rt: HostRuntime) -> Result<(), Fail> {
-    let plain = outcome(rt.alloc(), PLAIN)?;
+    let plain = outcome(rt.alloc(), BASE_PART)?;
     assert_eq!(rt; plain.as_str(), PLAIN_DATA);
-    let realistic = outcome(rt.alloc(), REALISTIC)?;
+    let realistic = outcome(rt.alloc(), REALISTIC_PART)?;
     assert_eq!(rt; realistic.as_str(), REALISTIC_DATA);
     let distinct = outcome(rt.alloc(), DISTINCT)?;
     assert_eq!(rt; distinct.as_str(), DISTINCT_DATA);

@@ -4,12 +4,9 @@ use Rattle.std.proofs.lemmas.Int.{ints}
 use Rattle.std.proofs.lemmas.Nat.{mul-le}
 use Rattle.sdm_num.specs.Units.{IsPlace}
 use Rattle.sdm_num.proofs.Ints.{scale-+ℤ, scale-≤}
-use Rattle.sdm_rules.specs.Slopes.{Slopes, SlopeMap, bands_of}
+use Rattle.sdm_rules.specs.Slopes.{Slopes}
 use Rattle.sdm_rules.specs.Curves.{grain_energy}
 use Rattle.sdm_rules.specs.Motion.{BrakesAtLeast}
-use Rattle.sdm_curve.specs.Maps.{handed_in, IsKeptMap}
-use Rattle.sdm_curve.proofs.Meanings.{slope_most, kept_known}
-use Rattle.sdm_motion.specs.Steps.{segment_slope}
 
 pub enough_of : (on : Slopes) (a : ℕ) (p p' : ℤ) (u u' distance energy : ℕ) → p' ≡ p +ℤ pos distance → energy ≡ grain_energy on (u - u') → p ≤ℤ p' → u' ≤ u → 27 * a * distance ≤ energy → BrakesAtLeast on a p u p' u'
 enough_of on a p p' u u' distance energy e f forward slower h = record {
@@ -20,10 +17,6 @@ enough_of on a p p' u u' distance energy e f forward slower h = record {
 
 pub enough_out : (on : Slopes) (a : ℕ) (p p' : ℤ) (u u' distance energy : ℕ) → p' ≡ p +ℤ pos distance → energy ≡ grain_energy on (u - u') → BrakesAtLeast on a p u p' u' → 27 * a * distance ≤ energy
 enough_out on a p p' u u' distance energy e f h = let g = rw (e, scale-+ℤ) at h.enough in rw f (omega (arith, ints, g))
-
--- a kept slope is small
-pub segment_slope_most : (map : SlopeMap) (band i : ℕ) → IsKeptMap (handed_in map) → band < bands_of map.uppers → i < length map.starts → segment_slope map band i ≤ 10 ^ 15
-segment_slope_most map band i kept band_known known = slope_most map _ kept (kept_known map band i kept band_known known)
 
 pub fits_product : (a distance : ℕ) → a ≤ 10 ^ 15 → distance ≤ 3 * 10 ^ 21 → 27 * a * distance ≤ 81 * 10 ^ 36
 fits_product a distance p q = omega (arith, mul-le a distance (10 ^ 15) (3 * 10 ^ 21) p q)

@@ -5,9 +5,10 @@ use Rattle.sdm_rules.specs.declared.motions.Point.{Point}
 use Rattle.sdm_rules.specs.Slopes.{SlopeMap, meaning_of, segment_of}
 use Rattle.sdm_rules.specs.Motion.{BrakesAtLeast, HasPart}
 use Rattle.sdm_laws.proofs.Segments.{in_segment, slope_in_segment}
+use Rattle.sdm_curve.specs.Integrals.{slope_of}
 use Rattle.sdm_curve.specs.Maps.{AreStarts}
 use Rattle.sdm_curve.proofs.Meanings.{rising_of}
-use Rattle.sdm_motion.specs.Steps.{BrakesIn, HaveSlope, IsMet, NoneIsMet, segment_slope}
+use Rattle.sdm_motion.specs.Steps.{BrakesIn, HaveSlope, IsMet, NoneIsMet}
 use Rattle.sdm_motion.proofs.SegmentParts.{meets_of, found}
 
 -- every cell that has a part strictly between the places has the slope
@@ -41,23 +42,23 @@ stays map m band x y starts none forward slower = record {
 }
 
 -- where a segment is met, the one slope can be no other than its own
-pub slope_is : (map : SlopeMap) (m band i : ℕ) (x y : Point) → 0 < m → AreStarts map.starts → IsMet m map.starts i x.place y.place → (h : BrakesIn (meaning_of map) m band x y) → h.slope ≡ segment_slope map band i
+pub slope_is : (map : SlopeMap) (m band i : ℕ) (x y : Point) → 0 < m → AreStarts map.starts → IsMet m map.starts i x.place y.place → (h : BrakesIn (meaning_of map) m band x y) → h.slope ≡ slope_of map band i
 slope_is map m band i x y some starts met h = sym (segments_have map m band x.place y.place h.slope some starts h.one_slope i met.known met.meets)
 
-pub all_have : (map : SlopeMap) (m band i : ℕ) (x y : Point) (a : ℕ) → a ≡ segment_slope map band i → 0 < m → AreStarts map.starts → IsMet m map.starts i x.place y.place → BrakesIn (meaning_of map) m band x y → HaveSlope map m band x.place y.place a
+pub all_have : (map : SlopeMap) (m band i : ℕ) (x y : Point) (a : ℕ) → a ≡ slope_of map band i → 0 < m → AreStarts map.starts → IsMet m map.starts i x.place y.place → BrakesIn (meaning_of map) m band x y → HaveSlope map m band x.place y.place a
 all_have map m band i x y a e some starts met h =
     let is = slope_is map m band i x y some starts met h in
     subst (λ (b : ℕ). HaveSlope map m band x.place y.place b) (is ∙ sym e) (segments_have map m band x.place y.place h.slope some starts h.one_slope)
 
 pub brakes_out : (map : SlopeMap) (m band i : ℕ) (x y : Point) → 0 < m → AreStarts map.starts → IsMet m map.starts i x.place y.place → BrakesIn (meaning_of map) m band x y →
-    BrakesAtLeast (meaning_of map) (segment_slope map band i) x.place x.square y.place y.square
+    BrakesAtLeast (meaning_of map) (slope_of map band i) x.place x.square y.place y.square
 brakes_out map m band i x y some starts met h =
     subst (λ (b : ℕ). BrakesAtLeast (meaning_of map) b x.place x.square y.place y.square) (slope_is map m band i x y some starts met h) h.brakes
 
-pub brakes_of : (map : SlopeMap) (m band i : ℕ) (x y : Point) (a : ℕ) → a ≡ segment_slope map band i → AreStarts map.starts → HaveSlope map m band x.place y.place a →
-    BrakesAtLeast (meaning_of map) (segment_slope map band i) x.place x.square y.place y.square → BrakesIn (meaning_of map) m band x y
+pub brakes_of : (map : SlopeMap) (m band i : ℕ) (x y : Point) (a : ℕ) → a ≡ slope_of map band i → AreStarts map.starts → HaveSlope map m band x.place y.place a →
+    BrakesAtLeast (meaning_of map) (slope_of map band i) x.place x.square y.place y.square → BrakesIn (meaning_of map) m band x y
 brakes_of map m band i x y a e starts have brakes = record {
-  slope = segment_slope map band i;
-  one_slope = cells_have map m band x.place y.place (segment_slope map band i) starts (subst (λ (b : ℕ). HaveSlope map m band x.place y.place b) e have);
+  slope = slope_of map band i;
+  one_slope = cells_have map m band x.place y.place (slope_of map band i) starts (subst (λ (b : ℕ). HaveSlope map m band x.place y.place b) e have);
   brakes = brakes;
 }

@@ -1,10 +1,11 @@
 -- What the check of a step asks of one band, and of the segments of a map (own). Places are in 1/m grain and squares in
 -- 1/m squared notch.
-use Rattle.std.specs.Prelude.{◌≡◌, ℕ, ℤ, pos, List, [], ◌∷◌, ◌+◌, ◌*◌, ◌<◌, ◌<ℤ◌, length, slice_index, slice_index_or}
+use Rattle.std.specs.Prelude.{◌≡◌, ℕ, ℤ, pos, List, [], ◌∷◌, ◌+◌, ◌*◌, ◌<◌, ◌<ℤ◌, length, slice_index_or}
 use Rattle.sdm_rules.specs.declared.motions.Point.{Point}
 use Rattle.sdm_rules.specs.Slopes.{Slopes, SlopeMap}
 use Rattle.sdm_rules.specs.Curves.{cell_start}
 use Rattle.sdm_rules.specs.Motion.{BrakesAtLeast, HasPart, IsBraking, IsInBand}
+use Rattle.sdm_curve.specs.Integrals.{slope_of}
 
 -- ---- segments
 
@@ -31,13 +32,9 @@ pub record IsMet (m : ℕ) (starts : List ℤ) (i : ℕ) (p p' : ℤ) : Type 0 w
 abbrev pub NoneIsMet : ℕ → List ℤ → ℤ → ℤ → Type 0
 NoneIsMet m starts p p' = (i : ℕ) → i < length starts → Meets m starts i p p' → ⊥
 
--- the slope of a band in a segment
-abbrev pub segment_slope : SlopeMap → ℕ → ℕ → ℕ
-segment_slope map band i = slice_index map.slopes (band * length map.starts + i)
-
 -- all segments that have a part strictly between the places have the slope in the band
 abbrev pub HaveSlope : SlopeMap → ℕ → ℕ → ℤ → ℤ → ℕ → Type 0
-HaveSlope map m band p p' a = (i : ℕ) → i < length map.starts → Meets m map.starts i p p' → segment_slope map band i ≡ a
+HaveSlope map m band p p' a = (i : ℕ) → i < length map.starts → Meets m map.starts i p p' → slope_of map band i ≡ a
 
 -- ---- steps
 

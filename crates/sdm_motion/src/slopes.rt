@@ -4,7 +4,7 @@ ghost use Rattle.std.specs.Prelude.{◌≡◌, ◌↔◌, ◌+◌, ◌*◌, ◌<
 ghost use Rattle.sdm_rules.specs.Slopes.{bands_of};
 ghost use Rattle.sdm_rules.specs.Curves.{cell_start};
 ghost use Rattle.sdm_curve.specs.Maps.{AreStarts};
-ghost use Rattle.sdm_motion.specs.Steps.{BeginsBefore, EndsAfter, HaveSlope, Meets, IsMet, NoneIsMet, segment_slope};
+ghost use Rattle.sdm_motion.specs.Steps.{BeginsBefore, EndsAfter, HaveSlope, Meets, IsMet, NoneIsMet};
 
 use sdm_curve::BandMap;
 use sdm_rules::Point;
@@ -74,15 +74,6 @@ pub fn first_met(m: u32, map: &BandMap, from: &Point, to: &Point) -> Option<usiz
     None
 }
 
-/// The slope of a band in a segment, both counted from 0.
-pub fn segment_slope(map: &BandMap, band: usize, i: usize) -> u64
-    requires known_band { band < bands_of map.now.uppers }
-    requires known { i < length map.now.starts }
-    ensures { result ≡ segment_slope map.now band i }
-{
-    map.slope(band, i) as u64
-}
-
 /// Whether all segments that a stretch meets have the slope in the band.
 pub fn have_slope(m: u32, map: &BandMap, band: usize, from: &Point, to: &Point, slope: u64) -> bool
     requires few { m ≤ 256 }
@@ -91,7 +82,7 @@ pub fn have_slope(m: u32, map: &BandMap, band: usize, from: &Point, to: &Point, 
 {
     for i in 0..map.segments() {
         if meets(m, map, i, from, to) {
-            if segment_slope(map, band, i) != slope {
+            if map.natural_slope(band, i) != slope {
                 return false;
             }
         }

@@ -4,11 +4,11 @@ ghost use Rattle.std.specs.Prelude.{◌≡◌, ◌↔◌, ◌+◌, ◌*◌, ◌^
 ghost use Rattle.sdm_rules.specs.Slopes.{bands_of, meaning_of};
 ghost use Rattle.sdm_rules.specs.Curves.{grain_energy, upper_square};
 ghost use Rattle.sdm_rules.specs.Motion.{lower_square, BrakesAtLeast, IsInBand, IsStep};
-ghost use Rattle.sdm_curve.specs.Maps.{handed_in, IsKeptMap};
+ghost use Rattle.sdm_curve.specs.Integrals.{slope_of};
 ghost use Rattle.sdm_motion.specs.Motions.{IsPointInRange};
-ghost use Rattle.sdm_motion.specs.Steps.{segment_slope, AreBraking, BrakesIn, IsStepIn};
+ghost use Rattle.sdm_motion.specs.Steps.{AreBraking, BrakesIn, IsStepIn};
 
-use crate::slopes::{first_met, have_slope, segment_slope};
+use crate::slopes::{first_met, have_slope};
 use sdm_curve::BandMap;
 use sdm_rules::Point;
 
@@ -61,8 +61,7 @@ fn is_in_band(m: u32, map: &BandMap, band: usize, square: u128) -> bool
 // The energy of a change of the square.
 fn energy_of(map: &BandMap, change: u128) -> u128
     requires { change ≤ 10 ^ 17 }
-    ensures value { result ≡ grain_energy (meaning_of map.now) change }
-    ensures kept { IsKeptMap (handed_in map.now) }
+    ensures { result ≡ grain_energy (meaning_of map.now) change }
 {
     5_000_000_000_000 * u128::from(map.q()) * change
 }
@@ -86,10 +85,10 @@ fn brakes(map: &BandMap, band: usize, i: usize, from: &Point, to: &Point) -> boo
     requires to { IsPointInRange to.now }
     requires forward { from.now.place ≤ℤ to.now.place }
     requires slower { to.now.square ≤ from.now.square }
-    ensures { IsTrue result ↔ BrakesAtLeast (meaning_of map.now) (segment_slope map.now band i) from.now.place from.now.square to.now.place to.now.square }
+    ensures { IsTrue result ↔ BrakesAtLeast (meaning_of map.now) (slope_of map.now band i) from.now.place from.now.square to.now.place to.now.square }
 {
     let energy = energy_of(map, from.square - to.square);
-    let slope = u128::from(segment_slope(map, band, i));
+    let slope = u128::from(map.natural_slope(band, i));
     27 * slope * distance_to(to, from.place) <= energy
 }
 
@@ -108,7 +107,7 @@ fn brakes_in(m: u32, map: &BandMap, band: usize, from: &Point, to: &Point) -> bo
     let Some(i) = first_met(m, map, from, to) else {
         return true;
     };
-    let slope = segment_slope(map, band, i);
+    let slope = map.natural_slope(band, i);
     if !have_slope(m, map, band, from, to, slope) {
         return false;
     }

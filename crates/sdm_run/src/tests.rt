@@ -6,7 +6,8 @@ mod journeys;
 mod trials;
 
 use crate::{EventCause, Outcome, outcome_of, sdm_main};
-use journeys::{BASE, CUTS, PARTS, REFUSALS, RUN_FAULTS, RUNS};
+use journeys::{CUTS, PARTS, REFUSALS, RUN_FAULTS, RUNS};
+use sdm_data::BASE_PART;
 use sdm_io::{FixedSource, MemSink, MemSource, NullSink};
 use std::alloc::Global;
 use std::process::Abort;
@@ -120,7 +121,7 @@ fn changed<'a>(line: &'a str, changes: &'a str) -> &'a str {
 // The answer to a journey over the base data with changes.
 fn run_of(alloc: Global, changes: &str, records: &str, streams: &Streams) -> Result<Answer, Fail> {
     let mut input = Vec::new(alloc);
-    for line in BASE.lines() {
+    for line in BASE_PART.lines() {
         input.extend_from_slice(&bytes_of(alloc, changed(line, changes))?)?;
         input.push(b'\n')?;
     }
@@ -240,8 +241,7 @@ fn a_journey_may_be_cut_off_anywhere(rt: HostRuntime) -> Result<(), Fail> {
         let [after, rows, code, told] = fields.as_slice() else {
             return Err("no row".into());
         };
-        let mut input = BASE.as_bytes().to_vec(alloc)?;
-        input.push(b'\n')?;
+        let mut input = BASE_PART.as_bytes().to_vec(alloc)?;
         input.extend_from_slice(&bytes_of(alloc, after)?)?;
         let answer = answer_to(alloc, "run", &input, &STEADY)?;
         assert_eq!(rt; answer.code, code.parse::<u8>()?, "{line}");
@@ -333,8 +333,8 @@ fn the_limit_of_an_input_is_not_past_it(rt: HostRuntime) -> Result<(), Fail> {
 
 // The base data with so many records, of which the odd ones and the even ones are alike.
 fn many_records(alloc: Global, count: u32, odd: &str, even: &str) -> Result<Vec<u8>, Fail> {
-    let mut input = BASE.as_bytes().to_vec(alloc)?;
-    input.extend_from_slice(b"\n%%\n")?;
+    let mut input = BASE_PART.as_bytes().to_vec(alloc)?;
+    input.extend_from_slice(b"%%\n")?;
     for i in 0..count {
         let record = if i % 2 == 0 { odd } else { even };
         input.extend_from_slice(record.as_bytes())?;

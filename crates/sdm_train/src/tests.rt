@@ -45,35 +45,6 @@ fn each_reader_answers_its_own_field(rt: HostRuntime) {
     assert_eq!(rt; *two.band(1), BASE_BAND);
 }
 
-// Sets a number by its key in the data; the keys of a band are those of the first one.
-fn set(fields: &mut TrainFields, key: &str, number: i64) -> Result<(), &'static str> {
-    match key {
-        "length" => fields.length = number,
-        "max_speed" => fields.max_speed = number,
-        "rotating_mass" => fields.rotating_mass = Some(number),
-        "traction_cutoff_time" => fields.traction_cutoff_time = number,
-        "emergency_time" => fields.emergency_time = number,
-        "service_time" => fields.service_time = number,
-        _ => return set_in_band(&mut fields.bands[0], key, number),
-    }
-    Ok(())
-}
-
-fn set_in_band(band: &mut Band, key: &str, number: i64) -> Result<(), &'static str> {
-    match key {
-        "upper" => band.upper = Some(number),
-        "emergency" => band.emergency = number,
-        "service" => band.service = number,
-        "normal" => band.normal = number,
-        "kdry" => band.kdry = number,
-        "kwet" => band.kwet = number,
-        "kn_up" => band.kn_up = number,
-        "kn_down" => band.kn_down = number,
-        _ => return Err("no such key"),
-    }
-    Ok(())
-}
-
 // The bands of these upper speeds, `-` for none.
 fn set_uppers(fields: &mut TrainFields, uppers: &str) -> Result<(), &'static str> {
     fields.band_count = 0;
@@ -103,7 +74,9 @@ fn set_numbers(fields: &mut TrainFields, numbers: &str) -> Result<(), &'static s
     let mut words = numbers.split_whitespace();
     while let Some(key) = words.next() {
         let number = words.next().ok_or("no number")?;
-        set(fields, key, number.parse::<i64>().map_err(|_| "no number")?)?;
+        if !fields.set(key, number.parse::<i64>().map_err(|_| "no number")?) {
+            return Err("no such key");
+        }
     }
     Ok(())
 }

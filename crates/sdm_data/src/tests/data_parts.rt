@@ -1,48 +1,5 @@
 //! Whole data parts and what they hold, key by key in the order of the keys' numbers.
 
-/// A train of one band that brakes with 1 m/s², on a level track of 2 km; what may be absent is.
-pub const PLAIN: &str = r#"version = 1
-
-[train]
-length = 10000
-max_speed = 160
-rotating_mass = 0
-traction_cutoff_time = 0
-traction_cutoff_interface = false
-emergency_time = 0
-service_time = 0
-service_brake = true
-
-[[train.band]]
-emergency = 100
-service = 100
-normal = 100
-kdry = 1000
-kwet = 1000
-kn_up = 0
-kn_down = 0
-
-[national]
-avadh = 20
-adhesion_max = 70
-guidance = false
-service_in_target = true
-early_release = false
-inhibit_under_reading = false
-
-[track]
-length = 200000
-
-[[track.speed]]
-start = 0
-speed = 160
-
-[authority]
-kind = "end"
-eoa = 100000
-svl = 100000
-"#;
-
 pub const PLAIN_DATA: &str = "\
 train 10000 160 Some(0) 0 false 0 0 true
 Band { upper: None, emergency: 100, service: 100, normal: 100, kdry: 1000, kwet: 1000, kn_up: 0, kn_down: 0 }
@@ -51,70 +8,6 @@ track 200000
 SpeedStep { start: 0, speed: 160, delayed: true }
 Stop { eoa: 100000, svl: 100000, release: 0 }
 ";
-
-/// A train of two bands on a track with a fall of 5 per mille from 2 km on.
-pub const REALISTIC: &str = r#"version = 1
-
-[train]
-length = 20000
-max_speed = 160
-traction_cutoff_time = 20
-traction_cutoff_interface = true
-emergency_time = 30
-service_time = 40
-service_brake = true
-
-[[train.band]]
-upper = 100
-emergency = 120
-service = 90
-normal = 60
-kdry = 850
-kwet = 950
-kn_up = 0
-kn_down = 0
-
-[[train.band]]
-emergency = 100
-service = 80
-normal = 50
-kdry = 850
-kwet = 950
-kn_up = 0
-kn_down = 0
-
-[national]
-avadh = 0
-adhesion_max = 70
-guidance = false
-service_in_target = true
-early_release = false
-inhibit_under_reading = false
-
-[track]
-length = 600000
-
-[[track.gradient]]
-start = 0
-grad = 0
-
-[[track.gradient]]
-start = 200000
-grad = -5
-
-[[track.gradient]]
-start = 400000
-grad = 0
-
-[[track.speed]]
-start = 0
-speed = 160
-
-[authority]
-kind = "end"
-eoa = 500000
-svl = 505000
-"#;
 
 pub const REALISTIC_DATA: &str = "\
 train 20000 160 None 20 true 30 40 true

@@ -1,8 +1,8 @@
 //! Trials, and a journey over the same data. The sums of three and of 100,000 cycles were found apart from this program, by hand and
 //! by a model in exact fractions.
 
-use super::journeys::REALISTIC;
 use super::{STEADY, Streams, answer_of, answer_to, bytes_of, fields_of};
+use sdm_data::REALISTIC_PART;
 use std::test::Fail;
 
 // words | failing reads | failing calls of out | out | code | line
@@ -42,7 +42,7 @@ fn each_trial_has_its_summary(rt: HostRuntime) -> Result<(), Fail> {
 
 // At 40 m/s the EBI lies at 3987.04818 m, and the train comes past the indication limit at 3307.048 m.
 const READINGS: &[u8] =
-    b"\n%%\nread,0,3300000,3295000,3305000,40000,0,500\nread,25,3400000,3395000,3405000,40000,0,500\n";
+    b"%%\nread,0,3300000,3295000,3305000,40000,0,500\nread,25,3400000,3395000,3405000,40000,0,500\n";
 
 const ROWS: &[u8] =
     b"0,C,N,0,0,0,1,160,3987048,3827048,3747048,3667048,3307048\n25,T,I,0,0,0,1,160,3987048,3827048,3747048,3667048,3307048\n";
@@ -50,7 +50,7 @@ const ROWS: &[u8] =
 #[test]
 fn a_journey_over_two_bands_and_a_falling_gradient(rt: HostRuntime) -> Result<(), Fail> {
     let alloc = rt.alloc();
-    let mut input = REALISTIC.as_bytes().to_vec(alloc)?;
+    let mut input = REALISTIC_PART.as_bytes().to_vec(alloc)?;
     input.extend_from_slice(READINGS)?;
     let answer = answer_to(alloc, "run", &input, &STEADY)?;
     assert_eq!(rt; answer.code, 0);

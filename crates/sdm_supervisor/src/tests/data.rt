@@ -6,7 +6,7 @@ use sdm_national::NationalFields;
 use sdm_rules::{BASE_NATIONAL, BASE_TRAIN};
 use sdm_targets::Authority;
 use sdm_track::{Area, Gradient, SpeedStep};
-use sdm_train::{Band, TrainFields};
+use sdm_train::TrainFields;
 use std::alloc::Global;
 use std::test::Fail;
 
@@ -56,51 +56,12 @@ fn set_in_train(train: &mut TrainFields, key: &str, value: Option<&str>) -> Resu
         train.rotating_mass = None;
         return Ok(());
     }
-    let value = number(value)?;
-    match key {
-        "length" => train.length = value,
-        "max_speed" => train.max_speed = value,
-        "rotating_mass" => train.rotating_mass = Some(value),
-        "traction_cutoff_time" => train.traction_cutoff_time = value,
-        "traction_cutoff_interface" => train.traction_cutoff_interface = value == 1,
-        "emergency_time" => train.emergency_time = value,
-        "service_time" => train.service_time = value,
-        "service_brake" => train.service_brake = value == 1,
-        _ => return Err("no such key of the train")?,
-    }
-    Ok(())
+    known(train.set(key, number(value)?))
 }
 
-fn set_in_band(band: &mut Band, key: &str, value: Option<&str>) -> Result<(), Fail> {
-    let value = number(value)?;
-    match key {
-        "upper" => band.upper = Some(value),
-        "emergency" => band.emergency = value,
-        "service" => band.service = value,
-        "normal" => band.normal = value,
-        "kdry" => band.kdry = value,
-        "kwet" => band.kwet = value,
-        "kn_up" => band.kn_up = value,
-        "kn_down" => band.kn_down = value,
-        _ => return Err("no such key of a band")?,
-    }
-    Ok(())
-}
-
-fn set_in_national(
-    national: &mut NationalFields,
-    key: &str,
-    value: Option<&str>,
-) -> Result<(), Fail> {
-    let value = number(value)?;
-    match key {
-        "avadh" => national.avadh = value,
-        "adhesion_max" => national.adhesion_max = value,
-        "guidance" => national.guidance = value == 1,
-        "service_in_target" => national.service_in_target = value == 1,
-        "early_release" => national.early_release = value == 1,
-        "inhibit_under_reading" => national.inhibit_under_reading = value == 1,
-        _ => return Err("no such national value")?,
+fn known(set: bool) -> Result<(), Fail> {
+    if !set {
+        return Err("no such key")?;
     }
     Ok(())
 }
@@ -120,7 +81,7 @@ fn set_band(train: &mut TrainFields, text: &str) -> Result<(), Fail> {
     let i = band_index(words.next())?;
     train.band_count = train.band_count.max(i as u32 + 1);
     while let Some(key) = words.next() {
-        set_in_band(&mut train.bands[i], key, words.next())?;
+        known(train.bands[i].set(key, number(words.next())?))?;
     }
     Ok(())
 }
@@ -189,7 +150,7 @@ fn set_numbers(data: &mut Data, section: &str, text: &str) -> Result<(), Fail> {
         let value = words.next();
         match section {
             "train" => set_in_train(&mut data.train, key, value)?,
-            "national" => set_in_national(&mut data.national, key, value)?,
+            "national" => known(data.national.set(key, number(value)?))?,
             _ => data.track_cm = natural(value)?,
         }
     }
