@@ -1,5 +1,4 @@
 pub mod Sizes
-pub mod KwetTerms
 pub mod SlopeTerms
 pub mod Gradients
 pub mod Sides

@@ -36,11 +36,11 @@ gradients_more segments i start before old new x lt h old_is new_is x_is =
     map_more (λ (s : Segment). unsigned_abs s.start) segments i some_segment lt ∙ ap (λ (z : ℤ). gradient_starts (take i segments) ++ unsigned_abs z ∷ []) (sym (start_is segments i start lt h)) in
     rw (new_is, old_is, x_is, more) (simp append_assoc)
 
-pub areas_more : (length_cm : ℕ) (areas : List Area) (i : ℕ) (a : Area) (before old middle new : List ℕ) (x y : ℕ) → slice_get areas i ≡ Some a → old ≡ before ++ area_ends length_cm (take i areas) →
-    middle ≡ old ++ x ∷ [] → new ≡ middle ++ y ∷ [] → x ≡ unsigned_abs a.start → y ≡ unsigned_abs (a.end +ℤ pos length_cm) → new ≡ before ++ area_ends length_cm (take (i + 1) areas)
-areas_more length_cm areas i a before old middle new x y h old_is middle_is new_is x_is y_is =
+pub areas_more : (length_cm : ℕ) (areas : List Area) (i : ℕ) (d : Area) (before old middle new : List ℕ) (x y : ℕ) → i < length areas → old ≡ before ++ area_ends length_cm (take i areas) →
+    middle ≡ old ++ x ∷ [] → new ≡ middle ++ y ∷ [] → x ≡ unsigned_abs (get_or areas i d).start → y ≡ unsigned_abs ((get_or areas i d).end +ℤ pos length_cm) → new ≡ before ++ area_ends length_cm (take (i + 1) areas)
+areas_more length_cm areas i d before old middle new x y lt old_is middle_is new_is x_is y_is =
     let cells_of : Area → List ℕ = λ a. unsigned_abs a.start ∷ unsigned_abs (a.end +ℤ pos length_cm) ∷ [] in
-    rw (new_is, middle_is, old_is, x_is, y_is, flat_map_next cells_of areas i a h) (simp append_assoc)
+    rw (new_is, middle_is, old_is, x_is, y_is, flat_map_next cells_of areas i (get_or areas i d) (slice_get-get_or areas i d lt)) (simp append_assoc)
 
 pub nat_plus : (z : ℤ) (n : ℕ) → pos 0 ≤ℤ z → unsigned_abs z + n ≡ unsigned_abs (z +ℤ pos n)
 nat_plus (pos m) n h = refl

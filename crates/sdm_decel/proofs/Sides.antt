@@ -1,13 +1,12 @@
 -- The same lies under the train with its front end in two cells, where nothing changes past the first up to the second: each
 -- gradient has begun for both or for neither, and each area is in force for both or for neither.
 use Rattle.std.proofs.Common.{◌≡◌, ℕ, suc, ℤ, pos, List, [], ◌∷◌, length, get_or, Bool, int_le, int_lt, ◌<◌, ◌+ℤ◌, ◌≤ℤ◌, ◌<ℤ◌, refl, sym, ◌∙◌, ap₂, arith}
-use Rattle.std.specs.List.{list_any}
 use Rattle.std.proofs.lemmas.Int.{ints, by_lt_z}
 use Rattle.sdm_num.proofs.Comparisons.{le_is, not_le_is, lt_is, not_lt_is}
 use Rattle.sdm_rules.specs.declared.data.Area.{Area}
 use Rattle.sdm_rules.specs.Cells.{last_at, value_at}
 use Rattle.sdm_rules.specs.Data.{TrackData}
-use Rattle.sdm_rules.specs.Decelerations.{UnderTrain, is_in_force, under_train}
+use Rattle.sdm_rules.specs.Decelerations.{UnderTrain, any_in_force, under_train}
 use Rattle.sdm_track.specs.declared.under_train.Segment.{Segment}
 use Rattle.sdm_decel.specs.StretchCells.{AreGradientsUnder}
 
@@ -43,7 +42,7 @@ module _ (s c : ℤ) (le : s ≤ℤ c) where
   -- ---- areas
 
   any_same : (length_cm : ℤ) (areas : List Area) → ((k : ℕ) (d : Area) → k < length areas → IsBegun s c (get_or areas k d).start) → ((k : ℕ) (d : Area) → k < length areas → IsBegun s c ((get_or areas k d).end +ℤ length_cm)) →
-      list_any (is_in_force length_cm c) areas ≡ list_any (is_in_force length_cm s) areas
+      any_in_force areas length_cm c ≡ any_in_force areas length_cm s
   any_same length_cm [] starts ends = refl
   any_same length_cm (a ∷ more) starts ends =
       let front = le_same a.start (starts 0 a (omega arith)) in

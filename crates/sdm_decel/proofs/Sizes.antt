@@ -38,9 +38,3 @@ difference_size a b m n h k = size_le (a -ℤ b) (m + n) (omega (arith, ints, si
 
 pub min_size : (a b : ℤ) (m : ℕ) → unsigned_abs a ≤ m → unsigned_abs b ≤ m → unsigned_abs (int_min a b) ≤ m
 min_size a b m h k = size_le (int_min a b) m (omega (arith, ints, clamps, size_low a m h, size_low b m k)) (omega (arith, ints, clamps, size_high a m h, size_high b m k))
-
--- the bits of a product of three are the product
-pub product_stays : (a b c : ℤ) (l m n : ℕ) → unsigned_abs a ≤ l → unsigned_abs b ≤ m → unsigned_abs c ≤ n → l * m < 2 ^ 63 → l * m * n < 2 ^ 63 → to_z w64 (of_z w64 (to_z w64 (of_z w64 (a *ℤ b)) *ℤ c)) ≡ a *ℤ b *ℤ c
-product_stays a b c l m n h i j lt lt' =
-    let two = product_size a b l m h i in
-    rw (stays (a *ℤ b) (l * m) two lt) (stays (a *ℤ b *ℤ c) (l * m * n) (product_size (a *ℤ b) c (l * m) n two j) lt')

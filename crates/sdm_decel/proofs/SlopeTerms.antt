@@ -1,5 +1,5 @@
--- A slope is what the brakes give, scaled by q, and A_gradient; each term is small.
-use Rattle.std.proofs.Common.{◌≡◌, ℕ, ℤ, pos, ◌≤◌, ◌+ℤ◌, ◌*ℤ◌, unsigned_abs, refl}
+-- A slope is what the brakes give, scaled by q, and A_gradient.
+use Rattle.std.proofs.Common.{◌≡◌, ℕ, ℤ, pos, ◌+ℤ◌, ◌*ℤ◌, refl}
 use Rattle.sdm_rules.specs.declared.data.Band.{Band}
 use Rattle.sdm_rules.specs.declared.data.NationalFields.{NationalFields}
 use Rattle.sdm_rules.specs.declared.data.SlopeKind.{SlopeKind}
@@ -7,7 +7,6 @@ use Rattle.sdm_rules.specs.declared.data.SlopeKind.TheVariants.{Safe, Expected, 
 use Rattle.sdm_rules.specs.Data.{TrainData}
 use Rattle.sdm_rules.specs.Decelerations.{UnderTrain, q_of, a_gradient, slope_under}
 use Rattle.sdm_decel.specs.Slopes.{brake_of}
-use Rattle.sdm_decel.proofs.Sizes.{product_size, sum_size}
 
 -- each kind is the brakes' part, scaled by q, and A_gradient
 slope_of_brake : (kind : SlopeKind) (t : TrainData) (n : NationalFields) (u : UnderTrain) (b : Band) → pos (q_of t.rotating_mass) *ℤ brake_of kind n u b +ℤ a_gradient t.rotating_mass u.grad ≡ slope_under kind t n u b
@@ -18,10 +17,3 @@ slope_of_brake Normal t n u b = refl
 pub slope_is : (kind : SlopeKind) (t : TrainData) (n : NationalFields) (u : UnderTrain) (b : Band) (q : ℕ) (scale brake grad : ℤ) → q ≡ q_of t.rotating_mass → scale ≡ pos q → brake ≡ brake_of kind n u b → grad ≡ a_gradient t.rotating_mass u.grad →
     scale *ℤ brake +ℤ grad ≡ slope_under kind t n u b
 slope_is kind t n u b q scale brake grad q_is scale_is brake_is grad_is = rw (scale_is, q_is, brake_is, grad_is) (slope_of_brake kind t n u b)
-
-module _ (q b g : ℤ) (q_small : unsigned_abs q ≤ 11_730) (b_small : unsigned_abs b ≤ 16_000_000_000) (g_small : unsigned_abs g ≤ 18_050_400_000_000) where
-  pub product_small : unsigned_abs (q *ℤ b) ≤ 187_680_000_000_000
-  product_small = product_size q b 11_730 16_000_000_000 q_small b_small
-
-  pub all_small : unsigned_abs (q *ℤ b +ℤ g) ≤ 205_730_400_000_000
-  all_small = sum_size (q *ℤ b) g 187_680_000_000_000 18_050_400_000_000 product_small g_small

@@ -109,6 +109,11 @@ pub gathered : (none first gradients all : List ℕ) (segments : List Segment) (
     all ≡ (0 ∷ []) ++ gradient_starts segments ++ area_ends length_cm areas
 gathered none first gradients all segments length_cm areas none_is first_is gradients_is all_is = rw (all_is, gradients_is, first_is, none_is) refl
 
+-- areas of a track lie on the longest one
+pub on_longest : (track : TrackData) (areas : List Area) → IsTrack track → areas ≡ track.areas → All (IsArea (pos longest_track)) areas
+on_longest track areas in_range is =
+    rw is (λ k d l. let a = in_range.areas.each k d l in record { not_before = a.not_before; some_cell = a.some_cell; on_track = omega (arith, ints, a.on_track, in_range.longest) })
+
 module _ (track : TrackData) (length_cm : ℕ) (segments : List Segment) (all cells : List ℕ) (given : AreGradientsUnder track length_cm segments) (in_range : IsTrack track) (short : length_cm ≤ longest_train)
     (all_is : all ≡ (0 ∷ []) ++ gradient_starts segments ++ area_ends length_cm track.areas) where
   near_all : All IsNear all

@@ -19,7 +19,7 @@ pub record AreGradientsUnder (track : TrackData) (length_cm : ℕ) (segments : L
 abbrev pub gradient_starts : List Segment → List ℕ
 gradient_starts segments = map (λ s. unsigned_abs s.start) segments
 
--- where an area of reduced adhesion comes into force, and where the rear end has left it
+-- where each area of a list comes into force, and where the rear end has left it
 abbrev pub area_ends : ℕ → List Area → List ℕ
 area_ends length_cm areas = flat_map (λ a. unsigned_abs a.start ∷ unsigned_abs (a.end +ℤ pos length_cm) ∷ []) areas
 

@@ -1,13 +1,14 @@
-//! Where what lies under the train may change: where the gradient under it does, where an area of reduced adhesion begins, and
-//! where its rear end has left one. Between two such cells the decelerations stay the same.
+//! Where what lies under the train may change: where the gradient under it does, where an area of a list begins, and where its
+//! rear end has left one. Between two such cells the decelerations stay the same.
 
 ghost use Rattle.std.specs.Prelude.{◌≡◌, ℕ, ℤ, pos, ◌++◌, map, All, Contains, IfOk, OnOk, length, ◌≤◌};
 ghost use Rattle.std.specs.List.Sorted.{IsStrictlyIncreasing};
-ghost use Rattle.sdm_rules.specs.Ranges.{longest_train};
-ghost use Rattle.sdm_track.specs.Ranges.{IsTrack};
+ghost use Rattle.sdm_rules.specs.Ranges.{longest_track, longest_train};
+ghost use Rattle.sdm_track.specs.Ranges.{IsArea};
 ghost use Rattle.sdm_decel.specs.StretchCells.{AreGradientsUnder, gradient_starts, area_ends, AreStretches};
 
 use sdm_num::NoMemory;
+use sdm_rules::Area;
 use sdm_track::{Segments, Track};
 use std::alloc::Global;
 
@@ -21,14 +22,13 @@ fn push_gradients(cells: &mut Vec<u32>, segments: &Segments) -> Result<(), NoMem
     Ok(())
 }
 
-// Adds where areas come into force and where the rear end of a train of this length in cm has left them.
-fn push_areas(cells: &mut Vec<u32>, track: &Track, length_cm: u32) -> Result<(), NoMemory>
-    requires { length_cm ≤ longest_train }
-    ensures in_range { IsTrack track.now }
-    ensures added { OnOk result (cells.new.items ≡ cells.old.items ++ area_ends length_cm track.now.areas) }
+// Adds where the areas of a list come into force and where the rear end of a train of this length in cm has left them.
+fn push_areas(cells: &mut Vec<u32>, areas: &[Area], length_cm: u32) -> Result<(), NoMemory>
+    requires areas { All (IsArea (pos longest_track)) areas.now }
+    requires length { length_cm ≤ longest_train }
+    ensures { OnOk result (cells.new.items ≡ cells.old.items ++ area_ends length_cm areas.now) }
 {
-    for i in 0..track.area_count() {
-        let area = track.area(i);
+    for area in areas {
         cells.push(area.start as u32)?;
         cells.push(area.end as u32 + length_cm)?;
     }
@@ -72,7 +72,7 @@ pub fn stretches(
     let mut cells = Vec::new(alloc);
     cells.push(0)?;
     push_gradients(&mut cells, segments)?;
-    push_areas(&mut cells, track, length_cm)?;
+    push_areas(&mut cells, track.areas(), length_cm)?;
     put_in_order(&mut cells);
     starts_of(alloc, &cells)
 }

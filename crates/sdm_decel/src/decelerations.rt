@@ -1,7 +1,8 @@
 //! The decelerations of SUBSET-026-3 3.13.6 in whole numbers of 1/Q m/s², with Q = 2·10⁹·q: in this unit each is exact.
 
-ghost use Rattle.std.specs.Prelude.{◌≡◌, ℤ, pos, unsigned_abs, ◌^◌, ◌+ℤ◌, ◌-ℤ◌, ◌*ℤ◌, ◌≤◌};
+ghost use Rattle.std.specs.Prelude.{◌≡◌, ℤ, pos, unsigned_abs, ◌^◌, ◌+ℤ◌, ◌-ℤ◌, ◌*ℤ◌, ◌*◌, ◌<◌, ◌≤◌};
 ghost use Rattle.sdm_rules.specs.Decelerations.{q_of, brake_safe, brake_under, mass_factor, a_gradient, kn_of, kn_term, slope_under};
+ghost use Rattle.sdm_rules.specs.Ranges.{steepest};
 ghost use Rattle.sdm_decel.specs.Slopes.{brake_of};
 ghost use Rattle.sdm_train.specs.Trains.{IsBand};
 
@@ -18,6 +19,20 @@ const GRAVITY: i64 = 196_200_000 * GRADIENT_UNIT;
 
 /// Kn · grad / 1000 for 1 cm/s² and a gradient of 1, in 1/(2·10⁹) m/s². (SUBSET-026-3 3.13.6.4; own form)
 const KN_UNIT: i64 = 2_000 * GRADIENT_UNIT;
+
+/// How far a gradient may lie from the level, in the unit of gradients.
+const STEEPEST: u64 = sdm_rules::STEEPEST as u64;
+
+// The product of two numbers that lie at most `M` and `N` from 0.
+fn product<const M: u64, const N: u64>(a: i64, b: i64) -> i64
+    requires first { unsigned_abs a ≤ M }
+    requires second { unsigned_abs b ≤ N }
+    requires fits { M * N < 2 ^ 63 }
+    ensures value { result ≡ a *ℤ b }
+    ensures size { unsigned_abs result ≤ M * N }
+{
+    a * b
+}
 
 /// q: 100 plus the rotating mass in percent; 102 · 115 where it is not known, for both values that are then taken. (own unit)
 pub fn q_of(train: &Train) -> u32
@@ -46,7 +61,7 @@ fn mass_factor(rotating_mass: Option<i64>, grad: i64) -> i64
 
 // A_gradient = 9.81 · grad / (1000 + 10 · M_rotating), in 1/Q m/s². (SUBSET-026-3 3.13.4.3)
 fn a_gradient(rotating_mass: Option<i64>, grad: i64) -> i64
-    requires { unsigned_abs grad ≤ 80 }
+    requires { unsigned_abs grad ≤ unsigned_abs steepest }
     ensures value { result ≡ a_gradient rotating_mass grad }
     ensures size { unsigned_abs result ≤ 18_050_400_000_000 }
 {
@@ -60,7 +75,7 @@ fn weighted_kwet(avadh: i64, band: &Band) -> i64
     ensures value { result ≡ pos 20 *ℤ band.now.kwet +ℤ avadh *ℤ (pos 1000 -ℤ band.now.kwet) }
     ensures size { unsigned_abs result ≤ 40_000 }
 {
-    20 * band.kwet + avadh * (1000 - band.kwet)
+    20 * band.kwet + product::<20, 1000>(avadh, 1000 - band.kwet)
 }
 
 // Kdry_rst · (Kwet_rst + M_NVAVADH · (1 − Kwet_rst)) · A_brake_emergency, in 1/(2·10⁹) m/s². (SUBSET-026-3 3.13.6.2.1)
@@ -70,7 +85,8 @@ fn brake_safe(avadh: i64, band: &Band) -> i64
     ensures value { result ≡ brake_safe avadh band.now band.now.emergency }
     ensures size { unsigned_abs result ≤ 16_000_000_000 }
 {
-    band.kdry * weighted_kwet(avadh, band) * band.emergency
+    let dry = product::<1000, 40_000>(band.kdry, weighted_kwet(avadh, band));
+    product::<40_000_000, 400>(dry, band.emergency)
 }
 
 // A_brake_safe: on reduced adhesion at most the national maximum A_NVMAXREDADH. (SUBSET-026-3 3.13.6.2.1)
@@ -99,11 +115,11 @@ fn kn_of(band: &Band, grad: i64) -> i64
 // Kn · grad / 1000, in 1/(2·10⁹) m/s². (SUBSET-026-3 3.13.6.4; own form)
 fn kn_term(band: &Band, grad: i64) -> i64
     requires band { IsBand band.now }
-    requires grad { unsigned_abs grad ≤ 80 }
+    requires grad { unsigned_abs grad ≤ unsigned_abs steepest }
     ensures value { result ≡ kn_term band.now grad }
     ensures size { unsigned_abs result ≤ 1_600_000_000 }
 {
-    KN_UNIT * kn_of(band, grad) * grad
+    product::<20_000_000, STEEPEST>(KN_UNIT * kn_of(band, grad), grad)
 }
 
 // What the brakes give, in 1/(2·10⁹) m/s²: A_brake_safe, A_brake_service, or A_brake_normal_service less Kn · grad / 1000.
@@ -128,5 +144,6 @@ pub fn slope(kind: SlopeKind, train: &Train, national: &National, under: Under, 
     ensures size { unsigned_abs result ≤ 10 ^ 15 }
 {
     let brake = brake(kind, national, under, band);
-    i64::from(q_of(train)) * brake + a_gradient(train.rotating_mass(), under.grad())
+    let scaled = product::<11_730, 16_000_000_000>(i64::from(q_of(train)), brake);
+    scaled + a_gradient(train.rotating_mass(), under.grad())
 }

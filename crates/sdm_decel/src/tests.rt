@@ -5,7 +5,7 @@ use crate::{BandMap, CurveFault, expected, normal, safe};
 use sdm_national::{National, NationalFields};
 use sdm_rules::{BASE_NATIONAL, BASE_TRAIN};
 use sdm_track::{Area, Gradient, SpeedStep, Track};
-use sdm_train::{Band, Train, TrainFields};
+use sdm_train::{Train, TrainFields};
 use std::alloc::{AllocError, Global};
 use std::test::Fail;
 
@@ -27,30 +27,12 @@ fn base(alloc: Global) -> Case {
     }
 }
 
-// Sets a number by its key in the data; the keys of a band are those of the first one, or, with a 2 at the end, of the second.
+// Sets a number by its key in the data, or the count of bands.
 fn set(case: &mut Case, key: &str, number: i64) -> Result<(), &'static str> {
     match key {
-        "length" => case.train.length = number,
-        "mass" => case.train.rotating_mass = Some(number),
         "no_mass" => case.train.rotating_mass = None,
-        "avadh" => case.national.avadh = number,
-        "adhesion_max" => case.national.adhesion_max = number,
         "bands" => case.train.band_count = u32::try_from(number).map_err(|_| "no count")?,
-        _ => return set_in_band(&mut case.train.bands[0], key, number),
-    }
-    Ok(())
-}
-
-fn set_in_band(band: &mut Band, key: &str, number: i64) -> Result<(), &'static str> {
-    match key {
-        "upper" => band.upper = Some(number),
-        "emergency" => band.emergency = number,
-        "service" => band.service = number,
-        "normal" => band.normal = number,
-        "kdry" => band.kdry = number,
-        "kwet" => band.kwet = number,
-        "kn_up" => band.kn_up = number,
-        "kn_down" => band.kn_down = number,
+        _ if case.train.set(key, number) || case.national.set(key, number) => {}
         _ => return Err("no such key"),
     }
     Ok(())
@@ -168,8 +150,8 @@ const OUTCOMES: &str = "\
 160000000000: safe 1 0; kdry 800; ;
 150000000000: safe 1 0; kwet 500 avadh 10; ;
 200000000000: safe 2 0; bands 2 upper 36 emergency 50; ;
-180380000000: safe 1 0; mass 0; 0 -10;
-198380000000: safe 1 0; mass 9; 0 -10;
+180380000000: safe 1 0; rotating_mass 0; 0 -10;
+198380000000: safe 1 0; rotating_mass 9; 0 -10;
 25461240000000: safe 1 0; no_mass 0; 0 10;
 21203700000000: safe 1 0; no_mass 0; 0 -10;
 22732740000000: safe 1 0; no_mass 0 emergency 120 kdry 850 kwet 950 avadh 0; ;
@@ -177,10 +159,10 @@ const OUTCOMES: &str = "\
 21114000000000: expected 1 0; no_mass 0 service 90; ;
 219420000000: normal 1 0; kn_up 10 kn_down 20; 0 10;
 180780000000: normal 1 0; kn_up 10 kn_down 20; 0 -10;
-200560000000: normal 1 0; mass 9 kn_down 100; 0 -10;
-198380000000: safe 1 0; mass 9 kn_down 100; 0 -10;
-198380000000: safe 1 69999; mass 9 length 20000; 0 -10 50000 0;
-218000000000: safe 1 70000; mass 9 length 20000; 0 -10 50000 0;
+200560000000: normal 1 0; rotating_mass 9 kn_down 100; 0 -10;
+198380000000: safe 1 0; rotating_mass 9 kn_down 100; 0 -10;
+198380000000: safe 1 69999; rotating_mass 9 length 20000; 0 -10 50000 0;
+218000000000: safe 1 70000; rotating_mass 9 length 20000; 0 -10 50000 0;
 209810000000: safe 1 -1; ; 0 5 1000 -5 2000 3;
 209810000000: safe 1 999; ; 0 5 1000 -5 2000 3;
 190190000000: safe 1 1000; ; 0 5 1000 -5 2000 3;

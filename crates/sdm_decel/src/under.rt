@@ -2,6 +2,7 @@
 
 ghost use Rattle.std.specs.Prelude.{◌≡◌, ℤ, pos, map, IfOk, unsigned_abs, ◌≤◌};
 ghost use Rattle.sdm_rules.specs.Decelerations.{under_train};
+ghost use Rattle.sdm_rules.specs.Ranges.{steepest};
 ghost use Rattle.sdm_track.specs.Segments.{AreSegments, segment_gradient};
 ghost use Rattle.sdm_decel.specs.StretchCells.{AreGradientsUnder};
 
@@ -10,7 +11,7 @@ use sdm_track::{Segments, Track};
 use std::alloc::Global;
 use std::marker::Model;
 
-/// The track under the train: the lowest gradient from its rear end to its front end, in per mille and at most 80 up or down
+/// The track under the train: the lowest gradient from its rear end to its front end, in the unit of gradients
 /// (SUBSET-026-3 3.13.4.2), and whether reduced adhesion is in force (3.13.6.2).
 #[derive(Clone, Copy)]
 pub struct Under {
@@ -21,12 +22,13 @@ pub struct Under {
 impl Model for Under {
     ghost use Rattle.std.specs.Prelude.{◌≤◌, unsigned_abs};
     ghost use Rattle.sdm_rules.specs.Decelerations.{UnderTrain};
+    ghost use Rattle.sdm_rules.specs.Ranges.{steepest};
 
     ghost Value = { UnderTrain };
 
     ghost view = { λ u. record { grad = u.grad; reduced = u.reduced } };
 
-    ghost invariant = { λ u. unsigned_abs u.grad ≤ 80 };
+    ghost invariant = { λ u. unsigned_abs u.grad ≤ unsigned_abs steepest };
 
     ghost inverse = { λ u. record { grad = u.grad; reduced = u.reduced } };
 }
@@ -61,10 +63,10 @@ impl Under {
         Ok(unders)
     }
 
-    /// The gradient in per mille, uphill positive.
+    /// The gradient in the unit of gradients, uphill positive.
     pub fn grad(self) -> i64
         ensures value { result ≡ self.grad }
-        ensures size { unsigned_abs result ≤ 80 }
+        ensures size { unsigned_abs result ≤ unsigned_abs steepest }
     {
         self.grad
     }
