@@ -230,28 +230,39 @@ fn an_input_of_several_chunks_is_read_whole(rt: HostRuntime) -> Result<(), Fail>
     Ok(())
 }
 
-// A stream that fails at each call of an odd number, and moves one byte at the others. As a writer it takes nothing at its
-// fourth call.
+// The calls of a stream that fails at each one of an odd number.
 #[derive(Drop)]
-struct Unsteady<'a> {
-    bytes: &'a [u8],
-    calls: u8,
+struct Calls {
+    made: u8,
     failure: io::ErrorKind,
 }
 
-impl<'a> Unsteady<'a> {
-    fn call(&mut self) -> io::Result<u8> {
-        self.calls = self.calls.saturating_add(1);
-        if self.calls % 2 == 1 {
+impl Calls {
+    // None so far.
+    fn new(failure: io::ErrorKind) -> Calls {
+        Calls { made: 0, failure }
+    }
+
+    // The number of the next call, which counts from 1.
+    fn next(&mut self) -> io::Result<u8> {
+        self.made = self.made.saturating_add(1);
+        if self.made % 2 == 1 {
             return Err(io::Error::from(self.failure));
         }
-        Ok(self.calls)
+        Ok(self.made)
     }
 }
 
-impl<'a> io::Read for Unsteady<'a> {
+// A reader that gives one byte at a call that does not fail.
+#[derive(Drop)]
+struct UnsteadyReader<'a> {
+    bytes: &'a [u8],
+    calls: Calls,
+}
+
+impl<'a> io::Read for UnsteadyReader<'a> {
     fn read(&mut self, buf: &mut [u8]) -> io::Result<usize> {
-        self.call()?;
+        self.calls.next()?;
         let n = buf.len().min(self.bytes.len()).min(1);
         buf[..n].copy_from_slice(&self.bytes[..n]);
         self.bytes = &self.bytes[n..];
@@ -259,26 +270,37 @@ impl<'a> io::Read for Unsteady<'a> {
     }
 }
 
-impl<'a> io::Write for Unsteady<'a> {
+// A writer that keeps one byte at a call that does not fail, but nothing at its fourth.
+#[derive(Drop)]
+struct UnsteadyWriter<'a> {
+    kept: &'a mut Vec<u8>,
+    calls: Calls,
+}
+
+impl<'a> io::Write for UnsteadyWriter<'a> {
     fn write(&mut self, piece: &[u8]) -> io::Result<usize> {
-        if self.call()? == 4 {
-            return Ok(0);
+        let n = if self.calls.next()? == 4 {
+            0
+        } else {
+            piece.len().min(1)
+        };
+        match self.kept.extend_from_slice(&piece[..n]) {
+            Ok(()) => Ok(n),
+            Err(_) => Err(io::Error::from(io::ErrorKind::OutOfMemory)),
         }
-        Ok(piece.len().min(1))
     }
 
     fn flush(&mut self) -> io::Result<()> {
-        self.call()?;
+        self.calls.next()?;
         Ok(())
     }
 }
 
 // What the calls of an unsteady source answer.
 fn unsteady_reads(alloc: Global, failure: io::ErrorKind, calls: u8) -> Result<String, Fail> {
-    let mut source = StdSource::new(Unsteady {
+    let mut source = StdSource::new(UnsteadyReader {
         bytes: b"ab",
-        calls: 0,
-        failure,
+        calls: Calls::new(failure),
     });
     let mut answers = String::new(alloc);
     for _ in 0..calls {
@@ -303,34 +325,39 @@ fn an_interrupted_read_is_made_again(rt: HostRuntime) -> Result<(), Fail> {
     Ok(())
 }
 
-fn unsteady_sink(failure: io::ErrorKind) -> StdSink<Unsteady<'static>> {
-    StdSink::new(Unsteady {
-        bytes: b"",
-        calls: 0,
-        failure,
+fn unsteady_sink<'a>(kept: &'a mut Vec<u8>, failure: io::ErrorKind) -> StdSink<UnsteadyWriter<'a>> {
+    StdSink::new(UnsteadyWriter {
+        kept,
+        calls: Calls::new(failure),
     })
 }
 
 #[test]
 fn a_writer_that_fails_or_takes_nothing_is_a_fault(rt: HostRuntime) {
-    let mut sink = unsteady_sink(io::ErrorKind::TimedOut);
+    let mut kept = Vec::new(rt.alloc());
+    let mut sink = unsteady_sink(&mut kept, io::ErrorKind::TimedOut);
     assert_eq!(rt; sink.write(b"ab"), Err(Failed));
-    assert_eq!(rt; sink.write(b"ab"), Ok(1));
-    assert_eq!(rt; sink.write(b"ab"), Err(Failed));
-    assert_eq!(rt; sink.write(b"ab"), Err(Failed));
-    assert_eq!(rt; sink.write(b"ab"), Err(Failed));
+    assert_eq!(rt; sink.write(b"cd"), Ok(1));
+    assert_eq!(rt; sink.write(b"ef"), Err(Failed));
+    assert_eq!(rt; sink.write(b"gh"), Err(Failed));
+    assert_eq!(rt; sink.write(b"ij"), Err(Failed));
     assert_eq!(rt; sink.write(b""), Ok(0));
     assert_eq!(rt; sink.flush(), Err(Failed));
     assert_eq!(rt; sink.flush(), Ok(()));
+    drop(sink);
+    assert!(rt; kept.as_slice() == b"c".as_slice());
 }
 
 #[test]
 fn an_interrupted_write_or_flush_is_made_again(rt: HostRuntime) {
-    let mut sink = unsteady_sink(io::ErrorKind::Interrupted);
+    let mut kept = Vec::new(rt.alloc());
+    let mut sink = unsteady_sink(&mut kept, io::ErrorKind::Interrupted);
     assert_eq!(rt; sink.write(b"ab"), Ok(1));
-    assert_eq!(rt; sink.write(b"ab"), Err(Failed));
-    assert_eq!(rt; sink.write(b"ab"), Ok(1));
+    assert_eq!(rt; sink.write(b"cd"), Err(Failed));
+    assert_eq!(rt; sink.write(b"ef"), Ok(1));
     assert_eq!(rt; sink.flush(), Ok(()));
+    drop(sink);
+    assert!(rt; kept.as_slice() == b"ae".as_slice());
 }
 
 // What reaches a writer of pieces that go over a block: of a flush at the end, or of none.
