@@ -35,3 +35,8 @@ abbrev pub left_after : Result Bool NoMemory → Reader (Bor (List ℕ)) → Lis
 left_after (Ok true) r = records_in (reader_state r) (bytes_left r)
 left_after (Ok false) r = []
 left_after (Err refused) r = []
+
+-- what is left to a reader of records, and whether memory was refused to it (own)
+pub record Rest : Type 0 where
+  pub left : List Record
+  pub failed : Bool

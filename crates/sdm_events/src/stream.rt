@@ -1,7 +1,7 @@
 //! The records of a journey, one by one from bytes in memory. `csv` decides what a record is, and its settings stand here
 //! alone: comma separated, no header row, any count of fields.
 
-ghost use Rattle.std.specs.Prelude.{◌≡◌, ◌∷◌, [], Ok, true, false, OnErr};
+ghost use Rattle.std.specs.Prelude.{◌≡◌, ◌∷◌, [], Ok, true, false, is_err};
 ghost use Rattle.csv.specs.Records.{fields_of};
 ghost use Rattle.sdm_events.specs.Journey.{records_of};
 
@@ -19,13 +19,12 @@ pub struct Records<'a> {
 }
 
 impl<'a> Model for Records<'a> {
-    ghost use Rattle.std.specs.Prelude.{◌≡◌, List, Ok, true};
-    ghost use Rattle.sdm_events.specs.Journey.{Record};
-    ghost use Rattle.sdm_events.specs.Left.{IsBetweenRecords, left_after};
+    ghost use Rattle.std.specs.Prelude.{◌≡◌, Ok, true, is_err};
+    ghost use Rattle.sdm_events.specs.Left.{IsBetweenRecords, Rest, left_after};
 
-    ghost Value = { List Record };
+    ghost Value = { Rest };
 
-    ghost view = { λ r. left_after r.last r.reader };
+    ghost view = { λ r. record { left = left_after r.last r.reader; failed = is_err r.last } };
 
     ghost invariant = { λ r. r.last ≡ Ok true → IsBetweenRecords r.reader };
 }
@@ -33,7 +32,8 @@ impl<'a> Model for Records<'a> {
 impl<'a> Records<'a> {
     /// All records of these bytes. No memory is taken.
     pub fn begin(alloc: Global, bytes: &'a [u8]) -> Records<'a>
-        ensures { result ≡ records_of bytes.now }
+        ensures all { result.left ≡ records_of bytes.now }
+        ensures not_failed { result.failed ≡ false }
     {
         Records {
             reader: ReaderBuilder::new()
@@ -47,9 +47,10 @@ impl<'a> Records<'a> {
     /// Takes the first of the records that are left into `into`; false where none is left. The only error is want of memory,
     /// since a reader of bytes in memory never fails; it is answered from then on. Only after true `into` holds a record.
     pub fn next(&mut self, into: &mut ByteRecord) -> Result<bool, NoMemory>
-        ensures found { result ≡ Ok true → self.old ≡ fields_of into.new ∷ self.new }
-        ensures end { result ≡ Ok false → (self.old ≡ []) × (self.new ≡ []) }
-        ensures refused { OnErr result (self.new ≡ []) }
+        ensures found { result ≡ Ok true → self.old.left ≡ fields_of into.new ∷ self.new.left }
+        ensures end { result ≡ Ok false → (self.old.left ≡ []) × (self.new.left ≡ []) }
+        ensures failed { self.new.failed ≡ is_err result }
+        ensures for_good { self.old.failed ≡ true → is_err result ≡ true }
     {
         let Ok(true) = self.last else {
             return self.last;

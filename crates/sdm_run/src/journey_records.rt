@@ -140,7 +140,7 @@ fn turn<O: Sink>(
     out: &mut O,
 ) -> Result<bool, Outcome>
     requires { 1 ≤ number }
-    ensures turn { IsTurnAnswer (O.taken out.old) (O.taken out.new) number supervisor.old supervisor.new records.old records.new result }
+    ensures turn { IsTurnAnswer (O.taken out.old) (O.taken out.new) number supervisor.old supervisor.new records.old.left records.new.left result }
     ensures due { rows.new.is_flush_due ≡ false
         → ((rows.old.is_flush_due ≡ false) × (out.new ≡ out.old)) ⊎ (result ≡ Err Outcome.WriteFault) }
     ensures later { O.faults out.old ≤ O.faults out.new }

@@ -8,7 +8,7 @@ use Rattle.sdm_run.proofs.journey_records.run_records.Goals as goal
 
 pub records-init : goal.records-init
 records-init g c = record {
-  left = rw c.begin-records.ensures (all_left_of _ 1 _ _);
+  left = rw c.begin-records.ensures.all (all_left_of _ 1 _ _);
   from_1 = omega arith;
   counted = omega arith;
   later = omega arith;
@@ -17,7 +17,7 @@ records-init g c = record {
 
 pub records-preserved : goal.records-preserved
 records-preserved g c =
-    let step = subst (λ (r : Result Bool Outcome). IsTurnAnswer (g.O.Sink.taken c.records.out) (g.O.Sink.taken c.turn.new.out) c.records.number c.records.supervisor c.turn.new.supervisor c.records.records c.turn.new.records r)
+    let step = subst (λ (r : Result Bool Outcome). IsTurnAnswer (g.O.Sink.taken c.records.out) (g.O.Sink.taken c.turn.new.out) c.records.number c.records.supervisor c.turn.new.supervisor c.records.records.left c.turn.new.records.left r)
     (c.in-Ok-true.is ∙ ap Ok c.in-Ok-true.field-0-test) c.turn.ensures.turn in
     let one : c.records.number + 1 ≡ suc c.records.number = omega arith in
     record {

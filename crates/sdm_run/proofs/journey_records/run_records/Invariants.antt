@@ -7,7 +7,7 @@ use Rattle.sdm_run.proofs.journey_records.run_records.Given as goal
 
 abbrev pub invariant-records : goal.invariant-records
 invariant-records g l = record {
-  left : IsLeftOf (g.O.Sink.taken l.fn.out) (g.O.Sink.taken l.out) (output_of_records 1 l.fn.supervisor (records_of l.bytes)) l.number l.supervisor l.records;
+  left : IsLeftOf (g.O.Sink.taken l.fn.out) (g.O.Sink.taken l.out) (output_of_records 1 l.fn.supervisor (records_of l.bytes)) l.number l.supervisor l.records.left;
   from_1 : 1 ≤ l.number;
   counted : l.number ≤ 100_001;
   later : g.O.Sink.faults l.fn.out ≤ g.O.Sink.faults l.out;
@@ -16,4 +16,4 @@ invariant-records g l = record {
 
 -- each turn takes a record
 abbrev pub decreases-records : goal.decreases-records
-decreases-records g l = length l.records
+decreases-records g l = length l.records.left
