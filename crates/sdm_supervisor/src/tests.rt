@@ -8,11 +8,13 @@
 
 mod curves;
 mod data;
+mod greatest;
 mod journeys;
 mod modelled;
 mod records;
 
 use data::{base, set_line};
+use greatest::{expect, greatest, read, restrict};
 use journeys::{COMMANDS, FRONTS, LIMITS, RECORDS, RELEASES};
 use modelled::MODELLED;
 use records::{answer, begin};
@@ -111,4 +113,24 @@ fn the_first_fault_of_an_opening_is_named(rt: HostRuntime) -> Result<(), Fail> {
         assert_eq!(rt; found.as_str(), expected, "{text}");
     }
     Ok(())
+}
+
+#[test]
+fn the_greatest_data_have_rows(rt: HostRuntime) -> Result<(), Fail> {
+    let alloc = rt.alloc();
+    let Ok(mut supervisor) = begin(alloc, greatest(alloc)?)? else {
+        return Err("the opening is refused")?;
+    };
+    restrict(&rt, alloc, &mut supervisor)?;
+    let near = "800000,800000,760000,720000,540000";
+    read(&rt, alloc, &mut supervisor, 0, near)?;
+    expect(
+        &rt,
+        alloc,
+        &mut supervisor,
+        "end,10000000,10000000,0",
+        "taken",
+    )?;
+    let far = "99800000,99800000,99760000,99720000,99540000";
+    read(&rt, alloc, &mut supervisor, 1, far)
 }

@@ -1,0 +1,116 @@
+//! The greatest data: 512 gradients, 128 speeds and 64 areas on 100 km of track, a train of 8 speed bands, and 32 restrictions. All but
+//! the first speed lie from 2 km to 99 km, and every band brakes with 1 m/s² on level track: so before an EOA at 1 km, and before one at
+//! 100 km, the limits are those that 20 m/s have on the track of the base data.
+
+use crate::Supervisor;
+use crate::tests::data::{Data, base, set_line};
+use crate::tests::records::answer;
+use sdm_track::{Area, Gradient, SpeedStep};
+use std::alloc::Global;
+use std::process::Abort;
+use std::test::Fail;
+
+/// The eight bands: at 1 m/s² each of their borders is passed a whole number of millimetres before the foot.
+const BANDS: &str = "\
+train max_speed 500; track length 10000000
+band 1 upper 18; band 2 upper 36; band 3 upper 54; band 4 upper 72; band 5 upper 90; band 6 upper 108; band 7 upper 126; band 8 normal 100";
+
+// 511 more gradients: by turns 5 per mille down and up, and level from 98,900 m on.
+fn add_gradients(data: &mut Data) -> Result<(), Fail> {
+    data.gradients.push(Gradient { start: 0, grad: 0 })?;
+    for i in 0..511i64 {
+        let grad = if i == 510 {
+            0
+        } else if i % 2 == 0 {
+            -5
+        } else {
+            5
+        };
+        data.gradients.push(Gradient {
+            start: 200_000 + 19_000 * i,
+            grad,
+        })?;
+    }
+    Ok(())
+}
+
+// 300 km/h, then 127 falls of 1 km/h.
+fn add_speeds(data: &mut Data) -> Result<(), Fail> {
+    data.speeds.push(SpeedStep {
+        start: 0,
+        speed: 300,
+        delayed: true,
+    })?;
+    for i in 1..128i64 {
+        data.speeds.push(SpeedStep {
+            start: 130_000 + 70_000 * i,
+            speed: 300 - i,
+            delayed: true,
+        })?;
+    }
+    Ok(())
+}
+
+fn add_areas(data: &mut Data) -> Result<(), Fail> {
+    for i in 0..64i64 {
+        let start = 200_000 + 140_000 * i;
+        data.areas.push(Area {
+            start,
+            end: start + 70_000,
+        })?;
+    }
+    Ok(())
+}
+
+/// The greatest data, with the EOA at 1 km.
+pub fn greatest(alloc: Global) -> Result<Data, Fail> {
+    let mut data = base(alloc);
+    for line in BANDS.lines() {
+        set_line(alloc, &mut data, line)?;
+    }
+    add_gradients(&mut data)?;
+    add_speeds(&mut data)?;
+    add_areas(&mut data)?;
+    Ok(data)
+}
+
+/// A record is answered by this text.
+pub fn expect(
+    rt: &impl Abort,
+    alloc: Global,
+    supervisor: &mut Supervisor,
+    record: &str,
+    expected: &str,
+) -> Result<(), Fail> {
+    let found = answer(alloc, supervisor, record)?;
+    assert_eq!(rt; found.as_str(), expected, "{record}");
+    Ok(())
+}
+
+/// 32 restrictions of 100 km/h, each a fall of its own.
+pub fn restrict(rt: &impl Abort, alloc: Global, supervisor: &mut Supervisor) -> Result<(), Fail> {
+    for i in 0..32u32 {
+        let start = 1_000_000 + 250_000 * i;
+        let end = start + 50_000;
+        let record = format!(in alloc; "restrict,{i},{start},{end},100,1")?;
+        expect(rt, alloc, supervisor, record.as_str(), "taken")?;
+    }
+    Ok(())
+}
+
+/// A hundred readings of one time at 20 m/s, 5 m apart, with the limits of a row.
+pub fn read(
+    rt: &impl Abort,
+    alloc: Global,
+    supervisor: &mut Supervisor,
+    time: u32,
+    limits: &str,
+) -> Result<(), Fail> {
+    let row = format!(in alloc; "{time},C,N,0,0,0,1,300,{limits}")?;
+    for i in 0..100u32 {
+        let front = 5_000 * i;
+        let record = format!(in alloc; "read,{time},{front},{front},{front},20000,0,0")?;
+        expect(rt, alloc, supervisor, record.as_str(), row.as_str())?;
+    }
+    Ok(())
+}
