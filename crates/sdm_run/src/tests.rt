@@ -95,7 +95,7 @@ fn answer_to(alloc: Global, words: &str, bytes: &[u8], streams: &Streams) -> Res
     let writes = numbers_of(alloc, streams.failing_writes)?;
     let lines = numbers_of(alloc, streams.failing_lines)?;
     let mut input = MemSource::new(alloc, bytes, step, &reads)?;
-    let mut out = MemSink::new(alloc, 1000, step, &writes)?;
+    let mut out = MemSink::new(alloc, 1_000_000, step, &writes)?;
     let mut err = MemSink::new(alloc, 1000, step, &lines)?;
     let outcome = sdm_main(alloc, &words, &mut input, &mut out, &mut err);
     Ok(Answer {
@@ -367,12 +367,62 @@ fn a_record_past_the_hundred_thousandth_is_too_many(rt: HostRuntime) -> Result<(
     Ok(())
 }
 
+// Ten thousand lines, which begin with their numbers after a front that they share.
+fn ten_thousand(alloc: Global, front: &str, back: &str) -> Result<Vec<u8>, Fail> {
+    let mut lines = Vec::new(alloc);
+    for i in 0..10_000u32 {
+        let line = format!(in alloc; "{front}{i}{back}\n")?;
+        lines.extend_from_slice(line.as_bytes())?;
+    }
+    Ok(lines)
+}
+
+// What a row has after its time: of a train that stands before its EOA, all limits are the EOA.
+const STANDING_FLAT: &str = ",1000000,1,0";
+
+const STANDING: &str = ",C,N,0,0,0,1,160,1000000,1000000,1000000,1000000,1000000";
+
 #[test]
-fn ten_thousand_readings_are_done(rt: HostRuntime) -> Result<(), Fail> {
+fn ten_thousand_readings_have_their_rows(rt: HostRuntime) -> Result<(), Fail> {
     let alloc = rt.alloc();
-    let reading = "read,0,0,0,0,0,0,0\n";
-    let input = many_records(alloc, 10_000, reading, reading)?;
-    let words = words_of(alloc, "run")?;
-    assert_eq!(rt; outcome_of(alloc, &words, &input), Outcome::Done);
+    let lines = ten_thousand(alloc, "", ",0,0")?;
+    let answer = answer_to(alloc, "flat 100 100000", &lines, &STEADY)?;
+    assert_eq!(rt; answer.code, 0);
+    assert!(rt; answer.out == ten_thousand(alloc, "", STANDING_FLAT)?);
+
+    let mut input = many_records(alloc, 0, "", "")?;
+    input.extend_from_slice(&ten_thousand(alloc, "read,", ",0,0,0,0,0,0")?)?;
+    let answer = answer_to(alloc, "run", &input, &STEADY)?;
+    assert_eq!(rt; answer.code, 0);
+    assert!(rt; answer.out == ten_thousand(alloc, "", STANDING)?);
+    Ok(())
+}
+
+// section | entry | one entry too many | line
+const TOO_LONG_LISTS: &str = "\
+    gradient | start = 0/grad = 0/ | 513 | sdm: bad data: count track.gradient/
+    adhesion | start = 0/end = 1/ | 65 | sdm: bad data: count track.adhesion/
+    speed | start = 0/speed = 160/ | 129 | sdm: bad data: count track.speed/";
+
+#[test]
+fn a_list_with_too_many_entries_is_refused(rt: HostRuntime) -> Result<(), Fail> {
+    let alloc = rt.alloc();
+    for line in TOO_LONG_LISTS.lines() {
+        let fields = fields_of(alloc, line)?;
+        let [section, entry, count, told] = fields.as_slice() else {
+            return Err("no row".into());
+        };
+        let header = format!(in alloc; "\n[[track.{section}]]\n")?;
+        let mut input = BASE.as_bytes().to_vec(alloc)?;
+        for _ in 0..count.parse::<u32>()? {
+            input.extend_from_slice(header.as_bytes())?;
+            input.extend_from_slice(&bytes_of(alloc, entry)?)?;
+        }
+        input.extend_from_slice(b"%%\n")?;
+        let answer = answer_to(alloc, "run", &input, &STEADY)?;
+        assert_eq!(rt; answer.code, 5, "{line}");
+        assert!(rt; answer.out.is_empty(), "{line}");
+        assert!(rt; answer.err == bytes_of(alloc, told)?, "{line}");
+    }
     Ok(())
 }

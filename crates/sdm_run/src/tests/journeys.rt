@@ -166,7 +166,14 @@ avadh = 20 > avadh = 21 | - | - | 5 | sdm: bad data: value national.avadh/
 length = 200000 > length = 0 | - | - | 5 | sdm: bad data: value track.length/
 [[train.band]] > band = []; emergency = 100 >; service = 100 >; normal = 100 >; kdry = 1000 >; kwet = 1000 >; kn_up = 0 >; kn_down = 0 > | - | - | 5 | sdm: bad data: band count/
 [[track.speed]] > speed = []; start = 0 >; speed = 160 > | - | - | 5 | sdm: bad data: count track.speed/
-start = 0 > start = 1 | - | - | 5 | sdm: bad data: gap track.speed/"#;
+start = 0 > start = 1 | - | - | 5 | sdm: bad data: gap track.speed/
+[[track.speed]] > [[track.gradient]]/start = 1/grad = 0/[[track.speed]] | - | - | 5 | sdm: bad data: gap track.gradient/
+[[track.speed]] > [[track.gradient]]/start = 0/grad = 0/[[track.gradient]]/start = 0/grad = 5/[[track.speed]] | - | - | 5 | sdm: bad data: order track.gradient[2]/
+[[track.speed]] > [[track.adhesion]]/start = 0/end = 11/[[track.adhesion]]/start = 10/end = 20/[[track.speed]] | - | - | 5 | sdm: bad data: order track.adhesion[2]/
+svl = 100000 > svl = 200001 | - | - | 6 | sdm: refused: beyond track/
+service = 100 > service = 4 | - | - | 6 | sdm: refused: too weak: expected band 1 cell 0/
+normal = 100 > normal = 4 | - | - | 6 | sdm: refused: too weak: normal band 1 cell 0/
+normal = 100 > normal = 5; [[track.speed]] > [[track.gradient]]/start = 0/grad = 0/[[track.gradient]]/start = 50000/grad = 80/[[track.speed]] | - | - | 6 | sdm: refused: too varied: normal band 1/"#;
 
 /// input | code | line
 pub const PARTS: &str = r#"- | 5 | sdm: bad data: no %% line/
@@ -175,8 +182,8 @@ pub const PARTS: &str = r#"- | 5 | sdm: bad data: no %% line/
 a = /%%/ | 5 | sdm: bad data: not TOML/
 a = 1/%%~/ | 5 | sdm: bad data: unknown key in root/"#;
 
-/// step | failing reads | failing calls of out | records | rows | code | line; a row is written before the next record is looked at,
-/// and out is flushed after the last, where there is one
+/// step | failing reads | failing calls of out | records | rows | code | line; the rows before a refused record are written, and out is
+/// flushed after the last, where there is one
 pub const RUN_FAULTS: &str =
     r#"1 | - | - | read,0,799990,799990,799990,20000,0,0/ | 0,T,W,1,0,0,1,160,800000,800000,760000,720000,540000/ | 0 | -
 1000 | 2 | - | read,0,799990,799990,799990,20000,0,0/ | - | 2 | sdm: read fault/
