@@ -1,97 +1,80 @@
--- The lines of an input are its first line, which reaches to the first LF, and the lines of what is left. So the input is divided
--- line by line.
-use Rattle.std.proofs.Common.{◌≡◌, ◌≢◌, ℕ, zero, suc, ◌+◌, ◌<◌, nat_lt, Bool, true, false, cond, List, [], ◌∷◌, Option, Some, None, option_map, length, get_or, take, drop, position, add-one, arith, refl, ap, sym, ◌∙◌, length-append, append-nil}
-use Rattle.std.proofs.lemmas.Bool.{ne_eqb}
+-- The input is divided at the first line that divides: none of the lines before it does.
+use Rattle.std.proofs.Common.{◌≡◌, ℕ, suc, ◌+◌, ◌-◌, ◌<◌, nat_lt, Bool, true, false, cond, List, [], ◌∷◌, ◌++◌, Option, Some, None, option_map, length, get_or, take, position, arith, refl, ap, sym, ◌∙◌, length-append, append-nil, append_assoc}
+use Rattle.std.proofs.Math.Seq.{get_or-append_seam, take-append_seam, take-length}
 use Rattle.std.proofs.lemmas.Bool.Decides.{nat_tests}
-use Rattle.std.specs.List.{concat, position_or_len}
-use Rattle.sdm_data.specs.Division.{ended_lines, is_dividing_line, offset_after, divide}
+use Rattle.std.proofs.lemmas.List.{get_or_append_left}
+use Rattle.std.proofs.lemmas.List.Elements.{All-push}
+use Rattle.std.proofs.lemmas.List.Folds.{concat-append}
+use Rattle.std.proofs.lemmas.List.Sums.{position_or_len_is}
+use Rattle.std.specs.List.{All, concat, position_or_len}
+use Rattle.sdm_rules.specs.Lines.{ended_lines}
+use Rattle.sdm_data.specs.Division.{divide, is_dividing_line, offset_after}
 
-line_up_to : (at : ℕ) (bytes : List ℕ) → at < length bytes → get_or bytes at 0 ≡ 10 → ((k : ℕ) → k < at → get_or bytes k 0 ≢ 10) → ended_lines bytes ≡ take (suc at) bytes ∷ ended_lines (drop (suc at) bytes)
-line_up_to at [] within is first = absurd (omega arith)
-line_up_to zero (c ∷ cs) within is first = rw is
-line_up_to (suc at) (c ∷ cs) within is first =
-    let other = ne_eqb c 10 (first 0 (omega arith)) in
-    let rest = line_up_to at cs (omega arith) is (λ k lt. first (suc k) (omega arith)) in
-    rw (other, rest)
+-- none of the lines divides
+abbrev NoneDivides : List (List ℕ) → Type 0
+NoneDivides lines = All (λ line. is_dividing_line line ≡ false) lines
 
--- up to the first LF and with it
-pub lines_cut : (bytes : List ℕ) (at : ℕ) → at < length bytes → get_or bytes at 0 ≡ 10 → ((k : ℕ) → k < at → get_or bytes k 0 ≢ 10) → ended_lines bytes ≡ take (at + 1) bytes ∷ ended_lines (drop (at + 1) bytes)
-lines_cut bytes at within is first = rw add-one (line_up_to at bytes within is first)
+module _ (before : List (List ℕ)) (none : NoneDivides before) where
+  -- the first that divides comes after them
+  position_here : (line : List ℕ) (more : List (List ℕ)) → is_dividing_line line ≡ true → position is_dividing_line (before ++ line ∷ more) ≡ Some (length before)
+  position_here line more is =
+      let lines = before ++ line ∷ more in
+      let long : length before < length lines = omega (arith, length-append before (line ∷ more)) in
+      let here : position_or_len is_dividing_line lines ≡ length before =
+      position_or_len_is is_dividing_line lines (length before) [] (omega arith) (λ k lt. rw (get_or_append_left before (line ∷ more) [] k lt) (none k [] lt)) (λ _. rw (get_or-append_seam before line more []) is) in
+      let test : nat_lt (length before) (length lines) ≡ true = grind (arith, nat_tests) in
+      rw here (rw test refl)
 
--- no LF, so there is one line
-pub lines_uncut : (bytes : List ℕ) → 0 < length bytes → ((k : ℕ) → k < length bytes → get_or bytes k 0 ≢ 10) → ended_lines bytes ≡ bytes ∷ []
-lines_uncut [] some none = absurd (omega arith)
-lines_uncut (c ∷ []) some none =
-    let other = ne_eqb c 10 (none 0 (omega arith)) in rw other
-lines_uncut (c ∷ d ∷ cs) some none =
-    let other = ne_eqb c 10 (none 0 (omega arith)) in
-    let rest = lines_uncut (d ∷ cs) (omega arith) (λ k lt. none (suc k) (omega arith)) in
-    rw (other, rest)
+  position_nowhere : position is_dividing_line before ≡ None
+  position_nowhere =
+      let end : position_or_len is_dividing_line before ≡ length before = position_or_len_is is_dividing_line before (length before) [] (omega arith) (λ k lt. none k [] lt) (λ lt. absurd (omega arith)) in
+      let test : nat_lt (length before) (length before) ≡ false = grind (arith, nat_tests) in
+      rw end (rw test refl)
 
--- ---- the division, line by line
+-- what is left of an input, none of whose lines before it divides
+pub record IsLeft (input rest : List ℕ) : Type 0 where
+  pub before : List (List ℕ)
+  pub lines : ended_lines input ≡ before ++ ended_lines rest
+  pub none : NoneDivides before
+  pub size : length (concat before) + length rest ≡ length input
 
--- the first dividing line of these lines, of which the first begins at the offset `start`
-abbrev pub divide_from : ℕ → List (List ℕ) → Option (ℕ × ℕ)
-divide_from start [] = None
-divide_from start (line ∷ more) = cond (is_dividing_line line) (Some (start, start + length line)) (divide_from (start + length line) more)
+pub all_left : (input : List ℕ) → IsLeft input input
+all_left input = record { before = []; lines = refl; none = λ k d lt. absurd (omega arith); size = omega arith }
 
--- the ends of a dividing line, by the count of lines before it
-abbrev ends_from : ℕ → List (List ℕ) → ℕ → ℕ × ℕ
-ends_from start lines k = (start + offset_after k lines, start + offset_after (suc k) lines)
-
--- no line lies before it
-position-here : (p : List ℕ → Bool) (line : List ℕ) (more : List (List ℕ)) → p line ≡ true → position p (line ∷ more) ≡ Some 0
-position-here p line more is =
-    let some : nat_lt 0 (suc (length more)) ≡ true = grind (arith, nat_tests) in
-    rw is (ap (λ b. cond b (Some 0) None) some)
-
--- one more line lies before it
-later_by : (n len : ℕ) (b : Bool) → nat_lt n len ≡ b → cond (nat_lt (1 + n) (suc len)) (Some (1 + n)) None ≡ option_map suc (cond (nat_lt n len) (Some n) None)
-later_by n len true is =
-    let next : nat_lt (1 + n) (suc len) ≡ true = grind (arith, nat_tests) in
-    let same : 1 + n ≡ suc n = omega arith in
-    ap (λ b. cond b (Some (1 + n)) None) next ∙ ap Some same ∙ sym (ap (λ b. option_map suc (cond b (Some n) None)) is)
-later_by n len false is =
-    let next : nat_lt (1 + n) (suc len) ≡ false = grind (arith, nat_tests) in
-    ap (λ b. cond b (Some (1 + n)) None) next ∙ sym (ap (λ b. option_map suc (cond b (Some n) None)) is)
-
-position-later : (p : List ℕ → Bool) (line : List ℕ) (more : List (List ℕ)) → p line ≡ false → position p (line ∷ more) ≡ option_map suc (position p more)
-position-later p line more other = rw other (later_by (position_or_len p more) (length more) (nat_lt (position_or_len p more) (length more)) refl)
-
--- the first of the lines divides
-ends-here : (start : ℕ) (line : List ℕ) (more : List (List ℕ)) → ends_from start (line ∷ more) 0 ≡ (start, start + length line)
-ends-here start line more = let first : start + 0 ≡ start = omega arith in rw (append-nil, first) refl
-
--- the ends are told from the second line on
-ends-later : (start : ℕ) (line : List ℕ) (more : List (List ℕ)) (k : ℕ) → ends_from (start + length line) more k ≡ ends_from start (line ∷ more) (suc k)
-ends-later start line more k =
-    let at : (j : ℕ) → (start + length line) + offset_after j more ≡ start + offset_after (suc j) (line ∷ more) = λ j. omega (arith, length-append line (concat (take j more))) in
-    rw (at k, at (suc k)) refl
-
-ends_by : (start : ℕ) (line : List ℕ) (more : List (List ℕ)) (found : Option ℕ) → option_map (ends_from (start + length line) more) found ≡ option_map (ends_from start (line ∷ more)) (option_map suc found)
-ends_by start line more None = refl
-ends_by start line more (Some k) = ap Some (ends-later start line more k)
-
-divide_from-position : (start : ℕ) (lines : List (List ℕ)) → divide_from start lines ≡ option_map (ends_from start lines) (position is_dividing_line lines)
-divide_from-position start [] = refl
-divide_from-position start (line ∷ more) = by_first (is_dividing_line line) refl (divide_from-position (start + length line) more)
-  where
-    by_first : (b : Bool) → is_dividing_line line ≡ b → divide_from (start + length line) more ≡ option_map (ends_from (start + length line) more) (position is_dividing_line more) →
-        divide_from start (line ∷ more) ≡ option_map (ends_from start (line ∷ more)) (position is_dividing_line (line ∷ more))
-    by_first true is later =
-        ap (λ b. cond b (Some (start, start + length line)) (divide_from (start + length line) more)) is ∙ ap Some (sym (ends-here start line more))
-        ∙ ap (option_map (ends_from start (line ∷ more))) (sym (position-here is_dividing_line line more is))
-    by_first false is later =
-        let one_more = position-later is_dividing_line line more is in
-        ap (λ b. cond b (Some (start, start + length line)) (divide_from (start + length line) more)) is ∙ later ∙ ends_by start line more (position is_dividing_line more) ∙ ap (option_map (ends_from start (line ∷ more))) (sym one_more)
-
-from_zero : (lines : List (List ℕ)) (found : Option ℕ) → option_map (ends_from 0 lines) found ≡ option_map (λ k. (offset_after k lines, offset_after (suc k) lines)) found
-from_zero lines None = refl
-from_zero lines (Some k) =
-    let at : (j : ℕ) → 0 + offset_after j lines ≡ offset_after j lines = λ j. omega arith in
-    rw (at k, at (suc k)) refl
-
--- the input is divided line by line
-pub divided_by_lines : (input : List ℕ) → divide_from 0 (ended_lines input) ≡ divide input
+-- nothing is left
+pub undivided : (input : List ℕ) → IsLeft input [] → divide input ≡ None
 unfolding divide
-divided_by_lines input = divide_from-position 0 (ended_lines input) ∙ from_zero (ended_lines input) (position is_dividing_line (ended_lines input))
+undivided input h =
+    let lines : ended_lines input ≡ h.before = h.lines ∙ append-nil h.before in
+    rw lines (rw (position_nowhere h.before h.none) refl)
+
+module _ (input rest line after : List ℕ) (h : IsLeft input rest) (first : ended_lines rest ≡ line ∷ ended_lines after) (whole : length line + length after ≡ length rest) where
+  lines_are : ended_lines input ≡ h.before ++ line ∷ ended_lines after
+  lines_are = h.lines ∙ ap (λ (more : List (List ℕ)). h.before ++ more) first
+
+  -- the bytes of the lines up to this one and with it
+  with_line : length (concat (h.before ++ line ∷ [])) ≡ length (concat h.before) + length line
+  with_line = rw (concat-append h.before (line ∷ []), append-nil line) (length-append (concat h.before) line)
+
+  -- the first line that is left does not divide
+  pub passed : is_dividing_line line ≡ false → IsLeft input after
+  passed other = record {
+    before = h.before ++ line ∷ [];
+    lines = lines_are ∙ sym (append_assoc h.before (line ∷ []) (ended_lines after));
+    none = All-push (λ (l : List ℕ). is_dividing_line l ≡ false) h.before line h.none other;
+    size = omega (arith, with_line, h.size, whole);
+  }
+
+  -- it divides
+  pub divided : is_dividing_line line ≡ true → divide input ≡ Some (length input - length rest, length input - length after)
+  unfolding divide
+  divided is =
+      let up_to : take (length h.before) (h.before ++ line ∷ ended_lines after) ≡ h.before = take-append_seam h.before (line ∷ ended_lines after) in
+      let through : take (suc (length h.before)) (h.before ++ line ∷ ended_lines after) ≡ h.before ++ line ∷ [] = take_one_more h.before line (ended_lines after) in
+      let start : length (concat h.before) ≡ length input - length rest = omega (arith, h.size) in
+      let end : length (concat (h.before ++ line ∷ [])) ≡ length input - length after = omega (arith, with_line, h.size, whole) in
+      rw lines_are (rw (position_here h.before h.none line (ended_lines after) is) (rw (up_to, through, start, end) refl))
+    where
+      take_one_more : (xs : List (List ℕ)) (y : List ℕ) (ys : List (List ℕ)) → take (suc (length xs)) (xs ++ y ∷ ys) ≡ xs ++ y ∷ []
+      take_one_more [] y ys = refl
+      take_one_more (x ∷ xs) y ys = ap (λ (t : List (List ℕ)). x ∷ t) (take_one_more xs y ys)

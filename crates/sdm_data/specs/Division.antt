@@ -1,13 +1,8 @@
 -- How an input is divided: the data part, the dividing line, and the records (own).
-use Rattle.std.specs.Prelude.{ℕ, suc, Bool, ◌||◌, List, [], ◌∷◌, Option, ◌==◌, codes, length, option_map, position, take, if◌then◌else◌}
+use Rattle.std.specs.Prelude.{ℕ, suc, Bool, ◌||◌, List, Option, codes, length, option_map, position, take}
 use Rattle.std.specs.List.{concat}
 use Rattle.std.specs.Str.{bytes_eq}
-use Rattle.sdm_rules.specs.Flat.{before_all}
-
--- the lines of an input, each with the LF that ends it; the last may do without one
-abbrev pub ended_lines : List ℕ → List (List ℕ)
-ended_lines [] = []
-ended_lines (c ∷ cs) = if c == 10 then (c ∷ []) ∷ ended_lines cs else before_all c (ended_lines cs)
+use Rattle.sdm_rules.specs.Lines.{ended_lines}
 
 -- a dividing line: `%%`, ended by LF, by CR and LF, or by the end of the input
 abbrev pub is_dividing_line : List ℕ → Bool

@@ -1,7 +1,6 @@
 pub mod Words
 pub mod Shapes
 pub mod Answers
-pub mod FirstLines
 pub mod TakenLines
 pub mod FlatRun
 pub mod Journeys

@@ -1,3 +1,4 @@
 pub mod Lengths
-pub mod DigitRuns
 pub mod Between
+pub mod FirstPieces
+pub mod NumberFields

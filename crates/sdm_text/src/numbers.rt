@@ -1,12 +1,10 @@
 //! Numbers as they stand in fields and words: an optional minus sign and 1 to 18 decimal digits. So many digits fit an
 //! i64 whatever they are, so that a number too large for its field and a field that is no number are told apart.
 
-ghost use Rattle.std.specs.Prelude.{◌≡◌, ◌==◌, ◌^◌, ◌-◌, ◌<◌, ◌≤◌, ◌≤ℤ◌, ℤ, ℕ, List, pos, false, true, take, drop, length, slice_index, IfOk, IfErr, IfSome, IfNone, Some, None, if◌then◌else◌};
+ghost use Rattle.std.specs.Prelude.{◌≡◌, ◌^◌, ◌-◌, ◌<◌, ◌≤◌, ◌≤ℤ◌, pos, false, true, IfOk, IfErr, IfSome, Some, None, if◌then◌else◌};
 ghost use Rattle.std.specs.Char.{is_ascii_digit};
-ghost use Rattle.std.specs.List.{list_all};
 ghost use Rattle.std.specs.Str.Parse.{digits_value};
 ghost use Rattle.sdm_rules.specs.Numbers.{is_digits, most_digits, number_of, read_int};
-ghost use Rattle.sdm_text.specs.Leading.{BeginsWithDigits, BeginsWithNoDigit, BeginsWithNumber};
 
 use sdm_rules::FieldFault;
 
@@ -68,118 +66,15 @@ fn magnitude(digits: &[u8]) -> Option<u64>
     if digits.is_empty() || digits.len() > MOST_DIGITS {
         return None;
     }
-    let run = first_digits(digits);
-    if run.count < digits.len() {
-        return None;
-    }
-    Some(run.number)
-}
-
-/// A number that bytes begin with, and the bytes after it. (own)
-#[derive(Clone, Copy)]
-pub struct Leading<'a> {
-    pub number: i64,
-    pub after: &'a [u8],
-}
-
-/// The number that bytes begin with, up to the first byte that is no digit; none where what stands there has not the form of a
-/// number. Whoever reads on after it passes over each byte once. (own)
-pub fn leading_number<'a>(bytes: &'a [u8]) -> Option<Leading<'a>>
-    ensures some { IfSome result (λ l. BeginsWithNumber bytes.now l.number l.after.now) }
-    ensures none { IfNone result ((number : ℤ) (after : List ℕ) → BeginsWithNumber bytes.now number after → ⊥) }
-{
-    if begins_with_minus(bytes) {
-        let Some(digits) = leading_digits(&bytes[1..]) else {
-            return None;
-        };
-        return Some(Leading {
-            number: -(digits.number as i64),
-            after: digits.after,
-        });
-    }
-    let Some(digits) = leading_digits(bytes) else {
-        return None;
-    };
-    Some(Leading {
-        number: digits.number as i64,
-        after: digits.after,
-    })
-}
-
-fn begins_with_minus(bytes: &[u8]) -> bool
-    ensures { result ≡ (slice_index bytes.now 0 == 45) }
-{
-    match bytes {
-        [first, ..] => *first == b'-',
-        [] => false,
-    }
-}
-
-// The number of the digits that bytes begin with, and the bytes after them.
-#[derive(Clone, Copy)]
-struct Digits<'a> {
-    number: u64,
-    after: &'a [u8],
-}
-
-// 1 to 18 digits that bytes begin with; none where there are fewer or more.
-fn leading_digits<'a>(bytes: &'a [u8]) -> Option<Digits<'a>>
-    ensures some { IfSome result (λ d. BeginsWithDigits bytes.now d.number d.after.now) }
-    ensures none { IfNone result ((number : ℕ) (after : List ℕ) → BeginsWithDigits bytes.now number after → ⊥) }
-    ensures fits { IfSome result (λ d. d.number < 10 ^ most_digits) }
-{
-    let run = first_digits(bytes);
-    if run.count == 0 {
-        return None;
-    }
-    let after = &bytes[run.count..];
-    if begins_with_digit(after) {
-        return None;
-    }
-    Some(Digits {
-        number: run.number,
-        after,
-    })
-}
-
-fn begins_with_digit(bytes: &[u8]) -> bool
-    ensures { result ≡ is_ascii_digit (slice_index bytes.now 0) }
-{
-    match bytes {
-        [first, ..] => first.is_ascii_digit(),
-        [] => false,
-    }
-}
-
-// Digits in a row: how many, and the number that they write.
-#[derive(Clone, Copy)]
-struct Run {
-    count: usize,
-    number: u64,
-}
-
-// The digits that bytes begin with, of which at most 18 are looked at.
-fn first_digits(bytes: &[u8]) -> Run
-    ensures within { result.count ≤ length bytes.now }
-    ensures few { result.count ≤ most_digits }
-    ensures digits { list_all is_ascii_digit (take result.count bytes.now) ≡ true }
-    ensures writes { result.number ≡ digits_value 10 (take result.count bytes.now) }
-    ensures fits { result.number < 10 ^ most_digits }
-    ensures ended { result.count < most_digits → BeginsWithNoDigit (drop result.count bytes.now) }
-{
-    let prefix = &bytes[..bytes.len().min(MOST_DIGITS)];
     let mut number = 0u64;
-    for (count, byte) in prefix.iter().enumerate() {
+    for byte in digits {
         let digit = digit_of(*byte);
         if digit > 9 {
-            return Run { count, number };
+            return None;
         }
         number = 10 * number + digit;
     }
-    Run {
-        count: prefix.len(),
-        number,
-    }
+    Some(number)
 }
 
 // The digit that a byte writes, and more than 9 where it writes none: a byte below `0` wraps, so that a caller needs one test.

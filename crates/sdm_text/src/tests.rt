@@ -1,8 +1,8 @@
-//! Fields at the ends of their forms and ranges, the keys of each section, and rows up to the last byte that they hold.
+//! Lines and fields, numbers at the ends of their forms and ranges, the keys of each section, and rows up to the last byte that they hold.
 
 use crate::{
-    FieldFault, ROW_BYTES, RowBuf, Section, integer_in, key_name, key_names, leading_number,
-    natural_in, read_int,
+    FieldFault, ROW_BYTES, RowBuf, Section, integer_in, key_name, key_names, natural_in, read_int,
+    split_field, split_line, without_lf,
 };
 use std::test::Fail;
 
@@ -68,45 +68,37 @@ fn a_field_is_an_optional_minus_sign_and_digits(rt: HostRuntime) -> Result<(), F
     Ok(())
 }
 
-/// Bytes, the number that they begin with and the bytes after it, and what the case shows.
-const LEADING: &str = "\
-12,7|12|,7|a comma ends it
-12|12||the end of all ends it
--12x|-12|x|below zero
--0,|0|,|a minus sign before zero
-007-|7|-|leading zeros, and a minus sign ends it
-123456789012345678,|123456789012345678|,|eighteen digits
--123456789012345678|-123456789012345678||eighteen digits below zero
-1234567890123456789,|none||nineteen digits
-000000000000000000001|none||twenty-one digits
-|none||no byte
-,1|none||a comma
--|none||a minus sign alone
--,1|none||a minus sign and a comma
---1|none||two minus signs
-+1|none||a plus sign
- 1|none||a space before";
+#[test]
+fn lf_or_the_end_of_the_text_ends_a_line(rt: HostRuntime) {
+    assert_eq!(rt;
+        split_line(b"a,b\n\nc"),
+        Some((b"a,b\n".as_slice(), b"\nc".as_slice()))
+    );
+    assert_eq!(rt;
+        split_line(b"\nc"),
+        Some((b"\n".as_slice(), b"c".as_slice()))
+    );
+    assert_eq!(rt; split_line(b"c"), Some((b"c".as_slice(), b"".as_slice())));
+    assert!(rt; split_line(b"").is_none());
+    assert_eq!(rt; without_lf(b"ab\n"), b"ab".as_slice());
+    assert_eq!(rt; without_lf(b"\n"), b"".as_slice());
+    assert_eq!(rt; without_lf(b"ab\r"), b"ab\r".as_slice());
+    assert_eq!(rt; without_lf(b""), b"".as_slice());
+}
 
 #[test]
-fn a_number_is_read_up_to_the_first_byte_that_is_no_digit(rt: HostRuntime) -> Result<(), Fail> {
-    for line in LEADING.lines() {
-        let mut words = line.split('|');
-        let bytes = words.next().ok_or("no bytes")?;
-        let number = words.next().ok_or("no number")?;
-        let after = words.next().ok_or("no rest")?;
-        match leading_number(bytes.as_bytes()) {
-            Some(leading) => {
-                assert_eq!(rt;
-                    leading.number,
-                    number.parse::<i64>().map_err(|_| "not a number")?,
-                    "{line}"
-                );
-                assert_eq!(rt; leading.after, after.as_bytes(), "{line}");
-            }
-            None => assert_eq!(rt; number, "none", "{line}"),
-        }
-    }
-    Ok(())
+fn a_comma_or_the_end_of_the_line_ends_a_field(rt: HostRuntime) {
+    assert_eq!(rt;
+        split_field(b"1,,22"),
+        Some((b"1".as_slice(), b",22".as_slice()))
+    );
+    assert_eq!(rt;
+        split_field(b",22"),
+        Some((b"".as_slice(), b"22".as_slice()))
+    );
+    assert_eq!(rt; split_field(b"1,"), Some((b"1".as_slice(), b"".as_slice())));
+    assert!(rt; split_field(b"22").is_none());
+    assert!(rt; split_field(b"").is_none());
 }
 
 /// A section and the names of its keys, in the order of their numbers.
