@@ -5,3 +5,4 @@ pub mod EntriesLeft
 pub mod KeyLaws
 pub mod AcceptedData
 mod DivisionCases
+mod DataCases
