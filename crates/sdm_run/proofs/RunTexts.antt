@@ -1,6 +1,6 @@
 -- The output of records, record by record: what was written and the output of the records that are left are the output of all.
 use Rattle.std.proofs.Common.{◌≡◌, ℕ, suc, ◌+◌, ◌≤◌, List, [], ◌∷◌, ◌++◌, length, take, Option, Some, None, inl, inr, refl, ap, ◌∙◌, sym, subst, append_assoc, length-append, arith}
-use Rattle.std.specs.Prelude.{Result, Ok, Err, ◌⊎◌, Bool, true, false, not, IsTrue}
+use Rattle.std.specs.Prelude.{Result, Ok, Err, OnOk, ◌⊎◌, Bool, true, false, not, IsTrue}
 use Rattle.std.proofs.lemmas.Bool.{le-ltb}
 use Rattle.std.proofs.Math.Seq.{take-append-add}
 use Rattle.std.proofs.lemmas.List.{append-nil}
@@ -61,6 +61,11 @@ told_record tell s t n x e text counted form told = record {
   whole_lines = told.whole_lines;
 }
 
+-- what follows of an accepted event follows where it is accepted
+pub where_accepted : {A B : Type 0} (answer : Result A B) (P Q : Type 0) → (P → Q) → OnOk answer P → OnOk answer Q
+where_accepted (Ok x) P Q so h = so h
+where_accepted (Err fault) P Q so h = tt
+
 -- the text of a row is no line, or ends with a line feed
 pub row_lines : (row : Option Row) → AreWholeLines (text_of_row row)
 unfolding row_text
@@ -72,14 +77,16 @@ row_lines (Some row) = inr (_, refl)
 turn_no_line : {F : Type 0} (make : F → EventCause) (o : Option F) (s t : Supervision) (e : Event) (cause : EventCause) →
     ((f : F) → is_of_line (make f) ≡ false) → turn_to s e (unless make o t) ≡ Err cause → is_of_line cause ≡ false
 turn_no_line make None s t e cause never is = cc
-turn_no_line make (Some f) s t e cause never is = subst (λ (c : EventCause). is_of_line c ≡ false) cc (never f)
+turn_no_line make (Some f) s t e cause never is =
+    let same : make f ≡ cause = cc in subst (λ (c : EventCause). is_of_line c ≡ false) same (never f)
 
 time_no_line : (f : CycleFault) → is_of_line (time_cause f) ≡ false
 time_no_line (TimeBack last time) = refl
 
 no_line : (s : Supervision) (e : Result Event EventFault) (cause : EventCause) → turn_of s e ≡ Err cause → is_of_line cause ≡ false
 unfolding step
-no_line s (Err fault) cause e = subst (λ (c : EventCause). is_of_line c ≡ false) cc refl
+no_line s (Err fault) cause e =
+    let same : causes.Form fault ≡ cause = cc in subst (λ (c : EventCause). is_of_line c ≡ false) same refl
 no_line s (Ok (record_kinds.Read r)) cause e = turn_no_line time_cause (time_fault s.last_time r.time) s _ _ cause time_no_line e
 no_line s (Ok (record_kinds.Authority a)) cause e = turn_no_line causes.Authority (authority_fault s.train_and_track.track.length_cm a) s _ _ cause (λ f. refl) e
 no_line s (Ok (record_kinds.Restrict r)) cause e = turn_no_line causes.Restrict (restrict_fault s.train_and_track.track.length_cm s.restrictions r) s _ _ cause (λ f. refl) e

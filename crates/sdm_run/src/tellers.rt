@@ -40,6 +40,7 @@ pub struct Rows;
 impl Teller for Rows {
     ghost tell = { λ _. run_tells };
 
+    #[tactic(auto, unfolding(sdm_rules::specs::Records::step, sdm_rules::specs::Text::row_text))]
     fn take(
         &self,
         supervisor: &mut Supervisor,
@@ -48,9 +49,18 @@ impl Teller for Rows {
     ) -> Result<(), EventCause> {
         match event {
             Event::Read(reading) => take_reading(supervisor, &reading, text),
-            Event::Authority(a) => supervisor.authority(a).map_err(EventCause::Authority),
-            Event::Restrict(r) => supervisor.restrict(r).map_err(EventCause::Restrict),
-            Event::Revoke { id } => supervisor.revoke(id).map_err(EventCause::Revoke),
+            Event::Authority(a) => match supervisor.authority(a) {
+                Ok(()) => Ok(()),
+                Err(fault) => Err(EventCause::Authority(fault)),
+            },
+            Event::Restrict(r) => match supervisor.restrict(r) {
+                Ok(()) => Ok(()),
+                Err(fault) => Err(EventCause::Restrict(fault)),
+            },
+            Event::Revoke { id } => match supervisor.revoke(id) {
+                Ok(()) => Ok(()),
+                Err(fault) => Err(EventCause::Revoke(fault)),
+            },
         }
     }
 }
