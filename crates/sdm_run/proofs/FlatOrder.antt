@@ -4,7 +4,8 @@ use Rattle.sdm_num.specs.Units.{notches_of_mm_s}
 use Rattle.sdm_rules.specs.declared.faults.CycleFault.{CycleFault}
 use Rattle.sdm_rules.specs.Machines.{InOrder}
 use Rattle.sdm_rules.specs.Records.{time_fault}
-use Rattle.sdm_rules.specs.Flat.{FlatSupervision, FlatLine, Output, flat_opening, flat_line, flat_row, flat_text, flat_output, flat_output_from, flat_go_on, flat_step, after_flat_line, flat_slopes, lines_of}
+use Rattle.sdm_rules.specs.Lines.{lines_of}
+use Rattle.sdm_rules.specs.Flat.{FlatSupervision, FlatLine, Output, flat_opening, flat_line, flat_row, flat_text, flat_output, flat_output_from, flat_go_on, flat_step, after_flat_line, flat_slopes}
 use Rattle.sdm_rules.specs.Cells.{place_of_cell}
 use Rattle.sdm_rules.specs.Curves.{exact}
 use Rattle.sdm_rules.specs.Supervision.{whole_mm}

@@ -8,7 +8,8 @@ use Rattle.sdm_io.specs.Told.{AppendsPart}
 use Rattle.sdm_rules.specs.declared.faults.EventCause.TheVariants.{Line}
 use Rattle.sdm_rules.specs.declared.rows.FlatRow.{FlatRow}
 use Rattle.sdm_rules.specs.Input as ends
-use Rattle.sdm_rules.specs.Flat.{FlatSupervision, Output, flat_opening, flat_text, flat_output, flat_output_from, lines_of}
+use Rattle.sdm_rules.specs.Lines.{lines_of}
+use Rattle.sdm_rules.specs.Flat.{FlatSupervision, Output, flat_opening, flat_text, flat_output, flat_output_from}
 use Rattle.sdm_report.specs.declared.outcome.Outcome.TheVariants.{BadEvent, WriteFault}
 use Rattle.sdm_run.specs.Answers.{IsAnswer}
 use Rattle.sdm_run.specs.TakenLines.{IsAcceptedLine, IsRefusedLine}

@@ -1,4 +1,4 @@
-pub mod FieldByField
+pub mod LineFields
 pub mod FlatTexts
 pub mod FlatOrder
 pub mod TrialRuns

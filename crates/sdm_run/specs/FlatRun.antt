@@ -6,7 +6,8 @@ use Rattle.sdm_rules.specs.declared.rows.FlatRow.{FlatRow}
 use Rattle.sdm_rules.specs.Limits.{exact_places}
 use Rattle.sdm_rules.specs.Machines.{InOrder}
 use Rattle.sdm_rules.specs.Records.{time_fault}
-use Rattle.sdm_rules.specs.Flat.{FlatSupervision, FlatLine, flat_opening, flat_line, flat_row, flat_after, after_flat_line, flat_text, flat_output, lines_of, StopsByFlatEnd}
+use Rattle.sdm_rules.specs.Lines.{lines_of}
+use Rattle.sdm_rules.specs.Flat.{FlatSupervision, FlatLine, flat_opening, flat_line, flat_row, flat_after, after_flat_line, flat_text, flat_output, StopsByFlatEnd}
 use Rattle.sdm_supervisor.specs.Flats.{ebi_mm}
 
 -- an accepted line and the state that it meets

@@ -1,6 +1,5 @@
 pub mod Words
 pub mod Answers
-pub mod FirstLines
 pub mod TakenLines
 pub mod FlatRun
 pub mod Journeys

@@ -1,9 +1,9 @@
 -- One line of `flat`: what is taken of it, or why it is refused (own).
-use Rattle.std.specs.Prelude.{◌≡◌, ◌⊎◌, ℕ, List, ◌∷◌, Some, None}
+use Rattle.std.specs.Prelude.{◌≡◌, ◌⊎◌, ℕ, List, Some, None}
 use Rattle.sdm_rules.specs.declared.rows.FlatRow.{FlatRow}
 use Rattle.sdm_rules.specs.declared.faults.CycleFault.{CycleFault}
 use Rattle.sdm_rules.specs.Records.{time_fault}
-use Rattle.sdm_rules.specs.Flat.{FlatSupervision, FlatLine, flat_line, flat_row, after_flat_line, lines_of}
+use Rattle.sdm_rules.specs.Flat.{FlatSupervision, FlatLine, flat_line, flat_row, after_flat_line}
 
 -- the bytes write a line that is accepted: this is its row, and this the state after it
 pub record IsAcceptedLine (old new : FlatSupervision) (bytes : List ℕ) (row : FlatRow) : Type 0 where
@@ -16,13 +16,3 @@ pub record IsAcceptedLine (old new : FlatSupervision) (bytes : List ℕ) (row : 
 -- the bytes are no line of the form due, or its time is before that of the last accepted one
 abbrev pub IsRefusedLine : FlatSupervision → List ℕ → Type 0
 IsRefusedLine s bytes = (flat_line bytes ≡ None) ⊎ ((l : FlatLine) × (fault : CycleFault) × (flat_line bytes ≡ Some l) × (time_fault s.last_time l.time ≡ Some fault))
-
--- the first line of the bytes is accepted, and `after` are the bytes of the lines after it
-pub record TakesLine (old new : FlatSupervision) (bytes : List ℕ) (row : FlatRow) (after : List ℕ) : Type 0 where
-  pub text : List ℕ
-  pub lines : lines_of bytes ≡ text ∷ lines_of after
-  pub accepted : IsAcceptedLine old new text row
-
--- the first line of the bytes is refused
-abbrev pub RefusesLine : FlatSupervision → List ℕ → Type 0
-RefusesLine s bytes = (text : List ℕ) (more : List (List ℕ)) → lines_of bytes ≡ text ∷ more → IsRefusedLine s text

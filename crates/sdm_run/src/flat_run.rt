@@ -1,47 +1,19 @@
 //! The command `flat`: a row for each line, written before the next line is taken.
 
-ghost use Rattle.std.specs.Prelude.{◌≡◌, ◌⊎◌, ◌<◌, ◌≤◌, length, false, IfSome, IfNone};
+ghost use Rattle.std.specs.Prelude.{◌≡◌, ◌⊎◌, ◌≤◌, length, false};
 ghost use Rattle.sdm_io.specs.Causes.{Rose};
 ghost use Rattle.sdm_rules.specs.Input.{most_bytes};
 ghost use Rattle.sdm_rules.specs.Flat.{flat_output};
 ghost use Rattle.sdm_rules.specs.Ranges.{longest_track};
 ghost use Rattle.sdm_run.specs.Answers.{LeavesOutUntouched, IsAnswer, IsFlatOutcome};
-ghost use Rattle.sdm_run.specs.TakenLines.{RefusesLine, TakesLine};
 
 use crate::endings::Ended;
-use crate::flat_lines::{first_line, put_row};
+use crate::flat_lines::{put_row, take_line};
 use sdm_io::{Sink, write_piece};
 use sdm_report::{EventCause, Outcome};
-use sdm_supervisor::{Flat, FlatRow};
-use sdm_text::RowBuf;
+use sdm_supervisor::Flat;
+use sdm_text::{RowBuf, split_line, without_lf};
 use std::alloc::Global;
-
-// The row of a line, and the bytes after the line.
-#[derive(Clone, Copy)]
-struct Taken<'a> {
-    row: FlatRow,
-    after: &'a [u8],
-}
-
-// Takes the first line of what is left of the input; none, and nothing changed, where it is refused.
-fn take_line<'a>(flat: &mut Flat, rest: &'a [u8]) -> Option<Taken<'a>>
-    ensures accepted { IfSome result (λ taken. TakesLine flat.old flat.new rest.now taken.row taken.after.now) }
-    ensures refused { IfNone result (RefusesLine flat.old rest.now) }
-    ensures unchanged { IfNone result (flat.new ≡ flat.old) }
-    ensures shorter { IfSome result (λ taken. length taken.after.now < length rest.now) }
-{
-    let Some(first) = first_line(rest) else {
-        return None;
-    };
-    let line = first.line;
-    match flat.cycle(line.time(), line.front(), line.speed()) {
-        Ok(row) => Some(Taken {
-            row,
-            after: first.after,
-        }),
-        Err(_) => None,
-    }
-}
 
 /// Answers the lines of an input. Memory comes only before out was handed anything; WriteFault only where out failed. (own)
 pub fn run_flat<O: Sink>(alloc: Global, decel: u16, end_cm: u32, bytes: &[u8], out: &mut O) -> Ended
@@ -67,9 +39,9 @@ pub fn run_flat<O: Sink>(alloc: Global, decel: u16, end_cm: u32, bytes: &[u8], o
     let mut number = 0u32;
     let mut rest = bytes;
     let mut is_flush_due = false;
-    'lines: while !rest.is_empty() {
+    'lines: while let Some((line, after)) = split_line(rest) {
         number += 1;
-        let Some(taken) = take_line(&mut flat, rest) else {
+        let Some(row) = take_line(&mut flat, without_lf(line)) else {
             let cause = EventCause::Line;
             return Ended {
                 outcome: Outcome::BadEvent { number, cause },
@@ -77,7 +49,7 @@ pub fn run_flat<O: Sink>(alloc: Global, decel: u16, end_cm: u32, bytes: &[u8], o
             };
         };
         row_text.clear();
-        put_row(&taken.row, &mut row_text);
+        put_row(&row, &mut row_text);
         let Ok(()) = write_piece(out, row_text.bytes()) else {
             return Ended {
                 outcome: Outcome::WriteFault,
@@ -85,7 +57,7 @@ pub fn run_flat<O: Sink>(alloc: Global, decel: u16, end_cm: u32, bytes: &[u8], o
             };
         };
         is_flush_due = true;
-        rest = taken.after;
+        rest = after;
     }
     Ended {
         outcome: Outcome::Done,
