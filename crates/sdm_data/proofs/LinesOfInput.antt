@@ -1,6 +1,6 @@
 -- The input is divided at the first line that divides: none of the lines before it does.
-use Rattle.std.proofs.Common.{◌≡◌, ℕ, suc, ◌+◌, ◌-◌, ◌<◌, nat_lt, Bool, true, false, cond, List, [], ◌∷◌, ◌++◌, Option, Some, None, option_map, length, get_or, take, position, arith, refl, ap, sym, ◌∙◌, length-append, append-nil, append_assoc}
-use Rattle.std.proofs.Math.Seq.{get_or-append_seam, take-append_seam, take-length}
+use Rattle.std.proofs.Common.{◌≡◌, ℕ, suc, ◌+◌, ◌-◌, ◌<◌, nat_lt, true, false, List, [], ◌∷◌, ◌++◌, Some, None, length, take, position, arith, refl, ap, sym, ◌∙◌, length-append, append-nil, append_assoc}
+use Rattle.std.proofs.Math.Seq.{get_or-append_seam, take-append_seam}
 use Rattle.std.proofs.lemmas.Bool.Decides.{nat_tests}
 use Rattle.std.proofs.lemmas.List.{get_or_append_left}
 use Rattle.std.proofs.lemmas.List.Elements.{All-push}
@@ -8,7 +8,7 @@ use Rattle.std.proofs.lemmas.List.Folds.{concat-append}
 use Rattle.std.proofs.lemmas.List.Sums.{position_or_len_is}
 use Rattle.std.specs.List.{All, concat, position_or_len}
 use Rattle.sdm_rules.specs.Lines.{ended_lines}
-use Rattle.sdm_data.specs.Division.{divide, is_dividing_line, offset_after}
+use Rattle.sdm_data.specs.Division.{divide, is_dividing_line}
 
 -- none of the lines divides
 abbrev NoneDivides : List (List ℕ) → Type 0

@@ -1,6 +1,6 @@
 -- What stands after the second comma of a line is read as its third field: a number has no comma in it, so where one is read there
 -- the line has three fields, and where none is read the line is refused whatever it has.
-use Rattle.std.proofs.Common.{◌≡◌, ℕ, ℤ, pos, negsuc, List, [], ◌∷◌, Option, Some, None, Result, Ok, Err, refl, ap, sym, ◌∙◌}
+use Rattle.std.proofs.Common.{◌≡◌, ◌≢◌, ℕ, ℤ, pos, negsuc, List, [], ◌∷◌, Option, Some, None, Result, Ok, Err, unsigned_abs, refl, ap, sym, ◌∙◌}
 use Rattle.std.proofs.lemmas.List.Splits.{join_with_byte-slice_split}
 use Rattle.std.specs.List.{join_with_byte}
 use Rattle.sdm_num.specs.Units.{place_of_mm, notches_of_mm_s}
@@ -9,6 +9,7 @@ use Rattle.sdm_rules.specs.declared.faults.FieldFault.TheVariants.{NotNumber}
 use Rattle.sdm_rules.specs.Flat.{FlatLine, flat_line, flat_line_of, with_field}
 use Rattle.sdm_rules.specs.Lines.{comma_fields}
 use Rattle.sdm_rules.specs.Numbers.{number_of, read_int}
+use Rattle.sdm_text.specs.FirstNumbers.{BeginsWithNumberIn, BeginsWithNoNumberIn}
 use Rattle.sdm_text.proofs.NumberFields.{number_in_one}
 
 -- the numbers of the three fields
@@ -21,62 +22,73 @@ front_of field = read_int field (negsuc 9_999_999) (pos 110_000_000)
 abbrev speed_of : List ℕ → Result ℤ FieldFault
 speed_of field = read_int field (pos 0) (pos 138_888)
 
-no_number : (field : List ℕ) → number_of field ≡ None → speed_of field ≡ Err NotNumber
+not_number : (field : List ℕ) → number_of field ≡ None → speed_of field ≡ Err NotNumber
 unfolding read_int
-no_number field none = rw none refl
+not_number field none = rw none refl
 
--- a line is refused where what follows any number of the field is
+-- ---- lines that are refused, field by field
+
+-- by the field itself
+no_number : (r : Result ℤ FieldFault) (rest : ℤ → Option FlatLine) → ((n : ℤ) → r ≢ Ok n) → with_field r rest ≡ None
+no_number (Err fault) rest none = refl
+no_number (Ok n) rest none = absurd (none n refl)
+
+-- by those after it
 refused_after : (r : Result ℤ FieldFault) (rest : ℤ → Option FlatLine) → ((n : ℤ) → rest n ≡ None) → with_field r rest ≡ None
 refused_after (Err fault) rest none = refl
 refused_after (Ok n) rest none = none n
 
-module _ (time front speed : List ℕ) where
-  time_refused : (fault : FieldFault) → time_of time ≡ Err fault → flat_line_of (time ∷ front ∷ speed ∷ []) ≡ None
-  time_refused fault is = rw is refl
-
-  front_refused : (fault : FieldFault) → front_of front ≡ Err fault → flat_line_of (time ∷ front ∷ speed ∷ []) ≡ None
-  front_refused fault is = refused_after (time_of time) _ (λ t. rw is refl)
-
-  speed_refused : (fault : FieldFault) → speed_of speed ≡ Err fault → flat_line_of (time ∷ front ∷ speed ∷ []) ≡ None
-  speed_refused fault is = refused_after (time_of time) _ (λ t. refused_after (front_of front) _ (λ f. rw is refl))
-
-  three_fields : flat_line_of (time ∷ front ∷ comma_fields speed) ≡ flat_line_of (time ∷ front ∷ speed ∷ [])
-  three_fields = by_number (number_of speed) refl
-    where
-      refused : number_of speed ≡ None → flat_line_of (time ∷ front ∷ speed ∷ []) ≡ None
-      refused none = speed_refused NotNumber (no_number speed none)
-
-      by_fields : (fields : List (List ℕ)) → comma_fields speed ≡ fields → number_of speed ≡ None → flat_line_of (time ∷ front ∷ fields) ≡ None
-      by_fields [] was none = refl
-      by_fields (f ∷ []) was none = let whole : f ≡ speed = sym (ap (join_with_byte 44) was) ∙ join_with_byte-slice_split 44 speed in rw whole (refused none)
-      by_fields (f ∷ g ∷ more) was none = refl
-
-      by_number : (o : Option ℤ) → number_of speed ≡ o → flat_line_of (time ∷ front ∷ comma_fields speed) ≡ flat_line_of (time ∷ front ∷ speed ∷ [])
-      by_number None is = by_fields (comma_fields speed) refl is ∙ sym (refused is)
-      by_number (Some n) is = ap (λ (fs : List (List ℕ)). flat_line_of (time ∷ front ∷ fs)) (number_in_one speed n is)
-
-pub one_field : (line : List ℕ) → comma_fields line ≡ line ∷ [] → flat_line line ≡ None
+pub bad_time : (line : List ℕ) → BeginsWithNoNumberIn line (pos 0) (pos 100_000_000) → flat_line line ≡ None
 unfolding flat_line
-one_field line is = rw is refl
+bad_time line none = by_fields (comma_fields line) refl
+  where
+    by_fields : (fields : List (List ℕ)) → comma_fields line ≡ fields → flat_line_of fields ≡ None
+    by_fields [] was = refl
+    by_fields (a ∷ []) was = refl
+    by_fields (a ∷ b ∷ []) was = refl
+    by_fields (a ∷ b ∷ d ∷ []) was = no_number (time_of a) _ (λ n. none a b (d ∷ []) n was)
+    by_fields (a ∷ b ∷ d ∷ e ∷ more) was = refl
 
-module _ (line rest time : List ℕ) (first : comma_fields line ≡ time ∷ comma_fields rest) where
-  pub two_fields : comma_fields rest ≡ rest ∷ [] → flat_line line ≡ None
+module _ (line rest : List ℕ) (t : ℤ) (first : BeginsWithNumberIn line (pos 0) (pos 100_000_000) t rest) where
+  pub bad_front : BeginsWithNoNumberIn rest (negsuc 9_999_999) (pos 110_000_000) → flat_line line ≡ None
   unfolding flat_line
-  two_fields is = rw (first, is) refl
+  bad_front none = ap flat_line_of first.fields ∙ by_fields (comma_fields rest) refl
+    where
+      by_fields : (fields : List (List ℕ)) → comma_fields rest ≡ fields → flat_line_of (first.field ∷ fields) ≡ None
+      by_fields [] was = refl
+      by_fields (b ∷ []) was = refl
+      by_fields (b ∷ d ∷ []) was = refused_after (time_of first.field) _ (λ n. no_number (front_of b) _ (λ m. none b d [] m was))
+      by_fields (b ∷ d ∷ e ∷ more) was = refl
 
-  module _ (front speed : List ℕ) (second : comma_fields rest ≡ front ∷ comma_fields speed) where
-    line_is : flat_line line ≡ flat_line_of (time ∷ front ∷ speed ∷ [])
+  module _ (speed : List ℕ) (f : ℤ) (second : BeginsWithNumberIn rest (negsuc 9_999_999) (pos 110_000_000) f speed) where
+    abbrev fields_with : List (List ℕ) → List (List ℕ)
+    fields_with third = first.field ∷ second.field ∷ third
+
+    refused : (fault : FieldFault) → speed_of speed ≡ Err fault → flat_line_of (fields_with (speed ∷ [])) ≡ None
+    refused fault is = refused_after (time_of first.field) _ (λ n. refused_after (front_of second.field) _ (λ m. rw is refl))
+
+    -- what is left is the third field
+    third_field : flat_line_of (fields_with (comma_fields speed)) ≡ flat_line_of (fields_with (speed ∷ []))
+    third_field = by_number (number_of speed) refl
+      where
+        none_read : number_of speed ≡ None → flat_line_of (fields_with (speed ∷ [])) ≡ None
+        none_read none = refused NotNumber (not_number speed none)
+
+        by_fields : (fields : List (List ℕ)) → comma_fields speed ≡ fields → number_of speed ≡ None → flat_line_of (fields_with fields) ≡ None
+        by_fields [] was none = refl
+        by_fields (d ∷ []) was none = let whole : d ≡ speed = sym (ap (join_with_byte 44) was) ∙ join_with_byte-slice_split 44 speed in rw whole (none_read none)
+        by_fields (d ∷ e ∷ more) was none = refl
+
+        by_number : (o : Option ℤ) → number_of speed ≡ o → flat_line_of (fields_with (comma_fields speed)) ≡ flat_line_of (fields_with (speed ∷ []))
+        by_number None is = by_fields (comma_fields speed) refl is ∙ sym (none_read is)
+        by_number (Some n) is = ap (λ (fs : List (List ℕ)). flat_line_of (fields_with fs)) (number_in_one speed n is)
+
+    line_is : flat_line line ≡ flat_line_of (fields_with (speed ∷ []))
     unfolding flat_line
-    line_is = ap flat_line_of (first ∙ ap (λ (fs : List (List ℕ)). time ∷ fs) second) ∙ three_fields time front speed
-
-    pub bad_time : (fault : FieldFault) → time_of time ≡ Err fault → flat_line line ≡ None
-    bad_time fault is = line_is ∙ time_refused time front speed fault is
-
-    pub bad_front : (fault : FieldFault) → front_of front ≡ Err fault → flat_line line ≡ None
-    bad_front fault is = line_is ∙ front_refused time front speed fault is
+    line_is = ap flat_line_of (first.fields ∙ ap (λ (fs : List (List ℕ)). first.field ∷ fs) second.fields) ∙ third_field
 
     pub bad_speed : (fault : FieldFault) → speed_of speed ≡ Err fault → flat_line line ≡ None
-    bad_speed fault is = line_is ∙ speed_refused time front speed fault is
+    bad_speed fault is = line_is ∙ refused fault is
 
-    pub good_line : (t : ℕ) (f : ℤ) (s : ℕ) → time_of time ≡ Ok (pos t) → front_of front ≡ Ok f → speed_of speed ≡ Ok (pos s) → flat_line line ≡ Some (record { time = t; front = place_of_mm f; speed = notches_of_mm_s s })
-    good_line t f s is_time is_front is_speed = line_is ∙ rw (is_time, is_front, is_speed) refl
+    pub good_line : (n : ℕ) → speed_of speed ≡ Ok (pos n) → flat_line line ≡ Some (record { time = unsigned_abs t; front = place_of_mm f; speed = notches_of_mm_s n })
+    good_line n is = line_is ∙ rw (first.read, second.read, is) refl

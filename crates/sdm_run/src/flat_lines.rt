@@ -7,20 +7,27 @@ ghost use Rattle.sdm_run.specs.TakenLines.{IsAcceptedLine, IsRefusedLine};
 use sdm_num::{Place, Speed};
 use sdm_report::fields::{put_count, put_flag, put_number};
 use sdm_supervisor::{Flat, FlatRow};
-use sdm_text::{RowBuf, integer_in, natural_in, split_field};
+use sdm_text::{RowBuf, natural_in, split_number};
 
 /// Takes a line, of a time in ds, a front end in mm and a speed in mm/s; none where it is refused. (own)
 pub fn take_line(flat: &mut Flat, line: &[u8]) -> Option<FlatRow>
     ensures accepted { IfSome result (λ row. IsAcceptedLine flat.old flat.new line.now row) }
     ensures refused { IfNone result (IsRefusedLine flat.old line.now) }
 {
-    let (time, rest) = split_field(line)?;
-    let (front, speed) = split_field(rest)?;
-    let time = natural_in(time, 0, 100_000_000).ok()?;
-    let front = integer_in(front, -10_000_000, 110_000_000).ok()?;
-    let speed = natural_in(speed, 0, 138_888).ok()?;
-    let (front, speed) = (Place::of_mm(front), Speed::of_mm_s(speed));
-    flat.cycle(time, front, speed).ok()
+    let Some((time, rest)) = split_number(line, 0, 100_000_000) else {
+        return None;
+    };
+    let Some((front, speed)) = split_number(rest, -10_000_000, 110_000_000) else {
+        return None;
+    };
+    let Ok(speed) = natural_in(speed, 0, 138_888) else {
+        return None;
+    };
+    let (front, speed) = (Place::of_mm(front as i32), Speed::of_mm_s(speed));
+    match flat.cycle(time as u32, front, speed) {
+        Ok(row) => Some(row),
+        Err(_) => None,
+    }
 }
 
 /// Puts a row. (own)

@@ -2,3 +2,4 @@ pub mod Lengths
 pub mod Between
 pub mod FirstPieces
 pub mod NumberFields
+pub mod NumberDigits

@@ -9,7 +9,7 @@ use Rattle.sdm_rules.specs.Lines.{comma_fields}
 use Rattle.sdm_rules.specs.Numbers.{is_digits, number_of}
 
 -- a digit is no comma
-no_comma : (c : ℕ) → is_ascii_digit c ≡ true → eqb c 44 ≡ false
+pub no_comma : (c : ℕ) → is_ascii_digit c ≡ true → eqb c 44 ≡ false
 no_comma c is = ne_eqb c 44 (λ same. let digit : is_ascii_digit 44 ≡ true = rw same at is in false≢true digit)
 
 digits_in_one : (ds : List ℕ) → list_all is_ascii_digit ds ≡ true → comma_fields ds ≡ ds ∷ []

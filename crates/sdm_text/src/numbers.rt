@@ -1,11 +1,13 @@
 //! Numbers as they stand in fields and words: an optional minus sign and 1 to 18 decimal digits. So many digits fit an
 //! i64 whatever they are, so that a number too large for its field and a field that is no number are told apart.
 
-ghost use Rattle.std.specs.Prelude.{◌≡◌, ◌^◌, ◌-◌, ◌<◌, ◌≤◌, ◌≤ℤ◌, pos, false, true, IfOk, IfErr, IfSome, Some, None, if◌then◌else◌};
+ghost use Rattle.std.specs.Prelude.{◌≡◌, ◌^◌, ◌-◌, ◌<◌, ◌≤◌, ◌≤ℤ◌, pos, false, true, IfOk, IfErr, IfSome, IfNone, Some, None, if◌then◌else◌};
 ghost use Rattle.std.specs.Char.{is_ascii_digit};
 ghost use Rattle.std.specs.Str.Parse.{digits_value};
-ghost use Rattle.sdm_rules.specs.Numbers.{is_digits, most_digits, number_of, read_int};
+ghost use Rattle.sdm_text.specs.FirstNumbers.{BeginsWithNoNumber, BeginsWithNoNumberIn, BeginsWithNumber, BeginsWithNumberIn};
+ghost use Rattle.sdm_rules.specs.Numbers.{in_range, is_digits, most_digits, number_of, read_int};
 
+use crate::lines::split_field;
 use sdm_rules::FieldFault;
 
 /// The most digits of a number. (own)
@@ -21,6 +23,14 @@ pub fn read_int(field: &[u8], lo: i64, hi: i64) -> Result<i64, FieldFault>
     let Some(number) = number_of(field) else {
         return Err(FieldFault::NotNumber);
     };
+    in_range(number, lo, hi)
+}
+
+/// A number where it is from `lo` to `hi`.
+fn in_range(number: i64, lo: i64, hi: i64) -> Result<i64, FieldFault>
+    ensures value { result ≡ in_range lo hi (Some number) }
+    ensures range { IfOk result (λ n. (lo ≤ℤ n) × (n ≤ℤ hi)) }
+{
     if lo <= number && number <= hi {
         Ok(number)
     } else {
@@ -84,4 +94,59 @@ fn digit_of(byte: u8) -> u64
     ensures none { 9 < result → is_ascii_digit byte ≡ false }
 {
     u64::from(byte).wrapping_sub(u64::from(b'0'))
+}
+
+/// The number of the first field of a line, from `least` to `greatest`, and the line after the comma that ends the field; none where
+/// no comma does, or the field is refused. Digits are read as they are passed over. (own)
+#[tactic(auto, unfolding(sdm_rules::specs::Numbers::read_int))]
+pub fn split_number(line: &[u8], least: i64, greatest: i64) -> Option<(i64, &[u8])>
+    ensures some { IfSome result (λ cut. BeginsWithNumberIn line.now least greatest cut.0 cut.1.now) }
+    ensures range { IfSome result (λ cut. (least ≤ℤ cut.0) × (cut.0 ≤ℤ greatest)) }
+    ensures none { IfNone result (BeginsWithNoNumberIn line.now least greatest) }
+{
+    let Some((number, after)) = split_any_number(line) else {
+        return None;
+    };
+    let Ok(number) = in_range(number, least, greatest) else {
+        return None;
+    };
+    Some((number, after))
+}
+
+// The same of any number.
+fn split_any_number(line: &[u8]) -> Option<(i64, &[u8])>
+    ensures some { IfSome result (λ cut. BeginsWithNumber line.now cut.0 cut.1.now) }
+    ensures none { IfNone result (BeginsWithNoNumber line.now) }
+{
+    if let Some((number, after)) = split_digits(line) {
+        return Some((number as i64, after));
+    }
+    let Some((field, after)) = split_field(line) else {
+        return None;
+    };
+    let Some(number) = number_of(field) else {
+        return None;
+    };
+    Some((number, after))
+}
+
+// The number of a first field of 1 to 18 digits, and the line after its comma; where it answers none, the field may yet be a number.
+fn split_digits(line: &[u8]) -> Option<(u64, &[u8])>
+    ensures number { IfSome result (λ cut. BeginsWithNumber line.now (pos cut.0) cut.1.now) }
+    ensures fits { IfSome result (λ cut. cut.0 < 10 ^ most_digits) }
+{
+    let prefix = &line[..line.len().min(MOST_DIGITS + 1)];
+    let mut number = 0u64;
+    for (count, byte) in prefix.iter().enumerate() {
+        let digit = digit_of(*byte);
+        if digit > 9 {
+            return if *byte == b',' && count > 0 {
+                Some((number, &line[count + 1..]))
+            } else {
+                None
+            };
+        }
+        number = 10 * number + digit;
+    }
+    None
 }

@@ -1,0 +1,23 @@
+-- The number of the first field of a line (own).
+use Rattle.std.specs.Prelude.{◌≡◌, ◌≢◌, ℕ, ℤ, List, ◌∷◌, Ok, Some, None}
+use Rattle.sdm_rules.specs.Lines.{comma_fields}
+use Rattle.sdm_rules.specs.Numbers.{number_of, read_int}
+
+-- a comma ends the line's first field, which writes this number; `after` is the line after the comma
+pub record BeginsWithNumber (line : List ℕ) (number : ℤ) (after : List ℕ) : Type 0 where
+  pub field : List ℕ
+  pub fields : comma_fields line ≡ field ∷ comma_fields after
+  pub writes : number_of field ≡ Some number
+
+-- no comma ends the line's first field, or it writes no number
+abbrev pub BeginsWithNoNumber : List ℕ → Type 0
+BeginsWithNoNumber line = (field next : List ℕ) (more : List (List ℕ)) → comma_fields line ≡ field ∷ next ∷ more → number_of field ≡ None
+
+-- the same of a number within a range
+pub record BeginsWithNumberIn (line : List ℕ) (least greatest number : ℤ) (after : List ℕ) : Type 0 where
+  pub field : List ℕ
+  pub fields : comma_fields line ≡ field ∷ comma_fields after
+  pub read : read_int field least greatest ≡ Ok number
+
+abbrev pub BeginsWithNoNumberIn : List ℕ → ℤ → ℤ → Type 0
+BeginsWithNoNumberIn line least greatest = (field next : List ℕ) (more : List (List ℕ)) (number : ℤ) → comma_fields line ≡ field ∷ next ∷ more → read_int field least greatest ≢ Ok number
