@@ -18,7 +18,7 @@ band 1 upper 18; band 2 upper 36; band 3 upper 54; band 4 upper 72; band 5 upper
 // 511 more gradients: by turns 5 per mille down and up, and level from 98,900 m on.
 fn add_gradients(data: &mut Data) -> Result<(), Fail> {
     data.gradients.push(Gradient { start: 0, grad: 0 })?;
-    for i in 0..511i64 {
+    for i in 0..511u32 {
         let grad = if i == 510 {
             0
         } else if i % 2 == 0 {
@@ -27,7 +27,7 @@ fn add_gradients(data: &mut Data) -> Result<(), Fail> {
             5
         };
         data.gradients.push(Gradient {
-            start: 200_000 + 19_000 * i,
+            start: i64::from(200_000 + 19_000 * i),
             grad,
         })?;
     }
@@ -41,10 +41,10 @@ fn add_speeds(data: &mut Data) -> Result<(), Fail> {
         speed: 300,
         delayed: true,
     })?;
-    for i in 1..128i64 {
+    for i in 1..128u32 {
         data.speeds.push(SpeedStep {
-            start: 130_000 + 70_000 * i,
-            speed: 300 - i,
+            start: i64::from(130_000 + 70_000 * i),
+            speed: i64::from(300 - i),
             delayed: true,
         })?;
     }
@@ -52,11 +52,11 @@ fn add_speeds(data: &mut Data) -> Result<(), Fail> {
 }
 
 fn add_areas(data: &mut Data) -> Result<(), Fail> {
-    for i in 0..64i64 {
+    for i in 0..64u32 {
         let start = 200_000 + 140_000 * i;
         data.areas.push(Area {
-            start,
-            end: start + 70_000,
+            start: i64::from(start),
+            end: i64::from(start + 70_000),
         })?;
     }
     Ok(())
