@@ -8,3 +8,4 @@ pub mod RunTexts
 pub mod RunAnswers
 pub mod OutputLaws
 pub mod Flushes
+mod AnswerCases
