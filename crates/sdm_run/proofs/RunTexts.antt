@@ -167,8 +167,8 @@ module _ (tell : Turn → List ℕ) (old mid new : Option (List ℕ)) (whole : O
   takes = of_records (λ outcome. TakesFor outcome mid new (output_of_records tell n s records).text → TakesFor outcome old new whole.text)
       (λ h. all_taken h)
       (λ h.
-          let rest = (output_of_records tell n s records).text in
-          (length left.done + h.0, rw (left.text, length-append) (omega (arith, h.1)), subst (Appends old new) (sym (ap (take (length left.done + h.0)) left.text ∙ take-append-add left.done rest h.0)) (prefix_then (take h.0 rest) h.2)))
+      let rest = (output_of_records tell n s records).text in
+      (length left.done + h.0, rw (left.text, length-append) (omega (arith, h.1)), subst (Appends old new) (sym (ap (take (length left.done + h.0)) left.text ∙ take-append-add left.done rest h.0)) (prefix_then (take h.0 rest) h.2)))
       (λ number cause from_1 possible h. all_taken h)
       (λ h. record {
         prefix = left.done ++ h.prefix;

@@ -36,7 +36,13 @@ pub fn run_journey<O: Sink>(alloc: Global, bytes: &[u8], out: &mut O) -> Ended
         };
     };
     match opened(alloc, &bytes[..data_end]) {
-        Ok(mut supervisor) => run_records(alloc, &Rows, &mut supervisor, &bytes[records_start..], out),
+        Ok(mut supervisor) => run_records(
+            alloc,
+            &Rows,
+            &mut supervisor,
+            &bytes[records_start..],
+            out,
+        ),
         Err(outcome) => Ended {
             outcome,
             is_flush_due: false,
