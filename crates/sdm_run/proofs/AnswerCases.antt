@@ -74,8 +74,8 @@ no_part_of_a_line h = not_whole h.taken.prefix h.taken.taken h.taken.whole_lines
 abbrev a_turn : FlatTurn
 a_turn = record { before = flat_opening 100 1_000; line = record { time = 5; front = pos (80_000 * 54_000_000); speed = 108_000 } }
 
--- the line that is refused is no turn
-one_turn : turns_of 100 1_000 (codes "5,8000,2000\n0,0\n") ≡ a_turn ∷ []
+-- the line that is refused is no turn, and none after it is
+one_turn : turns_of 100 1_000 (codes "5,8000,2000\n0,0\n6,8000,2000\n") ≡ a_turn ∷ []
 unfolding turns_of flat_line read_int
 one_turn = refl
 
