@@ -8,6 +8,7 @@ use memchr::memchr;
 
 /// The first line of a text, with the LF that ends it, and the text after it; none of a text that is empty. (own)
 #[tactic(auto, using(crate::proofs::FirstPieces::found_line, crate::proofs::FirstPieces::whole_line))]
+#[inline(always)]
 pub fn split_line(text: &[u8]) -> Option<(&[u8], &[u8])>
     ensures line { IfSome result (λ cut. ended_lines text.now ≡ cut.0.now ∷ ended_lines cut.1.now) }
     ensures some { IfSome result (λ cut. 0 < length cut.0.now) }

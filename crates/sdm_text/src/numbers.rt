@@ -39,6 +39,8 @@ fn in_range(number: i64, lo: i64, hi: i64) -> Result<i64, FieldFault>
 }
 
 /// The number of a field in a range that 32 bits hold, or the fault of `read_int`. (own)
+// In line the loop over records reads seven numbers a reading with no call.
+#[inline(always)]
 pub fn integer_in(field: &[u8], least: i32, greatest: i32) -> Result<i32, FieldFault>
     ensures value { IfOk result (λ n. read_int field.now least greatest ≡ Ok n) }
     ensures range { IfOk result (λ n. (least ≤ℤ n) × (n ≤ℤ greatest)) }
@@ -48,7 +50,8 @@ pub fn integer_in(field: &[u8], least: i32, greatest: i32) -> Result<i32, FieldF
     Ok(number as i32)
 }
 
-/// The number of a field whose range has no number below 0, likewise. (own)
+/// The number of a field whose range has no number below 0, or the fault of `read_int`. (own)
+#[inline(always)]
 pub fn natural_in(field: &[u8], least: u32, greatest: u32) -> Result<u32, FieldFault>
     ensures value { IfOk result (λ n. read_int field.now (pos least) (pos greatest) ≡ Ok (pos n)) }
     ensures range { IfOk result (λ n. (least ≤ n) × (n ≤ greatest)) }
