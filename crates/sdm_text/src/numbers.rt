@@ -15,6 +15,8 @@ const MOST_DIGITS: usize = 18;
 
 /// The number of a field, from `lo` to `hi`. Leading zeros are accepted, and `-0` is 0. The field is NotNumber where it
 /// isn't an optional minus sign and 1 to 18 digits, and OutOfRange where its number is below `lo` or above `hi`. (own)
+// In line, with what it calls, the loop over records reads its seven numbers a reading with no call.
+#[inline(always)]
 #[tactic(auto, unfolding(sdm_rules::specs::Numbers::read_int))]
 pub fn read_int(field: &[u8], lo: i64, hi: i64) -> Result<i64, FieldFault>
     ensures value { result ≡ read_int field.now lo hi }
@@ -39,7 +41,6 @@ fn in_range(number: i64, lo: i64, hi: i64) -> Result<i64, FieldFault>
 }
 
 /// The number of a field in a range that 32 bits hold, or the fault of `read_int`. (own)
-// In line the loop over records reads seven numbers a reading with no call.
 #[inline(always)]
 pub fn integer_in(field: &[u8], least: i32, greatest: i32) -> Result<i32, FieldFault>
     ensures value { IfOk result (λ n. read_int field.now least greatest ≡ Ok n) }
@@ -62,6 +63,7 @@ pub fn natural_in(field: &[u8], least: u32, greatest: u32) -> Result<u32, FieldF
 }
 
 /// The number that a field writes, if it is of this form.
+#[inline(always)]
 fn number_of(field: &[u8]) -> Option<i64>
     ensures { result ≡ number_of field.now }
 {
@@ -72,6 +74,7 @@ fn number_of(field: &[u8]) -> Option<i64>
 }
 
 /// The number that 1 to 18 digits write; none for other bytes.
+#[inline(always)]
 fn magnitude(digits: &[u8]) -> Option<u64>
     ensures value { result ≡ if is_digits digits.now then Some (digits_value 10 digits.now) else None }
     ensures fits { IfSome result (λ n. n < 10 ^ most_digits) }
@@ -101,6 +104,7 @@ fn digit_of(byte: u8) -> u64
 
 /// The number of the first field of a line, from `least` to `greatest`, and the line after the comma that ends the field; none where
 /// no comma does, or the field is refused. Digits are read as they are passed over. (own)
+#[inline(always)]
 #[tactic(auto, unfolding(sdm_rules::specs::Numbers::read_int))]
 pub fn split_number(line: &[u8], least: i64, greatest: i64) -> Option<(i64, &[u8])>
     ensures some { IfSome result (λ cut. BeginsWithNumberIn line.now least greatest cut.0 cut.1.now) }
@@ -134,6 +138,7 @@ fn split_any_number(line: &[u8]) -> Option<(i64, &[u8])>
 }
 
 // The number of a first field of 1 to 18 digits, and the line after its comma; where it answers none, the field may yet be a number.
+#[inline(always)]
 fn split_digits(line: &[u8]) -> Option<(u64, &[u8])>
     ensures number { IfSome result (λ cut. BeginsWithNumber line.now (pos cut.0) cut.1.now) }
     ensures fits { IfSome result (λ cut. cut.0 < 10 ^ most_digits) }
