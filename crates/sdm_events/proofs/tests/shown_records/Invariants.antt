@@ -3,4 +3,4 @@ use Rattle.std.proofs.Common.{length}
 use Rattle.sdm_events.proofs.tests.shown_records.Given as goal
 
 abbrev pub decreases-records : goal.decreases-records
-decreases-records l = length l.records
+decreases-records l = length l.records.left
