@@ -413,7 +413,7 @@ fn a_list_with_too_many_entries_is_refused(rt: HostRuntime) -> Result<(), Fail> 
             return Err("no row".into());
         };
         let header = format!(in alloc; "\n[[track.{section}]]\n")?;
-        let mut input = BASE.as_bytes().to_vec(alloc)?;
+        let mut input = BASE_PART.as_bytes().to_vec(alloc)?;
         for _ in 0..count.parse::<u32>()? {
             input.extend_from_slice(header.as_bytes())?;
             input.extend_from_slice(&bytes_of(alloc, entry)?)?;
