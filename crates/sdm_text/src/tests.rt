@@ -2,7 +2,7 @@
 
 use crate::{
     FieldFault, ROW_BYTES, RowBuf, Section, integer_in, key_name, key_names, natural_in, read_int,
-    split_field, split_line, without_lf,
+    split_field, split_line, split_number, without_lf,
 };
 use std::test::Fail;
 
@@ -99,6 +99,56 @@ fn a_comma_or_the_end_of_the_line_ends_a_field(rt: HostRuntime) {
     assert_eq!(rt; split_field(b"1,"), Some((b"1".as_slice(), b"".as_slice())));
     assert!(rt; split_field(b"22").is_none());
     assert!(rt; split_field(b"").is_none());
+}
+
+/// A line, the number of its first field, the line after that field's comma, and what the case shows.
+const FIRST_FIELDS: &str = "\
+12,7|12|7|a comma ends it
+-12,x|-12|x|below zero
+-0,|0||a minus sign before zero
+007,-|7|-|leading zeros
+123456789012345678,|123456789012345678||eighteen digits
+-123456789012345678,|-123456789012345678||eighteen digits below zero
+1234567890123456789,|none||nineteen digits
+000000000000000000001,|none||twenty-one digits
+12|none||no comma
+|none||no byte
+,1|none||an empty field
+-|none||a minus sign alone
+-,1|none||a minus sign and a comma
+--1,|none||two minus signs
++1,|none||a plus sign
+ 1,|none||a space before
+1 ,|none||a space after";
+
+#[test]
+fn the_number_of_a_first_field_is_read(rt: HostRuntime) -> Result<(), Fail> {
+    for case in FIRST_FIELDS.lines() {
+        let mut words = case.split('|');
+        let line = words.next().ok_or("no line")?;
+        let number = words.next().ok_or("no number")?;
+        let rest = words.next().ok_or("no rest")?;
+        match split_number(line.as_bytes(), i64::MIN, i64::MAX) {
+            Some((read, after)) => {
+                assert_eq!(rt;
+                    read,
+                    number.parse::<i64>().map_err(|_| "not a number")?,
+                    "{case}"
+                );
+                assert_eq!(rt; after, rest.as_bytes(), "{case}");
+            }
+            None => assert_eq!(rt; number, "none", "{case}"),
+        }
+    }
+    Ok(())
+}
+
+#[test]
+fn a_first_field_out_of_its_range_is_none(rt: HostRuntime) {
+    assert_eq!(rt; split_number(b"12,", 12, 12), Some((12, b"".as_slice())));
+    assert!(rt; split_number(b"12,", 13, 20).is_none());
+    assert!(rt; split_number(b"12,", 0, 11).is_none());
+    assert!(rt; split_number(b"-1,", 0, 11).is_none());
 }
 
 /// A section and the names of its keys, in the order of their numbers.
