@@ -183,7 +183,7 @@ module _ (now : Situation) (low exact : Target → Option Fraction) (near : (t :
         near = x.near;
       }
 
-  pub printed : IsPrinted now exact (shown_limit now low)
+  pub printed : IsPrinted now exact (shown_limit now.speed now.targets low)
   unfolding shown
   printed = printed_by _ refl
 

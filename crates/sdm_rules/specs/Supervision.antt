@@ -92,8 +92,8 @@ least_of [] = None
 least_of (x ∷ xs) = Some (fold int_min x xs)
 
 -- a printed limit: the least over the targets whose speed is at most the train's, in mm (own)
-abbrev pub shown_limit : Situation → (Target → Option Fraction) → Option ℤ
-shown_limit now limit = least_of (filter_map (λ t. option_map whole_mm (limit t)) (filter (λ t. nat_le (target_speed t) now.speed) now.targets))
+abbrev pub shown_limit : ℕ → List Target → (Target → Option Fraction) → Option ℤ
+shown_limit speed ts limit = least_of (filter_map (λ t. option_map whole_mm (limit t)) (filter (λ t. nat_le (target_speed t) speed) ts))
 
 -- a target of kind Mrsp or Loa is met by speed where V_bec is at most its foot speed: the train need not brake for it (own)
 abbrev pub is_met_by_speed : TargetKind → ℕ → ℕ → Bool
@@ -117,17 +117,18 @@ is_covered_in d r now = not (is_some now.release) && list_all (is_covered_for d 
 unfoldable pub row_in : TrainAndTrack → Held → OdometerReading → Situation → Row
 row_in d held r now =
     let limits = limits_of computed d (estimate_of r) in
+    let shown = shown_limit now.speed now.targets in
     record {
       time = r.time;
       state = state_in d r now;
       held = commands_in d held r now;
       covered = is_covered_in d r now;
       ceiling = now.ceiling_kmh;
-      ebi = shown_limit now (λ t. (limits t).ebi);
-      sbi = shown_limit now (λ t. Some (limits t).sbi);
-      warning = shown_limit now (λ t. Some (limits t).warning);
-      permitted = shown_limit now (λ t. Some (limits t).permitted);
-      indication = shown_limit now (λ t. Some (limits t).indication);
+      ebi = shown (λ t. (limits t).ebi);
+      sbi = shown (λ t. Some (limits t).sbi);
+      warning = shown (λ t. Some (limits t).warning);
+      permitted = shown (λ t. Some (limits t).permitted);
+      indication = shown (λ t. Some (limits t).indication);
     }
 
 -- the row of a reading (own)
