@@ -1,10 +1,9 @@
 //! What a reading is judged by, once everything is found: the triggers, the type of speed and distance monitoring, and the row.
 
-ghost use Rattle.std.specs.Prelude.{◌≡◌, ◌≤◌, ◌+◌, ℕ, IfSome, nat_lt};
+ghost use Rattle.std.specs.Prelude.{◌≡◌, ◌≤◌, ◌+◌, false, IfSome, nat_lt};
 ghost use Rattle.std.specs.Option.{option_map_or};
 ghost use Rattle.sdm_num.specs.Readings.{OdometerReading, estimate_of};
 ghost use Rattle.sdm_num.specs.Units.{notches};
-ghost use Rattle.sdm_rules.specs.declared.commands.Held.{Held as HeldOf};
 ghost use Rattle.sdm_rules.specs.Limits.{computed, limits_of};
 ghost use Rattle.sdm_rules.specs.Margins.{ebi_margin, sbi_margin, warning_margin};
 ghost use Rattle.sdm_rules.specs.Ranges.{top_kmh};
@@ -83,13 +82,13 @@ impl Findings {
         let ceiling = above_ceiling(self.speed, self.ceiling_kmh);
         let targets = &self.verdict.passed;
         let above_release = is_above_release(self.speed, self.release_kmh);
-        let serv = ceiling.serv || targets.serv;
-        let ebi = ceiling.emer || targets.emer;
+        let serv = ceiling.serv | targets.serv;
+        let ebi = ceiling.emer | targets.emer;
         Triggers {
-            over: ceiling.over || targets.over || above_release,
-            warn: ceiling.warn || targets.warn,
+            over: ceiling.over | targets.over | above_release,
+            warn: ceiling.warn | targets.warn,
             serv,
-            emer: ebi || self.past_end || above_release || (serv && !self.in_use),
+            emer: ebi | self.past_end | above_release | (serv & !self.in_use),
         }
     }
 
@@ -116,7 +115,7 @@ impl Findings {
             time,
             state: self.state(),
             held,
-            covered: self.release_kmh.is_none() && self.verdict.passed.covered,
+            covered: self.release_kmh.is_none() & self.verdict.passed.covered,
             ceiling: self.ceiling_kmh,
             ebi: None,
             sbi: None,

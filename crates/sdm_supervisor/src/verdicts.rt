@@ -3,6 +3,7 @@
 ghost use Rattle.std.specs.Prelude.{◌≡◌, ◌≤◌, ◌++◌, ◌∷◌, ℕ, ℤ, All, List, [], map, not, option_map, true};
 ghost use Rattle.std.specs.Int.{int_min};
 ghost use Rattle.std.specs.Option.{option_map_or};
+ghost use Rattle.sdm_num.specs.Readings.{Estimate};
 ghost use Rattle.sdm_rules.specs.Data.{TrainAndTrack};
 ghost use Rattle.sdm_rules.specs.declared.targets.Target.{Target};
 ghost use Rattle.sdm_rules.specs.Limits.{SupervisionLimits, computed, limits_of};

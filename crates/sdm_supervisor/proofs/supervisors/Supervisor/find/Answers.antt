@@ -1,5 +1,5 @@
 -- Each part of what was found is that of the definitions, by the clause of the call that found it.
-use Rattle.std.proofs.Common.{◌≡◌, min, map, ◌++◌, ◌∙◌, ap, subst, transport, is_some, to_z, of_z, w32, rules}
+use Rattle.std.proofs.Common.{◌≡◌, ℤ, List, min, map, ◌++◌, ◌∙◌, ap, subst, is_some, to_z, of_z, w32, rules}
 use Rattle.std.proofs.lemmas.Int.{ints, to_z-of_z}
 use Rattle.std.specs.Int.{int_gap}
 use Rattle.sdm_rules.specs.Cells.{cell_of, lowest}
@@ -10,7 +10,8 @@ use Rattle.sdm_supervisor.specs.declared.findings.Findings.{Findings}
 use Rattle.sdm_braking.specs.KeptCurves.{IsKeptEnd, targets_in}
 use Rattle.sdm_braking.specs.KeptFalls.{target_of}
 use Rattle.sdm_supervisor.specs.Findings.{IsFoundAt}
-use Rattle.sdm_num.specs.Readings.{estimate_of}
+use Rattle.sdm_num.specs.Readings.{Estimate, estimate_of}
+use Rattle.sdm_rules.specs.declared.targets.Target.{Target}
 use Rattle.sdm_supervisor.specs.Verdicts.{IsVerdictOf}
 use Rattle.sdm_supervisor.proofs.CycleLaws.{is_open}
 use Rattle.sdm_braking.proofs.ReleaseLaws.{release_speed_at_is, release_speed_in_range}
@@ -62,7 +63,13 @@ module _ (c : goal.After-of) where
 
   -- the estimate and the front ends are those of the reading
   verdict : IsVerdictOf c.self.inside.braking (estimate_of c.args.reading.now) c.args.reading.now.est c.args.reading.now.max (targets_of (mrsp_of c.self.inside.profile) c.self.inside.authority c.args.reading.now.max (is_some (release_of c.self.inside.braking c.self.inside.authority c.args.reading.now.max))) c.of.result
-  verdict = transport (λ k. IsVerdictOf c.self.inside.braking ((c.asked-asked.ensures.estimate ∙ c.estimate.ensures) k) (c.est_mm.ensures k) (c.max_mm-front.ensures k) (targets k) c.of.result) c.of.ensures
+  verdict =
+      let d = c.self.inside.braking in
+      let r = c.args.reading.now in
+      let said = subst (λ (e : Estimate). IsVerdictOf d e c.est_mm.result c.max_mm-front.result (map target_of c.ahead-falls.result.now ++ targets_in c.deref-2.result.now c.is_some-in_release_monitoring.result) c.of.result) (c.asked-asked.ensures.estimate ∙ c.estimate.ensures) c.of.ensures in
+      let behind = subst (λ (ts : List Target). IsVerdictOf d (estimate_of r) c.est_mm.result c.max_mm-front.result ts c.of.result) targets said in
+      let est = subst (λ (z : ℤ). IsVerdictOf d (estimate_of r) z c.max_mm-front.result (targets_of (mrsp_of c.self.inside.profile) c.self.inside.authority r.max (is_some (release_of d c.self.inside.authority r.max))) c.of.result) c.est_mm.ensures behind in
+      subst (λ (z : ℤ). IsVerdictOf d (estimate_of r) r.est z (targets_of (mrsp_of c.self.inside.profile) c.self.inside.authority r.max (is_some (release_of d c.self.inside.authority r.max))) c.of.result) c.max_mm-front.ensures est
 
 pub of-requires-clause-falls : goal.of-requires-clause-falls
 of-requires-clause-falls c = c.ahead-falls.ensures.each c.self.inside.braking c.self.invariant.kept.falls.each

@@ -13,10 +13,10 @@ loop-fall-preserved c =
     let i = c.loop-fall.fall-index in
     let k = c.fall-item.result in
     let more = ap (λ (x : KeptFall). map target_of (take i ks ++ x ∷ [])) c.fall-item.is ∙ sym (ap (map target_of) (take_more ks i k c.loop-fall-test.true)) in
-    subst (λ (ts : List Target). IsVerdictOf c.args.braking.now c.args.asked.now.estimate c.args.fronts.now.est c.args.fronts.now.max ts _) (sym (map-append target_of (take i ks) (k ∷ [])) ∙ more)
+    subst (λ (ts : List Target). IsVerdictOf c.args.braking.now c.args.asked.now.estimate c.args.fronts.now.est c.args.fronts.now.max ts c.add.new.self) (sym (map-append target_of (take i ks) (k ∷ [])) ∙ more)
     ((rw c.deref.ensures at c.add.ensures) (map target_of (take i ks)) c.loop-fall.invariant)
 
 pub returns : goal.returns
 returns c =
-    subst (λ (ts : List Target). IsVerdictOf c.args.braking.now c.args.asked.now.estimate c.args.fronts.now.est c.args.fronts.now.max ts _)
+    subst (λ (ts : List Target). IsVerdictOf c.args.braking.now c.args.asked.now.estimate c.args.fronts.now.est c.args.fronts.now.max ts c.loop-fall.self)
     (ap (map target_of) (take_all c.loop-fall.fall-index c.args.falls.now c.loop-fall-test.false)) c.loop-fall.invariant
