@@ -8,7 +8,7 @@ from citations import blanked, cited_in, closing, imports
 from specs import CRATES
 
 LEMMA = re.compile(r"^(?:unfoldable |abbrev )?(?:pub )?([a-z_]\w*) :", re.M)
-CLAIM = re.compile(r"≡|\b(?:Is|Are|Has|Keeps|Stops|Slows|Meets)[A-Z]")
+CLAIM = re.compile(r"≡|\b(?:Is|Are|Has|Keeps|Stops|Slows|Meets|Takes|Comes|Leaves|Needs|Begins)[A-Z]")
 TEST = re.compile(r"(#\[test\]\s*(?:#\[[^\n]*\]\s*)*)?\bfn\s+(\w+)")
 CALL = re.compile(r"(?<![.\w])(?<!fn )(?:(\w+)::)?(\w+)\(")
 SHOWN_BY = specs.ROOT / "scripts" / "shown-by.txt"

@@ -1,12 +1,12 @@
 -- On usable slopes each computed place of a curve lies just before the exact one: the slack of all bands is less than a
 -- millimetre. What is within a curve stays so on a finer scale.
-use Rattle.std.proofs.Common.{◌≡◌, ℕ, ℤ, pos, ◌*◌, ◌<◌, ◌+ℤ◌, ◌*ℤ◌, ◌≤ℤ◌, arith, subst}
+use Rattle.std.proofs.Common.{◌≡◌, ℕ, ℤ, pos, ◌*◌, ◌<◌, ◌*ℤ◌, ◌≤ℤ◌, arith, subst}
 use Rattle.std.proofs.lemmas.Int.{ints}
 use Rattle.sdm_num.specs.Fractions.{IsAtMost, IsSame, whole, times}
 use Rattle.sdm_num.proofs.Ints.{scales, scale-≤, scale-≤_cancel}
 use Rattle.sdm_num.proofs.Order.{at_most_out, at_most_in}
 use Rattle.sdm_rules.specs.Slopes.{Slopes, IsUsable}
-use Rattle.sdm_rules.specs.Curves.{exact_at, most_slack}
+use Rattle.sdm_rules.specs.Curves.{exact_at}
 use Rattle.sdm_rules.specs.Limits.{computed, exact_places}
 use Rattle.sdm_laws.proofs.Slack.{rounding}
 use Rattle.sdm_laws.proofs.CurveOrder.{exact_positive}

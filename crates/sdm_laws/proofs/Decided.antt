@@ -1,6 +1,6 @@
 -- Every opening is accepted or has a first fault: since slopes settle, each kind is decided by searches over finitely many
 -- cells, band by band; the kinds follow one another, and the authority comes last.
-use Rattle.std.proofs.Common.{◌≡◌, ℕ, ℤ, suc, pos, Option, Some, None, ◌<◌, ◌≤◌, ◌*◌, ◌*ℤ◌, ◌≤ℤ◌, ◌<ℤ◌, refl, ap, subst, arith, inl, inr, min}
+use Rattle.std.proofs.Common.{◌≡◌, ℕ, ℤ, suc, pos, Option, Some, None, ◌<◌, ◌≤◌, ◌*ℤ◌, ◌≤ℤ◌, ◌<ℤ◌, refl, ap, subst, arith, inl, inr, min}
 use Rattle.std.specs.Prelude.{◌⊎◌}
 use Rattle.std.proofs.lemmas.Int.{ints, by_lt_z}
 use Rattle.std.proofs.lemmas.Bool.{cases_lt}

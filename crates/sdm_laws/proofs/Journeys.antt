@@ -1,6 +1,6 @@
 -- The headline goes on from turn to turn: a reading keeps the three commands in order, no other record changes one, and a state stays
 -- open.
-use Rattle.std.proofs.Common.{ℕ, suc, Bool, List, [], ◌∷◌, refl}
+use Rattle.std.proofs.Common.{ℕ, suc, Bool, [], ◌∷◌, refl}
 use Rattle.std.specs.Prelude.{Result, Ok, Err, IfOk}
 use Rattle.sdm_num.specs.Readings.{OdometerReading}
 use Rattle.sdm_rules.specs.declared.faults.EventCause.{EventCause}

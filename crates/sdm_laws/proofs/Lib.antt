@@ -12,15 +12,10 @@ pub mod Chains
 pub mod CurveChains
 pub mod CurveOrder
 pub mod CurveScales
-mod CurveCases
 pub mod Stretch
 pub mod Braking
 pub mod SliceBounds
 pub mod Reaction
-mod MotionCases
-mod MachineCases
-mod StopCases
-mod PromiseCases
 pub mod Segments
 pub mod TriggerOrder
 pub mod Nearness
@@ -41,5 +36,3 @@ pub mod Search
 pub mod Decided
 pub mod OneFault
 pub mod OneRun
-mod OpenCases
-mod HeadlineCases

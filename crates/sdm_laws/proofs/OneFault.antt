@@ -1,6 +1,6 @@
 -- An opening is never both accepted and refused, and has one first fault: an earlier fault contradicts that everything before
 -- the later one is accepted.
-use Rattle.std.proofs.Common.{◌≡◌, ℕ, ℤ, suc, pos, ◌*◌, ◌*ℤ◌, ◌≤ℤ◌, ◌<ℤ◌, refl, sym, subst, arith, inl, inr, ◌∙◌}
+use Rattle.std.proofs.Common.{◌≡◌, ℕ, ℤ, suc, pos, ◌*ℤ◌, ◌≤ℤ◌, ◌<ℤ◌, refl, sym, subst, arith, inl, inr, ◌∙◌}
 use Rattle.std.proofs.lemmas.Int.{ints}
 use Rattle.std.proofs.lemmas.Bool.{cases_order}
 use Rattle.sdm_rules.specs.declared.authorities.Authority.{Authority}
@@ -9,7 +9,7 @@ use Rattle.sdm_rules.specs.declared.data.SlopeKind.TheVariants.{Safe, Expected, 
 use Rattle.sdm_rules.specs.declared.faults.OpenFault.{OpenFault}
 use Rattle.sdm_rules.specs.declared.faults.OpenFault.TheVariants.{TooWeak, TooVaried, BadAuthority, Memory}
 use Rattle.sdm_rules.specs.Data.{TrainAndTrack}
-use Rattle.sdm_rules.specs.Decelerations.{slope_at, q_of}
+use Rattle.sdm_rules.specs.Decelerations.{slope_at}
 use Rattle.sdm_rules.specs.Opening.{IsStrongAt, IsStrong, IsEven, IsRange, IsAcceptedKind, IsFirstWeak, IsFirstVaried, AreBefore, IsAccepted, IsOpenFault, variation_of}
 
 -- ---- one kind

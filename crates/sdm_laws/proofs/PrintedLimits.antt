@@ -1,6 +1,6 @@
 -- A printed limit: it is the least of computed ones, each rounded down to a millimetre, and each of these lies just before its exact
 -- one. What a least place is of its list, and what stands in the list of printed places, each by induction.
-use Rattle.std.proofs.Common.{◌≡◌, ℕ, ℤ, zero, suc, pos, Bool, true, false, cond, nat_le, List, [], ◌∷◌, Option, Some, None, ◌⊎◌, inl, inr, ◌<◌, ◌≤◌, ◌+◌, ◌*◌, ◌+ℤ◌, ◌*ℤ◌, ◌≤ℤ◌, ◌<ℤ◌, refl, sym, ap, ◌∙◌, subst, arith}
+use Rattle.std.proofs.Common.{◌≡◌, ℕ, ℤ, zero, suc, pos, Bool, true, false, cond, nat_le, List, [], ◌∷◌, Option, Some, None, ◌⊎◌, inl, inr, ◌*◌, ◌+ℤ◌, ◌*ℤ◌, ◌≤ℤ◌, ◌<ℤ◌, refl, sym, ap, ◌∙◌, subst, arith}
 use Rattle.std.specs.Prelude.{Contains, filter, filter_map, option_map, fold}
 use Rattle.std.specs.Int.{int_min}
 use Rattle.std.specs.List.{cons_option}

@@ -3,7 +3,6 @@
 use Rattle.std.proofs.Common.{ℕ, ℤ, Bool, true, false, ◌||◌, ◌&&◌, not, nat_lt, List, [], ◌∷◌, Option, Some, None, refl}
 use Rattle.std.proofs.lemmas.Bool.{false≢true}
 use Rattle.std.specs.List.{list_any, AllByRecursion}
-use Rattle.std.specs.Option.{option_map_or}
 use Rattle.sdm_num.specs.Fractions.{Fraction}
 use Rattle.sdm_rules.specs.declared.commands.Triggers.{Triggers}
 use Rattle.sdm_rules.specs.declared.targets.Target.{Target}

@@ -3,4 +3,3 @@ pub mod Ints
 pub mod Floors
 pub mod Order
 pub mod Sides
-mod BoundCases

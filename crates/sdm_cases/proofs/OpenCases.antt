@@ -13,8 +13,8 @@ use Rattle.sdm_rules.specs.Data.{TrainAndTrack}
 use Rattle.sdm_rules.specs.Decelerations.{slope_at}
 use Rattle.sdm_rules.specs.Opening.{IsAcceptedKind, IsStrong, IsEven, IsOpen, IsOpenFault}
 use Rattle.sdm_rules.specs.Headline.{IsSupervised}
-use Rattle.sdm_rules.proofs.Journeys.{plain_band, plain_national, plain_train_and_track}
-use Rattle.sdm_rules.proofs.RowCases.{short}
+use Rattle.sdm_cases.proofs.Journeys.{plain_band, plain_national, plain_train_and_track}
+use Rattle.sdm_cases.proofs.RowCases.{short}
 use Rattle.sdm_laws.proofs.Headline.{supervision}
 
 short_slope : (kind : SlopeKind) (cell : ℕ) → slope_at kind short.train_and_track 0 (pos cell) ≡ pos 200_000_000_000

@@ -9,7 +9,7 @@ use Rattle.sdm_rules.specs.declared.targets.TargetKind.{TargetKind}
 use Rattle.sdm_rules.specs.declared.targets.TargetKind.TheVariants.{Eoa, Svl}
 use Rattle.sdm_rules.specs.Triggers.{Situation, triggers_of}
 use Rattle.sdm_rules.specs.Commands.{commands_after, emergency_after, nothing_held}
-use Rattle.sdm_rules.proofs.LimitCases.{metres, limits_at}
+use Rattle.sdm_cases.proofs.LimitCases.{metres, limits_at}
 
 -- at 20 m/s one target at 1000 m, whose limits are at 800, 800, 760, 720 and 540 m, with estimated and max safe front end
 one_target : TargetKind → ℤ → ℤ → Triggers

@@ -18,8 +18,8 @@ use Rattle.sdm_rules.specs.Triggers.{triggers_of}
 use Rattle.sdm_rules.specs.Commands.{commands_after, emergency_after}
 use Rattle.sdm_rules.specs.Supervision.{Supervision, opening, row_of, row_in, state_in, commands_in, is_covered_in}
 use Rattle.sdm_rules.specs.Records.{step}
-use Rattle.sdm_rules.proofs.Journeys.{plain_band, plain_national, plain_train_and_track, reading_at}
-use Rattle.sdm_rules.proofs.Openings.{opening_row, situation_with}
+use Rattle.sdm_cases.proofs.Journeys.{plain_band, plain_national, plain_train_and_track, reading_at}
+use Rattle.sdm_cases.proofs.Openings.{opening_row, situation_with}
 
 abbrev pub short_line : TrainAndTrack
 short_line = plain_train_and_track (pos 100) (Some (pos 0)) plain_band [] []

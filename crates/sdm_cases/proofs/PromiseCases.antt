@@ -19,9 +19,9 @@ use Rattle.sdm_rules.specs.Reaction.{reaction_start, reaction_times}
 use Rattle.sdm_rules.specs.Stop.{IsSafe, IsUncoveredSpeedTarget, MeetsTarget, SlowsTo, StopsBy, StopsBySvl}
 use Rattle.sdm_rules.specs.Supervision.{opening}
 use Rattle.sdm_rules.specs.Targets.{targets_of}
-use Rattle.sdm_rules.proofs.Journeys.{plain_national, plain_train_and_track, reading_at}
-use Rattle.sdm_rules.proofs.Openings.{opening_situation, situation_with}
-use Rattle.sdm_laws.proofs.StopCases.{at_780_m, at_800_m, before_braking, braked_line, braking, reading_at_760_m, standing, stands_before_the_front, stopping, stops_at_the_svl, stops_before_braking, where_it_stands}
+use Rattle.sdm_cases.proofs.Journeys.{plain_national, plain_train_and_track, reading_at}
+use Rattle.sdm_cases.proofs.Openings.{opening_situation, situation_with}
+use Rattle.sdm_cases.proofs.StopCases.{at_780_m, at_800_m, before_braking, braked_line, braking, reading_at_760_m, standing, stands_before_the_front, stopping, stops_at_the_svl, stops_before_braking, where_it_stands}
 
 -- ---- points, at scale 2: four places to a grain
 

@@ -25,11 +25,11 @@ use Rattle.sdm_rules.specs.Stop.{IsSafe}
 use Rattle.sdm_rules.specs.Supervision.{Supervision, after_reading, commands_in, is_covered_in, is_covered_for, opening, row_in, row_of, situation_of, state_in}
 use Rattle.sdm_rules.specs.Targets.{targets_of}
 use Rattle.sdm_rules.specs.Triggers.{is_past, triggers_of}
-use Rattle.sdm_rules.proofs.Journeys.{plain_band, plain_national, plain_train_and_track, reading_at}
-use Rattle.sdm_rules.proofs.Openings.{opening_row, opening_situation, situation_with}
-use Rattle.sdm_rules.proofs.RowCases.{short, short_line, with_release}
+use Rattle.sdm_cases.proofs.Journeys.{plain_band, plain_national, plain_train_and_track, reading_at}
+use Rattle.sdm_cases.proofs.Openings.{opening_row, opening_situation, situation_with}
+use Rattle.sdm_cases.proofs.RowCases.{short, short_line, with_release}
 use Rattle.sdm_laws.proofs.Journeys.{turns_safe}
-use Rattle.sdm_laws.proofs.OpenCases.{short_open, short_supervised}
+use Rattle.sdm_cases.proofs.OpenCases.{short_open, short_supervised}
 
 -- ---- gaps: 10 cm past the EBI at 8 m, at 2 m/s, the SvL is not covered, and no target of speed
 

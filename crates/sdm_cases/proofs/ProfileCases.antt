@@ -7,7 +7,7 @@ use Rattle.sdm_rules.specs.declared.targets.TargetKind.TheVariants.{Mrsp, Loa, E
 use Rattle.sdm_rules.specs.Data.{TrainAndTrack}
 use Rattle.sdm_rules.specs.Profile.{mrsp, lowest_between}
 use Rattle.sdm_rules.specs.Targets.{targets_of, foot_speed_of}
-use Rattle.sdm_rules.proofs.Journeys.{plain_band, plain_national, plain_train_and_track}
+use Rattle.sdm_cases.proofs.Journeys.{plain_band, plain_national, plain_train_and_track}
 
 -- a train of 1 m
 short_train : TrainAndTrack

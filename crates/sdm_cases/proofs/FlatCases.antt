@@ -1,6 +1,6 @@
 -- The flat supervisor: 1 m/s² towards an end at 10 m.
 use Rattle.std.proofs.Common.{◌≡◌, refl, ◌*◌}
-use Rattle.std.specs.Prelude.{pos, true, false, [], ◌∷◌, Some, None, codes}
+use Rattle.std.specs.Prelude.{pos, true, false, Some, None, codes}
 use Rattle.std.specs.Fmt.{digits}
 use Rattle.sdm_rules.specs.declared.faults.EventCause.TheVariants.{Line}
 use Rattle.sdm_rules.specs.Curves.{exact, stepped, exact_at, place_at, arc_back, back, arc_forward, forward}

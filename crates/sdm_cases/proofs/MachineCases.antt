@@ -24,8 +24,8 @@ use Rattle.sdm_rules.specs.Triggers.{Situation, triggers_of}
 use Rattle.sdm_rules.specs.Commands.{emergency_after}
 use Rattle.sdm_rules.specs.Supervision.{Supervision, opening}
 use Rattle.sdm_rules.specs.Machines.{machine_after, must_after, may_after}
-use Rattle.sdm_rules.proofs.Openings.{opening_situation, situation_with}
-use Rattle.sdm_rules.proofs.Journeys.{plain_band, plain_national, plain_train_and_track, reading_at}
+use Rattle.sdm_cases.proofs.Openings.{opening_situation, situation_with}
+use Rattle.sdm_cases.proofs.Journeys.{plain_band, plain_national, plain_train_and_track, reading_at}
 
 -- 0.7 m/s² for each brake, up to a speed in km/h
 band_up_to : Option ℤ → Band

@@ -3,7 +3,7 @@ use Rattle.std.proofs.Common.{◌≡◌, refl}
 use Rattle.std.specs.Prelude.{pos, negsuc, [], ◌∷◌, Some, None, map}
 use Rattle.sdm_rules.specs.declared.data.SlopeKind.TheVariants.{Safe, Expected, Normal}
 use Rattle.sdm_rules.specs.Decelerations.{under_train, slope_at}
-use Rattle.sdm_rules.proofs.Journeys.{plain_band, plain_national, plain_train_and_track}
+use Rattle.sdm_cases.proofs.Journeys.{plain_band, plain_national, plain_train_and_track}
 
 level_slope : slope_at Safe (plain_train_and_track (pos 100) (Some (pos 0)) plain_band [] []) 0 (pos 7) ≡ pos 200_000_000_000
 unfolding plain_train_and_track plain_national plain_band slope_at

@@ -1,25 +1,22 @@
 -- The stop that a covered reading promises is met by a motion, and by one to the grain: a train of 100 m with 1 m/s² in each brake and an
 -- emergency brake that works after 2 s runs at 20 m/s, with its front end at 760 m, towards an SvL at 1000 m.
-use Rattle.std.proofs.Common.{◌≡◌, refl, ap, ◌*◌, ◌<◌, arith}
+use Rattle.std.proofs.Common.{◌≡◌, refl, ap, ◌*◌, arith}
 use Rattle.std.proofs.lemmas.Int.{ints}
 use Rattle.std.proofs.Math.Path.{fun_ext}
-use Rattle.std.specs.Prelude.{ℕ, zero, suc, ℤ, pos, negsuc, unsigned_abs, Bool, true, false, List, [], ◌∷◌, Option, Some, None}
+use Rattle.std.specs.Prelude.{ℕ, zero, suc, ℤ, pos, negsuc, unsigned_abs, Bool, true, false, List, [], ◌∷◌, Some, None}
 use Rattle.sdm_num.specs.Units.{millimetre}
 use Rattle.sdm_num.specs.Readings.{OdometerReading}
-use Rattle.sdm_rules.specs.declared.data.Band.{Band}
-use Rattle.sdm_rules.specs.declared.data.SlopeKind.{SlopeKind}
 use Rattle.sdm_rules.specs.declared.data.SlopeKind.TheVariants.{Safe}
 use Rattle.sdm_rules.specs.declared.motions.Phase.TheVariants.{Build}
 use Rattle.sdm_rules.specs.declared.motions.Point.{Point}
 use Rattle.sdm_rules.specs.declared.motions.Slice.{Slice}
-use Rattle.sdm_rules.specs.declared.motions.Start.{Start}
 use Rattle.sdm_rules.specs.Slopes.{Slopes}
 use Rattle.sdm_rules.specs.Data.{TrainAndTrack}
 use Rattle.sdm_rules.specs.Decelerations.{slope_at, slopes_of}
 use Rattle.sdm_rules.specs.Motion.{AreSlices, BrakesAtLeast, IsBraking, IsIn, IsInBand, IsStep}
 use Rattle.sdm_rules.specs.Reaction.{reaction_times, reaction_start}
 use Rattle.sdm_rules.specs.Stop.{IsMotionOn}
-use Rattle.sdm_rules.proofs.Journeys.{plain_band, plain_national, plain_train_and_track, reading_at}
+use Rattle.sdm_cases.proofs.Journeys.{plain_band, plain_national, plain_train_and_track, reading_at}
 
 -- ---- the start of motions
 
