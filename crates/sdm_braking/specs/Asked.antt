@@ -1,5 +1,5 @@
 -- What the limits of targets ask of an estimate (own).
-use Rattle.std.specs.Prelude.{◌≡◌, ◌<◌, ◌≤◌, ◌^◌}
+use Rattle.std.specs.Prelude.{◌≡◌, true, ◌<◌, ◌≤◌, ◌^◌}
 use Rattle.sdm_num.specs.Readings.{IsEstimate}
 use Rattle.sdm_rules.specs.declared.data.SlopeKind.TheVariants.{Normal, Safe}
 use Rattle.sdm_rules.specs.declared.targets.Target.{Target}
@@ -12,8 +12,8 @@ use Rattle.sdm_curve.specs.Asked.{IsAskedOf}
 use Rattle.sdm_braking.specs.declared.asked.AskedEstimate.{AskedEstimate}
 
 -- what was worked out of an estimate is what the definitions say of it: what the train may do until its brake works; V_bec with its
--- band on the safe slopes and D_bec in grains, of every target that is no faster than the train; and V_est on the normal slopes
--- (SUBSET-026-3 3.13.8.5, 3.13.9.3.2; own)
+-- band on the safe slopes and D_bec in grains, of every target that is no faster than the train; and V_est on the normal slopes,
+-- where guidance is permitted (SUBSET-026-3 3.13.8.5, 3.13.9.3.2; own)
 pub record IsAsked (d : TrainAndTrack) (a : AskedEstimate) : Type 0 where
   pub estimate : IsEstimate a.estimate
   pub build_up : a.build_up ≡ build_up_from d a.estimate
@@ -21,5 +21,5 @@ pub record IsAsked (d : TrainAndTrack) (a : AskedEstimate) : Type 0 where
   pub v_bec_asked : IsAskedOf (slopes_of Safe d) a.v_bec
   pub d_bec : (t : Target) → target_speed t ≤ a.estimate.speed → a.d_bec ≡ d_bec_for d a.estimate t
   pub small : a.d_bec < 10 ^ 16
-  pub guided : a.guided_v_est.speed ≡ a.estimate.speed
-  pub guided_asked : IsAskedOf (slopes_of Normal d) a.guided_v_est
+  pub guided : d.national.guidance ≡ true → a.guided_v_est.speed ≡ a.estimate.speed
+  pub guided_asked : d.national.guidance ≡ true → IsAskedOf (slopes_of Normal d) a.guided_v_est
