@@ -1,6 +1,6 @@
 //! What a reading is judged by, once everything is found: the triggers, the type of speed and distance monitoring, and the row.
 
-ghost use Rattle.std.specs.Prelude.{◌≡◌, ◌≤◌, ◌+◌, false, IfSome, nat_lt};
+ghost use Rattle.std.specs.Prelude.{◌≡◌, ◌≤◌, ◌+◌, ◌&&◌, ◌||◌, false, not, IfSome, nat_lt};
 ghost use Rattle.std.specs.Option.{option_map_or};
 ghost use Rattle.sdm_num.specs.Readings.{OdometerReading, estimate_of};
 ghost use Rattle.sdm_num.specs.Units.{notches};
@@ -72,24 +72,35 @@ fn is_above_release(speed: Speed, release_kmh: Option<u16>) -> bool
 }
 
 impl Findings {
-    /// The triggers: an emergency is triggered where an EBI is passed, past the EOA, above the release speed, and where an SBI is passed
-    /// with no service brake in use. (SUBSET-026-3 3.13.10; own tables)
+    /// What the ceiling, the targets and the release speed trigger together. An emergency is triggered where an EBI is passed, past the
+    /// EOA, above the release speed, and where an SBI is passed with no service brake in use. (SUBSET-026-3 3.13.10; own tables)
+    fn together(&self, ceiling: Triggers, above_release: bool) -> Triggers
+        ensures over { result.over ≡ (ceiling.over || self.now.verdict.passed.over || above_release) }
+        ensures warn { result.warn ≡ (ceiling.warn || self.now.verdict.passed.warn) }
+        ensures serv { result.serv ≡ (ceiling.serv || self.now.verdict.passed.serv) }
+        ensures emer { result.emer ≡ ((ceiling.emer || self.now.verdict.passed.emer) || self.now.past_end || above_release
+            || ((ceiling.serv || self.now.verdict.passed.serv) && not self.now.in_use)) }
+    {
+        let passed = &self.verdict.passed;
+        let serv = ceiling.serv || passed.serv;
+        let ebi = ceiling.emer || passed.emer;
+        Triggers {
+            over: ceiling.over || passed.over || above_release,
+            warn: ceiling.warn || passed.warn,
+            serv,
+            emer: ebi || self.past_end || above_release || (serv && !self.in_use),
+        }
+    }
+
+    /// The triggers. (SUBSET-026-3 3.13.10; own tables)
     pub fn triggers(&self) -> Triggers
         requires { AreFindingsInRange self.now }
         ensures { (s : Supervision) (r : OdometerReading) → IsFoundAt s r self.now →
             result ≡ triggers_of (limits_of computed s.train_and_track (estimate_of r)) 0 (situation_of s r) }
     {
         let ceiling = above_ceiling(self.speed, self.ceiling_kmh);
-        let targets = &self.verdict.passed;
         let above_release = is_above_release(self.speed, self.release_kmh);
-        let serv = ceiling.serv | targets.serv;
-        let ebi = ceiling.emer | targets.emer;
-        Triggers {
-            over: ceiling.over | targets.over | above_release,
-            warn: ceiling.warn | targets.warn,
-            serv,
-            emer: ebi | self.past_end | above_release | (serv & !self.in_use),
-        }
+        self.together(ceiling, above_release)
     }
 
     /// The type of speed and distance monitoring; release speed monitoring is decided first. (SUBSET-026-3 3.13.10.6; own)

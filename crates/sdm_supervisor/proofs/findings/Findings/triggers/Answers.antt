@@ -21,10 +21,11 @@ returns c s r is =
     c.is_above_release-above_release.ensures ∙ (λ k. option_map_or (λ kmh. nat_lt (notches kmh) (is.speed k)) (is.release k) false) in
     let said = c.above_ceiling-ceiling.ensures in
     let passed = is.verdict.passed in
+    let all = c.together.ensures in
     let serv : (c.above_ceiling-ceiling.result.serv || c.args.self.now.verdict.passed.serv) ≡ is_service (limits_of computed s.train_and_track (estimate_of r)) 0 now = λ k. (said.serv ∙ ceiling sbi_margin) k || passed.serv k in
     λ k. record {
-      over = (said.over ∙ ceiling no_margin) k || passed.over k || release k;
-      warn = (said.warn ∙ ceiling warning_margin) k || passed.warn k;
-      serv = serv k;
-      emer = ((said.emer ∙ ceiling ebi_margin) k || passed.emer k) || is.past_end k || release k || (serv k && not (is.in_use k));
+      over = (all.over ∙ (λ i. (said.over ∙ ceiling no_margin) i || passed.over i || release i)) k;
+      warn = (all.warn ∙ (λ i. (said.warn ∙ ceiling warning_margin) i || passed.warn i)) k;
+      serv = (all.serv ∙ serv) k;
+      emer = (all.emer ∙ (λ i. ((said.emer ∙ ceiling ebi_margin) i || passed.emer i) || is.past_end i || release i || (serv i && not (is.in_use i)))) k;
     }
