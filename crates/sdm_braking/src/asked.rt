@@ -27,8 +27,8 @@ pub struct AskedEstimate {
     pub v_bec: AskedSpeed,
     /// D_bec in grains, for the same targets.
     pub d_bec: u64,
-    /// V_est on the map of A_normal_service; where guidance isn't permitted nothing asks for it, and it has no meaning.
-    pub guided_v_est: AskedSpeed,
+    /// V_est on the map of A_normal_service, where guidance curves are permitted.
+    pub guided_v_est: Option<AskedSpeed>,
 }
 
 impl Braking {
@@ -42,18 +42,17 @@ impl Braking {
         let build_up = BuildUp::of(self.times(), v_est, v_delta0, estimate.accel());
         // the slowest of the targets stands for all that are no faster than the train
         let reaction = build_up.reaction(Speed::new(0));
-        let v_bec = self.safe().asked(reaction.v_bec);
-        AskedEstimate {
+        let mut asked = AskedEstimate {
             estimate,
             build_up,
-            v_bec,
+            v_bec: self.safe().asked(reaction.v_bec),
             d_bec: reaction.d_bec,
-            guided_v_est: if self.has_guidance() {
-                self.normal().asked(v_est)
-            } else {
-                v_bec
-            },
+            guided_v_est: None,
+        };
+        if self.has_guidance() {
+            asked.guided_v_est = Some(self.normal().asked(v_est));
         }
+        asked
     }
 }
 

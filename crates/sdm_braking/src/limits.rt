@@ -28,9 +28,9 @@ impl Braking {
         ensures place { place_where result ≡ guide_at self.now asked.now.estimate kept.now.target }
         ensures range { IsGuide result }
     {
-        match &kept.guide {
-            Some(curve) => Some(curve.place_asked(self.normal(), &asked.guided_v_est)),
-            None => None,
+        match (&kept.guide, &asked.guided_v_est) {
+            (Some(curve), Some(v_est)) => Some(curve.place_asked(self.normal(), v_est)),
+            _ => None,
         }
     }
 

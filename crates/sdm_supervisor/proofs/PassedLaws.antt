@@ -18,7 +18,8 @@ use Rattle.sdm_rules.specs.Margins.{ebi_margin, sbi_margin, warning_margin}
 use Rattle.sdm_rules.specs.Supervision.{is_covered_for, is_met_by_speed}
 use Rattle.sdm_rules.specs.Targets.{at_speed_target, foot_speed_of, target_speed, with_margin}
 use Rattle.sdm_rules.specs.Triggers.{front_for, is_past, no_margin, passes, passes_ebi}
-use Rattle.sdm_supervisor.specs.declared.verdicts.Passed.{Passed}
+use Rattle.sdm_supervisor.specs.declared.verdicts.Nearest.{Nearest}
+use Rattle.sdm_supervisor.specs.declared.verdicts.Verdict.{Verdict}
 use Rattle.sdm_supervisor.specs.Verdicts.{ArePassed}
 use Rattle.sdm_supervisor.proofs.LimitOrder.{IsPastNone, past_none}
 
@@ -73,9 +74,9 @@ covered_yet d e est max t Loa met none = rw none.ebi refl
 covered_yet d e est max t Eoa met none = refl
 covered_yet d e est max t Svl met none = rw none.ebi refl
 
-module _ (d : TrainAndTrack) (e : Estimate) (est max : ℤ) (ts : List Target) (t : Target) (p : Passed) (is : ArePassed d e est max ts p) where
+module _ (d : TrainAndTrack) (e : Estimate) (est max : ℤ) (ts : List Target) (t : Target) (p : Verdict) (near : Option Nearest) (is : ArePassed d e est max ts p) where
   -- a target above the train's speed only says whether it is covered
-  pub slower_said : e.speed < target_speed t → (covered : Bool) → covered ≡ (p.covered && is_covered_for d max e t) → ArePassed d e est max (ts ++ t ∷ []) (record p { covered = covered })
+  pub slower_said : e.speed < target_speed t → (covered : Bool) → covered ≡ (p.covered && is_covered_for d max e t) → ArePassed d e est max (ts ++ t ∷ []) (record p { covered = covered; nearest = near })
   slower_said slower covered covered_is = record {
     over = any_unless _ ts t p.over is.over (not_passed e.speed est max t slower no_margin _);
     warn = any_unless _ ts t p.warn is.warn (not_passed e.speed est max t slower warning_margin _);
@@ -86,7 +87,7 @@ module _ (d : TrainAndTrack) (e : Estimate) (est max : ℤ) (ts : List Target) (
   }
 
   -- up to its indication limit a target says nothing
-  pub nothing_said : is_past 0 (front_for est max t.kind) (limits_of computed d e t).indication ≡ false → ArePassed d e est max (ts ++ t ∷ []) p
+  pub nothing_said : is_past 0 (front_for est max t.kind) (limits_of computed d e t).indication ≡ false → ArePassed d e est max (ts ++ t ∷ []) (record p { nearest = near })
   unfolding limits_of
   nothing_said ahead =
       let none = past_none d e t (front_for est max t.kind) ahead in
@@ -98,3 +99,7 @@ module _ (d : TrainAndTrack) (e : Estimate) (est max : ℤ) (ts : List Target) (
         indicated = any_unless _ ts t p.indicated is.indicated (not_reached e.speed est max t no_margin _ ahead);
         covered = all_where (is_covered_for d max e) ts t p.covered is.covered (covered_yet d e est max t t.kind (is_met_by_speed t.kind (v_bec_for d e t) (foot_speed_of t)) none);
       }
+
+-- where the nearest limits lie has no part in it
+pub same_passed : (d : TrainAndTrack) (e : Estimate) (est max : ℤ) (ts : List Target) (p : Verdict) (near : Option Nearest) → ArePassed d e est max ts p → ArePassed d e est max ts (record p { nearest = near })
+same_passed d e est max ts p near is = record { over = is.over; warn = is.warn; serv = is.serv; emer = is.emer; indicated = is.indicated; covered = is.covered }

@@ -12,7 +12,6 @@ use Rattle.sdm_rules.specs.Margins.{sbi_margin, warning_margin}
 use Rattle.sdm_rules.specs.Supervision.{is_covered_for, shown_limit}
 use Rattle.sdm_rules.specs.Triggers.{no_margin, passes, passes_ebi}
 use Rattle.sdm_supervisor.specs.declared.verdicts.Nearest.{Nearest}
-use Rattle.sdm_supervisor.specs.declared.verdicts.Passed.{Passed}
 use Rattle.sdm_supervisor.specs.declared.verdicts.Verdict.{Verdict}
 
 -- the lesser of two places, where there are any (own)
@@ -23,13 +22,13 @@ nearer (Some x) (Some y) = Some (int_min x y)
 
 -- which limits of targets are passed, by an estimate with the estimated and the max safe front end, and whether each target is
 -- covered (SUBSET-026-3 3.13.10.4; own)
-pub record ArePassed (d : TrainAndTrack) (e : Estimate) (est max : ℤ) (ts : List Target) (p : Passed) : Type 0 where
-  pub over : p.over ≡ list_any (λ t. passes e.speed est max 0 no_margin t (limits_of computed d e t).permitted) ts
-  pub warn : p.warn ≡ list_any (λ t. passes e.speed est max 0 warning_margin t (limits_of computed d e t).warning) ts
-  pub serv : p.serv ≡ list_any (λ t. passes e.speed est max 0 sbi_margin t (limits_of computed d e t).sbi) ts
-  pub emer : p.emer ≡ list_any (λ t. passes_ebi e.speed est max 0 t (limits_of computed d e t).ebi) ts
-  pub indicated : p.indicated ≡ list_any (λ t. passes e.speed est max 0 no_margin t (limits_of computed d e t).indication) ts
-  pub covered : p.covered ≡ list_all (is_covered_for d max e) ts
+pub record ArePassed (d : TrainAndTrack) (e : Estimate) (est max : ℤ) (ts : List Target) (v : Verdict) : Type 0 where
+  pub over : v.over ≡ list_any (λ t. passes e.speed est max 0 no_margin t (limits_of computed d e t).permitted) ts
+  pub warn : v.warn ≡ list_any (λ t. passes e.speed est max 0 warning_margin t (limits_of computed d e t).warning) ts
+  pub serv : v.serv ≡ list_any (λ t. passes e.speed est max 0 sbi_margin t (limits_of computed d e t).sbi) ts
+  pub emer : v.emer ≡ list_any (λ t. passes_ebi e.speed est max 0 t (limits_of computed d e t).ebi) ts
+  pub indicated : v.indicated ≡ list_any (λ t. passes e.speed est max 0 no_margin t (limits_of computed d e t).indication) ts
+  pub covered : v.covered ≡ list_all (is_covered_for d max e) ts
 
 -- the nearest limits at a speed in notches, in whole millimetres, are those that are printed of targets (own)
 pub record AreNearest (v : ℕ) (limits : Target → SupervisionLimits) (ts : List Target) (nearest : Option Nearest) : Type 0 where
@@ -41,5 +40,5 @@ pub record AreNearest (v : ℕ) (limits : Target → SupervisionLimits) (ts : Li
 
 -- what targets say together (SUBSET-026-3 3.13.10; own)
 pub record IsVerdictOf (d : TrainAndTrack) (e : Estimate) (est max : ℤ) (ts : List Target) (v : Verdict) : Type 0 where
-  pub passed : ArePassed d e est max ts v.passed
+  pub passed : ArePassed d e est max ts v
   pub nearest : AreNearest e.speed (limits_of computed d e) ts v.nearest

@@ -75,18 +75,18 @@ impl Findings {
     /// What the ceiling, the targets and the release speed trigger together. An emergency is triggered where an EBI is passed, past the
     /// EOA, above the release speed, and where an SBI is passed with no service brake in use. (SUBSET-026-3 3.13.10; own tables)
     fn together(&self, ceiling: Triggers, above_release: bool) -> Triggers
-        ensures over { result.over ≡ (ceiling.over || self.now.verdict.passed.over || above_release) }
-        ensures warn { result.warn ≡ (ceiling.warn || self.now.verdict.passed.warn) }
-        ensures serv { result.serv ≡ (ceiling.serv || self.now.verdict.passed.serv) }
-        ensures emer { result.emer ≡ ((ceiling.emer || self.now.verdict.passed.emer) || self.now.past_end || above_release
-            || ((ceiling.serv || self.now.verdict.passed.serv) && not self.now.in_use)) }
+        ensures over { result.over ≡ (ceiling.over || self.now.verdict.over || above_release) }
+        ensures warn { result.warn ≡ (ceiling.warn || self.now.verdict.warn) }
+        ensures serv { result.serv ≡ (ceiling.serv || self.now.verdict.serv) }
+        ensures emer { result.emer ≡ ((ceiling.emer || self.now.verdict.emer) || self.now.past_end || above_release
+            || ((ceiling.serv || self.now.verdict.serv) && not self.now.in_use)) }
     {
-        let passed = &self.verdict.passed;
-        let serv = ceiling.serv || passed.serv;
-        let ebi = ceiling.emer || passed.emer;
+        let targets = &self.verdict;
+        let serv = ceiling.serv || targets.serv;
+        let ebi = ceiling.emer || targets.emer;
         Triggers {
-            over: ceiling.over || passed.over || above_release,
-            warn: ceiling.warn || passed.warn,
+            over: ceiling.over || targets.over || above_release,
+            warn: ceiling.warn || targets.warn,
             serv,
             emer: ebi || self.past_end || above_release || (serv && !self.in_use),
         }
@@ -110,7 +110,7 @@ impl Findings {
     {
         if self.release_kmh.is_some() {
             State::R
-        } else if self.verdict.passed.indicated {
+        } else if self.verdict.indicated {
             State::T
         } else {
             State::C
@@ -126,7 +126,7 @@ impl Findings {
             time,
             state: self.state(),
             held,
-            covered: self.release_kmh.is_none() & self.verdict.passed.covered,
+            covered: self.release_kmh.is_none() & self.verdict.covered,
             ceiling: self.ceiling_kmh,
             ebi: None,
             sbi: None,

@@ -40,22 +40,17 @@ pub struct Nearest {
     pub indication: Place,
 }
 
-/// Whether the train is above the speed of a target and past its permitted, warning, service brake intervention, emergency brake
-/// intervention or indication limit; and whether each target is covered. (SUBSET-026-3 3.13.10; own)
+/// What targets say at a reading: whether the train is above the speed of one of them and past its permitted, warning, service brake
+/// intervention, emergency brake intervention or indication limit; whether each of them is covered; and the nearest limits.
+/// (SUBSET-026-3 3.13.10; own)
 #[derive(Clone, Copy, Debug, PartialEq, Eq)]
-pub struct Passed {
+pub struct Verdict {
     pub over: bool,
     pub warn: bool,
     pub serv: bool,
     pub emer: bool,
     pub indicated: bool,
     pub covered: bool,
-}
-
-/// What targets say at a reading: which of their limits are passed, and the nearest ones. (SUBSET-026-3 3.13.10; own)
-#[derive(Clone, Copy, Debug, PartialEq, Eq)]
-pub struct Verdict {
-    pub passed: Passed,
     pub nearest: Option<Nearest>,
 }
 
@@ -215,9 +210,24 @@ fn is_covered_for(
     is_before(max, ebi) || asked.is_met_by_speed(kept)
 }
 
-impl Passed {
-    /// Adds what a target says that is no faster than the train. (SUBSET-026-3 3.13.10; own)
-    fn add(
+impl Verdict {
+    /// What no target says: nothing is passed.
+    fn of_none() -> Verdict
+        ensures { (d : TrainAndTrack) (e : Estimate) (est max : ℤ) → IsVerdictOf d e est max [] result }
+    {
+        Verdict {
+            over: false,
+            warn: false,
+            serv: false,
+            emer: false,
+            indicated: false,
+            covered: true,
+            nearest: None,
+        }
+    }
+
+    /// Adds which limits of a target are passed that is no faster than the train, and whether it is covered. (SUBSET-026-3 3.13.10; own)
+    fn add_passed(
         &mut self,
         asked: &AskedEstimate,
         fronts: &Fronts,
@@ -226,7 +236,8 @@ impl Passed {
     )
         requires target { IsTarget kept.now.target }
         requires speeds { AreSpeedsOf kept.now.target kept.now.speeds }
-        ensures { (d : TrainAndTrack) (ts : List Target) → IsAsked d asked.now →
+        ensures nearest { self.new.nearest ≡ self.old.nearest }
+        ensures passed { (d : TrainAndTrack) (ts : List Target) → IsAsked d asked.now →
             places_of limits.now ≡ limits_of computed d asked.now.estimate kept.now.target →
             ArePassed d asked.now.estimate fronts.now.est fronts.now.max ts self.old →
             ArePassed d asked.now.estimate fronts.now.est fronts.now.max (ts ++ kept.now.target ∷ []) self.new }
@@ -239,25 +250,6 @@ impl Passed {
         self.emer |= passes_ebi(asked, fronts, target, speeds.ebi, limits.ebi);
         self.indicated |= passes(asked, fronts, target, speeds.permitted, limits.indication);
         self.covered &= is_covered_for(asked, fronts.max, kept, limits.ebi);
-    }
-}
-
-impl Verdict {
-    /// What no target says: nothing is passed.
-    fn of_none() -> Verdict
-        ensures { (d : TrainAndTrack) (e : Estimate) (est max : ℤ) → IsVerdictOf d e est max [] result }
-    {
-        Verdict {
-            passed: Passed {
-                over: false,
-                warn: false,
-                serv: false,
-                emer: false,
-                indicated: false,
-                covered: true,
-            },
-            nearest: None,
-        }
     }
 
     /// Adds what a target says. (SUBSET-026-3 3.13.10; own)
@@ -276,8 +268,7 @@ impl Verdict {
     {
         // A target above the train's speed is not passed, and none of its limits counts.
         if asked.estimate.speed() < kept.speeds.permitted {
-            self.passed.covered =
-                self.passed.covered && is_covered_above(braking, asked, fronts.max, kept);
+            self.covered = self.covered && is_covered_above(braking, asked, fronts.max, kept);
             return;
         }
         let limits = braking.limits(asked, kept);
@@ -287,7 +278,7 @@ impl Verdict {
         if !is_past(front, limits.indication) {
             return;
         }
-        self.passed.add(asked, fronts, kept, &limits);
+        self.add_passed(asked, fronts, kept, &limits);
     }
 
     /// Adds what falls say, where nothing was said before. (SUBSET-026-3 3.13.10; own)

@@ -22,7 +22,7 @@ returns c s r is =
     let said = c.above_ceiling-ceiling.ensures in
     let passed = is.verdict.passed in
     let all = c.together.ensures in
-    let serv : (c.above_ceiling-ceiling.result.serv || c.args.self.now.verdict.passed.serv) ≡ is_service (limits_of computed s.train_and_track (estimate_of r)) 0 now = λ k. (said.serv ∙ ceiling sbi_margin) k || passed.serv k in
+    let serv : (c.above_ceiling-ceiling.result.serv || c.args.self.now.verdict.serv) ≡ is_service (limits_of computed s.train_and_track (estimate_of r)) 0 now = λ k. (said.serv ∙ ceiling sbi_margin) k || passed.serv k in
     λ k. record {
       over = (all.over ∙ (λ i. (said.over ∙ ceiling no_margin) i || passed.over i || release i)) k;
       warn = (all.warn ∙ (λ i. (said.warn ∙ ceiling warning_margin) i || passed.warn i)) k;

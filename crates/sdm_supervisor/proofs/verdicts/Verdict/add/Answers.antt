@@ -6,7 +6,7 @@ use Rattle.sdm_rules.specs.Supervision.{is_covered_for}
 use Rattle.sdm_rules.specs.Targets.{target_speed}
 use Rattle.sdm_rules.specs.Triggers.{front_for, is_past}
 use Rattle.sdm_supervisor.proofs.NearestLaws.{nearest_without}
-use Rattle.sdm_supervisor.proofs.PassedLaws.{nothing_said, slower_said}
+use Rattle.sdm_supervisor.proofs.PassedLaws.{nothing_said, same_passed, slower_said}
 use Rattle.sdm_supervisor.proofs.verdicts.Verdict.add.Goals as goal
 use Rattle.sdm_supervisor.proofs.verdicts.Verdict.add.Goals.{then-self, else-self}
 
@@ -16,10 +16,10 @@ returns-then-lt c ts is =
     let e = c.args.asked.now.estimate in
     let t = c.args.kept.now.target in
     let slower : e.speed < target_speed t = subst (λ (n : ℕ). e.speed < n) c.requires.kept.speeds.permitted (grind (arith, nat_tests)) in
-    let covered : c.if-self.self ≡ (c.args.self.now.passed.covered && is_covered_for d c.args.fronts.now.max e t) =
+    let covered : c.if-self.self ≡ (c.args.self.now.covered && is_covered_for d c.args.fronts.now.max e t) =
     elim c.if-self.branch [ then-self w ↦ rw (w.self-is, w.is_covered_above-self.ensures, w.if-self.true) refl | else-self w ↦ rw (w.self-is, w.if-self.false) refl ] in
     record {
-      passed = slower_said d e c.args.fronts.now.est c.args.fronts.now.max ts t c.args.self.now.passed is.passed slower _ covered;
+      passed = slower_said d e c.args.fronts.now.est c.args.fronts.now.max ts t c.args.self.now c.args.self.now.nearest is.passed slower _ covered;
       nearest = nearest_without e.speed (limits_of computed d e) ts t c.args.self.now.nearest slower is.nearest;
     }
 
@@ -34,7 +34,7 @@ returns-then-not-is_past c ts is =
     let ahead : is_past 0 (front_for est max t.kind) (limits_of computed d e t).indication ≡ false =
     (λ k. is_past 0 (sym c.front_for-front.ensures k) ((sym c.limits-limits.ensures k).indication)) ∙ sym c.is_past.ensures ∙ c.if-not-is_past.true in
     record {
-      passed = nothing_said d e est max ts t c.args.self.now.passed is.passed ahead;
+      passed = nothing_said d e est max ts t c.args.self.now c.with_limits-self.result is.passed ahead;
       nearest = c.with_limits-self.ensures e.speed (limits_of computed d e) ts t reached c.limits-limits.ensures is.nearest;
     }
 
@@ -45,6 +45,6 @@ returns c ts is =
     let t = c.args.kept.now.target in
     let reached : target_speed t ≤ e.speed = subst (λ (n : ℕ). n ≤ e.speed) c.requires.kept.speeds.permitted (grind (arith, nat_tests)) in
     record {
-      passed = c.add.ensures d ts c.requires.asked c.limits-limits.ensures is.passed;
-      nearest = c.with_limits-self.ensures e.speed (limits_of computed d e) ts t reached c.limits-limits.ensures is.nearest;
+      passed = c.add_passed.ensures.passed d ts c.requires.asked c.limits-limits.ensures (same_passed d e c.args.fronts.now.est c.args.fronts.now.max ts c.args.self.now c.with_limits-self.result is.passed);
+      nearest = rw c.add_passed.ensures.nearest (c.with_limits-self.ensures e.speed (limits_of computed d e) ts t reached c.limits-limits.ensures is.nearest);
     }

@@ -6,10 +6,10 @@ use Rattle.sdm_rules.specs.Supervision.{is_covered_for}
 use Rattle.sdm_rules.specs.Targets.{at_speed_target, with_margin}
 use Rattle.sdm_rules.specs.Triggers.{no_margin, passes, passes_ebi}
 use Rattle.sdm_supervisor.proofs.PassedLaws.{all_more, any_more}
-use Rattle.sdm_supervisor.proofs.verdicts.Passed.add.Goals as goal
+use Rattle.sdm_supervisor.proofs.verdicts.Verdict.add_passed.Goals as goal
 
-pub returns : goal.returns
-returns c d ts asked limits is =
+pub returns-clause-passed : goal.returns-clause-passed
+returns-clause-passed c d ts asked limits is =
     let e = c.args.asked.now.estimate in
     let est = c.args.fronts.now.est in
     let max = c.args.fronts.now.max in
