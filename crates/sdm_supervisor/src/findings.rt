@@ -60,36 +60,37 @@ fn above_ceiling(speed: Speed, kmh: u16) -> Triggers
     }
 }
 
-/// Whether a speed is, in release speed monitoring, above the release speed in km/h. (SUBSET-026-3 3.13.10.5)
-fn is_above_release(speed: Speed, release_kmh: Option<u16>) -> bool
-    requires { IfSome release_kmh (λ kmh. kmh ≤ top_kmh) }
-    ensures { result ≡ option_map_or (λ kmh. nat_lt (notches kmh) speed) release_kmh false }
-{
-    match release_kmh {
-        Some(kmh) => Speed::of_kmh(kmh) < speed,
-        None => false,
-    }
-}
-
 impl Findings {
-    /// What the ceiling, the targets and the release speed trigger together. An emergency is triggered where an EBI is passed, past the
-    /// EOA, above the release speed, and where an SBI is passed with no service brake in use. (SUBSET-026-3 3.13.10; own tables)
-    fn together(&self, ceiling: Triggers, above_release: bool) -> Triggers
-        ensures over { result.over ≡ (ceiling.over || self.now.verdict.over || above_release) }
-        ensures warn { result.warn ≡ (ceiling.warn || self.now.verdict.warn) }
-        ensures serv { result.serv ≡ (ceiling.serv || self.now.verdict.serv) }
-        ensures emer { result.emer ≡ ((ceiling.emer || self.now.verdict.emer) || self.now.past_end || above_release
-            || ((ceiling.serv || self.now.verdict.serv) && not self.now.in_use)) }
+    /// Whether the train is, in release speed monitoring, above the release speed. (SUBSET-026-3 3.13.10.5)
+    fn is_above_release(&self) -> bool
+        requires { AreFindingsInRange self.now }
+        ensures { result ≡ option_map_or (λ kmh. nat_lt (notches kmh) self.now.speed) self.now.release_kmh false }
     {
-        let targets = &self.verdict;
-        let serv = ceiling.serv || targets.serv;
-        let ebi = ceiling.emer || targets.emer;
-        Triggers {
-            over: ceiling.over || targets.over || above_release,
-            warn: ceiling.warn || targets.warn,
-            serv,
-            emer: ebi || self.past_end || above_release || (serv && !self.in_use),
+        match self.release_kmh {
+            Some(kmh) => Speed::of_kmh(kmh) < self.speed,
+            None => false,
         }
+    }
+
+    /// Whether the train is above a permitted speed, where `ceiling` says whether it is above that of the ceiling. (SUBSET-026-3 3.13.10;
+    /// own table)
+    fn is_over(&self, ceiling: bool) -> bool
+        requires { AreFindingsInRange self.now }
+        ensures { result ≡ (ceiling || self.now.verdict.over
+            || option_map_or (λ kmh. nat_lt (notches kmh) self.now.speed) self.now.release_kmh false) }
+    {
+        ceiling || self.verdict.over || self.is_above_release()
+    }
+
+    /// Whether an emergency is triggered, where `ebi` and `serv` say whether an EBI or an SBI is passed. (SUBSET-026-3 3.13.10; own
+    /// table)
+    fn is_emergency(&self, ebi: bool, serv: bool) -> bool
+        requires { AreFindingsInRange self.now }
+        ensures { result ≡ (ebi || self.now.past_end
+            || option_map_or (λ kmh. nat_lt (notches kmh) self.now.speed) self.now.release_kmh false
+            || (serv && not self.now.in_use)) }
+    {
+        ebi || self.past_end || self.is_above_release() || (serv && !self.in_use)
     }
 
     /// The triggers. (SUBSET-026-3 3.13.10; own tables)
@@ -99,8 +100,14 @@ impl Findings {
             result ≡ triggers_of (limits_of computed s.train_and_track (estimate_of r)) 0 (situation_of s r) }
     {
         let ceiling = above_ceiling(self.speed, self.ceiling_kmh);
-        let above_release = is_above_release(self.speed, self.release_kmh);
-        self.together(ceiling, above_release)
+        let serv = ceiling.serv | self.verdict.serv;
+        let ebi = ceiling.emer | self.verdict.emer;
+        Triggers {
+            over: self.is_over(ceiling.over),
+            warn: ceiling.warn | self.verdict.warn,
+            serv,
+            emer: self.is_emergency(ebi, serv),
+        }
     }
 
     /// The type of speed and distance monitoring; release speed monitoring is decided first. (SUBSET-026-3 3.13.10.6; own)

@@ -17,15 +17,14 @@ returns c s r is =
     let now = situation_of s r in
     let ceiling : (margin : ℕ → ℕ) → nat_lt (notches c.args.self.now.ceiling_kmh + margin c.args.self.now.ceiling_kmh) c.args.self.now.speed ≡ above_ceiling now margin =
     λ margin k. nat_lt (notches (is.ceiling k) + margin (is.ceiling k)) (is.speed k) in
-    let release : c.is_above_release-above_release.result ≡ above_release now =
-    c.is_above_release-above_release.ensures ∙ (λ k. option_map_or (λ kmh. nat_lt (notches kmh) (is.speed k)) (is.release k) false) in
+    let release : option_map_or (λ kmh. nat_lt (notches kmh) c.args.self.now.speed) c.args.self.now.release_kmh false ≡ above_release now =
+    λ k. option_map_or (λ kmh. nat_lt (notches kmh) (is.speed k)) (is.release k) false in
     let said = c.above_ceiling-ceiling.ensures in
     let passed = is.verdict.passed in
-    let all = c.together.ensures in
     let serv : (c.above_ceiling-ceiling.result.serv || c.args.self.now.verdict.serv) ≡ is_service (limits_of computed s.train_and_track (estimate_of r)) 0 now = λ k. (said.serv ∙ ceiling sbi_margin) k || passed.serv k in
     λ k. record {
-      over = (all.over ∙ (λ i. (said.over ∙ ceiling no_margin) i || passed.over i || release i)) k;
-      warn = (all.warn ∙ (λ i. (said.warn ∙ ceiling warning_margin) i || passed.warn i)) k;
-      serv = (all.serv ∙ serv) k;
-      emer = (all.emer ∙ (λ i. ((said.emer ∙ ceiling ebi_margin) i || passed.emer i) || is.past_end i || release i || (serv i && not (is.in_use i)))) k;
+      over = (c.is_over.ensures ∙ (λ i. (said.over ∙ ceiling no_margin) i || passed.over i || release i)) k;
+      warn = (said.warn ∙ ceiling warning_margin) k || passed.warn k;
+      serv = serv k;
+      emer = (c.is_emergency.ensures ∙ (λ i. ((said.emer ∙ ceiling ebi_margin) i || passed.emer i) || is.past_end i || release i || (serv i && not (is.in_use i)))) k;
     }
