@@ -9,6 +9,8 @@ use crate::faults::Failed;
 use crate::sinks::Sink;
 
 /// Writes a whole piece. Where the sink fails, it took a prefix of the piece.
+// In line a short row costs no call of its own.
+#[inline(always)]
 pub fn write_piece<K: Sink>(sink: &mut K, piece: &[u8]) -> Result<(), Failed>
     ensures ok { OnOk result (Appends (K.taken sink.old) (K.taken sink.new) piece.now) }
     ensures err { OnErr result (AppendsPart (K.taken sink.old) (K.taken sink.new) piece.now) }
