@@ -2,7 +2,7 @@
 use Rattle.std.proofs.Common.{◌≡◌, Option, None, subst}
 use Rattle.std.specs.Bool.{⊤}
 use Rattle.sdm_num.specs.Fractions.{Fraction}
-use Rattle.sdm_num.specs.Readings.{OdometerReading, estimate_of}
+use Rattle.sdm_num.specs.Readings.{Estimate}
 use Rattle.sdm_rules.specs.declared.data.SlopeKind.{SlopeKind}
 use Rattle.sdm_rules.specs.declared.data.SlopeKind.TheVariants.{Expected, Normal, Safe}
 use Rattle.sdm_rules.specs.declared.targets.TargetKind.{TargetKind}
@@ -26,14 +26,14 @@ IsOther Expected = ⊤
 IsOther Normal = ⊤
 
 -- an EBI that is that of the EBD, whatever the guide, is that of the target
-ebi_of_kind : (P : CurvePlaces) (d : TrainAndTrack) (r : OdometerReading) (t : Target) (ebi : Option Fraction) (kind : TargetKind) → brake_kind kind ≡ Safe →
-    ((guide : Option Fraction) → ebi ≡ (ebd_limits_of P d (estimate_of r) t guide).ebi) → ebi ≡ (limits_of_kind P d (estimate_of r) t kind).ebi
-ebi_of_kind P d r t ebi Mrsp safe is = is (guidance_place P d (estimate_of r) t)
-ebi_of_kind P d r t ebi Loa safe is = is (guidance_place P d (estimate_of r) t)
-ebi_of_kind P d r t ebi Eoa safe is = absurd (subst IsOther safe tt)
-ebi_of_kind P d r t ebi Svl safe is = is None
+ebi_of_kind : (P : CurvePlaces) (d : TrainAndTrack) (e : Estimate) (t : Target) (ebi : Option Fraction) (kind : TargetKind) → brake_kind kind ≡ Safe →
+    ((guide : Option Fraction) → ebi ≡ (ebd_limits_of P d e t guide).ebi) → ebi ≡ (limits_of_kind P d e t kind).ebi
+ebi_of_kind P d e t ebi Mrsp safe is = is (guidance_place P d e t)
+ebi_of_kind P d e t ebi Loa safe is = is (guidance_place P d e t)
+ebi_of_kind P d e t ebi Eoa safe is = absurd (subst IsOther safe tt)
+ebi_of_kind P d e t ebi Svl safe is = is None
 
-pub ebi_of : (P : CurvePlaces) (d : TrainAndTrack) (r : OdometerReading) (t : Target) (ebi : Option Fraction) → brake_kind t.kind ≡ Safe →
-    ((guide : Option Fraction) → ebi ≡ (ebd_limits_of P d (estimate_of r) t guide).ebi) → ebi ≡ (limits_of P d (estimate_of r) t).ebi
+pub ebi_of : (P : CurvePlaces) (d : TrainAndTrack) (e : Estimate) (t : Target) (ebi : Option Fraction) → brake_kind t.kind ≡ Safe →
+    ((guide : Option Fraction) → ebi ≡ (ebd_limits_of P d e t guide).ebi) → ebi ≡ (limits_of P d e t).ebi
 unfolding limits_of
-ebi_of P d r t ebi safe is = ebi_of_kind P d r t ebi t.kind safe is
+ebi_of P d e t ebi safe is = ebi_of_kind P d e t ebi t.kind safe is

@@ -1,7 +1,7 @@
 -- The curves of targets that are kept between records (own).
 use Rattle.std.specs.Prelude.{◌≡◌, ℕ, ℤ, pos, negsuc, Bool, true, false, if◌then◌else◌, List, [], ◌∷◌, Option, Some, None, All}
 use Rattle.sdm_num.specs.Fractions.{Fraction}
-use Rattle.sdm_num.specs.Readings.{OdometerReading}
+use Rattle.sdm_num.specs.Readings.{Estimate}
 use Rattle.sdm_rules.specs.declared.authorities.Authority.{Authority}
 use Rattle.sdm_rules.specs.declared.authorities.Authority.TheVariants.{Stop, Limit}
 use Rattle.sdm_rules.specs.declared.data.SlopeKind.{SlopeKind}
@@ -96,6 +96,6 @@ abbrev pub AreKept : TrainAndTrack → KeptEnd → Type 0
 AreKept d (KeptStop e s) = IsKeptTarget d e × IsKeptTarget d s
 AreKept d (KeptLimit l) = IsKeptTarget d l
 
--- the place of a target's guidance curve at a reading, where it has one (SUBSET-026-3 3.13.8.5; own)
-abbrev pub guide_at : TrainAndTrack → OdometerReading → Target → Option Fraction
-guide_at d r t = if is_guided d t.kind then Some (computed (slopes_of Normal d) t.place (target_speed t) r.speed) else None
+-- the place of a target's guidance curve at the estimated speed, where it has one (SUBSET-026-3 3.13.8.5; own)
+abbrev pub guide_at : TrainAndTrack → Estimate → Target → Option Fraction
+guide_at d e t = if is_guided d t.kind then Some (computed (slopes_of Normal d) t.place (target_speed t) e.speed) else None

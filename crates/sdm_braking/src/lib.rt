@@ -13,7 +13,7 @@ pub mod limits;
 pub mod releases;
 pub mod speeds;
 
-pub use asked::AskedReading;
+pub use asked::AskedEstimate;
 pub use braking::Braking;
 pub use kept::Kept;
 pub use kept_ends::KeptEnd;

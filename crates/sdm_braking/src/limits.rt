@@ -1,9 +1,8 @@
-//! The supervision limits of a target of a journey, at a reading. A target is an EOA, which the service brake supervises on an SBD, or one
+//! The supervision limits of a target of a journey, by an estimate. A target is an EOA, which the service brake supervises on an SBD, or one
 //! of the others, which the emergency brake supervises on an EBD. (SUBSET-026-3 3.13.9.3)
 
 ghost use Rattle.std.specs.Prelude.{◌≡◌, ◌≤◌, Option, Some};
 ghost use Rattle.sdm_num.specs.Fractions.{Fraction};
-ghost use Rattle.sdm_num.specs.Readings.{estimate_of};
 ghost use Rattle.sdm_rules.specs.Limits.{computed, ebd_limits_of, limits_of, sbd_limits_of};
 ghost use Rattle.sdm_rules.specs.declared.data.SlopeKind.TheVariants.{Expected, Safe};
 ghost use Rattle.sdm_rules.specs.Decelerations.{slopes_of};
@@ -13,7 +12,7 @@ ghost use Rattle.sdm_limits.specs.Sides.{place_of, place_where, places_of};
 ghost use Rattle.sdm_braking.specs.Asked.{IsAsked};
 ghost use Rattle.sdm_braking.specs.KeptCurves.{IsCurveOn, IsKeptTarget, guide_at};
 
-use crate::asked::AskedReading;
+use crate::asked::AskedEstimate;
 use crate::braking::Braking;
 use crate::kept_targets::KeptTarget;
 use sdm_curve::Curve;
@@ -23,52 +22,52 @@ use sdm_targets::TargetKind;
 
 impl Braking {
     /// The place of a target's guidance curve at the estimated speed, where it has one. (SUBSET-026-3 3.13.8.5)
-    fn guide(&self, asked: &AskedReading, kept: &KeptTarget) -> Option<Early>
+    fn guide(&self, asked: &AskedEstimate, kept: &KeptTarget) -> Option<Early>
         requires asked { IsAsked self.now asked.now }
         requires kept { IsKeptTarget self.now kept.now }
-        ensures place { place_where result ≡ guide_at self.now asked.now.reading.now kept.now.target }
+        ensures place { place_where result ≡ guide_at self.now asked.now.estimate kept.now.target }
         ensures range { IsGuide result }
     {
-        match (&kept.guide, &asked.guided_v_est) {
-            (Some(curve), Some(v_est)) => Some(curve.place_asked(self.normal(), v_est)),
-            _ => None,
+        match &kept.guide {
+            Some(curve) => Some(curve.place_asked(self.normal(), &asked.guided_v_est)),
+            None => None,
         }
     }
 
     /// The limits on a target's EBD. (SUBSET-026-3 3.13.8.3, 3.13.9.3)
-    fn ebd_limits(&self, asked: &AskedReading, kept: &KeptTarget, guide: Option<Early>) -> Limits
+    fn ebd_limits(&self, asked: &AskedEstimate, kept: &KeptTarget, guide: Option<Early>) -> Limits
         requires asked { IsAsked self.now asked.now }
-        requires no_faster { target_speed kept.now.target ≤ asked.now.reading.now.speed }
+        requires no_faster { target_speed kept.now.target ≤ asked.now.estimate.speed }
         requires ebd { IsCurveOn (slopes_of Safe self.now)
             kept.now.target.place (foot_speed_of kept.now.target) kept.now.brake }
         requires guide { IsGuide guide }
         ensures { places_of result ≡
-            ebd_limits_of computed self.now (estimate_of asked.now.reading.now) kept.now.target (place_where guide) }
+            ebd_limits_of computed self.now asked.now.estimate kept.now.target (place_where guide) }
     {
         let place = kept.brake.place_asked(self.safe(), &asked.v_bec);
-        let v = asked.reading.speed_mm_s();
+        let v = asked.estimate.speed();
         ebd_limits_at(place, guide, self.times(), v, asked.d_bec)
     }
 
     /// The limits on the SBD of an EOA. (SUBSET-026-3 3.13.8.4, 3.13.9.3)
-    fn sbd_limits(&self, asked: &AskedReading, kept: &KeptTarget, guide: Option<Early>) -> Limits
+    fn sbd_limits(&self, asked: &AskedEstimate, kept: &KeptTarget, guide: Option<Early>) -> Limits
         requires asked { IsAsked self.now asked.now }
         requires sbd { IsCurveOn (slopes_of Expected self.now) kept.now.target.place 0 kept.now.brake }
         requires guide { IsGuide guide }
         ensures { places_of result ≡
-            sbd_limits_of computed self.now (estimate_of asked.now.reading.now) kept.now.target (place_where guide) }
+            sbd_limits_of computed self.now asked.now.estimate kept.now.target (place_where guide) }
     {
-        let v = asked.reading.speed_mm_s();
+        let v = asked.estimate.speed();
         sbd_limits(self.expected(), &kept.brake, guide, self.times(), v)
     }
 
     /// The limits of a target that is no faster than the train. (SUBSET-026-3 3.13.9.3; own)
     #[tactic(auto, unfolding(sdm_rules::specs::Limits::limits_of))]
-    pub fn limits(&self, asked: &AskedReading, kept: &KeptTarget) -> Limits
+    pub fn limits(&self, asked: &AskedEstimate, kept: &KeptTarget) -> Limits
         requires asked { IsAsked self.now asked.now }
         requires kept { IsKeptTarget self.now kept.now }
-        requires no_faster { target_speed kept.now.target ≤ asked.now.reading.now.speed }
-        ensures { places_of result ≡ limits_of computed self.now (estimate_of asked.now.reading.now) kept.now.target }
+        requires no_faster { target_speed kept.now.target ≤ asked.now.estimate.speed }
+        ensures { places_of result ≡ limits_of computed self.now asked.now.estimate kept.now.target }
     {
         let guide = self.guide(asked, kept);
         match kept.target.kind {
@@ -80,13 +79,13 @@ impl Braking {
     }
 
     /// The place of a target's EBI, by V_bec and D_bec for this target, which may be faster than the train. (SUBSET-026-3 3.13.9.3.2)
-    fn ebi_place(&self, asked: &AskedReading, kept: &KeptTarget) -> Early
+    fn ebi_place(&self, asked: &AskedEstimate, kept: &KeptTarget) -> Early
         requires asked { IsAsked self.now asked.now }
         requires kept { IsKeptTarget self.now kept.now }
         requires ebd { IsCurveOn (slopes_of Safe self.now)
             kept.now.target.place (foot_speed_of kept.now.target) kept.now.brake }
         ensures { (guide : Option Fraction) → Some (place_of result) ≡
-            (ebd_limits_of computed self.now (estimate_of asked.now.reading.now) kept.now.target guide).ebi }
+            (ebd_limits_of computed self.now asked.now.estimate kept.now.target guide).ebi }
     {
         let reaction = asked.build_up.reaction(kept.speeds.permitted);
         kept.brake
@@ -96,10 +95,10 @@ impl Braking {
 
     /// The EBI of a target, whatever its speed: on it no guidance curve bears, and an EOA has none. (SUBSET-026-3 3.13.9.3.2)
     #[tactic(auto, unfolding(sdm_rules::specs::Limits::limits_of))]
-    pub fn ebi(&self, asked: &AskedReading, kept: &KeptTarget) -> Option<Early>
+    pub fn ebi(&self, asked: &AskedEstimate, kept: &KeptTarget) -> Option<Early>
         requires asked { IsAsked self.now asked.now }
         requires kept { IsKeptTarget self.now kept.now }
-        ensures { place_where result ≡ (limits_of computed self.now (estimate_of asked.now.reading.now) kept.now.target).ebi }
+        ensures { place_where result ≡ (limits_of computed self.now asked.now.estimate kept.now.target).ebi }
     {
         match kept.target.kind {
             TargetKind::Mrsp | TargetKind::Loa | TargetKind::Svl => {

@@ -8,6 +8,12 @@ use crate::places::Place;
 use crate::speeds::Speed;
 use std::marker::Model;
 
+/// The greatest estimated speed, in km/h. (own range)
+const TOP_KMH: u16 = 500;
+
+/// The most by which the true speed may be above the estimated one, in mm/s. (own range)
+const MOST_UNDER_MM_S: u32 = 10_000;
+
 /// An odometer reading, within its ranges: time 0 to 100,000,000 ds; the front ends from −10 km to 110 km with
 /// min ≤ est ≤ max; speed up to 138,888 mm/s; acceleration −300 to 300 cm/s²; under-reading up to 10,000 mm/s.
 /// (SUBSET-026-3 3.6.4, 3.13.2.2; ranges own)
@@ -52,6 +58,24 @@ impl Model for Estimate {
 }
 
 impl Estimate {
+    /// The estimate of these numbers; None exactly where one of them is out of its range.
+    pub fn new(speed: Speed, accel: i16, under: Speed) -> Option<Estimate>
+        ensures { let estimate : EstimateOf = record { speed = speed; accel = accel; under = under } in
+            SomeIff result (IsEstimate estimate) estimate }
+    {
+        if speed > Speed::of_kmh(TOP_KMH) || under > Speed::of_mm_s(MOST_UNDER_MM_S) {
+            return None;
+        }
+        if !is_acceleration(accel) {
+            return None;
+        }
+        Some(Estimate {
+            speed,
+            accel,
+            under,
+        })
+    }
+
     /// The estimated speed.
     pub fn speed(self) -> Speed
         ensures value { result ≡ self.speed }
@@ -104,7 +128,7 @@ impl Reading {
         ensures { let reading = reading_of time est_mm min_mm max_mm speed_mm_s accel under_mm_s in
             SomeIff result (IsReading reading) reading }
     {
-        if time > 100_000_000 || speed_mm_s > 138_888 || under_mm_s > 10_000 {
+        if time > 100_000_000 || speed_mm_s > 138_888 || under_mm_s > MOST_UNDER_MM_S {
             return None;
         }
         if !are_front_ends(min_mm, est_mm, max_mm) {

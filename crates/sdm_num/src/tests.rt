@@ -1,6 +1,6 @@
 //! Each public call once, at its ends where it has some; what the clauses say of all values is proved.
 
-use crate::{Early, Late, NoMemory, Place, Reading, Speed};
+use crate::{Early, Estimate, Late, NoMemory, Place, Reading, Speed};
 
 #[test]
 fn a_millimetre_is_540_million_grains_and_a_cell_ten_of_them(rt: HostRuntime) {
@@ -101,6 +101,26 @@ fn one_past_a_range_is_no_reading(rt: HostRuntime) {
     assert!(rt; Reading::new(0, 0, 0, 0, 0, -301, 0).is_none());
     assert!(rt; Reading::new(0, 0, 0, 0, 0, 301, 0).is_none());
     assert!(rt; Reading::new(0, 0, 0, 0, 0, 0, 10_001).is_none());
+}
+
+#[test]
+fn an_estimate_keeps_its_numbers(rt: HostRuntime) {
+    let Some(estimate) = Estimate::new(Speed::of_kmh(500), 300, Speed::of_mm_s(10_000)) else {
+        assert!(rt; false);
+        return;
+    };
+    assert_eq!(rt; estimate.speed(), Speed::of_kmh(500));
+    assert_eq!(rt; estimate.accel(), 300);
+    assert_eq!(rt; estimate.under(), Speed::of_mm_s(10_000));
+}
+
+#[test]
+fn one_past_a_range_is_no_estimate(rt: HostRuntime) {
+    let none = Speed::new(0);
+    assert!(rt; Estimate::new(Speed::new(7_500_001), 0, none).is_none());
+    assert!(rt; Estimate::new(none, -301, none).is_none());
+    assert!(rt; Estimate::new(none, 301, none).is_none());
+    assert!(rt; Estimate::new(none, 0, Speed::new(540_001)).is_none());
 }
 
 #[test]

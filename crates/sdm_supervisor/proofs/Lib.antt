@@ -1,7 +1,6 @@
-mod VerdictLaws
 mod LimitOrder
-mod SilentLaw
-mod FindingLaws
+mod PassedLaws
+mod NearestLaws
 mod FindLaws
 mod CycleLaws
 mod CurveLaws

@@ -6,7 +6,7 @@ use Rattle.std.specs.Option.{option_map_or}
 use Rattle.std.proofs.lemmas.Int.{ints}
 use Rattle.sdm_num.specs.Units.{distance_at}
 use Rattle.sdm_num.specs.Fractions.{Fraction, less, lesser, whole}
-use Rattle.sdm_num.specs.Readings.{OdometerReading, estimate_of}
+use Rattle.sdm_num.specs.Readings.{Estimate}
 use Rattle.sdm_num.proofs.Comparisons.{not_lt_is, not_lt_of}
 use Rattle.sdm_num.proofs.Order.{lesser_cases}
 use Rattle.sdm_rules.specs.declared.data.SlopeKind.TheVariants.{Safe, Expected, Normal}
@@ -69,31 +69,31 @@ module _ (front z : ℤ) (times : Times) (v : ℕ) (ebi : Option Fraction) (of_e
 
 -- ---- the limits of a target
 
-module _ (d : TrainAndTrack) (r : OdometerReading) (t : Target) (front : ℤ) where
-  ebd : (guide : Option ℤ) → is_past 0 front (ebd_limits_of computed d (estimate_of r) t (option_map whole guide)).indication ≡ false → IsPastNone front (ebd_limits_of computed d (estimate_of r) t (option_map whole guide))
+module _ (d : TrainAndTrack) (e : Estimate) (t : Target) (front : ℤ) where
+  ebd : (guide : Option ℤ) → is_past 0 front (ebd_limits_of computed d e t (option_map whole guide)).indication ≡ false → IsPastNone front (ebd_limits_of computed d e t (option_map whole guide))
   ebd guide =
-      let bs = distance_at r.speed (reaction_times d).bs in
-      let ebi = stepped (slopes_of Safe d) t.place (foot_speed_of t) (v_bec_for d (estimate_of r) t) +ℤ neg_ℤ (pos (d_bec_for d (estimate_of r) t * 1)) in
-      of_indication front (ebi +ℤ neg_ℤ (pos (bs * 1))) (reaction_times d) r.speed (Some (whole ebi)) (of_less front (whole ebi) bs) guide
+      let bs = distance_at e.speed (reaction_times d).bs in
+      let ebi = stepped (slopes_of Safe d) t.place (foot_speed_of t) (v_bec_for d e t) +ℤ neg_ℤ (pos (d_bec_for d e t * 1)) in
+      of_indication front (ebi +ℤ neg_ℤ (pos (bs * 1))) (reaction_times d) e.speed (Some (whole ebi)) (of_less front (whole ebi) bs) guide
 
-  sbd : (guide : Option ℤ) → is_past 0 front (sbd_limits_of computed d (estimate_of r) t (option_map whole guide)).indication ≡ false → IsPastNone front (sbd_limits_of computed d (estimate_of r) t (option_map whole guide))
+  sbd : (guide : Option ℤ) → is_past 0 front (sbd_limits_of computed d e t (option_map whole guide)).indication ≡ false → IsPastNone front (sbd_limits_of computed d e t (option_map whole guide))
   sbd guide =
-      let sbi = stepped (slopes_of Expected d) t.place 0 r.speed +ℤ neg_ℤ (pos (distance_at r.speed (reaction_times d).bs * 1)) in
-      of_indication front sbi (reaction_times d) r.speed None (λ _. refl) guide
+      let sbi = stepped (slopes_of Expected d) t.place 0 e.speed +ℤ neg_ℤ (pos (distance_at e.speed (reaction_times d).bs * 1)) in
+      of_indication front sbi (reaction_times d) e.speed None (λ _. refl) guide
 
   -- a guide is at a whole place, where there is one
-  guided : (P : Option Fraction → Type 0) → ((guide : Option ℤ) → P (option_map whole guide)) → P (guidance_place computed d (estimate_of r) t)
+  guided : (P : Option Fraction → Type 0) → ((guide : Option ℤ) → P (option_map whole guide)) → P (guidance_place computed d e t)
   guided P h =
-      let place = stepped (slopes_of Normal d) t.place (target_speed t) r.speed in
+      let place = stepped (slopes_of Normal d) t.place (target_speed t) e.speed in
       elim d.national.guidance as (λ b. P (if b then Some (whole place) else None)) [ true ↦ h (Some place) | false ↦ h None ]
 
-  of_kind : (kind : TargetKind) → is_past 0 front (limits_of_kind computed d (estimate_of r) t kind).indication ≡ false → IsPastNone front (limits_of_kind computed d (estimate_of r) t kind)
-  of_kind Mrsp = guided (λ g. is_past 0 front (ebd_limits_of computed d (estimate_of r) t g).indication ≡ false → IsPastNone front (ebd_limits_of computed d (estimate_of r) t g)) ebd
-  of_kind Loa = guided (λ g. is_past 0 front (ebd_limits_of computed d (estimate_of r) t g).indication ≡ false → IsPastNone front (ebd_limits_of computed d (estimate_of r) t g)) ebd
-  of_kind Eoa = guided (λ g. is_past 0 front (sbd_limits_of computed d (estimate_of r) t g).indication ≡ false → IsPastNone front (sbd_limits_of computed d (estimate_of r) t g)) sbd
+  of_kind : (kind : TargetKind) → is_past 0 front (limits_of_kind computed d e t kind).indication ≡ false → IsPastNone front (limits_of_kind computed d e t kind)
+  of_kind Mrsp = guided (λ g. is_past 0 front (ebd_limits_of computed d e t g).indication ≡ false → IsPastNone front (ebd_limits_of computed d e t g)) ebd
+  of_kind Loa = guided (λ g. is_past 0 front (ebd_limits_of computed d e t g).indication ≡ false → IsPastNone front (ebd_limits_of computed d e t g)) ebd
+  of_kind Eoa = guided (λ g. is_past 0 front (sbd_limits_of computed d e t g).indication ≡ false → IsPastNone front (sbd_limits_of computed d e t g)) sbd
   of_kind Svl = ebd None
 
   -- up to the indication limit no limit of a target is passed
-  pub past_none : is_past 0 front (limits_of computed d (estimate_of r) t).indication ≡ false → IsPastNone front (limits_of computed d (estimate_of r) t)
+  pub past_none : is_past 0 front (limits_of computed d e t).indication ≡ false → IsPastNone front (limits_of computed d e t)
   unfolding limits_of
   past_none = of_kind t.kind

@@ -1,7 +1,15 @@
 //! What a reading is judged by, once everything is found: the triggers, the type of speed and distance monitoring, and the row.
 
-ghost use Rattle.std.specs.Prelude.{◌≡◌, ◌&&◌, ◌||◌, not};
-ghost use Rattle.sdm_supervisor.specs.Findings.{ceiling_found, is_above_release, row_found, state_found, triggers_found, AreFindingsInRange};
+ghost use Rattle.std.specs.Prelude.{◌≡◌, ◌≤◌, ◌+◌, false, IfSome, nat_lt};
+ghost use Rattle.std.specs.Option.{option_map_or};
+ghost use Rattle.sdm_num.specs.Readings.{OdometerReading, estimate_of};
+ghost use Rattle.sdm_num.specs.Units.{notches};
+ghost use Rattle.sdm_rules.specs.Limits.{computed, limits_of};
+ghost use Rattle.sdm_rules.specs.Margins.{ebi_margin, sbi_margin, warning_margin};
+ghost use Rattle.sdm_rules.specs.Ranges.{top_kmh};
+ghost use Rattle.sdm_rules.specs.Supervision.{Supervision, commands_in, row_of, situation_of, state_in};
+ghost use Rattle.sdm_rules.specs.Triggers.{no_margin, triggers_of};
+ghost use Rattle.sdm_supervisor.specs.Findings.{AreFindingsInRange, IsFoundAt};
 
 use crate::verdicts::Verdict;
 use sdm_braking::SpeedLimits;
@@ -26,75 +34,72 @@ pub struct Findings {
     pub verdict: Verdict,
 }
 
+/// What a ceiling in km/h triggers at a speed. (SUBSET-026-3 3.13.10.3)
+fn above_ceiling(speed: Speed, kmh: u16) -> Triggers
+    requires { kmh ≤ top_kmh }
+    ensures over { result.over ≡ nat_lt (notches kmh + no_margin kmh) speed }
+    ensures warn { result.warn ≡ nat_lt (notches kmh + warning_margin kmh) speed }
+    ensures serv { result.serv ≡ nat_lt (notches kmh + sbi_margin kmh) speed }
+    ensures emer { result.emer ≡ nat_lt (notches kmh + ebi_margin kmh) speed }
+{
+    // No margin makes the ceiling lower.
+    if speed <= Speed::of_kmh(kmh) {
+        return Triggers {
+            over: false,
+            warn: false,
+            serv: false,
+            emer: false,
+        };
+    }
+    let ceiling = SpeedLimits::of_kmh(kmh);
+    Triggers {
+        over: true,
+        warn: ceiling.warning < speed,
+        serv: ceiling.sbi < speed,
+        emer: ceiling.ebi < speed,
+    }
+}
+
+/// Whether a speed is, in release speed monitoring, above the release speed in km/h. (SUBSET-026-3 3.13.10.5)
+fn is_above_release(speed: Speed, release_kmh: Option<u16>) -> bool
+    requires { IfSome release_kmh (λ kmh. kmh ≤ top_kmh) }
+    ensures { result ≡ option_map_or (λ kmh. nat_lt (notches kmh) speed) release_kmh false }
+{
+    match release_kmh {
+        Some(kmh) => Speed::of_kmh(kmh) < speed,
+        None => false,
+    }
+}
+
 impl Findings {
-    /// Whether the train is, in release speed monitoring, above the release speed. (SUBSET-026-3 3.13.10.5)
-    fn is_above_release(&self) -> bool
-        requires { AreFindingsInRange self.now }
-        ensures { result ≡ is_above_release self.now }
-    {
-        match self.release_kmh {
-            Some(kmh) => Speed::of_kmh(kmh) < self.speed,
-            None => false,
-        }
-    }
-
-    /// Whether an emergency is triggered, where `ebi` and `serv` say whether an EBI or an SBI is passed. (SUBSET-026-3 3.13.10; own
-    /// table)
-    fn is_emergency(&self, ebi: bool, serv: bool) -> bool
-        requires { AreFindingsInRange self.now }
-        ensures { result ≡ (ebi || self.now.past_end || is_above_release self.now || (serv && not self.now.in_use)) }
-    {
-        ebi || self.past_end || self.is_above_release() || (serv && !self.in_use)
-    }
-
-    /// What the ceiling triggers. (SUBSET-026-3 3.13.10.3)
-    fn above_ceiling(&self) -> Triggers
-        requires { AreFindingsInRange self.now }
-        ensures { result ≡ ceiling_found self.now }
-    {
-        // No margin makes the ceiling lower.
-        if self.speed <= Speed::of_kmh(self.ceiling_kmh) {
-            return Triggers {
-                over: false,
-                warn: false,
-                serv: false,
-                emer: false,
-            };
-        }
-        let ceiling = SpeedLimits::of_kmh(self.ceiling_kmh);
-        Triggers {
-            over: true,
-            warn: ceiling.warning < self.speed,
-            serv: ceiling.sbi < self.speed,
-            emer: ceiling.ebi < self.speed,
-        }
-    }
-
-    /// The triggers. (SUBSET-026-3 3.13.10; own tables)
-    #[tactic(auto, unfolding(crate::specs::Findings::triggers_found))]
+    /// The triggers: an emergency is triggered where an EBI is passed, past the EOA, above the release speed, and where an SBI is passed
+    /// with no service brake in use. (SUBSET-026-3 3.13.10; own tables)
     pub fn triggers(&self) -> Triggers
         requires { AreFindingsInRange self.now }
-        ensures { result ≡ triggers_found self.now }
+        ensures { (s : Supervision) (r : OdometerReading) → IsFoundAt s r self.now →
+            result ≡ triggers_of (limits_of computed s.train_and_track (estimate_of r)) 0 (situation_of s r) }
     {
-        let above = self.above_ceiling();
-        let serv = above.serv || self.verdict.serv;
-        let ebi = above.emer || self.verdict.emer;
+        let ceiling = above_ceiling(self.speed, self.ceiling_kmh);
+        let targets = &self.verdict.passed;
+        let above_release = is_above_release(self.speed, self.release_kmh);
+        let serv = ceiling.serv | targets.serv;
+        let ebi = ceiling.emer | targets.emer;
         Triggers {
-            over: above.over || self.verdict.over || self.is_above_release(),
-            warn: above.warn || self.verdict.warn,
+            over: ceiling.over | targets.over | above_release,
+            warn: ceiling.warn | targets.warn,
             serv,
-            emer: self.is_emergency(ebi, serv),
+            emer: ebi | self.past_end | above_release | (serv & !self.in_use),
         }
     }
 
     /// The type of speed and distance monitoring; release speed monitoring is decided first. (SUBSET-026-3 3.13.10.6; own)
-    #[tactic(auto, unfolding(crate::specs::Findings::state_found))]
     pub fn state(&self) -> State
-        ensures { result ≡ state_found self.now }
+        ensures { (s : Supervision) (r : OdometerReading) → IsFoundAt s r self.now →
+            result ≡ state_in s.train_and_track r (situation_of s r) }
     {
         if self.release_kmh.is_some() {
             State::R
-        } else if self.verdict.indicated {
+        } else if self.verdict.passed.indicated {
             State::T
         } else {
             State::C
@@ -102,15 +107,15 @@ impl Findings {
     }
 
     /// The row of a time in ds, with the commands after it. (own)
-    #[tactic(auto, unfolding(crate::specs::Findings::row_found))]
     pub fn row(&self, time: u32, held: Held) -> Row
-        ensures { result ≡ row_found self.now time held }
+        ensures { (s : Supervision) (r : OdometerReading) → IsFoundAt s r self.now → time ≡ r.time →
+            held ≡ commands_in s.train_and_track s.commands r (situation_of s r) → result ≡ row_of s r }
     {
         let mut row = Row {
             time,
             state: self.state(),
             held,
-            covered: self.release_kmh.is_none() && self.verdict.covered,
+            covered: self.release_kmh.is_none() & self.verdict.passed.covered,
             ceiling: self.ceiling_kmh,
             ebi: None,
             sbi: None,

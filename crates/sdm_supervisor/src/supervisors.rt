@@ -18,7 +18,7 @@ ghost use Rattle.sdm_braking.specs.Braking.{IsRefusal};
 ghost use Rattle.sdm_supervisor.specs.Findings.{IsFoundAt, AreFindingsInRange};
 
 use crate::findings::Findings;
-use crate::verdicts::Verdict;
+use crate::verdicts::{Fronts, Verdict};
 use sdm_braking::{Braking, Kept, release_kmh_at};
 use sdm_curve::Curve;
 use sdm_national::National;
@@ -201,7 +201,11 @@ impl Supervisor {
         let in_release_monitoring = release_kmh.is_some();
         let end = self.braking.end_of(&self.authority);
         let falls = self.kept.falls.ahead(cell, end);
-        let asked = self.braking.asked(reading);
+        let asked = self.braking.asked(reading.estimate());
+        let fronts = Fronts {
+            est: reading.est_mm(),
+            max: front,
+        };
         Findings {
             speed: reading.speed_mm_s(),
             ceiling_kmh: self.profile.lowest(reading.min_mm().cell(), cell),
@@ -211,6 +215,7 @@ impl Supervisor {
             verdict: Verdict::of(
                 &self.braking,
                 &asked,
+                &fronts,
                 falls,
                 &self.kept.end,
                 in_release_monitoring,

@@ -12,6 +12,7 @@ mod greatest;
 mod journeys;
 mod modelled;
 mod records;
+mod whole_speeds;
 
 use data::{base, set_line};
 use greatest::{expect, greatest, read, restrict};

@@ -1,27 +1,34 @@
 //! What the targets of a reading say together. Each target is looked at once, and what it says is added to what the others said.
 
-ghost use Rattle.std.specs.Prelude.{◌≡◌, ◌≤◌, ◌&&◌, ◌++◌, All, List, [], map, true, nat_lt, not};
+ghost use Rattle.std.specs.Prelude.{◌≡◌, ◌≤◌, ◌++◌, ◌∷◌, ℕ, ℤ, All, List, [], map, not, option_map, true};
 ghost use Rattle.std.specs.Int.{int_min};
 ghost use Rattle.std.specs.Option.{option_map_or};
-ghost use Rattle.sdm_num.specs.Readings.{OdometerReading, estimate_of};
-ghost use Rattle.sdm_rules.specs.Limits.{computed, limits_of};
-ghost use Rattle.sdm_rules.specs.Supervision.{is_covered_for};
-ghost use Rattle.sdm_rules.specs.Margins.{ebi_margin};
+ghost use Rattle.sdm_num.specs.Readings.{Estimate};
 ghost use Rattle.sdm_rules.specs.Data.{TrainAndTrack};
 ghost use Rattle.sdm_rules.specs.declared.targets.Target.{Target};
+ghost use Rattle.sdm_rules.specs.Limits.{SupervisionLimits, computed, limits_of};
+ghost use Rattle.sdm_rules.specs.Margins.{ebi_margin};
+ghost use Rattle.sdm_rules.specs.Supervision.{is_covered_for};
 ghost use Rattle.sdm_rules.specs.Targets.{target_speed, with_margin};
-ghost use Rattle.sdm_rules.specs.Triggers.{is_past};
+ghost use Rattle.sdm_rules.specs.Triggers.{front_for, is_past, passes, passes_ebi};
 ghost use Rattle.sdm_limits.specs.Sides.{place_of, place_where, places_of};
 ghost use Rattle.sdm_targets.specs.Lists.{IsTarget};
 ghost use Rattle.sdm_braking.specs.Asked.{IsAsked};
 ghost use Rattle.sdm_braking.specs.KeptCurves.{AreKept, AreSpeedsOf, IsKeptTarget, targets_in};
 ghost use Rattle.sdm_braking.specs.KeptFalls.{IsKeptFall, target_of};
-ghost use Rattle.sdm_supervisor.specs.Verdicts.{both, front_of, nearer, nearer_limits, nearer_where, nearest_at, passes_ebi_at, verdict_at, verdict_of};
+ghost use Rattle.sdm_supervisor.specs.Verdicts.{AreNearest, ArePassed, IsVerdictOf, nearer};
 
-use sdm_braking::{AskedReading, Braking, KeptEnd, KeptFall, KeptTarget};
+use sdm_braking::{AskedEstimate, Braking, KeptEnd, KeptFall, KeptTarget};
 use sdm_limits::Limits;
-use sdm_num::{Early, Place, Reading, Speed};
+use sdm_num::{Early, Place, Speed};
 use sdm_targets::{Target, TargetKind};
+
+/// The front ends that targets compare. (SUBSET-026-3 3.13.10.4)
+#[derive(Clone, Copy, Debug, PartialEq, Eq)]
+pub struct Fronts {
+    pub est: Place,
+    pub max: Place,
+}
 
 /// The nearest limit of each name over targets whose speed is at most the train's; no EBI where they are EOAs alone. (own)
 #[derive(Clone, Copy, Debug, PartialEq, Eq)]
@@ -33,17 +40,22 @@ pub struct Nearest {
     pub indication: Place,
 }
 
-/// What targets say at a reading: whether the train is above the speed of one of them and past its permitted, warning, service brake
-/// intervention, emergency brake intervention or indication limit; whether each of them is covered; and the nearest limits.
-/// (SUBSET-026-3 3.13.10; own)
+/// Whether the train is above the speed of a target and past its permitted, warning, service brake intervention, emergency brake
+/// intervention or indication limit; and whether each target is covered. (SUBSET-026-3 3.13.10; own)
 #[derive(Clone, Copy, Debug, PartialEq, Eq)]
-pub struct Verdict {
+pub struct Passed {
     pub over: bool,
     pub warn: bool,
     pub serv: bool,
     pub emer: bool,
     pub indicated: bool,
     pub covered: bool,
+}
+
+/// What targets say at a reading: which of their limits are passed, and the nearest ones. (SUBSET-026-3 3.13.10; own)
+#[derive(Clone, Copy, Debug, PartialEq, Eq)]
+pub struct Verdict {
+    pub passed: Passed,
     pub nearest: Option<Nearest>,
 }
 
@@ -66,22 +78,13 @@ fn nearer(a: Option<Place>, b: Option<Place>) -> Option<Place>
 }
 
 impl Nearest {
-    // The nearest limits of two lists of targets.
-    fn and(self, other: Nearest) -> Nearest
-        ensures { result ≡ nearer_limits self other }
-    {
-        Nearest {
-            ebi: nearer(self.ebi, other.ebi),
-            sbi: lesser(self.sbi, other.sbi),
-            warning: lesser(self.warning, other.warning),
-            permitted: lesser(self.permitted, other.permitted),
-            indication: lesser(self.indication, other.indication),
-        }
-    }
-
-    // The limits of one target.
+    /// The limits of one target.
     fn of(limits: &Limits) -> Nearest
-        ensures { result ≡ nearest_at (places_of limits.now) }
+        ensures ebi { result.ebi ≡ option_map (λ ebi. ebi.at) limits.now.ebi }
+        ensures sbi { result.sbi ≡ limits.now.sbi.at }
+        ensures warning { result.warning ≡ limits.now.warning.at }
+        ensures permitted { result.permitted ≡ limits.now.permitted.at }
+        ensures indication { result.indication ≡ limits.now.indication.at }
     {
         Nearest {
             ebi: limits.ebi.map(|ebi| ebi.at()),
@@ -91,44 +94,43 @@ impl Nearest {
             indication: limits.indication.at(),
         }
     }
-}
 
-/// The nearest limits of two lists of targets, where any of their limits count.
-fn nearer_where(a: Option<Nearest>, b: Option<Nearest>) -> Option<Nearest>
-    ensures { result ≡ nearer_where a b }
-{
-    match (a, b) {
-        (None, _) => b,
-        (Some(x), None) => Some(x),
-        (Some(x), Some(y)) => Some(x.and(y)),
-    }
-}
-
-impl Verdict {
-    // What no target says: nothing is passed.
-    #[tactic(auto, unfolding(crate::specs::Verdicts::verdict_of))]
-    fn of_none() -> Verdict
-        ensures { (d : TrainAndTrack) (r : OdometerReading) → result ≡ verdict_of d r [] }
+    /// The nearer of these and the limits of one more target.
+    fn with(self, limits: &Limits) -> Nearest
+        ensures ebi { result.ebi ≡ nearer self.ebi (option_map (λ ebi. ebi.at) limits.now.ebi) }
+        ensures sbi { result.sbi ≡ int_min self.sbi limits.now.sbi.at }
+        ensures warning { result.warning ≡ int_min self.warning limits.now.warning.at }
+        ensures permitted { result.permitted ≡ int_min self.permitted limits.now.permitted.at }
+        ensures indication { result.indication ≡ int_min self.indication limits.now.indication.at }
     {
-        Verdict {
-            over: false,
-            warn: false,
-            serv: false,
-            emer: false,
-            indicated: false,
-            covered: true,
-            nearest: None,
+        Nearest {
+            ebi: nearer(self.ebi, limits.ebi.map(|ebi| ebi.at())),
+            sbi: lesser(self.sbi, limits.sbi.at()),
+            warning: lesser(self.warning, limits.warning.at()),
+            permitted: lesser(self.permitted, limits.permitted.at()),
+            indication: lesser(self.indication, limits.indication.at()),
         }
     }
 }
 
+/// The nearest limits with those of one more target, which is no faster than the train. (own)
+fn with_limits(nearest: Option<Nearest>, limits: &Limits) -> Option<Nearest>
+    ensures { (v : ℕ) (all : Target → SupervisionLimits) (ts : List Target) (t : Target) → target_speed t ≤ v →
+        places_of limits.now ≡ all t → AreNearest v all ts nearest → AreNearest v all (ts ++ t ∷ []) result }
+{
+    match nearest {
+        Some(nearest) => Some(nearest.with(limits)),
+        None => Some(Nearest::of(limits)),
+    }
+}
+
 /// The front end that a target compares: the estimated one for the EOA, else the max safe one. (SUBSET-026-3 3.13.10.4)
-fn front_of(reading: &Reading, kind: TargetKind) -> Place
-    ensures { result ≡ front_of reading.now kind }
+fn front_for(fronts: &Fronts, kind: TargetKind) -> Place
+    ensures { result ≡ front_for fronts.now.est fronts.now.max kind }
 {
     match kind {
-        TargetKind::Eoa => reading.est_mm(),
-        TargetKind::Svl | TargetKind::Mrsp | TargetKind::Loa => reading.max_mm(),
+        TargetKind::Eoa => fronts.est,
+        TargetKind::Svl | TargetKind::Mrsp | TargetKind::Loa => fronts.max,
     }
 }
 
@@ -139,109 +141,171 @@ fn is_past(front: Place, limit: Early) -> bool
     limit.is_passed_by(front)
 }
 
-/// Whether a reading passes a limit of a target: the speed is above the one given, and the target's front end is past the limit.
-fn passes(reading: &Reading, target: &Target, above: Speed, limit: Early) -> bool
-    ensures { result ≡
-        (nat_lt above reading.now.speed && is_past 0 (front_of reading.now target.now.kind) (place_of limit)) }
+/// Whether a limit of a target is passed: the speed is above the target's with a margin, and its front end is past the limit.
+/// (SUBSET-026-3 3.13.10.4; own)
+fn passes(
+    asked: &AskedEstimate,
+    fronts: &Fronts,
+    target: &Target,
+    above: Speed,
+    limit: Early,
+) -> bool
+    ensures { (margin : ℕ → ℕ) → above ≡ with_margin margin target.now →
+        result ≡ passes asked.now.estimate.speed fronts.now.est fronts.now.max 0 margin target.now (place_of limit) }
 {
-    above < reading.speed_mm_s() && is_past(front_of(reading, target.kind), limit)
+    above < asked.estimate.speed() && is_past(front_for(fronts, target.kind), limit)
 }
 
-/// Whether a reading passes the EBI of a target, where it has one: the speed is above the one given, and the front end past the EBI.
-fn passes_ebi(reading: &Reading, target: &Target, above: Speed, ebi: Option<Early>) -> bool
+/// Whether the EBI of a target is passed, where it has one. (SUBSET-026-3 3.13.10.4; own)
+fn passes_ebi(
+    asked: &AskedEstimate,
+    fronts: &Fronts,
+    target: &Target,
+    above: Speed,
+    ebi: Option<Early>,
+) -> bool
     requires { above ≡ with_margin ebi_margin target.now }
-    ensures { result ≡ passes_ebi_at reading.now target.now (place_where ebi) }
+    ensures { result ≡
+        passes_ebi asked.now.estimate.speed fronts.now.est fronts.now.max 0 target.now (place_where ebi) }
 {
     match ebi {
-        Some(ebi) => passes(reading, target, above, ebi),
+        Some(ebi) => passes(asked, fronts, target, above, ebi),
         None => false,
     }
 }
 
 /// Whether the max safe front end is at or before an EBI, where there is one.
-fn is_before(reading: &Reading, ebi: Option<Early>) -> bool
-    ensures { result ≡ option_map_or (λ e. not (is_past 0 reading.now.max e)) (place_where ebi) true }
+fn is_before(max: Place, ebi: Option<Early>) -> bool
+    ensures { result ≡ option_map_or (λ e. not (is_past 0 max e)) (place_where ebi) true }
 {
     match ebi {
-        Some(ebi) => !is_past(reading.max_mm(), ebi),
+        Some(ebi) => !is_past(max, ebi),
         None => true,
     }
 }
 
 /// Whether a target above the train's speed is covered: it is met by speed, as most such targets are, or the max safe front end is at or
 /// before its EBI. (own)
-fn is_covered_above(braking: &Braking, asked: &AskedReading, kept: &KeptTarget) -> bool
+fn is_covered_above(
+    braking: &Braking,
+    asked: &AskedEstimate,
+    max: Place,
+    kept: &KeptTarget,
+) -> bool
     requires asked { IsAsked braking.now asked.now }
     requires kept { IsKeptTarget braking.now kept.now }
-    ensures { result ≡ is_covered_for braking.now asked.now.reading.now.max (estimate_of asked.now.reading.now) kept.now.target }
+    ensures { result ≡ is_covered_for braking.now max asked.now.estimate kept.now.target }
 {
-    asked.is_met_by_speed(kept) || is_before(asked.reading, braking.ebi(asked, kept))
+    asked.is_met_by_speed(kept) || is_before(max, braking.ebi(asked, kept))
 }
 
 /// Whether a target is covered: the max safe front end is at or before its EBI, if it has one, or it is met by speed. (own)
-fn is_covered_for(asked: &AskedReading, kept: &KeptTarget, ebi: Option<Early>) -> bool
+fn is_covered_for(
+    asked: &AskedEstimate,
+    max: Place,
+    kept: &KeptTarget,
+    ebi: Option<Early>,
+) -> bool
     requires target { IsTarget kept.now.target }
     requires speeds { AreSpeedsOf kept.now.target kept.now.speeds }
     ensures { (d : TrainAndTrack) → IsAsked d asked.now →
-        place_where ebi ≡ (limits_of computed d (estimate_of asked.now.reading.now) kept.now.target).ebi →
-        result ≡ is_covered_for d asked.now.reading.now.max (estimate_of asked.now.reading.now) kept.now.target }
+        place_where ebi ≡ (limits_of computed d asked.now.estimate kept.now.target).ebi →
+        result ≡ is_covered_for d max asked.now.estimate kept.now.target }
 {
-    is_before(asked.reading, ebi) || asked.is_met_by_speed(kept)
+    is_before(max, ebi) || asked.is_met_by_speed(kept)
+}
+
+impl Passed {
+    /// Adds what a target says that is no faster than the train. (SUBSET-026-3 3.13.10; own)
+    fn add(
+        &mut self,
+        asked: &AskedEstimate,
+        fronts: &Fronts,
+        kept: &KeptTarget,
+        limits: &Limits,
+    )
+        requires target { IsTarget kept.now.target }
+        requires speeds { AreSpeedsOf kept.now.target kept.now.speeds }
+        ensures { (d : TrainAndTrack) (ts : List Target) → IsAsked d asked.now →
+            places_of limits.now ≡ limits_of computed d asked.now.estimate kept.now.target →
+            ArePassed d asked.now.estimate fronts.now.est fronts.now.max ts self.old →
+            ArePassed d asked.now.estimate fronts.now.est fronts.now.max (ts ++ kept.now.target ∷ []) self.new }
+    {
+        let target = &kept.target;
+        let speeds = &kept.speeds;
+        self.over |= passes(asked, fronts, target, speeds.permitted, limits.permitted);
+        self.warn |= passes(asked, fronts, target, speeds.warning, limits.warning);
+        self.serv |= passes(asked, fronts, target, speeds.sbi, limits.sbi);
+        self.emer |= passes_ebi(asked, fronts, target, speeds.ebi, limits.ebi);
+        self.indicated |= passes(asked, fronts, target, speeds.permitted, limits.indication);
+        self.covered &= is_covered_for(asked, fronts.max, kept, limits.ebi);
+    }
 }
 
 impl Verdict {
-    /// Adds what a target says that is no faster than the train, but for where its limits lie. (SUBSET-026-3 3.13.10; own)
-    #[tactic(auto, unfolding(crate::specs::Verdicts::verdict_at))]
-    fn add_passed(&mut self, asked: &AskedReading, kept: &KeptTarget, limits: &Limits)
-        requires target { IsTarget kept.now.target }
-        requires speeds { AreSpeedsOf kept.now.target kept.now.speeds }
-        ensures { (d : TrainAndTrack) → IsAsked d asked.now →
-            places_of limits.now ≡ limits_of computed d (estimate_of asked.now.reading.now) kept.now.target →
-            self.new ≡ record (both self.old (verdict_at d asked.now.reading.now
-            (limits_of computed d (estimate_of asked.now.reading.now) kept.now.target) kept.now.target)) { nearest = self.old.nearest } }
+    /// What no target says: nothing is passed.
+    fn of_none() -> Verdict
+        ensures { (d : TrainAndTrack) (e : Estimate) (est max : ℤ) → IsVerdictOf d e est max [] result }
     {
-        let reading = asked.reading;
-        let target = &kept.target;
-        let speeds = &kept.speeds;
-        self.over |= passes(reading, target, speeds.permitted, limits.permitted);
-        self.warn |= passes(reading, target, speeds.warning, limits.warning);
-        self.serv |= passes(reading, target, speeds.sbi, limits.sbi);
-        self.emer |= passes_ebi(reading, target, speeds.ebi, limits.ebi);
-        self.indicated |= passes(reading, target, speeds.permitted, limits.indication);
-        self.covered &= is_covered_for(asked, kept, limits.ebi);
+        Verdict {
+            passed: Passed {
+                over: false,
+                warn: false,
+                serv: false,
+                emer: false,
+                indicated: false,
+                covered: true,
+            },
+            nearest: None,
+        }
     }
 
     /// Adds what a target says. (SUBSET-026-3 3.13.10; own)
-    fn add(&mut self, braking: &Braking, asked: &AskedReading, kept: &KeptTarget)
+    fn add(
+        &mut self,
+        braking: &Braking,
+        asked: &AskedEstimate,
+        fronts: &Fronts,
+        kept: &KeptTarget,
+    )
         requires asked { IsAsked braking.now asked.now }
         requires kept { IsKeptTarget braking.now kept.now }
-        ensures { self.new ≡ both self.old (verdict_at braking.now asked.now.reading.now
-            (limits_of computed braking.now (estimate_of asked.now.reading.now) kept.now.target) kept.now.target) }
+        ensures { (ts : List Target) →
+            IsVerdictOf braking.now asked.now.estimate fronts.now.est fronts.now.max ts self.old →
+            IsVerdictOf braking.now asked.now.estimate fronts.now.est fronts.now.max (ts ++ kept.now.target ∷ []) self.new }
     {
         // A target above the train's speed is not passed, and none of its limits counts.
-        if asked.reading.speed_mm_s() < kept.speeds.permitted {
-            self.covered = self.covered && is_covered_above(braking, asked, kept);
+        if asked.estimate.speed() < kept.speeds.permitted {
+            self.passed.covered =
+                self.passed.covered && is_covered_above(braking, asked, fronts.max, kept);
             return;
         }
         let limits = braking.limits(asked, kept);
-        self.nearest = nearer_where(self.nearest, Some(Nearest::of(&limits)));
-        let front = front_of(asked.reading, kept.target.kind);
+        self.nearest = with_limits(self.nearest, &limits);
+        let front = front_for(fronts, kept.target.kind);
         // No limit lies before the indication limit: up to there none is passed.
         if !is_past(front, limits.indication) {
             return;
         }
-        self.add_passed(asked, kept, &limits);
+        self.passed.add(asked, fronts, kept, &limits);
     }
 
     /// Adds what falls say, where nothing was said before. (SUBSET-026-3 3.13.10; own)
-    fn add_falls(&mut self, braking: &Braking, asked: &AskedReading, falls: &[KeptFall])
+    fn add_falls(
+        &mut self,
+        braking: &Braking,
+        asked: &AskedEstimate,
+        fronts: &Fronts,
+        falls: &[KeptFall],
+    )
         requires asked { IsAsked braking.now asked.now }
         requires falls { All (IsKeptFall braking.now) falls.now }
-        requires none { self.old ≡ verdict_of braking.now asked.now.reading.now [] }
-        ensures { self.new ≡ verdict_of braking.now asked.now.reading.now (map target_of falls.now) }
+        requires none { IsVerdictOf braking.now asked.now.estimate fronts.now.est fronts.now.max [] self.old }
+        ensures { IsVerdictOf braking.now asked.now.estimate fronts.now.est fronts.now.max
+            (map target_of falls.now) self.new }
     {
         for fall in falls {
-            self.add(braking, asked, &fall.kept);
+            self.add(braking, asked, fronts, &fall.kept);
         }
     }
 
@@ -250,31 +314,35 @@ impl Verdict {
     fn add_end(
         &mut self,
         braking: &Braking,
-        asked: &AskedReading,
+        asked: &AskedEstimate,
+        fronts: &Fronts,
         end: &KeptEnd,
         in_release_monitoring: bool,
     )
         requires asked { IsAsked braking.now asked.now }
         requires end { AreKept braking.now end.now }
-        ensures { (ts : List Target) → self.old ≡ verdict_of braking.now asked.now.reading.now ts →
-            self.new ≡ verdict_of braking.now asked.now.reading.now (ts ++ targets_in end.now in_release_monitoring) }
+        ensures { (ts : List Target) →
+            IsVerdictOf braking.now asked.now.estimate fronts.now.est fronts.now.max ts self.old →
+            IsVerdictOf braking.now asked.now.estimate fronts.now.est fronts.now.max
+            (ts ++ targets_in end.now in_release_monitoring) self.new }
     {
         match end {
             KeptEnd::Stop { eoa, svl } => {
                 if in_release_monitoring {
                     return;
                 }
-                self.add(braking, asked, eoa);
-                self.add(braking, asked, svl);
+                self.add(braking, asked, fronts, eoa);
+                self.add(braking, asked, fronts, svl);
             }
-            KeptEnd::Limit { loa } => self.add(braking, asked, loa),
+            KeptEnd::Limit { loa } => self.add(braking, asked, fronts, loa),
         }
     }
 
     /// What falls and the targets at the end of the authority say together at a reading. (SUBSET-026-3 3.13.10; own)
     pub fn of(
         braking: &Braking,
-        asked: &AskedReading,
+        asked: &AskedEstimate,
+        fronts: &Fronts,
         falls: &[KeptFall],
         end: &KeptEnd,
         in_release_monitoring: bool,
@@ -282,12 +350,12 @@ impl Verdict {
         requires asked { IsAsked braking.now asked.now }
         requires falls { All (IsKeptFall braking.now) falls.now }
         requires end { AreKept braking.now end.now }
-        ensures { result ≡
-            verdict_of braking.now asked.now.reading.now (map target_of falls.now ++ targets_in end.now in_release_monitoring) }
+        ensures { IsVerdictOf braking.now asked.now.estimate fronts.now.est fronts.now.max
+            (map target_of falls.now ++ targets_in end.now in_release_monitoring) result }
     {
         let mut said = Verdict::of_none();
-        said.add_falls(braking, asked, falls);
-        said.add_end(braking, asked, end, in_release_monitoring);
+        said.add_falls(braking, asked, fronts, falls);
+        said.add_end(braking, asked, fronts, end, in_release_monitoring);
         said
     }
 }

@@ -12,4 +12,4 @@ ebi_place-requires c = record {
 }
 
 pub returns-in-Mrsp : goal.returns-in-Mrsp
-returns-in-Mrsp c = ebi_of computed c.args.self.now c.args.asked.now.reading.now c.args.kept.now.target _ (search rules) c.ebi_place.ensures
+returns-in-Mrsp c = ebi_of computed c.args.self.now c.args.asked.now.estimate c.args.kept.now.target _ (search rules) c.ebi_place.ensures

@@ -1,5 +1,5 @@
 -- Each part of what was found is that of the definitions, by the clause of the call that found it.
-use Rattle.std.proofs.Common.{◌≡◌, min, map, ◌++◌, ◌∙◌, ap, subst, is_some, to_z, of_z, w32, rules}
+use Rattle.std.proofs.Common.{◌≡◌, ℤ, List, min, map, ◌++◌, ◌∙◌, ap, subst, is_some, to_z, of_z, w32, rules}
 use Rattle.std.proofs.lemmas.Int.{ints, to_z-of_z}
 use Rattle.std.specs.Int.{int_gap}
 use Rattle.sdm_rules.specs.Cells.{cell_of, lowest}
@@ -10,7 +10,9 @@ use Rattle.sdm_supervisor.specs.declared.findings.Findings.{Findings}
 use Rattle.sdm_braking.specs.KeptCurves.{IsKeptEnd, targets_in}
 use Rattle.sdm_braking.specs.KeptFalls.{target_of}
 use Rattle.sdm_supervisor.specs.Findings.{IsFoundAt}
-use Rattle.sdm_supervisor.specs.Verdicts.{verdict_of}
+use Rattle.sdm_num.specs.Readings.{Estimate, estimate_of}
+use Rattle.sdm_rules.specs.declared.targets.Target.{Target}
+use Rattle.sdm_supervisor.specs.Verdicts.{IsVerdictOf}
 use Rattle.sdm_supervisor.proofs.CycleLaws.{is_open}
 use Rattle.sdm_braking.proofs.ReleaseLaws.{release_speed_at_is, release_speed_in_range}
 use Rattle.sdm_supervisor.proofs.FindLaws.{found_is}
@@ -59,6 +61,16 @@ module _ (c : goal.After-of) where
       (c.ahead-falls.ensures.each c.self.inside.braking c.self.invariant.kept.falls.each) (c.ahead-falls.ensures.falls (mrsp_of c.self.inside.profile) c.self.invariant.kept.falls.falls) end_judged
       ∙ (λ k. targets_of (mrsp_of c.self.inside.profile) c.self.inside.authority (c.max_mm-front.ensures k) ((c.is_some-in_release_monitoring.ensures ∙ ap is_some in_release_monitoring) k))
 
+  -- the estimate and the front ends are those of the reading
+  verdict : IsVerdictOf c.self.inside.braking (estimate_of c.args.reading.now) c.args.reading.now.est c.args.reading.now.max (targets_of (mrsp_of c.self.inside.profile) c.self.inside.authority c.args.reading.now.max (is_some (release_of c.self.inside.braking c.self.inside.authority c.args.reading.now.max))) c.of.result
+  verdict =
+      let d = c.self.inside.braking in
+      let r = c.args.reading.now in
+      let said = subst (λ (e : Estimate). IsVerdictOf d e c.est_mm.result c.max_mm-front.result (map target_of c.ahead-falls.result.now ++ targets_in c.deref-2.result.now c.is_some-in_release_monitoring.result) c.of.result) (c.asked-asked.ensures.estimate ∙ c.estimate.ensures) c.of.ensures in
+      let behind = subst (λ (ts : List Target). IsVerdictOf d (estimate_of r) c.est_mm.result c.max_mm-front.result ts c.of.result) targets said in
+      let est = subst (λ (z : ℤ). IsVerdictOf d (estimate_of r) z c.max_mm-front.result (targets_of (mrsp_of c.self.inside.profile) c.self.inside.authority r.max (is_some (release_of d c.self.inside.authority r.max))) c.of.result) c.est_mm.ensures behind in
+      subst (λ (z : ℤ). IsVerdictOf d (estimate_of r) r.est z (targets_of (mrsp_of c.self.inside.profile) c.self.inside.authority r.max (is_some (release_of d c.self.inside.authority r.max))) c.of.result) c.max_mm-front.ensures est
+
 pub of-requires-clause-falls : goal.of-requires-clause-falls
 of-requires-clause-falls c = c.ahead-falls.ensures.each c.self.inside.braking c.self.invariant.kept.falls.each
 
@@ -70,7 +82,7 @@ returns-clause-found c =
     subst (λ (s : Supervision). IsFoundAt s c.args.reading.now (found c)) c.self.view_is
     (found_is c.self.inside.braking c.self.inside.authority c.self.inside.profile c.self.inside.last_time c.self.inside.held c.args.reading.now (found c) c.self.invariant.profile
     c.speed_mm_s.ensures (ceiling c) (c.is_passed_by.ensures c.self.inside.braking c.self.inside.authority (end_passed c) ∙ ap (is_past_end c.self.inside.authority) c.min_mm-2.ensures) (in_release_monitoring c) c.is_service_in_use.ensures
-    (c.of.ensures ∙ (λ k. verdict_of c.self.inside.braking (c.asked-asked.ensures.reading k) (targets c k))))
+    (verdict c))
 
 pub returns-clause-accepted : goal.returns-clause-accepted
 returns-clause-accepted c = is_open c.args.self.now (rw (← c.self.view_is) c.end_of-end.ensures.accepted)

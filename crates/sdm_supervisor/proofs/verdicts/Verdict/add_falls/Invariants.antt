@@ -1,8 +1,8 @@
 -- What was said so far is what the falls so far say.
-use Rattle.std.proofs.Common.{◌≡◌, take, map}
+use Rattle.std.proofs.Common.{take, map}
 use Rattle.sdm_braking.specs.KeptFalls.{target_of}
-use Rattle.sdm_supervisor.specs.Verdicts.{verdict_of}
+use Rattle.sdm_supervisor.specs.Verdicts.{IsVerdictOf}
 use Rattle.sdm_supervisor.proofs.verdicts.Verdict.add_falls.Given as goal
 
 abbrev pub invariant-loop-fall : goal.invariant-loop-fall
-invariant-loop-fall l = l.self ≡ verdict_of l.braking l.asked.reading.now (map target_of (take l.fall-index l.falls))
+invariant-loop-fall l = IsVerdictOf l.braking l.asked.estimate l.fronts.est l.fronts.max (map target_of (take l.fall-index l.falls)) l.self

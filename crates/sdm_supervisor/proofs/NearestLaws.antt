@@ -1,0 +1,92 @@
+-- One more target behind the others: the printed limit of a name becomes the lesser of theirs and its own, where its limits count.
+use Rattle.std.proofs.Common.{◌≡◌, ℕ, ℤ, true, false, nat_le, List, [], ◌∷◌, ◌++◌, Option, Some, None, refl, ap, sym, ◌∙◌, ◌≤◌, ◌<◌, ◌≤ℤ◌, ◌<ℤ◌, arith}
+use Rattle.std.specs.Prelude.{filter, filter_map, option_map}
+use Rattle.std.specs.Int.{int_min}
+use Rattle.std.proofs.lemmas.Bool.{le-leb, lt-leb}
+use Rattle.std.proofs.lemmas.Int.{ints, clamps, by_lt_z}
+use Rattle.std.proofs.lemmas.List.Elements.{filter-append, filter_map-append}
+use Rattle.std.proofs.lemmas.List.Sums.{fold-append}
+use Rattle.std.proofs.lemmas.List.{append-nil}
+use Rattle.sdm_num.specs.Bounds.{mm_below}
+use Rattle.sdm_num.specs.Fractions.{Fraction, floor, whole}
+use Rattle.sdm_num.proofs.Floors.{floor_low, floor_high}
+use Rattle.sdm_rules.specs.declared.targets.Target.{Target}
+use Rattle.sdm_rules.specs.Limits.{SupervisionLimits}
+use Rattle.sdm_rules.specs.Supervision.{least_of, shown_limit, whole_mm}
+use Rattle.sdm_rules.specs.Targets.{target_speed}
+use Rattle.sdm_supervisor.specs.declared.verdicts.Nearest.{Nearest}
+use Rattle.sdm_supervisor.specs.Verdicts.{AreNearest, nearer}
+
+-- ---- the lesser of two places in whole millimetres
+
+mm_rises : (a b : ℤ) → a ≤ℤ b → mm_below a ≤ℤ mm_below b
+mm_rises a b h = omega (arith, ints, h, floor_low 540_000_000 a (omega arith), floor_high 540_000_000 b (omega arith))
+
+lesser_first : (a b : ℤ) → a ≤ℤ b → int_min a b ≡ a
+lesser_first a b h = omega (arith, ints, clamps, h)
+
+lesser_second : (a b : ℤ) → b ≤ℤ a → int_min a b ≡ b
+lesser_second a b h = omega (arith, ints, clamps, h)
+
+mm_of_lesser : (a b : ℤ) → mm_below (int_min a b) ≡ int_min (mm_below a) (mm_below b)
+mm_of_lesser a b =
+    by_lt_z b a
+    (λ (l : b <ℤ a). let below = mm_rises b a (omega (arith, ints)) in ap mm_below (lesser_second a b (omega (arith, ints))) ∙ sym (lesser_second (mm_below a) (mm_below b) below))
+    (λ (g : a ≤ℤ b). let below = mm_rises a b g in ap mm_below (lesser_first a b g) ∙ sym (lesser_first (mm_below a) (mm_below b) below))
+
+mm_of_nearer : (a b : Option ℤ) → option_map mm_below (nearer a b) ≡ nearer (option_map mm_below a) (option_map mm_below b)
+mm_of_nearer None b = refl
+mm_of_nearer (Some x) None = refl
+mm_of_nearer (Some x) (Some y) = ap Some (mm_of_lesser x y)
+
+nearer_none : (a : Option ℤ) → nearer a None ≡ a
+nearer_none None = refl
+nearer_none (Some x) = refl
+
+mm_of_whole : (x : ℤ) → whole_mm (whole x) ≡ mm_below x
+mm_of_whole x = ap mm_below (omega (arith, ints, floor_low 1 x (omega arith), floor_high 1 x (omega arith)))
+
+mm_where : (x : Option ℤ) → option_map whole_mm (option_map whole x) ≡ option_map mm_below x
+mm_where None = refl
+mm_where (Some x) = ap Some (mm_of_whole x)
+
+-- ---- one more place
+
+least_of_more : (xs : List ℤ) (y : ℤ) → least_of (xs ++ y ∷ []) ≡ nearer (least_of xs) (Some y)
+least_of_more [] y = refl
+least_of_more (x ∷ xs) y = ap Some (fold-append int_min x xs (y ∷ []))
+
+module _ (v : ℕ) (ts : List Target) (t : Target) (limit : Target → Option Fraction) where
+  abbrev places : List Target → List ℤ
+  places us = filter_map (λ u. option_map whole_mm (limit u)) us
+
+  abbrev counted : List Target → List Target
+  counted us = filter (λ u. nat_le (target_speed u) v) us
+
+  of_more : places (counted (ts ++ t ∷ [])) ≡ places (counted ts) ++ places (counted (t ∷ []))
+  of_more = ap places (filter-append (λ u. nat_le (target_speed u) v) ts (t ∷ [])) ∙ filter_map-append (λ u. option_map whole_mm (limit u)) (counted ts) (counted (t ∷ []))
+
+  -- a target above the train's speed has no part in it
+  pub not_counted : v < target_speed t → shown_limit v (ts ++ t ∷ []) limit ≡ shown_limit v ts limit
+  not_counted slower = ap least_of (of_more ∙ (rw (lt-leb (target_speed t) v slower) (append-nil (places (counted ts)))))
+
+  place_behind : (x : Option ℤ) → option_map whole_mm (limit t) ≡ x → least_of (places (counted ts) ++ places (t ∷ [])) ≡ nearer (shown_limit v ts limit) x
+  place_behind None is = rw is (ap least_of (append-nil (places (counted ts))) ∙ sym (nearer_none (shown_limit v ts limit)))
+  place_behind (Some y) is = rw is (least_of_more (places (counted ts)) y)
+
+  -- of another the lesser of its limit and theirs, in whole millimetres
+  pub with_limit : target_speed t ≤ v → (x y : Option ℤ) → limit t ≡ option_map whole y → option_map mm_below x ≡ shown_limit v ts limit →
+      option_map mm_below (nearer x y) ≡ shown_limit v (ts ++ t ∷ []) limit
+  with_limit slow x y is so_far =
+      mm_of_nearer x y ∙ (λ k. nearer (so_far k) (sym (mm_where y) k)) ∙ sym (ap least_of (of_more ∙ rw (le-leb (target_speed t) v slow) refl)
+      ∙ place_behind (option_map whole_mm (option_map whole y)) (ap (option_map whole_mm) is))
+
+-- the nearest limits are not changed by a target above the train's speed
+pub nearest_without : (v : ℕ) (all : Target → SupervisionLimits) (ts : List Target) (t : Target) (near : Option Nearest) → v < target_speed t → AreNearest v all ts near → AreNearest v all (ts ++ t ∷ []) near
+nearest_without v all ts t near slower is = record {
+  ebi = is.ebi ∙ sym (not_counted v ts t (λ u. (all u).ebi) slower);
+  sbi = is.sbi ∙ sym (not_counted v ts t (λ u. Some (all u).sbi) slower);
+  warning = is.warning ∙ sym (not_counted v ts t (λ u. Some (all u).warning) slower);
+  permitted = is.permitted ∙ sym (not_counted v ts t (λ u. Some (all u).permitted) slower);
+  indication = is.indication ∙ sym (not_counted v ts t (λ u. Some (all u).indication) slower);
+}

@@ -1,0 +1,100 @@
+-- One more target behind the others. A target above the train's speed only says whether it is covered, since no margin makes its speed
+-- lower; and one whose indication limit is not passed says nothing, since that is the first of its limits.
+use Rattle.std.proofs.Common.{◌≡◌, ℕ, ℤ, Bool, true, false, not, ◌||◌, ◌&&◌, nat_lt, List, [], ◌∷◌, ◌++◌, ◌+◌, ◌≤◌, ◌<◌, Option, Some, None, refl, ap, sym, ◌∙◌, arith}
+use Rattle.std.specs.List.{list_all, list_any}
+use Rattle.std.specs.Option.{option_map_or}
+use Rattle.std.proofs.lemmas.Bool.{le-ltb}
+use Rattle.std.proofs.lemmas.List.Folds.{list_all-append, list_any-append}
+use Rattle.std.proofs.Math.Bool.{and-false, and-true, or-false}
+use Rattle.sdm_num.specs.Fractions.{Fraction}
+use Rattle.sdm_num.specs.Units.{notches}
+use Rattle.sdm_num.specs.Readings.{Estimate}
+use Rattle.sdm_rules.specs.declared.targets.Target.{Target}
+use Rattle.sdm_rules.specs.declared.targets.TargetKind.{TargetKind}
+use Rattle.sdm_rules.specs.declared.targets.TargetKind.TheVariants.{Mrsp, Loa, Eoa, Svl}
+use Rattle.sdm_rules.specs.Data.{TrainAndTrack}
+use Rattle.sdm_rules.specs.Limits.{computed, limits_of, limits_of_kind, v_bec_for}
+use Rattle.sdm_rules.specs.Margins.{ebi_margin, sbi_margin, warning_margin}
+use Rattle.sdm_rules.specs.Supervision.{is_covered_for, is_met_by_speed}
+use Rattle.sdm_rules.specs.Targets.{at_speed_target, foot_speed_of, target_speed, with_margin}
+use Rattle.sdm_rules.specs.Triggers.{front_for, is_past, no_margin, passes, passes_ebi}
+use Rattle.sdm_supervisor.specs.declared.verdicts.Passed.{Passed}
+use Rattle.sdm_supervisor.specs.Verdicts.{ArePassed}
+use Rattle.sdm_supervisor.proofs.LimitOrder.{IsPastNone, past_none}
+
+-- ---- one more of a list
+
+module _ (p : Target → Bool) (ts : List Target) (t : Target) (a : Bool) where
+  pub any_more : a ≡ list_any p ts → (b : Bool) → b ≡ p t → (a || b) ≡ list_any p (ts ++ t ∷ [])
+  any_more so_far b is = (λ k. so_far k || (is ∙ sym (or-false (p t))) k) ∙ sym (list_any-append p ts (t ∷ []))
+
+  any_unless : a ≡ list_any p ts → p t ≡ false → a ≡ list_any p (ts ++ t ∷ [])
+  any_unless so_far none = sym (or-false a) ∙ any_more so_far false (sym none)
+
+  pub all_more : a ≡ list_all p ts → (b : Bool) → b ≡ p t → (a && b) ≡ list_all p (ts ++ t ∷ [])
+  all_more so_far b is = (λ k. so_far k && (is ∙ sym (and-true (p t))) k) ∙ sym (list_all-append p ts (t ∷ []))
+
+  all_where : a ≡ list_all p ts → p t ≡ true → a ≡ list_all p (ts ++ t ∷ [])
+  all_where so_far is = sym (and-true a) ∙ all_more so_far true (sym is)
+
+-- ---- what is left unsaid
+
+-- no margin makes a target's speed lower
+at_least : (kind : TargetKind) (speed margin : ℕ) → at_speed_target kind speed ≤ at_speed_target kind (speed + margin)
+at_least Mrsp speed margin = omega arith
+at_least Loa speed margin = omega arith
+at_least Eoa speed margin = omega arith
+at_least Svl speed margin = omega arith
+
+module _ (v : ℕ) (est max : ℤ) (t : Target) where
+  -- above the train's speed no limit of a target is passed
+  not_passed : v < target_speed t → (margin : ℕ → ℕ) (limit : Fraction) → passes v est max 0 margin t limit ≡ false
+  not_passed slower margin limit =
+      let within : v ≤ with_margin margin t = omega (arith, at_least t.kind (notches t.speed) (margin t.speed)) in
+      rw (le-ltb (with_margin margin t) v within)
+
+  ebi_not_passed : v < target_speed t → (ebi : Option Fraction) → passes_ebi v est max 0 t ebi ≡ false
+  ebi_not_passed slower None = refl
+  ebi_not_passed slower (Some ebi) = not_passed slower ebi_margin ebi
+
+  -- nor is one that the front end is not past
+  not_reached : (margin : ℕ → ℕ) (limit : Fraction) → is_past 0 (front_for est max t.kind) limit ≡ false → passes v est max 0 margin t limit ≡ false
+  not_reached margin limit ahead = rw ahead (and-false (nat_lt (with_margin margin t) v))
+
+  ebi_not_reached : (ebi : Option Fraction) → option_map_or (is_past 0 (front_for est max t.kind)) ebi false ≡ false → passes_ebi v est max 0 t ebi ≡ false
+  ebi_not_reached None ahead = refl
+  ebi_not_reached (Some ebi) ahead = not_reached ebi_margin ebi ahead
+
+-- a target whose EBI is not passed is covered; the EOA has none
+covered_yet : (d : TrainAndTrack) (e : Estimate) (est max : ℤ) (t : Target) (kind : TargetKind) (met : Bool) → IsPastNone (front_for est max kind) (limits_of_kind computed d e t kind) →
+    option_map_or (λ ebi. not (is_past 0 max ebi) || met) (limits_of_kind computed d e t kind).ebi true ≡ true
+covered_yet d e est max t Mrsp met none = rw none.ebi refl
+covered_yet d e est max t Loa met none = rw none.ebi refl
+covered_yet d e est max t Eoa met none = refl
+covered_yet d e est max t Svl met none = rw none.ebi refl
+
+module _ (d : TrainAndTrack) (e : Estimate) (est max : ℤ) (ts : List Target) (t : Target) (p : Passed) (is : ArePassed d e est max ts p) where
+  -- a target above the train's speed only says whether it is covered
+  pub slower_said : e.speed < target_speed t → (covered : Bool) → covered ≡ (p.covered && is_covered_for d max e t) → ArePassed d e est max (ts ++ t ∷ []) (record p { covered = covered })
+  slower_said slower covered covered_is = record {
+    over = any_unless _ ts t p.over is.over (not_passed e.speed est max t slower no_margin _);
+    warn = any_unless _ ts t p.warn is.warn (not_passed e.speed est max t slower warning_margin _);
+    serv = any_unless _ ts t p.serv is.serv (not_passed e.speed est max t slower sbi_margin _);
+    emer = any_unless _ ts t p.emer is.emer (ebi_not_passed e.speed est max t slower _);
+    indicated = any_unless _ ts t p.indicated is.indicated (not_passed e.speed est max t slower no_margin _);
+    covered = covered_is ∙ all_more (is_covered_for d max e) ts t p.covered is.covered _ refl;
+  }
+
+  -- up to its indication limit a target says nothing
+  pub nothing_said : is_past 0 (front_for est max t.kind) (limits_of computed d e t).indication ≡ false → ArePassed d e est max (ts ++ t ∷ []) p
+  unfolding limits_of
+  nothing_said ahead =
+      let none = past_none d e t (front_for est max t.kind) ahead in
+      record {
+        over = any_unless _ ts t p.over is.over (not_reached e.speed est max t no_margin _ none.permitted);
+        warn = any_unless _ ts t p.warn is.warn (not_reached e.speed est max t warning_margin _ none.warning);
+        serv = any_unless _ ts t p.serv is.serv (not_reached e.speed est max t sbi_margin _ none.sbi);
+        emer = any_unless _ ts t p.emer is.emer (ebi_not_reached e.speed est max t _ none.ebi);
+        indicated = any_unless _ ts t p.indicated is.indicated (not_reached e.speed est max t no_margin _ ahead);
+        covered = all_where (is_covered_for d max e) ts t p.covered is.covered (covered_yet d e est max t t.kind (is_met_by_speed t.kind (v_bec_for d e t) (foot_speed_of t)) none);
+      }
