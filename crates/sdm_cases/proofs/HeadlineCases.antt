@@ -18,9 +18,9 @@ use Rattle.sdm_rules.specs.Headline.{AreTurnsSafe, IsRowSafe}
 use Rattle.sdm_rules.specs.Limits.{exact_places, limits_of, release_start}
 use Rattle.sdm_rules.specs.Machines.{BeginsReleaseMonitoringAt, InOrder, machine_after, may_after, must_after, held_after}
 use Rattle.sdm_rules.specs.Profile.{mrsp}
-use Rattle.sdm_rules.specs.Promises.{HasOnlyGaps}
+use Rattle.sdm_rules.specs.Promises.{BeginsReleaseMonitoring, HasOnlyGaps, IsWithinCeiling}
 use Rattle.sdm_rules.specs.Reaction.{reaction_times}
-use Rattle.sdm_rules.specs.Records.{step, journey_from}
+use Rattle.sdm_rules.specs.Records.{Turn, step, journey_from}
 use Rattle.sdm_rules.specs.Stop.{IsSafe}
 use Rattle.sdm_rules.specs.Supervision.{Supervision, after_reading, commands_in, is_covered_in, is_covered_for, opening, row_in, row_of, situation_of, state_in}
 use Rattle.sdm_rules.specs.Targets.{targets_of}
@@ -126,6 +126,21 @@ second_reading_is_safe : IsSafe after_one at_4_m
 unfolding short two_readings after_one after_reading step at_2_m at_4_m reading_at
 second_reading_is_safe = supervised.1.0.stop row_covered_after_one
 
+-- that where a target isn't covered it is a gap
+second_has_only_gaps : (row_of after_one at_4_m).held.eb ≡ false → HasOnlyGaps after_one at_4_m
+unfolding short two_readings after_one after_reading step at_2_m at_4_m reading_at
+second_has_only_gaps = supervised.1.0.gaps
+
+-- that it is within the ceiling
+second_within_ceiling : (row_of after_one at_4_m).held.eb ≡ false → IsWithinCeiling at_4_m (row_of after_one at_4_m)
+unfolding short two_readings after_one after_reading step at_2_m at_4_m reading_at
+second_within_ceiling = supervised.1.0.ceiling
+
+-- that release speed monitoring begins where it should
+second_begins_release_monitoring : BeginsReleaseMonitoring after_one at_4_m
+unfolding short two_readings after_one after_reading step at_2_m at_4_m reading_at
+second_begins_release_monitoring = supervised.1.0.release
+
 -- and that the commands are in order after both
 in_order_after_two : InOrder (must_after after_one at_4_m (must_after short at_2_m false)) (row_of after_one at_4_m).held.eb (may_after after_one at_4_m (may_after short at_2_m true))
 unfolding short two_readings after_one after_reading step at_2_m at_4_m reading_at
@@ -147,3 +162,19 @@ supervisor_holds_none = ap (λ row. row.held.eb) (opening_row short_line (Stop 1
 
 none_holds_but_the_exact : IsRowSafe true true short at_2_m → ⊥
 none_holds_but_the_exact h = false≢true (sym supervisor_holds_none ∙ h.order.needed exact_holds)
+
+-- the exact machine holds its command from turn to turn: past the EBI it commands, and at 2 m it goes on to hold
+exact_commands : must_after short past_the_ebi false ≡ true
+unfolding short past_the_ebi reading_at machine_after emergency_after plain_train_and_track plain_national plain_band situation_with targets_of mrsp triggers_of limits_of reaction_times slopes_of slope_at exact exact_at place_at arc_back back arc_forward forward
+exact_commands =
+    ap (λ now. emergency_after false (triggers_of (limits_of exact_places short_line (estimate_of past_the_ebi)) 0 now) false false) (opening_situation short_line (Stop 1000 1000 0) past_the_ebi)
+    ∙ refl
+
+-- a turn after which the supervisor holds no command, whatever its reading
+abbrev turn_without_commands : OdometerReading → Turn
+turn_without_commands r = record { before = short; event = record_kinds.Read r; after = short }
+
+held_over_a_turn : AreTurnsSafe false true (turn_without_commands past_the_ebi ∷ turn_without_commands at_2_m ∷ []) → ⊥
+held_over_a_turn h =
+    let holds = ap (λ held. must_after short at_2_m held) exact_commands ∙ exact_holds in
+    false≢true (sym supervisor_holds_none ∙ h.1.0.order.needed holds)

@@ -1,17 +1,26 @@
 -- Which outcomes answer an output, and what out must have taken by then: an output of two lines that ends at a third one. And what the
--- promise of the rows of `flat` says of one line: 1 m/s² towards an end at 10 m.
-use Rattle.std.proofs.Common.{◌≡◌, ℕ, zero, suc, pos, true, false, List, [], ◌∷◌, ◌++◌, Some, length, take, get_or, refl, ap, ◌∙◌, inl, inr, arith, ◌*◌}
+-- promises of the rows say: of `flat` for lines of a train with 1 m/s² towards an end at 10 m, of `run` and `trial` for the first turn.
+use Rattle.std.proofs.Common.{◌≡◌, ℕ, zero, suc, pos, true, false, List, [], ◌∷◌, ◌++◌, Some, length, take, get_or, refl, ap, sym, subst, ◌∙◌, inl, inr, arith, ◌*◌}
 use Rattle.std.proofs.lemmas.List.{length-append}
 use Rattle.std.proofs.lemmas.Bool.{false≢true}
-use Rattle.std.specs.Prelude.{codes}
+use Rattle.std.proofs.lemmas.Int.{ints}
+use Rattle.std.specs.Prelude.{IsTrue, codes}
 use Rattle.sdm_rules.specs.declared.faults.EventCause.TheVariants.{Line}
 use Rattle.sdm_rules.specs.Curves.{exact, stepped, exact_at, place_at, arc_back, back, arc_forward, forward}
-use Rattle.sdm_rules.specs.Flat.{Output, flat_after, flat_line, flat_opening, flat_row}
+use Rattle.sdm_rules.specs.Flat.{Output, StopsByFlatEnd, flat_after, flat_line, flat_opening, flat_output, flat_row, flat_slopes, flat_start}
+use Rattle.sdm_rules.specs.Headline.{AreTurnsSafe, IsRecordSafe, IsRowSafe}
 use Rattle.sdm_rules.specs.Input as ends
+use Rattle.sdm_rules.specs.Motion.{IsInBand}
 use Rattle.sdm_rules.specs.Numbers.{read_int}
+use Rattle.sdm_rules.specs.Records.{Turn, rows_of, step}
+use Rattle.sdm_rules.specs.Stop.{IsMotionOn}
+use Rattle.sdm_rules.specs.Supervision.{opening, row_of}
+use Rattle.sdm_rules.specs.Trial.{reading_in_cycle, summary_text, trial_authority, trial_journey, trial_output, trial_train_and_track}
 use Rattle.sdm_report.specs.declared.outcome.Outcome.TheVariants.{Done, ReadFault, WriteFault, BadEvent, Memory}
 use Rattle.sdm_run.specs.Answers.{AreWholeLines, IsAnswer, IsComplete}
-use Rattle.sdm_run.specs.FlatRun.{AreFlatTurnsSafe, FlatTurn, IsEbiShown, IsFlatTurnSafe, flat_may_after_turn, flat_must_after_turn, flat_row_of_turn, turns_of}
+use Rattle.sdm_run.specs.Commands.{AreRunRowsSafe, AreTrialRowsSafe}
+use Rattle.sdm_run.specs.FlatRun.{AreFlatRowsSafe, AreFlatTurnsSafe, FlatTurn, IsEbiShown, IsFlatTurnSafe, IsStopCovered, flat_may_after_turn, flat_must_after_turn, flat_row_of_turn, text_of_turns, turns_of}
+use Rattle.sdm_run.specs.Journeys.{IsRunOutput}
 
 -- ---- answers
 
@@ -94,3 +103,98 @@ not_safe h = not_in_order h.0
 -- of two turns it says that the second is safe
 second_is_safe : AreFlatTurnsSafe true true (a_turn ∷ a_turn ∷ []) → IsFlatTurnSafe (flat_must_after_turn a_turn true) (flat_may_after_turn a_turn true) a_turn
 second_is_safe h = h.1.0
+
+-- at 8 m the row is covered, and from there each motion stops by the end
+stops_when_covered : IsStopCovered a_turn → StopsByFlatEnd a_turn.before a_turn.line
+unfolding flat_row exact stepped exact_at place_at arc_back back arc_forward forward
+stops_when_covered h = h refl
+
+-- a tenth of a millimetre further it isn't, and a motion from there passes the end by as much
+abbrev past_turn : FlatTurn
+past_turn = record { before = flat_opening 100 1_000; line = record { time = 5; front = pos (80_001 * 54_000_000); speed = 108_000 } }
+
+nothing_promised_past_it : IsStopCovered past_turn
+unfolding flat_row exact stepped exact_at place_at arc_back back arc_forward forward
+nothing_promised_past_it covered = absurd (false≢true covered)
+
+passing : IsMotionOn (flat_slopes 100) (flat_start past_turn.line) 1 (pos 4_320_054_000_000) 108_000 [] (record { place = pos 4_320_054_000_000; square = 11_664_000_000 }) (record { place = pos 5_400_054_000_000; square = 0 } ∷ [])
+passing = (
+  omega arith,
+  record {
+    place = omega (arith, ints);
+    speed = omega arith;
+    motion = record {
+      reaction = record {
+        traction = [];
+        build = [];
+        split = refl;
+        in_traction = λ k d l. absurd (omega arith);
+        in_build = λ k d l. absurd (omega arith);
+        traction_time = refl;
+        build_time = refl;
+        slices = tt;
+      };
+      begins = refl;
+      braking = (
+        record {
+          band = 0;
+          slope = 200_000_000_000;
+          from_band = in_the_band 11_664_000_000;
+          to_band = in_the_band 0;
+          one_slope = λ cell part. refl;
+          brakes = record { forward = omega (arith, ints); slower = omega arith; enough = omega (arith, ints) };
+        },
+        refl,
+      );
+    };
+  },
+)
+  where
+    in_the_band : (u : ℕ) → IsInBand (flat_slopes 100) 1 0 u
+    in_the_band u = record { known = omega arith; above = omega arith; below = λ lt. absurd (omega arith) }
+
+no_stop_past_it : StopsByFlatEnd past_turn.before past_turn.line → ⊥
+no_stop_past_it h = let k = h 1 (pos 4_320_054_000_000) 108_000 [] (record { place = pos 4_320_054_000_000; square = 11_664_000_000 }) (record { place = pos 5_400_054_000_000; square = 0 } ∷ []) passing 1 (record { place = pos 0; square = 0 }) (omega arith) in omega (arith, ints, k)
+
+-- ---- all rows of a command
+
+abbrev a_line : List ℕ
+a_line = codes "5,7000,2000\n"
+
+abbrev early_turn : FlatTurn
+early_turn = record { before = flat_opening 100 1_000; line = record { time = 5; front = pos (70_000 * 54_000_000); speed = 108_000 } }
+
+one_early_turn : turns_of 100 1_000 a_line ≡ early_turn ∷ []
+unfolding turns_of flat_line read_int
+one_early_turn = refl
+
+-- the text is that of the row
+text_of_one_row : AreFlatRowsSafe 100 1_000 a_line → (flat_output 100 1_000 a_line).text ≡ text_of_turns (early_turn ∷ [])
+text_of_one_row h = h.text ∙ ap text_of_turns one_early_turn
+
+-- before the first line no machine holds a command: a metre before the curve the early one doesn't, so neither does the row
+not_commanded : AreFlatRowsSafe 100 1_000 a_line → IsTrue (flat_row_of_turn early_turn).eb → ⊥
+unfolding flat_after exact exact_at place_at arc_back back arc_forward forward
+not_commanded h holds = false≢true (sym none_early ∙ allowed holds)
+  where
+    none_early : flat_may_after_turn early_turn false ≡ false
+    none_early = refl
+
+    allowed : IsTrue (flat_row_of_turn early_turn).eb → IsTrue (flat_may_after_turn early_turn false)
+    allowed = (subst (λ (turns : List FlatTurn). AreFlatTurnsSafe false false turns) one_early_turn h.safe).0.order.allowed
+
+-- of `run`: where an output has turns, the record of the first is safe
+first_turn_of_run : (bytes : List ℕ) (output : Output) (told : IsRunOutput bytes output) (t : Turn) (ts : List Turn) → told.turns ≡ t ∷ ts → AreRunRowsSafe bytes → IsRecordSafe false false t.before t.event
+first_turn_of_run bytes output told t ts is h = (subst (λ (turns : List Turn). AreTurnsSafe false false turns) is (h output told)).0
+
+-- of `trial`: the text sums up the row of its one reading, which is safe
+text_of_one_cycle : AreTrialRowsSafe 7 1 → (trial_output 7 1).text ≡ summary_text (row_of (opening trial_train_and_track trial_authority) (reading_in_cycle 7 1) ∷ [])
+unfolding step
+text_of_one_cycle h = h.text ∙ ap summary_text one_row
+  where
+    one_row : rows_of (trial_journey 7 1).turns ≡ row_of (opening trial_train_and_track trial_authority) (reading_in_cycle 7 1) ∷ []
+    one_row = refl
+
+first_cycle_is_safe : AreTrialRowsSafe 7 1 → IsRowSafe false false (opening trial_train_and_track trial_authority) (reading_in_cycle 7 1)
+unfolding step
+first_cycle_is_safe h = h.safe.0

@@ -9,3 +9,4 @@ pub mod RunAnswers
 pub mod OutputLaws
 pub mod Flushes
 mod AnswerCases
+mod OutcomeCases
