@@ -1,10 +1,13 @@
 -- What a kept map stands for, cell by cell: the slope of the segment that holds the cell.
-use Rattle.std.proofs.Common.{◌^◌, ◌≡◌, ℕ, ℤ, pos, List, ◌+◌, ◌*◌, ◌<◌, ◌≤◌, ◌≤ℤ◌, length, get_or, arith, inl, inr, ◌∙◌}
+use Rattle.std.proofs.Common.{◌^◌, ◌≡◌, ℕ, ℤ, pos, List, ◌+◌, ◌*◌, ◌<◌, ◌≤◌, ◌*ℤ◌, ◌≤ℤ◌, length, get_or, ap, arith, inl, inr, ◌∙◌}
 use Rattle.std.proofs.lemmas.Int.{ints}
 use Rattle.std.proofs.lemmas.Bool.{cases_lt}
 use Rattle.std.proofs.lemmas.List.{get_or_default}
 use Rattle.std.proofs.Math.ListN.{get_or-map, length-map}
-use Rattle.sdm_rules.specs.Slopes.{SlopeMap, meaning_of, segment_of, bands_of, IsUsable}
+use Rattle.sdm_num.specs.Units.{centimetre}
+use Rattle.sdm_num.proofs.Ints.{scale-scale}
+use Rattle.sdm_rules.specs.Curves.{cell_start}
+use Rattle.sdm_rules.specs.Slopes.{SlopeMap, meaning_of, segment_of, bands_of, least_slope, IsUsable}
 use Rattle.sdm_laws.proofs.Segments.{IsRising, in_segment}
 use Rattle.sdm_curve.specs.Maps.{handed_in, slope_in, AreStarts, IsKeptMap}
 use Rattle.sdm_curve.proofs.Rows.{row_known}
@@ -22,8 +25,8 @@ slope_at_cell m band c = let e = slope_kept m band (segment_of m.starts c) in cc
 pub segment_known : (starts : List ℤ) (c : ℤ) → AreStarts starts → segment_of starts c < length starts
 segment_known starts c h = (in_segment starts c (rising_of starts h) h.some).known
 
--- the slope of every band and cell is at least 0.05 m/s²
-pub slope_least : (m : SlopeMap) (band : ℕ) (c : ℤ) → IsKeptMap (handed_in m) → band ≤ length m.uppers → 100_000_000 * m.q ≤ (meaning_of m).slope band c
+-- the slope of every band and cell is at least the least one
+pub slope_least : (m : SlopeMap) (band : ℕ) (c : ℤ) → IsKeptMap (handed_in m) → band ≤ length m.uppers → least_slope m.q ≤ (meaning_of m).slope band c
 slope_least m band c h le =
     let strong = h.accepted.strong band (omega arith) (segment_of m.starts c) (segment_known m.starts c h.well_formed.starts) in
     omega (arith, ints, slope_at_cell m band c)
@@ -43,6 +46,10 @@ usable_of m h = record {
 -- no segment begins before cell 0
 pub start_least : (starts : List ℤ) (i : ℕ) → AreStarts starts → i < length starts → pos 0 ≤ℤ get_or starts i (pos 0)
 start_least starts i h known = let first = h.first in omega (arith, ints, rising_of starts h 0 i (omega arith) known)
+
+-- the start of a segment at a scale is a multiple of its start in grains
+pub scaled_start : (scale start : ℕ) (cell : ℤ) → pos start ≡ cell_start 1 cell → pos (scale * start) ≡ cell_start scale cell
+scaled_start scale start cell is = ap (λ (z : ℤ). pos scale *ℤ z) is ∙ scale-scale scale centimetre cell
 
 -- a kept slope is above 0, and small
 pub slope_some : (m : SlopeMap) (band i : ℕ) → IsKeptMap (handed_in m) → band < bands_of m.uppers → i < length m.starts → 0 < get_or m.slopes (band * length m.starts + i) 0

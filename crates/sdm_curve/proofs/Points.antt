@@ -5,7 +5,7 @@ use Rattle.std.proofs.lemmas.Int.{ints}
 use Rattle.std.proofs.lemmas.Bool.{cases_lt}
 use Rattle.std.proofs.lemmas.Nat.{mul-le}
 use Rattle.sdm_num.specs.Units.{top_speed, IsPlace}
-use Rattle.sdm_rules.specs.Slopes.{SlopeMap, meaning_of, bands_of}
+use Rattle.sdm_rules.specs.Slopes.{Slopes, SlopeMap, meaning_of, bands_of}
 use Rattle.sdm_rules.specs.Curves.{grain_energy}
 use Rattle.sdm_laws.proofs.Energy.{IsPositive}
 use Rattle.sdm_curve.specs.Maps.{handed_in, IsKeptMap}
@@ -22,9 +22,9 @@ square-≤ a b le = mul-le a a b b le le
 pub square-< : (a b : ℕ) → a < b → a * a < b * b
 square-< a b lt = omega (arith, mul-le (suc a) (suc a) b b lt lt)
 
--- a product with a sum
-product_sum : (k a b d : ℕ) → a ≡ b + d → k * a ≡ k * b + k * d
-product_sum k a b d e = rw e (omega arith)
+-- the energy of two changes together
+energy_sum : (on : Slopes) (a b d : ℕ) → a ≡ b + d → grain_energy on a ≡ grain_energy on b + grain_energy on d
+energy_sum on a b d e = rw e (omega arith)
 
 -- ---- back
 
@@ -40,7 +40,7 @@ pub point_back : (m : SlopeMap) (band : ℕ) (from to level : ℤ) (u v : ℕ) �
 point_back m band from to level u v kept lt level_is le h0 =
     let on = meaning_of m in
     let change = v * v - u * u in
-    let more = product_sum (5_000_000_000_000 * m.q) (v * v) (u * u) change (omega (arith, square-≤ u v le)) in
+    let more = energy_sum on (v * v) (u * u) change (omega (arith, square-≤ u v le)) in
     let at : level +ℤ neg_ℤ (pos (grain_energy on (v * v))) ≡ integral on band from +ℤ neg_ℤ (pos (grain_energy on change)) = omega (arith, ints, level_is, more) in
     let h = rw at at h0 in
     let some : IsPositive on band = (usable_of m kept).positive band (omega arith) in
@@ -65,7 +65,7 @@ pub point_on : (m : SlopeMap) (band : ℕ) (from to level : ℤ) (u v : ℕ) →
 point_on m band from to level u v kept lt level_is le h0 =
     let on = meaning_of m in
     let change = u * u - v * v in
-    let more = product_sum (5_000_000_000_000 * m.q) (u * u) (v * v) change (omega (arith, square-≤ v u le)) in
+    let more = energy_sum on (u * u) (v * v) change (omega (arith, square-≤ v u le)) in
     let at : level +ℤ neg_ℤ (pos (grain_energy on (v * v))) ≡ integral on band from +ℤ pos (grain_energy on change) = omega (arith, ints, level_is, more) in
     let h = rw at at h0 in
     let some : IsPositive on band = (usable_of m kept).positive band (omega arith) in

@@ -1,11 +1,9 @@
 //! Speeds that curves are asked for. What a speed has in a map, its band and the energy of its square, is worked out once
 //! and serves every curve of that map.
 
-ghost use Rattle.std.specs.Prelude.{◌≡◌, ◌*◌, ◌^◌, ◌<◌, ◌≤◌};
+ghost use Rattle.std.specs.Prelude.{◌≡◌, ◌^◌, ◌<◌, ◌≤◌};
 ghost use Rattle.sdm_num.specs.Units.{top_speed};
 ghost use Rattle.sdm_rules.specs.Slopes.{meaning_of, most_bands, IsUsable};
-ghost use Rattle.sdm_rules.specs.Curves.{grain_energy};
-ghost use Rattle.sdm_curve.specs.Maps.{handed_in, IsKeptMap};
 ghost use Rattle.sdm_curve.specs.Asked.{Asked, IsAskedOf, IsBandOf};
 
 use crate::map::BandMap;
@@ -31,14 +29,6 @@ impl Model for AskedSpeed {
     ghost inverse = { λ a. record { speed = a.speed; band = a.band; energy = a.energy } };
 }
 
-// The square of a speed.
-fn square_of(v: Speed) -> u64
-    ensures value { result ≡ v * v }
-    ensures small { result ≤ top_speed * top_speed }
-{
-    u64::from(v.notches()) * u64::from(v.notches())
-}
-
 /// The first band whose upper speed is not below the speed, else the last band.
 pub(crate) fn band_of(map: &BandMap, v: Speed) -> usize
     ensures value { IsBandOf map.now.uppers v result }
@@ -53,16 +43,6 @@ pub(crate) fn band_of(map: &BandMap, v: Speed) -> usize
     last
 }
 
-/// The energy of the square of a speed: 5·10¹²·q for each squared notch. (own unit)
-pub(crate) fn energy_of(map: &BandMap, v: Speed) -> u128
-    ensures value { result ≡ grain_energy (meaning_of map.now) (v * v) }
-    ensures small { result ≤ 10 ^ 32 }
-    ensures fits { v ≤ top_speed }
-    ensures kept { IsKeptMap (handed_in map.now) }
-{
-    u128::from(5_000_000_000_000 * u64::from(map.q())) * u128::from(square_of(v))
-}
-
 impl BandMap {
     /// The speed with what it has in this map.
     pub fn asked(&self, v: Speed) -> AskedSpeed
@@ -72,7 +52,7 @@ impl BandMap {
         AskedSpeed {
             speed: v,
             band: band_of(self, v),
-            energy: energy_of(self, v),
+            energy: self.energy_of(v),
         }
     }
 }
@@ -84,6 +64,7 @@ impl AskedSpeed {
     {
         self.speed
     }
+
     /// Its band.
     pub(crate) fn band(&self) -> usize
         ensures value { result ≡ self.now.band }

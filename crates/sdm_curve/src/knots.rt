@@ -10,7 +10,6 @@ ghost use Rattle.sdm_curve.specs.Maps.{handed_in, IsKeptMap};
 ghost use Rattle.sdm_curve.specs.Integrals.{IsLastAtMost, IsPlaceIn};
 ghost use Rattle.sdm_curve.specs.Made.{CurveKnot, IsLevel, IsNear, level_of};
 
-use crate::asked::energy_of;
 use crate::levels::{Spot, integral_at, last_at_most, spot_at};
 use crate::map::BandMap;
 use sdm_num::{Place, Speed};
@@ -48,7 +47,7 @@ impl Knot {
         Knot {
             place: spot.place(),
             speed,
-            level: integral_at(map, band, spot) + energy_of(map, speed) as i128,
+            level: integral_at(map, band, spot) + map.energy_of(speed) as i128,
         }
     }
 
@@ -88,7 +87,7 @@ impl Knot {
         ensures slow { border ≤ top_speed }
         ensures kept { IsKeptMap (handed_in map.now) }
     {
-        let spot = self.spot_of(map, band, energy_of(map, border));
+        let spot = self.spot_of(map, band, map.energy_of(border));
         Knot::at(map, next_band, spot, border)
     }
 }

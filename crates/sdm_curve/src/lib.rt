@@ -2,14 +2,15 @@
 //! How the place of a curve is found is known here alone: contracts speak of what a map stands for.
 #![tactic(auto)]
 
-pub mod asked;
+mod asked;
 mod checks;
-pub mod curve;
-pub mod faults;
+mod curve;
+mod faults;
 mod knots;
 mod levels;
-pub mod map;
-pub mod map_data;
+mod map;
+mod map_data;
+mod squares;
 
 pub use asked::AskedSpeed;
 pub use curve::Curve;

@@ -2,6 +2,7 @@
 
 ghost use Rattle.std.specs.Prelude.{◌≡◌, ℕ, pos, ◌+◌, ◌*◌, ◌/◌, ◌^◌, ◌<◌, ◌≤◌, ◌+ℤ◌, ◌≤ℤ◌, length, map, unsigned_abs, slice_index, slice_index_or, IfOk, IfErr};
 ghost use Rattle.sdm_rules.specs.Slopes.{SlopeMap, meaning_of, bands_of, IsUsable};
+ghost use Rattle.sdm_rules.specs.Curves.{cell_start};
 ghost use Rattle.sdm_curve.specs.Maps.{map_data, handed_in, AreStarts, IsMapData, AreAccepted, IsKeptMap};
 ghost use Rattle.sdm_curve.specs.Integrals.{AreRates, AreSums, IsSummed, segment_start, slope_of, sum_of};
 ghost use Rattle.sdm_curve.specs.Faults.{IsMapFault};
@@ -217,7 +218,7 @@ impl BandMap {
     }
 
     /// The energy of a grain in a band and a segment, both counted from 0: 27 times the slope.
-    pub(crate) fn rate(&self, band: usize, i: usize) -> u64
+    pub fn rate(&self, band: usize, i: usize) -> u64
         requires known_band { band < bands_of self.now.uppers }
         requires known { i < length self.now.starts }
         ensures value { result ≡ 27 * slope_of self.now band i }
@@ -246,6 +247,15 @@ impl BandMap {
         ensures kept { IsKeptMap (handed_in self.now) }
     {
         segment_start(&self.starts, i)
+    }
+
+    /// The place where a segment begins, in 1/scale grain.
+    #[tactic(auto, using(crate::proofs::Meanings::scaled_start))]
+    pub fn scaled_segment_start(&self, scale: u32, i: usize) -> i128
+        requires { i < length self.now.starts }
+        ensures { result ≡ cell_start scale (slice_index_or self.now.starts i (pos 0)) }
+    {
+        (u128::from(scale) * u128::from(self.segment_start(i))) as i128
     }
 
     /// The energy in a band from cell 0 to the start of a segment.

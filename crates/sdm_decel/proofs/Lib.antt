@@ -1,6 +1,5 @@
 pub mod Sizes
 pub mod SlopeTerms
-pub mod Gradients
 pub mod Sides
 pub mod Stretches
 pub mod Rows

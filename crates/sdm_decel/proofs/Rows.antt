@@ -34,7 +34,7 @@ module _ {B U : Type 0} (f : B → U → ℤ) (us : List U) where
 -- they rise from above a speed in km/h, and all of so many bands but the last have one
 record RiseFrom (above : ℤ) (bands : ℕ) (uppers : List ℕ) : Type 0 where
   count : bands_of uppers ≡ bands
-  past : (i : ℕ) → i < length uppers → (pos 15_000 *ℤ above) <ℤ pos (get_or uppers i 0)
+  past : (i : ℕ) → i < length uppers → (pos (notches 1) *ℤ above) <ℤ pos (get_or uppers i 0)
   rise : (i j : ℕ) → i < j → j < length uppers → get_or uppers i 0 < get_or uppers j 0
 
 rise_none : (above : ℤ) (uppers : List ℕ) → uppers ≡ [] → RiseFrom above 1 uppers
@@ -44,8 +44,8 @@ rise_none above uppers is = record {
   rise = λ i j l m. absurd (omega (arith, ap length is));
 }
 
-module _ (above upper : ℤ) (x bands : ℕ) (uppers : List ℕ) (is : pos x ≡ pos 15_000 *ℤ upper) (higher : above <ℤ upper) (h : RiseFrom upper bands uppers) where
-  past_more : (i : ℕ) → i < length (x ∷ uppers) → (pos 15_000 *ℤ above) <ℤ pos (get_or (x ∷ uppers) i 0)
+module _ (above upper : ℤ) (x bands : ℕ) (uppers : List ℕ) (is : pos x ≡ pos (notches 1) *ℤ upper) (higher : above <ℤ upper) (h : RiseFrom upper bands uppers) where
+  past_more : (i : ℕ) → i < length (x ∷ uppers) → (pos (notches 1) *ℤ above) <ℤ pos (get_or (x ∷ uppers) i 0)
   past_more zero l = omega (arith, ints)
   past_more (suc i) l = omega (arith, ints, h.past i (omega arith))
 
@@ -57,7 +57,7 @@ module _ (above upper : ℤ) (x bands : ℕ) (uppers : List ℕ) (is : pos x ≡
   rise_more : RiseFrom above (suc bands) (x ∷ uppers)
   rise_more = record { count = (let count = h.count in omega arith); past = past_more; rise = rise_in }
 
-notches_is : (upper : ℤ) → pos 0 ≤ℤ upper → pos (notches (unsigned_abs upper)) ≡ pos 15_000 *ℤ upper
+notches_is : (upper : ℤ) → pos 0 ≤ℤ upper → pos (notches (unsigned_abs upper)) ≡ pos (notches 1) *ℤ upper
 notches_is (pos n) h = refl
 notches_is (negsuc n) h = absurd (omega (arith, ints))
 

@@ -1,6 +1,6 @@
 -- All changes in order, each once, are the first cells of stretches in each of which the same lies under the train: from the first
 -- cell of its stretch up to a cell no change lies between.
-use Rattle.std.proofs.Common.{◌≡◌, ℕ, zero, suc, ℤ, pos, negsuc, List, [], ◌∷◌, ◌++◌, map, All, Contains, length, get_or, unsigned_abs, ◌*◌, ◌<◌, ◌≤◌, ◌+ℤ◌, ◌≤ℤ◌, ◌<ℤ◌, ap, sym, refl, ◌∙◌, arith, inl, inr, length-append}
+use Rattle.std.proofs.Common.{◌≡◌, ℕ, zero, suc, ℤ, pos, negsuc, List, [], ◌∷◌, ◌++◌, map, All, Contains, length, get_or, unsigned_abs, ◌+◌, ◌*◌, ◌<◌, ◌≤◌, ◌+ℤ◌, ◌≤ℤ◌, ◌<ℤ◌, ap, sym, refl, ◌∙◌, arith, inl, inr, length-append}
 use Rattle.std.specs.Int.{int_max}
 use Rattle.std.specs.List.Sorted.{IsStrictlyIncreasing}
 use Rattle.std.proofs.lemmas.Int.{ints, clamps, by_lt_z}
@@ -13,7 +13,7 @@ use Rattle.sdm_rules.specs.declared.data.Area.{Area}
 use Rattle.sdm_rules.specs.Data.{TrackData}
 use Rattle.sdm_rules.specs.Decelerations.{under_train}
 use Rattle.sdm_rules.specs.Slopes.{segment_of}
-use Rattle.sdm_rules.specs.Ranges.{longest_track, longest_train}
+use Rattle.sdm_rules.specs.Ranges.{longest_track, longest_train, most_areas, most_gradients}
 use Rattle.sdm_laws.proofs.Segments.{in_segment, IsInSegment}
 use Rattle.sdm_track.specs.declared.under_train.Segment.{Segment}
 use Rattle.sdm_track.specs.Ranges.{IsTrack, IsArea}
@@ -55,10 +55,10 @@ length_areas length_cm [] = refl
 length_areas length_cm (a ∷ more) = omega (arith, length_areas length_cm more)
 
 abbrev IsNear : ℕ → Type 0
-IsNear x = x ≤ 10_200_000
+IsNear x = x ≤ longest_track + longest_train
 
 near_gradients : (segments : List Segment) → AreSegments segments → All IsNear (gradient_starts segments)
-near_gradients segments h = All-map IsNear (λ (s : Segment). unsigned_abs s.start) segments (λ k d l. let s = h.each k d l in nat_near _ 10_200_000 s.not_before (let past = s.not_past in omega (arith, ints)))
+near_gradients segments h = All-map IsNear (λ (s : Segment). unsigned_abs s.start) segments (λ k d l. let s = h.each k d l in nat_near _ (longest_track + longest_train) s.not_before (let past = s.not_past in omega (arith, ints)))
 
 near_areas : (track_cm : ℤ) (length_cm : ℕ) (areas : List Area) → track_cm ≤ℤ pos longest_track → length_cm ≤ longest_train → All (IsArea track_cm) areas → All IsNear (area_ends length_cm areas)
 near_areas track_cm length_cm [] long short each = All-nil IsNear
@@ -67,8 +67,8 @@ near_areas track_cm length_cm (a ∷ more) long short each =
     let before = here.not_before in
     let some = here.some_cell in
     let ends = here.on_track in
-    All-cons IsNear (unsigned_abs a.start) (unsigned_abs (a.end +ℤ pos length_cm) ∷ area_ends length_cm more) (nat_near a.start 10_200_000 before (omega (arith, ints)))
-    (All-cons IsNear (unsigned_abs (a.end +ℤ pos length_cm)) (area_ends length_cm more) (nat_near (a.end +ℤ pos length_cm) 10_200_000 (omega (arith, ints)) (omega (arith, ints))) (near_areas track_cm length_cm more long short (All-tail (IsArea track_cm) a more each)))
+    All-cons IsNear (unsigned_abs a.start) (unsigned_abs (a.end +ℤ pos length_cm) ∷ area_ends length_cm more) (nat_near a.start (longest_track + longest_train) before (omega (arith, ints)))
+    (All-cons IsNear (unsigned_abs (a.end +ℤ pos length_cm)) (area_ends length_cm more) (nat_near (a.end +ℤ pos length_cm) (longest_track + longest_train) (omega (arith, ints)) (omega (arith, ints))) (near_areas track_cm length_cm more long short (All-tail (IsArea track_cm) a more each)))
 
 -- ---- the cells in order
 
@@ -119,7 +119,7 @@ module _ (track : TrackData) (length_cm : ℕ) (segments : List Segment) (all ce
   near_all : All IsNear all
   near_all = rw all_is (All-append IsNear ((0 ∷ []) ++ gradient_starts segments) _ (All-append IsNear (0 ∷ []) _ (All-cons IsNear 0 [] (omega arith) (All-nil IsNear)) (near_gradients segments given.in_range)) (near_areas track.length_cm length_cm track.areas in_range.longest short in_range.areas.each))
 
-  few_all : length all ≤ 1_152
+  few_all : length all ≤ 2 * most_gradients + 2 * most_areas
   few_all = rw all_is (omega (arith, given.in_range.few, in_range.areas.few, length_areas length_cm track.areas, length-append ((0 ∷ []) ++ gradient_starts segments) (area_ends length_cm track.areas), length-map segments (λ (s : Segment). unsigned_abs s.start)))
 
   has_zero : Contains all 0
@@ -174,6 +174,6 @@ module _ (track : TrackData) (length_cm : ℕ) (segments : List Segment) (all ce
     stretches_are = record {
       starts = starts;
       few = rw length-map (omega (arith, few_all));
-      near = All-map (λ (s : ℤ). s ≤ℤ pos 10_200_000) pos cells (λ k d l. let near = near_cells from k d l in omega (arith, ints));
+      near = All-map (λ (s : ℤ). s ≤ℤ pos (longest_track + longest_train)) pos cells (λ k d l. let near = near_cells from k d l in omega (arith, ints));
       same = same_at;
     }

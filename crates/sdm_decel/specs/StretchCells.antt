@@ -1,10 +1,11 @@
 -- The cells of the front end where what lies under the train may change, and the segments of track that begin there (own).
-use Rattle.std.specs.Prelude.{◌≡◌, ℕ, ℤ, pos, List, [], ◌∷◌, map, All, length, slice_index_or, unsigned_abs, ◌≤◌, ◌+ℤ◌, ◌≤ℤ◌}
+use Rattle.std.specs.Prelude.{◌≡◌, ℕ, ℤ, pos, List, [], ◌∷◌, map, All, length, slice_index_or, unsigned_abs, ◌+◌, ◌≤◌, ◌+ℤ◌, ◌≤ℤ◌}
 use Rattle.std.specs.Int.{int_max}
 use Rattle.std.specs.List.{flat_map}
 use Rattle.sdm_rules.specs.declared.data.Area.{Area}
 use Rattle.sdm_rules.specs.Data.{TrackData}
 use Rattle.sdm_rules.specs.Decelerations.{under_train}
+use Rattle.sdm_rules.specs.Ranges.{longest_track, longest_train}
 use Rattle.sdm_rules.specs.Slopes.{segment_of}
 use Rattle.sdm_track.specs.declared.under_train.Segment.{Segment}
 use Rattle.sdm_track.specs.Segments.{AreSegments, segment_gradient}
@@ -28,5 +29,5 @@ area_ends length_cm areas = flat_map (λ a. unsigned_abs a.start ∷ unsigned_ab
 pub record AreStretches (track : TrackData) (length_cm : ℤ) (cells : List ℤ) : Type 0 where
   pub starts : AreStarts cells
   pub few : length cells ≤ 2_000
-  pub near : All (λ s. s ≤ℤ pos 10_200_000) cells
+  pub near : All (λ s. s ≤ℤ pos (longest_track + longest_train)) cells
   pub same : (c : ℤ) → under_train track length_cm (int_max c (pos 0)) ≡ under_train track length_cm (slice_index_or cells (segment_of cells c) (pos 0))

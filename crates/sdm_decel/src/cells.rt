@@ -1,7 +1,7 @@
 //! Where what lies under the train may change: where the gradient under it does, where an area of a list begins, and where its
 //! rear end has left one. Between two such cells the decelerations stay the same.
 
-ghost use Rattle.std.specs.Prelude.{◌≡◌, ℕ, ℤ, pos, ◌++◌, map, All, Contains, IfOk, OnOk, length, ◌≤◌};
+ghost use Rattle.std.specs.Prelude.{◌≡◌, ℕ, ℤ, pos, ◌++◌, map, All, Contains, IfOk, OnOk, length, ◌+◌, ◌≤◌};
 ghost use Rattle.std.specs.List.Sorted.{IsStrictlyIncreasing};
 ghost use Rattle.sdm_rules.specs.Ranges.{longest_track, longest_train};
 ghost use Rattle.sdm_track.specs.Ranges.{IsArea};
@@ -48,7 +48,7 @@ fn put_in_order(cells: &mut Vec<u32>)
 
 // The cells as the starts of a slope map.
 fn starts_of(alloc: Global, cells: &[u32]) -> Result<Vec<i32>, NoMemory>
-    requires { All (λ c. c ≤ 10_200_000) cells.now }
+    requires { All (λ c. c ≤ longest_track + longest_train) cells.now }
     ensures { IfOk result (λ v. v.items ≡ map pos cells.now) }
 {
     let mut starts = Vec::new(alloc);

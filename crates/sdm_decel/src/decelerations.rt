@@ -20,6 +20,9 @@ const GRAVITY: i64 = 196_200_000 * GRADIENT_UNIT;
 /// Kn · grad / 1000 for 1 cm/s² and a gradient of 1, in 1/(2·10⁹) m/s². (SUBSET-026-3 3.13.6.4; own form)
 const KN_UNIT: i64 = 2_000 * GRADIENT_UNIT;
 
+/// Kn · grad / 1000 for the greatest Kn, 1,000 cm/s², and a gradient of 1, in 1/(2·10⁹) m/s². (ranges own)
+const GREATEST_KN: u64 = 1_000 * KN_UNIT as u64;
+
 /// How far a gradient may lie from the level, in the unit of gradients.
 const STEEPEST: u64 = sdm_rules::STEEPEST as u64;
 
@@ -119,7 +122,7 @@ fn kn_term(band: &Band, grad: i64) -> i64
     ensures value { result ≡ kn_term band.now grad }
     ensures size { unsigned_abs result ≤ 1_600_000_000 }
 {
-    product::<20_000_000, STEEPEST>(KN_UNIT * kn_of(band, grad), grad)
+    product::<GREATEST_KN, STEEPEST>(KN_UNIT * kn_of(band, grad), grad)
 }
 
 // What the brakes give, in 1/(2·10⁹) m/s²: A_brake_safe, A_brake_service, or A_brake_normal_service less Kn · grad / 1000.

@@ -3,7 +3,7 @@
 #![tactic(auto)]
 
 pub mod laws;
-pub mod motion;
+mod motion;
 mod slices;
 mod slopes;
 mod steps;

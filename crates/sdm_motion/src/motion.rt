@@ -43,7 +43,6 @@ fn are_in_range(points: &[Point]) -> bool
 
 // The place where a motion begins.
 fn beginning(m: u32, start: &Start) -> i128
-    requires { m ≤ 256 }
     ensures value { result ≡ pos m *ℤ start.now.front }
     ensures front { IsPlace start.now.front }
 {

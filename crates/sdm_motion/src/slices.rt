@@ -6,6 +6,12 @@ ghost use Rattle.sdm_motion.specs.Slices.{IsCut, length_of, speed_after};
 
 use sdm_rules::{Phase, Slice, Start};
 
+/// Notches of 1 mm/s, which 1 cm/s² gains in a ds.
+const MM_S: u128 = 54;
+
+/// Grains of a notch in a ds.
+const NOTCH_DS: u128 = 1_000_000;
+
 // The greatest acceleration of a phase, in cm/s².
 fn accel_in(start: &Start, phase: Phase) -> u16
     ensures { result ≡ accel_in start.now phase }
@@ -23,10 +29,10 @@ fn is_slice(accel: u16, speed: u64, slice: &Slice) -> bool
     let time = u128::from(slice.time);
     let from = u128::from(speed);
     let to = u128::from(slice.to);
-    if from + 54 * u128::from(accel) * time < to {
+    if from + MM_S * u128::from(accel) * time < to {
         return false;
     }
-    2 * u128::from(slice.length) <= 1_000_000 * (from + to) * time
+    2 * u128::from(slice.length) <= NOTCH_DS * (from + to) * time
 }
 
 // Whether each slice does so from the end of the one before it.

@@ -2,7 +2,7 @@
 
 ghost use Rattle.std.specs.Prelude.{◌≡◌, ◌↔◌, ◌+◌, ◌*◌, ◌^◌, ◌<◌, ◌≤◌, ◌+ℤ◌, ◌≤ℤ◌, pos, neg_ℤ, length, IsTrue, All};
 ghost use Rattle.sdm_rules.specs.Slopes.{bands_of, meaning_of};
-ghost use Rattle.sdm_rules.specs.Curves.{grain_energy, upper_square};
+ghost use Rattle.sdm_rules.specs.Curves.{upper_square};
 ghost use Rattle.sdm_rules.specs.Motion.{lower_square, BrakesAtLeast, IsInBand, IsStep};
 ghost use Rattle.sdm_curve.specs.Integrals.{slope_of};
 ghost use Rattle.sdm_motion.specs.Motions.{IsPointInRange};
@@ -12,58 +12,37 @@ use crate::slopes::{first_met, have_slope};
 use sdm_curve::BandMap;
 use sdm_rules::Point;
 
-// The square at the upper speed of a band.
-fn upper_square(m: u32, map: &BandMap, band: usize) -> u128
-    requires few { m ≤ 256 }
-    requires known { band < length map.now.uppers }
-    ensures { result ≡ upper_square (meaning_of map.now) m band }
-{
-    let upper = u128::from(map.upper(band).notches());
-    u128::from(m) * (upper * upper)
-}
-
 // Whether the square is at or above the lower border of a band; the first one has none.
 fn is_above(m: u32, map: &BandMap, band: usize, square: u128) -> bool
-    requires few { m ≤ 256 }
-    requires known { band < bands_of map.now.uppers }
+    requires { band < bands_of map.now.uppers }
     ensures { IsTrue result ↔ (lower_square (meaning_of map.now) m band ≤ square) }
 {
     if band == 0 {
         return true;
     }
-    upper_square(m, map, band - 1) <= square
+    map.upper_square(m, band - 1) <= square
 }
 
 // Whether the square is at or below the upper border of a band; the last one has none.
 fn is_below(m: u32, map: &BandMap, band: usize, square: u128) -> bool
-    requires few { m ≤ 256 }
-    requires known { band < bands_of map.now.uppers }
+    requires { band < bands_of map.now.uppers }
     ensures { IsTrue result ↔ (band < length map.now.uppers → square ≤ upper_square (meaning_of map.now) m band) }
 {
     if map.bands() <= band + 1 {
         return true;
     }
-    square <= upper_square(m, map, band)
+    square <= map.upper_square(m, band)
 }
 
 // Whether the square lies in the band, its borders included.
 fn is_in_band(m: u32, map: &BandMap, band: usize, square: u128) -> bool
-    requires few { m ≤ 256 }
-    requires known { band < bands_of map.now.uppers }
+    requires { band < bands_of map.now.uppers }
     ensures { IsTrue result ↔ IsInBand (meaning_of map.now) m band square }
 {
     if !is_above(m, map, band, square) {
         return false;
     }
     is_below(m, map, band, square)
-}
-
-// The energy of a change of the square.
-fn energy_of(map: &BandMap, change: u128) -> u128
-    requires { change ≤ 10 ^ 17 }
-    ensures { result ≡ grain_energy (meaning_of map.now) change }
-{
-    5_000_000_000_000 * u128::from(map.q()) * change
 }
 
 /// The distance from a place to a point that is not before it.
@@ -87,16 +66,14 @@ fn brakes(map: &BandMap, band: usize, i: usize, from: &Point, to: &Point) -> boo
     requires slower { to.now.square ≤ from.now.square }
     ensures { IsTrue result ↔ BrakesAtLeast (meaning_of map.now) (slope_of map.now band i) from.now.place from.now.square to.now.place to.now.square }
 {
-    let energy = energy_of(map, from.square - to.square);
-    let slope = u128::from(map.natural_slope(band, i));
-    27 * slope * distance_to(to, from.place) <= energy
+    let energy = map.energy_of_change((from.square - to.square) as u64);
+    u128::from(map.rate(band, i)) * distance_to(to, from.place) <= energy
 }
 
 // Whether all cells of the stretch have one slope in the band, and the train brakes at least with it. A point that stays asks
 // no slope.
 fn brakes_in(m: u32, map: &BandMap, band: usize, from: &Point, to: &Point) -> bool
     requires some { 0 < m }
-    requires few { m ≤ 256 }
     requires known { band < bands_of map.now.uppers }
     requires from { IsPointInRange from.now }
     requires to { IsPointInRange to.now }
@@ -117,7 +94,6 @@ fn brakes_in(m: u32, map: &BandMap, band: usize, from: &Point, to: &Point) -> bo
 // Whether the step is possible in the band.
 fn is_step_in(m: u32, map: &BandMap, band: usize, from: &Point, to: &Point) -> bool
     requires some { 0 < m }
-    requires few { m ≤ 256 }
     requires known { band < bands_of map.now.uppers }
     requires from { IsPointInRange from.now }
     requires to { IsPointInRange to.now }
@@ -141,7 +117,6 @@ fn is_step_in(m: u32, map: &BandMap, band: usize, from: &Point, to: &Point) -> b
 // Whether the step is possible: in some band that holds both squares.
 fn is_step(m: u32, map: &BandMap, from: &Point, to: &Point) -> bool
     requires some { 0 < m }
-    requires few { m ≤ 256 }
     requires from { IsPointInRange from.now }
     requires to { IsPointInRange to.now }
     ensures { IsTrue result ↔ IsStep (meaning_of map.now) m from.now to.now }
@@ -157,7 +132,6 @@ fn is_step(m: u32, map: &BandMap, from: &Point, to: &Point) -> bool
 /// Whether there are points that brake step by step to a square of 0.
 pub fn are_braking(m: u32, map: &BandMap, points: &[Point]) -> bool
     requires some { 0 < m }
-    requires few { m ≤ 256 }
     requires ranges { All IsPointInRange points.now }
     ensures { IsTrue result ↔ AreBraking (meaning_of map.now) m points.now }
 {

@@ -9,7 +9,7 @@ ghost use Rattle.sdm_rules.specs.Cells.{lowest};
 ghost use Rattle.sdm_rules.specs.Profile.{zones_of_track};
 ghost use Rattle.sdm_rules.specs.Records.{restrict_fault, revoke_fault};
 ghost use Rattle.sdm_rules.specs.Targets.{IsNextFall, HasNoFall};
-ghost use Rattle.sdm_rules.specs.Ranges.{longest_track, longest_train, top_kmh};
+ghost use Rattle.sdm_rules.specs.Ranges.{longest_track, longest_train, most_speeds, top_kmh};
 ghost use Rattle.sdm_track.specs.Ranges.{AreSpeeds};
 ghost use Rattle.sdm_speed.specs.Zones.{IsLimit, IsZone, IsFallInRange, zone_limits};
 ghost use Rattle.sdm_speed.specs.Steps.{AreRising, speeds_of};
@@ -100,7 +100,7 @@ fn static_zones(alloc: Global, speeds: &[SpeedStep], length_cm: u32) -> Result<V
 
 /// The speeds of zones, and at most `top`.
 fn steps_of(alloc: Global, zones: &[Zone], top: u16) -> Result<Steps, NoMemory>
-    requires { length zones.now ≤ 128 }
+    requires { length zones.now ≤ most_speeds }
     ensures speeds { IfOk result (λ steps. (c : ℤ) → speeds_of steps.before steps.list.items c ≡ zone_limits top zones.now c) }
     ensures rising { IfOk result (λ steps. AreRising steps.list.items) }
     ensures few { IfOk result (λ steps. vec_len steps.list ≤ 2 * length zones.now) }

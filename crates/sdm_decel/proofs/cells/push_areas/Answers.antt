@@ -1,5 +1,5 @@
 -- The next area adds its two ends, whose bits are the ends themselves.
-use Rattle.std.proofs.Common.{◌≡◌, ℕ, pos, unsigned_abs, w64, to_z, of_z, ◌+◌, ◌+ℤ◌, ap, ◌∙◌, arith}
+use Rattle.std.proofs.Common.{◌≡◌, ℕ, pos, unsigned_abs, w64, to_z, of_z, ◌+◌, ◌+ℤ◌, ap, arith}
 use Rattle.std.proofs.lemmas.Int.{ints}
 use Rattle.sdm_rules.specs.declared.data.Area.{Area}
 use Rattle.sdm_rules.specs.Ranges.{longest_track}
@@ -13,13 +13,13 @@ start_is a h =
     let before = h.not_before in
     let some = h.some_cell in
     let ends = h.on_track in
-    ap unsigned_abs (stays a.start 10_000_000 (size_within a.start 0 10_000_000 (before, omega (arith, ints))) (omega arith))
+    ap unsigned_abs (stays a.start longest_track (size_within a.start 0 longest_track (before, omega (arith, ints))) (omega arith))
 
 end_is : (a : Area) (length_cm : ℕ) → IsArea (pos longest_track) a → unsigned_abs (to_z w64 (of_z w64 a.end)) + length_cm ≡ unsigned_abs (a.end +ℤ pos length_cm)
 end_is a length_cm h =
     let before = h.not_before in
     let some = h.some_cell in
-    let kept = stays a.end 10_000_000 (size_within a.end 0 10_000_000 (omega (arith, ints), h.on_track)) (omega arith) in
+    let kept = stays a.end longest_track (size_within a.end 0 longest_track (omega (arith, ints), h.on_track)) (omega arith) in
     rw kept (nat_plus a.end length_cm (omega (arith, ints)))
 
 pub loop-area-preserved : goal.loop-area-preserved

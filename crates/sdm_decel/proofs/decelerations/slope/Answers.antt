@@ -1,5 +1,6 @@
 -- Both terms are small, so the bits of the sum are the sum.
 use Rattle.std.proofs.Common.{◌≤◌, ◌+ℤ◌, unsigned_abs, arith}
+use Rattle.sdm_rules.specs.Ranges.{steepest}
 use Rattle.sdm_decel.proofs.Sizes.{stays, sum_size}
 use Rattle.sdm_decel.proofs.SlopeTerms.{slope_is}
 use Rattle.sdm_decel.proofs.decelerations.slope.Goals as goal
@@ -17,5 +18,5 @@ returns-clause-value c =
     let g_is = stays g 18_050_400_000_000 g_small (omega arith) in
     let all_is = stays (s +ℤ g) 205_730_400_000_000 (sum_size s g 187_680_000_000_000 18_050_400_000_000 s_small g_small) (omega arith) in
     let scaled_is = rw (stays q 11_730 q_small (omega arith), stays b 16_000_000_000 c.brake-brake.ensures.size (omega arith)) at c.product-scaled.ensures.value in
-    let grad_is = rw (stays c.grad.result 80 c.grad.ensures.size (omega arith), c.grad.ensures.value, c.rotating_mass.ensures.value) at c.a_gradient.ensures.value in
+    let grad_is = rw (stays c.grad.result (unsigned_abs steepest) c.grad.ensures.size (omega arith), c.grad.ensures.value, c.rotating_mass.ensures.value) at c.a_gradient.ensures.value in
     rw (s_is, g_is, all_is, scaled_is) (slope_is c.args.kind c.args.train.now c.args.national.now c.args.under c.args.band.now c.q_of.result q b g c.q_of.ensures.value c.from.ensures c.brake-brake.ensures.value grad_is)

@@ -10,7 +10,7 @@ use Rattle.sdm_decel.proofs.Stretches.{nat_is}
 use Rattle.sdm_decel.proofs.maps.parts_of.Goals as goal
 
 long_is : (given length_cm : ℤ) → (pos 1 ≤ℤ given) × (given ≤ℤ pos longest_train) → given ≡ length_cm → pos (unsigned_abs (to_z w64 (of_z w64 given))) ≡ length_cm
-long_is given length_cm range is = ap (λ (z : ℤ). pos (unsigned_abs z)) (stays given 150_000 (size_within given 1 150_000 range) (omega arith)) ∙ nat_is given (omega (arith, ints)) ∙ is
+long_is given length_cm range is = ap (λ (z : ℤ). pos (unsigned_abs z)) (stays given longest_train (size_within given 1 longest_train range) (omega arith)) ∙ nat_is given (omega (arith, ints)) ∙ is
 
 pub returns : goal.returns
 returns c =
