@@ -28,3 +28,9 @@ pub record KeepsMore (old new : Option (List ℕ)) (before now : List ℕ) : Typ
   pub some : 0 < length chunk
   pub read : Consumes old new chunk
   pub kept : now ≡ before ++ chunk
+
+-- the bytes that were read, if any, are kept after those that were kept before
+pub record KeepsRead (old new : Option (List ℕ)) (before now : List ℕ) : Type 0 where
+  pub chunk : List ℕ
+  pub read : Consumes old new chunk
+  pub kept : now ≡ before ++ chunk

@@ -1,10 +1,11 @@
 //! The reading loop. It asks for one byte more than the limit allows and never for two, so an input that is too long is
-//! known at the first byte above the limit, and nothing past that byte is taken.
+//! known at the first byte above the limit, and nothing past that byte is taken. A block is cleared before it is read into, so
+//! the first one is small, and a large one takes its place only where a read filled it.
 
-ghost use Rattle.std.specs.Prelude.{◌≡◌, ◌≢◌, ◌+◌, ◌<◌, ◌≤◌, length, true, false, Ok, Err, IfOk, OnOk, IsErrOf};
+ghost use Rattle.std.specs.Prelude.{◌≡◌, ◌≢◌, ◌+◌, ◌<◌, ◌≤◌, length, Ok, Err, IfOk, OnOk, OnErr, IsErrOf};
 ghost use Rattle.std.specs.Io.KnownBytes.{IsAtEnd, Keeps};
 ghost use Rattle.sdm_io.specs.Causes.{Rose};
-ghost use Rattle.sdm_io.specs.Told.{KeepsMore, ReadsExactly, ReadsWithin, Told};
+ghost use Rattle.sdm_io.specs.Told.{KeepsMore, KeepsRead, ReadsExactly, ReadsWithin, Told};
 
 use crate::sources::Source;
 use std::alloc::Global;
@@ -26,44 +27,93 @@ pub enum Unread {
     Memory,
 }
 
-// The most bytes that are asked for at once: 64 KiB.
-const CHUNK: usize = 65_536;
+// The bytes of the first block: 8 KiB. Most inputs are shorter than that, and clearing more would be most of their start.
+const FIRST_BLOCK: usize = 8_192;
 
-// One turn of the reading loop, with so many bytes still free below the limit: the next bytes are kept after those before. True
-// where at least one was taken, so that there may be more; false at the end of the input, which takes none.
+// The bytes of the block for what is longer, and the most that are asked for at once: 64 KiB, so that it takes few calls.
+const BLOCK: usize = 65_536;
+
+// How far the reading over a block came.
+#[derive(Clone, Copy, Debug, PartialEq, Eq)]
+enum Reached {
+    // The end of the input.
+    End,
+
+    // A read that filled the block, so that there may be more.
+    FullBlock,
+}
+
+// One turn of the reading loop, with so many bytes still free below the limit: the next bytes are kept after those before. Says
+// how many; none at the end of the input alone.
+#[inline(always)]
 fn read_chunk<I: Source>(
     input: &mut I,
-    chunk: &mut [u8; CHUNK],
+    block: &mut [u8],
     free: usize,
     bytes: &mut Vec<u8>,
-) -> Result<bool, Unread>
-    ensures more { result ≡ Ok true → KeepsMore (I.left input.old) (I.left input.new) bytes.old.items bytes.new.items }
-    ensures free { result ≡ Ok true → length bytes.new.items ≤ length bytes.old.items + free }
-    ensures last { result ≡ Ok false → IsAtEnd (I.left input.new) }
-    ensures kept { result ≡ Ok false → bytes.new ≡ bytes.old }
+) -> Result<usize, Unread>
+    requires some { 0 < length block.old }
+
+    ensures more { IfOk result (λ n. 0 < n → KeepsMore (I.left input.old) (I.left input.new) bytes.old.items bytes.new.items) }
+    ensures count { IfOk result (λ n. length bytes.new.items ≡ length bytes.old.items + n) }
+    ensures free { IfOk result (λ n. n ≤ free) }
+    ensures last { result ≡ Ok 0 → IsAtEnd (I.left input.new) }
+    ensures kept { result ≡ Ok 0 → bytes.new ≡ bytes.old }
 
     ensures within { ReadsWithin (I.left input.old) (I.left input.new) (free + 1) }
     ensures not_above { result ≢ Err Unread.TooLong → ReadsWithin (I.left input.old) (I.left input.new) free }
     ensures one_above { result ≡ Err Unread.TooLong → ReadsExactly (I.left input.old) (I.left input.new) (free + 1) }
-    ensures none { result ≡ Ok false → Keeps (I.left input.old) (I.left input.new) }
+    ensures none { result ≡ Ok 0 → Keeps (I.left input.old) (I.left input.new) }
 
     ensures later { I.faults input.old ≤ I.faults input.new }
     ensures fault { result ≡ Err Unread.Fault → Rose (I.faults input.old) (I.faults input.new) }
 {
-    let asked = free.min(CHUNK - 1) + 1;
-    let Ok(n) = input.read(&mut chunk[..asked]) else {
+    let asked = free.min(block.len() - 1) + 1;
+    let Ok(n) = input.read(&mut block[..asked]) else {
         return Err(Unread::Fault);
     };
     if n == 0 {
-        return Ok(false);
+        return Ok(0);
     }
     if n > free {
         return Err(Unread::TooLong);
     }
-    if bytes.extend_from_slice(&chunk[..n]).is_err() {
+    if bytes.extend_from_slice(&block[..n]).is_err() {
         return Err(Unread::Memory);
     }
-    Ok(true)
+    Ok(n)
+}
+
+// Reads over a block, with so many bytes still free below the limit: to the end of the input, or until a read filled the block.
+#[inline(always)]
+fn read_blocks<I: Source>(
+    input: &mut I,
+    block: &mut [u8],
+    mut free: usize,
+    bytes: &mut Vec<u8>,
+) -> Result<Reached, Unread>
+    requires some { 0 < length block.old }
+
+    ensures kept { OnOk result (KeepsRead (I.left input.old) (I.left input.new) bytes.old.items bytes.new.items) }
+    ensures free { OnOk result (length bytes.new.items ≤ length bytes.old.items + free) }
+    ensures end { result ≡ Ok Reached.End → IsAtEnd (I.left input.new) }
+    ensures more { result ≡ Ok Reached.FullBlock → length bytes.old.items < length bytes.new.items }
+
+    ensures within { OnErr result (ReadsWithin (I.left input.old) (I.left input.new) (free + 1)) }
+    ensures not_above { OnErr result (result ≢ Err Unread.TooLong → ReadsWithin (I.left input.old) (I.left input.new) free) }
+    ensures one_above { result ≡ Err Unread.TooLong → ReadsExactly (I.left input.old) (I.left input.new) (free + 1) }
+
+    ensures later { I.faults input.old ≤ I.faults input.new }
+    ensures fault { result ≡ Err Unread.Fault → Rose (I.faults input.old) (I.faults input.new) }
+{
+    'chunks: loop {
+        match read_chunk(input, block, free, bytes) {
+            Ok(0) => return Ok(Reached::End),
+            Ok(n) if n == block.len() => return Ok(Reached::FullBlock),
+            Ok(n) => free -= n,
+            Err(unread) => return Err(unread),
+        }
+    }
 }
 
 /// Reads the input to its end, which comes after at most `most` bytes. Errors: Fault, only where the source failed; TooLong,
@@ -82,12 +132,18 @@ pub fn read_to_end<I: Source>(alloc: Global, input: &mut I, most: usize) -> Resu
     ensures fault { IsErrOf result Unread.Fault → Rose (I.faults input.old) (I.faults input.new) }
 {
     let mut bytes = Vec::new(alloc);
-    let mut chunk = [0u8; CHUNK];
-    'chunks: loop {
+    let mut first = [0u8; FIRST_BLOCK];
+    match read_blocks(input, &mut first, most, &mut bytes) {
+        Ok(Reached::End) => return Ok(bytes),
+        Ok(Reached::FullBlock) => {}
+        Err(unread) => return Err(unread),
+    }
+    let mut block = [0u8; BLOCK];
+    'large: loop {
         let free = most - bytes.len();
-        match read_chunk(input, &mut chunk, free, &mut bytes) {
-            Ok(true) => {}
-            Ok(false) => return Ok(bytes),
+        match read_blocks(input, &mut block, free, &mut bytes) {
+            Ok(Reached::End) => return Ok(bytes),
+            Ok(Reached::FullBlock) => {}
             Err(unread) => return Err(unread),
         }
     }

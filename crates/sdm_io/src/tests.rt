@@ -2,9 +2,11 @@
 //! adapters answer a stream that fails. `F` stands for a failure, `.` for the end of a source, `-` for nothing, and `!` for a
 //! flush.
 
+mod reading;
+
 use crate::{
     BlockSink, Failed, FixedSource, MemSink, MemSource, NullSink, Sink, Source, StdSink, StdSource,
-    Unread, read_to_end, write_piece,
+    Unread, write_piece,
 };
 use std::alloc::Global;
 use std::io;
@@ -167,66 +169,6 @@ fn a_piece_is_taken_whole_or_a_front_of_it(rt: HostRuntime) -> Result<(), Fail> 
         assert_eq!(rt; is_whole, *answer == "ok", "{line}");
         assert!(rt; sink.bytes() == bytes_of(taken), "{line}");
     }
-    Ok(())
-}
-
-// bytes | step | failing | limit | answer | what the next read gives
-const INPUTS: &str = "\
-    abc | 9 | - | 3 | ok | .
-    abc | 1 | - | 3 | ok | .
-    abc | 2 | - | 9 | ok | .
-    - | 1 | - | 0 | ok | .
-    abcd | 9 | - | 3 | too long | .
-    abcdef | 9 | - | 3 | too long | ef
-    abcdef | 1 | - | 3 | too long | e
-    abcdef | 1 | 5 | 3 | too long | F
-    a | 1 | - | 0 | too long | .
-    abc | 1 | 1 | 3 | read fault | a
-    abc | 1 | 2 | 3 | read fault | b
-    abc | 1 | 4 | 3 | read fault | .
-    abcd | 1 | 4 | 3 | read fault | d";
-
-#[test]
-fn an_input_is_read_to_its_end_or_to_one_byte_above_the_limit(rt: HostRuntime) -> Result<(), Fail> {
-    let alloc = rt.alloc();
-    for line in INPUTS.lines() {
-        let fields = fields_of(alloc, line)?;
-        let [bytes, step, failing, most, answer, next] = fields.as_slice() else {
-            return Err("no row".into());
-        };
-        let mut source = source_of(alloc, bytes, step, failing)?;
-        match read_to_end(alloc, &mut source, most.parse::<usize>()?) {
-            Ok(read) => {
-                assert_eq!(rt; *answer, "ok", "{line}");
-                assert!(rt; read.as_slice() == bytes_of(bytes), "{line}");
-            }
-            Err(unread) => {
-                let text = format!(in alloc; "{unread}")?;
-                assert_eq!(rt; text.as_str(), *answer, "{line}");
-            }
-        }
-        let mut buf = [0u8; 8];
-        assert!(rt;
-            read_answer(&mut source, &mut buf) == next.as_bytes(),
-            "{line}"
-        );
-    }
-    Ok(())
-}
-
-#[test]
-fn an_input_of_several_chunks_is_read_whole(rt: HostRuntime) -> Result<(), Fail> {
-    let alloc = rt.alloc();
-    let mut bytes = Vec::new(alloc);
-    for i in 0..150_000u32 {
-        bytes.push((i % 251) as u8)?;
-    }
-    let read = read_to_end(alloc, &mut FixedSource::new(&bytes), 150_000)?;
-    assert!(rt; read == bytes);
-    let read = read_to_end(alloc, &mut FixedSource::new(&bytes), usize::MAX)?;
-    assert!(rt; read == bytes);
-    let too_long = read_to_end(alloc, &mut FixedSource::new(&bytes), 149_999);
-    assert!(rt; matches!(too_long, Err(Unread::TooLong)));
     Ok(())
 }
 
