@@ -181,12 +181,7 @@ fn is_before(max: Place, ebi: Option<Early>) -> bool
 
 /// Whether a target above the train's speed is covered: it is met by speed, as most such targets are, or the max safe front end is at or
 /// before its EBI. (own)
-fn is_covered_above(
-    braking: &Braking,
-    asked: &AskedEstimate,
-    max: Place,
-    kept: &KeptTarget,
-) -> bool
+fn is_covered_above(braking: &Braking, asked: &AskedEstimate, max: Place, kept: &KeptTarget) -> bool
     requires asked { IsAsked braking.now asked.now }
     requires kept { IsKeptTarget braking.now kept.now }
     ensures { result ≡ is_covered_for braking.now max asked.now.estimate kept.now.target }
@@ -195,12 +190,7 @@ fn is_covered_above(
 }
 
 /// Whether a target is covered: the max safe front end is at or before its EBI, if it has one, or it is met by speed. (own)
-fn is_covered_for(
-    asked: &AskedEstimate,
-    max: Place,
-    kept: &KeptTarget,
-    ebi: Option<Early>,
-) -> bool
+fn is_covered_for(asked: &AskedEstimate, max: Place, kept: &KeptTarget, ebi: Option<Early>) -> bool
     requires target { IsTarget kept.now.target }
     requires speeds { AreSpeedsOf kept.now.target kept.now.speeds }
     ensures { (d : TrainAndTrack) → IsAsked d asked.now →
@@ -253,13 +243,7 @@ impl Verdict {
     }
 
     /// Adds what a target says. (SUBSET-026-3 3.13.10; own)
-    fn add(
-        &mut self,
-        braking: &Braking,
-        asked: &AskedEstimate,
-        fronts: &Fronts,
-        kept: &KeptTarget,
-    )
+    fn add(&mut self, braking: &Braking, asked: &AskedEstimate, fronts: &Fronts, kept: &KeptTarget)
         requires asked { IsAsked braking.now asked.now }
         requires kept { IsKeptTarget braking.now kept.now }
         ensures { (ts : List Target) →
