@@ -10,7 +10,7 @@ use Rattle.std.specs.declared.cmp.Ordering.TheVariants.{Less, Equal, Greater}
 use Rattle.std.proofs.lemmas.Int.{ints}
 use Rattle.sdm_num.proofs.Comparisons.{not_le_is, not_lt_is}
 use Rattle.sdm_rules.specs.declared.restrictions.Restriction.{Restriction}
-use Rattle.sdm_rules.specs.Profile.{Zone, capped, covers, end_for, lowest_limit, zones_of_track, zone_of}
+use Rattle.sdm_rules.specs.Profile.{Zone, capped, end_for, lowest_limit, zones_of_track, zone_of}
 use Rattle.sdm_rules.specs.Ranges.{longest_track, longest_train}
 use Rattle.sdm_speed.specs.Changes.{AreSameOutside, IsChangedInRange, cells_of}
 use Rattle.sdm_speed.specs.Held.{IsHeldRestriction}

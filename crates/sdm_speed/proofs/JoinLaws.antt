@@ -1,5 +1,5 @@
 -- A step that is taken out leaves the others as they were, and since each start is that of one step, none starts there any more.
-use Rattle.std.proofs.Common.{◌≡◌, ◌⊎◌, ℕ, zero, suc, ℤ, List, [], ◌∷◌, length, get_or, inl, inr, ◌<◌, ◌≤ℤ◌, ◌<ℤ◌, refl, sym, arith}
+use Rattle.std.proofs.Common.{◌≡◌, ◌⊎◌, ℕ, zero, suc, ℤ, List, [], ◌∷◌, length, get_or, inl, inr, ◌<◌, sym, arith}
 use Rattle.std.specs.List.{remove}
 use Rattle.std.proofs.lemmas.Int.{ints}
 use Rattle.sdm_speed.specs.declared.steps.Step.{Step}

@@ -21,8 +21,6 @@ pub struct RowBuf {
     // The row, and after it bytes of no meaning: a number is copied with as many bytes as the longest has.
     bytes: [u8; ALL_BYTES],
     len: usize,
-    // Where a number's digits are written before they are copied. It stands here so that no number has to clear bytes for them.
-    digits: [u8; 40],
 }
 
 impl Model for RowBuf {
@@ -49,15 +47,6 @@ fn write_number(n: i64, text: &mut [u8; 40]) -> usize
     start - 1
 }
 
-// The bytes of the longest number from a start on.
-#[inline(always)]
-fn number_from(text: &[u8; 40], start: usize) -> &[u8]
-    requires { start ≤ 20 }
-    ensures { result.now ≡ take 20 (drop start text.now) }
-{
-    &text[start..start + NUMBER_BYTES]
-}
-
 impl RowBuf {
     /// An empty row.
     pub fn new() -> RowBuf
@@ -66,7 +55,6 @@ impl RowBuf {
         RowBuf {
             bytes: [0; ALL_BYTES],
             len: 0,
-            digits: [0; 40],
         }
     }
 
@@ -92,9 +80,10 @@ impl RowBuf {
         requires { length self.old + length (signed_decimal n) ≤ ROW_BYTES }
         ensures { self.new ≡ self.old ++ signed_decimal n }
     {
-        let start = write_number(n, &mut self.digits);
+        let mut text = [0u8; 40];
+        let start = write_number(n, &mut text);
         let end = self.len + NUMBER_BYTES;
-        self.bytes[self.len..end].copy_from_slice(number_from(&self.digits, start));
+        self.bytes[self.len..end].copy_from_slice(&text[start..start + NUMBER_BYTES]);
         self.len = end - start;
     }
 

@@ -1,5 +1,5 @@
 -- If there is one, it is among those that are left.
-use Rattle.std.proofs.Common.{◌≡◌, pos, drop}
+use Rattle.std.proofs.Common.{pos, drop}
 use Rattle.sdm_speed.specs.ZoneEnds.{IsEndOfOne}
 use Rattle.sdm_speed.proofs.lifts.is_end_of_one.Given as goal
 

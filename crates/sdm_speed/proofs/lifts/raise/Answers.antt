@@ -1,5 +1,5 @@
 -- The steps have the speeds at their starts, and these are the ends of zones that are left, where alone the speeds change.
-use Rattle.std.proofs.Common.{◌≡◌, ℤ, pos, inl, inr, w32, to_z, of_z, subst, sym, ap, ◌∙◌, rules}
+use Rattle.std.proofs.Common.{◌≡◌, pos, inl, inr, w32, to_z, of_z, subst, sym, ap, ◌∙◌, rules}
 use Rattle.std.proofs.lemmas.Int.{to_z-of_z}
 use Rattle.sdm_rules.specs.Profile.{end_for}
 use Rattle.sdm_speed.specs.declared.changes.Changed.{Changed}

@@ -1,7 +1,6 @@
 -- One step more that is covered takes what is left; the others stay.
-use Rattle.std.proofs.Common.{◌≡◌, ◌<◌, ℕ, pos, length, get_or, refl, sym, ap, ◌∙◌, add-one, w32, to_z, of_z, arith, rules, false}
+use Rattle.std.proofs.Common.{◌≡◌, ◌<◌, pos, length, get_or, refl, sym, ap, ◌∙◌, add-one, w32, to_z, of_z, arith, rules}
 use Rattle.std.proofs.lemmas.Int.{to_z-of_z}
-use Rattle.sdm_rules.specs.Profile.{Zone, covers, zone_of}
 use Rattle.sdm_speed.specs.declared.steps.Step.{Step}
 use Rattle.sdm_speed.specs.ZoneEnds.{retaken, speed_under}
 use Rattle.sdm_speed.proofs.CapLaws.{prefix_stays, rest_stays, one_more, not_yet}

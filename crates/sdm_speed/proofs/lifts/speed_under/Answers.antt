@@ -1,6 +1,5 @@
 -- One restriction more lowers the speed.
-use Rattle.std.proofs.Common.{◌≡◌, pos, [], ◌∷◌, get_or, w32, to_z, of_z, ap, ◌∙◌, sym}
-use Rattle.std.proofs.lemmas.Int.{to_z-of_z}
+use Rattle.std.proofs.Common.{pos, [], ◌∷◌, get_or, w32, to_z, of_z, ap, ◌∙◌, sym}
 use Rattle.std.proofs.lemmas.List.{take_more, map-append}
 use Rattle.sdm_rules.specs.Profile.{capped, zone_of}
 use Rattle.sdm_speed.proofs.ZoneLaws.{lowest_limit-push}

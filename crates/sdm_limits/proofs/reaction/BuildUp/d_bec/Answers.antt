@@ -1,5 +1,5 @@
 -- Each part of the sum is one of the gains, maxima and distances that the formula names.
-use Rattle.std.proofs.Common.{◌+◌, rules}
+use Rattle.std.proofs.Common.{rules}
 use Rattle.sdm_limits.proofs.Distances.{d_bec_is}
 use Rattle.sdm_limits.proofs.reaction.BuildUp.d_bec.Goals as goal
 

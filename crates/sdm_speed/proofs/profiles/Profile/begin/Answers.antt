@@ -1,9 +1,8 @@
 -- The steps are those of the static speed profile; no restriction is held.
-use Rattle.std.proofs.Common.{List, [], length, ap, arith}
+use Rattle.std.proofs.Common.{[], arith}
 use Rattle.std.proofs.lemmas.Int.{ints}
 use Rattle.std.proofs.lemmas.List.{append-nil}
 use Rattle.std.proofs.lemmas.List.Elements.{All-nil}
-use Rattle.sdm_speed.specs.declared.steps.Step.{Step}
 use Rattle.sdm_speed.specs.Held.{IsHeldRestriction}
 use Rattle.sdm_speed.proofs.ZoneEndLaws.{zone_ends_none}
 use Rattle.sdm_speed.proofs.HeldLaws.{len_is}

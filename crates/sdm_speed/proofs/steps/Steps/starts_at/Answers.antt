@@ -1,10 +1,9 @@
 -- The first step that does not start before the cell starts at it, or none does.
-use Rattle.std.proofs.Common.{◌≡◌, ◌<◌, ◌≤ℤ◌, length, get_or, w32, w64, to_z, of_z, sym, ap, ◌∙◌, arith, rules}
+use Rattle.std.proofs.Common.{◌≡◌, w32, w64, to_z, of_z, sym, ap, ◌∙◌, arith, rules}
 use Rattle.std.proofs.lemmas.Int.{ints, to_z-of_z}
-use Rattle.std.proofs.lemmas.Bool.{eq-eqb, eqb-true, lt-ltb}
+use Rattle.std.proofs.lemmas.Bool.{eq-eqb, eqb-true}
 use Rattle.std.proofs.lemmas.List.{get_or_default}
 use Rattle.sdm_speed.specs.declared.steps.Step.{Step}
-use Rattle.sdm_speed.specs.Steps.{ArePartedAt}
 use Rattle.sdm_speed.proofs.SplitLaws.{index_is_start}
 use Rattle.sdm_speed.proofs.StepLaws.{none, start_here}
 use Rattle.sdm_speed.proofs.steps.Steps.starts_at.Goals as goal

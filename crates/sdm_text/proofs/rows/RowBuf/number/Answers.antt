@@ -20,5 +20,5 @@ returns c =
     let number : to_z w64 (of_z w64 c.args.n) ≡ c.args.n = to_z-of_z w64 c.args.n c.ranges.n in
     let long : start + length (signed_decimal c.args.n) ≡ 20 = rw number at c.write_number-start.ensures.start in
     let text : take (20 - start) (drop start c.write_number-start.new.text) ≡ signed_decimal c.args.n = rw number at c.write_number-start.ensures.text in
-    let is : take (20 - start) copied ≡ signed_decimal c.args.n = rw (c.copy_from_slice.ensures.after, c.number_from.ensures) (take-take (20 - start) 20 _ (omega arith) ∙ text) in
+    let is : take (20 - start) copied ≡ signed_decimal c.args.n = rw c.copy_from_slice.ensures.after (take-take (20 - start) _ _ (omega arith) ∙ text) in
     prefix_put row.bytes copied _ row.len (row.len + 20 - start) (20 - start) (omega (arith, c.self.invariant)) (omega (arith, c.copy_from_slice.ensures.len)) (omega arith) ∙ rw (is, c.self.view_is) refl
