@@ -1,12 +1,11 @@
 -- The curves of targets that are kept between records (own).
-use Rattle.std.specs.Prelude.{◌≡◌, ℕ, ℤ, pos, negsuc, Bool, true, false, if◌then◌else◌, List, [], ◌∷◌, Option, Some, None, All}
+use Rattle.std.specs.Prelude.{◌≡◌, ℕ, ℤ, pos, Bool, true, false, if◌then◌else◌, List, [], ◌∷◌, Option, Some, None}
 use Rattle.sdm_num.specs.Fractions.{Fraction}
 use Rattle.sdm_num.specs.Readings.{Estimate}
 use Rattle.sdm_rules.specs.declared.authorities.Authority.{Authority}
 use Rattle.sdm_rules.specs.declared.authorities.Authority.TheVariants.{Stop, Limit}
 use Rattle.sdm_rules.specs.declared.data.SlopeKind.{SlopeKind}
 use Rattle.sdm_rules.specs.declared.data.SlopeKind.TheVariants.{Safe, Expected, Normal}
-use Rattle.sdm_rules.specs.declared.targets.Fall.{Fall}
 use Rattle.sdm_rules.specs.declared.targets.TargetKind.{TargetKind}
 use Rattle.sdm_rules.specs.declared.targets.TargetKind.TheVariants.{Mrsp, Loa, Eoa, Svl}
 use Rattle.sdm_rules.specs.declared.targets.Target.{Target}
@@ -16,15 +15,12 @@ use Rattle.sdm_rules.specs.Data.{TrainAndTrack}
 use Rattle.sdm_rules.specs.Decelerations.{slopes_of}
 use Rattle.sdm_rules.specs.Limits.{computed}
 use Rattle.sdm_rules.specs.Margins.{sbi_margin, warning_margin}
-use Rattle.sdm_rules.specs.Targets.{is_fall, foot_speed_of, target_speed, with_margin}
+use Rattle.sdm_rules.specs.Targets.{foot_speed_of, target_speed, with_margin}
 use Rattle.sdm_curve.specs.Made.{BrakeCurve, IsMadeFrom}
-use Rattle.sdm_speed.specs.Falls.{AreAtFalls}
-use Rattle.sdm_speed.specs.Profiles.{ProfileData, mrsp_of}
-use Rattle.sdm_targets.specs.Lists.{IsTarget, target_at}
+use Rattle.sdm_targets.specs.Lists.{IsTarget}
 use Rattle.sdm_braking.specs.declared.kept_targets.KeptTarget.{KeptTarget}
 use Rattle.sdm_braking.specs.declared.kept_ends.KeptEnd.{KeptEnd}
 use Rattle.sdm_braking.specs.declared.kept_ends.KeptEnd.TheVariants.{Stop as KeptStop, Limit as KeptLimit}
-use Rattle.sdm_braking.specs.declared.kept_falls.KeptFall.{KeptFall}
 use Rattle.sdm_braking.specs.declared.speeds.SpeedLimits.{SpeedLimits}
 
 -- a curve that was made from a map of these slopes, with its foot at a place in grains and a foot speed in notches

@@ -1,6 +1,5 @@
 -- Those at or before a cell come first.
-use Rattle.std.proofs.Common.{◌≡◌, int_le, w32, w64, to_z, of_z, arith, rules}
-use Rattle.std.proofs.lemmas.Int.{to_z-of_z}
+use Rattle.std.proofs.Common.{int_le, arith, rules}
 use Rattle.std.proofs.lemmas.List.Sorted.{IsPartitionPoint-from_clause}
 use Rattle.sdm_num.proofs.Comparisons.{le_of, not_le_of}
 use Rattle.sdm_speed.proofs.FallLists.{falls_parted, not_past}

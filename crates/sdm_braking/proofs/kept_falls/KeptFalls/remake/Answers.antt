@@ -1,8 +1,7 @@
 -- The falls up to each new one are made, in their order; what is left at the end lies past the cells that changed, where the profiles are
 -- the same.
-use Rattle.std.proofs.Common.{◌≡◌, ◌+◌, ◌<◌, ◌≤◌, ◌^◌, ◌-ℤ◌, ◌≤ℤ◌, List, pos, length, take, drop, SFits, w32, w64, to_z, of_z, refl, sym, ap, subst, ◌∙◌, arith, rules, length-drop}
+use Rattle.std.proofs.Common.{◌≡◌, ◌<◌, ◌≤◌, ◌^◌, ◌-ℤ◌, ◌≤ℤ◌, List, pos, length, drop, SFits, w32, w64, to_z, of_z, refl, sym, ap, subst, ◌∙◌, arith, rules, length-drop}
 use Rattle.std.proofs.lemmas.Int.{ints, to_z-of_z}
-use Rattle.sdm_rules.specs.Data.{TrainAndTrack}
 use Rattle.sdm_speed.specs.Falls.{AreAtFalls}
 use Rattle.sdm_speed.specs.Profiles.{mrsp_of}
 use Rattle.sdm_speed.proofs.FallLists.{falls_from, rest_at}
