@@ -11,8 +11,9 @@ use std::alloc::Global;
 use std::test::Fail;
 
 /// A train that brakes with 1 m/s² at once needs v² / 2 to stop. In mm, from v in km/h, that is v² * 25,000 / 648.
-fn ebi_by_hand_mm(kmh: i64) -> i64 {
-    (1_000_000 * 648 - kmh * kmh * 25_000).div_euclid(648)
+fn ebi_by_hand_mm(kmh: u16) -> i64 {
+    let v = i64::from(kmh);
+    (1_000_000 * 648 - v * v * 25_000).div_euclid(648)
 }
 
 fn base_braking(alloc: Global) -> Result<Braking, Fail> {
@@ -40,7 +41,7 @@ fn a_limit_is_asked_for_any_whole_speed(rt: HostRuntime) -> Result<(), Fail> {
         let estimate = Estimate::new(Speed::of_kmh(kmh), 0, Speed::new(0)).ok_or("no estimate")?;
         let limits = braking.limits(&braking.asked(estimate), &svl);
         let ebi = limits.ebi.ok_or("no EBI")?.at().mm_below();
-        assert_eq!(rt; i64::from(ebi), ebi_by_hand_mm(i64::from(kmh)), "{kmh}");
+        assert_eq!(rt; i64::from(ebi), ebi_by_hand_mm(kmh), "{kmh}");
     }
     Ok(())
 }
