@@ -12,7 +12,7 @@ pub use bounds::{Early, Late};
 pub use memory::NoMemory;
 pub use places::{CELL, MILLIMETRE, Place};
 pub use readings::{Estimate, Reading};
-pub use speeds::Speed;
+pub use speeds::{Speed, TOP_KMH};
 
 #[cfg(test)]
 mod tests;

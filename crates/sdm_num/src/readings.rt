@@ -5,11 +5,8 @@ ghost use Rattle.std.specs.Option.{SomeIff};
 ghost use Rattle.sdm_num.specs.Readings.{Estimate as EstimateOf, IsEstimate, IsReading, OdometerReading, estimate_of, reading_of};
 
 use crate::places::Place;
-use crate::speeds::Speed;
+use crate::speeds::{Speed, TOP_KMH};
 use std::marker::Model;
-
-/// The greatest estimated speed, in km/h. (own range)
-const TOP_KMH: u16 = 500;
 
 /// The most by which the true speed may be above the estimated one, in mm/s. (own range)
 const MOST_UNDER_MM_S: u32 = 10_000;
@@ -63,7 +60,7 @@ impl Estimate {
         ensures { let estimate : EstimateOf = record { speed = speed; accel = accel; under = under } in
             SomeIff result (IsEstimate estimate) estimate }
     {
-        if speed > Speed::of_kmh(TOP_KMH) || under > Speed::of_mm_s(MOST_UNDER_MM_S) {
+        if speed > Speed::of_kmh(TOP_KMH as u16) || under > Speed::of_mm_s(MOST_UNDER_MM_S) {
             return None;
         }
         if !is_acceleration(accel) {

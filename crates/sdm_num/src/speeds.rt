@@ -5,6 +5,9 @@ ghost use Rattle.sdm_num.specs.Units.{notches, notches_of_mm_s, top_speed, dista
 
 use std::marker::Model;
 
+/// The greatest speed of a train, a target or a speed profile, in km/h. (own range)
+pub const TOP_KMH: u32 = 500;
+
 /// A speed in notches, of which 54 make 1 mm/s and 15,000 make 1 km/h; at most 20,000,000. (own)
 #[derive(Clone, Copy, Debug, PartialEq, Eq, PartialOrd, Ord)]
 pub struct Speed {

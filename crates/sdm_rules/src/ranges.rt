@@ -3,8 +3,7 @@
 ghost use Rattle.std.specs.Prelude.{◌≡◌};
 ghost use Rattle.sdm_rules.specs.Ranges.{first_refused, is_within, is_within_if_any, refused};
 
-/// The greatest speed of a train, a target or a speed profile, in km/h.
-pub const TOP_KMH: u32 = 500;
+pub use sdm_num::TOP_KMH;
 
 /// The longest track, in cm.
 pub const LONGEST_TRACK_CM: u32 = 10_000_000;
