@@ -2,11 +2,11 @@
 //! readings. Each keeps its range in its type, so that no caller tests it again.
 #![tactic(auto)]
 
-pub mod bounds;
+mod bounds;
 pub mod memory;
-pub mod places;
-pub mod readings;
-pub mod speeds;
+mod places;
+mod readings;
+mod speeds;
 
 pub use bounds::{Early, Late};
 pub use memory::NoMemory;

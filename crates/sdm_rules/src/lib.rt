@@ -5,13 +5,13 @@
 #![tactic(auto)]
 
 pub mod authorities;
-pub mod base;
+mod base;
 pub mod commands;
 pub mod data;
 pub mod faults;
 pub mod keys;
 pub mod motions;
-pub mod ranges;
+mod ranges;
 pub mod records;
 pub mod restrictions;
 pub mod rows;

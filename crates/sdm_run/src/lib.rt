@@ -17,6 +17,3 @@ pub use answers::{law_of_outputs, outcome_of, sdm_main, told};
 pub use sdm_report::{EventCause, InputFault, Outcome};
 pub use sdm_supervisor::{CycleFault, Flat, FlatRow};
 pub use words::Command;
-
-#[cfg(test)]
-mod tests;

@@ -10,6 +10,3 @@ pub mod verdicts;
 pub use flat::Flat;
 pub use sdm_rules::{CycleFault, FlatRow, OpenFault, Row, SlopeKind};
 pub use supervisors::Supervisor;
-
-#[cfg(test)]
-mod tests;

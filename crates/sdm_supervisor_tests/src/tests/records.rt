@@ -3,7 +3,7 @@
 ghost use Rattle.std.specs.Prelude.{◌≤◌, IfOk};
 
 use crate::tests::data::{Data, authority, natural, small};
-use crate::{CycleFault, OpenFault, Row, Supervisor};
+use sdm_supervisor::{CycleFault, OpenFault, Row, Supervisor};
 use sdm_national::National;
 use sdm_num::Reading;
 use sdm_speed::Restriction;

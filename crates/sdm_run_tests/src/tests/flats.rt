@@ -1,7 +1,7 @@
 //! Journeys of `flat`, worked by hand, and faults at chosen calls.
 
 use super::{STEADY, Streams, answer_of, bytes_of, fields_of};
-use crate::{CycleFault, Flat, FlatRow};
+use sdm_supervisor::{CycleFault, Flat, FlatRow};
 use sdm_num::{Place, Speed};
 use std::test::Fail;
 

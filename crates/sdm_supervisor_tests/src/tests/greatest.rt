@@ -2,7 +2,7 @@
 //! the first speed lie from 2 km to 99 km, and every band brakes with 1 m/s² on level track: so before an EOA at 1 km, and before one at
 //! 100 km, the limits are those that 20 m/s have on the track of the base data.
 
-use crate::Supervisor;
+use sdm_supervisor::Supervisor;
 use crate::tests::data::{Data, base, set_line};
 use crate::tests::records::answer;
 use sdm_track::{Area, Gradient, SpeedStep};

@@ -6,7 +6,7 @@ ghost use Rattle.sdm_rules.specs.declared.data.SlopeKind.TheVariants.{Safe};
 ghost use Rattle.sdm_rules.specs.Decelerations.{slopes_of};
 ghost use Rattle.sdm_rules.specs.Slopes.{meaning_of};
 
-use crate::Supervisor;
+use sdm_supervisor::Supervisor;
 use crate::tests::data::{base, set_line};
 use sdm_curve::BandMap;
 use sdm_decel::safe;

@@ -5,7 +5,7 @@ mod flats;
 mod journeys;
 mod trials;
 
-use crate::{EventCause, Outcome, outcome_of, sdm_main};
+use sdm_run::{EventCause, Outcome, outcome_of, sdm_main};
 use journeys::{CUTS, PARTS, REFUSALS, RUN_FAULTS, RUNS};
 use sdm_data::BASE_PART;
 use sdm_io::{FixedSource, MemSink, MemSource, NullSink};
