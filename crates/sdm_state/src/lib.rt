@@ -3,15 +3,15 @@
 //! holds.
 #![tactic(auto)]
 
-ghost use Rattle.std.specs.Prelude.{◌≡◌, ◌||◌, ◌&&◌, not};
-ghost use Rattle.sdm_rules.specs.Commands.{commands_after, cut_off_after, emergency_after, is_alarm, is_ceiling, is_released, service_after, status_after};
+ghost use Rattle.std.specs.Prelude.{◌≡◌};
+ghost use Rattle.sdm_rules.specs.Commands.{commands_after, status_after};
 
 pub use sdm_rules::{Held, State, Status, Triggers};
 
 /// The commands and the status after a reading at which `t` is triggered in `state`. `stopped` says that the speed is 0,
 /// `early_release` that the emergency brake may be released before standstill (Q_NVEMRRLS), and `service` that the service
 /// brake is in use. (SUBSET-026-3 3.13.10; own tables)
-#[tactic(auto, unfolding(sdm_rules::specs::Commands::commands_after))]
+#[tactic(auto, unfolding(sdm_rules::specs::Commands::commands_after, sdm_rules::specs::Commands::emergency_after))]
 pub fn next(
     held: Held,
     t: Triggers,
@@ -22,86 +22,35 @@ pub fn next(
 ) -> Held
     ensures { result ≡ commands_after held t state stopped early_release service }
 {
-    let eb = emergency_after(held.eb, t, stopped, early_release);
-    let sb = service_after(held.sb, t, service);
+    let is_released = stopped || (early_release && !t.over);
+    let eb = t.emer || (held.eb && !is_released);
+    let sb = service && (t.serv || (held.sb && t.over));
+    let tco = t.warn || t.serv || t.emer || (held.tco && t.over);
+    let status = status_after(held.status, t, state, sb, eb);
     Held {
-        tco: cut_off_after(held.tco, t),
+        tco,
         sb,
         eb,
-        status: status_after(held.status, t, state, sb, eb),
+        status,
     }
 }
 
-/// The emergency brake command: triggered, or held and not released.
-#[tactic(auto, unfolding(sdm_rules::specs::Commands::emergency_after))]
-fn emergency_after(held: bool, t: Triggers, stopped: bool, early_release: bool) -> bool
-    ensures { result ≡ emergency_after held t stopped early_release }
-{
-    t.emer || (held && !is_released(t, stopped, early_release))
-}
-
-/// Whether a held emergency brake command is released: at standstill, or early where the speed is within the permitted one.
-fn is_released(t: Triggers, stopped: bool, early_release: bool) -> bool
-    ensures { result ≡ is_released t stopped early_release }
-{
-    stopped || (early_release && !t.over)
-}
-
-/// The service brake command: triggered, or held while the permitted speed is passed; never where the brake isn't in use.
-fn service_after(held: bool, t: Triggers, in_use: bool) -> bool
-    ensures { result ≡ service_after held t in_use }
-{
-    in_use && (t.serv || (held && t.over))
-}
-
-/// The traction cut-off: triggered with each warning and brake command, or held while the permitted speed is passed.
-fn cut_off_after(held: bool, t: Triggers) -> bool
-    ensures { result ≡ cut_off_after held t }
-{
-    t.warn || t.serv || t.emer || (held && t.over)
-}
-
-/// The status: the first that holds of intervention, warning, overspeed, indication and normal.
+/// The status: the first that holds of intervention, warning, overspeed, indication and normal. A warning stays over the
+/// permitted speed, also after an intervention.
 fn status_after(last: Status, t: Triggers, state: State, sb: bool, eb: bool) -> Status
     ensures { result ≡ status_after last t state sb eb }
 {
+    let was_alarm = matches!(last, Status::W | Status::X);
     if eb || sb {
         Status::X
-    } else if is_warning(last, t) {
+    } else if t.warn || (t.over && was_alarm) {
         Status::W
     } else if t.over {
         Status::O
-    } else if is_ceiling(state) {
+    } else if state == State::C {
         Status::N
     } else {
         Status::I
-    }
-}
-
-/// Whether the driver is warned: the warning limit is passed, or the permitted speed still is after a warning.
-fn is_warning(last: Status, t: Triggers) -> bool
-    ensures { result ≡ (t.warn || (t.over && is_alarm last)) }
-{
-    t.warn || (t.over && is_alarm(last))
-}
-
-/// Whether the last status was a warning or an intervention.
-fn is_alarm(last: Status) -> bool
-    ensures { result ≡ is_alarm last }
-{
-    match last {
-        Status::N | Status::I | Status::O => false,
-        Status::W | Status::X => true,
-    }
-}
-
-/// Whether the state is ceiling speed monitoring.
-fn is_ceiling(state: State) -> bool
-    ensures { result ≡ is_ceiling state }
-{
-    match state {
-        State::C => true,
-        State::T | State::R => false,
     }
 }
 
