@@ -1,15 +1,16 @@
 //! How a train is braked on its track: its data with what is found from them once, at the opening: the slope maps of the three kinds and
 //! the times of reaction.
 
-ghost use Rattle.std.specs.Prelude.{◌≡◌, ◌≤◌, ◌&&◌, pos, unsigned_abs, IfOk, IfErr};
+ghost use Rattle.std.specs.Prelude.{◌≡◌, ◌≤◌, ◌≤ℤ◌, pos, unsigned_abs, IfOk, IfErr};
 ghost use Rattle.sdm_rules.specs.declared.authorities.Authority.{Authority};
 ghost use Rattle.sdm_rules.specs.declared.data.SlopeKind.TheVariants.{Safe, Expected, Normal};
+ghost use Rattle.sdm_rules.specs.Cells.{place_of_cell};
 ghost use Rattle.sdm_rules.specs.Opening.{IsAcceptedKind, AreBefore};
 ghost use Rattle.sdm_rules.specs.Data.{TrainAndTrack};
 ghost use Rattle.sdm_rules.specs.Decelerations.{slopes_of};
 ghost use Rattle.sdm_rules.specs.Reaction.{reaction_times, service_in_use, v_delta0};
 ghost use Rattle.sdm_rules.specs.Slopes.{meaning_of};
-ghost use Rattle.sdm_rules.specs.Ranges.{longest_train, top_kmh};
+ghost use Rattle.sdm_rules.specs.Ranges.{longest_track, longest_train, top_kmh};
 ghost use Rattle.sdm_decel.specs.Slopes.{train_and_track_from, IsFaultOfKind};
 ghost use Rattle.sdm_limits.specs.Ranges.{AreTimes};
 ghost use Rattle.sdm_braking.specs.Braking.{IsSupervisable, IsRefusal};
@@ -18,7 +19,7 @@ use sdm_curve::{BandMap, CurveFault};
 use sdm_decel::slope_map;
 use sdm_limits::OfTrain;
 use sdm_national::National;
-use sdm_num::Speed;
+use sdm_num::{Place, Speed};
 use sdm_rules::{OpenFault, SlopeKind, Times};
 use sdm_track::Track;
 use sdm_train::Train;
@@ -87,17 +88,7 @@ fn map_of(
     ensures accepted { IfOk result (λ _. IsAcceptedKind kind (train_and_track_from train.now national.now track.now)) }
     ensures refused { IfErr result (λ fault. (a : Authority) → IsRefusal (train_and_track_from train.now national.now track.now) a fault) }
 {
-    match slope_map(alloc, kind, train, national, track) {
-        Ok(map) => Ok(map),
-        Err(fault) => Err(refusal(kind, fault)),
-    }
-}
-
-/// Whether the service brake is in use: the train has one, and the national values permit it. (SUBSET-026-3 3.13.9.3; own)
-fn is_service_in_use(train: &Train, national: &National) -> bool
-    ensures { result ≡ (train.now.service_brake && national.now.service_in_target) }
-{
-    train.service_brake() && national.service_in_target()
+    slope_map(alloc, kind, train, national, track).map_err(|fault| refusal(kind, fault))
 }
 
 /// The times of reaction of the data. (SUBSET-026-3 3.13.9.3)
@@ -111,7 +102,7 @@ fn times_of(train: &Train, national: &National, track: &Track) -> Times
         train.traction_cutoff_interface(),
         train.emergency_time() as u32,
         train.service_time() as u32,
-        is_service_in_use(train, national),
+        train.service_brake() && national.service_in_target(),
     )
 }
 
@@ -132,9 +123,7 @@ impl Braking {
         let expected = map_of(alloc, SlopeKind::Expected, &train, &national, &track)?;
         let normal = map_of(alloc, SlopeKind::Normal, &train, &national, &track)?;
         let times = times_of(&train, &national, &track);
-        // `band_count` and `length_cm` say that the train and the track are within their ranges.
-        let _bands = train.band_count();
-        let _length = track.length_cm();
+        prove!(1 <= train.band_count() && 1 <= track.length_cm());
         Ok(Braking {
             train,
             national,
@@ -160,6 +149,15 @@ impl Braking {
         ensures accepted { IsSupervisable self.now }
     {
         self.track.length_cm()
+    }
+
+    /// The place of a cell's start, in cm, on the track.
+    pub fn place_of(&self, cm: u32) -> Place
+        requires { pos cm ≤ℤ self.now.track.length_cm }
+        ensures place { result ≡ place_of_cell (pos cm) }
+        ensures near { cm ≤ longest_track }
+    {
+        Place::of_cm_from_0(cm)
     }
 
     /// The maximum train speed in km/h, 1 to 500.
@@ -209,11 +207,12 @@ impl Braking {
         &self.times
     }
 
-    /// Whether the service brake is in use. (SUBSET-026-3 3.13.9.3; own)
+    /// Whether the service brake is in use: the train has one, and the national values permit it. (SUBSET-026-3 3.13.9.3; own)
     pub fn is_service_in_use(&self) -> bool
-        ensures { result ≡ service_in_use self.now }
+        ensures value { result ≡ service_in_use self.now }
+        ensures accepted { IsSupervisable self.now }
     {
-        is_service_in_use(&self.train, &self.national)
+        self.train.service_brake() && self.national.service_in_target()
     }
 
     /// Whether guidance curves are permitted (Q_NVGUIPERM).

@@ -10,7 +10,7 @@ pub mod times;
 pub use limits::{Limits, ebd_limits, ebd_limits_at, sbd_limits};
 pub use reaction::{BuildUp, Reaction, reaction_of};
 pub use sdm_rules::Times;
-pub use times::OfTrain;
+pub use times::{OfTrain, T_WARNING};
 
 #[cfg(test)]
 mod tests;
