@@ -1,16 +1,15 @@
 //! How a train is braked on its track: its data with what is found from them once, at the opening: the slope maps of the three kinds and
 //! the times of reaction.
 
-ghost use Rattle.std.specs.Prelude.{◌≡◌, ◌≤◌, ◌≤ℤ◌, pos, unsigned_abs, IfOk, IfErr};
+ghost use Rattle.std.specs.Prelude.{◌≡◌, ◌≤◌, pos, unsigned_abs, IfOk, IfErr};
 ghost use Rattle.sdm_rules.specs.declared.authorities.Authority.{Authority};
 ghost use Rattle.sdm_rules.specs.declared.data.SlopeKind.TheVariants.{Safe, Expected, Normal};
-ghost use Rattle.sdm_rules.specs.Cells.{place_of_cell};
 ghost use Rattle.sdm_rules.specs.Opening.{IsAcceptedKind, AreBefore};
 ghost use Rattle.sdm_rules.specs.Data.{TrainAndTrack};
 ghost use Rattle.sdm_rules.specs.Decelerations.{slopes_of};
 ghost use Rattle.sdm_rules.specs.Reaction.{reaction_times, service_in_use, v_delta0};
 ghost use Rattle.sdm_rules.specs.Slopes.{meaning_of};
-ghost use Rattle.sdm_rules.specs.Ranges.{longest_track, longest_train, top_kmh};
+ghost use Rattle.sdm_rules.specs.Ranges.{longest_train, top_kmh};
 ghost use Rattle.sdm_decel.specs.Slopes.{train_and_track_from, IsFaultOfKind};
 ghost use Rattle.sdm_limits.specs.Ranges.{AreTimes};
 ghost use Rattle.sdm_braking.specs.Braking.{IsSupervisable, IsRefusal};
@@ -19,7 +18,7 @@ use sdm_curve::{BandMap, CurveFault};
 use sdm_decel::slope_map;
 use sdm_limits::OfTrain;
 use sdm_national::National;
-use sdm_num::{Place, Speed};
+use sdm_num::Speed;
 use sdm_rules::{OpenFault, SlopeKind, Times};
 use sdm_track::Track;
 use sdm_train::Train;
@@ -88,7 +87,10 @@ fn map_of(
     ensures accepted { IfOk result (λ _. IsAcceptedKind kind (train_and_track_from train.now national.now track.now)) }
     ensures refused { IfErr result (λ fault. (a : Authority) → IsRefusal (train_and_track_from train.now national.now track.now) a fault) }
 {
-    slope_map(alloc, kind, train, national, track).map_err(|fault| refusal(kind, fault))
+    match slope_map(alloc, kind, train, national, track) {
+        Ok(map) => Ok(map),
+        Err(fault) => Err(refusal(kind, fault)),
+    }
 }
 
 /// The times of reaction of the data. (SUBSET-026-3 3.13.9.3)
@@ -123,7 +125,8 @@ impl Braking {
         let expected = map_of(alloc, SlopeKind::Expected, &train, &national, &track)?;
         let normal = map_of(alloc, SlopeKind::Normal, &train, &national, &track)?;
         let times = times_of(&train, &national, &track);
-        prove!(1 <= train.band_count() && 1 <= track.length_cm());
+        prove!(1 <= train.band_count());
+        prove!(1 <= track.length_cm());
         Ok(Braking {
             train,
             national,
@@ -149,15 +152,6 @@ impl Braking {
         ensures accepted { IsSupervisable self.now }
     {
         self.track.length_cm()
-    }
-
-    /// The place of a cell's start, in cm, on the track.
-    pub fn place_of(&self, cm: u32) -> Place
-        requires { pos cm ≤ℤ self.now.track.length_cm }
-        ensures place { result ≡ place_of_cell (pos cm) }
-        ensures near { cm ≤ longest_track }
-    {
-        Place::of_cm_from_0(cm)
     }
 
     /// The maximum train speed in km/h, 1 to 500.

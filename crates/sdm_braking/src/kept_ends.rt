@@ -30,9 +30,10 @@ impl Braking {
         requires speed { speed ≤ top_kmh }
         ensures { IsKeptAt self.now (record { kind = kind; place = place_of_cell (pos cm); speed = speed }) result }
     {
+        prove!(cm <= self.track_cm());
         self.keep(Target {
             kind,
-            place: self.place_of(cm),
+            place: Place::of_cm_from_0(cm),
             speed,
         })
     }

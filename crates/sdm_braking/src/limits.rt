@@ -8,7 +8,7 @@ ghost use Rattle.sdm_rules.specs.declared.data.SlopeKind.TheVariants.{Expected, 
 ghost use Rattle.sdm_rules.specs.Decelerations.{slopes_of};
 ghost use Rattle.sdm_rules.specs.Targets.{foot_speed_of, target_speed};
 ghost use Rattle.sdm_limits.specs.Ranges.{IsGuide};
-ghost use Rattle.sdm_limits.specs.Sides.{place_of, place_where, places_of};
+ghost use Rattle.sdm_limits.specs.Sides.{AreNear, place_where, places_of};
 ghost use Rattle.sdm_braking.specs.Asked.{IsAsked};
 ghost use Rattle.sdm_braking.specs.KeptCurves.{IsCurveOn, IsKeptTarget, guide_at};
 
@@ -40,7 +40,8 @@ impl Braking {
         requires asked { IsAsked self.now asked.now }
         requires kept { IsKeptTarget self.now kept.now }
         requires no_faster { target_speed kept.now.target ≤ asked.now.estimate.speed }
-        ensures { places_of result ≡ limits_of computed self.now asked.now.estimate kept.now.target }
+        ensures places { places_of result ≡ limits_of computed self.now asked.now.estimate kept.now.target }
+        ensures near { AreNear result }
     {
         let v_est = asked.estimate.speed();
         let guide = self.guide(asked, kept);

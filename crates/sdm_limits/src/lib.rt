@@ -4,8 +4,8 @@
 #![tactic(auto)]
 
 pub mod limits;
-pub mod reaction;
-pub mod times;
+mod reaction;
+mod times;
 
 pub use limits::{Limits, ebd_limits, ebd_limits_at, sbd_limits};
 pub use reaction::{BuildUp, Reaction, reaction_of};

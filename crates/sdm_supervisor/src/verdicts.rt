@@ -1,43 +1,28 @@
 //! What the targets of a reading say together. Each target is looked at once, and what it says is added to what the others said.
 
-ghost use Rattle.std.specs.Prelude.{◌≡◌, ◌≤◌, ◌++◌, ◌∷◌, ℕ, ℤ, All, List, [], map, not, option_map, true};
-ghost use Rattle.std.specs.Int.{int_min};
-ghost use Rattle.std.specs.Option.{option_map_or};
-ghost use Rattle.sdm_num.specs.Readings.{Estimate};
+ghost use Rattle.std.specs.Prelude.{◌≡◌, ◌++◌, ◌∷◌, ◌&&◌, All, List, [], map, nat_lt};
 ghost use Rattle.sdm_rules.specs.Data.{TrainAndTrack};
 ghost use Rattle.sdm_rules.specs.declared.targets.Target.{Target};
-ghost use Rattle.sdm_rules.specs.Limits.{SupervisionLimits, computed, limits_of};
-ghost use Rattle.sdm_rules.specs.Margins.{ebi_margin};
+ghost use Rattle.sdm_rules.specs.Limits.{computed, limits_of};
 ghost use Rattle.sdm_rules.specs.Supervision.{is_covered_for};
-ghost use Rattle.sdm_rules.specs.Targets.{target_speed, with_margin};
-ghost use Rattle.sdm_rules.specs.Triggers.{front_for, is_past, passes, passes_ebi};
-ghost use Rattle.sdm_limits.specs.Sides.{place_of, place_where, places_of};
+ghost use Rattle.sdm_rules.specs.Triggers.{front_for, is_past};
+ghost use Rattle.sdm_limits.specs.Sides.{place_of, place_where};
 ghost use Rattle.sdm_targets.specs.Lists.{IsTarget};
 ghost use Rattle.sdm_braking.specs.Asked.{IsAsked};
 ghost use Rattle.sdm_braking.specs.KeptCurves.{AreKept, AreSpeedsOf, IsKeptTarget, targets_in};
 ghost use Rattle.sdm_braking.specs.KeptFalls.{IsKeptFall, target_of};
-ghost use Rattle.sdm_supervisor.specs.Verdicts.{AreNearest, ArePassed, IsVerdictOf, nearer};
+ghost use Rattle.sdm_supervisor.specs.Verdicts.{IsVerdictOf};
 
+use crate::nearest::Nearest;
 use sdm_braking::{AskedEstimate, Braking, KeptEnd, KeptFall, KeptTarget};
-use sdm_limits::Limits;
 use sdm_num::{Early, Place, Speed};
-use sdm_targets::{Target, TargetKind};
+use sdm_targets::TargetKind;
 
 /// The front ends that targets compare. (SUBSET-026-3 3.13.10.4)
 #[derive(Clone, Copy, Debug, PartialEq, Eq)]
 pub struct Fronts {
     pub est: Place,
     pub max: Place,
-}
-
-/// The nearest limit of each name over targets whose speed is at most the train's; no EBI where they are EOAs alone. (own)
-#[derive(Clone, Copy, Debug, PartialEq, Eq)]
-pub struct Nearest {
-    pub ebi: Option<Place>,
-    pub sbi: Place,
-    pub warning: Place,
-    pub permitted: Place,
-    pub indication: Place,
 }
 
 /// What targets say at a reading: whether the train is above the speed of one of them and past its permitted, warning, service brake
@@ -52,48 +37,6 @@ pub struct Verdict {
     pub indicated: bool,
     pub covered: bool,
     pub nearest: Option<Nearest>,
-}
-
-/// The lesser of two places.
-fn lesser(a: Place, b: Place) -> Place
-    ensures { result ≡ int_min a b }
-{
-    if b.grains() < a.grains() { b } else { a }
-}
-
-/// The nearer of two places, where there are any.
-fn nearer(a: Option<Place>, b: Option<Place>) -> Option<Place>
-    ensures { result ≡ nearer a b }
-{
-    match (a, b) {
-        (None, _) => b,
-        (Some(x), None) => Some(x),
-        (Some(x), Some(y)) => Some(lesser(x, y)),
-    }
-}
-
-/// The nearest limits with those of one more target, which is no faster than the train. (own)
-fn with_limits(nearest: Option<Nearest>, limits: &Limits) -> Option<Nearest>
-    ensures { (v : ℕ) (all : Target → SupervisionLimits) (ts : List Target) (t : Target) → target_speed t ≤ v →
-        places_of limits.now ≡ all t → AreNearest v all ts nearest → AreNearest v all (ts ++ t ∷ []) result }
-{
-    let ebi = limits.ebi.map(|ebi| ebi.at());
-    match nearest {
-        Some(nearest) => Some(Nearest {
-            ebi: nearer(nearest.ebi, ebi),
-            sbi: lesser(nearest.sbi, limits.sbi.at()),
-            warning: lesser(nearest.warning, limits.warning.at()),
-            permitted: lesser(nearest.permitted, limits.permitted.at()),
-            indication: lesser(nearest.indication, limits.indication.at()),
-        }),
-        None => Some(Nearest {
-            ebi,
-            sbi: limits.sbi.at(),
-            warning: limits.warning.at(),
-            permitted: limits.permitted.at(),
-            indication: limits.indication.at(),
-        }),
-    }
 }
 
 /// What no target says: nothing is passed. (own)
@@ -159,7 +102,7 @@ impl Verdict {
             return;
         }
         let limits = braking.limits(asked, kept);
-        self.nearest = with_limits(self.nearest, &limits);
+        self.nearest = Some(Nearest::with(self.nearest, &limits));
         let front = front_for(fronts, kept.target.kind);
         // No limit lies before the indication limit: up to there none is passed.
         if !limits.indication.is_passed_by(front) {
