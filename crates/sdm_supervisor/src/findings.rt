@@ -129,7 +129,9 @@ impl Findings {
         if let Some(nearest) = &self.verdict.nearest {
             // d_W = d_SBI - V_est * T_warning, d_I = d_P - V_est * T_indication (SUBSET-026-3 3.13.9.3.4, 3.13.9.3.6)
             let warning = nearest.sbi.less(self.speed.distance_at(T_WARNING));
-            let indication = nearest.permitted.less(self.speed.distance_at(times.indication));
+            let indication = nearest
+                .permitted
+                .less(self.speed.distance_at(times.indication));
             row.ebi = nearest.ebi.map(|ebi| ebi.mm_below());
             row.sbi = Some(nearest.sbi.mm_below());
             row.warning = Some(warning.mm_below());

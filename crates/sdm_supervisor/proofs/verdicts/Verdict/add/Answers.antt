@@ -23,12 +23,12 @@ returns-then-lt c ts is =
     let slower : e.speed < target_speed t = subst (λ (n : ℕ). e.speed < n) c.requires.kept.speeds.permitted (grind (arith, nat_tests)) in
     let covered : c.if-self.self ≡ (c.args.self.now.covered && is_covered_for d c.args.fronts.now.max e t) =
     elim c.if-self.branch [
-      then-self+then-is_met_by_speed w ↦
-        let met = covered_where_met c.args.fronts.now.max _ (limits_of computed d e t).ebi (sym (w.is_met_by_speed.ensures d c.requires.asked) ∙ w.if-is_met_by_speed.true) in
-        w.self-is ∙ w.if-is_met_by_speed.true ∙ sym (λ k. w.if-self.true k && met k)
-    | then-self+else-is_met_by_speed w ↦
-        w.self-is ∙ w.is_covered.ensures d c.requires.asked w.ebi.ensures ∙ sym (λ k. w.if-self.true k && is_covered_for d c.args.fronts.now.max e t)
-    | else-self w ↦ rw (w.self-is, w.if-self.false) refl
+      | then-self+then-is_met_by_speed w ↦
+          let met = covered_where_met c.args.fronts.now.max _ (limits_of computed d e t).ebi (sym (w.is_met_by_speed.ensures d c.requires.asked) ∙ w.if-is_met_by_speed.true) in
+          w.self-is ∙ w.if-is_met_by_speed.true ∙ sym (λ k. w.if-self.true k && met k)
+      | then-self+else-is_met_by_speed w ↦
+          w.self-is ∙ w.is_covered.ensures d c.requires.asked w.ebi.ensures ∙ sym (λ k. w.if-self.true k && is_covered_for d c.args.fronts.now.max e t)
+      | else-self w ↦ rw (w.self-is, w.if-self.false) refl
     ] in
     record {
       passed = slower_said d e c.args.fronts.now.est c.args.fronts.now.max ts t c.args.self.now c.args.self.now.nearest is.passed slower _ covered;
@@ -65,10 +65,10 @@ returns c ts is =
     let limits = c.limits-limits.ensures.places in
     let emer : c.match-limits.self ≡ passes_ebi e.speed est max 0 t (limits_of computed d e t).ebi =
     elim c.match-limits.branch [
-      in-Some w ↦
-        let ebi = sym (ap place_where w.in-Some.is) ∙ (λ k. (limits k).ebi) in
-        w.self-is ∙ w.passes-in-Some.ensures ∙ (λ k. nat_lt (s.ebi k) (v k) && is_past 0 (front k) (place_of w.in-Some.ebi)) ∙ ap (passes_ebi e.speed est max 0 t) ebi
-    | in-None w ↦ w.self-is ∙ ap (passes_ebi e.speed est max 0 t) (sym (ap place_where w.in-None.is) ∙ (λ k. (limits k).ebi))
+      | in-Some w ↦
+          let ebi = sym (ap place_where w.in-Some.is) ∙ (λ k. (limits k).ebi) in
+          w.self-is ∙ w.passes-in-Some.ensures ∙ (λ k. nat_lt (s.ebi k) (v k) && is_past 0 (front k) (place_of w.in-Some.ebi)) ∙ ap (passes_ebi e.speed est max 0 t) ebi
+      | in-None w ↦ w.self-is ∙ ap (passes_ebi e.speed est max 0 t) (sym (ap place_where w.in-None.is) ∙ (λ k. (limits k).ebi))
     ] in
     record {
       passed = record {
