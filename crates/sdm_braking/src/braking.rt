@@ -1,7 +1,7 @@
 //! How a train is braked on its track: its data with what is found from them once, at the opening: the slope maps of the three kinds and
 //! the times of reaction.
 
-ghost use Rattle.std.specs.Prelude.{◌≡◌, ◌≤◌, ◌&&◌, pos, unsigned_abs, IfOk, IfErr};
+ghost use Rattle.std.specs.Prelude.{◌≡◌, ◌≤◌, pos, unsigned_abs, IfOk, IfErr};
 ghost use Rattle.sdm_rules.specs.declared.authorities.Authority.{Authority};
 ghost use Rattle.sdm_rules.specs.declared.data.SlopeKind.TheVariants.{Safe, Expected, Normal};
 ghost use Rattle.sdm_rules.specs.Opening.{IsAcceptedKind, AreBefore};
@@ -93,13 +93,6 @@ fn map_of(
     }
 }
 
-/// Whether the service brake is in use: the train has one, and the national values permit it. (SUBSET-026-3 3.13.9.3; own)
-fn is_service_in_use(train: &Train, national: &National) -> bool
-    ensures { result ≡ (train.now.service_brake && national.now.service_in_target) }
-{
-    train.service_brake() && national.service_in_target()
-}
-
 /// The times of reaction of the data. (SUBSET-026-3 3.13.9.3)
 #[tactic(auto, unfolding(sdm_rules::specs::Reaction::reaction_times))]
 fn times_of(train: &Train, national: &National, track: &Track) -> Times
@@ -111,7 +104,7 @@ fn times_of(train: &Train, national: &National, track: &Track) -> Times
         train.traction_cutoff_interface(),
         train.emergency_time() as u32,
         train.service_time() as u32,
-        is_service_in_use(train, national),
+        train.service_brake() && national.service_in_target(),
     )
 }
 
@@ -132,9 +125,8 @@ impl Braking {
         let expected = map_of(alloc, SlopeKind::Expected, &train, &national, &track)?;
         let normal = map_of(alloc, SlopeKind::Normal, &train, &national, &track)?;
         let times = times_of(&train, &national, &track);
-        // `band_count` and `length_cm` say that the train and the track are within their ranges.
-        let _bands = train.band_count();
-        let _length = track.length_cm();
+        prove!(1 <= train.band_count());
+        prove!(1 <= track.length_cm());
         Ok(Braking {
             train,
             national,
@@ -209,11 +201,12 @@ impl Braking {
         &self.times
     }
 
-    /// Whether the service brake is in use. (SUBSET-026-3 3.13.9.3; own)
+    /// Whether the service brake is in use: the train has one, and the national values permit it. (SUBSET-026-3 3.13.9.3; own)
     pub fn is_service_in_use(&self) -> bool
-        ensures { result ≡ service_in_use self.now }
+        ensures value { result ≡ service_in_use self.now }
+        ensures accepted { IsSupervisable self.now }
     {
-        is_service_in_use(&self.train, &self.national)
+        self.train.service_brake() && self.national.service_in_target()
     }
 
     /// Whether guidance curves are permitted (Q_NVGUIPERM).

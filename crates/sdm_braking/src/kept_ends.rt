@@ -1,16 +1,14 @@
 //! The targets at the end of the authority with their curves, as a supervisor keeps them between records. They follow from the train and
 //! track and the authority alone.
 
-ghost use Rattle.std.specs.Prelude.{◌≡◌, ◌≤◌, None, pos};
+ghost use Rattle.std.specs.Prelude.{◌≡◌, ◌≤◌, ◌≤ℤ◌, None, pos};
 ghost use Rattle.sdm_rules.specs.Cells.{place_of_cell};
 ghost use Rattle.sdm_rules.specs.declared.authorities.Authority.{Authority};
 ghost use Rattle.sdm_rules.specs.Data.{TrainAndTrack};
 ghost use Rattle.sdm_rules.specs.Records.{authority_fault};
 ghost use Rattle.sdm_rules.specs.Supervision.{is_past_end};
-ghost use Rattle.sdm_rules.specs.Targets.{end_of};
-ghost use Rattle.sdm_rules.specs.Ranges.{longest_track, top_kmh};
+ghost use Rattle.sdm_rules.specs.Ranges.{top_kmh};
 ghost use Rattle.sdm_braking.specs.KeptCurves.{IsKeptAt, IsKeptEnd, brake_curve_of};
-ghost use Rattle.sdm_braking.specs.Braking.{IsSupervisable};
 
 use crate::braking::Braking;
 use crate::kept_targets::KeptTarget;
@@ -26,12 +24,13 @@ pub enum KeptEnd {
 }
 
 impl Braking {
-    /// The target of a kind at a place in cm, with its curves.
+    /// The target of a kind at a place in cm on the track, with its curves.
     fn keep_at(&self, kind: TargetKind, cm: u32, speed: u16) -> KeptTarget
-        requires place { cm ≤ longest_track }
+        requires place { pos cm ≤ℤ self.now.track.length_cm }
         requires speed { speed ≤ top_kmh }
         ensures { IsKeptAt self.now (record { kind = kind; place = place_of_cell (pos cm); speed = speed }) result }
     {
+        prove!(cm <= self.track_cm());
         self.keep(Target {
             kind,
             place: Place::of_cm_from_0(cm),
@@ -39,28 +38,11 @@ impl Braking {
         })
     }
 
-    /// The EOA or the LOA in cm.
-    pub fn end_of(&self, authority: &Authority) -> u32
-        requires { authority_fault self.now.track.length_cm authority.now ≡ None }
-        ensures value { result ≡ end_of authority.now }
-        ensures on_track { result ≤ longest_track }
-        ensures accepted { IsSupervisable self.now }
-    {
-        // `track` says that the track, on which the authority lies, is not longer than it may be.
-        let _track = self.track();
-        match *authority {
-            Authority::Stop { eoa, .. } => eoa,
-            Authority::Limit { loa, .. } => loa,
-        }
-    }
-
     /// The targets at the end of an authority, with their curves.
     pub fn keep_end(&self, authority: &Authority) -> KeptEnd
         requires { authority_fault self.now.track.length_cm authority.now ≡ None }
         ensures { IsKeptEnd self.now authority.now result }
     {
-        // `track` says that the track, on which the authority lies, is not longer than it may be.
-        let _track = self.track();
         match *authority {
             Authority::Stop { eoa, svl, .. } => KeptEnd::Stop {
                 eoa: self.keep_at(TargetKind::Eoa, eoa, 0),

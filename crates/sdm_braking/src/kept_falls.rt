@@ -8,7 +8,6 @@ ghost use Rattle.std.specs.List.{remove};
 ghost use Rattle.sdm_rules.specs.Data.{TrainAndTrack};
 ghost use Rattle.sdm_rules.specs.Records.{most_restrictions};
 ghost use Rattle.sdm_rules.specs.Targets.{is_fall, IsNextFall};
-ghost use Rattle.sdm_rules.specs.Ranges.{longest_track};
 ghost use Rattle.sdm_speed.specs.Changes.{IsChangedInRange};
 ghost use Rattle.sdm_speed.specs.Falls.{AreAtFalls};
 ghost use Rattle.sdm_speed.specs.Profiles.{mrsp_of, IsProfile};
@@ -117,27 +116,6 @@ fn find(list: &[KeptFall], cell: i32) -> Option<&KeptFall>
         return None;
     }
     Some(kept)
-}
-
-/// Those of a list at the falls past the start of a cell.
-fn past(list: &[KeptFall], after: i32) -> &[KeptFall]
-    ensures each { (d : TrainAndTrack) → All (IsKeptFall d) list.now → All (IsKeptFall d) result.now }
-    ensures falls { (p : ℤ → ℕ) (before : ℤ) → before ≤ℤ after → AreAtFalls fall_of p before list.now →
-        AreAtFalls fall_of p after result.now }
-{
-    let begun = reached(list, i64::from(after));
-    &list[begun..]
-}
-
-/// Those of a list up to and with the fall at a place in cm.
-fn up_to(list: &[KeptFall], end: u32) -> &[KeptFall]
-    requires { end ≤ longest_track }
-    ensures each { (d : TrainAndTrack) → All (IsKeptFall d) list.now → All (IsKeptFall d) result.now }
-    ensures falls { (p : ℤ → ℕ) (after : ℤ) → AreAtFalls fall_of p after list.now →
-        falls_past p after (pos end) ≡ map at_fall result.now }
-{
-    let reached = reached(list, i64::from(end));
-    &list[..reached]
 }
 
 impl KeptFalls {
@@ -254,11 +232,13 @@ impl KeptFalls {
 
     /// What is kept of the falls past the start of the cell `after`, up to and with that of a place in cm.
     pub fn ahead(&self, after: i32, end: u32) -> &[KeptFall]
-        requires { end ≤ longest_track }
         ensures each { (d : TrainAndTrack) → All (IsKeptFall d) self.now.list → All (IsKeptFall d) result.now }
         ensures falls { (p : ℤ → ℕ) → AreAtFalls fall_of p first_cell self.now.list →
             falls_past p after (pos end) ≡ map at_fall result.now }
     {
-        up_to(past(&self.list, after), end)
+        let begun = reached(&self.list, i64::from(after));
+        let ahead = &self.list[begun..];
+        let ended = reached(ahead, i64::from(end));
+        &ahead[..ended]
     }
 }

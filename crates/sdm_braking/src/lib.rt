@@ -3,15 +3,15 @@
 //! one makes a brake curve.
 #![tactic(auto)]
 
-pub mod asked;
-pub mod braking;
+mod asked;
+mod braking;
 pub mod kept;
-pub mod kept_ends;
+mod kept_ends;
 pub mod kept_falls;
-pub mod kept_targets;
-pub mod limits;
-pub mod releases;
-pub mod speeds;
+mod kept_targets;
+mod limits;
+mod releases;
+mod speeds;
 
 pub use asked::AskedEstimate;
 pub use braking::Braking;

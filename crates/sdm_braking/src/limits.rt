@@ -8,7 +8,7 @@ ghost use Rattle.sdm_rules.specs.declared.data.SlopeKind.TheVariants.{Expected, 
 ghost use Rattle.sdm_rules.specs.Decelerations.{slopes_of};
 ghost use Rattle.sdm_rules.specs.Targets.{foot_speed_of, target_speed};
 ghost use Rattle.sdm_limits.specs.Ranges.{IsGuide};
-ghost use Rattle.sdm_limits.specs.Sides.{place_of, place_where, places_of};
+ghost use Rattle.sdm_limits.specs.Sides.{AreNear, place_where, places_of};
 ghost use Rattle.sdm_braking.specs.Asked.{IsAsked};
 ghost use Rattle.sdm_braking.specs.KeptCurves.{IsCurveOn, IsKeptTarget, guide_at};
 
@@ -34,66 +34,30 @@ impl Braking {
         }
     }
 
-    /// The limits on a target's EBD. (SUBSET-026-3 3.13.8.3, 3.13.9.3)
-    fn ebd_limits(&self, asked: &AskedEstimate, kept: &KeptTarget, guide: Option<Early>) -> Limits
-        requires asked { IsAsked self.now asked.now }
-        requires no_faster { target_speed kept.now.target ≤ asked.now.estimate.speed }
-        requires ebd { IsCurveOn (slopes_of Safe self.now)
-            kept.now.target.place (foot_speed_of kept.now.target) kept.now.brake }
-        requires guide { IsGuide guide }
-        ensures { places_of result ≡
-            ebd_limits_of computed self.now asked.now.estimate kept.now.target (place_where guide) }
-    {
-        let place = kept.brake.place_asked(self.safe(), &asked.v_bec);
-        let v = asked.estimate.speed();
-        ebd_limits_at(place, guide, self.times(), v, asked.d_bec)
-    }
-
-    /// The limits on the SBD of an EOA. (SUBSET-026-3 3.13.8.4, 3.13.9.3)
-    fn sbd_limits(&self, asked: &AskedEstimate, kept: &KeptTarget, guide: Option<Early>) -> Limits
-        requires asked { IsAsked self.now asked.now }
-        requires sbd { IsCurveOn (slopes_of Expected self.now) kept.now.target.place 0 kept.now.brake }
-        requires guide { IsGuide guide }
-        ensures { places_of result ≡
-            sbd_limits_of computed self.now asked.now.estimate kept.now.target (place_where guide) }
-    {
-        let v = asked.estimate.speed();
-        sbd_limits(self.expected(), &kept.brake, guide, self.times(), v)
-    }
-
     /// The limits of a target that is no faster than the train. (SUBSET-026-3 3.13.9.3; own)
     #[tactic(auto, unfolding(sdm_rules::specs::Limits::limits_of))]
     pub fn limits(&self, asked: &AskedEstimate, kept: &KeptTarget) -> Limits
         requires asked { IsAsked self.now asked.now }
         requires kept { IsKeptTarget self.now kept.now }
         requires no_faster { target_speed kept.now.target ≤ asked.now.estimate.speed }
-        ensures { places_of result ≡ limits_of computed self.now asked.now.estimate kept.now.target }
+        ensures places { places_of result ≡ limits_of computed self.now asked.now.estimate kept.now.target }
+        ensures near { AreNear result }
     {
+        let v_est = asked.estimate.speed();
         let guide = self.guide(asked, kept);
         match kept.target.kind {
             TargetKind::Mrsp | TargetKind::Loa | TargetKind::Svl => {
-                self.ebd_limits(asked, kept, guide)
+                let place = kept.brake.place_asked(self.safe(), &asked.v_bec);
+                ebd_limits_at(place, guide, self.times(), v_est, asked.d_bec)
             }
-            TargetKind::Eoa => self.sbd_limits(asked, kept, guide),
+            TargetKind::Eoa => {
+                sbd_limits(self.expected(), &kept.brake, guide, self.times(), v_est)
+            }
         }
     }
 
-    /// The place of a target's EBI, by V_bec and D_bec for this target, which may be faster than the train. (SUBSET-026-3 3.13.9.3.2)
-    fn ebi_place(&self, asked: &AskedEstimate, kept: &KeptTarget) -> Early
-        requires asked { IsAsked self.now asked.now }
-        requires kept { IsKeptTarget self.now kept.now }
-        requires ebd { IsCurveOn (slopes_of Safe self.now)
-            kept.now.target.place (foot_speed_of kept.now.target) kept.now.brake }
-        ensures { (guide : Option Fraction) → Some (place_of result) ≡
-            (ebd_limits_of computed self.now asked.now.estimate kept.now.target guide).ebi }
-    {
-        let reaction = asked.build_up.reaction(kept.speeds.permitted);
-        kept.brake
-            .place(self.safe(), reaction.v_bec)
-            .less(reaction.d_bec)
-    }
-
-    /// The EBI of a target, whatever its speed: on it no guidance curve bears, and an EOA has none. (SUBSET-026-3 3.13.9.3.2)
+    /// The EBI of a target by V_bec and D_bec for it, which may be faster than the train: on it no guidance curve bears, and an EOA has
+    /// none. (SUBSET-026-3 3.13.9.3.2)
     #[tactic(auto, unfolding(sdm_rules::specs::Limits::limits_of))]
     pub fn ebi(&self, asked: &AskedEstimate, kept: &KeptTarget) -> Option<Early>
         requires asked { IsAsked self.now asked.now }
@@ -102,7 +66,9 @@ impl Braking {
     {
         match kept.target.kind {
             TargetKind::Mrsp | TargetKind::Loa | TargetKind::Svl => {
-                Some(self.ebi_place(asked, kept))
+                let reaction = asked.build_up.reaction(kept.speeds.permitted);
+                let place = kept.brake.place(self.safe(), reaction.v_bec);
+                Some(place.less(reaction.d_bec))
             }
             TargetKind::Eoa => None,
         }

@@ -1,5 +1,5 @@
 -- What limits that were found say of the limits of the profile: where they lie, and which exact ones they stand for (own).
-use Rattle.std.specs.Prelude.{ℕ, ◌≤◌, Option, Some, None, option_map, ⊤}
+use Rattle.std.specs.Prelude.{ℕ, ◌*◌, ◌≤◌, Option, Some, None, option_map, ⊤}
 use Rattle.std.specs.Option.{ForSome}
 use Rattle.sdm_num.specs.Fractions.{Fraction, whole}
 use Rattle.sdm_num.specs.Bounds.{Bound, IsEarlyFor}
@@ -10,6 +10,7 @@ use Rattle.sdm_rules.specs.Limits.{CurvePlaces, SupervisionLimits, ebd_limits_at
 use Rattle.sdm_curve.specs.Made.{BrakeCurve}
 use Rattle.sdm_limits.specs.declared.limits.Limits.{Limits}
 use Rattle.sdm_limits.specs.declared.reaction.Reaction.{Reaction}
+use Rattle.sdm_limits.specs.Ranges.{IsNearZero, reach}
 
 -- the limits on an EBD with a foot, on the slopes of a map, for any way to find the places of a curve
 -- (SUBSET-026-3 3.13.9.3)
@@ -69,3 +70,8 @@ pub record AreFine (l : Limits) : Type 0 where
   pub warning : IsFine l.warning
   pub permitted : IsFine l.permitted
   pub indication : IsFine l.indication
+
+-- the SBI and the permitted limit lie not too far from the origin
+pub record AreNear (l : Limits) : Type 0 where
+  pub sbi : IsNearZero (2 * reach) l.sbi.at
+  pub permitted : IsNearZero (2 * reach) l.permitted.at

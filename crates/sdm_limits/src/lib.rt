@@ -4,13 +4,13 @@
 #![tactic(auto)]
 
 pub mod limits;
-pub mod reaction;
-pub mod times;
+mod reaction;
+mod times;
 
 pub use limits::{Limits, ebd_limits, ebd_limits_at, sbd_limits};
 pub use reaction::{BuildUp, Reaction, reaction_of};
 pub use sdm_rules::Times;
-pub use times::OfTrain;
+pub use times::{OfTrain, T_WARNING};
 
 #[cfg(test)]
 mod tests;

@@ -12,7 +12,7 @@ ghost use Rattle.sdm_rules.specs.Slopes.{meaning_of};
 ghost use Rattle.sdm_rules.specs.Ranges.{top_kmh};
 ghost use Rattle.sdm_curve.specs.Made.{IsMadeFrom};
 ghost use Rattle.sdm_limits.specs.Ranges.{AreTimes, IsGuide, IsNearZero, curve_reach, reach};
-ghost use Rattle.sdm_limits.specs.Sides.{AreFine, IsEarlyWhere, IsFine, IsFineWhere, StandFor, ebd_limits_by, place_of, place_where, places_of, sbd_limits_by};
+ghost use Rattle.sdm_limits.specs.Sides.{AreFine, AreNear, IsEarlyWhere, IsFine, IsFineWhere, StandFor, ebd_limits_by, place_of, place_where, places_of, sbd_limits_by};
 
 use crate::reaction::Reaction;
 use crate::times::{T_DRIVER, T_WARNING};
@@ -57,6 +57,7 @@ pub fn ebd_limits(
     ensures stands { (g : Option Fraction) → IsEarlyWhere guide g →
         StandFor result (ebd_limits_by exact_places safe.now ebd.now g times.now v reaction.now) }
     ensures slack { IsFineWhere guide → AreFine result }
+    ensures near { AreNear result }
 {
     let place = ebd.place(safe, reaction.v_bec);
     ebd_limits_at(place, guide, times, v, reaction.d_bec)
@@ -80,6 +81,7 @@ pub fn ebd_limits_at(
     ensures stands { (g : Option Fraction) (x : Fraction) → IsEarlyWhere guide g → IsEarlyFor place x →
         StandFor result (ebd_limits_at times.now v g d_bec x) }
     ensures slack { IsFineWhere guide → IsFine place → AreFine result }
+    ensures near { AreNear result }
 {
     // d_EBI = d_EBD(V_bec) - D_bec (SUBSET-026-3 3.13.9.3.2)
     let ebi = place.less(d_bec);
@@ -106,6 +108,7 @@ pub fn sbd_limits(
     ensures stands { (g : Option Fraction) → IsEarlyWhere guide g →
         StandFor result (sbd_limits_by exact_places expected.now sbd.now g times.now v) }
     ensures slack { IsFineWhere guide → AreFine result }
+    ensures near { AreNear result }
 {
     // d_SBI = d_SBD(V_est) - V_est * T_bs (SUBSET-026-3 3.13.9.3.3; form own)
     let sbi = sbd.place(expected, v).less(v.distance_at(times.bs));
@@ -130,6 +133,7 @@ fn limits_from_sbi(
         IsEarlyWhere guide g → IsEarlyWhere ebi e → IsEarlyFor sbi s →
         StandFor result (limits_from_sbi times.now v g e s) }
     ensures slack { IsFineWhere guide → IsFineWhere ebi → IsFine sbi → AreFine result }
+    ensures near { AreNear result }
 {
     // d_P = d_SBI - V_est * T_driver, or the guidance curve's place where that is earlier (SUBSET-026-3 3.13.9.3.5)
     let driver = sbi.less(v.distance_at(T_DRIVER));

@@ -1,10 +1,10 @@
 //! What the train may do from the moment on that its emergency brake is commanded until it works.
 
-ghost use Rattle.std.specs.Prelude.{◌≡◌, ◌+◌, ◌*◌, ◌^◌, ◌<◌, ◌≤◌, ◌≤ℤ◌, pos, negsuc};
+ghost use Rattle.std.specs.Prelude.{◌≡◌, ◌+◌, ◌^◌, ◌<◌, ◌≤◌, ◌≤ℤ◌, pos, negsuc};
 ghost use Rattle.sdm_num.specs.Units.{notches, notches_of_mm_s};
-ghost use Rattle.sdm_rules.specs.Reaction.{a_est1, a_est2, build_up, d_bec, v_bec, v_cut_off};
+ghost use Rattle.sdm_rules.specs.Reaction.{build_up, d_bec, v_bec};
 ghost use Rattle.sdm_rules.specs.Ranges.{top_kmh};
-ghost use Rattle.sdm_limits.specs.Ranges.{AreTimes, most_time};
+ghost use Rattle.sdm_limits.specs.Ranges.{AreTimes};
 
 use sdm_num::Speed;
 use sdm_rules::Times;
@@ -23,7 +23,7 @@ pub struct Reaction {
 }
 
 /// How the train goes on from the emergency brake command until the brake works, whichever the target is: speeds in notches,
-/// accelerations in cm/s², times in ds. (SUBSET-026-3 3.13.9.3.2)
+/// accelerations in cm/s², times in ds; 1 cm/s² gains 54 notches in a ds. (SUBSET-026-3 3.13.9.3.2)
 #[derive(Debug, Drop)]
 pub struct BuildUp {
     /// V_est + V_delta0.
@@ -75,7 +75,7 @@ impl BuildUp {
         ensures { result ≡ build_up times.now (v + under) accel }
     {
         // A_est1 is the estimated acceleration, 0 if it is negative; A_est2 is at most 0.4 m/s² (SUBSET-026-3 3.13.9.3.2)
-        let a_est1 = not_negative(accel);
+        let a_est1 = accel.max(0) as u32;
         let a_est2 = a_est1.min(A_EST2_MOST);
         BuildUp {
             speed: v.notches() + under.notches(),
@@ -84,18 +84,9 @@ impl BuildUp {
             traction: times.traction,
             berem: times.berem,
             // V_delta1 = A_est1 * T_traction, V_delta2 = A_est2 * T_berem (SUBSET-026-3 3.13.9.3.2)
-            v_delta1: gain(a_est1, times.traction),
-            v_delta2: gain(a_est2, times.berem),
+            v_delta1: 54 * a_est1 * times.traction,
+            v_delta2: 54 * a_est2 * times.berem,
         }
-    }
-
-    // The greatest speed in notches at the end of T_traction, and at least that of the target.
-    fn v_cut_off(&self, target: Speed) -> u32
-        requires { target ≤ notches top_kmh }
-        ensures value { result ≡ v_cut_off self.now target }
-        ensures small { result ≤ 30_000_000 }
-    {
-        (self.speed + self.v_delta1).max(target.notches())
     }
 
     /// V_bec for a target with a speed of at most 500 km/h. (SUBSET-026-3 3.13.9.3.2)
@@ -104,22 +95,7 @@ impl BuildUp {
         ensures { result ≡ v_bec self.now target }
     {
         // V_bec = max(V_est + V_delta0 + V_delta1, V_target) + V_delta2 (SUBSET-026-3 3.13.9.3.2)
-        Speed::new(self.v_cut_off(target) + self.v_delta2)
-    }
-
-    // D_bec for a target with a speed of at most 500 km/h.
-    fn d_bec(&self, target: Speed) -> u64
-        requires { target ≤ notches top_kmh }
-        ensures value { result ≡ d_bec self.now target }
-        ensures small { result < 10 ^ 16 }
-    {
-        // the greatest mean speed until the end of T_traction
-        let v_mean = Speed::new((self.speed + self.v_delta1 / 2).max(target.notches()));
-        // the greatest mean speed after it
-        let v_after = Speed::new(self.v_cut_off(target) + self.v_delta2 / 2);
-        // D_bec = max(V_est + V_delta0 + V_delta1 / 2, V_target) * T_traction
-        //     + (max(V_est + V_delta0 + V_delta1, V_target) + V_delta2 / 2) * T_berem (SUBSET-026-3 3.13.9.3.2)
-        v_mean.distance_at(self.traction) + v_after.distance_at(self.berem)
+        Speed::new((self.speed + self.v_delta1).max(target.notches()) + self.v_delta2)
     }
 
     /// V_bec and D_bec for a target with a speed of at most 500 km/h. (SUBSET-026-3 3.13.9.3.2)
@@ -129,9 +105,17 @@ impl BuildUp {
         ensures d_bec { result.d_bec ≡ d_bec self.now target }
         ensures small { result.d_bec < 10 ^ 16 }
     {
+        // the greatest speed at the end of T_traction, and at least that of the target
+        let v_cut_off = (self.speed + self.v_delta1).max(target.notches());
+        // the greatest mean speeds until then and after it
+        let v_mean = Speed::new((self.speed + self.v_delta1 / 2).max(target.notches()));
+        let v_after = Speed::new(v_cut_off + self.v_delta2 / 2);
         Reaction {
-            v_bec: self.v_bec(target),
-            d_bec: self.d_bec(target),
+            // V_bec = max(V_est + V_delta0 + V_delta1, V_target) + V_delta2 (SUBSET-026-3 3.13.9.3.2)
+            v_bec: Speed::new(v_cut_off + self.v_delta2),
+            // D_bec = max(V_est + V_delta0 + V_delta1 / 2, V_target) * T_traction
+            //     + (max(V_est + V_delta0 + V_delta1, V_target) + V_delta2 / 2) * T_berem (SUBSET-026-3 3.13.9.3.2)
+            d_bec: v_mean.distance_at(self.traction) + v_after.distance_at(self.berem),
         }
     }
 }
@@ -151,23 +135,4 @@ pub fn reaction_of(times: &Times, v: Speed, under: Speed, accel: i16, target: Sp
     ensures small { result.d_bec < 10 ^ 16 }
 {
     BuildUp::of(times, v, under, accel).reaction(target)
-}
-
-// An acceleration in cm/s², 0 if it is negative.
-fn not_negative(accel: i16) -> u32
-    requires { accel ≤ℤ pos 300 }
-    ensures value { result ≡ a_est1 accel }
-    ensures small { result ≤ 300 }
-{
-    if accel < 0 { 0 } else { accel as u32 }
-}
-
-// By how many notches the speed rises at an acceleration in cm/s² within a time in ds.
-fn gain(accel: u32, time: u32) -> u32
-    requires accel { accel ≤ 300 }
-    requires time { time ≤ most_time }
-    ensures value { result ≡ 54 * accel * time }
-    ensures small { result ≤ 16_200 * accel }
-{
-    54 * accel * time
 }

@@ -7,7 +7,7 @@ ghost use Rattle.sdm_limits.specs.Ranges.{AreTimes, most_time};
 use sdm_rules::Times;
 
 /// T_warning, in ds: how long before the service brake the driver is warned. (SUBSET-026-3 A.3.1; own value)
-pub(crate) const T_WARNING: u32 = 20;
+pub const T_WARNING: u32 = 20;
 
 /// T_driver, in ds: how long the driver has from the permitted limit on. (SUBSET-026-3 A.3.1; own value)
 pub(crate) const T_DRIVER: u32 = 40;

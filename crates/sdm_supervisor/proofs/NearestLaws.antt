@@ -1,5 +1,5 @@
 -- One more target behind the others: the printed limit of a name becomes the lesser of theirs and its own, where its limits count.
-use Rattle.std.proofs.Common.{◌≡◌, ℕ, ℤ, true, false, nat_le, List, [], ◌∷◌, ◌++◌, Option, Some, None, refl, ap, sym, ◌∙◌, ◌≤◌, ◌<◌, ◌≤ℤ◌, ◌<ℤ◌, arith}
+use Rattle.std.proofs.Common.{◌≡◌, ℕ, ℤ, pos, neg_ℤ, ◌+ℤ◌, true, false, nat_le, List, [], ◌∷◌, ◌++◌, Option, Some, None, refl, ap, sym, ◌∙◌, ◌≤◌, ◌<◌, ◌≤ℤ◌, ◌<ℤ◌, arith}
 use Rattle.std.specs.Prelude.{filter, filter_map, option_map}
 use Rattle.std.specs.Int.{int_min}
 use Rattle.std.proofs.lemmas.Bool.{le-leb, lt-leb}
@@ -7,15 +7,25 @@ use Rattle.std.proofs.lemmas.Int.{ints, clamps, by_lt_z}
 use Rattle.std.proofs.lemmas.List.Elements.{filter-append, filter_map-append}
 use Rattle.std.proofs.lemmas.List.Sums.{fold-append}
 use Rattle.std.proofs.lemmas.List.{append-nil}
-use Rattle.sdm_num.specs.Bounds.{mm_below}
-use Rattle.sdm_num.specs.Fractions.{Fraction, floor, whole}
+use Rattle.sdm_num.specs.Bounds.{Bound, mm_below}
+use Rattle.sdm_num.specs.Fractions.{Fraction, floor, less, whole}
+use Rattle.sdm_num.specs.Readings.{Estimate}
+use Rattle.sdm_num.specs.Units.{distance_at}
 use Rattle.sdm_num.proofs.Floors.{floor_low, floor_high}
+use Rattle.sdm_rules.specs.declared.data.Times.{Times}
 use Rattle.sdm_rules.specs.declared.targets.Target.{Target}
-use Rattle.sdm_rules.specs.Limits.{SupervisionLimits}
+use Rattle.sdm_rules.specs.declared.targets.TargetKind.{TargetKind}
+use Rattle.sdm_rules.specs.declared.targets.TargetKind.TheVariants.{Mrsp, Loa, Eoa, Svl}
+use Rattle.sdm_rules.specs.Data.{TrainAndTrack}
+use Rattle.sdm_rules.specs.Limits.{SupervisionLimits, computed, limits_of, limits_of_kind}
+use Rattle.sdm_rules.specs.Reaction.{reaction_times, warning_time}
 use Rattle.sdm_rules.specs.Supervision.{least_of, shown_limit, whole_mm}
 use Rattle.sdm_rules.specs.Targets.{target_speed}
-use Rattle.sdm_supervisor.specs.declared.verdicts.Nearest.{Nearest}
-use Rattle.sdm_supervisor.specs.Verdicts.{AreNearest, nearer}
+use Rattle.sdm_limits.specs.declared.limits.Limits.{Limits}
+use Rattle.sdm_limits.specs.Sides.{place_where, places_of}
+use Rattle.sdm_limits.proofs.Places.{whole_less}
+use Rattle.sdm_supervisor.specs.declared.nearest.Nearest.{Nearest}
+use Rattle.sdm_supervisor.specs.Verdicts.{AreNearest, IsNearer, ebi_in, mm_before, nearer, permitted_in, sbi_in}
 
 -- ---- the lesser of two places in whole millimetres
 
@@ -27,6 +37,9 @@ lesser_first a b h = omega (arith, ints, clamps, h)
 
 lesser_second : (a b : ℤ) → b ≤ℤ a → int_min a b ≡ b
 lesser_second a b h = omega (arith, ints, clamps, h)
+
+lesser_earlier : (a b : ℤ) (k : ℕ) → int_min a b +ℤ neg_ℤ (pos k) ≡ int_min (a +ℤ neg_ℤ (pos k)) (b +ℤ neg_ℤ (pos k))
+lesser_earlier a b k = omega (arith, ints, clamps)
 
 mm_of_lesser : (a b : ℤ) → mm_below (int_min a b) ≡ int_min (mm_below a) (mm_below b)
 mm_of_lesser a b =
@@ -81,12 +94,67 @@ module _ (v : ℕ) (ts : List Target) (t : Target) (limit : Target → Option Fr
       mm_of_nearer x y ∙ (λ k. nearer (so_far k) (sym (mm_where y) k)) ∙ sym (ap least_of (of_more ∙ rw (le-leb (target_speed t) v slow) refl)
       ∙ place_behind (option_map whole_mm (option_map whole y)) (ap (option_map whole_mm) is))
 
+  -- and where each of them is taken so many grains earlier
+  pub with_earlier : target_speed t ≤ v → (k : ℕ) (x : Option ℤ) (y : ℤ) → limit t ≡ Some (whole (y +ℤ neg_ℤ (pos k))) → option_map (mm_before k) x ≡ shown_limit v ts limit →
+      option_map (mm_before k) (nearer x (Some y)) ≡ shown_limit v (ts ++ t ∷ []) limit
+  with_earlier slow k None y is so_far = with_limit slow None (Some (y +ℤ neg_ℤ (pos k))) is so_far
+  with_earlier slow k (Some x) y is so_far =
+      ap (λ z. Some (mm_below z)) (lesser_earlier x y k) ∙ with_limit slow (Some (x +ℤ neg_ℤ (pos k))) (Some (y +ℤ neg_ℤ (pos k))) is so_far
+
 -- the nearest limits are not changed by a target above the train's speed
-pub nearest_without : (v : ℕ) (all : Target → SupervisionLimits) (ts : List Target) (t : Target) (near : Option Nearest) → v < target_speed t → AreNearest v all ts near → AreNearest v all (ts ++ t ∷ []) near
-nearest_without v all ts t near slower is = record {
+pub nearest_without : (times : Times) (v : ℕ) (all : Target → SupervisionLimits) (ts : List Target) (t : Target) (near : Option Nearest) → v < target_speed t → AreNearest times v all ts near →
+    AreNearest times v all (ts ++ t ∷ []) near
+nearest_without times v all ts t near slower is = record {
   ebi = is.ebi ∙ sym (not_counted v ts t (λ u. (all u).ebi) slower);
   sbi = is.sbi ∙ sym (not_counted v ts t (λ u. Some (all u).sbi) slower);
   warning = is.warning ∙ sym (not_counted v ts t (λ u. Some (all u).warning) slower);
   permitted = is.permitted ∙ sym (not_counted v ts t (λ u. Some (all u).permitted) slower);
   indication = is.indication ∙ sym (not_counted v ts t (λ u. Some (all u).indication) slower);
 }
+
+-- ---- limits that lie so many grains before others
+
+module _ (d : TrainAndTrack) (e : Estimate) (t : Target) where
+  warning_of_kind : (kind : TargetKind) → (limits_of_kind computed d e t kind).warning ≡ less (limits_of_kind computed d e t kind).sbi (distance_at e.speed warning_time)
+  warning_of_kind Mrsp = refl
+  warning_of_kind Loa = refl
+  warning_of_kind Eoa = refl
+  warning_of_kind Svl = refl
+
+  indication_of_kind : (kind : TargetKind) →
+      (limits_of_kind computed d e t kind).indication ≡ less (limits_of_kind computed d e t kind).permitted (distance_at e.speed (reaction_times d).indication)
+  indication_of_kind Mrsp = refl
+  indication_of_kind Loa = refl
+  indication_of_kind Eoa = refl
+  indication_of_kind Svl = refl
+
+  warning_of : (limits_of computed d e t).warning ≡ less (limits_of computed d e t).sbi (distance_at e.speed warning_time)
+  unfolding limits_of
+  warning_of = warning_of_kind t.kind
+
+  indication_of : (limits_of computed d e t).indication ≡ less (limits_of computed d e t).permitted (distance_at e.speed (reaction_times d).indication)
+  unfolding limits_of
+  indication_of = indication_of_kind t.kind
+
+whole_where : (b : Option Bound) → place_where b ≡ option_map whole (option_map (λ x. x.at) b)
+whole_where None = refl
+whole_where (Some x) = refl
+
+-- a place so many grains before a whole one
+before_whole : (x y : Fraction) (k : ℕ) (z : ℤ) → x ≡ less y k → whole z ≡ y → Some x ≡ Some (whole (z +ℤ neg_ℤ (pos k)))
+before_whole x y k z is place = ap Some (is ∙ (λ i. less (sym place i) k) ∙ sym (whole_less (z +ℤ neg_ℤ (pos k)) z k refl))
+
+-- each nearest limit becomes the lesser of what it was and the target's
+pub nearest_with : (d : TrainAndTrack) (e : Estimate) (ts : List Target) (t : Target) (l : Limits) (near : Option Nearest) (new : Nearest) → target_speed t ≤ e.speed → places_of l ≡ limits_of computed d e t →
+    IsNearer near l new → AreNearest (reaction_times d) e.speed (limits_of computed d e) ts near → AreNearest (reaction_times d) e.speed (limits_of computed d e) (ts ++ t ∷ []) (Some new)
+nearest_with d e ts t l near new slow places is so_far =
+    let all = limits_of computed d e in
+    let warned = before_whole (all t).warning (all t).sbi (distance_at e.speed warning_time) l.sbi.at (warning_of d e t) (λ k. (places k).sbi) in
+    let indicated = before_whole (all t).indication (all t).permitted (distance_at e.speed (reaction_times d).indication) l.permitted.at (indication_of d e t) (λ k. (places k).permitted) in
+    record {
+      ebi = ap (option_map mm_below) is.ebi ∙ with_limit e.speed ts t (λ u. (all u).ebi) slow (ebi_in near) (option_map (λ x. x.at) l.ebi) (sym (λ k. (places k).ebi) ∙ whole_where l.ebi) so_far.ebi;
+      sbi = ap (option_map mm_below) is.sbi ∙ with_limit e.speed ts t (λ u. Some (all u).sbi) slow (sbi_in near) (Some l.sbi.at) (sym (λ k. Some (places k).sbi)) so_far.sbi;
+      warning = ap (option_map (mm_before (distance_at e.speed warning_time))) is.sbi ∙ with_earlier e.speed ts t (λ u. Some (all u).warning) slow (distance_at e.speed warning_time) (sbi_in near) l.sbi.at warned so_far.warning;
+      permitted = ap (option_map mm_below) is.permitted ∙ with_limit e.speed ts t (λ u. Some (all u).permitted) slow (permitted_in near) (Some l.permitted.at) (sym (λ k. Some (places k).permitted)) so_far.permitted;
+      indication = ap (option_map (mm_before (distance_at e.speed (reaction_times d).indication))) is.permitted ∙ with_earlier e.speed ts t (λ u. Some (all u).indication) slow (distance_at e.speed (reaction_times d).indication) (permitted_in near) l.permitted.at indicated so_far.indication;
+    }

@@ -1,12 +1,15 @@
 -- One more target behind the others. A target above the train's speed only says whether it is covered, since no margin makes its speed
 -- lower; and one whose indication limit is not passed says nothing, since that is the first of its limits.
-use Rattle.std.proofs.Common.{◌≡◌, ℕ, ℤ, Bool, true, false, not, ◌||◌, ◌&&◌, nat_lt, List, [], ◌∷◌, ◌++◌, ◌+◌, ◌≤◌, ◌<◌, Option, Some, None, refl, ap, sym, ◌∙◌, arith}
+use Rattle.std.proofs.Common.{◌≡◌, ℕ, ℤ, pos, ◌+ℤ◌, ◌*ℤ◌, ◌≤ℤ◌, ◌<ℤ◌, Bool, true, false, not, ◌||◌, ◌&&◌, nat_lt, List, [], ◌∷◌, ◌++◌, ◌+◌, ◌≤◌, ◌<◌, Option, Some, None, refl, ap, sym, ◌∙◌, arith}
+use Rattle.std.specs.Prelude.{IsTrue, ◌↔◌}
 use Rattle.std.specs.List.{list_all, list_any}
 use Rattle.std.specs.Option.{option_map_or}
-use Rattle.std.proofs.lemmas.Bool.{le-ltb}
+use Rattle.std.proofs.lemmas.Bool.{false≢true, le-ltb}
 use Rattle.std.proofs.lemmas.List.Folds.{list_all-append, list_any-append}
-use Rattle.std.proofs.Math.Bool.{and-false, and-true, or-false}
-use Rattle.sdm_num.specs.Fractions.{Fraction}
+use Rattle.std.proofs.Math.Bool.{and-false, and-true, or-false, or-true}
+use Rattle.std.proofs.lemmas.Int.{by_lt_z, ints}
+use Rattle.sdm_num.specs.Fractions.{Fraction, whole}
+use Rattle.sdm_num.proofs.Comparisons.{lt_is, not_lt_is}
 use Rattle.sdm_num.specs.Units.{notches}
 use Rattle.sdm_num.specs.Readings.{Estimate}
 use Rattle.sdm_rules.specs.declared.targets.Target.{Target}
@@ -18,7 +21,7 @@ use Rattle.sdm_rules.specs.Margins.{ebi_margin, sbi_margin, warning_margin}
 use Rattle.sdm_rules.specs.Supervision.{is_covered_for, is_met_by_speed}
 use Rattle.sdm_rules.specs.Targets.{at_speed_target, foot_speed_of, target_speed, with_margin}
 use Rattle.sdm_rules.specs.Triggers.{front_for, is_past, no_margin, passes, passes_ebi}
-use Rattle.sdm_supervisor.specs.declared.verdicts.Nearest.{Nearest}
+use Rattle.sdm_supervisor.specs.declared.nearest.Nearest.{Nearest}
 use Rattle.sdm_supervisor.specs.declared.verdicts.Verdict.{Verdict}
 use Rattle.sdm_supervisor.specs.Verdicts.{ArePassed}
 use Rattle.sdm_supervisor.proofs.LimitOrder.{IsPastNone, past_none}
@@ -65,6 +68,19 @@ module _ (v : ℕ) (est max : ℤ) (t : Target) where
   ebi_not_reached : (ebi : Option Fraction) → option_map_or (is_past 0 (front_for est max t.kind)) ebi false ≡ false → passes_ebi v est max 0 t ebi ≡ false
   ebi_not_reached None ahead = refl
   ebi_not_reached (Some ebi) ahead = not_reached ebi_margin ebi ahead
+
+-- whether a front end is past a place, by a test of it
+pub past_of : (b : Bool) (at front : ℤ) → (IsTrue b ↔ (at <ℤ front)) → b ≡ is_past 0 front (whole at)
+past_of true at front is = sym (lt_is at (pos 1 *ℤ (front +ℤ pos 0)) (omega (arith, ints, is.0 refl)))
+past_of false at front is =
+    by_lt_z at front
+    (λ (l : at <ℤ front). absurd (false≢true (is.1 l)))
+    (λ (le : front ≤ℤ at). sym (not_lt_is at (pos 1 *ℤ (front +ℤ pos 0)) (omega (arith, ints))))
+
+-- a target that is met by speed is covered
+pub covered_where_met : (max : ℤ) (met : Bool) (ebi : Option Fraction) → met ≡ true → option_map_or (λ e. not (is_past 0 max e) || met) ebi true ≡ true
+covered_where_met max met None is = refl
+covered_where_met max met (Some e) is = rw is (or-true (not (is_past 0 max e)))
 
 -- a target whose EBI is not passed is covered; the EOA has none
 covered_yet : (d : TrainAndTrack) (e : Estimate) (est max : ℤ) (t : Target) (kind : TargetKind) (met : Bool) → IsPastNone (front_for est max kind) (limits_of_kind computed d e t kind) →

@@ -1,17 +1,21 @@
 -- What the targets of a reading say together, in the profile's own words (SUBSET-026-3 3.13.10; own).
-use Rattle.std.specs.Prelude.{◌≡◌, ℕ, ℤ, List, Option, Some, None, option_map}
+use Rattle.std.specs.Prelude.{◌≡◌, ℕ, ℤ, pos, neg_ℤ, ◌+ℤ◌, List, Option, Some, None, option_map}
 use Rattle.std.specs.Int.{int_min}
 use Rattle.std.specs.List.{list_all, list_any}
 use Rattle.std.specs.Option.{option_map_or}
 use Rattle.sdm_num.specs.Bounds.{mm_below}
 use Rattle.sdm_num.specs.Readings.{Estimate}
+use Rattle.sdm_num.specs.Units.{distance_at}
+use Rattle.sdm_rules.specs.declared.data.Times.{Times}
 use Rattle.sdm_rules.specs.declared.targets.Target.{Target}
 use Rattle.sdm_rules.specs.Data.{TrainAndTrack}
 use Rattle.sdm_rules.specs.Limits.{SupervisionLimits, computed, limits_of}
 use Rattle.sdm_rules.specs.Margins.{sbi_margin, warning_margin}
+use Rattle.sdm_rules.specs.Reaction.{reaction_times, warning_time}
 use Rattle.sdm_rules.specs.Supervision.{is_covered_for, shown_limit}
 use Rattle.sdm_rules.specs.Triggers.{no_margin, passes, passes_ebi}
-use Rattle.sdm_supervisor.specs.declared.verdicts.Nearest.{Nearest}
+use Rattle.sdm_limits.specs.declared.limits.Limits.{Limits}
+use Rattle.sdm_supervisor.specs.declared.nearest.Nearest.{Nearest}
 use Rattle.sdm_supervisor.specs.declared.verdicts.Verdict.{Verdict}
 
 -- the lesser of two places, where there are any (own)
@@ -30,15 +34,36 @@ pub record ArePassed (d : TrainAndTrack) (e : Estimate) (est max : ℤ) (ts : Li
   pub indicated : v.indicated ≡ list_any (λ t. passes e.speed est max 0 no_margin t (limits_of computed d e t).indication) ts
   pub covered : v.covered ≡ list_all (is_covered_for d max e) ts
 
--- the nearest limits at a speed in notches, in whole millimetres, are those that are printed of targets (own)
-pub record AreNearest (v : ℕ) (limits : Target → SupervisionLimits) (ts : List Target) (nearest : Option Nearest) : Type 0 where
-  pub ebi : option_map_or (λ n. option_map mm_below n.ebi) nearest None ≡ shown_limit v ts (λ t. (limits t).ebi)
-  pub sbi : option_map (λ n. mm_below n.sbi) nearest ≡ shown_limit v ts (λ t. Some (limits t).sbi)
-  pub warning : option_map (λ n. mm_below n.warning) nearest ≡ shown_limit v ts (λ t. Some (limits t).warning)
-  pub permitted : option_map (λ n. mm_below n.permitted) nearest ≡ shown_limit v ts (λ t. Some (limits t).permitted)
-  pub indication : option_map (λ n. mm_below n.indication) nearest ≡ shown_limit v ts (λ t. Some (limits t).indication)
+-- the nearest limit of a name, where there is one (own)
+abbrev pub ebi_in : Option Nearest → Option ℤ
+ebi_in near = option_map_or (λ n. n.ebi) near None
+
+abbrev pub sbi_in : Option Nearest → Option ℤ
+sbi_in near = option_map (λ n. n.sbi) near
+
+abbrev pub permitted_in : Option Nearest → Option ℤ
+permitted_in near = option_map (λ n. n.permitted) near
+
+-- the nearest limits of some targets, with those of one more (own)
+pub record IsNearer (near : Option Nearest) (l : Limits) (new : Nearest) : Type 0 where
+  pub ebi : new.ebi ≡ nearer (ebi_in near) (option_map (λ ebi. ebi.at) l.ebi)
+  pub sbi : Some new.sbi ≡ nearer (sbi_in near) (Some l.sbi.at)
+  pub permitted : Some new.permitted ≡ nearer (permitted_in near) (Some l.permitted.at)
+
+-- the whole millimetres up to a place that lies so many grains before another one (own)
+abbrev pub mm_before : ℕ → ℤ → ℤ
+mm_before k z = mm_below (z +ℤ neg_ℤ (pos k))
+
+-- the nearest limits at a speed in notches, in whole millimetres, are those that are printed of targets: the warning limit lies
+-- V_est * T_warning before the SBI, and the indication limit V_est * T_indication before the permitted limit (SUBSET-026-3 3.13.9.3; own)
+pub record AreNearest (times : Times) (v : ℕ) (limits : Target → SupervisionLimits) (ts : List Target) (near : Option Nearest) : Type 0 where
+  pub ebi : option_map mm_below (ebi_in near) ≡ shown_limit v ts (λ t. (limits t).ebi)
+  pub sbi : option_map mm_below (sbi_in near) ≡ shown_limit v ts (λ t. Some (limits t).sbi)
+  pub warning : option_map (mm_before (distance_at v warning_time)) (sbi_in near) ≡ shown_limit v ts (λ t. Some (limits t).warning)
+  pub permitted : option_map mm_below (permitted_in near) ≡ shown_limit v ts (λ t. Some (limits t).permitted)
+  pub indication : option_map (mm_before (distance_at v times.indication)) (permitted_in near) ≡ shown_limit v ts (λ t. Some (limits t).indication)
 
 -- what targets say together (SUBSET-026-3 3.13.10; own)
 pub record IsVerdictOf (d : TrainAndTrack) (e : Estimate) (est max : ℤ) (ts : List Target) (v : Verdict) : Type 0 where
   pub passed : ArePassed d e est max ts v
-  pub nearest : AreNearest e.speed (limits_of computed d e) ts v.nearest
+  pub nearest : AreNearest (reaction_times d) e.speed (limits_of computed d e) ts v.nearest

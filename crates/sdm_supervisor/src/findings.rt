@@ -1,20 +1,23 @@
 //! What a reading is judged by, once everything is found: the triggers, the type of speed and distance monitoring, and the row.
 
-ghost use Rattle.std.specs.Prelude.{◌≡◌, ◌≤◌, ◌+◌, ◌&&◌, ◌||◌, false, not, IfSome, nat_lt};
+ghost use Rattle.std.specs.Prelude.{◌≡◌, ◌≤◌, ◌+◌, false, IfSome, nat_lt};
 ghost use Rattle.std.specs.Option.{option_map_or};
 ghost use Rattle.sdm_num.specs.Readings.{OdometerReading, estimate_of};
 ghost use Rattle.sdm_num.specs.Units.{notches};
 ghost use Rattle.sdm_rules.specs.Limits.{computed, limits_of};
 ghost use Rattle.sdm_rules.specs.Margins.{ebi_margin, sbi_margin, warning_margin};
 ghost use Rattle.sdm_rules.specs.Ranges.{top_kmh};
+ghost use Rattle.sdm_rules.specs.Reaction.{reaction_times};
+ghost use Rattle.sdm_limits.specs.Ranges.{AreTimes};
 ghost use Rattle.sdm_rules.specs.Supervision.{Supervision, commands_in, row_of, situation_of, state_in};
 ghost use Rattle.sdm_rules.specs.Triggers.{no_margin, triggers_of};
 ghost use Rattle.sdm_supervisor.specs.Findings.{AreFindingsInRange, IsFoundAt};
 
 use crate::verdicts::Verdict;
 use sdm_braking::SpeedLimits;
+use sdm_limits::T_WARNING;
 use sdm_num::Speed;
-use sdm_rules::Row;
+use sdm_rules::{Row, Times};
 use sdm_state::{Held, State, Triggers};
 
 /// What is found at a reading, before the commands are decided. (SUBSET-026-3 3.13.10; own)
@@ -60,39 +63,18 @@ fn above_ceiling(speed: Speed, kmh: u16) -> Triggers
     }
 }
 
+/// Whether the train is, in release speed monitoring, above the release speed. (SUBSET-026-3 3.13.10.5)
+fn is_above_release(speed: Speed, release_kmh: Option<u16>) -> bool
+    requires { IfSome release_kmh (λ kmh. kmh ≤ top_kmh) }
+    ensures { result ≡ option_map_or (λ kmh. nat_lt (notches kmh) speed) release_kmh false }
+{
+    match release_kmh {
+        Some(kmh) => Speed::of_kmh(kmh) < speed,
+        None => false,
+    }
+}
+
 impl Findings {
-    /// Whether the train is, in release speed monitoring, above the release speed. (SUBSET-026-3 3.13.10.5)
-    fn is_above_release(&self) -> bool
-        requires { AreFindingsInRange self.now }
-        ensures { result ≡ option_map_or (λ kmh. nat_lt (notches kmh) self.now.speed) self.now.release_kmh false }
-    {
-        match self.release_kmh {
-            Some(kmh) => Speed::of_kmh(kmh) < self.speed,
-            None => false,
-        }
-    }
-
-    /// Whether the train is above a permitted speed, where `ceiling` says whether it is above that of the ceiling. (SUBSET-026-3 3.13.10;
-    /// own table)
-    fn is_over(&self, ceiling: bool) -> bool
-        requires { AreFindingsInRange self.now }
-        ensures { result ≡ (ceiling || self.now.verdict.over
-            || option_map_or (λ kmh. nat_lt (notches kmh) self.now.speed) self.now.release_kmh false) }
-    {
-        ceiling || self.verdict.over || self.is_above_release()
-    }
-
-    /// Whether an emergency is triggered, where `ebi` and `serv` say whether an EBI or an SBI is passed. (SUBSET-026-3 3.13.10; own
-    /// table)
-    fn is_emergency(&self, ebi: bool, serv: bool) -> bool
-        requires { AreFindingsInRange self.now }
-        ensures { result ≡ (ebi || self.now.past_end
-            || option_map_or (λ kmh. nat_lt (notches kmh) self.now.speed) self.now.release_kmh false
-            || (serv && not self.now.in_use)) }
-    {
-        ebi || self.past_end || self.is_above_release() || (serv && !self.in_use)
-    }
-
     /// The triggers. (SUBSET-026-3 3.13.10; own tables)
     pub fn triggers(&self) -> Triggers
         requires { AreFindingsInRange self.now }
@@ -100,13 +82,14 @@ impl Findings {
             result ≡ triggers_of (limits_of computed s.train_and_track (estimate_of r)) 0 (situation_of s r) }
     {
         let ceiling = above_ceiling(self.speed, self.ceiling_kmh);
+        let above_release = is_above_release(self.speed, self.release_kmh);
         let serv = ceiling.serv | self.verdict.serv;
         let ebi = ceiling.emer | self.verdict.emer;
         Triggers {
-            over: self.is_over(ceiling.over),
+            over: ceiling.over | self.verdict.over | above_release,
             warn: ceiling.warn | self.verdict.warn,
             serv,
-            emer: self.is_emergency(ebi, serv),
+            emer: ebi | self.past_end | above_release | (serv & !self.in_use),
         }
     }
 
@@ -124,10 +107,12 @@ impl Findings {
         }
     }
 
-    /// The row of a time in ds, with the commands after it. (own)
-    pub fn row(&self, time: u32, held: Held) -> Row
+    /// The row of a time in ds, with the commands after it, by the times of reaction. (own)
+    pub fn row(&self, time: u32, held: Held, times: &Times) -> Row
+        requires range { AreFindingsInRange self.now }
+        requires times { AreTimes times.now }
         ensures { (s : Supervision) (r : OdometerReading) → IsFoundAt s r self.now → time ≡ r.time →
-            held ≡ commands_in s.train_and_track s.commands r (situation_of s r) → result ≡ row_of s r }
+            times.now ≡ reaction_times s.train_and_track → held ≡ commands_in s.train_and_track s.commands r (situation_of s r) → result ≡ row_of s r }
     {
         let mut row = Row {
             time,
@@ -142,11 +127,16 @@ impl Findings {
             indication: None,
         };
         if let Some(nearest) = &self.verdict.nearest {
+            // d_W = d_SBI - V_est * T_warning, d_I = d_P - V_est * T_indication (SUBSET-026-3 3.13.9.3.4, 3.13.9.3.6)
+            let warning = nearest.sbi.less(self.speed.distance_at(T_WARNING));
+            let indication = nearest
+                .permitted
+                .less(self.speed.distance_at(times.indication));
             row.ebi = nearest.ebi.map(|ebi| ebi.mm_below());
             row.sbi = Some(nearest.sbi.mm_below());
-            row.warning = Some(nearest.warning.mm_below());
+            row.warning = Some(warning.mm_below());
             row.permitted = Some(nearest.permitted.mm_below());
-            row.indication = Some(nearest.indication.mm_below());
+            row.indication = Some(indication.mm_below());
         }
         row
     }

@@ -2,10 +2,11 @@
 //! and every reading gives its row. Nothing above this crate knows of brake curves; nothing in it knows of text.
 #![tactic(auto)]
 
-pub mod findings;
-pub mod flat;
-pub mod supervisors;
-pub mod verdicts;
+mod findings;
+mod flat;
+mod nearest;
+mod supervisors;
+mod verdicts;
 
 pub use flat::Flat;
 pub use sdm_rules::{CycleFault, FlatRow, OpenFault, Row, SlopeKind};

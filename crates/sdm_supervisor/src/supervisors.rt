@@ -26,7 +26,7 @@ use sdm_num::Reading;
 use sdm_rules::{CycleFault, OpenFault, RestrictFault, Restriction, RevokeFault, Row};
 use sdm_speed::Profile;
 use sdm_state::{Held, Status, next};
-use sdm_targets::{Authority, AuthorityFault, check_authority};
+use sdm_targets::{Authority, AuthorityFault, check_authority, end_of};
 use sdm_track::Track;
 use sdm_train::Train;
 use std::alloc::Global;
@@ -84,10 +84,8 @@ impl Supervisor {
         ensures accepted { OnOk result (IsAccepted (train_and_track_from train national track) authority) }
         ensures refused { IfErr result (IsRefusal (train_and_track_from train national track) authority) }
     {
-        match Braking::open(alloc, train, national, track) {
-            Ok(braking) => Supervisor::with_braking(alloc, braking, authority),
-            Err(fault) => Err(fault),
-        }
+        let braking = Braking::open(alloc, train, national, track)?;
+        Supervisor::with_braking(alloc, braking, authority)
     }
 
     /// The supervisor of a train on its track, with its first authority.
@@ -100,9 +98,7 @@ impl Supervisor {
         ensures accepted { OnOk result (IsAccepted braking authority) }
         ensures refused { IfErr result (IsRefusal braking authority) }
     {
-        if let Err(fault) = check_authority(&authority, braking.track_cm()) {
-            return Err(OpenFault::BadAuthority(fault));
-        }
+        check_authority(&authority, braking.track_cm()).map_err(OpenFault::BadAuthority)?;
         let Ok(profile) = Profile::begin(
             alloc,
             braking.track(),
@@ -199,8 +195,7 @@ impl Supervisor {
         let cell = front.cell();
         let release_kmh = release_kmh_at(self.kept.release, front);
         let in_release_monitoring = release_kmh.is_some();
-        let end = self.braking.end_of(&self.authority);
-        let falls = self.kept.falls.ahead(cell, end);
+        let falls = self.kept.falls.ahead(cell, end_of(&self.authority));
         let asked = self.braking.asked(reading.estimate());
         let fronts = Fronts {
             est: reading.est_mm(),
@@ -223,16 +218,6 @@ impl Supervisor {
         }
     }
 
-    /// Whether a time is before that of the last reading.
-    fn time_fault(&self, time: u32) -> Option<CycleFault>
-        ensures { result ≡ time_fault self.now.last_time time }
-    {
-        match self.last_time {
-            Some(last) if time < last => Some(CycleFault::TimeBack { last, time }),
-            _ => None,
-        }
-    }
-
     /// Judges a reading, and takes its time and the commands after it. TimeBack comes exactly where its time is before that of the last
     /// reading, and changes nothing. (SUBSET-026-3 3.13.10; own)
     ///
@@ -252,21 +237,14 @@ impl Supervisor {
         ensures time_back { IfErr result (λ fault. time_fault self.old.last_time reading.now.time ≡ Some fault) }
         ensures unchanged { OnErr result (self.new ≡ self.old) }
     {
-        if let Some(fault) = self.time_fault(reading.time()) {
-            return Err(fault);
+        let time = reading.time();
+        if let Some(last) = self.last_time {
+            if time < last {
+                return Err(CycleFault::TimeBack { last, time });
+            }
         }
-        Ok(self.judge(reading))
-    }
-
-    /// Judges a reading that isn't before the last one.
-    fn judge(&mut self, reading: &Reading) -> Row
-        requires { IsReading reading.now }
-        ensures row { result ≡ row_of self.old reading.now }
-        ensures taken { self.new ≡ after_reading self.old reading.now }
-        ensures accepted { IsOpen self.old }
-    {
         let found = self.find(reading);
-        let held = next(
+        self.held = next(
             self.held,
             found.triggers(),
             found.state(),
@@ -274,8 +252,7 @@ impl Supervisor {
             self.braking.has_early_release(),
             found.in_use,
         );
-        self.last_time = Some(reading.time());
-        self.held = held;
-        found.row(reading.time(), held)
+        self.last_time = Some(time);
+        Ok(found.row(time, self.held, self.braking.times()))
     }
 }

@@ -5,36 +5,37 @@ ghost use Rattle.sdm_rules.specs.Records.{authority_fault};
 
 use sdm_rules::{Authority, AuthorityFault, TOP_KMH};
 
-/// The first fault of a stop.
-fn stop_fault(eoa: u32, svl: u32, release: u16, track_cm: u32) -> Option<AuthorityFault>
-    ensures { result ≡ authority_fault (pos track_cm) (Authority.Stop eoa svl release) }
+/// Accepts a stop, or says the first fault of it.
+fn check_stop(eoa: u32, svl: u32, release: u16, track_cm: u32) -> Result<(), AuthorityFault>
+    ensures accepted { OnOk result (authority_fault (pos track_cm) (Authority.Stop eoa svl release) ≡ None) }
+    ensures refused { IfErr result
+        (λ fault. authority_fault (pos track_cm) (Authority.Stop eoa svl release) ≡ Some fault) }
 {
     if svl < eoa {
-        return Some(AuthorityFault::SvlBeforeEoa);
+        return Err(AuthorityFault::SvlBeforeEoa);
     }
     if track_cm < svl {
-        return Some(AuthorityFault::BeyondTrack);
+        return Err(AuthorityFault::BeyondTrack);
     }
     if TOP_KMH < u32::from(release) {
-        return Some(AuthorityFault::BadSpeed);
+        return Err(AuthorityFault::BadSpeed);
     }
-    None
+    Ok(())
 }
 
-/// The first fault of a limit.
-fn limit_fault(loa: u32, speed: u16, track_cm: u32) -> Option<AuthorityFault>
-    ensures { result ≡ authority_fault (pos track_cm) (Authority.Limit loa speed) }
+/// Accepts a limit, or says the first fault of it.
+fn check_limit(loa: u32, speed: u16, track_cm: u32) -> Result<(), AuthorityFault>
+    ensures accepted { OnOk result (authority_fault (pos track_cm) (Authority.Limit loa speed) ≡ None) }
+    ensures refused { IfErr result
+        (λ fault. authority_fault (pos track_cm) (Authority.Limit loa speed) ≡ Some fault) }
 {
     if track_cm < loa {
-        return Some(AuthorityFault::BeyondTrack);
+        return Err(AuthorityFault::BeyondTrack);
     }
-    if speed == 0 {
-        return Some(AuthorityFault::BadSpeed);
+    if speed == 0 || TOP_KMH < u32::from(speed) {
+        return Err(AuthorityFault::BadSpeed);
     }
-    if TOP_KMH < u32::from(speed) {
-        return Some(AuthorityFault::BadSpeed);
-    }
-    None
+    Ok(())
 }
 
 /// Accepts an authority for a track of this length in cm. Refused, by the first of these: where the SvL lies before the EOA;
@@ -44,12 +45,8 @@ pub fn check_authority(a: &Authority, track_cm: u32) -> Result<(), AuthorityFaul
     ensures accepted { OnOk result (authority_fault (pos track_cm) a.now ≡ None) }
     ensures refused { IfErr result (λ fault. authority_fault (pos track_cm) a.now ≡ Some fault) }
 {
-    let fault = match *a {
-        Authority::Stop { eoa, svl, release } => stop_fault(eoa, svl, release, track_cm),
-        Authority::Limit { loa, speed } => limit_fault(loa, speed, track_cm),
-    };
-    match fault {
-        None => Ok(()),
-        Some(fault) => Err(fault),
+    match *a {
+        Authority::Stop { eoa, svl, release } => check_stop(eoa, svl, release, track_cm),
+        Authority::Limit { loa, speed } => check_limit(loa, speed, track_cm),
     }
 }

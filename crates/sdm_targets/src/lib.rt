@@ -8,7 +8,7 @@ mod lists;
 
 pub use authorities::check_authority;
 pub use foot_speeds::foot_speed;
-pub use lists::{TargetList, targets_of};
+pub use lists::{TargetList, end_of, targets_of};
 pub use sdm_rules::{Authority, AuthorityFault, Target, TargetKind};
 
 #[cfg(test)]

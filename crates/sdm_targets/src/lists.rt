@@ -67,7 +67,7 @@ impl TargetList {
 }
 
 /// The EOA or the LOA in cm.
-fn end_of(authority: &Authority) -> u32
+pub fn end_of(authority: &Authority) -> u32
     ensures { result ≡ end_of authority.now }
 {
     match *authority {

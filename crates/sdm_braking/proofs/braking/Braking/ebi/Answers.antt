@@ -1,15 +1,21 @@
--- Every target but the EOA has an EBD.
-use Rattle.std.proofs.Common.{rules}
-use Rattle.sdm_rules.specs.Limits.{computed}
+-- Every target but the EOA has an EBD, and its EBI lies D_bec before the place of the EBD at V_bec.
+use Rattle.std.proofs.Common.{◌≡◌, Some, ap, rules}
+use Rattle.sdm_rules.specs.Curves.{stepped}
+use Rattle.sdm_rules.specs.Decelerations.{slopes_of}
+use Rattle.sdm_rules.specs.declared.data.SlopeKind.TheVariants.{Safe}
+use Rattle.sdm_rules.specs.Limits.{computed, d_bec_for, v_bec_for}
+use Rattle.sdm_rules.specs.Targets.{foot_speed_of}
+use Rattle.sdm_limits.proofs.Places.{whole_less}
+use Rattle.sdm_braking.specs.KeptCurves.{brake_kind}
 use Rattle.sdm_braking.proofs.EbdLaws.{ebd_of, ebi_of}
 use Rattle.sdm_braking.proofs.braking.Braking.ebi.Goals as goal
 
-pub ebi_place-requires : goal.ebi_place-requires
-ebi_place-requires c = record {
-  asked = c.requires.asked;
-  kept = c.requires.kept;
-  ebd = ebd_of c.args.self.now c.args.kept.now (search rules) c.requires.kept;
-}
-
 pub returns-in-Mrsp : goal.returns-in-Mrsp
-returns-in-Mrsp c = ebi_of computed c.args.self.now c.args.asked.now.estimate c.args.kept.now.target _ (search rules) c.ebi_place.ensures
+returns-in-Mrsp c =
+    let d = c.args.self.now in
+    let e = c.args.asked.now.estimate in
+    let t = c.args.kept.now.target in
+    let safe : brake_kind t.kind ≡ Safe = search rules in
+    let ebd = ebd_of d c.args.kept.now safe c.requires.kept in
+    ebi_of computed d e t _ safe
+    (λ guide. ap Some (whole_less c.less.result.at (stepped (slopes_of Safe d) t.place (foot_speed_of t) (v_bec_for d e t)) (d_bec_for d e t) (search rules)))

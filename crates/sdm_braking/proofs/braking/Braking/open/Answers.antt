@@ -4,11 +4,11 @@ use Rattle.sdm_braking.specs.Braking.{IsSupervisable}
 use Rattle.sdm_laws.proofs.Decided.{all_kinds}
 use Rattle.sdm_braking.proofs.braking.Braking.open.Goals as goal
 
-module _ (c : goal.After-length_cm-length) where
+module _ (c : goal.Else-prove-2) where
   accepted : IsSupervisable (train_and_track_from c.args.train c.args.national c.args.track)
   accepted = record {
-    train = c.band_count-bands.ensures.accepted;
-    track = c.length_cm-length.ensures.in_range;
+    train = c.band_count.ensures.accepted;
+    track = c.length_cm.ensures.in_range;
     usable = all_kinds _ c.in_ok-safe.ensures.accepted c.in_ok-expected.ensures.accepted c.in_ok-normal.ensures.accepted;
   }
 

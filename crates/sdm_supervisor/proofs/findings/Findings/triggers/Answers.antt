@@ -23,8 +23,8 @@ returns c s r is =
     let passed = is.verdict.passed in
     let serv : (c.above_ceiling-ceiling.result.serv || c.args.self.now.verdict.serv) ≡ is_service (limits_of computed s.train_and_track (estimate_of r)) 0 now = λ k. (said.serv ∙ ceiling sbi_margin) k || passed.serv k in
     λ k. record {
-      over = (c.is_over.ensures ∙ (λ i. (said.over ∙ ceiling no_margin) i || passed.over i || release i)) k;
+      over = (said.over ∙ ceiling no_margin) k || passed.over k || (c.is_above_release-above_release.ensures ∙ release) k;
       warn = (said.warn ∙ ceiling warning_margin) k || passed.warn k;
       serv = serv k;
-      emer = (c.is_emergency.ensures ∙ (λ i. ((said.emer ∙ ceiling ebi_margin) i || passed.emer i) || is.past_end i || release i || (serv i && not (is.in_use i)))) k;
+      emer = ((said.emer ∙ ceiling ebi_margin) k || passed.emer k) || is.past_end k || (c.is_above_release-above_release.ensures ∙ release) k || (serv k && not (is.in_use k));
     }

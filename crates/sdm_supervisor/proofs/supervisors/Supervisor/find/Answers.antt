@@ -1,5 +1,5 @@
 -- Each part of what was found is that of the definitions, by the clause of the call that found it.
-use Rattle.std.proofs.Common.{◌≡◌, ℤ, List, min, map, ◌++◌, ◌∙◌, ap, subst, is_some, to_z, of_z, w32, rules}
+use Rattle.std.proofs.Common.{◌≡◌, ℤ, List, min, map, ◌++◌, ◌∙◌, ap, subst, is_some, to_z, of_z, w32, arith, rules}
 use Rattle.std.proofs.lemmas.Int.{ints, to_z-of_z}
 use Rattle.std.specs.Int.{int_gap}
 use Rattle.sdm_rules.specs.Cells.{cell_of, lowest}
@@ -57,7 +57,7 @@ module _ (c : goal.After-of) where
 
   targets : map target_of c.ahead-falls.result.now ++ targets_in c.deref-2.result.now c.is_some-in_release_monitoring.result ≡ targets_of (mrsp_of c.self.inside.profile) c.self.inside.authority c.args.reading.now.max (is_some (release_of c.self.inside.braking c.self.inside.authority c.args.reading.now.max))
   targets =
-      targets_are c.self.inside.braking (mrsp_of c.self.inside.profile) c.self.inside.authority c.ahead-falls.result.now c.deref-2.result.now _ c.max_mm-front.result c.end_of-end.result c.is_some-in_release_monitoring.result (after) c.end_of-end.ensures.value
+      targets_are c.self.inside.braking (mrsp_of c.self.inside.profile) c.self.inside.authority c.ahead-falls.result.now c.deref-2.result.now _ c.max_mm-front.result c.end_of.result c.is_some-in_release_monitoring.result (after) c.end_of.ensures
       (c.ahead-falls.ensures.each c.self.inside.braking c.self.invariant.kept.falls.each) (c.ahead-falls.ensures.falls (mrsp_of c.self.inside.profile) c.self.invariant.kept.falls.falls) end_judged
       ∙ (λ k. targets_of (mrsp_of c.self.inside.profile) c.self.inside.authority (c.max_mm-front.ensures k) ((c.is_some-in_release_monitoring.ensures ∙ ap is_some in_release_monitoring) k))
 
@@ -81,14 +81,15 @@ pub returns-clause-found : goal.returns-clause-found
 returns-clause-found c =
     subst (λ (s : Supervision). IsFoundAt s c.args.reading.now (found c)) c.self.view_is
     (found_is c.self.inside.braking c.self.inside.authority c.self.inside.profile c.self.inside.last_time c.self.inside.held c.args.reading.now (found c) c.self.invariant.profile
-    c.speed_mm_s.ensures (ceiling c) (c.is_passed_by.ensures c.self.inside.braking c.self.inside.authority (end_passed c) ∙ ap (is_past_end c.self.inside.authority) c.min_mm-2.ensures) (in_release_monitoring c) c.is_service_in_use.ensures
+    c.speed_mm_s.ensures (ceiling c) (c.is_passed_by.ensures c.self.inside.braking c.self.inside.authority (end_passed c) ∙ ap (is_past_end c.self.inside.authority) c.min_mm-2.ensures) (in_release_monitoring c) c.is_service_in_use.ensures.value
     (verdict c))
 
 pub returns-clause-accepted : goal.returns-clause-accepted
-returns-clause-accepted c = is_open c.args.self.now (rw (← c.self.view_is) c.end_of-end.ensures.accepted)
+returns-clause-accepted c = is_open c.args.self.now (rw (← c.self.view_is) c.is_service_in_use.ensures.accepted)
 
 pub returns-clause-range : goal.returns-clause-range
 returns-clause-range c = record {
+  speed = omega (arith, c.requires.speed, c.speed_mm_s.ensures);
   ceiling = search rules;
   release =
       rw c.release_kmh_at-release_kmh.ensures
