@@ -5,6 +5,7 @@
 ghost use Rattle.std.specs.Prelude.{◌≡◌, ℤ, pos, ◌*◌, ◌≤◌, ◌≤ℤ◌, All, Some, None, IfOk, IfErr, IfSome, MatchOption, OnOk, OnErr, length, min, position, vec_len};
 ghost use Rattle.std.specs.FinMap as finite;
 ghost use Rattle.std.specs.Int.{int_gap};
+ghost use Rattle.std.specs.Result.{result_err};
 ghost use Rattle.sdm_rules.specs.Cells.{lowest};
 ghost use Rattle.sdm_rules.specs.Profile.{zones_of_track};
 ghost use Rattle.sdm_rules.specs.Records.{restrict_fault, revoke_fault};
@@ -170,28 +171,28 @@ impl Profile {
         self.speeds.len()
     }
 
-    // Whether a restriction with this identity is held.
+    /// Whether a restriction with this identity is held.
     fn is_held(&self, id: u16) -> bool
         ensures { result ≡ finite.contains_key self.now.restrictions id }
     {
         index_of(&self.held, id).is_some()
     }
 
-    // The first fault of a restriction.
-    fn restrict_fault(&self, r: Restriction) -> Option<RestrictFault>
-        ensures { result ≡ restrict_fault self.now.track_cm self.now.restrictions r }
+    /// Refuses a restriction by its first fault.
+    fn check(&self, r: Restriction) -> Result<(), RestrictFault>
+        ensures { result_err result ≡ restrict_fault self.now.track_cm self.now.restrictions r }
     {
         let full = self.held.len() >= MOST_RESTRICTIONS;
         if full {
-            return Some(RestrictFault::Full);
+            return Err(RestrictFault::Full);
         }
         if self.is_held(r.id) {
-            return Some(RestrictFault::IdInUse { id: r.id });
+            return Err(RestrictFault::IdInUse { id: r.id });
         }
         if r.end <= r.start || self.track_cm < r.end {
-            return Some(RestrictFault::Value);
+            return Err(RestrictFault::Value);
         }
-        None
+        Ok(())
     }
 
     /// Puts a restriction into force, and tells the cells that it covers: in no others is the MRSP another. Its speed is 1 to
@@ -208,9 +209,7 @@ impl Profile {
         ensures refused { IfErr result (λ fault. restrict_fault self.old.track_cm self.old.restrictions r ≡ Some fault) }
         ensures unchanged { OnErr result (self.new ≡ self.old) }
     {
-        if let Some(fault) = self.restrict_fault(r) {
-            return Err(fault);
-        }
+        self.check(r)?;
         self.held.push_reserved(r);
         self.steps.lower(zone_of(r, self.length_cm));
         Ok(cells_of(r, self.length_cm))
