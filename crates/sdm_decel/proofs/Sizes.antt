@@ -1,5 +1,5 @@
 -- Sizes of whole numbers: what fits, and how large products are.
-use Rattle.std.proofs.Common.{◌≡◌, ℕ, ℤ, pos, negsuc, neg_ℤ, ◌+◌, ◌-◌, ◌*◌, ◌^◌, ◌<◌, ◌≤◌, ◌+ℤ◌, ◌-ℤ◌, ◌*ℤ◌, ◌≤ℤ◌, unsigned_abs, FitsSigned, w64, to_z, of_z, refl, sym, ap, ◌∙◌, arith}
+use Rattle.std.proofs.Common.{◌≡◌, ℕ, ℤ, pos, negsuc, neg_ℤ, ◌+◌, ◌-◌, ◌*◌, ◌^◌, ◌<◌, ◌≤◌, ◌-ℤ◌, ◌*ℤ◌, ◌≤ℤ◌, unsigned_abs, FitsSigned, w64, to_z, of_z, refl, arith}
 use Rattle.std.proofs.lemmas.Int.{ints, to_z-of_z, fits_signed_from_abs, unsigned_abs-mul}
 use Rattle.std.proofs.Math.Nat.{mul-le-mul}
 use Rattle.sdm_rules.specs.declared.data.Band.{Band}
@@ -31,9 +31,9 @@ pub stays : (x : ℤ) (m : ℕ) → IsSmall m x → m < 2 ^ 63 → to_z w64 (of_
 stays x m small lt = to_z-of_z w64 x (fits x m small lt)
 
 -- a number that is not negative, in naturals
-natural : (z : ℤ) → pos 0 ≤ℤ z → pos (unsigned_abs z) ≡ z
-natural (pos n) h = refl
-natural (negsuc n) h = absurd (omega (arith, ints))
+pub nat_is : (z : ℤ) → pos 0 ≤ℤ z → pos (unsigned_abs z) ≡ z
+nat_is (pos n) h = refl
+nat_is (negsuc n) h = absurd (omega (arith, ints))
 
 -- the rest up to a number, in naturals
 rest : (m : ℕ) (z : ℤ) → pos 0 ≤ℤ z → z ≤ℤ pos m → pos (m - unsigned_abs z) ≡ pos m -ℤ z
@@ -45,8 +45,8 @@ pub brake_safe_is : (avadh : ℕ) (b : Band) → IsBand b →
     pos (unsigned_abs b.kdry * (20 * unsigned_abs b.kwet + avadh * (1000 - unsigned_abs b.kwet)) * unsigned_abs b.emergency)
     ≡ brake_safe (pos avadh) b b.emergency
 brake_safe_is avadh b h =
-    let kdry = natural b.kdry (omega (arith, ints, h.kdry.0)) in
-    let kwet = natural b.kwet (omega (arith, ints, h.kwet.0)) in
+    let kdry = nat_is b.kdry (omega (arith, ints, h.kdry.0)) in
+    let kwet = nat_is b.kwet (omega (arith, ints, h.kwet.0)) in
     let dry = rest 1000 b.kwet (omega (arith, ints, h.kwet.0)) h.kwet.1 in
-    let emergency = natural b.emergency (omega (arith, ints, h.emergency.0)) in
+    let emergency = nat_is b.emergency (omega (arith, ints, h.emergency.0)) in
     rw (← kdry, ← emergency, ← dry, ← kwet) refl

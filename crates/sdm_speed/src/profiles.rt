@@ -13,7 +13,7 @@ ghost use Rattle.sdm_rules.specs.Targets.{IsNextFall, HasNoFall};
 ghost use Rattle.sdm_rules.specs.Ranges.{longest_track, longest_train, most_speeds, top_kmh};
 ghost use Rattle.sdm_track.specs.Ranges.{AreSpeeds};
 ghost use Rattle.sdm_speed.specs.Zones.{IsLimit, IsZone, IsFallInRange, zone_limits};
-ghost use Rattle.sdm_speed.specs.Steps.{AreRising, speeds_of};
+ghost use Rattle.sdm_speed.specs.Speeds.{speeds_in};
 ghost use Rattle.sdm_speed.specs.Held.{has_id};
 ghost use Rattle.sdm_speed.specs.Changes.{AreSameOutside, IsChangedInRange};
 ghost use Rattle.sdm_speed.specs.Profiles.{mrsp_of, new_profile, IsProfile};
@@ -102,8 +102,7 @@ fn static_zones(alloc: Global, speeds: &[SpeedStep], length_cm: u32) -> Result<V
 /// The speeds of zones, and at most `top`.
 fn steps_of(alloc: Global, zones: &[Zone], top: u16) -> Result<Steps, NoMemory>
     requires { length zones.now ≤ most_speeds }
-    ensures speeds { IfOk result (λ steps. (c : ℤ) → speeds_of steps.before steps.list.items c ≡ zone_limits top zones.now c) }
-    ensures rising { IfOk result (λ steps. AreRising steps.list.items) }
+    ensures speeds { IfOk result (λ steps. (c : ℤ) → speeds_in steps c ≡ zone_limits top zones.now c) }
     ensures few { IfOk result (λ steps. vec_len steps.list ≤ 2 * length zones.now) }
 {
     let mut steps = Steps::begin(alloc, top, 2 * zones.len())?;
@@ -202,11 +201,13 @@ impl Profile {
         requires slowest { 1 ≤ r.speed }
         requires fastest { r.speed ≤ top_kmh }
         ensures accepted { OnOk result (restrict_fault self.old.track_cm self.old.restrictions r ≡ None) }
-        ensures added { OnOk result (self.new ≡ record self.old { restrictions = finite.insert self.old.restrictions r.id r }) }
+        ensures added { OnOk result
+            (self.new ≡ record self.old { restrictions = finite.insert self.old.restrictions r.id r }) }
         ensures outside { IfOk result (AreSameOutside (mrsp_of self.old) (mrsp_of self.new)) }
         ensures in_range { IfOk result IsChangedInRange }
         ensures profile_in_range { IsProfile self.old }
-        ensures refused { IfErr result (λ fault. restrict_fault self.old.track_cm self.old.restrictions r ≡ Some fault) }
+        ensures refused { IfErr result
+            (λ fault. restrict_fault self.old.track_cm self.old.restrictions r ≡ Some fault) }
         ensures unchanged { OnErr result (self.new ≡ self.old) }
     {
         self.check(r)?;
@@ -219,7 +220,8 @@ impl Profile {
     /// with this identity is held; the profile is then as it was. (own)
     pub fn lift(&mut self, id: u16) -> Result<Changed, RevokeFault>
         ensures accepted { OnOk result (revoke_fault self.old.restrictions id ≡ None) }
-        ensures removed { OnOk result (self.new ≡ record self.old { restrictions = finite.remove self.old.restrictions id }) }
+        ensures removed { OnOk result
+            (self.new ≡ record self.old { restrictions = finite.remove self.old.restrictions id }) }
         ensures outside { IfOk result (AreSameOutside (mrsp_of self.old) (mrsp_of self.new)) }
         ensures in_range { IfOk result IsChangedInRange }
         ensures profile_in_range { IsProfile self.old }
@@ -247,8 +249,10 @@ impl Profile {
         requires slowest { 1 ≤ r.speed }
         requires fastest { r.speed ≤ top_kmh }
         ensures accepted { OnOk result (restrict_fault self.old.track_cm self.old.restrictions r ≡ None) }
-        ensures added { OnOk result (self.new ≡ record self.old { restrictions = finite.insert self.old.restrictions r.id r }) }
-        ensures refused { IfErr result (λ fault. restrict_fault self.old.track_cm self.old.restrictions r ≡ Some fault) }
+        ensures added { OnOk result
+            (self.new ≡ record self.old { restrictions = finite.insert self.old.restrictions r.id r }) }
+        ensures refused { IfErr result
+            (λ fault. restrict_fault self.old.track_cm self.old.restrictions r ≡ Some fault) }
         ensures unchanged { OnErr result (self.new ≡ self.old) }
     {
         self.impose(r)?;
@@ -258,7 +262,8 @@ impl Profile {
     /// Takes a restriction out of force. Refused where none with this identity is held; the profile is then as it was. (own)
     pub fn revoke(&mut self, id: u16) -> Result<(), RevokeFault>
         ensures accepted { OnOk result (revoke_fault self.old.restrictions id ≡ None) }
-        ensures removed { OnOk result (self.new ≡ record self.old { restrictions = finite.remove self.old.restrictions id }) }
+        ensures removed { OnOk result
+            (self.new ≡ record self.old { restrictions = finite.remove self.old.restrictions id }) }
         ensures refused { IfErr result (λ fault. revoke_fault self.old.restrictions id ≡ Some fault) }
         ensures unchanged { OnErr result (self.new ≡ self.old) }
     {

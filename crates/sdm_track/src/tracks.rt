@@ -85,7 +85,8 @@ impl Track {
     ) -> Result<Track, TrackFault>
         ensures accepted { IfOk result (λ track. track_fault track ≡ None) }
         ensures kept { IfOk result (λ track. track ≡ track_data length_cm gradients.items speeds.items areas.items) }
-        ensures refused { IfErr result (λ fault. track_fault (track_data length_cm gradients.items speeds.items areas.items) ≡ Some fault) }
+        ensures refused { IfErr result
+            (λ fault. track_fault (track_data length_cm gradients.items speeds.items areas.items) ≡ Some fault) }
     {
         check(length_cm, &gradients, &speeds, &areas)?;
         Ok(Track {
@@ -168,7 +169,8 @@ impl Track {
     pub fn compensated(&self, alloc: Global, length_cm: u32) -> Result<Segments, NoMemory>
         requires shortest { 1 ≤ length_cm }
         requires longest { length_cm ≤ longest_train }
-        ensures value { IfOk result (λ segments. (c : ℤ) → segment_gradient segments c ≡ (under_train self.now (pos length_cm) c).grad) }
+        ensures value { IfOk result
+            (λ segments. (c : ℤ) → segment_gradient segments c ≡ (under_train self.now (pos length_cm) c).grad) }
         ensures in_range { IfOk result (λ segments. AreSegments segments) }
     {
         under_train::compensated(alloc, &self.gradients, length_cm)

@@ -5,7 +5,7 @@ use Rattle.sdm_rules.specs.Decelerations.{UnderTrain, under_train}
 use Rattle.sdm_rules.specs.Ranges.{longest_train}
 use Rattle.sdm_decel.specs.StretchCells.{AreStretches}
 use Rattle.sdm_decel.specs.Slopes.{slopes_of_bands}
-use Rattle.sdm_decel.proofs.Stretches.{nat_is}
+use Rattle.sdm_decel.proofs.Sizes.{nat_is}
 use Rattle.sdm_decel.proofs.maps.parts_of.Goals as goal
 
 long_is : (given length_cm : ℤ) → (pos 1 ≤ℤ given) × (given ≤ℤ pos longest_train) → given ≡ length_cm →

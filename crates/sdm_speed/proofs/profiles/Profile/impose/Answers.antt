@@ -48,10 +48,8 @@ lower-requires c =
     let kept = c.self.invariant in
     let ok = accepted c.args.self.now.track_cm c.args.self.now.restrictions c.args.r (sym (rw c.in_ok-check.was at c.check.ensures)) in
     let ok_held = c.self.inside.held.ok.0 in
-    record {
-      rising = kept.steps_rising;
-      room = omega (arith, ok.room, held_count _ kept _ c.self.view_is, few_starts _ _ _ _ kept.steps_rising kept.zone_ends, kept.steps_room);
-    }
+    let few = few_starts _ _ _ _ c.self.inside.steps.rises kept.zone_ends in
+    omega (arith, ok.room, held_count _ kept _ c.self.view_is, few, kept.steps_room)
 
 pub invariant_of-self : goal.invariant_of-self
 invariant_of-self c =
@@ -71,9 +69,7 @@ invariant_of-self c =
       each_static = kept.each_static;
       each_held = rw c.push_reserved.ensures.items (All-push IsHeldRestriction _ _ kept.each_held (held_of (profile_data_of c.self.inside) c.args.r kept.in_range ok c.requires.slowest c.requires.fastest));
       statics = kept.statics;
-      statics_rising = kept.statics_rising;
       steps = λ cell. rw c.push_reserved.ensures.items (c.lower.ensures.speeds cell ∙ ap (capped cell c.zone_of.result) (kept.steps cell) ∙ lowered cell);
-      steps_rising = c.lower.ensures.rising;
       steps_before = rw c.zone_of.ensures at c.lower.ensures.before ∙ kept.steps_before;
       zone_ends = rw c.push_reserved.ensures.items (zone_ends_more length_cm _ held c.args.r _ _ kept.zone_ends (rw c.zone_of.ensures at c.lower.ensures.starts));
       held_room = omega (arith, kept.held_room, c.push_reserved.ensures.capacity);
