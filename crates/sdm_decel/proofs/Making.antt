@@ -17,7 +17,7 @@ use Rattle.sdm_curve.specs.Maps.{MapData, IsMapData, AreAccepted, map_data, hand
 use Rattle.sdm_curve.proofs.Meanings.{segment_known}
 use Rattle.sdm_decel.specs.StretchCells.{AreStretches}
 use Rattle.sdm_decel.specs.Slopes.{AreParts, IsFaultOfKind}
-use Rattle.sdm_decel.proofs.Sizes.{size_low, size_high}
+use Rattle.sdm_decel.proofs.Sizes.{small_of}
 use Rattle.sdm_decel.proofs.Rows.{length_rows, get_or-rows, count_uppers, uppers_are}
 use Rattle.sdm_decel.proofs.SlopeLaws.{Gives, meaning_kind, accepted_kind, fault_kind}
 
@@ -46,7 +46,7 @@ module _ (kind : SlopeKind) (d : TrainAndTrack) (q : ℕ) (uppers : List ℕ) (s
     uppers = rw parts.uppers_are (uppers_are d.train.bands parts.train.bands);
     starts = parts.stretches.starts;
     lengths = lengths;
-    bounded = λ k l. record { low = size_low _ (10 ^ 15) (parts.small k (pos 0) l); high = size_high _ (10 ^ 15) (parts.small k (pos 0) l) };
+    bounded = λ k l. (let near = small_of _ (10 ^ 15) (parts.small k (pos 0) l) in record { low = near.0; high = near.1 });
   }
 
   -- the track under the train in the cells of a stretch

@@ -1,40 +1,52 @@
--- Sizes of whole numbers: what fits, and how large sums and products are.
-use Rattle.std.proofs.Common.{◌≡◌, ℕ, ℤ, pos, negsuc, neg_ℤ, ◌+◌, ◌*◌, ◌^◌, ◌<◌, ◌≤◌, ◌+ℤ◌, ◌-ℤ◌, ◌*ℤ◌, ◌≤ℤ◌, unsigned_abs, FitsSigned, w64, to_z, of_z, arith}
-use Rattle.std.specs.Int.{int_min}
-use Rattle.std.proofs.lemmas.Int.{ints, clamps, to_z-of_z, fits_signed_from_abs, unsigned_abs-mul}
+-- Sizes of whole numbers: what fits, and how large products are.
+use Rattle.std.proofs.Common.{◌≡◌, ℕ, ℤ, pos, negsuc, neg_ℤ, ◌+◌, ◌-◌, ◌*◌, ◌^◌, ◌<◌, ◌≤◌, ◌-ℤ◌, ◌*ℤ◌, ◌≤ℤ◌, unsigned_abs, FitsSigned, w64, to_z, of_z, refl, arith}
+use Rattle.std.proofs.lemmas.Int.{ints, to_z-of_z, fits_signed_from_abs, unsigned_abs-mul}
 use Rattle.std.proofs.Math.Nat.{mul-le-mul}
+use Rattle.sdm_rules.specs.declared.data.Band.{Band}
+use Rattle.sdm_rules.specs.Decelerations.{brake_safe}
+use Rattle.sdm_train.specs.Trains.{IsBand}
 
-pub fits : (x : ℤ) (m : ℕ) → unsigned_abs x ≤ m → m < 2 ^ 63 → FitsSigned w64 x
-fits x m le lt = fits_signed_from_abs w64 x (omega arith)
+-- the number lies at most `m` from 0
+abbrev pub IsSmall : ℕ → ℤ → Type 0
+IsSmall m x = (neg_ℤ (pos m) ≤ℤ x) × (x ≤ℤ pos m)
 
--- a value of that size is read from its bits as it is
-pub stays : (x : ℤ) (m : ℕ) → unsigned_abs x ≤ m → m < 2 ^ 63 → to_z w64 (of_z w64 x) ≡ x
-stays x m le lt = to_z-of_z w64 x (fits x m le lt)
+-- it does where it is no greater without its sign
+pub small_of : (x : ℤ) (m : ℕ) → unsigned_abs x ≤ m → IsSmall m x
+small_of (pos n) m le = (omega (arith, ints), omega (arith, ints))
+small_of (negsuc n) m le = (omega (arith, ints), omega (arith, ints))
 
-pub size_le : (x : ℤ) (m : ℕ) → neg_ℤ (pos m) ≤ℤ x → x ≤ℤ pos m → unsigned_abs x ≤ m
-size_le (pos n) m low high = omega (arith, ints)
-size_le (negsuc n) m low high = omega (arith, ints)
+-- and only there
+pub size_of : (x : ℤ) (m : ℕ) → IsSmall m x → unsigned_abs x ≤ m
+size_of (pos n) m h = omega (arith, ints, h.0, h.1)
+size_of (negsuc n) m h = omega (arith, ints, h.0, h.1)
 
-pub size_low : (x : ℤ) (m : ℕ) → unsigned_abs x ≤ m → neg_ℤ (pos m) ≤ℤ x
-size_low (pos n) m le = omega (arith, ints)
-size_low (negsuc n) m le = omega (arith, ints)
+pub product_small : (a : ℕ) (b : ℤ) (m n : ℕ) → a ≤ m → IsSmall n b → IsSmall (m * n) (pos a *ℤ b)
+product_small a b m n le small = small_of (pos a *ℤ b) (m * n) (rw (unsigned_abs-mul (pos a) b) (mul-le-mul le (size_of b n small)))
 
-pub size_high : (x : ℤ) (m : ℕ) → unsigned_abs x ≤ m → x ≤ℤ pos m
-size_high (pos n) m le = omega (arith, ints)
-size_high (negsuc n) m le = omega (arith, ints)
+pub fits : (x : ℤ) (m : ℕ) → IsSmall m x → m < 2 ^ 63 → FitsSigned w64 x
+fits x m small lt = fits_signed_from_abs w64 x (omega (arith, size_of x m small))
 
--- a number from `l` to `m`
-pub size_within : (x : ℤ) (l m : ℕ) → (pos l ≤ℤ x) × (x ≤ℤ pos m) → unsigned_abs x ≤ m
-size_within x l m h = size_le x m (omega (arith, ints)) h.1
+-- a small number is read from its bits as it is
+pub stays : (x : ℤ) (m : ℕ) → IsSmall m x → m < 2 ^ 63 → to_z w64 (of_z w64 x) ≡ x
+stays x m small lt = to_z-of_z w64 x (fits x m small lt)
 
-pub product_size : (a b : ℤ) (m n : ℕ) → unsigned_abs a ≤ m → unsigned_abs b ≤ n → unsigned_abs (a *ℤ b) ≤ m * n
-product_size a b m n h k = rw (unsigned_abs-mul a b) (mul-le-mul h k)
+-- a number that is not negative, in naturals
+pub nat_is : (z : ℤ) → pos 0 ≤ℤ z → pos (unsigned_abs z) ≡ z
+nat_is (pos n) h = refl
+nat_is (negsuc n) h = absurd (omega (arith, ints))
 
-pub sum_size : (a b : ℤ) (m n : ℕ) → unsigned_abs a ≤ m → unsigned_abs b ≤ n → unsigned_abs (a +ℤ b) ≤ m + n
-sum_size a b m n h k = size_le (a +ℤ b) (m + n) (omega (arith, ints, size_low a m h, size_low b n k)) (omega (arith, ints, size_high a m h, size_high b n k))
+-- the rest up to a number, in naturals
+rest : (m : ℕ) (z : ℤ) → pos 0 ≤ℤ z → z ≤ℤ pos m → pos (m - unsigned_abs z) ≡ pos m -ℤ z
+rest m (pos n) low high = omega (arith, ints)
+rest m (negsuc n) low high = absurd (omega (arith, ints))
 
-pub difference_size : (a b : ℤ) (m n : ℕ) → unsigned_abs a ≤ m → unsigned_abs b ≤ n → unsigned_abs (a -ℤ b) ≤ m + n
-difference_size a b m n h k = size_le (a -ℤ b) (m + n) (omega (arith, ints, size_low a m h, size_high b n k)) (omega (arith, ints, size_high a m h, size_low b n k))
-
-pub min_size : (a b : ℤ) (m : ℕ) → unsigned_abs a ≤ m → unsigned_abs b ≤ m → unsigned_abs (int_min a b) ≤ m
-min_size a b m h k = size_le (int_min a b) m (omega (arith, ints, clamps, size_low a m h, size_low b m k)) (omega (arith, ints, clamps, size_high a m h, size_high b m k))
+-- the emergency brake's deceleration, in naturals
+pub brake_safe_is : (avadh : ℕ) (b : Band) → IsBand b →
+    pos (unsigned_abs b.kdry * (20 * unsigned_abs b.kwet + avadh * (1000 - unsigned_abs b.kwet)) * unsigned_abs b.emergency)
+    ≡ brake_safe (pos avadh) b b.emergency
+brake_safe_is avadh b h =
+    let kdry = nat_is b.kdry (omega (arith, ints, h.kdry.0)) in
+    let kwet = nat_is b.kwet (omega (arith, ints, h.kwet.0)) in
+    let dry = rest 1000 b.kwet (omega (arith, ints, h.kwet.0)) h.kwet.1 in
+    let emergency = nat_is b.emergency (omega (arith, ints, h.emergency.0)) in
+    rw (← kdry, ← emergency, ← dry, ← kwet) refl

@@ -14,6 +14,8 @@ slope_of_brake Safe t n u b = refl
 slope_of_brake Expected t n u b = refl
 slope_of_brake Normal t n u b = refl
 
-pub slope_is : (kind : SlopeKind) (t : TrainData) (n : NationalFields) (u : UnderTrain) (b : Band) (q : ℕ) (scale brake grad : ℤ) → q ≡ q_of t.rotating_mass → scale ≡ pos q → brake ≡ brake_of kind n u b → grad ≡ a_gradient t.rotating_mass u.grad →
-    scale *ℤ brake +ℤ grad ≡ slope_under kind t n u b
-slope_is kind t n u b q scale brake grad q_is scale_is brake_is grad_is = rw (scale_is, q_is, brake_is, grad_is) (slope_of_brake kind t n u b)
+pub slope_is : (kind : SlopeKind) (t : TrainData) (n : NationalFields) (u : UnderTrain) (b : Band) (q : ℕ) (brake scaled grad : ℤ) →
+    q ≡ q_of t.rotating_mass → brake ≡ brake_of kind n u b → scaled ≡ pos q *ℤ brake → grad ≡ a_gradient t.rotating_mass u.grad →
+    scaled +ℤ grad ≡ slope_under kind t n u b
+slope_is kind t n u b q brake scaled grad q_is brake_is scaled_is grad_is =
+    rw (scaled_is, q_is, brake_is, grad_is) (slope_of_brake kind t n u b)

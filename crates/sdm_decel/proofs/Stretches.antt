@@ -21,13 +21,10 @@ use Rattle.sdm_track.specs.Segments.{AreSegments}
 use Rattle.sdm_curve.specs.Maps.{AreStarts}
 use Rattle.sdm_curve.proofs.Meanings.{rising_of, start_least}
 use Rattle.sdm_decel.specs.StretchCells.{AreGradientsUnder, gradient_starts, area_ends, AreStretches}
+use Rattle.sdm_decel.proofs.Sizes.{nat_is}
 use Rattle.sdm_decel.proofs.Sides.{IsBegun, under_same}
 
 -- ---- the cells of one kind
-
-pub nat_is : (z : ℤ) → pos 0 ≤ℤ z → pos (unsigned_abs z) ≡ z
-nat_is (pos n) h = refl
-nat_is (negsuc n) h = absurd (omega (arith, ints))
 
 nat_near : (z : ℤ) (m : ℕ) → pos 0 ≤ℤ z → z ≤ℤ pos m → unsigned_abs z ≤ m
 nat_near (pos n) m low high = omega (arith, ints)

@@ -12,7 +12,7 @@ use sdm_rules::Area;
 use sdm_track::{Segments, Track};
 use std::alloc::Global;
 
-// Adds where the segments of gradients start.
+/// Adds where the segments of gradients start.
 fn push_gradients(cells: &mut Vec<u32>, segments: &Segments) -> Result<(), NoMemory>
     ensures { OnOk result (cells.new.items ≡ cells.old.items ++ gradient_starts segments.now) }
 {
@@ -22,7 +22,7 @@ fn push_gradients(cells: &mut Vec<u32>, segments: &Segments) -> Result<(), NoMem
     Ok(())
 }
 
-// Adds where the areas of a list come into force and where the rear end of a train of this length in cm has left them.
+/// Adds where the areas of a list come into force and where the rear end of a train of this length in cm has left them.
 fn push_areas(cells: &mut Vec<u32>, areas: &[Area], length_cm: u32) -> Result<(), NoMemory>
     requires areas { All (IsArea (pos longest_track)) areas.now }
     requires length { length_cm ≤ longest_train }
@@ -35,7 +35,7 @@ fn push_areas(cells: &mut Vec<u32>, areas: &[Area], length_cm: u32) -> Result<()
     Ok(())
 }
 
-// Puts the cells in order, each once.
+/// Puts the cells in order, each once.
 fn put_in_order(cells: &mut Vec<u32>)
     ensures rises { IsStrictlyIncreasing cells.new.items }
     ensures keeps { (x : ℕ) → Contains cells.old.items x → Contains cells.new.items x }
@@ -46,7 +46,7 @@ fn put_in_order(cells: &mut Vec<u32>)
     cells.dedup();
 }
 
-// The cells as the starts of a slope map.
+/// The cells as the starts of a slope map.
 fn starts_of(alloc: Global, cells: &[u32]) -> Result<Vec<i32>, NoMemory>
     requires { All (λ c. c ≤ longest_track + longest_train) cells.now }
     ensures { IfOk result (λ v. v.items ≡ map pos cells.now) }

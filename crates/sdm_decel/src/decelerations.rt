@@ -1,6 +1,6 @@
 //! The decelerations of SUBSET-026-3 3.13.6 in whole numbers of 1/Q m/s², with Q = 2·10⁹·q: in this unit each is exact.
 
-ghost use Rattle.std.specs.Prelude.{◌≡◌, ℤ, pos, unsigned_abs, ◌^◌, ◌+ℤ◌, ◌-ℤ◌, ◌*ℤ◌, ◌*◌, ◌<◌, ◌≤◌};
+ghost use Rattle.std.specs.Prelude.{◌≡◌, ℤ, pos, neg_ℤ, unsigned_abs, ◌^◌, ◌+◌, ◌-◌, ◌*◌, ◌*ℤ◌, ◌<◌, ◌≤◌, ◌≤ℤ◌};
 ghost use Rattle.sdm_rules.specs.Decelerations.{q_of, brake_safe, brake_under, mass_factor, a_gradient, kn_of, kn_term, slope_under};
 ghost use Rattle.sdm_rules.specs.Ranges.{steepest};
 ghost use Rattle.sdm_decel.specs.Slopes.{brake_of};
@@ -18,23 +18,34 @@ const CM_S2: i64 = 20_000_000;
 const GRAVITY: i64 = 196_200_000 * GRADIENT_UNIT;
 
 /// Kn · grad / 1000 for 1 cm/s² and a gradient of 1, in 1/(2·10⁹) m/s². (SUBSET-026-3 3.13.6.4; own form)
-const KN_UNIT: i64 = 2_000 * GRADIENT_UNIT;
+const KN_UNIT: u32 = 2_000 * GRADIENT_UNIT as u32;
 
 /// Kn · grad / 1000 for the greatest Kn, 1,000 cm/s², and a gradient of 1, in 1/(2·10⁹) m/s². (ranges own)
-const GREATEST_KN: u64 = 1_000 * KN_UNIT as u64;
+const GREATEST_KN: u32 = 1_000 * KN_UNIT;
 
 /// How far a gradient may lie from the level, in the unit of gradients.
 const STEEPEST: u64 = sdm_rules::STEEPEST as u64;
 
-// The product of two numbers that lie at most `M` and `N` from 0.
-fn product<const M: u64, const N: u64>(a: i64, b: i64) -> i64
-    requires first { unsigned_abs a ≤ M }
-    requires second { unsigned_abs b ≤ N }
+/// The product of two numbers that are at most `M` and `N`.
+fn product<const M: u64, const N: u64>(a: u64, b: u64) -> u64
+    requires first { a ≤ M }
+    requires second { b ≤ N }
     requires fits { M * N < 2 ^ 63 }
-    ensures value { result ≡ a *ℤ b }
-    ensures size { unsigned_abs result ≤ M * N }
+    ensures value { result ≡ a * b }
+    ensures most { result ≤ M * N }
 {
     a * b
+}
+
+/// The product of a number that is at most `M` and one that lies at most `N` from 0.
+fn scaled<const M: u32, const N: u64>(a: u32, b: i64) -> i64
+    requires first { a ≤ M }
+    requires second { (neg_ℤ (pos N) ≤ℤ b) × (b ≤ℤ pos N) }
+    requires fits { M * N < 2 ^ 63 }
+    ensures value { result ≡ pos a *ℤ b }
+    ensures range { (neg_ℤ (pos (M * N)) ≤ℤ result) × (result ≤ℤ pos (M * N)) }
+{
+    i64::from(a) * b
 }
 
 /// q: 100 plus the rotating mass in percent; 102 · 115 where it is not known, for both values that are then taken. (own unit)
@@ -49,11 +60,11 @@ pub fn q_of(train: &Train) -> u32
     }
 }
 
-// Where the rotating mass is not known, 15 percent are taken uphill and 2 percent downhill: with q = 102 · 115 this leaves
-// the factor 102 uphill and 115 downhill. (SUBSET-026-3 3.13.4.3; own values)
+/// Where the rotating mass is not known, 15 percent are taken uphill and 2 percent downhill: with q = 102 · 115 this leaves
+/// the factor 102 uphill and 115 downhill. (SUBSET-026-3 3.13.4.3; own values)
 fn mass_factor(rotating_mass: Option<i64>, grad: i64) -> i64
     ensures value { result ≡ mass_factor rotating_mass grad }
-    ensures size { unsigned_abs result ≤ 115 }
+    ensures range { (pos 1 ≤ℤ result) × (result ≤ℤ pos 115) }
 {
     match rotating_mass {
         Some(_) => 1,
@@ -62,78 +73,82 @@ fn mass_factor(rotating_mass: Option<i64>, grad: i64) -> i64
     }
 }
 
-// A_gradient = 9.81 · grad / (1000 + 10 · M_rotating), in 1/Q m/s². (SUBSET-026-3 3.13.4.3)
+/// A_gradient = 9.81 · grad / (1000 + 10 · M_rotating), in 1/Q m/s². (SUBSET-026-3 3.13.4.3)
 fn a_gradient(rotating_mass: Option<i64>, grad: i64) -> i64
-    requires { unsigned_abs grad ≤ unsigned_abs steepest }
+    requires { (neg_ℤ steepest ≤ℤ grad) × (grad ≤ℤ steepest) }
     ensures value { result ≡ a_gradient rotating_mass grad }
-    ensures size { unsigned_abs result ≤ 18_050_400_000_000 }
+    ensures range { (neg_ℤ (pos 18_050_400_000_000) ≤ℤ result) × (result ≤ℤ pos 18_050_400_000_000) }
 {
     GRAVITY * mass_factor(rotating_mass, grad) * grad
 }
 
-// Kwet_rst weighted by M_NVAVADH: Kwet_rst + M_NVAVADH · (1 − Kwet_rst), in 1/20,000. (SUBSET-026-3 3.13.6.2.1)
-fn weighted_kwet(avadh: i64, band: &Band) -> i64
-    requires avadh { unsigned_abs avadh ≤ 20 }
-    requires band { IsBand band.now }
-    ensures value { result ≡ pos 20 *ℤ band.now.kwet +ℤ avadh *ℤ (pos 1000 -ℤ band.now.kwet) }
-    ensures size { unsigned_abs result ≤ 40_000 }
+/// Kwet_rst, in thousandths, weighted by M_NVAVADH: Kwet_rst + M_NVAVADH · (1 − Kwet_rst), in 1/20,000.
+/// (SUBSET-026-3 3.13.6.2.1)
+fn weighted_kwet(avadh: u64, kwet: u64) -> u64
+    requires avadh { avadh ≤ 20 }
+    requires kwet { kwet ≤ 1000 }
+    ensures value { result ≡ 20 * kwet + avadh * (1000 - kwet) }
+    ensures most { result ≤ 40_000 }
 {
-    20 * band.kwet + product::<20, 1000>(avadh, 1000 - band.kwet)
+    20 * kwet + product::<20, 1000>(avadh, 1000 - kwet)
 }
 
-// Kdry_rst · (Kwet_rst + M_NVAVADH · (1 − Kwet_rst)) · A_brake_emergency, in 1/(2·10⁹) m/s². (SUBSET-026-3 3.13.6.2.1)
-fn brake_safe(avadh: i64, band: &Band) -> i64
-    requires avadh { unsigned_abs avadh ≤ 20 }
+/// Kdry_rst · (Kwet_rst + M_NVAVADH · (1 − Kwet_rst)) · A_brake_emergency, in 1/(2·10⁹) m/s². (SUBSET-026-3 3.13.6.2.1)
+#[tactic(auto, using(crate::proofs::Sizes::brake_safe_is))]
+fn brake_safe(avadh: u64, band: &Band) -> u64
+    requires avadh { avadh ≤ 20 }
     requires band { IsBand band.now }
-    ensures value { result ≡ brake_safe avadh band.now band.now.emergency }
-    ensures size { unsigned_abs result ≤ 16_000_000_000 }
+    ensures value { pos result ≡ brake_safe (pos avadh) band.now band.now.emergency }
+    ensures most { result ≤ 16_000_000_000 }
 {
-    let dry = product::<1000, 40_000>(band.kdry, weighted_kwet(avadh, band));
-    product::<40_000_000, 400>(dry, band.emergency)
+    let kwet = weighted_kwet(avadh, band.kwet as u64);
+    let dry = product::<1000, 40_000>(band.kdry as u64, kwet);
+    product::<40_000_000, 400>(dry, band.emergency as u64)
 }
 
-// A_brake_safe: on reduced adhesion at most the national maximum A_NVMAXREDADH. (SUBSET-026-3 3.13.6.2.1)
-fn brake_under(national: &National, under: Under, band: &Band) -> i64
+/// A_brake_safe: on reduced adhesion at most the national maximum A_NVMAXREDADH. (SUBSET-026-3 3.13.6.2.1)
+fn brake_under(national: &National, under: Under, band: &Band) -> u64
     requires { IsBand band.now }
-    ensures value { result ≡ brake_under national.now under band.now }
-    ensures size { unsigned_abs result ≤ 16_000_000_000 }
+    ensures value { pos result ≡ brake_under national.now under band.now }
+    ensures most { result ≤ 16_000_000_000 }
 {
-    let dry = brake_safe(national.avadh(), band);
+    let dry = brake_safe(national.avadh() as u64, band);
     if under.reduced() {
-        dry.min(CM_S2 * national.adhesion_max())
+        dry.min((CM_S2 * national.adhesion_max()) as u64)
     } else {
         dry
     }
 }
 
-// Kn: Kn+ uphill and on the level, Kn- downhill, in cm/s². (SUBSET-026-3 3.13.6.4; own form)
-fn kn_of(band: &Band, grad: i64) -> i64
+/// Kn: Kn+ uphill and on the level, Kn- downhill, in cm/s². (SUBSET-026-3 3.13.6.4; own form)
+fn kn_of(band: &Band, grad: i64) -> u32
     requires { IsBand band.now }
-    ensures value { result ≡ kn_of band.now grad }
-    ensures size { unsigned_abs result ≤ 1000 }
+    ensures value { pos result ≡ kn_of band.now grad }
+    ensures most { result ≤ 1000 }
 {
-    if grad < 0 { band.kn_down } else { band.kn_up }
+    let kn = if grad < 0 { band.kn_down } else { band.kn_up };
+    kn as u32
 }
 
-// Kn · grad / 1000, in 1/(2·10⁹) m/s². (SUBSET-026-3 3.13.6.4; own form)
+/// Kn · grad / 1000, in 1/(2·10⁹) m/s². (SUBSET-026-3 3.13.6.4; own form)
 fn kn_term(band: &Band, grad: i64) -> i64
     requires band { IsBand band.now }
-    requires grad { unsigned_abs grad ≤ unsigned_abs steepest }
+    requires grad { (neg_ℤ steepest ≤ℤ grad) × (grad ≤ℤ steepest) }
     ensures value { result ≡ kn_term band.now grad }
-    ensures size { unsigned_abs result ≤ 1_600_000_000 }
+    ensures range { (neg_ℤ (pos 1_600_000_000) ≤ℤ result) × (result ≤ℤ pos 1_600_000_000) }
 {
-    product::<GREATEST_KN, STEEPEST>(KN_UNIT * kn_of(band, grad), grad)
+    scaled::<GREATEST_KN, STEEPEST>(KN_UNIT * kn_of(band, grad), grad)
 }
 
-// What the brakes give, in 1/(2·10⁹) m/s²: A_brake_safe, A_brake_service, or A_brake_normal_service less Kn · grad / 1000.
-// Reduced adhesion counts for the emergency brake alone. (SUBSET-026-3 3.13.6.2, 3.13.6.3, 3.13.6.4)
+/// What the brakes give, in 1/(2·10⁹) m/s²: A_brake_safe, A_brake_service, or A_brake_normal_service less Kn · grad / 1000.
+/// Reduced adhesion counts for the emergency brake alone. (SUBSET-026-3 3.13.6.2, 3.13.6.3, 3.13.6.4)
 fn brake(kind: SlopeKind, national: &National, under: Under, band: &Band) -> i64
     requires { IsBand band.now }
     ensures value { result ≡ brake_of kind national.now under band.now }
-    ensures size { unsigned_abs result ≤ 16_000_000_000 }
+    ensures range { (neg_ℤ (pos 16_000_000_000) ≤ℤ result) × (result ≤ℤ pos 16_000_000_000) }
 {
     match kind {
-        SlopeKind::Safe => brake_under(national, under, band),
+        SlopeKind::Safe => brake_under(national, under, band) as i64,
         SlopeKind::Expected => CM_S2 * band.service,
         SlopeKind::Normal => CM_S2 * band.normal - kn_term(band, under.grad()),
     }
@@ -147,6 +162,6 @@ pub fn slope(kind: SlopeKind, train: &Train, national: &National, under: Under, 
     ensures size { unsigned_abs result ≤ 10 ^ 15 }
 {
     let brake = brake(kind, national, under, band);
-    let scaled = product::<11_730, 16_000_000_000>(i64::from(q_of(train)), brake);
+    let scaled = scaled::<11_730, 16_000_000_000>(q_of(train), brake);
     scaled + a_gradient(train.rotating_mass(), under.grad())
 }

@@ -20,7 +20,7 @@ use sdm_track::Track;
 use sdm_train::{Band, Train};
 use std::alloc::Global;
 
-// The upper speeds of all bands but the last.
+/// The upper speeds of all bands but the last.
 fn uppers(alloc: Global, train: &Train) -> Result<Vec<Speed>, NoMemory>
     ensures value { IfOk result (λ v. v.items ≡ uppers_of train.now.bands) }
     ensures accepted { IsTrain train.now }
@@ -34,7 +34,7 @@ fn uppers(alloc: Global, train: &Train) -> Result<Vec<Speed>, NoMemory>
     Ok(uppers)
 }
 
-// Adds the slopes of a band.
+/// Adds the slopes of a band.
 fn push_band(
     slopes: &mut Vec<i64>,
     kind: SlopeKind,
@@ -44,8 +44,11 @@ fn push_band(
     band: &Band,
 ) -> Result<(), NoMemory>
     requires { IsBand band.now }
-    ensures added { OnOk result (slopes.new.items ≡ slopes.old.items ++ map (λ u. slope_under kind train.now national.now u band.now) unders.now) }
-    ensures small { OnOk result (All (λ z. unsigned_abs z ≤ 10 ^ 15) slopes.old.items → All (λ z. unsigned_abs z ≤ 10 ^ 15) slopes.new.items) }
+    ensures added { OnOk result
+        (slopes.new.items ≡
+        slopes.old.items ++ map (λ u. slope_under kind train.now national.now u band.now) unders.now) }
+    ensures small { OnOk result
+        (All (λ z. unsigned_abs z ≤ 10 ^ 15) slopes.old.items → All (λ z. unsigned_abs z ≤ 10 ^ 15) slopes.new.items) }
 {
     for under in unders {
         slopes.push(slope(kind, train, national, *under, band))?;
@@ -53,7 +56,7 @@ fn push_band(
     Ok(())
 }
 
-// The slopes of all bands, those of the first band first.
+/// The slopes of all bands, those of the first band first.
 fn slopes(
     alloc: Global,
     kind: SlopeKind,
@@ -61,7 +64,8 @@ fn slopes(
     national: &National,
     unders: &[Under],
 ) -> Result<Vec<i64>, NoMemory>
-    ensures value { IfOk result (λ v. v.items ≡ slopes_of_bands kind train.now national.now unders.now train.now.bands) }
+    ensures value { IfOk result
+        (λ v. v.items ≡ slopes_of_bands kind train.now national.now unders.now train.now.bands) }
     ensures small { IfOk result (λ v. All (λ z. unsigned_abs z ≤ 10 ^ 15) v.items) }
 {
     let mut slopes = Vec::new(alloc);
@@ -71,7 +75,7 @@ fn slopes(
     Ok(slopes)
 }
 
-// What a map is made of.
+/// What a map is made of.
 #[derive(Drop)]
 struct Parts {
     uppers: Vec<Speed>,
@@ -79,7 +83,7 @@ struct Parts {
     slopes: Vec<i64>,
 }
 
-// What the map of a kind is made of.
+/// What the map of a kind is made of.
 fn parts_of(
     alloc: Global,
     kind: SlopeKind,
@@ -88,7 +92,8 @@ fn parts_of(
     track: &Track,
 ) -> Result<Parts, NoMemory>
     ensures { IfOk result
-        (λ p. AreParts kind (train_and_track_from train.now national.now track.now) p.uppers.items p.starts.items p.slopes.items) }
+        (λ p. AreParts kind (train_and_track_from train.now national.now track.now)
+        p.uppers.items p.starts.items p.slopes.items) }
 {
     let length_cm = train.length() as u32;
     let segments = track.compensated(alloc, length_cm)?;
@@ -111,7 +116,8 @@ pub fn slope_map(
     national: &National,
     track: &Track,
 ) -> Result<BandMap, CurveFault>
-    ensures slopes { IfOk result (λ m. meaning_of m ≡ slopes_of kind (train_and_track_from train.now national.now track.now)) }
+    ensures slopes { IfOk result
+        (λ m. meaning_of m ≡ slopes_of kind (train_and_track_from train.now national.now track.now)) }
     ensures segments { IfOk result (λ m. AreStretches track.now train.now.length_cm m.starts) }
     ensures accepted { IfOk result (λ _. IsAcceptedKind kind (train_and_track_from train.now national.now track.now)) }
     ensures fault { IfErr result (IsFaultOfKind kind (train_and_track_from train.now national.now track.now)) }
@@ -140,7 +146,8 @@ pub fn safe(
     national: &National,
     track: &Track,
 ) -> Result<BandMap, CurveFault>
-    ensures slopes { IfOk result (λ m. meaning_of m ≡ slopes_of Safe (train_and_track_from train.now national.now track.now)) }
+    ensures slopes { IfOk result
+        (λ m. meaning_of m ≡ slopes_of Safe (train_and_track_from train.now national.now track.now)) }
     ensures segments { IfOk result (λ m. AreStretches track.now train.now.length_cm m.starts) }
     ensures accepted { IfOk result (λ _. IsAcceptedKind Safe (train_and_track_from train.now national.now track.now)) }
     ensures fault { IfErr result (IsFaultOfKind Safe (train_and_track_from train.now national.now track.now)) }
@@ -156,9 +163,11 @@ pub fn expected(
     national: &National,
     track: &Track,
 ) -> Result<BandMap, CurveFault>
-    ensures slopes { IfOk result (λ m. meaning_of m ≡ slopes_of Expected (train_and_track_from train.now national.now track.now)) }
+    ensures slopes { IfOk result
+        (λ m. meaning_of m ≡ slopes_of Expected (train_and_track_from train.now national.now track.now)) }
     ensures segments { IfOk result (λ m. AreStretches track.now train.now.length_cm m.starts) }
-    ensures accepted { IfOk result (λ _. IsAcceptedKind Expected (train_and_track_from train.now national.now track.now)) }
+    ensures accepted { IfOk result
+        (λ _. IsAcceptedKind Expected (train_and_track_from train.now national.now track.now)) }
     ensures fault { IfErr result (IsFaultOfKind Expected (train_and_track_from train.now national.now track.now)) }
 {
     slope_map(alloc, SlopeKind::Expected, train, national, track)
@@ -172,9 +181,11 @@ pub fn normal(
     national: &National,
     track: &Track,
 ) -> Result<BandMap, CurveFault>
-    ensures slopes { IfOk result (λ m. meaning_of m ≡ slopes_of Normal (train_and_track_from train.now national.now track.now)) }
+    ensures slopes { IfOk result
+        (λ m. meaning_of m ≡ slopes_of Normal (train_and_track_from train.now national.now track.now)) }
     ensures segments { IfOk result (λ m. AreStretches track.now train.now.length_cm m.starts) }
-    ensures accepted { IfOk result (λ _. IsAcceptedKind Normal (train_and_track_from train.now national.now track.now)) }
+    ensures accepted { IfOk result
+        (λ _. IsAcceptedKind Normal (train_and_track_from train.now national.now track.now)) }
     ensures fault { IfErr result (IsFaultOfKind Normal (train_and_track_from train.now national.now track.now)) }
 {
     slope_map(alloc, SlopeKind::Normal, train, national, track)

@@ -1,6 +1,6 @@
 //! What the decelerations of a front end rest on, beside its speed band.
 
-ghost use Rattle.std.specs.Prelude.{◌≡◌, ℤ, pos, map, IfOk, unsigned_abs, ◌≤◌};
+ghost use Rattle.std.specs.Prelude.{◌≡◌, ℤ, pos, neg_ℤ, map, IfOk, ◌≤ℤ◌};
 ghost use Rattle.sdm_rules.specs.Decelerations.{under_train};
 ghost use Rattle.sdm_rules.specs.Ranges.{steepest};
 ghost use Rattle.sdm_track.specs.Segments.{AreSegments, segment_gradient};
@@ -20,7 +20,7 @@ pub struct Under {
 }
 
 impl Model for Under {
-    ghost use Rattle.std.specs.Prelude.{◌≤◌, unsigned_abs};
+    ghost use Rattle.std.specs.Prelude.{neg_ℤ, ◌≤ℤ◌};
     ghost use Rattle.sdm_rules.specs.Decelerations.{UnderTrain};
     ghost use Rattle.sdm_rules.specs.Ranges.{steepest};
 
@@ -28,7 +28,7 @@ impl Model for Under {
 
     ghost view = { λ u. record { grad = u.grad; reduced = u.reduced } };
 
-    ghost invariant = { λ u. unsigned_abs u.grad ≤ unsigned_abs steepest };
+    ghost invariant = { λ u. (neg_ℤ steepest ≤ℤ u.grad) × (u.grad ≤ℤ steepest) };
 
     ghost inverse = { λ u. record { grad = u.grad; reduced = u.reduced } };
 }
@@ -66,7 +66,7 @@ impl Under {
     /// The gradient in the unit of gradients, uphill positive.
     pub fn grad(self) -> i64
         ensures value { result ≡ self.grad }
-        ensures size { unsigned_abs result ≤ unsigned_abs steepest }
+        ensures range { (neg_ℤ steepest ≤ℤ result) × (result ≤ℤ steepest) }
     {
         self.grad
     }

@@ -1,6 +1,6 @@
 -- The speed of a cell is that of the last step that has begun there: steps that have begun can be left out but the last, and steps that
 -- start past the cell say nothing of it.
-use Rattle.std.proofs.Common.{◌≡◌, ℕ, zero, suc, ℤ, pos, List, [], ◌∷◌, length, get_or, drop, int_lt, inl, inr, ◌<◌, ◌≤◌, ◌≤ℤ◌, ◌<ℤ◌, refl, ◌∙◌, arith}
+use Rattle.std.proofs.Common.{◌≡◌, ℕ, zero, suc, ℤ, pos, List, [], ◌∷◌, length, get_or, set, drop, int_lt, inl, inr, ◌<◌, ◌≤◌, ◌≤ℤ◌, ◌<ℤ◌, refl, ◌∙◌, arith}
 use Rattle.std.specs.List.Sorted.{IsPartitionedBy}
 use Rattle.std.proofs.lemmas.Int.{ints}
 use Rattle.sdm_num.proofs.Comparisons.{le_is, not_le_is, lt_is, lt_of}
@@ -100,3 +100,14 @@ start_here (s ∷ ss) (suc i) cell d rising parted (inr later) =
     let bound = parted.bound in
     let rest = start_here ss i cell d (rising_of s.start ss rising) (record { bound = omega arith; before = λ k e l. parted.before (suc k) e (omega arith); from = λ k e l m. parted.from (suc k) e (omega arith) (omega arith) }) later in
     (omega (arith, rest.0), rest.1)
+
+-- a step that starts where the one before it in its place did keeps the starts past a cell, and rising
+set_after : (cell : ℤ) (ss : List Step) (i : ℕ) (s d : Step) → s.start ≡ (get_or ss i d).start → AreAfter cell ss → AreAfter cell (set ss i s)
+set_after cell [] i s d e h = h
+set_after cell (x ∷ xs) zero s d e h = rw e h
+set_after cell (x ∷ xs) (suc i) s d e h = (h.0, set_after x.start xs i s d e h.1)
+
+pub set_rising : (ss : List Step) (i : ℕ) (s d : Step) → s.start ≡ (get_or ss i d).start → AreRising ss → AreRising (set ss i s)
+set_rising [] i s d e h = h
+set_rising (x ∷ xs) zero s d e h = rw e h
+set_rising (x ∷ xs) (suc i) s d e h = set_after x.start xs i s d e h

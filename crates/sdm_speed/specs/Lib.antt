@@ -3,6 +3,7 @@ pub mod Steps
 pub mod Falls
 pub mod Held
 pub mod ZoneEnds
+pub mod Speeds
 pub mod Changes
 pub mod Profiles
 pub mod ProfileFields

@@ -6,7 +6,7 @@ use Rattle.sdm_speed.specs.declared.profiles.Profile.TheInside.{Inside}
 use Rattle.sdm_speed.specs.ZoneEnds.{AreAtZoneEnds}
 use Rattle.sdm_speed.specs.Held.{AreDistinct, IsHeldRestriction, by_identity}
 use Rattle.sdm_speed.specs.Zones.{IsZone, zone_limits}
-use Rattle.sdm_speed.specs.Steps.{AreRising, speeds_of}
+use Rattle.sdm_speed.specs.Speeds.{speeds_in}
 use Rattle.sdm_speed.specs.Profiles.{ProfileData, IsProfile}
 
 -- the value that callers see
@@ -33,10 +33,8 @@ pub record IsKeptProfile (f : Inside) : Type 0 where
   pub distinct : AreDistinct f.held.items
   pub each_static : All IsZone (static_zones_of f)
   pub each_held : All IsHeldRestriction f.held.items
-  pub statics : (c : ℤ) → speeds_of f.statics.before f.statics.list.items c ≡ zone_limits f.max_speed (static_zones_of f) c
-  pub statics_rising : AreRising f.statics.list.items
-  pub steps : (c : ℤ) → speeds_of f.steps.before f.steps.list.items c ≡ zone_limits f.max_speed (static_zones_of f ++ held_zones_of f) c
-  pub steps_rising : AreRising f.steps.list.items
+  pub statics : (c : ℤ) → speeds_in f.statics c ≡ zone_limits f.max_speed (static_zones_of f) c
+  pub steps : (c : ℤ) → speeds_in f.steps c ≡ zone_limits f.max_speed (static_zones_of f ++ held_zones_of f) c
   pub steps_before : f.steps.before ≡ f.statics.before
   pub zone_ends : AreAtZoneEnds (pos f.length_cm) f.statics.list.items f.held.items f.steps.list.items
   pub held_room : most_restrictions ≤ vec_capacity f.held

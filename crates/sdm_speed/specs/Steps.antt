@@ -1,5 +1,7 @@
 -- Speeds of all cells as steps: what they are, and what a zone makes of them (own).
 use Rattle.std.specs.Prelude.{◌≡◌, ◌⊎◌, ℕ, zero, suc, ℤ, true, false, List, [], ◌∷◌, length, slice_index_or, Option, Some, None, MatchOption, is_none, min, take, if◌then◌else◌, ◌<◌, ◌≤◌, ◌≤ℤ◌, ◌<ℤ◌}
+use Rattle.std.specs.Coded.{×_prop, Unit-prop}
+use denote.Struct.Props as logic
 use Rattle.sdm_rules.specs.declared.targets.Fall.{Fall}
 use Rattle.sdm_rules.specs.Cells.{last_at}
 use Rattle.sdm_rules.specs.Profile.{Zone, capped, covers}
@@ -19,6 +21,15 @@ AreAfter cell (s ∷ ss) = (cell <ℤ s.start) × AreAfter s.start ss
 abbrev pub AreRising : List Step → Type 0
 AreRising [] = Unit {0}
 AreRising (s ∷ ss) = AreAfter s.start ss
+
+-- that they rise is shown in one way at most
+AreAfter-prop : (cell : ℤ) (steps : List Step) → IsProp (AreAfter cell steps)
+AreAfter-prop cell [] = Unit-prop
+AreAfter-prop cell (s ∷ ss) = ×_prop (Prim.hlevel logic.props) (AreAfter-prop s.start ss)
+
+pub AreRising-prop : (steps : List Step) → IsProp (AreRising steps)
+AreRising-prop [] = Unit-prop
+AreRising-prop (s ∷ ss) = AreAfter-prop s.start ss
 
 -- the first `i` steps start before the cell, and the others at it or past it
 pub record ArePartedAt (cell : ℤ) (steps : List Step) (i : ℕ) : Type 0 where

@@ -4,9 +4,10 @@
 ghost use Rattle.std.specs.Prelude.{◌≡◌, ◌⊎◌, ◌≤◌, ℕ, ℤ, pos, true, All, map, vec_capacity};
 ghost use Rattle.sdm_rules.specs.Profile.{capped, zone_of};
 ghost use Rattle.sdm_rules.specs.Ranges.{longest_train};
-ghost use Rattle.sdm_speed.specs.ZoneEnds.{AreAtZoneEnds, AreSpeedsAt, IsZoneEnd, IsEnd, IsEndOfOne, retaken, speed_under};
+ghost use Rattle.sdm_speed.specs.ZoneEnds.{AreAtZoneEnds, AreSpeedsAt, IsZoneEnd, IsEnd, IsEndOfOne, retaken};
 ghost use Rattle.sdm_speed.specs.Held.{IsHeldRestriction};
-ghost use Rattle.sdm_speed.specs.Steps.{AreRising, IsStart, speeds_of};
+ghost use Rattle.sdm_speed.specs.Steps.{IsStart};
+ghost use Rattle.sdm_speed.specs.Speeds.{speeds_in, speeds_left};
 
 use crate::ends::{cells_of, zone_of};
 use crate::steps::Steps;
@@ -14,10 +15,9 @@ use sdm_rules::Restriction;
 
 /// The speed of a cell: the static one, lowered by restrictions.
 fn speed_under(statics: &Steps, held: &[Restriction], length_cm: u32, cell: i32) -> u16
-    requires rising { AreRising statics.now.list.items }
     requires held { All IsHeldRestriction held.now }
     requires train { length_cm ≤ longest_train }
-    ensures { result ≡ speed_under (pos length_cm) statics.now.before statics.now.list.items held.now cell }
+    ensures { result ≡ speeds_left length_cm statics.now held.now cell }
 {
     let mut speed = statics.speed_at(cell);
     for r in held {
@@ -44,7 +44,6 @@ fn is_end_of_one(held: &[Restriction], length_cm: u32, cell: i32) -> bool
 
 /// Whether a static step starts at a cell, or the zone of a restriction begins or ends there.
 fn is_zone_end(statics: &Steps, held: &[Restriction], length_cm: u32, cell: i32) -> bool
-    requires rising { AreRising statics.now.list.items }
     requires held { All IsHeldRestriction held.now }
     requires train { length_cm ≤ longest_train }
     ensures yes { result ≡ true → IsZoneEnd (pos length_cm) statics.now.list.items held.now cell }
@@ -61,14 +60,14 @@ fn retake(
     held: &[Restriction],
     length_cm: u32,
 )
-    requires rising { AreRising steps.old.list.items }
-    requires speeds { (c : ℤ) → speeds_of steps.old.before steps.old.list.items c ≡ capped c (zone_of (pos length_cm) lifted) (speed_under (pos length_cm) statics.now.before statics.now.list.items held.now c) }
-    requires statics { AreRising statics.now.list.items }
+    requires speeds { (c : ℤ) → speeds_in steps.old c ≡
+        capped c (zone_of (pos length_cm) lifted) (speeds_left length_cm statics.now held.now c) }
     requires held { All IsHeldRestriction held.now }
     requires lifted { IsHeldRestriction lifted }
     requires train { length_cm ≤ longest_train }
     ensures before { steps.new.before ≡ steps.old.before }
-    ensures list { steps.new.list.items ≡ map (retaken (speed_under (pos length_cm) statics.now.before statics.now.list.items held.now)) steps.old.list.items }
+    ensures list { steps.new.list.items ≡
+        map (retaken (speeds_left length_cm statics.now held.now)) steps.old.list.items }
     ensures room { vec_capacity steps.new.list ≡ vec_capacity steps.old.list }
 {
     let covered = steps.covered(zone_of(lifted, length_cm));
@@ -86,16 +85,15 @@ fn join_unless_zone_end(
     held: &[Restriction],
     length_cm: u32,
 )
-    requires rising { AreRising steps.old.list.items }
-    requires statics { AreRising statics.now.list.items }
     requires held { All IsHeldRestriction held.now }
     requires train { length_cm ≤ longest_train }
     ensures before { steps.new.before ≡ steps.old.before }
-    ensures rising { AreRising steps.new.list.items }
-    ensures speeds { (speed : ℤ → ℕ) → AreSpeedsAt speed steps.old.list.items → AreSpeedsAt speed steps.new.list.items }
+    ensures speeds { (speed : ℤ → ℕ) → AreSpeedsAt speed steps.old.list.items →
+        AreSpeedsAt speed steps.new.list.items }
     ensures fewer { (c : ℤ) → IsStart c steps.new.list.items → IsStart c steps.old.list.items }
     ensures here { IsStart cell steps.new.list.items → IsZoneEnd (pos length_cm) statics.now.list.items held.now cell }
-    ensures others { (c : ℤ) → IsZoneEnd (pos length_cm) statics.now.list.items held.now c → IsStart c steps.old.list.items → IsStart c steps.new.list.items }
+    ensures others { (c : ℤ) → IsZoneEnd (pos length_cm) statics.now.list.items held.now c →
+        IsStart c steps.old.list.items → IsStart c steps.new.list.items }
     ensures room { vec_capacity steps.new.list ≡ vec_capacity steps.old.list }
 {
     if !is_zone_end(statics, held, length_cm, cell) {
@@ -111,18 +109,18 @@ pub fn raise(
     held: &[Restriction],
     length_cm: u32,
 )
-    requires rising { AreRising steps.old.list.items }
-    requires speeds { (c : ℤ) → speeds_of steps.old.before steps.old.list.items c ≡ capped c (zone_of (pos length_cm) lifted) (speed_under (pos length_cm) statics.now.before statics.now.list.items held.now c) }
+    requires speeds { (c : ℤ) → speeds_in steps.old c ≡
+        capped c (zone_of (pos length_cm) lifted) (speeds_left length_cm statics.now held.now c) }
     requires before { steps.old.before ≡ statics.now.before }
-    requires each { (c : ℤ) → IsZoneEnd (pos length_cm) statics.now.list.items held.now c → IsStart c steps.old.list.items }
-    requires no_other { (c : ℤ) → IsStart c steps.old.list.items → IsZoneEnd (pos length_cm) statics.now.list.items held.now c ⊎ IsEnd (pos length_cm) c lifted }
-    requires statics { AreRising statics.now.list.items }
+    requires each { (c : ℤ) → IsZoneEnd (pos length_cm) statics.now.list.items held.now c →
+        IsStart c steps.old.list.items }
+    requires no_other { (c : ℤ) → IsStart c steps.old.list.items →
+        IsZoneEnd (pos length_cm) statics.now.list.items held.now c ⊎ IsEnd (pos length_cm) c lifted }
     requires held { All IsHeldRestriction held.now }
     requires lifted { IsHeldRestriction lifted }
     requires train { length_cm ≤ longest_train }
     ensures before { steps.new.before ≡ statics.now.before }
-    ensures speeds { (c : ℤ) → speeds_of steps.new.before steps.new.list.items c ≡ speed_under (pos length_cm) statics.now.before statics.now.list.items held.now c }
-    ensures rising { AreRising steps.new.list.items }
+    ensures speeds { (c : ℤ) → speeds_in steps.new c ≡ speeds_left length_cm statics.now held.now c }
     ensures zone_ends { AreAtZoneEnds (pos length_cm) statics.now.list.items held.now steps.new.list.items }
     ensures room { vec_capacity steps.new.list ≡ vec_capacity steps.old.list }
 {

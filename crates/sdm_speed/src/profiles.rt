@@ -5,6 +5,7 @@
 ghost use Rattle.std.specs.Prelude.{◌≡◌, ℤ, pos, ◌*◌, ◌≤◌, ◌≤ℤ◌, All, Some, None, IfOk, IfErr, IfSome, MatchOption, OnOk, OnErr, length, min, position, vec_len};
 ghost use Rattle.std.specs.FinMap as finite;
 ghost use Rattle.std.specs.Int.{int_gap};
+ghost use Rattle.std.specs.Result.{result_err};
 ghost use Rattle.sdm_rules.specs.Cells.{lowest};
 ghost use Rattle.sdm_rules.specs.Profile.{zones_of_track};
 ghost use Rattle.sdm_rules.specs.Records.{restrict_fault, revoke_fault};
@@ -12,7 +13,7 @@ ghost use Rattle.sdm_rules.specs.Targets.{IsNextFall, HasNoFall};
 ghost use Rattle.sdm_rules.specs.Ranges.{longest_track, longest_train, most_speeds, top_kmh};
 ghost use Rattle.sdm_track.specs.Ranges.{AreSpeeds};
 ghost use Rattle.sdm_speed.specs.Zones.{IsLimit, IsZone, IsFallInRange, zone_limits};
-ghost use Rattle.sdm_speed.specs.Steps.{AreRising, speeds_of};
+ghost use Rattle.sdm_speed.specs.Speeds.{speeds_in};
 ghost use Rattle.sdm_speed.specs.Held.{has_id};
 ghost use Rattle.sdm_speed.specs.Changes.{AreSameOutside, IsChangedInRange};
 ghost use Rattle.sdm_speed.specs.Profiles.{mrsp_of, new_profile, IsProfile};
@@ -101,8 +102,7 @@ fn static_zones(alloc: Global, speeds: &[SpeedStep], length_cm: u32) -> Result<V
 /// The speeds of zones, and at most `top`.
 fn steps_of(alloc: Global, zones: &[Zone], top: u16) -> Result<Steps, NoMemory>
     requires { length zones.now ≤ most_speeds }
-    ensures speeds { IfOk result (λ steps. (c : ℤ) → speeds_of steps.before steps.list.items c ≡ zone_limits top zones.now c) }
-    ensures rising { IfOk result (λ steps. AreRising steps.list.items) }
+    ensures speeds { IfOk result (λ steps. (c : ℤ) → speeds_in steps c ≡ zone_limits top zones.now c) }
     ensures few { IfOk result (λ steps. vec_len steps.list ≤ 2 * length zones.now) }
 {
     let mut steps = Steps::begin(alloc, top, 2 * zones.len())?;
@@ -170,28 +170,28 @@ impl Profile {
         self.speeds.len()
     }
 
-    // Whether a restriction with this identity is held.
+    /// Whether a restriction with this identity is held.
     fn is_held(&self, id: u16) -> bool
         ensures { result ≡ finite.contains_key self.now.restrictions id }
     {
         index_of(&self.held, id).is_some()
     }
 
-    // The first fault of a restriction.
-    fn restrict_fault(&self, r: Restriction) -> Option<RestrictFault>
-        ensures { result ≡ restrict_fault self.now.track_cm self.now.restrictions r }
+    /// Refuses a restriction by its first fault.
+    fn check(&self, r: Restriction) -> Result<(), RestrictFault>
+        ensures { result_err result ≡ restrict_fault self.now.track_cm self.now.restrictions r }
     {
         let full = self.held.len() >= MOST_RESTRICTIONS;
         if full {
-            return Some(RestrictFault::Full);
+            return Err(RestrictFault::Full);
         }
         if self.is_held(r.id) {
-            return Some(RestrictFault::IdInUse { id: r.id });
+            return Err(RestrictFault::IdInUse { id: r.id });
         }
         if r.end <= r.start || self.track_cm < r.end {
-            return Some(RestrictFault::Value);
+            return Err(RestrictFault::Value);
         }
-        None
+        Ok(())
     }
 
     /// Puts a restriction into force, and tells the cells that it covers: in no others is the MRSP another. Its speed is 1 to
@@ -201,16 +201,16 @@ impl Profile {
         requires slowest { 1 ≤ r.speed }
         requires fastest { r.speed ≤ top_kmh }
         ensures accepted { OnOk result (restrict_fault self.old.track_cm self.old.restrictions r ≡ None) }
-        ensures added { OnOk result (self.new ≡ record self.old { restrictions = finite.insert self.old.restrictions r.id r }) }
+        ensures added { OnOk result
+            (self.new ≡ record self.old { restrictions = finite.insert self.old.restrictions r.id r }) }
         ensures outside { IfOk result (AreSameOutside (mrsp_of self.old) (mrsp_of self.new)) }
         ensures in_range { IfOk result IsChangedInRange }
         ensures profile_in_range { IsProfile self.old }
-        ensures refused { IfErr result (λ fault. restrict_fault self.old.track_cm self.old.restrictions r ≡ Some fault) }
+        ensures refused { IfErr result
+            (λ fault. restrict_fault self.old.track_cm self.old.restrictions r ≡ Some fault) }
         ensures unchanged { OnErr result (self.new ≡ self.old) }
     {
-        if let Some(fault) = self.restrict_fault(r) {
-            return Err(fault);
-        }
+        self.check(r)?;
         self.held.push_reserved(r);
         self.steps.lower(zone_of(r, self.length_cm));
         Ok(cells_of(r, self.length_cm))
@@ -220,7 +220,8 @@ impl Profile {
     /// with this identity is held; the profile is then as it was. (own)
     pub fn lift(&mut self, id: u16) -> Result<Changed, RevokeFault>
         ensures accepted { OnOk result (revoke_fault self.old.restrictions id ≡ None) }
-        ensures removed { OnOk result (self.new ≡ record self.old { restrictions = finite.remove self.old.restrictions id }) }
+        ensures removed { OnOk result
+            (self.new ≡ record self.old { restrictions = finite.remove self.old.restrictions id }) }
         ensures outside { IfOk result (AreSameOutside (mrsp_of self.old) (mrsp_of self.new)) }
         ensures in_range { IfOk result IsChangedInRange }
         ensures profile_in_range { IsProfile self.old }
@@ -248,8 +249,10 @@ impl Profile {
         requires slowest { 1 ≤ r.speed }
         requires fastest { r.speed ≤ top_kmh }
         ensures accepted { OnOk result (restrict_fault self.old.track_cm self.old.restrictions r ≡ None) }
-        ensures added { OnOk result (self.new ≡ record self.old { restrictions = finite.insert self.old.restrictions r.id r }) }
-        ensures refused { IfErr result (λ fault. restrict_fault self.old.track_cm self.old.restrictions r ≡ Some fault) }
+        ensures added { OnOk result
+            (self.new ≡ record self.old { restrictions = finite.insert self.old.restrictions r.id r }) }
+        ensures refused { IfErr result
+            (λ fault. restrict_fault self.old.track_cm self.old.restrictions r ≡ Some fault) }
         ensures unchanged { OnErr result (self.new ≡ self.old) }
     {
         self.impose(r)?;
@@ -259,7 +262,8 @@ impl Profile {
     /// Takes a restriction out of force. Refused where none with this identity is held; the profile is then as it was. (own)
     pub fn revoke(&mut self, id: u16) -> Result<(), RevokeFault>
         ensures accepted { OnOk result (revoke_fault self.old.restrictions id ≡ None) }
-        ensures removed { OnOk result (self.new ≡ record self.old { restrictions = finite.remove self.old.restrictions id }) }
+        ensures removed { OnOk result
+            (self.new ≡ record self.old { restrictions = finite.remove self.old.restrictions id }) }
         ensures refused { IfErr result (λ fault. revoke_fault self.old.restrictions id ≡ Some fault) }
         ensures unchanged { OnErr result (self.new ≡ self.old) }
     {

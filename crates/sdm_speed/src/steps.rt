@@ -7,7 +7,7 @@ ghost use Rattle.std.specs.Int.{int_gap};
 ghost use Rattle.sdm_rules.specs.Cells.{lowest};
 ghost use Rattle.sdm_rules.specs.Profile.{capped};
 ghost use Rattle.sdm_speed.specs.ZoneEnds.{AreSpeedsAt, HasStartsOf};
-ghost use Rattle.sdm_speed.specs.Steps.{AreAfter, AreCovered, AreRising, ArePartedAt, IsFallAfter, IsSplit, IsStart, KeepsStarts, capped_before, capped_step, speed_to, speeds_of};
+ghost use Rattle.sdm_speed.specs.Steps.{AreAfter, AreCovered, AreRising, AreRising-prop, ArePartedAt, IsFallAfter, IsSplit, IsStart, KeepsStarts, capped_before, capped_step, speed_to, speeds_of};
 
 use crate::zones::Zone;
 use sdm_num::NoMemory;
@@ -26,9 +26,10 @@ pub struct Step {
 pub struct Steps {
     before: u16,
     list: Vec<Step>,
+    ghost rises: { AreRising list.items } by { AreRising-prop list.items },
 }
 
-// The speeds from a cell on: that of the cell, and the steps that start past it.
+/// The speeds from a cell on: that of the cell, and the steps that start past it.
 #[derive(Clone, Copy)]
 struct Rest<'a> {
     speed: u16,
@@ -42,7 +43,7 @@ pub struct Range {
     pub to: usize,
 }
 
-// The step with at most this speed.
+/// The step with at most this speed.
 fn lowered(step: Step, limit: u16) -> Step
     ensures { result ≡ record { start = step.start; speed = min limit step.speed } }
 {
@@ -52,7 +53,7 @@ fn lowered(step: Step, limit: u16) -> Step
     }
 }
 
-// The speed before all steps: at most the zone's limit where the zone has no beginning.
+/// The speed before all steps: at most the zone's limit where the zone has no beginning.
 fn capped_before(before: u16, zone: Zone) -> u16
     ensures { result ≡ capped_before zone before }
 {
@@ -62,9 +63,10 @@ fn capped_before(before: u16, zone: Zone) -> u16
     }
 }
 
-// The lowest speed from a cell before all these steps up to the cell `to`, where `speed` holds before them.
+/// The lowest speed from a cell before all these steps up to the cell `to`, where `speed` holds before them.
 fn lowest_up_to(steps: &[Step], speed: u16, to: i32) -> u16
-    ensures { (from : ℤ) (n : ℕ) → to ≡ from +ℤ pos n → AreAfter from steps.now → result ≡ lowest min (speeds_of speed steps.now) from n }
+    ensures { (from : ℤ) (n : ℕ) → to ≡ from +ℤ pos n → AreAfter from steps.now →
+        result ≡ lowest min (speeds_of speed steps.now) from n }
 {
     let mut lowest = speed;
     for step in steps {
@@ -76,7 +78,7 @@ fn lowest_up_to(steps: &[Step], speed: u16, to: i32) -> u16
     lowest
 }
 
-// The first fall past a cell before all these steps, where `speed` holds before them.
+/// The first fall past a cell before all these steps, where `speed` holds before them.
 fn first_fall(steps: &[Step], speed: u16) -> Option<Fall>
     ensures { (after : ℤ) → AreAfter after steps.now → IsFallAfter (speeds_of speed steps.now) after result }
 {
@@ -94,6 +96,8 @@ fn first_fall(steps: &[Step], speed: u16) -> Option<Fall>
 }
 
 impl Steps {
+    ghost use Rattle.sdm_speed.specs.Speeds.{speeds_in};
+
     /// One speed in every cell, with room for so many steps.
     pub fn begin(alloc: Global, speed: u16, room: usize) -> Result<Steps, NoMemory>
         ensures before { IfOk result (λ s. s.before ≡ speed) }
@@ -123,15 +127,13 @@ impl Steps {
 
     /// The speed of a cell.
     pub fn speed_at(&self, cell: i32) -> u16
-        requires { AreRising self.now.list.items }
-        ensures { result ≡ speeds_of self.now.before self.now.list.items cell }
+        ensures { result ≡ speeds_in self.now cell }
     {
         self.from_cell(cell).speed
     }
 
     /// Whether a step starts at a cell.
     pub fn starts_at(&self, cell: i32) -> bool
-        requires { AreRising self.now.list.items }
         ensures yes { result ≡ true → IsStart cell self.now.list.items }
         ensures no { IsStart cell self.now.list.items → result ≡ true }
     {
@@ -151,23 +153,24 @@ impl Steps {
     pub fn set_speed(&mut self, i: usize, speed: u16)
         requires { i < length self.old.list.items }
         ensures before { self.new.before ≡ self.old.before }
-        ensures list { (d : Step) → self.new.list.items ≡ set self.old.list.items i (record { start = (slice_index_or self.old.list.items i d).start; speed = speed }) }
+        ensures list { (d : Step) → self.new.list.items ≡
+            set self.old.list.items i
+            (record { start = (slice_index_or self.old.list.items i d).start; speed = speed }) }
         ensures len { vec_len self.new.list ≡ vec_len self.old.list }
         ensures room { vec_capacity self.new.list ≡ vec_capacity self.old.list }
     {
         self.list[i].speed = speed;
     }
 
-    // How many steps start before a cell.
+    /// How many steps start before a cell.
     fn started_before(&self, cell: i64) -> usize
-        requires { AreRising self.now.list.items }
         ensures { ArePartedAt cell self.now.list.items result }
     {
         self.list
             .partition_point(|step| i64::from(step.start) < cell)
     }
 
-    // The speed up to where the step at this index starts.
+    /// The speed up to where the step at this index starts.
     fn speed_to(&self, i: usize) -> u16
         requires { i ≤ length self.now.list.items }
         ensures { result ≡ speed_to self.now.before self.now.list.items i }
@@ -179,10 +182,9 @@ impl Steps {
         }
     }
 
-    // The speeds from a cell on.
+    /// The speeds from a cell on.
     fn from_cell(&self, cell: i32) -> Rest<'_>
-        requires { AreRising self.now.list.items }
-        ensures same { (c : ℤ) → cell ≤ℤ c → speeds_of self.now.before self.now.list.items c ≡ speeds_of result.speed result.later.now c }
+        ensures same { (c : ℤ) → cell ≤ℤ c → speeds_in self.now c ≡ speeds_of result.speed result.later.now c }
         ensures later { AreAfter cell result.later.now }
     {
         let begun = self.started_before(i64::from(cell) + 1);
@@ -194,10 +196,9 @@ impl Steps {
 
     /// Takes out the step that starts at a cell, if one does.
     pub fn join(&mut self, cell: i32)
-        requires { AreRising self.old.list.items }
         ensures before { self.new.before ≡ self.old.before }
-        ensures rising { AreRising self.new.list.items }
-        ensures speeds { (speed : ℤ → ℕ) → AreSpeedsAt speed self.old.list.items → AreSpeedsAt speed self.new.list.items }
+        ensures speeds { (speed : ℤ → ℕ) → AreSpeedsAt speed self.old.list.items →
+            AreSpeedsAt speed self.new.list.items }
         ensures fewer { (c : ℤ) → IsStart c self.new.list.items → IsStart c self.old.list.items }
         ensures gone { IsStart cell self.new.list.items → ⊥ }
         ensures others { (c : ℤ) → IsStart c self.old.list.items → (c ≡ cell) ⊎ IsStart c self.new.list.items }
@@ -209,11 +210,10 @@ impl Steps {
         }
     }
 
-    // Lets a step start at a cell, for which there is room, and tells how many start before it. No speed changes.
+    /// Lets a step start at a cell, for which there is room, and tells how many start before it. No speed changes.
     fn split(&mut self, cell: i32) -> usize
-        requires rising { AreRising self.old.list.items }
-        requires room { vec_len self.old.list < vec_capacity self.old.list }
-        ensures speeds { (c : ℤ) → speeds_of self.new.before self.new.list.items c ≡ speeds_of self.old.before self.old.list.items c }
+        requires { vec_len self.old.list < vec_capacity self.old.list }
+        ensures speeds { (c : ℤ) → speeds_in self.new c ≡ speeds_in self.old c }
         ensures before { self.new.before ≡ self.old.before }
         ensures start { IsStart cell self.new.list.items }
         ensures starts { KeepsStarts self.old.list.items self.new.list.items }
@@ -221,7 +221,6 @@ impl Steps {
         ensures parted { ArePartedAt cell self.new.list.items result }
         ensures parted_before { ArePartedAt cell self.old.list.items result }
         ensures same_before { take result self.new.list.items ≡ take result self.old.list.items }
-        ensures rising { AreRising self.new.list.items }
         ensures few { vec_len self.new.list ≤ vec_len self.old.list + 1 }
         ensures room { vec_capacity self.new.list ≡ vec_capacity self.old.list }
     {
@@ -237,17 +236,15 @@ impl Steps {
         i
     }
 
-    // Lets a step start at an end of a zone, if there is one, and tells how many start before it; else `otherwise`.
+    /// Lets a step start at an end of a zone, if there is one, and tells how many start before it; else `otherwise`.
     fn split_at(&mut self, end: Option<i32>, otherwise: usize) -> usize
-        requires rising { AreRising self.old.list.items }
-        requires room { vec_len self.old.list < vec_capacity self.old.list }
-        ensures speeds { (c : ℤ) → speeds_of self.new.before self.new.list.items c ≡ speeds_of self.old.before self.old.list.items c }
+        requires { vec_len self.old.list < vec_capacity self.old.list }
+        ensures speeds { (c : ℤ) → speeds_in self.new c ≡ speeds_in self.old c }
         ensures before { self.new.before ≡ self.old.before }
         ensures start { (b : ℤ) → end ≡ Some b → IsStart b self.new.list.items }
         ensures starts { KeepsStarts self.old.list.items self.new.list.items }
         ensures only { (c : ℤ) → IsStart c self.new.list.items → (end ≡ Some c) ⊎ IsStart c self.old.list.items }
         ensures split { IsSplit end otherwise self.old.list.items self.new.list.items result }
-        ensures rising { AreRising self.new.list.items }
         ensures few { vec_len self.new.list ≤ vec_len self.old.list + 1 }
         ensures room { vec_capacity self.new.list ≡ vec_capacity self.old.list }
     {
@@ -259,7 +256,6 @@ impl Steps {
 
     /// The indices of the steps whose starts the zone covers.
     pub fn covered(&self, zone: Zone) -> Range
-        requires { AreRising self.now.list.items }
         ensures { AreCovered zone self.now.list.items result.from result.to }
     {
         Range {
@@ -274,7 +270,7 @@ impl Steps {
         }
     }
 
-    // Each step that the zone covers takes at most its limit, and so do the cells before the first step.
+    /// Each step that the zone covers takes at most its limit, and so do the cells before the first step.
     fn cap(&mut self, zone: Zone, covered: Range)
         requires { AreCovered zone self.old.list.items covered.from covered.to }
         ensures before { self.new.before ≡ capped_before zone self.old.before }
@@ -291,12 +287,10 @@ impl Steps {
 
     /// Lowers the speeds to the limit of a zone in the cells that it covers; there is room for two steps more.
     pub fn lower(&mut self, zone: Zone)
-        requires rising { AreRising self.old.list.items }
-        requires room { vec_len self.old.list + 2 ≤ vec_capacity self.old.list }
-        ensures speeds { (c : ℤ) → speeds_of self.new.before self.new.list.items c ≡ capped c zone (speeds_of self.old.before self.old.list.items c) }
+        requires { vec_len self.old.list + 2 ≤ vec_capacity self.old.list }
+        ensures speeds { (c : ℤ) → speeds_in self.new c ≡ capped c zone (speeds_in self.old c) }
         ensures before { self.new.before ≡ capped_before zone self.old.before }
         ensures starts { HasStartsOf zone self.old.list.items self.new.list.items }
-        ensures rising { AreRising self.new.list.items }
         ensures few { vec_len self.new.list ≤ vec_len self.old.list + 2 }
         ensures room { vec_capacity self.new.list ≡ vec_capacity self.old.list }
     {
@@ -308,9 +302,8 @@ impl Steps {
 
     /// The lowest speed of the cells from `from` to `to`.
     pub fn lowest(&self, from: i32, to: i32) -> u16
-        requires rising { AreRising self.now.list.items }
-        requires ordered { from ≤ℤ to }
-        ensures { result ≡ lowest min (speeds_of self.now.before self.now.list.items) from (int_gap from to) }
+        requires { from ≤ℤ to }
+        ensures { result ≡ lowest min (speeds_in self.now) from (int_gap from to) }
     {
         let rest = self.from_cell(from);
         lowest_up_to(rest.later, rest.speed, to)
@@ -318,8 +311,7 @@ impl Steps {
 
     /// The first fall past the start of the cell `after`.
     pub fn next_fall(&self, after: i32) -> Option<Fall>
-        requires { AreRising self.now.list.items }
-        ensures { IsFallAfter (speeds_of self.now.before self.now.list.items) after result }
+        ensures { IsFallAfter (speeds_in self.now) after result }
     {
         let rest = self.from_cell(after);
         first_fall(rest.later, rest.speed)

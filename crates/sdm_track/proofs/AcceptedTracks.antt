@@ -1,51 +1,26 @@
 -- A track that breaks no rule is within its ranges: where each entry, and each pair of neighbours, was tested in turn with no
 -- fault, all of them keep the rule.
-use Rattle.std.proofs.Common.{◌≡◌, ℕ, zero, suc, ℤ, pos, neg_ℤ, ◌<◌, ◌≤◌, ◌+ℤ◌, ◌-ℤ◌, ◌≤ℤ◌, Bool, true, false, nat_le, if◌then◌else◌, List, [], ◌∷◌, length, get_or, Option, Some, None, inl, inr, refl, arith}
+use Rattle.std.proofs.Common.{◌≡◌, ℕ, zero, suc, ℤ, pos, ◌<◌, ◌≤◌, ◌+ℤ◌, ◌≤ℤ◌, All, Bool, true, false, if◌then◌else◌, List, [], ◌∷◌, length, get_or, Option, Some, None, inl, inr, refl, arith}
 use Rattle.std.proofs.lemmas.Int.{ints}
-use Rattle.std.proofs.lemmas.Bool.{and_parts, cases_lt}
-use Rattle.std.proofs.lemmas.Bool.Decides.{nat_tests}
-use Rattle.sdm_num.proofs.Comparisons.{le_of, not_lt_of}
+use Rattle.std.proofs.lemmas.Bool.{cases_lt}
+use Rattle.sdm_num.proofs.Comparisons.{not_lt_of}
 use Rattle.sdm_rules.specs.declared.data.Gradient.{Gradient}
 use Rattle.sdm_rules.specs.declared.data.SpeedStep.{SpeedStep}
 use Rattle.sdm_rules.specs.declared.data.Area.{Area}
-use Rattle.sdm_rules.specs.declared.faults.TrackFault.TheVariants.{Count, Value}
 use Rattle.sdm_rules.specs.declared.faults.Section.{Section}
 use Rattle.sdm_rules.specs.declared.faults.Section.TheVariants as sections
 use Rattle.sdm_rules.specs.Data.{TrackData}
-use Rattle.sdm_rules.specs.Ranges.{or_else, refused, first_refused, is_within, count_fault, value_fault, gap_fault, order_fault, length_fault, gradients_fault, speeds_fault, areas_fault, track_fault, gradient_refused, speed_refused, area_refused, steepest, most_gradients, most_speeds, most_areas, longest_track, top_kmh}
+use Rattle.sdm_rules.specs.Ranges.{or_else, count_fault, value_fault, gap_fault, order_fault, length_fault, gradients_fault, speeds_fault, areas_fault, track_fault, gradient_refused, speed_refused, area_refused, most_gradients, most_speeds, most_areas}
 use Rattle.sdm_rules.proofs.FaultLaws.{neither, not_refused}
 use Rattle.sdm_track.specs.Steps.{IsFromZero, IsRising}
 use Rattle.sdm_track.specs.Ranges.{IsGradient, IsSpeedStep, IsArea, AreGradients, AreSpeeds, AreAreas, IsTrack}
 
 -- ---- tests that found no fault
 
--- a test that gives no fault is passed
-passed : {F : Type 0} (test : Bool) (fault : F) → (if test then None else Some fault) ≡ None → test ≡ true
-passed true fault e = refl
-passed false fault e = cc
-
 -- a test for a fault that gives none, and nor does what is tested later
 not_found : {F : Type 0} (test : Bool) (fault : F) (later : Option F) → (if test then Some fault else later) ≡ None → (test ≡ false) × (later ≡ None)
 not_found true fault later e = cc
 not_found false fault later e = (refl, e)
-
--- a number within its range
-within : (least greatest n : ℤ) → is_within least greatest n ≡ true → (least ≤ℤ n) × (n ≤ℤ greatest)
-within least greatest n e = (le_of _ _ (and_parts _ _ e).0, le_of _ _ (and_parts _ _ e).1)
-
--- a key that is not refused passed its test
-accepted : (key : ℕ) (test : Bool) → refused key test ≡ None → test ≡ true
-accepted key true e = refl
-accepted key false e = cc
-
--- the first two keys, of which there are no more
-keys_within : (least greatest n least' greatest' n' : ℤ) → first_refused (refused 1 (is_within least greatest n) ∷ refused 2 (is_within least' greatest' n') ∷ []) ≡ None →
-    (least ≤ℤ n) × (n ≤ℤ greatest) × (least' ≤ℤ n') × (n' ≤ℤ greatest')
-keys_within least greatest n least' greatest' n' e =
-    let both = neither (refused 1 (is_within least greatest n)) (or_else (refused 2 (is_within least' greatest' n')) None) e in
-    let first = within least greatest n (accepted 1 _ both.0) in
-    let second = within least' greatest' n' (accepted 2 _ (neither (refused 2 (is_within least' greatest' n')) None both.1).0) in
-    (first.0, first.1, second.0, second.1)
 
 -- ---- each entry, and each pair of neighbours
 
@@ -96,62 +71,78 @@ from_zero list start (x ∷ xs) e low = record {
 }
 
 -- there are as many entries as may be
-count_within : {E : Type 0} (list : Section) (least most : ℕ) (es : List E) → count_fault list least most es ≡ None → (least ≤ length es) × (length es ≤ most)
-count_within list least most es e =
-    let counted = and_parts (nat_le least (length es)) (nat_le (length es) most) (passed _ (Count list) e) in
-    let low : nat_le least (length es) ≡ true = counted.0 in
-    let high : nat_le (length es) most ≡ true = counted.1 in
-    (grind (arith, nat_tests), grind (arith, nat_tests))
+count_within : {E : Type 0} (list : Section) (least most : ℕ) (es : List E) → count_fault list least most es ≡ None →
+    (least ≤ length es) × (length es ≤ most)
+count_within list least most es e = (grind arith, grind arith)
+
+-- what a list of steps keeps that breaks no rule
+record AreSteps {E : Type 0} (IsEntry : E → Type 0) (least most : ℕ) (start : E → ℤ) (es : List E) : Type 0 where
+  some : least ≤ length es
+  few : length es ≤ most
+  each : All IsEntry es
+  from_zero : IsFromZero start es
+  rise : IsRising start es
+
+module _ {E : Type 0} (IsEntry : E → Type 0) (list : Section) (least most : ℕ) (start : E → ℤ) (refused : E → Option ℕ)
+    (is_entry : (e : E) → refused e ≡ None → IsEntry e) (not_before : (e : E) → IsEntry e → pos 0 ≤ℤ start e) where
+  -- steps whose accepted entries are as they should be, and start at 0 or later
+  are_steps : (es : List E) → or_else (count_fault list least most es) (or_else (value_fault list refused 1 es)
+      (or_else (gap_fault list start es) (order_fault list start (λ e. start e +ℤ pos 1) 1 es))) ≡ None →
+      AreSteps IsEntry least most start es
+  are_steps es e =
+      let count = neither (count_fault list least most es) _ e in
+      let values = neither (value_fault list refused 1 es) _ count.1 in
+      let gap = neither (gap_fault list start es) _ values.1 in
+      let counted = count_within list least most es count.0 in
+      let each = λ (k : ℕ) (d : E) (l : k < length es). is_entry (get_or es k d) (each_accepted list refused 1 es values.0 k d l) in
+      record {
+        some = counted.0;
+        few = counted.1;
+        each = each;
+        from_zero = from_zero list start es gap.0 (λ k d l. not_before (get_or es k d) (each k d l));
+        rise = starts_rise list start 1 es gap.1;
+      }
 
 -- ---- the entries of each list
 
 is_gradient : (length_cm : ℤ) (e : Gradient) → gradient_refused length_cm e ≡ None → IsGradient length_cm e
-is_gradient length_cm e accepted =
-    let within = keys_within (pos 0) (length_cm -ℤ pos 1) e.start (neg_ℤ steepest) steepest e.grad accepted in
-    record { not_before = within.0; on_track = omega (arith, ints); downhill = within.2; uphill = within.3 }
+is_gradient length_cm e accepted = record {
+  not_before = grind (arith, ints);
+  on_track = grind (arith, ints);
+  downhill = grind (arith, ints);
+  uphill = grind (arith, ints);
+}
 
 is_speed_step : (length_cm : ℤ) (e : SpeedStep) → speed_refused length_cm e ≡ None → IsSpeedStep length_cm e
-is_speed_step length_cm e accepted =
-    let within = keys_within (pos 0) (length_cm -ℤ pos 1) e.start (pos 1) (pos top_kmh) e.speed accepted in
-    record { not_before = within.0; on_track = omega (arith, ints); least = within.2; greatest = within.3 }
+is_speed_step length_cm e accepted = record {
+  not_before = grind (arith, ints);
+  on_track = grind (arith, ints);
+  least = grind (arith, ints);
+  greatest = grind (arith, ints);
+}
 
 is_area : (length_cm : ℤ) (a : Area) → area_refused length_cm a ≡ None → IsArea length_cm a
-is_area length_cm a accepted =
-    let within = keys_within (pos 0) (length_cm -ℤ pos 1) a.start (a.start +ℤ pos 1) length_cm a.end accepted in
-    record { not_before = within.0; some_cell = omega (arith, ints); on_track = within.3 }
+is_area length_cm a accepted = record {
+  not_before = grind (arith, ints);
+  some_cell = grind (arith, ints);
+  on_track = grind (arith, ints);
+}
 
 -- ---- the track
 
 are_gradients : (length_cm : ℤ) (es : List Gradient) → gradients_fault length_cm es ≡ None → AreGradients length_cm es
 unfolding gradients_fault
 are_gradients length_cm es e =
-    let count = neither (count_fault sections.Gradient 0 most_gradients es) _ e in
-    let values = neither (value_fault sections.Gradient (gradient_refused length_cm) 1 es) _ count.1 in
-    let gap = neither (gap_fault sections.Gradient (λ e. e.start) es) _ values.1 in
-    let each = λ (k : ℕ) (d : Gradient) (l : k < length es).
-    is_gradient length_cm (get_or es k d) (each_accepted sections.Gradient (gradient_refused length_cm) 1 es values.0 k d l) in
-    record {
-      few = (count_within sections.Gradient 0 most_gradients es count.0).1;
-      each = each;
-      from_zero = from_zero sections.Gradient (λ e. e.start) es gap.0 (λ k d l. (each k d l).not_before);
-      rise = starts_rise sections.Gradient (λ e. e.start) 1 es gap.1;
-    }
+    let steps = are_steps (IsGradient length_cm) sections.Gradient 0 most_gradients (λ e. e.start) (gradient_refused length_cm)
+    (is_gradient length_cm) (λ _ within. within.not_before) es e in
+    record { few = steps.few; each = steps.each; from_zero = steps.from_zero; rise = steps.rise }
 
 are_speeds : (length_cm : ℤ) (es : List SpeedStep) → speeds_fault length_cm es ≡ None → AreSpeeds length_cm es
 unfolding speeds_fault
 are_speeds length_cm es e =
-    let count = neither (count_fault sections.Speed 1 most_speeds es) _ e in
-    let values = neither (value_fault sections.Speed (speed_refused length_cm) 1 es) _ count.1 in
-    let gap = neither (gap_fault sections.Speed (λ e. e.start) es) _ values.1 in
-    let each = λ (k : ℕ) (d : SpeedStep) (l : k < length es).
-    is_speed_step length_cm (get_or es k d) (each_accepted sections.Speed (speed_refused length_cm) 1 es values.0 k d l) in
-    record {
-      some = (count_within sections.Speed 1 most_speeds es count.0).0;
-      few = (count_within sections.Speed 1 most_speeds es count.0).1;
-      each = each;
-      from_zero = from_zero sections.Speed (λ e. e.start) es gap.0 (λ k d l. (each k d l).not_before);
-      rise = starts_rise sections.Speed (λ e. e.start) 1 es gap.1;
-    }
+    let steps = are_steps (IsSpeedStep length_cm) sections.Speed 1 most_speeds (λ e. e.start) (speed_refused length_cm)
+    (is_speed_step length_cm) (λ _ within. within.not_before) es e in
+    record { some = steps.some; few = steps.few; each = steps.each; from_zero = steps.from_zero; rise = steps.rise }
 
 are_areas : (list : Section) (length_cm : ℤ) (es : List Area) → areas_fault list length_cm es ≡ None → AreAreas length_cm es
 unfolding areas_fault
@@ -173,10 +164,10 @@ track_accepted t e =
     let long = neither (length_fault t.length_cm) _ e in
     let gradients = neither (gradients_fault t.length_cm t.gradients) _ long.1 in
     let speeds = neither (speeds_fault t.length_cm t.speeds) (areas_fault sections.Adhesion t.length_cm t.areas) gradients.1 in
-    let length = within (pos 1) (pos longest_track) t.length_cm (passed _ (Value sections.Track 0 1) long.0) in
+    let in_range : length_fault t.length_cm ≡ None = long.0 in
     record {
-      shortest = length.0;
-      longest = length.1;
+      shortest = grind (arith, ints);
+      longest = grind (arith, ints);
       gradients = are_gradients t.length_cm t.gradients gradients.0;
       speeds = are_speeds t.length_cm t.speeds speeds.0;
       areas = are_areas sections.Adhesion t.length_cm t.areas speeds.1;

@@ -2,7 +2,10 @@
 //! count, values, start of the first entry, order; the first that is broken is answered.
 
 ghost use Rattle.std.specs.Prelude.{◌≡◌, ℕ, ℤ, pos, neg_ℤ, ◌+◌, ◌^◌, ◌+ℤ◌, ◌-ℤ◌, ◌<◌, ◌≤◌, Option, Bool, int_lt, length};
-ghost use Rattle.sdm_rules.specs.Ranges.{gradient_refused, speed_refused, area_refused, count_fault, value_fault, gap_fault, order_fault, gradients_fault, speeds_fault, areas_fault, or_else};
+ghost use Rattle.std.specs.Result.{result_err};
+ghost use Rattle.sdm_rules.specs.Ranges.{gradient_refused, speed_refused, area_refused, or_else};
+ghost use Rattle.sdm_rules.specs.Ranges.{count_fault, value_fault, gap_fault, order_fault};
+ghost use Rattle.sdm_rules.specs.Ranges.{gradients_fault, speeds_fault, areas_fault};
 
 use sdm_rules::{
     Area, Gradient, STEEPEST, Section, SpeedStep, TOP_KMH, TrackFault, first_refused, is_within,
@@ -20,7 +23,7 @@ const MOST_AREAS: usize = 64;
 trait Listed {
     ghost start: { Self → ℤ };
 
-    // the first cell in which the next entry may start
+    /// The first cell in which the next entry may start.
     ghost past: { Self → ℤ };
 
     ghost refused_key: { ℤ → Self → Option ℕ };
@@ -116,111 +119,96 @@ impl Listed for Area {
     }
 }
 
-/// The fault of a list that has fewer than `least` or more than `most` entries.
-fn count_fault<E>(list: Section, least: usize, most: usize, entries: &[E]) -> Option<TrackFault>
-    ensures { result ≡ count_fault list least most entries.now }
+/// Refuses a list that has fewer than `least` or more than `most` entries.
+fn check_count<E>(list: Section, least: usize, most: usize, entries: &[E]) -> Result<(), TrackFault>
+    ensures { result_err result ≡ count_fault list least most entries.now }
 {
     let count = entries.len();
     if count < least || most < count {
-        return Some(TrackFault::Count { list });
+        return Err(TrackFault::Count { list });
     }
-    None
+    Ok(())
 }
 
-/// The first value that is refused.
-fn value_fault<E: Listed>(list: Section, length_cm: u32, entries: &[E]) -> Option<TrackFault>
+/// Refuses the first number of the entries that is out of its range.
+fn check_values<E: Listed>(list: Section, length_cm: u32, entries: &[E]) -> Result<(), TrackFault>
     requires { length entries.now < 2 ^ 32 }
-    ensures { result ≡ value_fault list (E.refused_key (pos length_cm)) 1 entries.now }
+    ensures { result_err result ≡ value_fault list (E.refused_key (pos length_cm)) 1 entries.now }
 {
     for (i, entry) in entries.iter().enumerate() {
         if let Some(key) = entry.refused_key(length_cm) {
-            return Some(TrackFault::Value {
-                list,
-                index: i as u32 + 1,
-                key,
-            });
+            let index = i as u32 + 1;
+            return Err(TrackFault::Value { list, index, key });
         }
     }
-    None
+    Ok(())
 }
 
-/// The fault of a list whose first entry starts past 0.
-fn gap_fault<E: Listed>(list: Section, entries: &[E]) -> Option<TrackFault>
-    ensures { result ≡ gap_fault list E.start entries.now }
+/// Refuses a list whose first entry starts past 0.
+fn check_gap<E: Listed>(list: Section, entries: &[E]) -> Result<(), TrackFault>
+    ensures { result_err result ≡ gap_fault list E.start entries.now }
 {
     match entries.first() {
-        Some(first) if 0 < first.start() => Some(TrackFault::Gap { list }),
-        _ => None,
+        Some(first) if 0 < first.start() => Err(TrackFault::Gap { list }),
+        _ => Ok(()),
     }
 }
 
-/// The first entry that starts too early after the one before it.
-fn order_fault<E: Listed>(list: Section, entries: &[E]) -> Option<TrackFault>
+/// Refuses the first entry that starts too early after the one before it.
+fn check_order<E: Listed>(list: Section, entries: &[E]) -> Result<(), TrackFault>
     requires { length entries.now < 2 ^ 32 }
-    ensures { result ≡ order_fault list E.start E.past 1 entries.now }
+    ensures { result_err result ≡ order_fault list E.start E.past 1 entries.now }
 {
     for i in 1..entries.len() {
         if entries[i - 1].overlaps(&entries[i]) {
-            return Some(TrackFault::Order {
-                list,
-                index: i as u32 + 1,
-            });
+            let index = i as u32 + 1;
+            return Err(TrackFault::Order { list, index });
         }
     }
-    None
+    Ok(())
 }
 
-/// The first rule that a list of steps breaks, which begins at 0 and has from `least` to `most` entries.
-fn steps_fault<E: Listed>(
+/// Refuses the first rule that a list of steps breaks, which begins at 0 and has from `least` to `most` entries.
+fn check_steps<E: Listed>(
     list: Section,
     least: usize,
     most: usize,
     length_cm: u32,
     entries: &[E],
-) -> Option<TrackFault>
+) -> Result<(), TrackFault>
     requires { most < 2 ^ 32 }
-    ensures { result ≡ or_else (count_fault list least most entries.now)
+    ensures { result_err result ≡ or_else (count_fault list least most entries.now)
         (or_else (value_fault list (E.refused_key (pos length_cm)) 1 entries.now)
         (or_else (gap_fault list E.start entries.now) (order_fault list E.start E.past 1 entries.now))) }
 {
-    if let Some(fault) = count_fault(list, least, most, entries) {
-        return Some(fault);
-    }
-    if let Some(fault) = value_fault(list, length_cm, entries) {
-        return Some(fault);
-    }
-    if let Some(fault) = gap_fault(list, entries) {
-        return Some(fault);
-    }
-    order_fault(list, entries)
+    check_count(list, least, most, entries)?;
+    check_values(list, length_cm, entries)?;
+    check_gap(list, entries)?;
+    check_order(list, entries)
 }
 
-/// The first rule that the gradients break.
+/// Refuses the first rule that the gradients break.
 #[tactic(auto, unfolding(sdm_rules::specs::Ranges::gradients_fault))]
-pub fn gradients_fault(length_cm: u32, entries: &[Gradient]) -> Option<TrackFault>
-    ensures { result ≡ gradients_fault (pos length_cm) entries.now }
+pub fn check_gradients(length_cm: u32, entries: &[Gradient]) -> Result<(), TrackFault>
+    ensures { result_err result ≡ gradients_fault (pos length_cm) entries.now }
 {
-    steps_fault(Section::Gradient, 0, MOST_GRADIENTS, length_cm, entries)
+    check_steps(Section::Gradient, 0, MOST_GRADIENTS, length_cm, entries)
 }
 
-/// The first rule that the static speed profile breaks.
+/// Refuses the first rule that the static speed profile breaks.
 #[tactic(auto, unfolding(sdm_rules::specs::Ranges::speeds_fault))]
-pub fn speeds_fault(length_cm: u32, entries: &[SpeedStep]) -> Option<TrackFault>
-    ensures { result ≡ speeds_fault (pos length_cm) entries.now }
+pub fn check_speeds(length_cm: u32, entries: &[SpeedStep]) -> Result<(), TrackFault>
+    ensures { result_err result ≡ speeds_fault (pos length_cm) entries.now }
 {
-    steps_fault(Section::Speed, 1, MOST_SPEEDS, length_cm, entries)
+    check_steps(Section::Speed, 1, MOST_SPEEDS, length_cm, entries)
 }
 
-/// The first rule that a list of areas breaks. It need not begin at 0.
+/// Refuses the first rule that a list of areas breaks. It need not begin at 0.
 #[tactic(auto, unfolding(sdm_rules::specs::Ranges::areas_fault))]
-pub fn areas_fault(list: Section, length_cm: u32, areas: &[Area]) -> Option<TrackFault>
-    ensures { result ≡ areas_fault list (pos length_cm) areas.now }
+pub fn check_areas(list: Section, length_cm: u32, areas: &[Area]) -> Result<(), TrackFault>
+    ensures { result_err result ≡ areas_fault list (pos length_cm) areas.now }
 {
-    if let Some(fault) = count_fault(list, 0, MOST_AREAS, areas) {
-        return Some(fault);
-    }
-    if let Some(fault) = value_fault(list, length_cm, areas) {
-        return Some(fault);
-    }
-    order_fault(list, areas)
+    check_count(list, 0, MOST_AREAS, areas)?;
+    check_values(list, length_cm, areas)?;
+    check_order(list, areas)
 }

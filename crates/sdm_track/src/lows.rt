@@ -26,7 +26,7 @@ impl Lows {
         Ok(Lows { indices })
     }
 
-    // Whether the last low, if there is one, is below the entry at `index`.
+    /// Whether the last low, if there is one, is below the entry at `index`.
     fn ends_below(&self, entries: &[Gradient], index: usize) -> bool
         requires entry { index < length entries.now }
         requires lows { All (λ low. low < length entries.now) self.now.indices.items }
@@ -38,7 +38,7 @@ impl Lows {
         }
     }
 
-    // Takes in the entry after those of the window, in place of the lows that are not below it.
+    /// Takes in the entry after those of the window, in place of the lows that are not below it.
     fn take_in(&mut self, entries: &[Gradient], window: Window) -> Result<(), NoMemory>
         requires known { window.front + 1 < length entries.now }
         requires lows { AreLows entries.now window.rear (window.front + 1) self.old.indices.items }
@@ -53,7 +53,7 @@ impl Lows {
         Ok(())
     }
 
-    // The lows of the new window in place of those of the old one.
+    /// The lows of the new window in place of those of the old one.
     fn move_on(&mut self, entries: &[Gradient], old: Window, new: Window) -> Result<(), NoMemory>
         requires known { new.front < length entries.now }
         requires step { IsWindowStep old new }

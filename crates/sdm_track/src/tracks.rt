@@ -1,12 +1,13 @@
 //! A track, whose lists keep their order and their ranges in its type, so that no reader tests them again.
 
 ghost use Rattle.std.specs.Prelude.{◌≡◌, ℤ, pos, ◌<◌, ◌≤◌, length, slice_get, Some, None, IfOk, IfErr};
+ghost use Rattle.std.specs.Result.{result_err};
 ghost use Rattle.sdm_rules.specs.Ranges.{track_fault, longest_train};
 ghost use Rattle.sdm_rules.specs.Decelerations.{any_in_force, is_in_force, under_train};
 ghost use Rattle.sdm_track.specs.Ranges.{IsTrack, IsGradient, IsSpeedStep, IsArea, track_data};
 ghost use Rattle.sdm_track.specs.Segments.{AreSegments, segment_gradient};
 
-use crate::entries::{areas_fault, gradients_fault, speeds_fault};
+use crate::entries::{check_areas, check_gradients, check_speeds};
 use crate::under_train::{self, Segments};
 use sdm_num::NoMemory;
 use sdm_rules::{Area, Gradient, LONGEST_TRACK_CM, Section, SpeedStep, TrackFault, keys};
@@ -35,33 +36,29 @@ impl Model for Track {
     ghost invariant = { λ t. IsTrack (track_data t.length_cm t.gradients.items t.speeds.items t.areas.items) };
 }
 
-// The first rule that a track of these data breaks.
+/// Refuses the first rule that a track of these data breaks.
 #[tactic(auto, unfolding(sdm_rules::specs::Ranges::track_fault))]
-fn fault_of(
+fn check(
     length_cm: u32,
     gradients: &[Gradient],
     speeds: &[SpeedStep],
     areas: &[Area],
-) -> Option<TrackFault>
-    ensures { result ≡ track_fault (track_data length_cm gradients.now speeds.now areas.now) }
+) -> Result<(), TrackFault>
+    ensures { result_err result ≡ track_fault (track_data length_cm gradients.now speeds.now areas.now) }
 {
     if length_cm < 1 || LONGEST_TRACK_CM < length_cm {
-        return Some(TrackFault::Value {
+        return Err(TrackFault::Value {
             list: Section::Track,
             index: 0,
             key: keys::TRACK_LENGTH,
         });
     }
-    if let Some(fault) = gradients_fault(length_cm, gradients) {
-        return Some(fault);
-    }
-    if let Some(fault) = speeds_fault(length_cm, speeds) {
-        return Some(fault);
-    }
-    areas_fault(Section::Adhesion, length_cm, areas)
+    check_gradients(length_cm, gradients)?;
+    check_speeds(length_cm, speeds)?;
+    check_areas(Section::Adhesion, length_cm, areas)
 }
 
-// Whether the area is in force for a front end in the cell.
+/// Whether the area is in force for a front end in the cell.
 fn is_in_force(area: &Area, cell: i32, length_cm: u32) -> bool
     ensures { result ≡ is_in_force (pos length_cm) cell area.now }
 {
@@ -70,7 +67,7 @@ fn is_in_force(area: &Area, cell: i32, length_cm: u32) -> bool
     area.start <= front && rear < area.end
 }
 
-// Whether some area of a list is.
+/// Whether some area of a list is.
 fn any_in_force(areas: &[Area], cell: i32, length_cm: u32) -> bool
     ensures { result ≡ any_in_force areas.now (pos length_cm) cell }
 {
@@ -88,11 +85,10 @@ impl Track {
     ) -> Result<Track, TrackFault>
         ensures accepted { IfOk result (λ track. track_fault track ≡ None) }
         ensures kept { IfOk result (λ track. track ≡ track_data length_cm gradients.items speeds.items areas.items) }
-        ensures refused { IfErr result (λ fault. track_fault (track_data length_cm gradients.items speeds.items areas.items) ≡ Some fault) }
+        ensures refused { IfErr result
+            (λ fault. track_fault (track_data length_cm gradients.items speeds.items areas.items) ≡ Some fault) }
     {
-        if let Some(fault) = fault_of(length_cm, &gradients, &speeds, &areas) {
-            return Err(fault);
-        }
+        check(length_cm, &gradients, &speeds, &areas)?;
         Ok(Track {
             length_cm,
             gradients,
@@ -173,13 +169,14 @@ impl Track {
     pub fn compensated(&self, alloc: Global, length_cm: u32) -> Result<Segments, NoMemory>
         requires shortest { 1 ≤ length_cm }
         requires longest { length_cm ≤ longest_train }
-        ensures value { IfOk result (λ segments. (c : ℤ) → segment_gradient segments c ≡ (under_train self.now (pos length_cm) c).grad) }
+        ensures value { IfOk result
+            (λ segments. (c : ℤ) → segment_gradient segments c ≡ (under_train self.now (pos length_cm) c).grad) }
         ensures in_range { IfOk result (λ segments. AreSegments segments) }
     {
         under_train::compensated(alloc, &self.gradients, length_cm)
     }
 
-    /// Whether reduced adhesion is in force for a front end in the cell, with a train of this length in cm: from the start of
+    //// Whether reduced adhesion is in force for a front end in the cell, with a train of this length in cm: from the start of
     /// an area until the rear end has left it, past the track's end too. (SUBSET-026-3 3.13.6.2; areas own)
     pub fn reduced(&self, cell: i32, length_cm: u32) -> bool
         ensures { result ≡ (under_train self.now (pos length_cm) cell).reduced }

@@ -101,7 +101,7 @@ impl Segments {
     }
 }
 
-// The gradient of the first entry; level without entries.
+/// The gradient of the first entry; level without entries.
 fn first_gradient(entries: &[Gradient]) -> i64
     ensures { result ≡ (slice_index_or entries.now 0 level).grad }
 {
@@ -120,7 +120,8 @@ pub fn compensated(
     requires gradients { AreGradients (pos longest_track) entries.now }
     requires long { 1 ≤ length_cm }
     requires short { length_cm ≤ longest_train }
-    ensures value { IfOk result (λ segments. (c : ℤ) → segment_gradient segments c ≡ lowest int_min (track_gradient entries.now) (c -ℤ pos length_cm) length_cm) }
+    ensures value { IfOk result (λ segments. (c : ℤ) →
+        segment_gradient segments c ≡ lowest int_min (track_gradient entries.now) (c -ℤ pos length_cm) length_cm) }
     ensures in_range { IfOk result (λ segments. AreSegments segments) }
 {
     let mut list = Vec::new(alloc);

@@ -2,27 +2,28 @@
 //! for the last.
 
 ghost use Rattle.std.specs.Prelude.{◌≡◌, ◌≤◌, length, pos};
+ghost use Rattle.std.specs.Result.{result_err};
 ghost use Rattle.sdm_rules.specs.Slopes.{most_bands};
 ghost use Rattle.sdm_rules.specs.Ranges.{band_order_fault, band_refused, band_value_fault, order_of_last};
 
 use sdm_rules::{Band, TOP_KMH, TrainFault, first_refused, keys, outside, outside_if_any};
 
-/// The first number of the bands that is refused.
-pub fn band_value_fault(bands: &[Band]) -> Option<TrainFault>
+/// Refuses the first number of the bands that is out of its range.
+pub fn check_values(bands: &[Band]) -> Result<(), TrainFault>
     requires { length bands.now ≤ most_bands }
-    ensures { result ≡ band_value_fault 1 bands.now }
+    ensures { result_err result ≡ band_value_fault 1 bands.now }
 {
     let mut index = 1;
     for band in bands {
         if let Some(key) = band_refused(band) {
-            return Some(TrainFault::Value { band: index, key });
+            return Err(TrainFault::Value { band: index, key });
         }
         index += 1;
     }
-    None
+    Ok(())
 }
 
-// The key of the first number of a band that is refused.
+/// The key of the first number of a band that is refused.
 fn band_refused(band: &Band) -> Option<u8>
     ensures { result ≡ band_refused band.now }
 {
@@ -38,35 +39,35 @@ fn band_refused(band: &Band) -> Option<u8>
     ])
 }
 
-/// The first band that is out of order.
-pub fn band_order_fault(bands: &[Band]) -> Option<TrainFault>
+/// Refuses the first band that is out of order.
+pub fn check_order(bands: &[Band]) -> Result<(), TrainFault>
     requires { length bands.now ≤ most_bands }
-    ensures { result ≡ band_order_fault 1 (pos 0) bands.now }
+    ensures { result_err result ≡ band_order_fault 1 (pos 0) bands.now }
 {
     let mut above = 0;
     let mut index = 1;
     for band in bands {
         if index as usize == bands.len() {
-            return order_of_last(index, band.upper);
+            return check_last(index, band.upper);
         }
         let Some(upper) = band.upper else {
-            return Some(TrainFault::BandOrder { band: index });
+            return Err(TrainFault::BandOrder { band: index });
         };
         if upper <= above {
-            return Some(TrainFault::BandOrder { band: index });
+            return Err(TrainFault::BandOrder { band: index });
         }
         above = upper;
         index += 1;
     }
-    None
+    Ok(())
 }
 
-// The last band, at this index, has no upper speed.
-fn order_of_last(index: u32, upper: Option<i64>) -> Option<TrainFault>
-    ensures { result ≡ order_of_last index upper }
+/// Refuses an upper speed of the last band, which has this index.
+fn check_last(index: u32, upper: Option<i64>) -> Result<(), TrainFault>
+    ensures { result_err result ≡ order_of_last index upper }
 {
     match upper {
-        None => None,
-        Some(_) => Some(TrainFault::BandOrder { band: index }),
+        None => Ok(()),
+        Some(_) => Err(TrainFault::BandOrder { band: index }),
     }
 }

@@ -1,10 +1,11 @@
 //! The rules of a train, in their order: its own numbers, the count of its bands, and the rules of the bands.
 
 ghost use Rattle.std.specs.Prelude.{◌≡◌, ◌==◌, ◌%◌, ◌&&◌, pos, unsigned_abs};
+ghost use Rattle.std.specs.Result.{result_err};
 ghost use Rattle.sdm_rules.specs.Data.{train_of};
 ghost use Rattle.sdm_rules.specs.Ranges.{band_count_fault, is_within, train_fault, train_refused};
 
-use crate::bands::{band_order_fault, band_value_fault};
+use crate::bands::{check_order, check_values};
 use sdm_rules::keys::{
     TRAIN_EMERGENCY_TIME, TRAIN_LENGTH, TRAIN_MAX_SPEED, TRAIN_ROTATING_MASS, TRAIN_SERVICE_TIME,
     TRAIN_TRACTION_CUTOFF_TIME,
@@ -14,25 +15,21 @@ use sdm_rules::{
     outside, outside_if_any, refused,
 };
 
-/// The first rule that the train breaks.
+/// Refuses the first rule that the train breaks.
 #[tactic(auto, unfolding(sdm_rules::specs::Ranges::train_fault))]
-pub fn train_fault(fields: &TrainFields) -> Option<TrainFault>
-    ensures { result ≡ train_fault fields.now.band_count (train_of fields.now) }
+pub fn check_train(fields: &TrainFields) -> Result<(), TrainFault>
+    ensures { result_err result ≡ train_fault fields.now.band_count (train_of fields.now) }
 {
     if let Some(key) = train_refused(fields) {
-        return Some(TrainFault::Value { band: 0, key });
+        return Err(TrainFault::Value { band: 0, key });
     }
-    if let Some(fault) = band_count_fault(fields.band_count) {
-        return Some(fault);
-    }
+    check_count(fields.band_count)?;
     let bands = &fields.bands[..fields.band_count as usize];
-    if let Some(fault) = band_value_fault(bands) {
-        return Some(fault);
-    }
-    band_order_fault(bands)
+    check_values(bands)?;
+    check_order(bands)
 }
 
-// The key of the first of the train's own numbers that is refused.
+/// The key of the first of the train's own numbers that is refused.
 fn train_refused(fields: &TrainFields) -> Option<u8>
     ensures { result ≡ train_refused (train_of fields.now) }
 {
@@ -51,20 +48,20 @@ fn train_refused(fields: &TrainFields) -> Option<u8>
     ])
 }
 
-// The service brake's build-up time is given in steps of half a second.
+/// The service brake's build-up time is given in steps of half a second.
 fn is_service_time(time: i64) -> bool
     ensures { result ≡ is_within (pos 0) (pos 300) time && ((unsigned_abs time % 5) == 0) }
 {
     is_within(0, 300, time) && time.unsigned_abs() % 5 == 0
 }
 
-// There is a band, and there are not too many.
-fn band_count_fault(count: u32) -> Option<TrainFault>
-    ensures { result ≡ band_count_fault count }
+/// Refuses a count of no bands, and of too many.
+fn check_count(count: u32) -> Result<(), TrainFault>
+    ensures { result_err result ≡ band_count_fault count }
 {
     if 0 < count && count as usize <= MOST_BANDS {
-        None
+        Ok(())
     } else {
-        Some(TrainFault::BandCount)
+        Err(TrainFault::BandCount)
     }
 }

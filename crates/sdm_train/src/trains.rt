@@ -6,7 +6,7 @@ ghost use Rattle.sdm_rules.specs.Data.{train_of};
 ghost use Rattle.sdm_rules.specs.Ranges.{train_fault, longest_train, top_kmh};
 ghost use Rattle.sdm_train.specs.Trains.{IsBand, IsTrain};
 
-use crate::rules::train_fault;
+use crate::rules::check_train;
 use sdm_rules::{Band, TrainFault, TrainFields};
 use std::marker::Model;
 
@@ -38,10 +38,8 @@ impl Train {
         ensures fault { result_err result ≡ train_fault fields.band_count (train_of fields) }
         ensures kept { IfOk result (λ train. train ≡ train_of fields) }
     {
-        match train_fault(&fields) {
-            Some(fault) => Err(fault),
-            None => Ok(Train { fields }),
-        }
+        check_train(&fields)?;
+        Ok(Train { fields })
     }
 
     /// The train length in cm, 1 to 150,000.
@@ -124,7 +122,7 @@ impl Train {
         &self.bands()[i]
     }
 
-    // The bands that count.
+    /// The bands that count.
     fn bands(&self) -> &[Band]
         ensures value { result.now ≡ self.now.bands }
         ensures ranges { All IsBand result.now }

@@ -4,23 +4,19 @@ use Rattle.std.proofs.lemmas.Int.{ints}
 use Rattle.sdm_rules.specs.declared.data.Area.{Area}
 use Rattle.sdm_rules.specs.Ranges.{longest_track}
 use Rattle.sdm_track.specs.Ranges.{IsArea}
-use Rattle.sdm_decel.proofs.Sizes.{stays, size_within}
 use Rattle.sdm_decel.proofs.Pushes.{areas_more, nat_plus}
 use Rattle.sdm_decel.proofs.cells.push_areas.Goals as goal
 
 start_is : (a : Area) → IsArea (pos longest_track) a → unsigned_abs (to_z w64 (of_z w64 a.start)) ≡ unsigned_abs a.start
 start_is a h =
-    let before = h.not_before in
-    let some = h.some_cell in
-    let ends = h.on_track in
-    ap unsigned_abs (stays a.start longest_track (size_within a.start 0 longest_track (before, omega (arith, ints))) (omega arith))
+    let kept : to_z w64 (of_z w64 a.start) ≡ a.start = omega (arith, ints, h.not_before, h.some_cell, h.on_track) in
+    ap unsigned_abs kept
 
-end_is : (a : Area) (length_cm : ℕ) → IsArea (pos longest_track) a → unsigned_abs (to_z w64 (of_z w64 a.end)) + length_cm ≡ unsigned_abs (a.end +ℤ pos length_cm)
+end_is : (a : Area) (length_cm : ℕ) → IsArea (pos longest_track) a →
+    unsigned_abs (to_z w64 (of_z w64 a.end)) + length_cm ≡ unsigned_abs (a.end +ℤ pos length_cm)
 end_is a length_cm h =
-    let before = h.not_before in
-    let some = h.some_cell in
-    let kept = stays a.end longest_track (size_within a.end 0 longest_track (omega (arith, ints), h.on_track)) (omega arith) in
-    rw kept (nat_plus a.end length_cm (omega (arith, ints)))
+    let kept : to_z w64 (of_z w64 a.end) ≡ a.end = omega (arith, ints, h.not_before, h.some_cell, h.on_track) in
+    rw kept (nat_plus a.end length_cm (omega (arith, ints, h.not_before, h.some_cell)))
 
 pub loop-area-preserved : goal.loop-area-preserved
 loop-area-preserved c =

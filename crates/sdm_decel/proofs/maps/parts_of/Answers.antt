@@ -5,12 +5,14 @@ use Rattle.sdm_rules.specs.Decelerations.{UnderTrain, under_train}
 use Rattle.sdm_rules.specs.Ranges.{longest_train}
 use Rattle.sdm_decel.specs.StretchCells.{AreStretches}
 use Rattle.sdm_decel.specs.Slopes.{slopes_of_bands}
-use Rattle.sdm_decel.proofs.Sizes.{stays, size_within}
-use Rattle.sdm_decel.proofs.Stretches.{nat_is}
+use Rattle.sdm_decel.proofs.Sizes.{nat_is}
 use Rattle.sdm_decel.proofs.maps.parts_of.Goals as goal
 
-long_is : (given length_cm : ℤ) → (pos 1 ≤ℤ given) × (given ≤ℤ pos longest_train) → given ≡ length_cm → pos (unsigned_abs (to_z w64 (of_z w64 given))) ≡ length_cm
-long_is given length_cm range is = ap (λ (z : ℤ). pos (unsigned_abs z)) (stays given longest_train (size_within given 1 longest_train range) (omega arith)) ∙ nat_is given (omega (arith, ints)) ∙ is
+long_is : (given length_cm : ℤ) → (pos 1 ≤ℤ given) × (given ≤ℤ pos longest_train) → given ≡ length_cm →
+    pos (unsigned_abs (to_z w64 (of_z w64 given))) ≡ length_cm
+long_is given length_cm range is =
+    let kept : to_z w64 (of_z w64 given) ≡ given = omega (arith, ints, range.0, range.1) in
+    ap (λ (z : ℤ). pos (unsigned_abs z)) kept ∙ nat_is given (omega (arith, ints, range.0)) ∙ is
 
 pub returns : goal.returns
 returns c =

@@ -6,7 +6,7 @@ use Rattle.sdm_speed.specs.declared.changes.Changed.{Changed}
 use Rattle.sdm_speed.specs.ZoneEnds.{IsZoneEnd, speed_under}
 use Rattle.sdm_speed.specs.Steps.{IsStart}
 use Rattle.sdm_speed.proofs.ZoneEndLaws.{under_before, under_same}
-use Rattle.sdm_speed.proofs.SteadyLaws.{retaken_only, retaken_rising, retaken_speeds, retaken_starts, speeds_by_starts}
+use Rattle.sdm_speed.proofs.SteadyLaws.{retaken_only, retaken_speeds, retaken_starts, speeds_by_starts}
 use Rattle.sdm_speed.proofs.lifts.raise.Goals as goal
 
 pub returns-clause-zone_ends : goal.returns-clause-zone_ends
@@ -46,15 +46,7 @@ returns-clause-speeds c =
     let both = c.join_unless_zone_end-2.ensures in
     let zone_ends = returns-clause-zone_ends c in
     let steps = c.join_unless_zone_end-2.new.steps.list.items in
-    rw (returns-clause-before c) (speeds_by_starts speed before steps both.rising
+    rw (returns-clause-before c) (speeds_by_starts speed before steps c.join_unless_zone_end-2.new.steps.rises
     (both.speeds speed (one.speeds speed (rw c.retake.ensures.list (retaken_speeds speed c.args.steps.now.list.items))))
-    (λ x after. under_before length_cm before statics held x steps c.requires.statics zone_ends.each after)
+    (λ x after. under_before length_cm before statics held x steps c.args.statics.now.rises zone_ends.each after)
     (λ x off. under_same length_cm before statics held x (λ zone_end. off (zone_ends.each x zone_end))))
-
-pub join_unless_zone_end-requires : goal.join_unless_zone_end-requires
-join_unless_zone_end-requires c = record {
-  rising = rw c.retake.ensures.list (retaken_rising _ c.args.steps.now.list.items c.requires.rising);
-  statics = c.requires.statics;
-  held = c.requires.held;
-  train = c.requires.train;
-}

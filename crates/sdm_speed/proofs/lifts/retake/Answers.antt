@@ -15,7 +15,7 @@ loop-i-init c =
     record {
       before = refl;
       list = sym (prefix_stays (retaken speed) steps c.covered-covered.result.from
-          (λ k d l m. retaken_same speed c.zone_of.result c.args.steps.now.before steps k d c.requires.rising (rw c.zone_of.ensures c.requires.speeds) m (c.covered-covered.ensures.before k d l m)));
+          (λ k d l m. retaken_same speed c.zone_of.result c.args.steps.now.before steps k d c.args.steps.now.rises (rw c.zone_of.ensures c.requires.speeds) m (c.covered-covered.ensures.before k d l m)));
       len = refl;
       room = refl;
     }
@@ -46,4 +46,4 @@ returns-clause-list c =
     let steps = c.args.steps.now.list.items in
     c.loop-i.invariant.list
     ∙ rest_stays (retaken speed) steps c.loop-i.i
-    (λ k d l m. retaken_same speed c.zone_of.result c.args.steps.now.before steps k d c.requires.rising (rw c.zone_of.ensures c.requires.speeds) m (c.covered-covered.ensures.past k d (omega (arith, c.loop-i-test.false)) m))
+    (λ k d l m. retaken_same speed c.zone_of.result c.args.steps.now.before steps k d c.args.steps.now.rises (rw c.zone_of.ensures c.requires.speeds) m (c.covered-covered.ensures.past k d (omega (arith, c.loop-i-test.false)) m))

@@ -21,7 +21,7 @@ use Rattle.sdm_speed.proofs.profiles.Profile.impose.Goals as goal
 pub push_reserved-requires : goal.push_reserved-requires
 push_reserved-requires c =
     let kept = c.self.invariant in
-    let ok = accepted c.args.self.now.track_cm c.args.self.now.restrictions c.args.r (sym c.in_default.ensures) in
+    let ok = accepted c.args.self.now.track_cm c.args.self.now.restrictions c.args.r (sym (rw c.in_ok-check.was at c.check.ensures)) in
     let ok_held = c.self.inside.held.ok.0 in
     omega (arith, ok.room, held_count _ kept _ c.self.view_is, kept.held_room)
 
@@ -36,7 +36,7 @@ held_of p r in_range ok slowest fastest = record {
 pub zone_of-requires : goal.zone_of-requires
 zone_of-requires c =
     let kept = c.self.invariant in
-    let ok = accepted (profile_data_of c.self.inside).track_cm (profile_data_of c.self.inside).restrictions c.args.r (sym (rw (← c.self.view_is) at c.in_default.ensures)) in
+    let ok = accepted (profile_data_of c.self.inside).track_cm (profile_data_of c.self.inside).restrictions c.args.r (sym (rw (c.in_ok-check.was, ← c.self.view_is) at c.check.ensures)) in
     let longest = kept.in_range.longest_train in
     record {
       track = held_of (profile_data_of c.self.inside) c.args.r kept.in_range ok c.requires.slowest c.requires.fastest;
@@ -46,19 +46,17 @@ zone_of-requires c =
 pub lower-requires : goal.lower-requires
 lower-requires c =
     let kept = c.self.invariant in
-    let ok = accepted c.args.self.now.track_cm c.args.self.now.restrictions c.args.r (sym c.in_default.ensures) in
+    let ok = accepted c.args.self.now.track_cm c.args.self.now.restrictions c.args.r (sym (rw c.in_ok-check.was at c.check.ensures)) in
     let ok_held = c.self.inside.held.ok.0 in
-    record {
-      rising = kept.steps_rising;
-      room = omega (arith, ok.room, held_count _ kept _ c.self.view_is, few_starts _ _ _ _ kept.steps_rising kept.zone_ends, kept.steps_room);
-    }
+    let few = few_starts _ _ _ _ c.self.inside.steps.rises kept.zone_ends in
+    omega (arith, ok.room, held_count _ kept _ c.self.view_is, few, kept.steps_room)
 
 pub invariant_of-self : goal.invariant_of-self
 invariant_of-self c =
     let kept = c.self.invariant in
     let held = c.self.inside.held.items in
     let length_cm = pos c.self.inside.length_cm in
-    let ok = accepted (profile_data_of c.self.inside).track_cm (profile_data_of c.self.inside).restrictions c.args.r (sym (rw (← c.self.view_is) at c.in_default.ensures)) in
+    let ok = accepted (profile_data_of c.self.inside).track_cm (profile_data_of c.self.inside).restrictions c.args.r (sym (rw (c.in_ok-check.was, ← c.self.view_is) at c.check.ensures)) in
     let distinct = distinct_more held c.args.r kept.distinct (missing_of held c.args.r.id ok.new) in
     let count = held_count _ kept _ refl in
     let ok_held = c.self.inside.held.ok.0 in
@@ -71,9 +69,7 @@ invariant_of-self c =
       each_static = kept.each_static;
       each_held = rw c.push_reserved.ensures.items (All-push IsHeldRestriction _ _ kept.each_held (held_of (profile_data_of c.self.inside) c.args.r kept.in_range ok c.requires.slowest c.requires.fastest));
       statics = kept.statics;
-      statics_rising = kept.statics_rising;
       steps = λ cell. rw c.push_reserved.ensures.items (c.lower.ensures.speeds cell ∙ ap (capped cell c.zone_of.result) (kept.steps cell) ∙ lowered cell);
-      steps_rising = c.lower.ensures.rising;
       steps_before = rw c.zone_of.ensures at c.lower.ensures.before ∙ kept.steps_before;
       zone_ends = rw c.push_reserved.ensures.items (zone_ends_more length_cm _ held c.args.r _ _ kept.zone_ends (rw c.zone_of.ensures at c.lower.ensures.starts));
       held_room = omega (arith, kept.held_room, c.push_reserved.ensures.capacity);
@@ -82,12 +78,12 @@ invariant_of-self c =
 
 pub returns-clause-added : goal.returns-clause-added
 returns-clause-added c =
-    let ok = accepted (profile_data_of c.self.inside).track_cm (profile_data_of c.self.inside).restrictions c.args.r (sym (rw (← c.self.view_is) at c.in_default.ensures)) in
+    let ok = accepted (profile_data_of c.self.inside).track_cm (profile_data_of c.self.inside).restrictions c.args.r (sym (rw (c.in_ok-check.was, ← c.self.view_is) at c.check.ensures)) in
     let missing = missing_of c.self.inside.held.items c.args.r.id ok.new in
     rw (← c.self.view_is, c.push_reserved.ensures.items, inserted c.self.inside.held.items c.args.r missing) refl
 
 pub returns-clause-outside : goal.returns-clause-outside
 returns-clause-outside c =
     let p = profile_data_of c.self.inside in
-    let ok = accepted p.track_cm p.restrictions c.args.r (sym (rw (← c.self.view_is) at c.in_default.ensures)) in
+    let ok = accepted p.track_cm p.restrictions c.args.r (sym (rw (c.in_ok-check.was, ← c.self.view_is) at c.check.ensures)) in
     rw (returns-clause-added c, c.cells_of.ensures, ← c.self.view_is) (imposed_outside p c.args.r.id c.args.r ok.new)

@@ -25,7 +25,6 @@ raise-requires c =
     let index = rw c.deref.ensures.value at c.in-Some.ensures in
     let known = (get_at held c.args.id c.in-Some.index none (sym index)).0 in
     rw (c.deref-2.ensures.value, c.remove-lifted.ensures.items) (record {
-      rising = kept.steps_rising;
       speeds = λ cell.
           kept.steps cell ∙ lowest_limit-after c.self.inside.max_speed cell (static_zones_of c.self.inside) (map (zone_of length_cm) held)
           ∙ ap (λ n. lowest_limit n cell (map (zone_of length_cm) held)) (sym (kept.statics cell))
@@ -33,7 +32,6 @@ raise-requires c =
       before = kept.steps_before;
       each = λ cell. each_left length_cm _ held c.in-Some.index _ kept.zone_ends cell;
       no_other = λ cell start. rw c.remove-lifted.ensures.value (no_other_left length_cm _ held c.in-Some.index _ kept.zone_ends cell c.remove-lifted.result start);
-      statics = kept.statics_rising;
       held = All-remove IsHeldRestriction _ _ kept.each_held;
       lifted = rw c.remove-lifted.ensures.value (kept.each_held c.in-Some.index c.remove-lifted.result known);
       train = omega (arith, ints);
@@ -56,12 +54,10 @@ invariant_of-self c =
       each_static = kept.each_static;
       each_held = rw c.remove-lifted.ensures.items (All-remove IsHeldRestriction _ _ kept.each_held);
       statics = kept.statics;
-      statics_rising = kept.statics_rising;
       steps = λ cell.
           raised.speeds cell ∙ ap (λ n. lowest_limit n cell (map (zone_of length_cm) left.items)) (kept.statics cell)
           ∙ sym (lowest_limit-after top cell (static_zones_of c.self.inside) (map (zone_of length_cm) left.items));
       steps_before = raised.before;
-      steps_rising = raised.rising;
       zone_ends = raised.zone_ends;
       held_room = omega (arith, kept.held_room, c.remove-lifted.ensures.capacity);
       steps_room = omega (arith, kept.steps_room, raised.room);

@@ -1,8 +1,10 @@
 -- One step more that is covered is capped; the others stay.
 use Rattle.std.proofs.Common.{◌≡◌, ◌<◌, length, get_or, refl, sym, ap, ◌∙◌, add-one, arith}
 use Rattle.sdm_rules.specs.Profile.{Zone}
+use Rattle.sdm_speed.specs.declared.steps.Step.{Step}
 use Rattle.sdm_speed.specs.Steps.{capped_step}
 use Rattle.sdm_speed.proofs.CapLaws.{prefix_stays, rest_stays, lowered_is, one_more, not_yet, stays}
+use Rattle.sdm_speed.proofs.StepLaws.{set_rising}
 use Rattle.sdm_speed.proofs.steps.Steps.cap.Goals as goal
 
 pub loop-i-init : goal.loop-i-init
@@ -12,6 +14,11 @@ loop-i-init c = record {
   len = refl;
   room = refl;
 }
+
+pub invariant_of-self-in-loop-i : goal.invariant_of-self-in-loop-i
+invariant_of-self-in-loop-i c =
+    let start_is = ap (λ (s : Step). s.start) (c.lowered.ensures) ∙ ap (λ (s : Step). s.start) c.index.ensures in
+    record { rises = set_rising c.loop-i.self.list.items c.loop-i.i c.lowered.result c.index.result.now start_is c.loop-i.self.rises }
 
 pub loop-i-preserved : goal.loop-i-preserved
 loop-i-preserved c =

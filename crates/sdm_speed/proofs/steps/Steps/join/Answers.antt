@@ -8,8 +8,10 @@ use Rattle.sdm_speed.proofs.StepLaws.{none, start_here}
 use Rattle.sdm_speed.proofs.steps.Steps.join.Goals as goal
 use Rattle.sdm_speed.proofs.steps.Steps.join.Goals.{else-i-len-via-then-i-len+else-index-cell, else-i-len-via-else-i-len}
 
-pub returns-then-index-cell-clause-rising : goal.returns-then-index-cell-clause-rising
-returns-then-index-cell-clause-rising c = rw c.remove.ensures.items (remove_rising c.args.self.now.list.items c.started_before-i.result c.requires)
+pub invariant_of-self : goal.invariant_of-self
+invariant_of-self c = record {
+  rises = rw c.remove.ensures.items (remove_rising c.args.self.now.list.items c.started_before-i.result c.args.self.now.rises);
+}
 
 pub returns-then-index-cell-clause-speeds : goal.returns-then-index-cell-clause-speeds
 returns-then-index-cell-clause-speeds c speed each = rw c.remove.ensures.items (remove_speeds speed c.args.self.now.list.items c.started_before-i.result each)
@@ -27,7 +29,7 @@ returns-then-index-cell-clause-gone c start =
     let whole = c.args.self.now.list.ok.0 in
     let known : i < length list = omega (arith, c.if-i-len.true, c.len.ensures) in
     let here : (get_or list i none).start ≡ c.args.cell = ap (λ (s : Step). s.start) (sym (c.index.ensures ∙ get_or_default list i step none known)) ∙ sym start_is ∙ ap (to_z w32) c.if-index-cell.true ∙ cell_is in
-    remove_gone list i none c.requires known (rw here (rw c.remove.ensures.items at start))
+    remove_gone list i none c.args.self.now.rises known (rw here (rw c.remove.ensures.items at start))
 
 pub returns-then-index-cell-clause-others : goal.returns-then-index-cell-clause-others
 returns-then-index-cell-clause-others c x start =
@@ -51,7 +53,7 @@ returns-else-i-len-clause-gone c start =
     let cell_is : to_z w32 (of_z w32 c.args.cell) ≡ c.args.cell = to_z-of_z w32 c.args.cell c.ranges.cell in
     let wide : to_z w64 (of_z w64 c.from.result) ≡ c.args.cell = omega (arith, ints, c.from.ensures, cell_is) in
     let parted = rw wide at c.started_before-i.ensures in
-    let here = start_here list i c.args.cell none c.requires parted start in
+    let here = start_here list i c.args.cell none c.args.self.now.rises parted start in
     elim c.else-i-len.branch [
       | else-i-len-via-then-i-len+else-index-cell w ↦
           (let step = w.index.result.now in

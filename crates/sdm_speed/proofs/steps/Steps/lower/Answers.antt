@@ -2,7 +2,7 @@
 use Rattle.std.proofs.Common.{◌≡◌, length, inl, inr, sym, ap, subst, ◌∙◌, arith}
 use Rattle.sdm_rules.specs.Profile.{Zone, capped}
 use Rattle.sdm_speed.specs.Steps.{AreCovered}
-use Rattle.sdm_speed.proofs.CapLaws.{cap_only, cap_rising, cap_starts, capped_speeds}
+use Rattle.sdm_speed.proofs.CapLaws.{cap_only, cap_starts, capped_speeds}
 use Rattle.sdm_speed.proofs.SplitLaws.{split_covered}
 use Rattle.sdm_speed.proofs.steps.Steps.lower.Goals as goal
 
@@ -26,11 +26,8 @@ returns-clause-speeds c cell =
     let split = c.split_at-to.new.self in
     let first_is = ap (λ (z : Zone). z.first) c.zone.view_is in
     let past_is = ap (λ (z : Zone). z.past) c.zone.view_is in
-    rw (c.cap.ensures.before, c.cap.ensures.list) (capped_speeds zone split.before split.list.items cell both.rising (λ b is. both.starts b (one.start b (first_is ∙ is))) (λ b is. both.start b (past_is ∙ is)))
+    rw (c.cap.ensures.before, c.cap.ensures.list) (capped_speeds zone split.before split.list.items cell split.rises (λ b is. both.starts b (one.start b (first_is ∙ is))) (λ b is. both.start b (past_is ∙ is)))
     ∙ ap (capped cell zone) (both.speeds cell ∙ one.speeds cell)
-
-pub returns-clause-rising : goal.returns-clause-rising
-returns-clause-rising c = rw c.cap.ensures.list (cap_rising c.args.zone c.split_at-to.new.self.list.items c.split_at-to.ensures.rising)
 
 pub returns-clause-starts : goal.returns-clause-starts
 returns-clause-starts c =

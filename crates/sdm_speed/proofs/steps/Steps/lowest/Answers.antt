@@ -12,5 +12,5 @@ returns c =
     let to_is : to_z w32 (of_z w32 c.args.to) ≡ c.args.to = to_z-of_z w32 c.args.to c.ranges.to in
     let rest = rw from_is at c.from_cell-rest.ensures in
     let gap = int_gap c.args.from c.args.to in
-    (rw to_is at c.lowest_up_to.ensures) c.args.from gap (int_gap_is c.args.from c.args.to c.requires.ordered) rest.later
+    (rw to_is at c.lowest_up_to.ensures) c.args.from gap (int_gap_is c.args.from c.args.to c.requires) rest.later
     ∙ sym (lowest_same _ _ c.args.from gap rest.same)

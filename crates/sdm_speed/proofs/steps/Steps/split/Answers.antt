@@ -1,8 +1,11 @@
 -- The step is put where those that start before the cell end, with the speed that holds there.
-use Rattle.std.proofs.Common.{◌≡◌, ◌<◌, ◌<ℤ◌, ◌≤ℤ◌, w32, w64, to_z, of_z, length, get_or, sym, ap, ◌∙◌, arith, rules}
+use Rattle.std.proofs.Common.{◌≡◌, ◌<◌, ◌<ℤ◌, ◌≤ℤ◌, w32, w64, to_z, of_z, Bool, true, false, if◌then◌else◌, List, length, get_or, sym, ap, ◌∙◌, arith, rules}
+use Rattle.std.specs.List.{insert}
+use Rattle.std.specs.Result.{is_ok}
 use Rattle.std.proofs.lemmas.Int.{ints, to_z-of_z, by_lt_z}
 use Rattle.std.proofs.lemmas.List.{get_or_default}
 use Rattle.sdm_speed.specs.declared.steps.Step.{Step}
+use Rattle.sdm_speed.specs.Steps.{AreRising}
 use Rattle.sdm_speed.proofs.SplitLaws.{insert_same, insert_rising, insert_start, insert_keeps, insert_only, index_is_start}
 use Rattle.sdm_speed.proofs.steps.Steps.split.Goals as goal
 use Rattle.sdm_speed.proofs.steps.Steps.split.Goals.{else-i-len-via-then-i-len+else-index-cell, else-i-len-via-else-i-len}
@@ -33,8 +36,13 @@ returns-clause-start c =
 pub returns-clause-starts : goal.returns-clause-starts
 returns-clause-starts c = rw (c.insert.ensures.items, c.in-Ok.is) (insert_keeps _ c.args.self.now.list.items c.started_before-i.result)
 
-pub returns-clause-rising : goal.returns-clause-rising
-returns-clause-rising c =
+-- either list rises where both do
+either_rising : (first : Bool) (xs ys : List Step) → AreRising xs → AreRising ys → AreRising (if first then xs else ys)
+either_rising true xs ys h k = h
+either_rising false xs ys h k = k
+
+pub invariant_of-self : goal.invariant_of-self
+invariant_of-self c =
     let list = c.args.self.now.list.items in
     let i = c.started_before-i.result in
     let whole = c.args.self.now.list.ok.0 in
@@ -51,7 +59,12 @@ returns-clause-rising c =
           (λ (ge : (get_or list i d).start ≤ℤ c.args.cell). let here : at.start ≡ c.args.cell = omega (arith, ints) in absurd (w.if-index-cell.false (ap (of_z w32) here))))
       | else-i-len-via-else-i-len w ↦ absurd (omega (arith, w.if-i-len.false, c.len.ensures))
     ] in
-    rw (c.insert.ensures.items, c.in-Ok.is, cell_is) (insert_rising (record { start = c.args.cell; speed = c.speed_to-speed.result }) list i c.requires.rising (λ k d l m. parted.before k d l) past)
+    let step : Step = record { start = c.args.cell; speed = c.speed_to-speed.result } in
+    let rises = insert_rising step list i c.args.self.now.rises (λ k d l m. parted.before k d l) past in
+    record {
+      rises = rw (c.insert.ensures.items, cell_is)
+          (either_rising (is_ok c.insert.result) (insert list i step) list rises c.args.self.now.rises);
+    }
 
 pub returns-clause-only : goal.returns-clause-only
 returns-clause-only c x start =

@@ -26,7 +26,7 @@ returns-then-i-len-clause-no c start =
     let cell_is : to_z w32 (of_z w32 c.args.cell) ≡ c.args.cell = to_z-of_z w32 c.args.cell c.ranges.cell in
     let wide : to_z w64 (of_z w64 c.from.result) ≡ c.args.cell = omega (arith, ints, c.from.ensures, cell_is) in
     let parted = rw wide at c.started_before-i.ensures in
-    let here = start_here list i c.args.cell none c.requires parted start in
+    let here = start_here list i c.args.cell none c.args.self.now.rises parted start in
     let step_is = ap (λ (s : Step). s.start) (c.index.ensures ∙ get_or_default list i step none here.0) in
     eq-eqb _ _ (ap (of_z w32) (step_is ∙ here.1))
 
@@ -37,5 +37,5 @@ returns-else-i-len-clause-no c start =
     let cell_is : to_z w32 (of_z w32 c.args.cell) ≡ c.args.cell = to_z-of_z w32 c.args.cell c.ranges.cell in
     let wide : to_z w64 (of_z w64 c.from.result) ≡ c.args.cell = omega (arith, ints, c.from.ensures, cell_is) in
     let parted = rw wide at c.started_before-i.ensures in
-    let here = start_here list i c.args.cell none c.requires parted start in
+    let here = start_here list i c.args.cell none c.args.self.now.rises parted start in
     absurd (omega (arith, here.0, c.if-i-len.false, c.len.ensures))

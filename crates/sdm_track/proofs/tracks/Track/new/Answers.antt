@@ -1,5 +1,5 @@
 -- Data that break no rule are within their ranges.
-use Rattle.std.proofs.Common.{◌≡◌, None}
+use Rattle.std.proofs.Common.{◌≡◌, None, rules}
 use Rattle.sdm_rules.specs.Ranges.{track_fault}
 use Rattle.sdm_track.specs.Ranges.{track_data}
 use Rattle.sdm_track.proofs.AcceptedTracks.{track_accepted}
@@ -7,6 +7,5 @@ use Rattle.sdm_track.proofs.tracks.Track.new.Goals as goal
 
 pub invariant_of-result : goal.invariant_of-result
 invariant_of-result c =
-    let none : track_fault (track_data c.args.length_cm c.args.gradients.items c.args.speeds.items c.args.areas.items) ≡ None =
-    cc (c.fault_of.ensures, c.in_default.is, c.deref.ensures.value, c.deref-2.ensures.value, c.deref-3.ensures.value) in
+    let none : track_fault (track_data c.args.length_cm c.args.gradients.items c.args.speeds.items c.args.areas.items) ≡ None = search rules in
     track_accepted _ none

@@ -6,8 +6,8 @@ use Rattle.sdm_rules.specs.Records.{most_restrictions}
 use Rattle.sdm_speed.specs.Profiles.{ProfileData}
 use Rattle.sdm_speed.proofs.KeptLaws.{held_count}
 use Rattle.sdm_speed.proofs.RestrictLaws.{refused_as_full, refused_as_in_use, refused_as_empty, refused_past_end, not_refused}
-use Rattle.sdm_speed.proofs.profiles.Profile.restrict_fault.Goals as goal
-use Rattle.sdm_speed.proofs.profiles.Profile.restrict_fault.Goals.{then-r-via-then-r, then-r-via-else-r+then-self-r}
+use Rattle.sdm_speed.proofs.profiles.Profile.check.Goals as goal
+use Rattle.sdm_speed.proofs.profiles.Profile.check.Goals.{then-r-via-then-r, then-r-via-else-r+then-self-r}
 
 pub returns-then-full : goal.returns-then-full
 returns-then-full c =
