@@ -25,9 +25,11 @@ pub fn read_document(alloc: Global, bytes: &[u8]) -> Result<Table, DocumentFault
     ensures document { IfOk result (λ table. document_of bytes.now ≡ Some (table_view table)) }
     ensures not_toml { IsErrOf result DocumentFault.NotToml → document_of bytes.now ≡ None }
 {
-    match toml::table_from_slice(alloc, bytes) {
-        Ok(table) => Ok(table),
-        Err(error) if error.is_memory() => Err(DocumentFault::Memory),
-        Err(_) => Err(DocumentFault::NotToml),
-    }
+    toml::table_from_slice(alloc, bytes).map_err(|error| {
+        if error.is_memory() {
+            DocumentFault::Memory
+        } else {
+            DocumentFault::NotToml
+        }
+    })
 }

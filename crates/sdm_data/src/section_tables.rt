@@ -70,10 +70,7 @@ impl<'a> SectionTable<'a> {
     fn found(&self, key: u8) -> Option<&'a Value>
         ensures { option_map (λ value. view value.now) result ≡ found (members_of self.now) key }
     {
-        match key_name(self.section, key) {
-            Some(name) => value_at(self.table, name),
-            None => None,
-        }
+        value_at(self.table, key_name(self.section, key)?)
     }
 
     // What a key holds that must be there: else Missing.
@@ -211,14 +208,8 @@ fn value_at<'a>(table: &'a Table, name: &str) -> Option<&'a Value>
 fn as_tables(value: &Value) -> Option<&[Value]>
     ensures { option_map (λ list. tables_in list.now) result ≡ as_tables (view value.now) }
 {
-    let Some(list) = value.as_array() else {
-        return None;
-    };
-    if are_tables(list) {
-        Some(list.as_slice())
-    } else {
-        None
-    }
+    let list = value.as_array()?.as_slice();
+    are_tables(list).then_some(list)
 }
 
 // Each value is a table.

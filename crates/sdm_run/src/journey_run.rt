@@ -10,8 +10,7 @@ ghost use Rattle.sdm_run.specs.Journeys.{IsRunOutput};
 
 use crate::endings::Ended;
 use crate::journey_openings::opened;
-use crate::journey_records::run_records;
-use crate::tellers::Rows;
+use crate::journey_records::{Rows, run_records};
 use sdm_data::split;
 use sdm_io::Sink;
 use sdm_report::{InputFault, Outcome};

@@ -9,7 +9,6 @@ mod flat_run;
 mod journey_openings;
 mod journey_records;
 mod journey_run;
-mod tellers;
 mod trial_run;
 pub mod words;
 
