@@ -23,7 +23,7 @@ pub fn split(input: &[u8]) -> Option<(usize, usize)>
     None
 }
 
-// The line is `%%`, with one of the ends that a line may have.
+/// The line is `%%`, with one of the ends that a line may have.
 fn is_dividing_line(line: &[u8]) -> bool
     ensures { result ≡ is_dividing_line line.now }
 {

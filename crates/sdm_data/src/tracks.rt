@@ -101,7 +101,7 @@ impl GivenTrack {
         }
     }
 
-    // The length as it is handed on: 0, which is refused as well, where no u32 holds it.
+    /// The length as it is handed on: 0, which is refused as well, where no u32 holds it.
     fn length_cm(&self) -> u32
         ensures refused { length_fault (pos result) ≡ length_fault self.now.length }
         ensures kept { length_fault self.now.length ≡ None → pos result ≡ self.now.length }

@@ -82,7 +82,7 @@ impl GivenTrain {
         }
     }
 
-    // The fields that are handed in: of the bands the first ones, as many as a train may have, and the count of all.
+    /// The fields that are handed in: of the bands the first ones, as many as a train may have, and the count of all.
     fn fields(&self) -> TrainFields
         ensures train { train_of result ≡ with_first_bands (given_train self.now) }
         ensures count { result.band_count ≡ min (length self.now.bands.items) (2 ^ 32 - 1) }
@@ -94,7 +94,7 @@ impl GivenTrain {
     }
 }
 
-// The first bands, as many as a train may have.
+/// The first bands, as many as a train may have.
 fn first_bands(bands: &[Band]) -> [Band; MOST_BANDS]
     ensures { take (min (length bands.now) most_bands) result ≡ take most_bands bands.now }
 {

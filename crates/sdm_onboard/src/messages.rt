@@ -70,7 +70,7 @@ fn read(time: u32, est: i32, speed: u32, accel: i16) -> Message {
     })
 }
 
-// To an end in cm, with its supervised location and no release speed.
+/// To an end in cm, with its supervised location and no release speed.
 fn stop(eoa: u32, svl: u32) -> Message {
     Message::Authority(Authority::Stop {
         eoa,
@@ -79,7 +79,7 @@ fn stop(eoa: u32, svl: u32) -> Message {
     })
 }
 
-// To 36 km/h, from and to places in cm.
+/// To 36 km/h, from and to places in cm.
 fn slow(id: u16, start: u32, end: u32) -> Message {
     Message::Restriction(Restriction {
         id,

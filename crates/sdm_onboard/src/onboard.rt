@@ -88,7 +88,7 @@ impl Onboard {
         }
     }
 
-    // A reading that can't be judged leaves the train without supervision, so it brakes.
+    /// A reading that can't be judged leaves the train without supervision, so it brakes.
     fn take_odometry(&mut self, odometry: &Odometry) -> News {
         let judged = match odometry.reading() {
             Some(reading) => self.judge(&reading).map_err(ReadingFault::Time),
@@ -115,7 +115,7 @@ impl Onboard {
         Ok(row)
     }
 
-    // The commands of the last row are too old to be relied on.
+    /// The commands of the last row are too old to be relied on.
     fn overdue(&mut self) -> News
         ensures { IsTrue self.new.orders.emergency }
     {
@@ -123,7 +123,7 @@ impl Onboard {
         News::Overdue
     }
 
-    // The old authority stays in force where the new one is refused, and may be the longer or the faster one.
+    /// The old authority stays in force where the new one is refused, and may be the longer or the faster one.
     fn take_authority(&mut self, authority: Authority) -> News
         ensures taken { result ≡ News.Taken → self.new.supervisor ≡ after_authority self.old.supervisor authority }
         ensures refused { result ≡ News.Taken ⊎ (IsTrue self.new.is_authority_missing × IsTrue self.new.orders.emergency) }
@@ -155,7 +155,7 @@ impl Onboard {
         }
     }
 
-    // The supervisor asks its caller for a speed from 1 to 500 km/h.
+    /// The supervisor asks its caller for a speed from 1 to 500 km/h.
     fn restrict(&mut self, restriction: Restriction) -> Result<(), RestrictionFault>
         ensures { OnOk result (self.new.supervisor ≡ after_restriction self.old.supervisor restriction) }
     {
@@ -167,7 +167,7 @@ impl Onboard {
             .map_err(RestrictionFault::Refused)
     }
 
-    // Where it is refused, the restriction stays in force, which brakes sooner and never later.
+    /// Where it is refused, the restriction stays in force, which brakes sooner and never later.
     fn revoke(&mut self, id: u16) -> News
         ensures taken { result ≡ News.Taken → self.new.supervisor ≡ after_revocation self.old.supervisor id }
     {

@@ -87,7 +87,7 @@ pub fn open(alloc: Global) -> Result<Onboard, OpeningFault> {
     Ok(Onboard::over(supervisor.map_err(OpeningFault::Open)?))
 }
 
-// Without gradients and without areas of reduced adhesion.
+/// Without gradients and without areas of reduced adhesion.
 fn level_track(alloc: Global) -> Result<Track, OpeningFault> {
     let mut speeds = Vec::new(alloc);
     speeds.push(SPEED).map_err(|_| OpeningFault::Memory)?;

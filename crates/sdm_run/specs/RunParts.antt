@@ -77,11 +77,3 @@ pub record TakesRecord (tell : Turn → List ℕ) (old new : Option (List ℕ)) 
   pub taken : Appends old new text
   pub counted : n ≤ most_records
   pub fewer : length more < length records
-
--- what the answer of a turn says: a record was taken, none was left, or the run ends
-abbrev pub IsTurnAnswer :
-    (Turn → List ℕ) → Option (List ℕ) → Option (List ℕ) → ℕ → Supervision → Supervision → List Record → List Record →
-    Result Bool Outcome → Type 0
-IsTurnAnswer tell old new n s t records more (Ok true) = TakesRecord tell old new n s t records more
-IsTurnAnswer tell old new n s t records more (Ok false) = (records ≡ []) × (new ≡ old)
-IsTurnAnswer tell old new n s t records more (Err outcome) = IsAnswer (output_of_records tell n s records) old new outcome

@@ -79,7 +79,7 @@ pub fn sdm_main<I: Source, O: Sink, E: Sink>(
     }
 }
 
-// The bytes that a command answers: those of the whole input, or none where it reads nothing.
+/// The bytes that a command answers: those of the whole input, or none where it reads nothing.
 fn bytes_for<I: Source>(alloc: Global, command: Command, input: &mut I) -> Result<Vec<u8>, Unread>
     ensures whole { IfOk result (λ v. IsTrue (shape_of command).reads_input → Told (I.left input.old) (λ bytes. v.items ≡ bytes)) }
     ensures end { OnOk result (IsTrue (shape_of command).reads_input → IsAtEnd (I.left input.new)) }
@@ -98,7 +98,7 @@ fn bytes_for<I: Source>(alloc: Global, command: Command, input: &mut I) -> Resul
     }
 }
 
-// Answers the bytes of an input that is not too long.
+/// Answers the bytes of an input that is not too long.
 #[tactic(auto, using(crate::proofs::CommandFacts::rows_safe))]
 fn run_command<O: Sink>(alloc: Global, command: Command, bytes: &[u8], out: &mut O) -> Ended
     requires short { length bytes.now ≤ most_bytes }
@@ -122,7 +122,7 @@ fn run_command<O: Sink>(alloc: Global, command: Command, bytes: &[u8], out: &mut
     }
 }
 
-// The outcome of a command, once out gave on what it was handed.
+/// The outcome of a command, once out gave on what it was handed.
 fn outcome_to<O: Sink>(alloc: Global, command: Command, bytes: &[u8], out: &mut O) -> Outcome
     requires short { length bytes.now ≤ most_bytes }
     requires range { IsCommandInRange command }

@@ -14,20 +14,11 @@ pub fn take_line(flat: &mut Flat, line: &[u8]) -> Option<FlatRow>
     ensures accepted { IfSome result (λ row. IsAcceptedLine flat.old flat.new line.now row) }
     ensures refused { IfNone result (IsRefusedLine flat.old line.now) }
 {
-    let Some((time, rest)) = split_number(line, 0, 100_000_000) else {
-        return None;
-    };
-    let Some((front, speed)) = split_number(rest, -10_000_000, 110_000_000) else {
-        return None;
-    };
-    let Ok(speed) = natural_in(speed, 0, 138_888) else {
-        return None;
-    };
+    let (time, rest) = split_number(line, 0, 100_000_000)?;
+    let (front, speed) = split_number(rest, -10_000_000, 110_000_000)?;
+    let speed = natural_in(speed, 0, 138_888).ok()?;
     let (front, speed) = (Place::of_mm(front as i32), Speed::of_mm_s(speed));
-    match flat.cycle(time as u32, front, speed) {
-        Ok(row) => Some(row),
-        Err(_) => None,
-    }
+    flat.cycle(time as u32, front, speed).ok()
 }
 
 /// Puts a row. (own)

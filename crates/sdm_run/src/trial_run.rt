@@ -20,7 +20,7 @@ use sdm_text::RowBuf;
 use sdm_trial::{Readings, Summary, trial_data};
 use std::alloc::Global;
 
-// The supervisor of the data of every trial, which are accepted.
+/// The supervisor of the data of every trial, which are accepted.
 #[tactic(auto, using(crate::proofs::TrialRuns::only_memory))]
 fn begin(alloc: Global) -> Result<Supervisor, NoMemory>
     ensures { IfOk result (λ supervisor. supervisor ≡ opening trial_train_and_track trial_authority) }
@@ -41,7 +41,7 @@ fn begin(alloc: Global) -> Result<Supervisor, NoMemory>
     }
 }
 
-// The summary of the rows of all cycles.
+/// The summary of the rows of all cycles.
 fn summary_of(supervisor: &mut Supervisor, seed: u16, cycles: u32) -> Summary
     requires opening { supervisor.old ≡ opening trial_train_and_track trial_authority }
     requires cycles { cycles ≤ most_records }

@@ -47,7 +47,7 @@ const AUTHORITY: Authority = Authority::Stop {
     release: 0,
 };
 
-// The train: its two bands are the first of the array.
+/// The train: its two bands are the first of the array.
 #[tactic(auto, using(crate::proofs::FixedData::train_accepted))]
 fn train() -> Train
     ensures { result ≡ trial_train }

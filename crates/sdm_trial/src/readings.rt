@@ -32,7 +32,7 @@ impl Model for Readings {
     ghost invariant = { λ r. (r.number ≡ number_at r.seed r.made) × (r.made + r.left ≤ most_records) };
 }
 
-// The number after this one.
+/// The number after this one.
 fn next_number(number: u16) -> u16
     ensures { result ≡ next_number number }
 {
@@ -40,7 +40,7 @@ fn next_number(number: u16) -> u16
     next as u16
 }
 
-// The reading of a cycle by its number.
+/// The reading of a cycle by its number.
 fn reading_by(cycle: u32, number: u16) -> Reading
     requires { cycle ≤ most_records }
     ensures { result ≡ reading_by cycle number }
