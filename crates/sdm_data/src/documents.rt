@@ -18,8 +18,8 @@ pub enum DocumentFault {
     Memory,
 }
 
-/// The root table of the TOML document that these bytes are. NotToml exactly where they are none, unless memory was refused
-/// first. (own)
+/// The root table of the TOML document that these bytes are. NotToml exactly where they are none, unless memory was
+/// refused first. (own)
 #[tactic(auto, using(crate::proofs::DocumentLaws::document_some, crate::proofs::DocumentLaws::document_none))]
 pub fn read_document(alloc: Global, bytes: &[u8]) -> Result<Table, DocumentFault>
     ensures document { IfOk result (λ table. document_of bytes.now ≡ Some (table_view table)) }

@@ -75,7 +75,8 @@ impl<'a> SectionTable<'a> {
 
     /// What a key holds that must be there: else Missing.
     fn held(&self, key: u8) -> Result<&'a Value, DataFault>
-        ensures { seen (λ value. view value.now) result ≡ or_fault (DataFault.Missing (at (members_of self.now) key)) (found (members_of self.now) key) }
+        ensures { seen (λ value. view value.now) result
+            ≡ or_fault (DataFault.Missing (at (members_of self.now) key)) (found (members_of self.now) key) }
     {
         self.found(key).ok_or(DataFault::Missing(self.at(key)))
     }
@@ -152,7 +153,8 @@ impl<'a> SectionTable<'a> {
     /// The values of the array of tables that a key holds, if it is there. (own)
     #[tactic(auto, unfolding(crate::specs::Members::optional))]
     pub fn tables_if_any(&self, key: u8) -> Result<Option<&'a [Value]>, DataFault>
-        ensures { seen (λ list. option_map (λ list. tables_in list.now) list) result ≡ optional as_tables (members_of self.now) key }
+        ensures { seen (λ list. option_map (λ list. tables_in list.now) list) result
+            ≡ optional as_tables (members_of self.now) key }
     {
         match self.found(key) {
             None => Ok(None),
@@ -184,7 +186,8 @@ impl<'a> SectionTable<'a> {
 
 /// Some key of the table is none of these names.
 fn has_unknown(table: &Table, names: &[&str]) -> bool
-    ensures { result ≡ list_any (λ key. not (list_any (λ name. bytes_eq (string_bytes key) name.now) names.now)) (keys table.now) }
+    ensures { result ≡ list_any
+        (λ key. not (list_any (λ name. bytes_eq (string_bytes key) name.now) names.now)) (keys table.now) }
 {
     table.keys().any(|key| !is_among(names, key.as_str()))
 }

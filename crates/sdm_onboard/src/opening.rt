@@ -1,5 +1,5 @@
-//! The data of the journey, and the supervisor that is opened over them. A train that brakes with 1 m/s² on a level track of 3 km; the
-//! times are those that docs/INTEGRATION.md derives for readings every 0.5 s.
+//! The data of the journey, and the supervisor that is opened over them. A train that brakes with 1 m/s² on a level
+//! track of 3 km; the times are those that docs/INTEGRATION.md derives for readings every 0.5 s.
 
 use crate::onboard::Onboard;
 use sdm_national::National;

@@ -16,9 +16,14 @@ pub fn take_line(flat: &mut Flat, line: &[u8]) -> Option<FlatRow>
 {
     let (time, rest) = split_number(line, 0, 100_000_000)?;
     let (front, speed) = split_number(rest, -10_000_000, 110_000_000)?;
-    let speed = natural_in(speed, 0, 138_888).ok()?;
+    let Ok(speed) = natural_in(speed, 0, 138_888) else {
+        return None;
+    };
     let (front, speed) = (Place::of_mm(front as i32), Speed::of_mm_s(speed));
-    flat.cycle(time as u32, front, speed).ok()
+    match flat.cycle(time as u32, front, speed) {
+        Ok(row) => Some(row),
+        Err(_) => None,
+    }
 }
 
 /// Puts a row. (own)

@@ -17,29 +17,59 @@ use sdm_supervisor::Supervisor;
 use std::alloc::Global;
 use toml::Table;
 
-/// The supervisor that a data part opens; else the outcome, which is that of the first rule that the data break, or of the first
-/// fault of the opening, unless memory was refused first. (own)
-pub fn opened(alloc: Global, data: &[u8]) -> Result<Supervisor, Outcome>
-    ensures opened { IfOk result (IsOpeningOf data.now) }
+/// The TOML document of the data part.
+fn document_in(alloc: Global, data: &[u8]) -> Result<Table, Outcome>
+    ensures document { IfOk result (λ table. document_of data.now ≡ Some (table_view table)) }
     ensures refused { IfErr result (IsRefusedBy data.now) }
 {
-    let table = read_document(alloc, data).map_err(|fault| match fault {
-        DocumentFault::NotToml => Outcome::BadData(InputFault::Toml),
-        DocumentFault::Memory => Outcome::Memory,
-    })?;
-    let journey = data_of(alloc, &table).map_err(|fault| match fault {
-        DataFault::Memory => Outcome::Memory,
-        broken => Outcome::BadData(InputFault::Data(broken)),
-    })?;
-    Supervisor::begin(
+    match read_document(alloc, data) {
+        Ok(table) => Ok(table),
+        Err(DocumentFault::NotToml) => Err(Outcome::BadData(InputFault::Toml)),
+        Err(DocumentFault::Memory) => Err(Outcome::Memory),
+    }
+}
+
+/// The data of the document.
+fn journey_in(alloc: Global, table: &Table) -> Result<JourneyData, Outcome>
+    ensures data { IfOk result (λ j. data_of (table_view table.now) ≡ Ok (train_and_track_of j, j.authority)) }
+    ensures refused { IfErr result
+        (λ outcome. (bytes : List ℕ) → document_of bytes ≡ Some (table_view table.now) → IsRefusedBy bytes outcome) }
+{
+    match data_of(alloc, table) {
+        Ok(journey) => Ok(journey),
+        Err(DataFault::Memory) => Err(Outcome::Memory),
+        Err(fault) => Err(Outcome::BadData(InputFault::Data(fault))),
+    }
+}
+
+/// The supervisor of the data.
+fn begin(alloc: Global, journey: JourneyData) -> Result<Supervisor, Outcome>
+    ensures state { IfOk result (λ s. s ≡ opening (train_and_track_of journey) journey.authority) }
+    ensures accepted { IfOk result (λ _. IsAccepted (train_and_track_of journey) journey.authority) }
+    ensures refused { IfErr result
+        (λ outcome. (bytes : List ℕ) → IsDataOf bytes (train_and_track_of journey) journey.authority
+        → IsRefusedBy bytes outcome) }
+{
+    match Supervisor::begin(
         alloc,
         journey.train,
         journey.national,
         journey.track,
         journey.authority,
-    )
-    .map_err(|fault| match fault {
-        OpenFault::Memory => Outcome::Memory,
-        refused => Outcome::Refused(refused),
-    })
+    ) {
+        Ok(supervisor) => Ok(supervisor),
+        Err(OpenFault::Memory) => Err(Outcome::Memory),
+        Err(fault) => Err(Outcome::Refused(fault)),
+    }
+}
+
+/// The supervisor that a data part opens; else the outcome, which is that of the first rule that the data break, or of
+/// the first fault of the opening, unless memory was refused first. (own)
+pub fn opened(alloc: Global, data: &[u8]) -> Result<Supervisor, Outcome>
+    ensures opened { IfOk result (IsOpeningOf data.now) }
+    ensures refused { IfErr result (IsRefusedBy data.now) }
+{
+    let table = document_in(alloc, data)?;
+    let journey = journey_in(alloc, &table)?;
+    begin(alloc, journey)
 }

@@ -1,8 +1,9 @@
-//! The records of a journey, from a record to what is written of it: each is taken, and what is told of its turn written, before the next
-//! one is read. `run` tells rows; another command that tells something else of the same turns is one more `Teller`.
+//! The records of a journey, from a record to what is written of it: each is taken, and what is told of its turn
+//! written, before the next one is read. `run` tells rows; another command that tells something else of the same turns
+//! is one more `Teller`.
 
-ghost use Rattle.std.specs.Prelude.{◌≡◌, ◌⊎◌, ◌≤◌, ℕ, List, [], false, Some, Ok, Err, IfErr, OnOk};
-ghost use Rattle.std.specs.ControlFlow.{ForBreak, MatchControlFlow};
+ghost use Rattle.std.specs.Prelude.{◌≡◌, ◌⊎◌, ◌≤◌, ℕ, List, [], false, Some, Ok, Err, IfErr, OnOk, ⊤};
+ghost use Rattle.std.specs.ControlFlow.{MatchControlFlow};
 ghost use Rattle.csv.specs.Records.{fields_of};
 ghost use Rattle.sdm_io.specs.Causes.{Rose};
 ghost use Rattle.sdm_rules.specs.Forms.{event_of};
@@ -43,8 +44,8 @@ pub trait Teller {
         ensures refused { IfErr result (λ cause. step supervisor.old event ≡ Err cause) };
 }
 
-/// Answers the records of these bytes, from a supervision state on, by what is told of each turn. WriteFault comes only where out
-/// failed. (own)
+/// Answers the records of these bytes, from a supervision state on, by what is told of each turn. WriteFault comes
+/// only where out failed. (own)
 pub fn run_records<T: Teller, O: Sink>(
     alloc: Global,
     teller: &T,
@@ -92,8 +93,8 @@ struct Walk<'a> {
 }
 
 impl<'a> Walk<'a> {
-    /// Takes the next record, which has this number, and writes what is told of its turn. Where none is left, or the run ends at it, the
-    /// outcome.
+    /// Takes the next record, which has this number, and writes what is told of its turn. Where none is left, or the
+    /// run ends at it, the outcome.
     fn turn<T: Teller, O: Sink>(
         &mut self,
         teller: &T,
@@ -104,14 +105,15 @@ impl<'a> Walk<'a> {
         requires { 1 ≤ number }
         ensures turn { MatchControlFlow result
             (λ _. TakesRecord (T.tell teller.now) (O.taken out.old) (O.taken out.new) number
-                supervisor.old supervisor.new self.old.records.left self.new.records.left)
+            supervisor.old supervisor.new self.old.records.left self.new.records.left)
             (IsAnswer (output_of_records (T.tell teller.now) number supervisor.old self.old.records.left)
-                (O.taken out.old) (O.taken out.new)) }
+            (O.taken out.old) (O.taken out.new)) }
         ensures due { self.new.is_flush_due ≡ false
-            → ((self.old.is_flush_due ≡ false) × (out.new ≡ out.old)) ⊎ (result ≡ ControlFlow.Break Outcome.WriteFault) }
+            → ((self.old.is_flush_due ≡ false) × (out.new ≡ out.old))
+            ⊎ (result ≡ ControlFlow.Break Outcome.WriteFault) }
         ensures later { O.faults out.old ≤ O.faults out.new }
         ensures write { result ≡ ControlFlow.Break Outcome.WriteFault → Rose (O.faults out.old) (O.faults out.new) }
-        ensures possible { ForBreak result (IsOutcomeIn records_shape) }
+        ensures possible { MatchControlFlow result (λ _. ⊤) (IsOutcomeIn records_shape) }
     {
         match self.records.next(&mut self.record) {
             Ok(true) => {}

@@ -1,5 +1,5 @@
-//! The program from the bytes that come in to the bytes that go out: its words, its commands, the rows that they write, and
-//! the outcome that it ends with.
+//! The program from the bytes that come in to the bytes that go out: its words, its commands, the rows that they
+//! write, and the outcome that it ends with.
 #![tactic(auto)]
 
 pub mod answers;

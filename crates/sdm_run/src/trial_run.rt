@@ -1,5 +1,5 @@
-//! The command `trial`: a supervisor over made readings, and the summary of its rows. It reads no input, and nothing of it is
-//! refused.
+//! The command `trial`: a supervisor over made readings, and the summary of its rows. It reads no input, and nothing
+//! of it is refused.
 
 ghost use Rattle.std.specs.Prelude.{◌≡◌, ◌⊎◌, ◌≤◌, false, IfOk};
 ghost use Rattle.sdm_io.specs.Causes.{Rose};
@@ -58,8 +58,8 @@ fn summary_of(supervisor: &mut Supervisor, seed: u16, cycles: u32) -> Summary
     summary
 }
 
-/// Answers a number and a count of cycles: the summary, in one piece. Memory comes only before out was handed anything; WriteFault
-/// only where out failed. (own)
+/// Answers a number and a count of cycles: the summary, in one piece. Memory comes only before out was handed
+/// anything; WriteFault only where out failed. (own)
 pub fn run_trial<O: Sink>(alloc: Global, seed: u16, cycles: u32, out: &mut O) -> Ended
     requires { cycles ≤ most_records }
     ensures answer { IsAnswer (trial_output seed cycles) (O.taken out.old) (O.taken out.new) result.outcome }

@@ -1,4 +1,5 @@
-//! The readings of a trial. Each cycle has a number, which follows from that of the cycle before; its reading follows from both.
+//! The readings of a trial. Each cycle has a number, which follows from that of the cycle before; its reading follows
+//! from both.
 
 ghost use Rattle.std.specs.Prelude.{◌≡◌, ◌≤◌, suc, IfSome, IfNone, OnSome};
 ghost use Rattle.sdm_rules.specs.Trial.{next_number, reading_by, reading_in_cycle};
@@ -95,8 +96,8 @@ impl Readings {
     }
 }
 
-/// The reading of a cycle of the trial from a seed; cycles count from 1, and there are at most 100,000. It steps through the numbers
-/// of the cycles before: who wants all readings asks `Readings`. (own)
+/// The reading of a cycle of the trial from a seed; cycles count from 1, and there are at most 100,000. It steps
+/// through the numbers of the cycles before: who wants all readings asks `Readings`. (own)
 pub fn trial_reading(seed: u16, cycle: u32) -> Reading
     requires first { 1 ≤ cycle }
     requires last { cycle ≤ most_records }
