@@ -7,8 +7,8 @@ use std::env;
 use std::io::ErrorKind;
 use std::process::ExitCode;
 
-// The words after the program's name; none where memory for them is wanting. Where one of them is not UTF-8, the program goes on
-// with no words, which is Usage.
+/// The words after the program's name; none where memory for them is wanting. Where one of them is not UTF-8, the
+/// program goes on with no words, which is Usage.
 fn words_of(rt: &HostRuntime) -> Option<Vec<String>> {
     let mut words = Vec::new(rt.alloc());
     match env::args(rt) {

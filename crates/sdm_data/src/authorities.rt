@@ -23,7 +23,7 @@ pub fn authority_in(table: &Table) -> Result<Authority, DataFault>
     }
 }
 
-// An authority to an end; with no release speed where none is given.
+/// An authority to an end; with no release speed where none is given.
 #[tactic(auto, unfolding(crate::specs::Sections::end_in))]
 fn end_in(authority: &SectionTable) -> Result<Authority, DataFault>
     ensures { result ≡ end_in (members_of authority.now) }
@@ -42,7 +42,7 @@ fn end_in(authority: &SectionTable) -> Result<Authority, DataFault>
     })
 }
 
-// An authority to a limit.
+/// An authority to a limit.
 #[tactic(auto, unfolding(crate::specs::Sections::limit_in))]
 fn limit_in(authority: &SectionTable) -> Result<Authority, DataFault>
     ensures { result ≡ limit_in (members_of authority.now) }

@@ -43,8 +43,8 @@ eoa = 100000
 svl = 100000
 "#;
 
-/// A train of 200 m with two speed bands and build-up times on wet rails, on a track that falls by 5 per mille from 2 km to 4 km,
-/// with an EOA at 5000 m and the SvL 50 m beyond it.
+/// A train of 200 m with two speed bands and build-up times on wet rails, on a track that falls by 5 per mille from 2
+/// km to 4 km, with an EOA at 5000 m and the SvL 50 m beyond it.
 pub const REALISTIC_PART: &str = r#"version = 1
 
 [train]

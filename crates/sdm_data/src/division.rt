@@ -5,9 +5,9 @@ ghost use Rattle.sdm_data.specs.Division.{divide, is_dividing_line};
 
 use sdm_text::split_line;
 
-/// The offset at which the data part ends, and the one at which the records begin: those of the dividing line and of the
-/// byte after it. The dividing line is the first line that is exactly `%%`, ended by LF, by CR and LF, or by the end of the
-/// input; None exactly where there is no such line. (own)
+/// The offset at which the data part ends, and the one at which the records begin: those of the dividing line and of
+/// the byte after it. The dividing line is the first line that is exactly `%%`, ended by LF, by CR and LF, or by the
+/// end of the input; None exactly where there is no such line. (own)
 #[tactic(auto, using(crate::proofs::LinesOfInput::all_left, crate::proofs::LinesOfInput::passed, crate::proofs::LinesOfInput::divided, crate::proofs::LinesOfInput::undivided))]
 pub fn split(input: &[u8]) -> Option<(usize, usize)>
     ensures value { result ≡ divide input.now }
@@ -23,7 +23,7 @@ pub fn split(input: &[u8]) -> Option<(usize, usize)>
     None
 }
 
-// The line is `%%`, with one of the ends that a line may have.
+/// The line is `%%`, with one of the ends that a line may have.
 fn is_dividing_line(line: &[u8]) -> bool
     ensures { result ≡ is_dividing_line line.now }
 {

@@ -18,16 +18,18 @@ pub enum DocumentFault {
     Memory,
 }
 
-/// The root table of the TOML document that these bytes are. NotToml exactly where they are none, unless memory was refused
-/// first. (own)
+/// The root table of the TOML document that these bytes are. NotToml exactly where they are none, unless memory was
+/// refused first. (own)
 #[tactic(auto, using(crate::proofs::DocumentLaws::document_some, crate::proofs::DocumentLaws::document_none))]
 pub fn read_document(alloc: Global, bytes: &[u8]) -> Result<Table, DocumentFault>
     ensures document { IfOk result (λ table. document_of bytes.now ≡ Some (table_view table)) }
     ensures not_toml { IsErrOf result DocumentFault.NotToml → document_of bytes.now ≡ None }
 {
-    match toml::table_from_slice(alloc, bytes) {
-        Ok(table) => Ok(table),
-        Err(error) if error.is_memory() => Err(DocumentFault::Memory),
-        Err(_) => Err(DocumentFault::NotToml),
-    }
+    toml::table_from_slice(alloc, bytes).map_err(|error| {
+        if error.is_memory() {
+            DocumentFault::Memory
+        } else {
+            DocumentFault::NotToml
+        }
+    })
 }

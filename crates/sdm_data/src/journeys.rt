@@ -17,7 +17,8 @@ use sdm_train::Train;
 use std::alloc::Global;
 use toml::Table;
 
-/// What is known of a journey before it begins: the train, the national values, the track, and the first authority. (own)
+/// What is known of a journey before it begins: the train, the national values, the track, and the first authority.
+/// (own)
 #[derive(Debug, Drop)]
 pub struct JourneyData {
     pub train: Train,

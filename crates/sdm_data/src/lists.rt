@@ -22,15 +22,16 @@ pub trait ReadEntry: Drop {
         ensures { result ≡ entry_in version index (table_view table.now) };
 }
 
-/// The entries of an array of tables, or the first rule that one of them breaks, unless memory was refused first. Values
-/// that are no tables are passed over: no array with such a value is handed in. (own)
+/// The entries of an array of tables, or the first rule that one of them breaks, unless memory was refused first.
+/// Values that are no tables are passed over: no array with such a value is handed in. (own)
 pub fn entries<T: ReadEntry>(
     alloc: Global,
     version: Version,
     list: &[Value],
 ) -> Result<Vec<T>, DataFault>
     ensures entries { IfOk result (λ v. entries_from (T.entry_in version) 1 (tables_in list.now) ≡ Ok v.items) }
-    ensures refused { IfErr result (λ fault. fault ≢ DataFault.Memory → entries_from (T.entry_in version) 1 (tables_in list.now) ≡ Err fault) }
+    ensures refused { IfErr result
+        (λ fault. fault ≢ DataFault.Memory → entries_from (T.entry_in version) 1 (tables_in list.now) ≡ Err fault) }
 {
     let mut entries = Vec::new(alloc);
     let mut index = 1u32;

@@ -66,24 +66,22 @@ impl<'a> SectionTable<'a> {
         self.known(known_keys(version, self.section))
     }
 
-    // What a key holds, if it is there.
+    /// What a key holds, if it is there.
     fn found(&self, key: u8) -> Option<&'a Value>
         ensures { option_map (λ value. view value.now) result ≡ found (members_of self.now) key }
     {
-        match key_name(self.section, key) {
-            Some(name) => value_at(self.table, name),
-            None => None,
-        }
+        value_at(self.table, key_name(self.section, key)?)
     }
 
-    // What a key holds that must be there: else Missing.
+    /// What a key holds that must be there: else Missing.
     fn held(&self, key: u8) -> Result<&'a Value, DataFault>
-        ensures { seen (λ value. view value.now) result ≡ or_fault (DataFault.Missing (at (members_of self.now) key)) (found (members_of self.now) key) }
+        ensures { seen (λ value. view value.now) result
+            ≡ or_fault (DataFault.Missing (at (members_of self.now) key)) (found (members_of self.now) key) }
     {
         self.found(key).ok_or(DataFault::Missing(self.at(key)))
     }
 
-    // WrongKind where a key's value is not of the kind that is read.
+    /// WrongKind where a key's value is not of the kind that is read.
     fn of_kind<T: Drop>(&self, key: u8, read: Option<T>) -> Result<T, DataFault>
         ensures { result ≡ or_fault (DataFault.WrongKind (at (members_of self.now) key)) read }
     {
@@ -155,7 +153,8 @@ impl<'a> SectionTable<'a> {
     /// The values of the array of tables that a key holds, if it is there. (own)
     #[tactic(auto, unfolding(crate::specs::Members::optional))]
     pub fn tables_if_any(&self, key: u8) -> Result<Option<&'a [Value]>, DataFault>
-        ensures { seen (λ list. option_map (λ list. tables_in list.now) list) result ≡ optional as_tables (members_of self.now) key }
+        ensures { seen (λ list. option_map (λ list. tables_in list.now) list) result
+            ≡ optional as_tables (members_of self.now) key }
     {
         match self.found(key) {
             None => Ok(None),
@@ -185,43 +184,38 @@ impl<'a> SectionTable<'a> {
     }
 }
 
-// Some key of the table is none of these names.
+/// Some key of the table is none of these names.
 fn has_unknown(table: &Table, names: &[&str]) -> bool
-    ensures { result ≡ list_any (λ key. not (list_any (λ name. bytes_eq (string_bytes key) name.now) names.now)) (keys table.now) }
+    ensures { result ≡ list_any
+        (λ key. not (list_any (λ name. bytes_eq (string_bytes key) name.now) names.now)) (keys table.now) }
 {
     table.keys().any(|key| !is_among(names, key.as_str()))
 }
 
-// The key is one of these names.
+/// The key is one of these names.
 fn is_among(names: &[&str], key: &str) -> bool
     ensures { result ≡ list_any (λ name. bytes_eq key.now name.now) names.now }
 {
     names.iter().any(|name| key == *name)
 }
 
-// The value at a key of a table.
+/// The value at a key of a table.
 fn value_at<'a>(table: &'a Table, name: &str) -> Option<&'a Value>
     ensures { option_map (λ value. view value.now) result ≡ get_member name.now (table_view table.now) }
 {
     table.get(name)
 }
 
-// The values of an array that holds nothing but tables.
+/// The values of an array that holds nothing but tables.
 #[tactic(auto, using(crate::proofs::TableLaws::all_are_tables, crate::proofs::TableLaws::some_is_no_table))]
 fn as_tables(value: &Value) -> Option<&[Value]>
     ensures { option_map (λ list. tables_in list.now) result ≡ as_tables (view value.now) }
 {
-    let Some(list) = value.as_array() else {
-        return None;
-    };
-    if are_tables(list) {
-        Some(list.as_slice())
-    } else {
-        None
-    }
+    let list = value.as_array()?.as_slice();
+    are_tables(list).then_some(list)
 }
 
-// Each value is a table.
+/// Each value is a table.
 fn are_tables(list: &[Value]) -> bool
     ensures { result ≡ list_all (λ value. is_some (as_table (view value))) list.now }
 {

@@ -31,7 +31,7 @@ a/%%%/b|-|three signs
 a/%/%/b|-|two lines of one sign
 a/%%__/b|-|two CR";
 
-// The bytes of an input of the table.
+/// The bytes of an input of the table.
 fn input_of(alloc: Global, text: &str) -> Result<Vec<u8>, AllocError> {
     let mut input = Vec::new(alloc);
     for byte in text.bytes() {
@@ -44,7 +44,7 @@ fn input_of(alloc: Global, text: &str) -> Result<Vec<u8>, AllocError> {
     Ok(input)
 }
 
-// The ends of the dividing line, as the table tells them.
+/// The ends of the dividing line, as the table tells them.
 fn ends_of(alloc: Global, input: &[u8]) -> Result<String, AllocError> {
     match split(input) {
         Some((data_end, records_start)) => format!(in alloc; "{data_end} {records_start}"),
@@ -63,7 +63,7 @@ fn the_first_line_of_two_percent_signs_divides(rt: HostRuntime) -> Result<(), Fa
     Ok(())
 }
 
-// What a text comes to: its data, or the fault that is told.
+/// What a text comes to: its data, or the fault that is told.
 fn outcome(alloc: Global, text: &str) -> Result<String, AllocError> {
     let table = match read_document(alloc, text.as_bytes()) {
         Ok(table) => table,
@@ -86,7 +86,7 @@ fn told_data(alloc: Global, data: &JourneyData) -> Result<String, AllocError> {
     Ok(text)
 }
 
-// Length, greatest speed, rotating mass, cut-off time and interface, emergency and service time, service brake; the bands.
+/// Length, greatest speed, rotating mass, cut-off time and interface, emergency and service time, service brake; the bands.
 fn told_train(alloc: Global, data: &JourneyData, text: &mut String) -> Result<(), AllocError> {
     let train = &data.train;
     let (length, max_speed, mass) = (train.length(), train.max_speed(), train.rotating_mass());
@@ -106,7 +106,7 @@ fn told_train(alloc: Global, data: &JourneyData, text: &mut String) -> Result<()
     Ok(())
 }
 
-// Avadh, adhesion, and the four flags in their order.
+/// Avadh, adhesion, and the four flags in their order.
 fn told_national(alloc: Global, data: &JourneyData, text: &mut String) -> Result<(), AllocError> {
     let national = &data.national;
     let (avadh, adhesion) = (national.avadh(), national.adhesion_max());
@@ -117,7 +117,7 @@ fn told_national(alloc: Global, data: &JourneyData, text: &mut String) -> Result
     )?)
 }
 
-// The length and the lists.
+/// The length and the lists.
 fn told_track(alloc: Global, data: &JourneyData, text: &mut String) -> Result<(), AllocError> {
     let track = &data.track;
     let length = track.length_cm();
@@ -152,7 +152,7 @@ fn told_fault(alloc: Global, fault: DataFault) -> Result<String, AllocError> {
     }
 }
 
-// A fault with the section, the index and the number of its key.
+/// A fault with the section, the index and the number of its key.
 fn told_at(alloc: Global, fault: &str, at: At) -> Result<String, AllocError> {
     let (section, index, key) = (at.section, at.index, at.key);
     format!(in alloc; "{fault} {section:?} {index} {key}")
@@ -169,7 +169,7 @@ fn data_parts_are_read_to_their_values(rt: HostRuntime) -> Result<(), Fail> {
     Ok(())
 }
 
-// The text of a row: line feeds and bands in their places.
+/// The text of a row: line feeds and bands in their places.
 fn written_out(alloc: Global, short: &str) -> Result<String, AllocError> {
     let mut text = String::new(alloc);
     for c in short.chars() {
@@ -182,7 +182,7 @@ fn written_out(alloc: Global, short: &str) -> Result<String, AllocError> {
     Ok(text)
 }
 
-// The text with one change, `old ~ new`, at the first place where the old stands.
+/// The text with one change, `old ~ new`, at the first place where the old stands.
 fn changed(alloc: Global, text: &str, change: &str) -> Result<String, &'static str> {
     let (old, new) = change.split_once('~').ok_or("no change")?;
     let (before, after) = text.split_once(old.trim()).ok_or("nothing to change")?;
@@ -190,7 +190,7 @@ fn changed(alloc: Global, text: &str, change: &str) -> Result<String, &'static s
     format!(in alloc; "{before}{new}{after}").map_err(|_| "memory")
 }
 
-// The text that a row tells of.
+/// The text that a row tells of.
 fn text_of(alloc: Global, changes: &str) -> Result<String, &'static str> {
     if let Some(text) = changes.trim().strip_prefix("text:") {
         return written_out(alloc, text).map_err(|_| "memory");

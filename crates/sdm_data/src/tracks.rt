@@ -1,5 +1,5 @@
-//! The section `track` with its lists: gradients (SUBSET-026-3 3.13.4), the static speed profile (3.11.3) and areas of reduced
-//! adhesion (3.12).
+//! The section `track` with its lists: gradients (SUBSET-026-3 3.13.4), the static speed profile (3.11.3) and areas of
+//! reduced adhesion (3.12).
 
 ghost use Rattle.std.specs.Prelude.{◌≡◌, ◌≢◌, IfErr, IfOk, Ok, Err, None, option_map, pos};
 ghost use Rattle.std.specs.Result.{result_err};
@@ -72,7 +72,8 @@ impl ReadEntry for Area {
 #[tactic(auto, unfolding(crate::specs::Sections::track_in))]
 pub fn track_in(alloc: Global, version: Version, table: &Table) -> Result<GivenTrack, DataFault>
     ensures track { IfOk result (λ given. track_in version (table_view table.now) ≡ Ok (given_track given)) }
-    ensures refused { IfErr result (λ fault. fault ≢ DataFault.Memory → track_in version (table_view table.now) ≡ Err fault) }
+    ensures refused { IfErr result
+        (λ fault. fault ≢ DataFault.Memory → track_in version (table_view table.now) ≡ Err fault) }
 {
     let track = SectionTable::new(table, Section::Track, 0);
     track.known_in(version)?;
@@ -101,7 +102,7 @@ impl GivenTrack {
         }
     }
 
-    // The length as it is handed on: 0, which is refused as well, where no u32 holds it.
+    /// The length as it is handed on: 0, which is refused as well, where no u32 holds it.
     fn length_cm(&self) -> u32
         ensures refused { length_fault (pos result) ≡ length_fault self.now.length }
         ensures kept { length_fault self.now.length ≡ None → pos result ≡ self.now.length }

@@ -17,8 +17,8 @@ use sdm_train::Train;
 use std::alloc::Global;
 use toml::Table;
 
-/// A train as it is given: its own keys, in fields that have no bands, and all of its bands, which may be more than a train
-/// may have. (own)
+/// A train as it is given: its own keys, in fields that have no bands, and all of its bands, which may be more than a
+/// train may have. (own)
 #[derive(Drop)]
 pub struct GivenTrain {
     pub own: TrainFields,
@@ -49,7 +49,8 @@ impl ReadEntry for Band {
 #[tactic(auto, unfolding(crate::specs::Sections::train_in))]
 pub fn train_in(alloc: Global, version: Version, table: &Table) -> Result<GivenTrain, DataFault>
     ensures train { IfOk result (λ given. train_in version (table_view table.now) ≡ Ok (given_train given)) }
-    ensures refused { IfErr result (λ fault. fault ≢ DataFault.Memory → train_in version (table_view table.now) ≡ Err fault) }
+    ensures refused { IfErr result
+        (λ fault. fault ≢ DataFault.Memory → train_in version (table_view table.now) ≡ Err fault) }
 {
     let train = SectionTable::new(table, Section::Train, 0);
     train.known_in(version)?;
@@ -73,7 +74,8 @@ impl GivenTrain {
     /// The train, or the first rule that it breaks: BandCount where more bands were given than a train may have. (own)
     #[tactic(auto, using(crate::proofs::AcceptedData::same_train_fault))]
     pub fn accepted(&self) -> Result<Train, DataFault>
-        ensures fault { result_err result ≡ option_map DataFault.Train (train_fault (length self.now.bands.items) (given_train self.now)) }
+        ensures fault { result_err result
+            ≡ option_map DataFault.Train (train_fault (length self.now.bands.items) (given_train self.now)) }
         ensures kept { IfOk result (λ train. train ≡ given_train self.now) }
     {
         match Train::new(self.fields()) {
@@ -82,7 +84,7 @@ impl GivenTrain {
         }
     }
 
-    // The fields that are handed in: of the bands the first ones, as many as a train may have, and the count of all.
+    /// The fields that are handed in: of the bands the first ones, as many as a train may have, and the count of all.
     fn fields(&self) -> TrainFields
         ensures train { train_of result ≡ with_first_bands (given_train self.now) }
         ensures count { result.band_count ≡ min (length self.now.bands.items) (2 ^ 32 - 1) }
@@ -94,7 +96,7 @@ impl GivenTrain {
     }
 }
 
-// The first bands, as many as a train may have.
+/// The first bands, as many as a train may have.
 fn first_bands(bands: &[Band]) -> [Band; MOST_BANDS]
     ensures { take (min (length bands.now) most_bands) result ≡ take most_bands bands.now }
 {

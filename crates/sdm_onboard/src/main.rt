@@ -1,6 +1,7 @@
-//! An onboard computer's loop in small, as the model of how the supervisor is called: data are made, a supervisor is opened over them, and
-//! each message of the odometer and the radio is handed to it. What comes of an answer stands in `onboard` and `orders`; every refusal
-//! has one. The messages are a fixed list here, where a computer has its buses, and the interfaces of the train are lines of text.
+//! An onboard computer's loop in small, as the model of how the supervisor is called: data are made, a supervisor is
+//! opened over them, and each message of the odometer and the radio is handed to it. What comes of an answer stands in
+//! `onboard` and `orders`; every refusal has one. The messages are a fixed list here, where a computer has its buses,
+//! and the interfaces of the train are lines of text.
 #![tactic(auto)]
 
 mod messages;

@@ -1,5 +1,6 @@
-//! What comes in: the odometer's readings, and what the radio and the balises bring. The list is a journey in which each call of the
-//! supervisor is made and refused; of two readings that aren't judged one has a clock that goes back, and one a speed out of range.
+//! What comes in: the odometer's readings, and what the radio and the balises bring. The list is a journey in which
+//! each call of the supervisor is made and refused; of two readings that aren't judged one has a clock that goes back,
+//! and one a speed out of range.
 
 use sdm_num::Reading;
 use sdm_rules::{Authority, Restriction};
@@ -11,7 +12,8 @@ const FRONT_BOUND_MM: i32 = 5_000;
 /// The true speed is at most 0.2 m/s above the measured one, in mm/s.
 const UNDER_READING_MM_S: u32 = 200;
 
-/// What the odometer tells: time in ds, estimated front end in mm, speed in mm/s, and in cm/s² what the train may gain.
+/// What the odometer tells: time in ds, estimated front end in mm, speed in mm/s, and in cm/s² what the train may
+/// gain.
 #[derive(Clone, Copy, Debug)]
 pub struct Odometry {
     pub time: u32,
@@ -70,7 +72,7 @@ fn read(time: u32, est: i32, speed: u32, accel: i16) -> Message {
     })
 }
 
-// To an end in cm, with its supervised location and no release speed.
+/// To an end in cm, with its supervised location and no release speed.
 fn stop(eoa: u32, svl: u32) -> Message {
     Message::Authority(Authority::Stop {
         eoa,
@@ -79,7 +81,7 @@ fn stop(eoa: u32, svl: u32) -> Message {
     })
 }
 
-// To 36 km/h, from and to places in cm.
+/// To 36 km/h, from and to places in cm.
 fn slow(id: u16, start: u32, end: u32) -> Message {
     Message::Restriction(Restriction {
         id,
@@ -106,7 +108,8 @@ pub fn journey() -> [Message; 21] {
         read(20, 1_039_900, 19_600, -100),
         stop(200_000, 205_000),
         read(25, 1_049_600, 19_100, -100),
-        // The odometer is silent for eight seconds; then the train is below the margin of a restriction, and may gain speed.
+        // The odometer is silent for eight seconds; then the train is below the margin of a restriction, and may gain
+        // speed.
         Message::Overdue,
         slow(8, 121_000, 140_000),
         read(110, 1_170_000, 11_000, 40),

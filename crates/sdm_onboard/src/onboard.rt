@@ -1,5 +1,6 @@
-//! The computer: a supervisor, what was refused and so isn't supervised, and what stands at the interfaces. A call that is refused
-//! changes nothing in the supervisor; what it asked is missing there, so the brake is commanded until it is there.
+//! The computer: a supervisor, what was refused and so isn't supervised, and what stands at the interfaces. A call
+//! that is refused changes nothing in the supervisor; what it asked is missing there, so the brake is commanded until
+//! it is there.
 
 ghost use Rattle.std.specs.Prelude.{◌≡◌, ◌⊎◌, IsTrue, OnOk, IfOk, false};
 ghost use Rattle.sdm_rules.specs.declared.commands.State.TheVariants.{R};
@@ -52,13 +53,15 @@ pub struct Onboard {
     supervisor: Supervisor,
     /// The last authority was refused.
     is_authority_missing: bool,
-    /// A restriction was refused. This small computer keeps none to be set again, so it takes a new supervisor to run on.
+    /// A restriction was refused. This small computer keeps none to be set again, so it takes a new supervisor to run
+    /// on.
     is_restriction_missing: bool,
     orders: Orders,
 }
 
 impl Onboard {
-    /// The computer over a supervisor that was just opened. Before the first reading no row promises anything, so it brakes.
+    /// The computer over a supervisor that was just opened. Before the first reading no row promises anything, so it
+    /// brakes.
     pub fn over(supervisor: Supervisor) -> Onboard
         ensures { result.supervisor ≡ supervisor }
     {
@@ -88,7 +91,7 @@ impl Onboard {
         }
     }
 
-    // A reading that can't be judged leaves the train without supervision, so it brakes.
+    /// A reading that can't be judged leaves the train without supervision, so it brakes.
     fn take_odometry(&mut self, odometry: &Odometry) -> News {
         let judged = match odometry.reading() {
             Some(reading) => self.judge(&reading).map_err(ReadingFault::Time),
@@ -106,8 +109,10 @@ impl Onboard {
     fn judge(&mut self, reading: &Reading) -> Result<Row, CycleFault>
         ensures judged { OnOk result (self.new.supervisor ≡ after_reading self.old.supervisor reading.now) }
         ensures handed_on { IfOk result (λ row. IsTrue row.held.eb → IsTrue self.new.orders.emergency) }
-        ensures uncovered { IfOk result (λ row. row.covered ≡ false → IsTrue self.new.orders.emergency ⊎ row.state ≡ R) }
-        ensures unsupervised { OnOk result (IsTrue self.old.is_authority_missing ⊎ IsTrue self.old.is_restriction_missing → IsTrue self.new.orders.emergency) }
+        ensures uncovered { IfOk result
+            (λ row. row.covered ≡ false → IsTrue self.new.orders.emergency ⊎ row.state ≡ R) }
+        ensures unsupervised { OnOk result (IsTrue self.old.is_authority_missing
+            ⊎ IsTrue self.old.is_restriction_missing → IsTrue self.new.orders.emergency) }
     {
         let row = self.supervisor.cycle(reading)?;
         let is_unsupervised = self.is_authority_missing || self.is_restriction_missing;
@@ -115,7 +120,7 @@ impl Onboard {
         Ok(row)
     }
 
-    // The commands of the last row are too old to be relied on.
+    /// The commands of the last row are too old to be relied on.
     fn overdue(&mut self) -> News
         ensures { IsTrue self.new.orders.emergency }
     {
@@ -123,10 +128,11 @@ impl Onboard {
         News::Overdue
     }
 
-    // The old authority stays in force where the new one is refused, and may be the longer or the faster one.
+    /// The old authority stays in force where the new one is refused, and may be the longer or the faster one.
     fn take_authority(&mut self, authority: Authority) -> News
         ensures taken { result ≡ News.Taken → self.new.supervisor ≡ after_authority self.old.supervisor authority }
-        ensures refused { result ≡ News.Taken ⊎ (IsTrue self.new.is_authority_missing × IsTrue self.new.orders.emergency) }
+        ensures refused { result ≡ News.Taken
+            ⊎ (IsTrue self.new.is_authority_missing × IsTrue self.new.orders.emergency) }
     {
         match self.supervisor.authority(authority) {
             Ok(()) => {
@@ -143,7 +149,8 @@ impl Onboard {
 
     fn take_restriction(&mut self, restriction: Restriction) -> News
         ensures taken { result ≡ News.Taken → self.new.supervisor ≡ after_restriction self.old.supervisor restriction }
-        ensures refused { result ≡ News.Taken ⊎ (IsTrue self.new.is_restriction_missing × IsTrue self.new.orders.emergency) }
+        ensures refused { result ≡ News.Taken
+            ⊎ (IsTrue self.new.is_restriction_missing × IsTrue self.new.orders.emergency) }
     {
         match self.restrict(restriction) {
             Ok(()) => News::Taken,
@@ -155,7 +162,7 @@ impl Onboard {
         }
     }
 
-    // The supervisor asks its caller for a speed from 1 to 500 km/h.
+    /// The supervisor asks its caller for a speed from 1 to 500 km/h.
     fn restrict(&mut self, restriction: Restriction) -> Result<(), RestrictionFault>
         ensures { OnOk result (self.new.supervisor ≡ after_restriction self.old.supervisor restriction) }
     {
@@ -167,7 +174,7 @@ impl Onboard {
             .map_err(RestrictionFault::Refused)
     }
 
-    // Where it is refused, the restriction stays in force, which brakes sooner and never later.
+    /// Where it is refused, the restriction stays in force, which brakes sooner and never later.
     fn revoke(&mut self, id: u16) -> News
         ensures taken { result ≡ News.Taken → self.new.supervisor ≡ after_revocation self.old.supervisor id }
     {

@@ -1,5 +1,5 @@
-//! The data of the journey, and the supervisor that is opened over them. A train that brakes with 1 m/s² on a level track of 3 km; the
-//! times are those that docs/INTEGRATION.md derives for readings every 0.5 s.
+//! The data of the journey, and the supervisor that is opened over them. A train that brakes with 1 m/s² on a level
+//! track of 3 km; the times are those that docs/INTEGRATION.md derives for readings every 0.5 s.
 
 use crate::onboard::Onboard;
 use sdm_national::National;
@@ -87,7 +87,7 @@ pub fn open(alloc: Global) -> Result<Onboard, OpeningFault> {
     Ok(Onboard::over(supervisor.map_err(OpeningFault::Open)?))
 }
 
-// Without gradients and without areas of reduced adhesion.
+/// Without gradients and without areas of reduced adhesion.
 fn level_track(alloc: Global) -> Result<Track, OpeningFault> {
     let mut speeds = Vec::new(alloc);
     speeds.push(SPEED).map_err(|_| OpeningFault::Memory)?;

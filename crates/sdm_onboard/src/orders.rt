@@ -1,5 +1,5 @@
-//! What the interfaces of the train are given. A row's commands are handed on, and the emergency brake is commanded besides wherever
-//! the row promises nothing that may be counted on: docs/INTEGRATION.md has the cases.
+//! What the interfaces of the train are given. A row's commands are handed on, and the emergency brake is commanded
+//! besides wherever the row promises nothing that may be counted on: docs/INTEGRATION.md has the cases.
 
 ghost use Rattle.std.specs.Prelude.{◌≡◌, ◌⊎◌, IsTrue, false};
 ghost use Rattle.sdm_rules.specs.declared.commands.State.TheVariants.{R};
@@ -23,15 +23,17 @@ impl Orders {
         emergency: true,
     };
 
-    /// What a row asks. `is_unsupervised` says that something which was handed in was refused, so that the supervisor doesn't know of it.
-    /// A row that isn't covered promises no stop, so the brake is commanded, but for release speed monitoring, where none is promised.
+    /// What a row asks. `is_unsupervised` says that something which was handed in was refused, so that the supervisor
+    /// doesn't know of it. A row that isn't covered promises no stop, so the brake is commanded, but for release speed
+    /// monitoring, where none is promised.
     pub fn of(row: &Row, is_unsupervised: bool) -> Orders
         ensures handed_on { IsTrue row.now.held.eb → IsTrue result.emergency }
         ensures uncovered { row.now.covered ≡ false → IsTrue result.emergency ⊎ row.now.state ≡ R }
         ensures unsupervised { IsTrue is_unsupervised → IsTrue result.emergency }
         ensures service { IsTrue row.now.held.sb → IsTrue result.service }
         ensures cut_off { IsTrue row.now.held.tco → IsTrue result.traction_off }
-        ensures no_traction_against_brakes { IsTrue result.emergency ⊎ IsTrue result.service → IsTrue result.traction_off }
+        ensures no_traction_against_brakes { IsTrue result.emergency ⊎ IsTrue result.service
+            → IsTrue result.traction_off }
     {
         let is_uncovered = !row.covered && row.state != State::R;
         if row.held.eb || is_uncovered || is_unsupervised {

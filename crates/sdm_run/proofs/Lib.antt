@@ -1,4 +1,5 @@
 pub mod LineFields
+pub mod OutputLeft
 pub mod FlatTexts
 pub mod FlatOrder
 pub mod TrialRuns

@@ -27,7 +27,7 @@ use Rattle.sdm_run.specs.Answers.{ComesOfReadingAlone, LeavesOutUntouched, IsAns
 use Rattle.sdm_run.specs.Journeys.{run_reader, output_of_records, IsRunOutput}
 use Rattle.sdm_run.specs.RunParts.{IsOpeningOf, IsRefusedBy}
 use Rattle.sdm_run.specs.Commands.{AreRunRowsSafe}
-use Rattle.sdm_run.specs.Shapes.{IsOutcomeIn, records_shape, run_shape, is_of_line}
+use Rattle.sdm_run.specs.Shapes.{IsOutcomeIn, records_shape, run_shape}
 use Rattle.sdm_run.proofs.RunData.{has_bands}
 use Rattle.sdm_run.proofs.RunTexts.{of_records}
 
@@ -144,9 +144,6 @@ refused_not_before bytes (BadData fault) h b = b
 refused_not_before bytes (Refused fault) h b = b
 refused_not_before bytes (BadEvent number cause) h b = b
 refused_not_before bytes Memory h b = b
-
-pub records_not_before : (outcome : Outcome) → IsOutcomeIn records_shape outcome → ComesOfReadingAlone outcome → ⊥
-records_not_before = of_records (λ outcome. ComesOfReadingAlone outcome → ⊥) (λ h. h) (λ h. h) (λ number cause from_1 possible h. h) (λ h. h)
 
 pub flat_not_before : (outcome : Outcome) → (LeavesOutUntouched outcome → ⊥) → ComesOfReadingAlone outcome → ⊥
 flat_not_before Done h b = b

@@ -1,11 +1,9 @@
--- The output of records, record by record: what was written and the output of the records that are left are the output of all.
-use Rattle.std.proofs.Common.{◌≡◌, ℕ, suc, ◌+◌, ◌≤◌, List, [], ◌∷◌, ◌++◌, length, take, Option, Some, None, inl, inr, refl, ap, ◌∙◌, sym, subst, append_assoc, length-append, arith}
+-- The output of records, record by record, and the outcomes that it may end with.
+use Rattle.std.proofs.Common.{◌≡◌, ℕ, suc, ◌≤◌, List, [], ◌∷◌, ◌++◌, Option, Some, None, inl, inr, refl, ap, ◌∙◌, sym, subst, arith}
 use Rattle.std.specs.Prelude.{Result, Ok, Err, OnOk, ◌⊎◌, Bool, true, false, not, IsTrue}
 use Rattle.std.proofs.lemmas.Bool.{le-ltb}
-use Rattle.std.proofs.Math.Seq.{take-append-add}
-use Rattle.std.proofs.lemmas.List.{append-nil}
 use Rattle.std.specs.Io.KnownBytes.{Appends}
-use Rattle.std.proofs.KnownBytes.{Appends-nil, Appends-trans}
+use Rattle.std.proofs.KnownBytes.{Appends-nil}
 use Rattle.sdm_rules.specs.declared.faults.EventFault.{EventFault}
 use Rattle.sdm_rules.specs.declared.faults.EventCause.{EventCause}
 use Rattle.sdm_rules.specs.declared.faults.EventCause.TheVariants as causes
@@ -13,17 +11,14 @@ use Rattle.sdm_rules.specs.declared.faults.CycleFault.{CycleFault}
 use Rattle.sdm_rules.specs.declared.faults.CycleFault.TheVariants.{TimeBack}
 use Rattle.sdm_rules.specs.declared.records.Event.{Event}
 use Rattle.sdm_rules.specs.declared.records.Event.TheVariants as record_kinds
-use Rattle.sdm_rules.specs.declared.rows.Row.{Row}
-use Rattle.sdm_rules.specs.Flat.{Output}
 use Rattle.sdm_rules.specs.Forms.{event_of}
 use Rattle.sdm_rules.specs.Records.{Turn, authority_fault, restrict_fault, revoke_fault, time_fault, time_cause, unless, step, turn_of, turn_to, event_at, most_records}
 use Rattle.sdm_rules.specs.Supervision.{Supervision}
-use Rattle.sdm_rules.specs.Text.{row_text, text_of_row}
 use Rattle.sdm_report.specs.declared.outcome.InputFault.TheVariants.{NoSplit, Toml, Data}
 use Rattle.sdm_report.specs.declared.outcome.Outcome.{Outcome}
 use Rattle.sdm_report.specs.declared.outcome.Outcome.TheVariants.{Done, Usage, ReadFault, WriteFault, TooLong, BadData, Refused, BadEvent, Memory}
 use Rattle.sdm_events.specs.Journey.{Record}
-use Rattle.sdm_run.specs.Answers.{IsAnswer, LeavesOutUntouched, IsOutcomeOf, AreWholeLines, TakesFor}
+use Rattle.sdm_run.specs.Answers.{ComesOfReadingAlone, IsAnswer, LeavesOutUntouched}
 use Rattle.sdm_run.specs.Journeys.{output_of_records}
 use Rattle.sdm_run.specs.RunParts.{IsToldEvent, IsToldRecord, TakesRecord}
 use Rattle.sdm_run.specs.Shapes.{IsOutcomeIn, is_of_line, records_shape}
@@ -66,11 +61,10 @@ pub where_accepted : {A B : Type 0} (answer : Result A B) (P Q : Type 0) → (P 
 where_accepted (Ok x) P Q so h = so h
 where_accepted (Err fault) P Q so h = tt
 
--- the text of a row is no line, or ends with a line feed
-pub row_lines : (row : Option Row) → AreWholeLines (text_of_row row)
-unfolding row_text
-row_lines None = inl refl
-row_lines (Some row) = inr (_, refl)
+-- where no record is left, the output is at its end
+pub none_left : (tell : Turn → List ℕ) (old : Option (List ℕ)) (n : ℕ) (s : Supervision) (records : List Record) → records ≡ [] →
+    IsAnswer (output_of_records tell n s records) old old Done
+none_left tell old n s records none = rw none (record { ended = inl refl; taken = Appends-nil old })
 
 -- ---- no record is refused as a line
 
@@ -120,71 +114,13 @@ of_records P done write bad memory (Refused fault) h = absurd (let no = h.0 in c
 of_records P done write bad memory (BadEvent number cause) h = bad number cause h.0 (not_true (is_of_line cause) h.1)
 of_records P done write bad memory Memory h = memory
 
--- ---- all records
-
--- What is left of the whole output is that of the records that are left, of which the first has the number `n`, after the state
--- `s`; out took whole lines before it.
-pub record IsLeftOf (tell : Turn → List ℕ) (old new : Option (List ℕ)) (whole : Output) (n : ℕ) (s : Supervision) (records : List Record) : Type 0 where
-  pub done : List ℕ
-  pub whole_lines : AreWholeLines done
-  pub taken : Appends old new done
-  pub text : whole.text ≡ done ++ (output_of_records tell n s records).text
-  pub end : whole.end ≡ (output_of_records tell n s records).end
-
--- at first all is left
-pub all_left_of : (tell : Turn → List ℕ) (old : Option (List ℕ)) (n : ℕ) (s : Supervision) (records : List Record) → IsLeftOf tell old old (output_of_records tell n s records) n s records
-all_left_of tell old n s records = record { done = []; whole_lines = inl refl; taken = Appends-nil old; text = refl; end = refl }
-
-lines_both : (a b : List ℕ) → AreWholeLines a → AreWholeLines b → AreWholeLines (a ++ b)
-lines_both a b h (inl none) = rw (none, append-nil) h
-lines_both a b h (inr (prefix, is)) = inr (a ++ prefix, rw is (sym (append_assoc a prefix (10 ∷ []))))
-
-module _ (tell : Turn → List ℕ) (old mid new : Option (List ℕ)) (whole : Output) (n : ℕ) (s : Supervision) (records : List Record) (left : IsLeftOf tell old mid whole n s records) where
-  -- a record was taken
-  pub took_more : (t : Supervision) (more : List Record) → TakesRecord tell mid new n s t records more → IsLeftOf tell old new whole (suc n) t more
-  took_more t more h = record {
-    done = left.done ++ h.text;
-    whole_lines = lines_both left.done h.text left.whole_lines h.whole_lines;
-    taken = Appends-trans old mid new left.done h.text left.taken h.taken;
-    text = left.text ∙ ap (λ (o : Output). left.done ++ o.text) h.first ∙ sym (append_assoc left.done h.text (output_of_records tell (suc n) t more).text);
-    end = left.end ∙ ap (λ (o : Output). o.end) h.first;
-  }
-
-  -- no record was left
-  pub done_all : records ≡ [] → new ≡ mid → IsAnswer whole old new Done
-  done_all none same = record {
-    ended = inl (ap Some (sym (left.end ∙ ap (λ rs. (output_of_records tell n s rs).end) none)));
-    taken = rw same (subst (Appends old mid) (sym (left.text ∙ ap (λ rs. left.done ++ (output_of_records tell n s rs).text) none ∙ append-nil left.done)) left.taken);
-  }
-
-  prefix_then : (text : List ℕ) → Appends mid new text → Appends old new (left.done ++ text)
-  prefix_then text h = Appends-trans old mid new left.done text left.taken h
-
-  all_taken : Appends mid new (output_of_records tell n s records).text → Appends old new whole.text
-  all_taken h = subst (Appends old new) (sym left.text) (prefix_then _ h)
-
-  takes : (outcome : Outcome) → IsOutcomeIn records_shape outcome → TakesFor outcome mid new (output_of_records tell n s records).text → TakesFor outcome old new whole.text
-  takes = of_records (λ outcome. TakesFor outcome mid new (output_of_records tell n s records).text → TakesFor outcome old new whole.text)
-      (λ h. all_taken h)
-      (λ h.
-      let rest = (output_of_records tell n s records).text in
-      (length left.done + h.0, rw (left.text, length-append) (omega (arith, h.1)), subst (Appends old new) (sym (ap (take (length left.done + h.0)) left.text ∙ take-append-add left.done rest h.0)) (prefix_then (take h.0 rest) h.2)))
-      (λ number cause from_1 possible h. all_taken h)
-      (λ h. record {
-        prefix = left.done ++ h.prefix;
-        rest = h.rest;
-        parts = left.text ∙ ap (λ text. left.done ++ text) h.parts ∙ sym (append_assoc left.done h.prefix h.rest);
-        whole_lines = lines_both left.done h.prefix left.whole_lines h.whole_lines;
-        taken = prefix_then h.prefix h.taken;
-      })
-
-  -- the run ends with an outcome of what is left
-  pub cut_off : (outcome : Outcome) → IsOutcomeIn records_shape outcome → IsAnswer (output_of_records tell n s records) mid new outcome → IsAnswer whole old new outcome
-  cut_off outcome possible h = record { ended = subst (λ end. IsOutcomeOf end outcome) (sym left.end) h.ended; taken = takes outcome possible h.taken }
-
 -- no outcome of records comes before any row
 pub not_first : (outcome : Outcome) → IsOutcomeIn records_shape outcome → LeavesOutUntouched outcome → ⊥
 not_first = of_records (λ outcome. LeavesOutUntouched outcome → ⊥) (λ h. h) (λ h. h) (λ number cause from_1 possible h. h) (λ h. h)
+
+-- nor before the bytes are answered
+pub records_not_before : (outcome : Outcome) → IsOutcomeIn records_shape outcome → ComesOfReadingAlone outcome → ⊥
+records_not_before = of_records (λ outcome. ComesOfReadingAlone outcome → ⊥) (λ h. h) (λ h. h) (λ number cause from_1 possible h. h) (λ h. h)
 
 -- what was left alone so far, and by a turn that did not fail, is left alone
 pub left_alone : {S : Type 0} (start old new : S) (Before Failed : Type 0) → (Before → old ≡ start) → (Failed → ⊥) → (Before × (new ≡ old)) ⊎ Failed → new ≡ start

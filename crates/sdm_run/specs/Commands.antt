@@ -1,5 +1,5 @@
 -- What each command defines for the bytes of its input, and what is promised of its rows (own).
-use Rattle.std.specs.Prelude.{◌≡◌, ℕ, false, IsTrue, List, [], Option, Some, None, ⊤, length, nat_lt, if◌then◌else◌}
+use Rattle.std.specs.Prelude.{◌≡◌, ℕ, false, List, [], Option, Some, None, ⊤, length, nat_lt, if◌then◌else◌}
 use Rattle.sdm_rules.specs.Flat.{Output, flat_output}
 use Rattle.sdm_rules.specs.Headline.{AreTurnsSafe}
 use Rattle.sdm_rules.specs.Input.{most_bytes, TooLong}

@@ -1,5 +1,5 @@
 -- What the parts of `run` say: of the data part, and of one record after the other (own).
-use Rattle.std.specs.Prelude.{◌≡◌, ◌≢◌, ◌≤◌, ◌<◌, ℕ, suc, Bool, true, false, List, [], ◌++◌, Option, Some, None, Result, Ok, Err, length, ⊤}
+use Rattle.std.specs.Prelude.{◌≡◌, ◌≢◌, ◌≤◌, ◌<◌, ℕ, suc, List, ◌++◌, Option, Some, None, Result, Ok, Err, length, ⊤}
 use Rattle.std.specs.Io.KnownBytes.{Appends}
 use Rattle.toml.specs.Data.{Members}
 use Rattle.sdm_rules.specs.declared.authorities.Authority.{Authority}
@@ -17,7 +17,7 @@ use Rattle.sdm_report.specs.declared.outcome.Outcome.TheVariants.{Done, Usage, R
 use Rattle.sdm_data.specs.Document.{document_of}
 use Rattle.sdm_data.specs.Journey.{data_of}
 use Rattle.sdm_events.specs.Journey.{Record}
-use Rattle.sdm_run.specs.Answers.{IsAnswer, AreWholeLines}
+use Rattle.sdm_run.specs.Answers.{AreWholeLines}
 use Rattle.sdm_run.specs.Journeys.{output_of_records}
 
 -- ---- the data part
@@ -77,11 +77,3 @@ pub record TakesRecord (tell : Turn → List ℕ) (old new : Option (List ℕ)) 
   pub taken : Appends old new text
   pub counted : n ≤ most_records
   pub fewer : length more < length records
-
--- what the answer of a turn says: a record was taken, none was left, or the run ends
-abbrev pub IsTurnAnswer :
-    (Turn → List ℕ) → Option (List ℕ) → Option (List ℕ) → ℕ → Supervision → Supervision → List Record → List Record →
-    Result Bool Outcome → Type 0
-IsTurnAnswer tell old new n s t records more (Ok true) = TakesRecord tell old new n s t records more
-IsTurnAnswer tell old new n s t records more (Ok false) = (records ≡ []) × (new ≡ old)
-IsTurnAnswer tell old new n s t records more (Err outcome) = IsAnswer (output_of_records tell n s records) old new outcome

@@ -26,8 +26,9 @@ use std::alloc::Global;
 /// The most bytes of an input. (own)
 const MOST_BYTES: usize = 16_777_216;
 
-/// The program. Each command writes what it defines for the bytes of the input, which `trial` leaves unread, and out is flushed where
-/// it was handed a byte; then, for each outcome but Done, its line goes to the fault stream, whose faults change no outcome. (own)
+/// The program. Each command writes what it defines for the bytes of the input, which `trial` leaves unread, and out
+/// is flushed where it was handed a byte; then, for each outcome but Done, its line goes to the fault stream, whose
+/// faults change no outcome. (own)
 pub fn sdm_main<I: Source, O: Sink, E: Sink>(
     alloc: Global,
     words: &[String],
@@ -41,7 +42,8 @@ pub fn sdm_main<I: Source, O: Sink, E: Sink>(
     ensures answer { IfSome (asked_by words.now) (λ command. OfInput (shape_of command) (I.left input.old) (λ bytes.
         (output : Output) → IsOutputOf command bytes output
         → IsAnswer output (O.taken out.old) (O.taken out.new) result)) }
-    ensures rows { IfSome (asked_by words.now) (λ command. OfInput (shape_of command) (I.left input.old) (AreRowsSafe command)) }
+    ensures rows { IfSome (asked_by words.now)
+        (λ command. OfInput (shape_of command) (I.left input.old) (AreRowsSafe command)) }
     ensures possible { IfSome (asked_by words.now) (λ command. IsOutcomeIn (shape_of command) result) }
     ensures complete { IfSome (asked_by words.now) (λ command. OfInput (shape_of command) (I.left input.old) (λ bytes.
         (output : Output) → IsOutputOf command bytes output
@@ -57,7 +59,8 @@ pub fn sdm_main<I: Source, O: Sink, E: Sink>(
     // how much of the input was read
     ensures within { ReadsWithin (I.left input.old) (I.left input.new) (most_bytes + 1) }
     ensures too_long { result ≡ Outcome.TooLong → ReadsExactly (I.left input.old) (I.left input.new) (most_bytes + 1) }
-    ensures to_end { IfSome (asked_by words.now) (λ command. IsTrue (shape_of command).reads_input → NeedsTheWholeInput result → IsAtEnd (I.left input.new)) }
+    ensures to_end { IfSome (asked_by words.now)
+        (λ command. IsTrue (shape_of command).reads_input → NeedsTheWholeInput result → IsAtEnd (I.left input.new)) }
     ensures unread { ReadsNothing (asked_by words.now) → input.new ≡ input.old }
 
     // a fault is answered only where it was counted
@@ -66,7 +69,8 @@ pub fn sdm_main<I: Source, O: Sink, E: Sink>(
 
     // the line of the outcome
     ensures line { AppendsPart (E.taken err.old) (E.taken err.new) (outcome_line result) }
-    ensures whole_line { Rose (E.faults err.old) (E.faults err.new) ⊎ Appends (E.taken err.old) (E.taken err.new) (outcome_line result) }
+    ensures whole_line { Rose (E.faults err.old) (E.faults err.new)
+        ⊎ Appends (E.taken err.old) (E.taken err.new) (outcome_line result) }
 {
     let Some(command) = command_of(words) else {
         return told(Outcome::Usage, err);
@@ -79,15 +83,17 @@ pub fn sdm_main<I: Source, O: Sink, E: Sink>(
     }
 }
 
-// The bytes that a command answers: those of the whole input, or none where it reads nothing.
+/// The bytes that a command answers: those of the whole input, or none where it reads nothing.
 fn bytes_for<I: Source>(alloc: Global, command: Command, input: &mut I) -> Result<Vec<u8>, Unread>
-    ensures whole { IfOk result (λ v. IsTrue (shape_of command).reads_input → Told (I.left input.old) (λ bytes. v.items ≡ bytes)) }
+    ensures whole { IfOk result
+        (λ v. IsTrue (shape_of command).reads_input → Told (I.left input.old) (λ bytes. v.items ≡ bytes)) }
     ensures end { OnOk result (IsTrue (shape_of command).reads_input → IsAtEnd (I.left input.new)) }
     ensures short { IfOk result (λ v. length v.items ≤ most_bytes) }
     ensures reads { OnErr result (IsTrue (shape_of command).reads_input) }
     ensures unread { ReadsNothing (Some command) → input.new ≡ input.old }
     ensures within { ReadsWithin (I.left input.old) (I.left input.new) (most_bytes + 1) }
-    ensures one_above { result ≡ Err Unread.TooLong → ReadsExactly (I.left input.old) (I.left input.new) (most_bytes + 1) }
+    ensures one_above { result ≡ Err Unread.TooLong
+        → ReadsExactly (I.left input.old) (I.left input.new) (most_bytes + 1) }
     ensures too_long { result ≡ Err Unread.TooLong → Told (I.left input.old) (λ bytes. most_bytes < length bytes) }
     ensures fault { result ≡ Err Unread.Fault → Rose (I.faults input.old) (I.faults input.new) }
 {
@@ -98,7 +104,7 @@ fn bytes_for<I: Source>(alloc: Global, command: Command, input: &mut I) -> Resul
     }
 }
 
-// Answers the bytes of an input that is not too long.
+/// Answers the bytes of an input that is not too long.
 #[tactic(auto, using(crate::proofs::CommandFacts::rows_safe))]
 fn run_command<O: Sink>(alloc: Global, command: Command, bytes: &[u8], out: &mut O) -> Ended
     requires short { length bytes.now ≤ most_bytes }
@@ -122,7 +128,7 @@ fn run_command<O: Sink>(alloc: Global, command: Command, bytes: &[u8], out: &mut
     }
 }
 
-// The outcome of a command, once out gave on what it was handed.
+/// The outcome of a command, once out gave on what it was handed.
 fn outcome_to<O: Sink>(alloc: Global, command: Command, bytes: &[u8], out: &mut O) -> Outcome
     requires short { length bytes.now ≤ most_bytes }
     requires range { IsCommandInRange command }
@@ -144,7 +150,8 @@ fn outcome_to<O: Sink>(alloc: Global, command: Command, bytes: &[u8], out: &mut 
 pub fn told<E: Sink>(outcome: Outcome, err: &mut E) -> Outcome
     ensures same { result ≡ outcome }
     ensures line { AppendsPart (E.taken err.old) (E.taken err.new) (outcome_line outcome) }
-    ensures whole_line { Rose (E.faults err.old) (E.faults err.new) ⊎ Appends (E.taken err.old) (E.taken err.new) (outcome_line outcome) }
+    ensures whole_line { Rose (E.faults err.old) (E.faults err.new)
+        ⊎ Appends (E.taken err.old) (E.taken err.new) (outcome_line outcome) }
 {
     let mut line = RowBuf::new();
     outcome_bytes(&outcome, &mut line);
@@ -161,7 +168,9 @@ pub fn law_of_outputs()
 /// The outcome over bytes and sinks that never fail: exactly that of the defined end, unless memory is wanting. (own)
 pub fn outcome_of(alloc: Global, words: &[String], bytes: &[u8]) -> Outcome
     ensures usage { (result ≡ Outcome.Usage) ↔ IsNone (asked_by words.now) }
-    ensures complete { IfSome (asked_by words.now) (λ command. (output : Output) → IsOutputOf command bytes.now output → (told_end result ≡ Some output.end) ⊎ (result ≡ Outcome.Memory)) }
+    ensures complete { IfSome (asked_by words.now)
+        (λ command. (output : Output) → IsOutputOf command bytes.now output
+        → (told_end result ≡ Some output.end) ⊎ (result ≡ Outcome.Memory)) }
 {
     let mut input = FixedSource::new(bytes);
     sdm_main(

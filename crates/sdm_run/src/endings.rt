@@ -9,8 +9,8 @@ ghost use Rattle.sdm_run.specs.Answers.{IsAnswer};
 use sdm_io::Sink;
 use sdm_report::Outcome;
 
-/// How a command ended: its outcome, and whether out is to be flushed, which is so where it was handed a byte and did not fail.
-/// (own)
+/// How a command ended: its outcome, and whether out is to be flushed, which is so where it was handed a byte and did
+/// not fail. (own)
 #[derive(Clone, Copy)]
 pub struct Ended {
     pub outcome: Outcome,
@@ -20,7 +20,8 @@ pub struct Ended {
 impl Ended {
     /// The outcome, once out gave on what it was handed. A flush that fails is a write fault in place of it.
     pub fn flushed<O: Sink>(self, out: &mut O) -> Outcome
-        ensures answer { (output : Output) (before : Option (List ℕ)) → IsAnswer output before (O.taken out.old) self.outcome
+        ensures answer { (output : Output) (before : Option (List ℕ))
+            → IsAnswer output before (O.taken out.old) self.outcome
             → IsAnswer output before (O.taken out.new) result }
         ensures outcome { (result ≡ self.outcome)
             ⊎ ((result ≡ Outcome.WriteFault) × Rose (O.faults out.old) (O.faults out.new)) }

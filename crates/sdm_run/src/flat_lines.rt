@@ -14,12 +14,8 @@ pub fn take_line(flat: &mut Flat, line: &[u8]) -> Option<FlatRow>
     ensures accepted { IfSome result (λ row. IsAcceptedLine flat.old flat.new line.now row) }
     ensures refused { IfNone result (IsRefusedLine flat.old line.now) }
 {
-    let Some((time, rest)) = split_number(line, 0, 100_000_000) else {
-        return None;
-    };
-    let Some((front, speed)) = split_number(rest, -10_000_000, 110_000_000) else {
-        return None;
-    };
+    let (time, rest) = split_number(line, 0, 100_000_000)?;
+    let (front, speed) = split_number(rest, -10_000_000, 110_000_000)?;
     let Ok(speed) = natural_in(speed, 0, 138_888) else {
         return None;
     };

@@ -16,7 +16,8 @@ use sdm_supervisor::Flat;
 use sdm_text::{RowBuf, split_line, without_lf};
 use std::alloc::Global;
 
-/// Answers the lines of an input. Memory comes only before out was handed anything; WriteFault only where out failed. (own)
+/// Answers the lines of an input. Memory comes only before out was handed anything; WriteFault only where out failed.
+/// (own)
 pub fn run_flat<O: Sink>(alloc: Global, decel: u16, end_cm: u32, bytes: &[u8], out: &mut O) -> Ended
     requires low { 5 ≤ decel }
     requires high { decel ≤ 400 }

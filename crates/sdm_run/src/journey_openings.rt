@@ -17,7 +17,7 @@ use sdm_supervisor::Supervisor;
 use std::alloc::Global;
 use toml::Table;
 
-// The TOML document of the data part.
+/// The TOML document of the data part.
 fn document_in(alloc: Global, data: &[u8]) -> Result<Table, Outcome>
     ensures document { IfOk result (λ table. document_of data.now ≡ Some (table_view table)) }
     ensures refused { IfErr result (IsRefusedBy data.now) }
@@ -29,10 +29,11 @@ fn document_in(alloc: Global, data: &[u8]) -> Result<Table, Outcome>
     }
 }
 
-// The data of the document.
+/// The data of the document.
 fn journey_in(alloc: Global, table: &Table) -> Result<JourneyData, Outcome>
     ensures data { IfOk result (λ j. data_of (table_view table.now) ≡ Ok (train_and_track_of j, j.authority)) }
-    ensures refused { IfErr result (λ outcome. (bytes : List ℕ) → document_of bytes ≡ Some (table_view table.now) → IsRefusedBy bytes outcome) }
+    ensures refused { IfErr result
+        (λ outcome. (bytes : List ℕ) → document_of bytes ≡ Some (table_view table.now) → IsRefusedBy bytes outcome) }
 {
     match data_of(alloc, table) {
         Ok(journey) => Ok(journey),
@@ -41,11 +42,13 @@ fn journey_in(alloc: Global, table: &Table) -> Result<JourneyData, Outcome>
     }
 }
 
-// The supervisor of the data.
+/// The supervisor of the data.
 fn begin(alloc: Global, journey: JourneyData) -> Result<Supervisor, Outcome>
     ensures state { IfOk result (λ s. s ≡ opening (train_and_track_of journey) journey.authority) }
     ensures accepted { IfOk result (λ _. IsAccepted (train_and_track_of journey) journey.authority) }
-    ensures refused { IfErr result (λ outcome. (bytes : List ℕ) → IsDataOf bytes (train_and_track_of journey) journey.authority → IsRefusedBy bytes outcome) }
+    ensures refused { IfErr result
+        (λ outcome. (bytes : List ℕ) → IsDataOf bytes (train_and_track_of journey) journey.authority
+        → IsRefusedBy bytes outcome) }
 {
     match Supervisor::begin(
         alloc,
@@ -60,8 +63,8 @@ fn begin(alloc: Global, journey: JourneyData) -> Result<Supervisor, Outcome>
     }
 }
 
-/// The supervisor that a data part opens; else the outcome, which is that of the first rule that the data break, or of the first
-/// fault of the opening, unless memory was refused first. (own)
+/// The supervisor that a data part opens; else the outcome, which is that of the first rule that the data break, or of
+/// the first fault of the opening, unless memory was refused first. (own)
 pub fn opened(alloc: Global, data: &[u8]) -> Result<Supervisor, Outcome>
     ensures opened { IfOk result (IsOpeningOf data.now) }
     ensures refused { IfErr result (IsRefusedBy data.now) }

@@ -10,18 +10,18 @@ ghost use Rattle.sdm_run.specs.Journeys.{IsRunOutput};
 
 use crate::endings::Ended;
 use crate::journey_openings::opened;
-use crate::journey_records::run_records;
-use crate::tellers::Rows;
+use crate::journey_records::{Rows, run_records};
 use sdm_data::split;
 use sdm_io::Sink;
 use sdm_report::{InputFault, Outcome};
 use std::alloc::Global;
 
-/// Answers an input: the rows of its readings, each written before the next record is taken. WriteFault comes only where out failed;
-/// Memory may come at any time, and leaves whole rows written. (own)
+/// Answers an input: the rows of its readings, each written before the next record is taken. WriteFault comes only
+/// where out failed; Memory may come at any time, and leaves whole rows written. (own)
 pub fn run_journey<O: Sink>(alloc: Global, bytes: &[u8], out: &mut O) -> Ended
     requires short { length bytes.now ≤ most_bytes }
-    ensures answer { (output : Output) → IsRunOutput bytes.now output → IsAnswer output (O.taken out.old) (O.taken out.new) result.outcome }
+    ensures answer { (output : Output) → IsRunOutput bytes.now output
+        → IsAnswer output (O.taken out.old) (O.taken out.new) result.outcome }
     ensures possible { IsOutcomeIn run_shape result.outcome }
     ensures not_before { ComesOfReadingAlone result.outcome → ⊥ }
     ensures first { LeavesOutUntouched result.outcome → (result.is_flush_due ≡ false) × (out.new ≡ out.old) }

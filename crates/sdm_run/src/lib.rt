@@ -1,5 +1,5 @@
-//! The program from the bytes that come in to the bytes that go out: its words, its commands, the rows that they write, and
-//! the outcome that it ends with.
+//! The program from the bytes that come in to the bytes that go out: its words, its commands, the rows that they
+//! write, and the outcome that it ends with.
 #![tactic(auto)]
 
 pub mod answers;
@@ -9,7 +9,6 @@ mod flat_run;
 mod journey_openings;
 mod journey_records;
 mod journey_run;
-mod tellers;
 mod trial_run;
 pub mod words;
 

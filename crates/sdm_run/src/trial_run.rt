@@ -1,5 +1,5 @@
-//! The command `trial`: a supervisor over made readings, and the summary of its rows. It reads no input, and nothing of it is
-//! refused.
+//! The command `trial`: a supervisor over made readings, and the summary of its rows. It reads no input, and nothing
+//! of it is refused.
 
 ghost use Rattle.std.specs.Prelude.{◌≡◌, ◌⊎◌, ◌≤◌, false, IfOk};
 ghost use Rattle.sdm_io.specs.Causes.{Rose};
@@ -20,7 +20,7 @@ use sdm_text::RowBuf;
 use sdm_trial::{Readings, Summary, trial_data};
 use std::alloc::Global;
 
-// The supervisor of the data of every trial, which are accepted.
+/// The supervisor of the data of every trial, which are accepted.
 #[tactic(auto, using(crate::proofs::TrialRuns::only_memory))]
 fn begin(alloc: Global) -> Result<Supervisor, NoMemory>
     ensures { IfOk result (λ supervisor. supervisor ≡ opening trial_train_and_track trial_authority) }
@@ -41,7 +41,7 @@ fn begin(alloc: Global) -> Result<Supervisor, NoMemory>
     }
 }
 
-// The summary of the rows of all cycles.
+/// The summary of the rows of all cycles.
 fn summary_of(supervisor: &mut Supervisor, seed: u16, cycles: u32) -> Summary
     requires opening { supervisor.old ≡ opening trial_train_and_track trial_authority }
     requires cycles { cycles ≤ most_records }
@@ -58,8 +58,8 @@ fn summary_of(supervisor: &mut Supervisor, seed: u16, cycles: u32) -> Summary
     summary
 }
 
-/// Answers a number and a count of cycles: the summary, in one piece. Memory comes only before out was handed anything; WriteFault
-/// only where out failed. (own)
+/// Answers a number and a count of cycles: the summary, in one piece. Memory comes only before out was handed
+/// anything; WriteFault only where out failed. (own)
 pub fn run_trial<O: Sink>(alloc: Global, seed: u16, cycles: u32, out: &mut O) -> Ended
     requires { cycles ≤ most_records }
     ensures answer { IsAnswer (trial_output seed cycles) (O.taken out.old) (O.taken out.new) result.outcome }

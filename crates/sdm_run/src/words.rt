@@ -45,7 +45,7 @@ pub fn command_of(words: &[String]) -> Option<Command>
     }
 }
 
-// `run` has no words after it.
+/// `run` has no words after it.
 fn run_command(words: &[String]) -> Option<Command>
     ensures { result ≡ run_command (map string_bytes words.now) }
 {
@@ -56,7 +56,7 @@ fn run_command(words: &[String]) -> Option<Command>
     }
 }
 
-// The two numbers of `flat`.
+/// The two numbers of `flat`.
 fn flat_command(words: &[String]) -> Option<Command>
     ensures value { result ≡ flat_command (map string_bytes words.now) }
     ensures range { IfSome result IsCommandInRange }
@@ -70,7 +70,7 @@ fn flat_command(words: &[String]) -> Option<Command>
     })
 }
 
-// The two numbers of `trial`.
+/// The two numbers of `trial`.
 fn trial_command(words: &[String]) -> Option<Command>
     ensures value { result ≡ trial_command (map string_bytes words.now) }
     ensures range { IfSome result IsCommandInRange }

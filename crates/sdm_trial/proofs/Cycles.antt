@@ -1,6 +1,6 @@
 -- The journey of a trial, cycle by cycle: no reading is refused, since its form is given, there are no more cycles than records
 -- may be, and times rise.
-use Rattle.std.proofs.Common.{◌≡◌, ℕ, zero, suc, List, ◌∷◌, length, None, Some, ◌+◌, ◌≤◌, ◌∙◌, ap, arith, refl}
+use Rattle.std.proofs.Common.{◌≡◌, ℕ, zero, suc, List, ◌∷◌, length, None, ◌+◌, ◌≤◌, ◌∙◌, ap, arith, refl}
 use Rattle.std.proofs.lemmas.Bool.{le-ltb}
 use Rattle.std.specs.Prelude.{Ok}
 use Rattle.sdm_num.specs.Readings.{OdometerReading}

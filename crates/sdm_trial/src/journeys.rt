@@ -1,5 +1,5 @@
-//! The data of every trial: a train of two speed bands on a track of 6 km, which falls by 5 per mille in its middle, with an
-//! EOA at 5 km and the SvL 50 m beyond it.
+//! The data of every trial: a train of two speed bands on a track of 6 km, which falls by 5 per mille in its middle,
+//! with an EOA at 5 km and the SvL 50 m beyond it.
 
 ghost use Rattle.std.specs.Prelude.{◌≡◌, ◌≤◌, ℕ, None, IfOk, length};
 ghost use Rattle.sdm_rules.specs.Opening.{IsAccepted};
@@ -47,7 +47,7 @@ const AUTHORITY: Authority = Authority::Stop {
     release: 0,
 };
 
-// The train: its two bands are the first of the array.
+/// The train: its two bands are the first of the array.
 #[tactic(auto, using(crate::proofs::FixedData::train_accepted))]
 fn train() -> Train
     ensures { result ≡ trial_train }
@@ -125,10 +125,12 @@ pub fn trial_data(alloc: Global) -> Result<JourneyData, NoMemory>
     })
 }
 
-/// A trial is never refused: its data open a supervision state, and each reading of at most 100,000 cycles gives a row. (own)
+/// A trial is never refused: its data open a supervision state, and each reading of at most 100,000 cycles gives a
+/// row. (own)
 #[tactic(auto, using(crate::proofs::Accepted::accepted, crate::proofs::Cycles::trial_taken))]
 pub fn law_of_trial()
     ensures accepted { IsAccepted trial_train_and_track trial_authority }
     ensures taken { (seed cycles : ℕ) → cycles ≤ most_records → (trial_journey seed cycles).refused ≡ None }
-    ensures rows { (seed cycles : ℕ) → cycles ≤ most_records → length (rows_of (trial_journey seed cycles).turns) ≡ cycles }
+    ensures rows { (seed cycles : ℕ) → cycles ≤ most_records
+        → length (rows_of (trial_journey seed cycles).turns) ≡ cycles }
 {}

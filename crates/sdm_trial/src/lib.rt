@@ -1,5 +1,5 @@
-//! Made journeys: fixed data, readings that follow from a number, and the summary of their rows. A run of them is the same on
-//! every machine, and needs no input.
+//! Made journeys: fixed data, readings that follow from a number, and the summary of their rows. A run of them is the
+//! same on every machine, and needs no input.
 #![tactic(auto)]
 
 mod journeys;

@@ -1,4 +1,5 @@
-//! The readings of a trial. Each cycle has a number, which follows from that of the cycle before; its reading follows from both.
+//! The readings of a trial. Each cycle has a number, which follows from that of the cycle before; its reading follows
+//! from both.
 
 ghost use Rattle.std.specs.Prelude.{◌≡◌, ◌≤◌, suc, IfSome, IfNone, OnSome};
 ghost use Rattle.sdm_rules.specs.Trial.{next_number, reading_by, reading_in_cycle};
@@ -32,7 +33,7 @@ impl Model for Readings {
     ghost invariant = { λ r. (r.number ≡ number_at r.seed r.made) × (r.made + r.left ≤ most_records) };
 }
 
-// The number after this one.
+/// The number after this one.
 fn next_number(number: u16) -> u16
     ensures { result ≡ next_number number }
 {
@@ -40,7 +41,7 @@ fn next_number(number: u16) -> u16
     next as u16
 }
 
-// The reading of a cycle by its number.
+/// The reading of a cycle by its number.
 fn reading_by(cycle: u32, number: u16) -> Reading
     requires { cycle ≤ most_records }
     ensures { result ≡ reading_by cycle number }
@@ -95,8 +96,8 @@ impl Readings {
     }
 }
 
-/// The reading of a cycle of the trial from a seed; cycles count from 1, and there are at most 100,000. It steps through the numbers
-/// of the cycles before: who wants all readings asks `Readings`. (own)
+/// The reading of a cycle of the trial from a seed; cycles count from 1, and there are at most 100,000. It steps
+/// through the numbers of the cycles before: who wants all readings asks `Readings`. (own)
 pub fn trial_reading(seed: u16, cycle: u32) -> Reading
     requires first { 1 ≤ cycle }
     requires last { cycle ≤ most_records }

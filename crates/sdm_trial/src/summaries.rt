@@ -38,7 +38,7 @@ impl Model for Summary {
     ghost invariant = { λ s. (s.rows ≤ most_records) × (s.covered ≤ s.rows) × (s.emergency ≤ s.rows) × (s.service ≤ s.rows) × (s.ebi_mm < 1_000_000_000) };
 }
 
-// A sum of places, from one that is below the modulus.
+/// A sum of places, from one that is below the modulus.
 #[tactic(auto, using(crate::proofs::Counting::sum_reduced))]
 fn sum_of(sum_mm: u32, place_mm: i64) -> u32
     requires { sum_mm < 1_000_000_000 }
@@ -49,7 +49,7 @@ fn sum_of(sum_mm: u32, place_mm: i64) -> u32
     (sum % EBI_MODULUS) as u32
 }
 
-// Puts a word and a number as a line: at most 12 bytes more than the word.
+/// Puts a word and a number as a line: at most 12 bytes more than the word.
 fn put_line(word: &[u8], number: u32, into: &mut RowBuf)
     requires { length into.old + length word.now + 12 ≤ ROW_BYTES }
     ensures text { into.new ≡ into.old ++ count_text word.now number }

@@ -58,7 +58,7 @@ fn data_with_ample_memory(rt: HostRuntime) -> Result<(), Fail> {
     Ok(())
 }
 
-// A row with these flags and this EBI place.
+/// A row with these flags and this EBI place.
 fn row(covered: bool, eb: bool, sb: bool, ebi: Option<i64>) -> Row {
     Row {
         time: 0,

@@ -10,14 +10,14 @@ use Rattle.sdm_text.proofs.Between.{between_fits}
 use Rattle.sdm_run.proofs.LineFields.{bad_time, bad_front, bad_speed, good_line}
 use Rattle.sdm_run.proofs.flat_lines.take_line.Goals as goal
 
+pub returns-in_err-time-clause-refused : goal.returns-in_err-time-clause-refused
+returns-in_err-time-clause-refused c = rw c.from_residual.ensures (inl (bad_time c.args.line.now c.in_err-time.ensures.none))
+
+pub returns-in_err-front-clause-refused : goal.returns-in_err-front-clause-refused
+returns-in_err-front-clause-refused c = rw c.from_residual-in_err-front.ensures (inl (bad_front c.args.line.now _ _ c.in_ok-time.ensures.some c.in_err-front.ensures.none))
+
 pub returns-in_default-clause-refused : goal.returns-in_default-clause-refused
-returns-in_default-clause-refused c = inl (bad_time c.args.line.now c.in_default.ensures.none)
-
-pub returns-in_default-split_number-clause-refused : goal.returns-in_default-split_number-clause-refused
-returns-in_default-split_number-clause-refused c = inl (bad_front c.args.line.now _ _ c.in-Some.ensures.some c.in_default-split_number.ensures.none)
-
-pub returns-in_default-natural_in-clause-refused : goal.returns-in_default-natural_in-clause-refused
-returns-in_default-natural_in-clause-refused c = inl (bad_speed c.args.line.now _ _ c.in-Some.ensures.some _ _ c.in-Some-split_number.ensures.some c.in_default-natural_in.field-0 c.in_default-natural_in.ensures.fault)
+returns-in_default-clause-refused c = inl (bad_speed c.args.line.now _ _ c.in_ok-time.ensures.some _ _ c.in_ok-front.ensures.some c.in_default.field-0 c.in_default.ensures.fault)
 
 -- the values that the supervisor is handed are those of the line: `a` and `b` are the numbers of its time and its front after their casts
 line_read : (line rest speed : List ℕ) (t f a b place : ℤ) (n notches : ℕ) → BeginsWithNumberIn line (pos 0) (pos 100_000_000) t rest → BeginsWithNumberIn rest (negsuc 9_999_999) (pos 110_000_000) f speed →
@@ -34,11 +34,11 @@ same_front n low high =
 
 pub returns-in-Ok-cycle-clause-accepted : goal.returns-in-Ok-cycle-clause-accepted
 returns-in-Ok-cycle-clause-accepted c =
-    let time = same_time _ c.in-Some.ensures.range.0 c.in-Some.ensures.range.1 in
-    let front = same_front _ c.in-Some-split_number.ensures.range.0 c.in-Some-split_number.ensures.range.1 in
+    let time = same_time _ c.in_ok-time.ensures.range.0 c.in_ok-time.ensures.range.1 in
+    let front = same_front _ c.in_ok-front.ensures.range.0 c.in_ok-front.ensures.range.1 in
     record {
-      line = line_at (unsigned_abs (to_z w64 (of_z w64 c.in-Some.time))) c.of_mm-front.result c.of_mm_s-speed.result;
-      read = line_read _ _ _ _ _ _ _ _ _ _ c.in-Some.ensures.some c.in-Some-split_number.ensures.some c.in-Ok.ensures.value time front c.of_mm-front.ensures c.of_mm_s-speed.ensures;
+      line = line_at (unsigned_abs (to_z w64 (of_z w64 c.in_ok-time.time))) c.of_mm-front.result c.of_mm_s-speed.result;
+      read = line_read _ _ _ _ _ _ _ _ _ _ c.in_ok-time.ensures.some c.in_ok-front.ensures.some c.in-Ok.ensures.value time front c.of_mm-front.ensures c.of_mm_s-speed.ensures;
       in_time = c.in-Ok-cycle.ensures.in_time;
       row_is = c.in-Ok-cycle.ensures.row;
       after = c.in-Ok-cycle.ensures.after;
@@ -46,11 +46,11 @@ returns-in-Ok-cycle-clause-accepted c =
 
 pub returns-in-Err-clause-refused : goal.returns-in-Err-clause-refused
 returns-in-Err-clause-refused c =
-    let time = same_time _ c.in-Some.ensures.range.0 c.in-Some.ensures.range.1 in
-    let front = same_front _ c.in-Some-split_number.ensures.range.0 c.in-Some-split_number.ensures.range.1 in
+    let time = same_time _ c.in_ok-time.ensures.range.0 c.in_ok-time.ensures.range.1 in
+    let front = same_front _ c.in_ok-front.ensures.range.0 c.in_ok-front.ensures.range.1 in
     inr (
-      line_at (unsigned_abs (to_z w64 (of_z w64 c.in-Some.time))) c.of_mm-front.result c.of_mm_s-speed.result,
+      line_at (unsigned_abs (to_z w64 (of_z w64 c.in_ok-time.time))) c.of_mm-front.result c.of_mm_s-speed.result,
       c.in-Err.field-0,
-      line_read _ _ _ _ _ _ _ _ _ _ c.in-Some.ensures.some c.in-Some-split_number.ensures.some c.in-Ok.ensures.value time front c.of_mm-front.ensures c.of_mm_s-speed.ensures,
+      line_read _ _ _ _ _ _ _ _ _ _ c.in_ok-time.ensures.some c.in_ok-front.ensures.some c.in-Ok.ensures.value time front c.of_mm-front.ensures c.of_mm_s-speed.ensures,
       c.in-Err.ensures.time_back,
     )

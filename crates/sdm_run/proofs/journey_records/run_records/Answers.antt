@@ -1,14 +1,12 @@
 -- Each turn takes the first record that is left, or ends the run with the outcome of what is left.
-use Rattle.std.proofs.Common.{◌≡◌, suc, ◌+◌, Bool, Ok, ap, refl, subst, ◌∙◌, arith}
-use Rattle.std.specs.Prelude.{Result}
-use Rattle.sdm_report.specs.declared.outcome.Outcome.{Outcome}
-use Rattle.sdm_run.specs.RunParts.{IsTurnAnswer}
-use Rattle.sdm_run.proofs.RunTexts.{all_left_of, left_alone, took_more, cut_off}
+use Rattle.std.proofs.Common.{◌≡◌, suc, ◌+◌, refl, arith}
+use Rattle.sdm_run.proofs.OutputLeft.{all_left, cut_off, wrote}
+use Rattle.sdm_run.proofs.RunTexts.{left_alone, records_not_before}
 use Rattle.sdm_run.proofs.journey_records.run_records.Goals as goal
 
 pub records-init : goal.records-init
 records-init g c = record {
-  left = rw c.begin-records.ensures.all (all_left_of _ _ 1 _ _);
+  left = rw c.begin.ensures.all (all_left _ _);
   from_1 = omega arith;
   counted = omega arith;
   later = omega arith;
@@ -17,16 +15,17 @@ records-init g c = record {
 
 pub records-preserved : goal.records-preserved
 records-preserved g c =
-    let step = subst (λ (r : Result Bool Outcome). IsTurnAnswer (g.T.Teller.tell c.args.teller.now) (g.O.Sink.taken c.records.out) (g.O.Sink.taken c.turn.new.out) c.records.number c.records.supervisor c.turn.new.supervisor c.records.records.left c.turn.new.records.left r)
-    (c.in-Ok-true.is ∙ ap Ok c.in-Ok-true.field-0-test) c.turn.ensures.turn in
+    let step = c.in-Continue.ensures.turn in
     let one : c.records.number + 1 ≡ suc c.records.number = omega arith in
     record {
-      left = rw one (took_more _ _ _ _ _ _ _ _ c.records.invariant.left _ _ step);
+      left = rw one (wrote _ _ _ _ _ c.records.invariant.left _ _ step.first step.whole_lines step.taken);
       from_1 = omega arith;
       counted = omega (arith, step.counted);
       later = omega (arith, c.records.invariant.later, c.turn.ensures.later);
-      due = λ is. left_alone _ _ _ _ _ c.records.invariant.due (λ failed. cc (c.in-Ok-true.is, failed)) (c.turn.ensures.due is);
+      due = λ is. left_alone _ _ _ _ _ c.records.invariant.due (λ failed. cc (c.in-Continue.is, failed)) (c.turn.ensures.due is);
     }
 
-pub returns-in-Err-clause-answer : goal.returns-in-Err-clause-answer
-returns-in-Err-clause-answer g c = cut_off _ _ _ _ _ _ _ _ c.records.invariant.left c.in-Err.outcome c.in-Err.ensures.possible c.in-Err.ensures.turn
+pub returns-in-Break-clause-answer : goal.returns-in-Break-clause-answer
+returns-in-Break-clause-answer g c =
+    let outcome = c.in-Break.outcome in
+    cut_off _ _ _ _ _ c.records.invariant.left outcome (records_not_before outcome c.in-Break.ensures.possible) c.in-Break.ensures.turn

@@ -1,19 +1,21 @@
--- So far out took the rows of the records before, and the records that are left give the rest of the output.
+-- So far out took what is told of the turns before, and the records that are left give the rest of the output.
 use Rattle.std.proofs.Common.{◌≡◌, ◌≤◌, false, length}
 use Rattle.sdm_events.specs.Journey.{records_of}
 use Rattle.sdm_run.specs.Journeys.{output_of_records}
-use Rattle.sdm_run.proofs.RunTexts.{IsLeftOf}
+use Rattle.sdm_run.proofs.OutputLeft.{IsLeftOf}
 use Rattle.sdm_run.proofs.journey_records.run_records.Given as goal
 
 abbrev pub invariant-records : goal.invariant-records
 invariant-records g l = record {
-  left : IsLeftOf (g.T.Teller.tell l.fn.teller) (g.O.Sink.taken l.fn.out) (g.O.Sink.taken l.out) (output_of_records (g.T.Teller.tell l.fn.teller) 1 l.fn.supervisor (records_of l.bytes)) l.number l.supervisor l.records.left;
+  left : IsLeftOf (g.O.Sink.taken l.fn.out) (g.O.Sink.taken l.out)
+      (output_of_records (g.T.Teller.tell l.fn.teller) 1 l.fn.supervisor (records_of l.bytes))
+      (output_of_records (g.T.Teller.tell l.fn.teller) l.number l.supervisor l.walk.records.left);
   from_1 : 1 ≤ l.number;
   counted : l.number ≤ 100_001;
   later : g.O.Sink.faults l.fn.out ≤ g.O.Sink.faults l.out;
-  due : l.texts.is_flush_due ≡ false → l.out ≡ l.fn.out;
+  due : l.walk.is_flush_due ≡ false → l.out ≡ l.fn.out;
 }
 
 -- each turn takes a record
 abbrev pub decreases-records : goal.decreases-records
-decreases-records g l = length l.records.left
+decreases-records g l = length l.walk.records.left

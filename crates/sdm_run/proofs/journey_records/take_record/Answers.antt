@@ -1,8 +1,9 @@
 -- The event that was taken is that of the record.
-use Rattle.std.proofs.Common.{◌∙◌, sym}
+use Rattle.std.proofs.Common.{◌≡◌, Ok, arith, ◌∙◌, sym}
 use Rattle.sdm_run.proofs.RunTexts.{told_record, where_accepted}
 use Rattle.sdm_run.proofs.journey_records.take_record.Goals as goal
 
-pub returns-in-Ok-clause-told : goal.returns-in-Ok-clause-told
-returns-in-Ok-clause-told g c =
-    where_accepted c.take.result _ _ (told_record _ _ _ c.args.number _ c.in-Ok.event _ c.if-number-gt-MOST_RECORDS.false (sym c.event_of.ensures.value ∙ c.in-Ok.is)) c.take.ensures.told
+pub returns-clause-told : goal.returns-clause-told
+returns-clause-told g c =
+    let is : c.event_of.result ≡ Ok c.in_ok-event.event = grind (arith, c.in_ok-event.ensures.cases) in
+    where_accepted c.take.result _ _ (told_record _ _ _ c.args.number _ c.in_ok-event.event _ c.if-number-gt-MOST_RECORDS.false (sym c.event_of.ensures.value ∙ is)) c.take.ensures.told

@@ -1,8 +1,8 @@
 -- The parts of the input answer for the whole of it.
 use Rattle.std.proofs.Common.{◌≡◌, ◌-◌, sym, take, drop, length, arith}
 use Rattle.std.proofs.lemmas.List.{take_all, length-drop}
-use Rattle.sdm_run.proofs.RunAnswers.{recorded, refused, refused_not_before, records_not_before, records_possible}
-use Rattle.sdm_run.proofs.RunTexts.{not_first}
+use Rattle.sdm_run.proofs.RunAnswers.{recorded, refused, refused_not_before, records_possible}
+use Rattle.sdm_run.proofs.RunTexts.{not_first, records_not_before}
 use Rattle.sdm_run.proofs.journey_run.run_journey.Goals as goal
 
 pub returns-in-Ok-clause-answer : goal.returns-in-Ok-clause-answer
