@@ -7,7 +7,7 @@ ghost use Rattle.sdm_curve.specs.Maps.{map_data, handed_in, AreStarts, IsMapData
 ghost use Rattle.sdm_curve.specs.Integrals.{AreRates, AreSums, IsSummed, segment_start, slope_of, sum_of};
 ghost use Rattle.sdm_curve.specs.Faults.{IsMapFault};
 
-use crate::checks::fault_of;
+use crate::checks::check;
 use crate::faults::CurveFault;
 use sdm_num::Speed;
 use std::alloc::{AllocError, Global};
@@ -147,9 +147,7 @@ impl BandMap {
         ensures accepted { IfOk result (λ _. AreAccepted (map_data q uppers.now starts.now slopes.now)) }
         ensures fault { IfErr result (IsMapFault (map_data q uppers.now starts.now slopes.now)) }
     {
-        if let Some(fault) = fault_of(q, uppers, starts, slopes) {
-            return Err(fault);
-        }
+        check(q, uppers, starts, slopes)?;
         kept(alloc, q, uppers, starts, slopes).map_err(|_| CurveFault::Memory)
     }
 
@@ -267,14 +265,5 @@ impl BandMap {
         ensures small { result ≤ 10 ^ 36 }
     {
         self.sums[band * self.segments() + i]
-    }
-
-    /// The high word of that energy, by which a segment is searched.
-    pub(crate) fn key(&self, band: usize, i: usize) -> u64
-        requires known_band { band < bands_of self.now.uppers }
-        requires known { i < length self.now.starts }
-        ensures { result ≡ sum_of self.now band i / 2 ^ 64 }
-    {
-        (self.sum(band, i) >> 64) as u64
     }
 }
