@@ -16,14 +16,14 @@ const LEAST_SLOPE: i64 = 100_000_000;
 /// How many times the least slope of a band the greatest may be. (own)
 const VARIATION: i128 = 16;
 
-// The least and the greatest of some slopes.
+/// The least and the greatest of some slopes.
 #[derive(Clone, Copy)]
 struct SlopeRange {
     least: i64,
     greatest: i64,
 }
 
-// The index of the first slope that is too weak.
+/// The index of the first slope that is too weak.
 fn first_weak(q: u32, slopes: &[i64]) -> Option<usize>
     requires high_q { q ≤ 11_730 }
     requires bounded { (k : ℕ) → k < length slopes.now → IsSlopeBounded (slice_index_or slopes.now k (pos 0)) }
@@ -39,7 +39,7 @@ fn first_weak(q: u32, slopes: &[i64]) -> Option<usize>
     None
 }
 
-// The range of one slope or more.
+/// The range of one slope or more.
 fn range_of(slopes: &[i64]) -> SlopeRange
     requires { 0 < length slopes.now }
     ensures { IsRangeOf slopes.now result.least result.greatest }
@@ -53,14 +53,14 @@ fn range_of(slopes: &[i64]) -> SlopeRange
     SlopeRange { least, greatest }
 }
 
-// A band and the range of its slopes.
+/// A band and the range of its slopes.
 #[derive(Clone, Copy)]
 struct BandRange {
     band: usize,
     range: SlopeRange,
 }
 
-// The first band whose slopes differ too much.
+/// The first band whose slopes differ too much.
 fn first_varied(q: u32, uppers: &[Speed], starts: &[i32], slopes: &[i64]) -> Option<BandRange>
     requires { IsMapData (map_data q uppers.now starts.now slopes.now) }
     ensures found { IfSome result (λ r. IsFirstVariedBand (map_data q uppers.now starts.now slopes.now) r.band r.range.least r.range.greatest) }

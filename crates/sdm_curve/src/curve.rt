@@ -35,7 +35,7 @@ impl Model for AskedSpeed {
     ghost inverse = { λ a. record { speed = a.speed; band = a.band; energy = a.energy } };
 }
 
-// The first band whose upper speed is not below the speed, else the last band.
+/// The first band whose upper speed is not below the speed, else the last band.
 fn band_of(map: &BandMap, v: Speed) -> usize
     ensures value { IsBandOf map.now.uppers v result }
     ensures usable { IsUsable (meaning_of map.now) }
@@ -94,7 +94,7 @@ impl Model for Curve {
     ghost inverse = { λ c. record { foot = c.place; speed = c.speed; knots = c.knots } };
 }
 
-// The knots of the curve with this foot and foot speed, from its own band back and on.
+/// The knots of the curve with this foot and foot speed, from its own band back and on.
 fn knots_of(map: &BandMap, foot: Place, speed: Speed) -> [Knot; MOST_BANDS]
     requires { IsFootPlace foot }
     ensures made { IsMadeFrom (meaning_of map.now) (record { place = foot; speed = speed; knots = result }) }

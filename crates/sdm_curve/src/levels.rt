@@ -27,7 +27,7 @@ impl Spot {
     }
 }
 
-// The segment that holds a grain.
+/// The segment that holds a grain.
 fn segment_of_grain(map: &BandMap, grain: i128) -> usize
     ensures { IsPlaceIn map.now result grain }
 {
@@ -57,7 +57,7 @@ pub fn spot_at(map: &BandMap, place: Place) -> Spot
     }
 }
 
-// A segment, found by high words alone: the next one begins past every level with this high word.
+/// A segment, found by high words alone: the next one begins past every level with this high word.
 fn segment_of_key(map: &BandMap, band: usize, key: u64) -> usize
     requires known_band { band < bands_of map.now.uppers }
     ensures known { result < length map.now.starts }
@@ -76,7 +76,7 @@ fn segment_of_key(map: &BandMap, band: usize, key: u64) -> usize
     low
 }
 
-// The segment that holds the last grain at a level of a band.
+/// The segment that holds the last grain at a level of a band.
 fn segment_of_level(map: &BandMap, band: usize, level: u128) -> usize
     requires known_band { band < bands_of map.now.uppers }
     ensures { IsLevelIn map.now band result level }
@@ -114,7 +114,7 @@ pub fn last_at_most(map: &BandMap, band: usize, level: i128) -> Spot
     }
 }
 
-// The energy of a distance of so many grains, with the distance's sign.
+/// The energy of a distance of so many grains, with the distance's sign.
 fn energy_over(rate: u64, distance: i128) -> i128
     requires rate { rate ≤ 27 * 10 ^ 15 }
     requires low { neg_ℤ (pos (2 ^ 65)) ≤ℤ distance }
