@@ -1,6 +1,6 @@
 -- The flat supervisor: its one slope is usable, so its curve has the laws of curves; its commands are triggers on the curve's
 -- place, and a motion from a covered line is held by the curve.
-use Rattle.std.proofs.Common.{◌≡◌, ℕ, ℤ, pos, neg_ℤ, false, nat_lt, [], ◌∷◌, ◌<◌, ◌*◌, ◌+ℤ◌, refl, subst, sym, arith}
+use Rattle.std.proofs.Common.{◌≡◌, ℕ, ℤ, pos, neg_ℤ, false, nat_lt, ◌∷◌, ◌<◌, ◌*◌, ◌+ℤ◌, refl, subst, sym, arith}
 use Rattle.std.proofs.lemmas.Int.{ints}
 use Rattle.std.proofs.lemmas.Bool.{not-true}
 use Rattle.std.proofs.lemmas.List.Elements.{All-weaker}

@@ -1,14 +1,14 @@
 -- The slack of rounding: over each band a place that is `e` early gets at most `k * e` early by the law of one band, and
 -- rounding down adds less than one grain.
-use Rattle.std.proofs.Common.{◌≡◌, ℕ, ℤ, zero, suc, pos, ◌+◌, ◌-◌, ◌*◌, ◌<◌, ◌≤◌, ◌+ℤ◌, ◌*ℤ◌, ◌≤ℤ◌, ◌<ℤ◌, length, max, arith, refl, sym, inl, inr}
+use Rattle.std.proofs.Common.{◌≡◌, ℕ, ℤ, zero, suc, pos, ◌+◌, ◌*◌, ◌<◌, ◌≤◌, ◌+ℤ◌, ◌*ℤ◌, ◌≤ℤ◌, ◌<ℤ◌, max, arith, refl, sym, inl, inr}
 use Rattle.std.proofs.lemmas.Int.{ints}
 use Rattle.std.proofs.lemmas.Bool.{cases_lt}
 use Rattle.std.proofs.Math.Nat.{mul-le-mul_left}
 use Rattle.sdm_num.specs.Fractions.{Fraction, whole, floor, more}
 use Rattle.sdm_num.specs.Bounds.{IsEarlyFor}
-use Rattle.sdm_num.proofs.Ints.{scale-+ℤ, scale-≤}
+use Rattle.sdm_num.proofs.Ints.{scale-+ℤ}
 use Rattle.sdm_num.proofs.Floors.{floor_low, floor_high}
-use Rattle.sdm_num.proofs.Order.{at_most_refl, at_most_trans, at_most_in}
+use Rattle.sdm_num.proofs.Order.{at_most_trans, at_most_in}
 use Rattle.sdm_rules.specs.Slopes.{Slopes, IsUsable, bands_of, most_bands}
 use Rattle.sdm_rules.specs.Curves.{as_is, to_grain, place_at, exact_at, exact, stepped, slack_after, most_slack}
 use Rattle.sdm_laws.specs.CurveLaws.{slack_of, IsRounded}
