@@ -52,13 +52,15 @@ module _ (on : Slopes) (usable : IsUsable on) (foot : ℤ) (w v : ℕ) where
       record {
         known = omega arith;
         below = h.below;
-        same = λ left e. rw one at (ap floor (sym (climb_skip to_grain on 1 left band (whole p) u (v * v) le)) ∙ h.same (suc left) (omega arith));
+        same = λ left e. rw one at (ap floor (sym (climb_skip to_grain on 1 left band (whole p) u (v * v) le))
+            ∙ h.same (suc left) (omega arith));
         low = omega (arith, ints, h.low);
         high = h.high;
       }
 
   -- the band is walked to its border `b`
-  pub climb_through : (band : ℕ) (p to : ℤ) (u b : ℕ) → band < length on.uppers → b ≡ upper_square on 1 band → u < b → b < v * v →
+  pub climb_through : (band : ℕ) (p to : ℤ) (u b : ℕ) → band < length on.uppers → b ≡ upper_square on 1 band → u < b →
+      b < v * v →
       IsArcBack on band p to (grain_energy on (b - u)) → p ≤ℤ (to +ℤ pos (1_852 * (b - u) + 1)) →
       IsClimb on foot w v band p u → IsClimb on foot w v (suc band) to b
   climb_through band p to u b lt b_is above further arc near h =
@@ -68,7 +70,8 @@ module _ (on : Slopes) (usable : IsUsable on) (foot : ℤ) (w v : ℕ) where
         known = omega arith;
         below = further;
         same = λ left e.
-            let step = climb_knot on left band p arc.distance u (v * v) (usable.positive band (omega arith)) (omega arith) (omega arith) (rw b_is at arc.knot) in
+            let step = climb_knot on left band p arc.distance u (v * v) (usable.positive band (omega arith))
+            (omega arith) (omega arith) (rw b_is at arc.knot) in
             rw (one, to_is, sym b_is) at (ap floor (sym step) ∙ h.same (suc left) (omega arith));
         low = omega (arith, ints, h.low, near);
         high = omega (arith, ints, h.high, arc.place);
@@ -83,7 +86,8 @@ module _ (on : Slopes) (usable : IsUsable on) (foot : ℤ) (w v : ℕ) where
       let end = knot_back on band p arc.distance (v * v - u) (usable.positive band h.known) arc.knot in
       to_is ∙ (sym end ∙ elim (cases_lt band (length on.uppers)) [
         | inl inner ↦
-            ap floor (sym (climb_stop to_grain on 1 (length on.uppers - suc band) band (whole p) u (v * v) (within inner).0 (within inner).1))
+            ap floor (sym (climb_stop to_grain on 1 (length on.uppers - suc band) band (whole p) u (v * v)
+            (within inner).0 (within inner).1))
             ∙ h.same (suc (length on.uppers - suc band)) (omega arith)
         | inr last ↦ (let none : band + 0 ≡ length on.uppers = omega (arith, h.known) in h.same 0 none)
       ])
@@ -96,10 +100,18 @@ module _ (on : Slopes) (usable : IsUsable on) (foot : ℤ) (w v : ℕ) where
       let place : pos 1 *ℤ foot ≡ foot = omega (arith, ints) in
       let square : 1 * (w * w) ≡ w * w = omega arith in
       let down = rw (place, square) at (ap floor (place_down to_grain on 1 foot w (v * v) (omega arith))) in
-      record { known = omega arith; above = lt; same = rw all (sym down); low = omega (arith, ints); high = omega (arith, ints) }
+      record {
+        known = omega arith;
+        above = lt;
+        same = rw all (sym down);
+        low = omega (arith, ints);
+        high =
+            omega (arith, ints);
+      }
 
   -- the band lies above the square
-  pub descent_past : (lower : ℕ) (p : ℤ) (u : ℕ) → u ≤ upper_square on 1 lower → IsDescent on foot w v (suc lower) p u →
+  pub descent_past : (lower : ℕ) (p : ℤ) (u : ℕ) → u ≤ upper_square on 1 lower →
+      IsDescent on foot w v (suc lower) p u →
       IsDescent on foot w v lower p u
   descent_past lower p u le h = record {
     known = omega (arith, h.known);
@@ -115,7 +127,8 @@ module _ (on : Slopes) (usable : IsUsable on) (foot : ℤ) (w v : ℕ) where
       IsDescent on foot w v (suc lower) p u → IsDescent on foot w v lower to b
   descent_through lower p to u b b_is below further arc near h =
       let to_is : p +ℤ pos arc.distance ≡ to = sym arc.place in
-      let step = descend_knot on lower p arc.distance u (v * v) (usable.positive (suc lower) h.known) (omega arith) (omega arith) (rw b_is at arc.knot) in
+      let step = descend_knot on lower p arc.distance u (v * v) (usable.positive (suc lower) h.known) (omega arith)
+      (omega arith) (rw b_is at arc.knot) in
       record {
         known = omega (arith, h.known);
         above = further;
@@ -132,5 +145,6 @@ module _ (on : Slopes) (usable : IsUsable on) (foot : ℤ) (w v : ℕ) where
       arc.place ∙ (sym (knot_forward on 0 p arc.distance (u - v * v) (usable.positive 0 h.known) arc.knot) ∙ h.same)
   descent_end (suc lower) p to u within arc h =
       let border = within lower refl in
-      arc.place ∙ (sym (knot_forward on (suc lower) p arc.distance (u - v * v) (usable.positive (suc lower) h.known) arc.knot)
+      arc.place ∙ (sym (knot_forward on (suc lower) p arc.distance (u - v * v)
+      (usable.positive (suc lower) h.known) arc.knot)
       ∙ (ap floor (sym (descend_stop to_grain on 1 lower (whole p) u (v * v) border.0 border.1)) ∙ h.same))

@@ -29,14 +29,16 @@ no_energy : (on : Slopes) (a b : ℕ) → a ≡ b → grain_energy on (a - b) �
 no_energy on a b same = let none : a - b ≡ 0 = omega arith in rw none (omega arith)
 
 -- the band of a greater speed is no lower
-band_no_lower : (uppers : List ℕ) (v w band own : ℕ) → v ≤ w → IsBandOf uppers v band → IsBandOf uppers w own → band ≤ own
+band_no_lower : (uppers : List ℕ) (v w band own : ℕ) → v ≤ w → IsBandOf uppers v band → IsBandOf uppers w own →
+    band ≤ own
 band_no_lower uppers v w band own le h k =
     elim (cases_lt own band) [
       | inl past ↦ (let known = h.known in absurd (omega (arith, h.above own past, k.within (omega arith))))
       | inr ok ↦ ok
     ]
 
-module _ (m : SlopeMap) (curve : BrakeCurve) (kept : IsKeptMap (handed_in m)) (h : IsMadeFrom (meaning_of m) curve) where
+module _ (m : SlopeMap) (curve : BrakeCurve) (kept : IsKeptMap (handed_in m))
+    (h : IsMadeFrom (meaning_of m) curve) where
   abbrev on : Slopes
   on = meaning_of m
 
@@ -70,7 +72,9 @@ module _ (m : SlopeMap) (curve : BrakeCurve) (kept : IsKeptMap (handed_in m)) (h
 
       beyond : (band : ℕ) → h.own < band → band < length m.uppers → speed_in band ≤ upper band
       beyond zero past known = absurd (omega arith)
-      beyond (suc below) past known = omega (arith, (h.back below (omega arith) (omega arith)).speed, upper_rises below (suc below) (omega arith) known)
+      beyond (suc below) past known =
+          let knot = h.back below (omega arith) (omega arith) in
+          omega (arith, knot.speed, upper_rises below (suc below) (omega arith) known)
 
   -- the knot of the band of a speed above the foot speed is slower
   knot_before : (v band : ℕ) → curve.speed < v → h.own ≤ band → IsBandOf m.uppers v band → speed_in band < v
@@ -82,7 +86,8 @@ module _ (m : SlopeMap) (curve : BrakeCurve) (kept : IsKeptMap (handed_in m)) (h
     where
       beyond : (band : ℕ) → h.own < band → IsBandOf m.uppers v band → speed_in band < v
       beyond zero past own = absurd (omega arith)
-      beyond (suc below) past own = let known = own.known in omega (arith, (h.back below (omega arith) (omega arith)).speed, own.above below (omega arith))
+      beyond (suc below) past own = let known = own.known in
+          omega (arith, (h.back below (omega arith) (omega arith)).speed, own.above below (omega arith))
 
   -- the knot of a band below the foot's is faster than a speed that is below the foot speed and the border above the band
   knot_past : (band v : ℕ) → band ≤ h.own → v < curve.speed → (band < h.own → v < upper band) → v < speed_in band
@@ -94,11 +99,15 @@ module _ (m : SlopeMap) (curve : BrakeCurve) (kept : IsKeptMap (handed_in m)) (h
 
   -- ---- back
 
-  climb_to_own : (v : ℕ) → curve.speed < v → (band : ℕ) → band ≤ h.own → IsClimb on curve.place curve.speed v band curve.place (curve.speed * curve.speed)
+  -- bands below the foot's own are passed over
+  climb_to_own : (v : ℕ) → curve.speed < v → (band : ℕ) → band ≤ h.own →
+      IsClimb on curve.place curve.speed v band curve.place (curve.speed * curve.speed)
   climb_to_own v lt zero le = climb_begin on usable curve.place curve.speed v (square-< curve.speed v lt)
   climb_to_own v lt (suc band) le =
       let known = h.own_is.known in
-      climb_past on usable curve.place curve.speed v band _ _ (omega arith) (omega (arith, square-≤ (upper band) curve.speed (omega (arith, h.own_is.above band le)))) (climb_to_own v lt band (omega arith))
+      climb_past on usable curve.place curve.speed v band _ _ (omega arith)
+      (omega (arith, square-≤ (upper band) curve.speed (omega (arith, h.own_is.above band le))))
+      (climb_to_own v lt band (omega arith))
 
   -- the walk comes to the knot of the band
   abbrev IsClimbed : ℕ → ℕ → Type 0
@@ -107,7 +116,9 @@ module _ (m : SlopeMap) (curve : BrakeCurve) (kept : IsKeptMap (handed_in m)) (h
   climbed_to_own : (v : ℕ) → curve.speed < v → IsClimbed v h.own
   climbed_to_own v lt = rw (h.foot_place, h.foot_speed) (climb_to_own v lt h.own (omega arith))
 
-  climbed_more : (v band : ℕ) → h.own ≤ band → band < length m.uppers → upper band < v → IsClimbed v band → IsClimbed v (suc band)
+  -- a knot at the border itself adds no distance, and its band is passed over
+  climbed_more : (v band : ℕ) → h.own ≤ band → band < length m.uppers → upper band < v → IsClimbed v band →
+      IsClimbed v (suc band)
   climbed_more v band ge known above at =
       let u = speed_in band in
       let b = upper band in
@@ -115,23 +126,33 @@ module _ (m : SlopeMap) (curve : BrakeCurve) (kept : IsKeptMap (handed_in m)) (h
       let arc = rw knot.speed at knot.arc in
       let border : b * b ≡ upper_square on 1 band = omega arith in
       elim (cases_lt u b) [
-        | inl below ↦ rw knot.speed (climb_through on usable curve.place curve.speed v band (place_in band) (place_in (suc band)) (u * u) (b * b) known border (square-< u b below) (square-< b v above) arc (back_near m band _ _ _ kept (omega arith) arc) at)
+        | inl below ↦ rw knot.speed (climb_through on usable curve.place curve.speed v band (place_in band)
+            (place_in (suc band)) (u * u) (b * b) known border (square-< u b below) (square-< b v above) arc
+            (back_near m band _ _ _ kept (omega arith) arc) at)
         | inr ge' ↦ (
             let same : u ≡ b = omega (arith, knot_within band ge known) in
-            let stays = no_distance on band (place_in band) (place_in (suc band)) _ (no_energy on (b * b) (u * u) (rw same refl)) arc in
-            rw (knot.speed, sym same, stays) (climb_past on usable curve.place curve.speed v band (place_in band) (u * u) known (rw (sym border, same) (omega arith)) at))
+            let stays = no_distance on band (place_in band) (place_in (suc band)) _
+            (no_energy on (b * b) (u * u) (rw same refl)) arc in
+            rw (knot.speed, sym same, stays)
+            (climb_past on usable curve.place curve.speed v band (place_in band) (u * u) known
+            (rw (sym border, same) (omega arith)) at))
       ]
 
-  climbed : (v : ℕ) → curve.speed < v → (band : ℕ) → h.own ≤ band → band ≤ length m.uppers → ((i : ℕ) → i < band → upper i < v) → IsClimbed v band
+  -- so it comes to each knot whose borders lie below the speed
+  climbed : (v : ℕ) → curve.speed < v → (band : ℕ) → h.own ≤ band → band ≤ length m.uppers →
+      ((i : ℕ) → i < band → upper i < v) → IsClimbed v band
   climbed v lt zero le known above = let e : h.own ≡ 0 = omega arith in rw e at (climbed_to_own v lt)
   climbed v lt (suc band) le known above =
       elim (cases_lt band h.own) [
         | inl last ↦ (let e : h.own ≡ suc band = omega arith in rw e at (climbed_to_own v lt))
-        | inr ge ↦ climbed_more v band ge (omega arith) (above band (omega arith)) (climbed v lt band ge (omega arith) (λ i l. above i (omega arith)))
+        | inr ge ↦ climbed_more v band ge (omega arith) (above band (omega arith))
+            (climbed v lt band ge (omega arith) (λ i l. above i (omega arith)))
       ]
 
+  -- from the knot of the speed's band it ends at the stepped place
   ends_back : (v band : ℕ) (to : ℤ) → curve.speed < v → v ≤ top_speed → IsBandOf m.uppers v band → h.own ≤ band →
-      IsArcBack on band (place_in band) to (grain_energy on (v * v - speed_in band * speed_in band)) → IsStepped m curve v to
+      IsArcBack on band (place_in band) to (grain_energy on (v * v - speed_in band * speed_in band)) →
+      IsStepped m curve v to
   ends_back v band to lt slow own le arc =
       let known = own.known in
       let few = usable.few in
@@ -140,21 +161,29 @@ module _ (m : SlopeMap) (curve : BrakeCurve) (kept : IsKeptMap (handed_in m)) (h
       let near = back_near m band _ _ _ kept (omega arith) arc in
       record {
         value = climb_end on usable curve.place curve.speed v band (place_in band) to _
-            (λ inner. (omega (arith, square-< (speed_in band) (upper band) (omega (arith, own.within inner))), omega (arith, square-≤ v (upper band) (own.within inner)))) arc at;
+            (λ inner. (
+              omega (arith, square-< (speed_in band) (upper band) (omega (arith, own.within inner))),
+              omega (arith, square-≤ v (upper band) (own.within inner)),
+            )) arc at;
         not_before = omega (arith, ints, at.low, at.below, near, square-≤ v top_speed slow);
         not_past = omega (arith, ints, at.high, arc.place);
       }
 
   -- ---- on
 
+  -- bands above the foot's own are passed over
   down_to_own : (v : ℕ) → v < curve.speed → (k band : ℕ) → band + k ≡ length m.uppers → h.own ≤ band →
       IsDescent on curve.place curve.speed v band curve.place (curve.speed * curve.speed)
-  down_to_own v lt zero band all le = descent_begin on usable curve.place curve.speed v band (omega arith) (square-< v curve.speed lt)
+  down_to_own v lt zero band all le = descent_begin on usable curve.place curve.speed v band (omega arith)
+      (square-< v curve.speed lt)
   down_to_own v lt (suc k) band all le =
       let low = h.own_is.within (omega arith) in
       let rise = usable.rising h.own band le (omega arith) in
-      descent_past on usable curve.place curve.speed v band _ _ (omega (arith, square-≤ curve.speed (upper band) (omega arith))) (down_to_own v lt k (suc band) (omega arith) (omega arith))
+      descent_past on usable curve.place curve.speed v band _ _
+      (omega (arith, square-≤ curve.speed (upper band) (omega arith)))
+      (down_to_own v lt k (suc band) (omega arith) (omega arith))
 
+  -- the walk comes to the knot of the band
   abbrev IsDescended : ℕ → ℕ → Type 0
   IsDescended v band = IsDescent on curve.place curve.speed v band (place_in band) (speed_in band * speed_in band)
 
@@ -163,7 +192,9 @@ module _ (m : SlopeMap) (curve : BrakeCurve) (kept : IsKeptMap (handed_in m)) (h
       let known = h.own_is.known in
       rw (h.foot_place, h.foot_speed) (down_to_own v lt (length m.uppers - h.own) h.own (omega arith) (omega arith))
 
-  descended : (v : ℕ) → v < curve.speed → (k band : ℕ) → band + k ≡ h.own → ((i : ℕ) → band ≤ i → i < h.own → v < upper i) → IsDescended v band
+  -- so it comes to each knot whose borders lie above the speed
+  descended : (v : ℕ) → v < curve.speed → (k band : ℕ) → band + k ≡ h.own →
+      ((i : ℕ) → band ≤ i → i < h.own → v < upper i) → IsDescended v band
   descended v lt zero band all past = let e : h.own ≡ band = omega arith in rw e at (descended_to_own v lt)
   descended v lt (suc k) band all past =
       let u = speed_in (suc band) in
@@ -172,13 +203,18 @@ module _ (m : SlopeMap) (curve : BrakeCurve) (kept : IsKeptMap (handed_in m)) (h
       let at = descended v lt k (suc band) (omega arith) (λ i l n. past i (omega arith) n) in
       let knot = h.ahead band (omega arith) in
       let arc = rw knot.speed at knot.arc in
-      let above = knot_past (suc band) b (omega arith) (h.own_is.above band (omega arith)) (λ inner. upper_rises band (suc band) (omega arith) (omega arith)) in
-      rw knot.speed (descent_through on usable curve.place curve.speed v band (place_in (suc band)) (place_in band) (u * u) (b * b) (omega arith) (square-< b u above) (square-< v b (past band (omega arith) (omega arith))) arc (on_near m (suc band) _ _ _ kept (omega arith) arc) at)
+      let above = knot_past (suc band) b (omega arith) (h.own_is.above band (omega arith))
+      (λ inner. upper_rises band (suc band) (omega arith) (omega arith)) in
+      rw knot.speed (descent_through on usable curve.place curve.speed v band (place_in (suc band)) (place_in band)
+      (u * u) (b * b) (omega arith) (square-< b u above)
+      (square-< v b (past band (omega arith) (omega arith))) arc
+      (on_near m (suc band) _ _ _ kept (omega arith) arc) at)
 
   -- in a band whose upper speed is above the speed, or that is the foot's
   ends_on : (v band : ℕ) (to : ℤ) → v < curve.speed → curve.speed ≤ top_speed → band ≤ h.own →
       ((i : ℕ) → band ≤ i → i < h.own → v < upper i) → ((i : ℕ) → i < band → upper i ≤ v) →
-      IsArcOn on band (place_in band) to (grain_energy on (speed_in band * speed_in band - v * v)) → IsStepped m curve v to
+      IsArcOn on band (place_in band) to (grain_energy on (speed_in band * speed_in band - v * v)) →
+      IsStepped m curve v to
   ends_on v band to lt slow le past below arc =
       let known = h.own_is.known in
       let at = descended v lt (h.own - band) band (omega arith) past in
@@ -186,7 +222,10 @@ module _ (m : SlopeMap) (curve : BrakeCurve) (kept : IsKeptMap (handed_in m)) (h
       let above = knot_past band v le lt (λ inner. past band (omega arith) inner) in
       record {
         value = descent_end on usable curve.place curve.speed v band (place_in band) to _
-            (λ lower e. (let border = below lower (omega arith) in (omega (arith, square-< (upper lower) (speed_in band) (omega arith)), omega (arith, square-≤ (upper lower) v border)))) arc at;
+            (λ lower e. (let border = below lower (omega arith) in (
+              omega (arith, square-< (upper lower) (speed_in band) (omega arith)),
+              omega (arith, square-≤ (upper lower) v border),
+            ))) arc at;
         not_before = omega (arith, ints, at.low, arc.place);
         not_past = omega (arith, ints, at.high, at.above, near, square-≤ curve.speed top_speed slow);
       }
@@ -195,7 +234,8 @@ module _ (m : SlopeMap) (curve : BrakeCurve) (kept : IsKeptMap (handed_in m)) (h
 
   -- at a speed below that of its band's knot
   stepped_on : (v band : ℕ) (to : ℤ) → curve.speed ≤ top_speed → IsBandOf m.uppers v band → v < speed_in band →
-      IsArcOn on band (place_in band) to (grain_energy on (speed_in band * speed_in band - v * v)) → IsStepped m curve v to
+      IsArcOn on band (place_in band) to (grain_energy on (speed_in band * speed_in band - v * v)) →
+      IsStepped m curve v to
   stepped_on v band to slow own lt arc =
       let slower = slower_than_foot in
       let le = band_no_lower m.uppers v curve.speed band h.own (omega arith) own h.own_is in
@@ -212,16 +252,21 @@ module _ (m : SlopeMap) (curve : BrakeCurve) (kept : IsKeptMap (handed_in m)) (h
             | inr ge ↦ (let le = band_no_lower m.uppers curve.speed v h.own band ge h.own_is own in
                 elim (cases_lt curve.speed v) [
                   | inl faster ↦ absurd (omega (arith, knot_before v band faster le own))
-                  | inr same ↦ (let e : h.own ≡ band = omega (arith, band_no_lower m.uppers v curve.speed band h.own same own h.own_is) in absurd (omega (arith, rw e at h.foot_speed)))
+                  | inr same ↦ (let e : h.own ≡ band =
+                      omega (arith, band_no_lower m.uppers v curve.speed band h.own same own h.own_is) in
+                      absurd (omega (arith, rw e at h.foot_speed)))
                 ])
           ]
 
   -- at a speed that is not below it
-  stepped_back : (v band : ℕ) (to : ℤ) → curve.speed ≤ top_speed → v ≤ top_speed → IsBandOf m.uppers v band → speed_in band ≤ v →
-      IsArcBack on band (place_in band) to (grain_energy on (v * v - speed_in band * speed_in band)) → IsStepped m curve v to
+  stepped_back : (v band : ℕ) (to : ℤ) → curve.speed ≤ top_speed → v ≤ top_speed → IsBandOf m.uppers v band →
+      speed_in band ≤ v →
+      IsArcBack on band (place_in band) to (grain_energy on (v * v - speed_in band * speed_in band)) →
+      IsStepped m curve v to
   stepped_back v band to slow slow' own le arc =
       elim (cases_lt curve.speed v) [
-        | inl faster ↦ ends_back v band to faster slow' own (band_no_lower m.uppers curve.speed v h.own band (omega arith) h.own_is own) arc
+        | inl faster ↦ ends_back v band to faster slow' own
+            (band_no_lower m.uppers curve.speed v h.own band (omega arith) h.own_is own) arc
         | inr ge ↦ elim (cases_lt v curve.speed) [
           | inl slower ↦ at_border slower
           | inr same ↦ at_foot (omega arith)
@@ -248,7 +293,8 @@ module _ (m : SlopeMap) (curve : BrakeCurve) (kept : IsKeptMap (handed_in m)) (h
       inner_of slower =
           elim (cases_lt band h.own) [
             | inl inner ↦ inner
-            | inr same ↦ (let e : band ≡ h.own = omega (arith, no_higher (omega arith)) in absurd (omega (arith, h.foot_speed, rw e at le)))
+            | inr same ↦ (let e : band ≡ h.own = omega (arith, no_higher (omega arith)) in
+                absurd (omega (arith, h.foot_speed, rw e at le)))
           ]
 
       at_border : v < curve.speed → IsStepped m curve v to
@@ -258,14 +304,16 @@ module _ (m : SlopeMap) (curve : BrakeCurve) (kept : IsKeptMap (handed_in m)) (h
           let knot = h.ahead band inner in
           let arc_on = rw knot.speed at knot.arc in
           let v_is : v ≡ upper band = omega (arith, own.within (omega arith), knot.speed) in
-          let stays = no_distance on band (place_in band) to _ (no_energy on (v * v) _ (rw (knot.speed, v_is) refl)) arc in
+          let stays = no_distance on band (place_in band) to _
+          (no_energy on (v * v) _ (rw (knot.speed, v_is) refl)) arc in
           let end = ends_on (upper band) (suc band) (place_in band) (omega arith) slow (omega arith)
-              (λ i ge n. upper_rises band i (omega arith) (omega arith))
-              (λ i l. usable.rising i band (omega arith) (omega arith)) arc_on in
+          (λ i ge n. upper_rises band i (omega arith) (omega arith))
+          (λ i l. usable.rising i band (omega arith) (omega arith)) arc_on in
           rw (stays, v_is) end
 
 -- so the last grain at the level of the band's knot without the energy of the speed's square is the stepped place
-pub stepped_at : (m : SlopeMap) (curve : BrakeCurve) (asked : Asked) (to : ℤ) → IsKeptMap (handed_in m) → IsMadeFrom (meaning_of m) curve →
+pub stepped_at : (m : SlopeMap) (curve : BrakeCurve) (asked : Asked) (to : ℤ) → IsKeptMap (handed_in m) →
+    IsMadeFrom (meaning_of m) curve →
     IsAskedOf (meaning_of m) asked → curve.speed ≤ top_speed → asked.speed ≤ top_speed →
     IsLastAtMost (meaning_of m) asked.band ((knot_of curve asked.band).level +ℤ neg_ℤ (pos asked.energy)) to →
     IsStepped m curve asked.speed to
@@ -277,7 +325,8 @@ stepped_at m curve asked to kept h own slow slow' last0 =
     let knot = knot_of curve band in
     elim (cases_lt v knot.speed) [
       | inl less ↦ stepped_on m curve kept h v band to slow own.band_is less
-          (point_on m band knot.place to knot.level knot.speed v kept (omega arith) (h.level band known) (omega arith) last).arc
+          (point_on m band knot.place to knot.level knot.speed v kept (omega arith) (h.level band known)
+          (omega arith) last).arc
       | inr ge ↦ stepped_back m curve kept h v band to slow slow' own.band_is ge
           (point_back m band knot.place to knot.level knot.speed v kept (omega arith) (h.level band known) ge last).arc
     ]

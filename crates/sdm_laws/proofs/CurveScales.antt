@@ -16,7 +16,8 @@ same_of : (k : ℕ) (x big : Fraction) → IsPastBy x (over k big) 0 → IsSame 
 same_of k x big h = record { crossed = both_distances k big.m x.m big.n x.n h.not_before.crossed h.near.crossed }
   where
     both_distances : (k big_m m : ℕ) (big_n n : ℤ) → (pos m *ℤ big_n) ≤ℤ (pos (k * big_m) *ℤ n) →
-        (pos (k * big_m) *ℤ n) ≤ℤ (pos m *ℤ (big_n +ℤ pos (0 * (k * big_m)))) → pos m *ℤ big_n ≡ pos big_m *ℤ (pos k *ℤ n)
+        (pos (k * big_m) *ℤ n) ≤ℤ (pos m *ℤ (big_n +ℤ pos (0 * (k * big_m)))) →
+        pos m *ℤ big_n ≡ pos big_m *ℤ (pos k *ℤ n)
     both_distances k big_m m big_n n low high =
         let none : big_n +ℤ pos (0 * (k * big_m)) ≡ big_n = omega (arith, ints) in
         rw (scale-scale big_m k n, mul_comm big_m k) (omega (arith, ints, low, rw none at high))
@@ -25,4 +26,5 @@ pub exact_scaled : (on : Slopes) (s k : ℕ) (f : ℤ) (w u : ℕ) → IsUsable 
     IsSame (exact_at on (k * s) f w (k * u)) (times k (exact_at on s f w u))
 unfolding exact_at
 exact_scaled on s k f w u usable s_pos k_pos =
-    same_of k _ _ (place_near on s k _ as_is _ s_pos k_pos (usable_fair on usable) (never_apart k _) f w u (k * u) refl)
+    same_of k _ _ (place_near on s k _ as_is _ s_pos k_pos (usable_fair on usable) (never_apart k _) f w u
+    (k * u) refl)

@@ -14,7 +14,8 @@ use Rattle.sdm_rules.specs.Opening.{IsStrongAt, IsStrong, IsEven, IsRange, IsAcc
 
 -- two numbers that are neither before the other are one
 one_number : (b b' : ℕ) → (b < b' → ⊥) → (b' < b → ⊥) → b ≡ b'
-one_number b b' h k = elim (cases_order b b') [ inl e ↦ e | inr o ↦ elim o [ inl lt ↦ absurd (h lt) | inr gt ↦ absurd (k gt) ] ]
+one_number b b' h k =
+    elim (cases_order b b') [ inl e ↦ e | inr o ↦ elim o [ inl lt ↦ absurd (h lt) | inr gt ↦ absurd (k gt) ] ]
 
 -- ---- one kind
 
@@ -38,12 +39,14 @@ varied_refuses kind d band least greatest w ok = varied_clash kind d band least 
 
 one_weak_band : (kind : SlopeKind) (d : TrainAndTrack) (b b' c c' : ℕ) (a a' : ℤ) → IsFirstWeak kind d b c a → IsFirstWeak kind d b' c' a' → b ≡ b'
 one_weak_band kind d b b' c c' a a' w w' =
-    one_number b b' (λ lt. weak_clash kind d b c a w (w'.lower_bands b c lt)) (λ gt. weak_clash kind d b' c' a' w' (w.lower_bands b' c' gt))
+    one_number b b' (λ lt. weak_clash kind d b c a w (w'.lower_bands b c lt))
+    (λ gt. weak_clash kind d b' c' a' w' (w.lower_bands b' c' gt))
 
 one_weak_cell : (kind : SlopeKind) (d : TrainAndTrack) (b c c' : ℕ) (a a' : ℤ) → IsFirstWeak kind d b c a → IsFirstWeak kind d b c' a' →
     c ≡ c'
 one_weak_cell kind d b c c' a a' w w' =
-    one_number c c' (λ lt. weak_clash kind d b c a w (w'.earlier_cells c lt)) (λ gt. weak_clash kind d b c' a' w' (w.earlier_cells c' gt))
+    one_number c c' (λ lt. weak_clash kind d b c a w (w'.earlier_cells c lt))
+    (λ gt. weak_clash kind d b c' a' w' (w.earlier_cells c' gt))
 
 -- where the first weak slope is, there is one value
 record IsSameWeak (b b' c c' : ℕ) (a a' : ℤ) : Type 0 where

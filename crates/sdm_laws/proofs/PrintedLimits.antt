@@ -74,17 +74,22 @@ module _ (f : Target → Option ℤ) (p : Target → Bool) where
   adds x xs v e k = rw (e, k) (zero, omega arith, refl)
 
   -- a target that passes is shown
-  in_shown : (ts : List Target) (t : Target) (v : ℤ) → Contains ts t → p t ≡ true → f t ≡ Some v → Contains (shown f p ts) v
+  in_shown : (ts : List Target) (t : Target) (v : ℤ) → Contains ts t → p t ≡ true → f t ≡ Some v →
+      Contains (shown f p ts) v
   in_shown [] t v (k, lt, is) e j = absurd (omega arith)
-  in_shown (x ∷ xs) t v (zero, lt, is) e j = adds x xs v (subst (λ (y : Target). p y ≡ true) (sym is) e) (subst (λ (y : Target). f y ≡ Some v) (sym is) j)
+  in_shown (x ∷ xs) t v (zero, lt, is) e j =
+      adds x xs v (subst (λ (y : Target). p y ≡ true) (sym is) e) (subst (λ (y : Target). f y ≡ Some v) (sym is) j)
   in_shown (x ∷ xs) t v (suc k, lt, is) e j = keeps x xs v (in_shown xs t v (k, omega arith, is) e j)
 
   later : (x : Target) (xs : List Target) (v : ℤ) → IsShown f p xs v → IsShown f p (x ∷ xs) v
-  later x xs v h = record { target = h.target; there = Contains-append_right (x ∷ []) xs h.target h.there; passes = h.passes; is = h.is }
+  later x xs v h =
+      record { target = h.target; there = Contains-append_right (x ∷ []) xs h.target h.there; passes = h.passes; is = h.is }
 
-  from_cons : (x : Target) (xs : List Target) (vs : List ℤ) (o : Option ℤ) → p x ≡ true → f x ≡ o → All (IsShown f p (x ∷ xs)) vs → All (IsShown f p (x ∷ xs)) (cons_option o vs)
+  from_cons : (x : Target) (xs : List Target) (vs : List ℤ) (o : Option ℤ) → p x ≡ true → f x ≡ o →
+      All (IsShown f p (x ∷ xs)) vs → All (IsShown f p (x ∷ xs)) (cons_option o vs)
   from_cons x xs vs None e j rest = rest
-  from_cons x xs vs (Some w) e j rest = All-cons (IsShown f p (x ∷ xs)) w vs (record { target = x; there = (zero, omega arith, refl); passes = e; is = j }) rest
+  from_cons x xs vs (Some w) e j rest =
+      All-cons (IsShown f p (x ∷ xs)) w vs (record { target = x; there = (zero, omega arith, refl); passes = e; is = j }) rest
 
   -- what is shown is that of a target
   from_shown : (ts : List Target) → All (IsShown f p ts) (shown f p ts)
@@ -92,7 +97,8 @@ module _ (f : Target → Option ℤ) (p : Target → Bool) where
   from_shown [] = All-nil (IsShown f p [])
   from_shown (x ∷ xs) =
       let rest = All-weaker (IsShown f p xs) (IsShown f p (x ∷ xs)) (later x xs) _ (from_shown xs) in
-      elim (p x) as (λ b. p x ≡ b → All (IsShown f p (x ∷ xs)) (filter_map f (cond b (x ∷ filter p xs) (filter p xs)))) [
+      let at : List Target → Type 0 = λ us. All (IsShown f p (x ∷ xs)) (filter_map f us) in
+      elim (p x) as (λ b. p x ≡ b → at (cond b (x ∷ filter p xs) (filter p xs))) [
         | true ↦ λ e. from_cons x xs _ (f x) e refl rest
         | false ↦ λ e. rest
       ] refl
@@ -139,9 +145,13 @@ module _ (now : Situation) (low exact : Target → Option Fraction) (near : (t :
       (whole_mm c.place, in_shown mm_of is_slow now.targets t (whole_mm c.place) h.there (le-leb _ _ h.slow) (ap (option_map whole_mm) c.is), at_most_printed c.place x c.just)
 
   printed_by : (vs : List ℤ) → shown mm_of is_slow now.targets ≡ vs → IsPrinted now exact (least_of vs)
-  printed_by [] e = λ t x h. (let i = subst (λ (l : List ℤ). Contains l (printed_in t x h).0) e (printed_in t x h).1 in absurd (omega (arith, i.1)))
+  printed_by [] e = λ t x h.
+      let i = printed_in t x h in
+      let there = subst (λ (l : List ℤ). Contains l i.0) e i.1 in
+      absurd (omega (arith, there.1))
   printed_by (v ∷ vs) e =
       let least = fold int_min v vs in
+      let From : ℤ → Type 0 = λ z. least ≤ℤ z in
       let bounds = fold-int_min_bounds v vs least refl in
       let there : Contains (v ∷ vs) least = elim (fold-int_min_reached v vs least refl) [
         | inl is ↦ (zero, omega arith, sym is)
@@ -153,7 +163,8 @@ module _ (now : Situation) (low exact : Target → Option Fraction) (near : (t :
       record {
         not_past = λ t y h.
             let i = printed_in t y h in
-            let le : least ≤ℤ i.0 = All-contains (λ (z : ℤ). least ≤ℤ z) (v ∷ vs) i.0 (All-cons (λ (z : ℤ). least ≤ℤ z) v vs bounds.0 bounds.1) (subst (λ (l : List ℤ). Contains l i.0) e i.1) in
+            let i_there = subst (λ (l : List ℤ). Contains l i.0) e i.1 in
+            let le : least ≤ℤ i.0 = All-contains From (v ∷ vs) i.0 (All-cons From v vs bounds.0 bounds.1) i_there in
             at_most_trans (whole (place_of_mm least)) (whole (place_of_mm i.0)) y (omega arith) (whole_at_most _ _ (omega (arith, ints, le))) i.2;
         target = from.target;
         place = x.place;

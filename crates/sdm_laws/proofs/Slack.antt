@@ -24,7 +24,8 @@ past_floor y y' e p =
       left = p.left;
       right = omega arith;
       not_before = at_most_trans (whole (floor y')) y' y p.right (at_most_in (floor y') y' low) p.not_before;
-      near = at_most_trans y (more y' e) _ p.right p.near (record { crossed = next_grain y'.m y'.n (floor y') e high });
+      near = at_most_trans y (more y' e) _ p.right p.near
+          (record { crossed = next_grain y'.m y'.n (floor y') e high });
     }
   where
     next_grain : (m : ℕ) (n z : ℤ) (e : ℕ) → n <ℤ (pos m *ℤ z +ℤ pos m *ℤ pos 1) →
@@ -33,6 +34,7 @@ past_floor y y' e p =
 
 -- ---- the slack after some bands
 
+-- the slack after one band more
 slack_next : (k n e : ℕ) → slack_after k (suc n) e ≡ k * slack_after k n e + 1
 slack_next k zero e = refl
 slack_next k (suc n) e = slack_next k n (k * e + 1)
@@ -55,12 +57,15 @@ slack_apart k some = record {
   rounds = λ n x x' h. rw (over_one (to_grain x'), slack_next k n 0) (past_floor x x' _ (rw (over_one x') at h));
 }
 
+-- how far the stepped place is from the exact one
 place_past : (on : Slopes) (f : ℤ) (w v : ℕ) → IsUsable on →
-    IsPastBy (place_at as_is on 1 f w (v * v)) (to_grain (place_at to_grain on 1 f w (v * v))) (slack_of (bands_of on.uppers))
+    IsPastBy (place_at as_is on 1 f w (v * v)) (to_grain (place_at to_grain on 1 f w (v * v)))
+    (slack_of (bands_of on.uppers))
 place_past on f w v h =
     let fair = usable_fair on h in
     rw (over_one (to_grain (place_at to_grain on 1 f w (v * v)))) at
-    (place_near on 1 1 _ to_grain _ (omega arith) (omega arith) fair (slack_apart _ fair.some) f w (v * v) (v * v) (omega arith))
+    (place_near on 1 1 _ to_grain _ (omega arith) (omega arith) fair (slack_apart _ fair.some) f w (v * v) (v * v)
+    (omega arith))
 
 -- ---- the numbers
 
@@ -86,7 +91,8 @@ greatest_slack = refl
 slack_at_most : (bands : ℕ) → bands ≤ most_bands → slack_of bands ≤ most_slack
 slack_at_most bands le = rw (sym greatest_slack) (at_most_greatest slack_of bands most_bands le)
 
-early_of_past : (z : ℤ) (x : Fraction) (e e' : ℕ) → IsPastBy x (whole z) e → e ≤ e' → IsEarlyFor (record { at = z; slack = e' }) x
+early_of_past : (z : ℤ) (x : Fraction) (e e' : ℕ) → IsPastBy x (whole z) e → e ≤ e' →
+    IsEarlyFor (record { at = z; slack = e' }) x
 early_of_past z x e e' past le =
     let p = past_more x (whole z) e e' past le in
     let one : e' * 1 ≡ e' = omega arith in
@@ -97,4 +103,10 @@ unfolding exact exact_at stepped
 rounding on f w v h =
     let past = place_past on f w v h in
     let few = slack_at_most (bands_of on.uppers) h.few in
-    record { early = early_of_past _ _ _ _ past (omega arith); bounded = few; early_at_most = early_of_past _ _ _ most_slack past few; fine = omega arith }
+    record {
+      early = early_of_past _ _ _ _ past (omega arith);
+      bounded = few;
+      early_at_most =
+          early_of_past _ _ _ most_slack past few;
+      fine = omega arith;
+    }

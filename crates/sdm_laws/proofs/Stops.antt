@@ -81,7 +81,8 @@ module _ (d : TrainAndTrack) (usable : IsUsable (slopes_of Safe d)) (r : Odomete
   reached = in_reach s (reaction_start d r) (slopes_of Safe d) (target_speed t) p v xs first more m.1.motion m.1.speed
 
   -- where the front end is at or before the EBI on a curve from the target, the whole motion is held by that curve
-  held_by_curve : is_past 0 r.max (less (computed (slopes_of Safe d) t.place (foot_speed_of t) (v_bec_for d (estimate_of r) t)) (d_bec_for d (estimate_of r) t)) ≡ false →
+  held_by_curve :
+      is_past 0 r.max (less (computed (slopes_of Safe d) t.place (foot_speed_of t) (v_bec_for d (estimate_of r) t)) (d_bec_for d (estimate_of r) t)) ≡ false →
       All (IsHeldByCurve (slopes_of Safe d) (s * s) t.place (foot_speed_of t)) (slice_ends p v xs)
       × All (IsHeldByCurve (slopes_of Safe d) (s * s) t.place (foot_speed_of t)) (first ∷ more)
   held_by_curve e =
@@ -90,21 +91,27 @@ module _ (d : TrainAndTrack) (usable : IsUsable (slopes_of Safe d)) (r : Odomete
       let bec = v_bec_for d (estimate_of r) t in
       let distance = d_bec_for d (estimate_of r) t in
       let h = not_past on usable t.place w bec distance r.max e in
-      let within : (y : Point) → IsReached y → IsWithinCurve on (s * s) t.place w y = λ y b. within_first on usable s t.place w bec distance r.max p y pos_m h m.1.place b in
-      (All-weaker IsReached (IsHeldByCurve on (s * s) t.place w) (λ y b. within_held on (s * s) t.place w y usable pos_m (within y b)) _ reached.ends,
-      braking on (s * s) t.place w first more usable pos_m m.1.motion.braking (within first reached.begins))
+      let within : (y : Point) → IsReached y → IsWithinCurve on (s * s) t.place w y =
+      λ y b. within_first on usable s t.place w bec distance r.max p y pos_m h m.1.place b in (
+        All-weaker IsReached (IsHeldByCurve on (s * s) t.place w)
+            (λ y b. within_held on (s * s) t.place w y usable pos_m (within y b)) _ reached.ends,
+        braking on (s * s) t.place w first more usable pos_m m.1.motion.braking (within first reached.begins),
+      )
 
   -- where V_bec is at most the foot speed, the train is never faster
-  never_faster : v_bec_for d (estimate_of r) t ≤ foot_speed_of t → All (KeepsTo s t.place (foot_speed_of t)) (slice_ends p v xs ++ first ∷ more)
+  never_faster : v_bec_for d (estimate_of r) t ≤ foot_speed_of t →
+      All (KeepsTo s t.place (foot_speed_of t)) (slice_ends p v xs ++ first ∷ more)
   never_faster le =
       let bec = v_bec_for d (estimate_of r) t in
       let w = foot_speed_of t in
       let K : Point → Type 0 = KeepsTo s t.place w in
-      let top : s * bec * (s * bec) ≤ s * s * (w * w) = (let k = mul-le bec bec w w le le in omega (arith, mul-le-mul_left (s * s) k)) in
+      let top : s * bec * (s * bec) ≤ s * s * (w * w) = omega (arith, mul-le-mul_left (s * s) (mul-le bec bec w w le le)) in
       let slow : (y : Point) → IsReached y → K y = λ y b past. omega (arith, b.square) in
-      let rest = slower (slopes_of Safe d) (s * s) (s * s * (w * w)) first more m.1.motion.braking (omega (arith, reached.begins.square)) in
+      let rest = slower (slopes_of Safe d) (s * s) (s * s * (w * w)) first more m.1.motion.braking
+      (omega (arith, reached.begins.square)) in
       All-append K _ _ (All-weaker IsReached K slow _ reached.ends)
-      (All-cons K first more (slow first reached.begins) (All-weaker (λ (y : Point). y.square ≤ s * s * (w * w)) K (λ y k past. k) more rest))
+      (All-cons K first more (slow first reached.begins)
+      (All-weaker (λ (y : Point). y.square ≤ s * s * (w * w)) K (λ y k past. k) more rest))
 
 -- ---- the row
 
@@ -137,7 +144,8 @@ stops_of d usable r svl e s p v xs first more m =
     let t = svl_at svl in
     let past = elim (either _ false e) as (λ _. is_past 0 r.max (less (computed (slopes_of Safe d) t.place 0 (v_bec_for d (estimate_of r) t)) (d_bec_for d (estimate_of r) t)) ≡ false) [ inl x ↦ x | inr x ↦ absurd (false≢true x) ] in
     let held = held_by_curve d usable r t s p v xs first more m past in
-    All-weaker (IsHeldByCurve (slopes_of Safe d) (s * s) t.place 0) (IsBy s t.place) (λ y k. k.standing refl) (first ∷ more) held.1
+    All-weaker (IsHeldByCurve (slopes_of Safe d) (s * s) t.place 0) (IsBy s t.place)
+    (λ y k. k.standing refl) (first ∷ more) held.1
 
 svl_covered : (d : TrainAndTrack) (r : OdometerReading) (profile : ℤ → ℕ) (a : Authority) (in_release_monitoring : Bool) (eoa svl release : ℕ) → a ≡ Stop eoa svl release → in_release_monitoring ≡ false →
     list_all (is_covered_for d r.max (estimate_of r)) (targets_of profile a r.max in_release_monitoring) ≡ true → is_covered_for d r.max (estimate_of r) (svl_at svl) ≡ true

@@ -59,7 +59,8 @@ not_implies true true h = λ e. e
 not_implies true false h = λ _. absurd (false≢true (h refl))
 not_implies false b h = λ _. refl
 
-any_implies : (p q : Target → Bool) (ts : List Target) → ((t : Target) → Implies (p t) (q t)) → Implies (list_any p ts) (list_any q ts)
+any_implies : (p q : Target → Bool) (ts : List Target) → ((t : Target) → Implies (p t) (q t)) →
+    Implies (list_any p ts) (list_any q ts)
 any_implies p q [] h = same false
 any_implies p q (t ∷ ts) h = or_implies (p t) (q t) _ _ (h t) (any_implies p q ts h)
 

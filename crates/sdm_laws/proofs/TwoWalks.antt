@@ -21,7 +21,12 @@ pub record AreFair (on : Slopes) (k : ℕ) : Type 0 where
 
 -- usable slopes are even, and so their variation is above 0
 pub usable_fair : (on : Slopes) → IsUsable on → AreFair on (variation (bands_of on.uppers))
-usable_fair on h = record { positive = h.positive; even = h.even; some = first_factor _ _ _ (h.positive 0 (omega arith) (pos 0)) (h.even 0 (omega arith) (pos 0) (pos 0)) }
+usable_fair on h = record {
+  positive = h.positive;
+  even = h.even;
+  some = first_factor _ _ _
+      (h.positive 0 (omega arith) (pos 0)) (h.even 0 (omega arith) (pos 0) (pos 0));
+}
   where
     first_factor : (a k b : ℕ) → 0 < a → a ≤ k * b → 0 < k
     first_factor a zero b p le = absurd (omega arith)
@@ -42,11 +47,13 @@ le_scaled k a b a' b' p q le = rw (p, q) (mul-le-mul_left k le)
 lt_scaled : (k a b a' b' : ℕ) → 0 < k → a' ≡ k * a → b' ≡ k * b → a < b → a' < b'
 lt_scaled k a b a' b' k_pos p q lt = rw (p, q) (mul-lt-mul_of_pos_left lt k_pos)
 
+-- the energy of `k` times the change is `k` times as much
 energy_scaled : (on : Slopes) (k change big : ℕ) → big ≡ k * change → grain_energy on big ≡ k * grain_energy on change
 energy_scaled on k change big e = rw e (omega arith)
 
 -- an arc at `k` times the scale is an arc of the `k`th parts
-arc_scaled : (on : Slopes) (s k band : ℕ) (y x : Fraction) (c big : ℕ) → 0 < k → big ≡ k * c → Arc on (k * s) band y x big →
+arc_scaled : (on : Slopes) (s k band : ℕ) (y x : Fraction) (c big : ℕ) → 0 < k → big ≡ k * c →
+    Arc on (k * s) band y x big →
     Arc on s band (over k y) (over k x) c
 arc_scaled on s k band y x c big k_pos e h =
     let n = h.n in
@@ -71,7 +78,8 @@ arc_scaled on s k band y x c big k_pos e h =
 -- How far apart the walks are at most after some bands, where slopes vary by `v`: `apart` grains, of which rounding is a part.
 pub record IsApartAfter (k v : ℕ) (round : Fraction → Fraction) (apart : ℕ → ℕ) : Type 0 where
   pub later : (n n' : ℕ) → n ≤ n' → apart n ≤ apart n'
-  pub rounds : (n : ℕ) (x x' : Fraction) → IsPastBy x (over k x') (v * apart n) → IsPastBy x (over k (round x')) (apart (suc n))
+  pub rounds : (n : ℕ) (x x' : Fraction) → IsPastBy x (over k x') (v * apart n) →
+      IsPastBy x (over k (round x')) (apart (suc n))
 
 module _ (on : Slopes) (s k v : ℕ) (round : Fraction → Fraction) (apart : ℕ → ℕ) (s_pos : 0 < s) (k_pos : 0 < k)
     (fair : AreFair on v) (within : IsApartAfter k v round apart) where
@@ -79,32 +87,40 @@ module _ (on : Slopes) (s k v : ℕ) (round : Fraction → Fraction) (apart : �
   abbrev IsNear : ℕ → Fraction → Fraction → Type 0
   IsNear n x x' = IsPastBy x (over k x') (apart n)
 
+  -- the second place is one
   big_pos : (n : ℕ) (x x' : Fraction) → IsNear n x x' → 0 < x'.m
   big_pos n x x' h = factor_right (k * x'.m) k x'.m h.right (omega arith)
 
-  back_near : (n m band change change' : ℕ) (x x' : Fraction) → band ≤ length on.uppers → n < m → change' ≡ k * change → IsNear n x x' →
+  -- the arcs of one band keep the walks near
+  back_near : (n m band change change' : ℕ) (x x' : Fraction) → band ≤ length on.uppers → n < m →
+      change' ≡ k * change → IsNear n x x' →
       IsNear m (arc_back on s band x change) (round (arc_back on (k * s) band x' change'))
   back_near n m band change change' x x' known few e h =
       let some = fair.positive band known in
       let arc = arc_back-is on s band change x some s_pos h.left in
       let arc' = arc_back-is on (k * s) band change' x' some (mul-pos k_pos s_pos) (big_pos n x x' h) in
       let scaled = arc_scaled on s k band _ _ _ _ k_pos (energy_scaled on k change change' e) arc' in
-      past_more _ _ _ _ (within.rounds n _ _ (past_back on s band v x _ _ _ _ _ s_pos some (fair.even band known) h arc scaled))
+      past_more _ _ _ _ (within.rounds n _ _
+      (past_back on s band v x _ _ _ _ _ s_pos some (fair.even band known) h arc scaled))
       (within.later (suc n) m (omega arith))
 
-  forward_near : (n m band change change' : ℕ) (x x' : Fraction) → band ≤ length on.uppers → n < m → change' ≡ k * change → IsNear n x x' →
+  forward_near : (n m band change change' : ℕ) (x x' : Fraction) → band ≤ length on.uppers → n < m →
+      change' ≡ k * change → IsNear n x x' →
       IsNear m (arc_forward on s band x change) (round (arc_forward on (k * s) band x' change'))
   forward_near n m band change change' x x' known few e h =
       let some = fair.positive band known in
       let arc = arc_forward-is on s band change x some s_pos h.left in
       let arc' = arc_forward-is on (k * s) band change' x' some (mul-pos k_pos s_pos) (big_pos n x x' h) in
       let scaled = arc_scaled on s k band _ _ _ _ k_pos (energy_scaled on k change change' e) arc' in
-      past_more _ _ _ _ (within.rounds n _ _ (past_forward on s band v x _ _ _ _ _ s_pos some (fair.even band known) h arc scaled))
+      past_more _ _ _ _ (within.rounds n _ _
+      (past_forward on s band v x _ _ _ _ _ s_pos some (fair.even band known) h arc scaled))
       (within.later (suc n) m (omega arith))
 
+  -- and so do all bands, back and forward
   climb_near : (left n m band u u' z z' : ℕ) (x x' : Fraction) → band + left ≤ length on.uppers → n + left < m →
       u' ≡ k * u → z' ≡ k * z → IsNear n x x' →
-      IsNear m (back_through_bands as_is on s left band x u z) (round (back_through_bands round on (k * s) left band x' u' z'))
+      IsNear m (back_through_bands as_is on s left band x u z)
+      (round (back_through_bands round on (k * s) left band x' u' z'))
   climb_near zero n m band u u' z z' x x' known few u_is z_is h =
       back_near n m band _ _ x x' (omega arith) (omega arith) (less_scaled k z u z' u' z_is u_is) h
   climb_near (suc left) n m band u u' z z' x x' known few u_is z_is h =
@@ -130,7 +146,8 @@ module _ (on : Slopes) (s k v : ℕ) (round : Fraction → Fraction) (apart : �
 
   descend_near : (band n m u u' z z' : ℕ) (x x' : Fraction) → band ≤ length on.uppers → n + band < m →
       u' ≡ k * u → z' ≡ k * z → IsNear n x x' →
-      IsNear m (forward_through_bands as_is on s band x u z) (round (forward_through_bands round on (k * s) band x' u' z'))
+      IsNear m (forward_through_bands as_is on s band x u z)
+      (round (forward_through_bands round on (k * s) band x' u' z'))
   descend_near zero n m u u' z z' x x' known few u_is z_is h =
       forward_near n m zero _ _ x x' known (omega arith) (less_scaled k u z u' z' u_is z_is) h
   descend_near (suc band) n m u u' z z' x x' known few u_is z_is h =
@@ -165,8 +182,10 @@ module _ (on : Slopes) (s k v : ℕ) (round : Fraction → Fraction) (apart : �
         near = record { crossed = rw one (simp scales (omega (arith, ints))) };
       }) (omega arith)
 
+  -- so the places of one speed, of which the second is rounded at the end, are near
   pub place_near : (f : ℤ) (w z z' : ℕ) → z' ≡ k * z →
-      IsPastBy (place_at as_is on s f w z) (over k (round (place_at round on (k * s) f w z'))) (apart (bands_of on.uppers))
+      IsPastBy (place_at as_is on s f w z) (over k (round (place_at round on (k * s) f w z')))
+      (apart (bands_of on.uppers))
   place_near f w z z' z_is =
       let n = length on.uppers in
       let u = s * (w * w) in

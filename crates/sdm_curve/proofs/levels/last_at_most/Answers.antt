@@ -18,6 +18,7 @@ returns c =
     let wide_is = wide c.args.level (record { low = omega (arith, ints); high = omega (arith, ints) }) in
     let level_is = ap (λ (z : ℤ). pos (unsigned_abs z)) wide_is ∙ same in
     let at = spot_from_0 c.args.map.now c.args.band c.segment_of_level-segment.result c.from-rate.result _ c.sum.result _ c.args.level _
-    c.segment_start.ensures.kept.well_formed.starts (omega arith) (omega arith) level_is c.segment_of_level-segment.ensures
+    c.segment_start.ensures.kept.well_formed.starts (omega arith)
+    (omega arith) level_is c.segment_of_level-segment.ensures
     c.sum.ensures.value refl (omega (arith, ints)) in
     record { last = at.last; segment = at.segment; kept = c.segment_start.ensures.kept }
