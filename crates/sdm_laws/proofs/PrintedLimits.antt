@@ -1,6 +1,6 @@
 -- A printed limit: it is the least of computed ones, each rounded down to a millimetre, and each of these lies just before its exact
 -- one. What stands in the list of printed places is shown by induction.
-use Rattle.std.proofs.Common.{◌≡◌, ℕ, ℤ, zero, suc, pos, Bool, true, false, cond, nat_le, List, [], ◌∷◌, Option, Some, None, ◌⊎◌, inl, inr, ◌*◌, ◌+ℤ◌, ◌*ℤ◌, ◌≤ℤ◌, ◌<ℤ◌, refl, sym, ap, ◌∙◌, subst, arith}
+use Rattle.std.proofs.Common.{◌≡◌, ℕ, ℤ, zero, suc, pos, Bool, true, false, cond, nat_le, List, [], ◌∷◌, Option, Some, None, inl, inr, ◌*◌, ◌+ℤ◌, ◌*ℤ◌, ◌≤ℤ◌, ◌<ℤ◌, refl, sym, ap, subst, arith}
 use Rattle.std.specs.Prelude.{All, Contains, filter, filter_map, option_map, fold}
 use Rattle.std.specs.Int.{int_min}
 use Rattle.std.specs.List.{cons_option}
