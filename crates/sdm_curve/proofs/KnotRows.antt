@@ -50,7 +50,7 @@ pub record AreKnotsBack (m : SlopeMap) (foot : ℤ) (w own band : ℕ) (knots : 
   pub level : (i : ℕ) → own ≤ i → i ≤ band → IsAtLevel m i (at_band knots i)
   pub within : band < length m.uppers → (at_band knots band).speed ≤ get_or m.uppers band 0
   pub slow : (at_band knots band).speed ≤ top_speed
-  pub low : foot ≤ℤ ((at_band knots band).place +ℤ pos (2_000 * ((at_band knots band).speed * (at_band knots band).speed) + band))
+  pub low : foot ≤ℤ ((at_band knots band).place +ℤ pos (1_852 * ((at_band knots band).speed * (at_band knots band).speed) + band))
   pub high : (at_band knots band).place ≤ℤ foot
 
 -- the last of them is near
@@ -104,7 +104,7 @@ pub record AreKnotsOn (m : SlopeMap) (foot : ℤ) (w own band : ℕ) (knots : Li
   pub within : (i : ℕ) → suc i ≡ band → get_or m.uppers i 0 ≤ (at_band knots band).speed
   pub slow : w ≤ top_speed
   pub low : foot ≤ℤ (at_band knots band).place
-  pub high : ((at_band knots band).place +ℤ pos (2_000 * ((at_band knots band).speed * (at_band knots band).speed))) ≤ℤ (foot +ℤ pos (2_000 * (w * w)))
+  pub high : ((at_band knots band).place +ℤ pos (1_852 * ((at_band knots band).speed * (at_band knots band).speed))) ≤ℤ (foot +ℤ pos (1_852 * (w * w)))
 
 -- the last of them is near
 pub on_near : (m : SlopeMap) (foot : ℤ) (w own band : ℕ) (knots : List CurveKnot) → IsFootPlace foot → AreKnotsOn m foot w own band knots → IsNear (at_band knots band).place

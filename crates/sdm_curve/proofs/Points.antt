@@ -13,7 +13,7 @@ use Rattle.sdm_curve.specs.Integrals.{integral, IsLastAtMost}
 use Rattle.sdm_curve.specs.Made.{IsArcBack, IsArcOn, IsNear, level_of}
 use Rattle.sdm_curve.proofs.Meanings.{usable_of}
 use Rattle.sdm_curve.proofs.Integrals.{knot_at_level, knot_past_at_level, last_before, last_past}
-use Rattle.sdm_curve.proofs.Reach.{knot_near, knot_past_near}
+use Rattle.sdm_curve.proofs.Reach.{back_near, on_near}
 
 -- squares are in the order of what is squared
 pub square-≤ : (a b : ℕ) → a ≤ b → a * a ≤ b * b
@@ -31,7 +31,7 @@ energy_sum on a b d e = rw e (omega arith)
 -- an arc back, and how far it goes
 pub record IsBack (m : SlopeMap) (band : ℕ) (from to : ℤ) (change : ℕ) : Type 0 where
   pub arc : IsArcBack (meaning_of m) band from to (grain_energy (meaning_of m) change)
-  pub low : from ≤ℤ (to +ℤ pos (2_000 * change + 1))
+  pub low : from ≤ℤ (to +ℤ pos (1_852 * change + 1))
   pub high : to ≤ℤ from
 
 -- at a speed that is no less than the knot's
@@ -48,8 +48,8 @@ point_back m band from to level u v kept lt level_is le h0 =
     let distance = unsigned_abs (from +ℤ neg_ℤ to) in
     let place : from ≡ to +ℤ pos distance = omega (arith, ints) in
     let knot = knot_at_level on band from to _ distance (grain_energy on change) place refl h in
-    let near = knot_near m band from distance (grain_energy on change) change kept lt refl knot in
-    record { arc = record { distance = distance; place = place; knot = knot }; low = omega (arith, ints, near); high = before }
+    let arc : IsArcBack on band from to (grain_energy on change) = record { distance = distance; place = place; knot = knot } in
+    record { arc = arc; low = back_near m band from to change kept lt arc; high = before }
 
 -- ---- on
 
@@ -57,7 +57,7 @@ point_back m band from to level u v kept lt level_is le h0 =
 pub record IsOn (m : SlopeMap) (band : ℕ) (from to : ℤ) (change : ℕ) : Type 0 where
   pub arc : IsArcOn (meaning_of m) band from to (grain_energy (meaning_of m) change)
   pub low : from ≤ℤ to
-  pub high : to ≤ℤ (from +ℤ pos (2_000 * change))
+  pub high : to ≤ℤ (from +ℤ pos (1_852 * change))
 
 -- at a speed that is no greater than the knot's
 pub point_on : (m : SlopeMap) (band : ℕ) (from to level : ℤ) (u v : ℕ) → IsKeptMap (handed_in m) → band < bands_of m.uppers → level ≡ level_of (meaning_of m) band from u → v ≤ u →
@@ -73,8 +73,8 @@ point_on m band from to level u v kept lt level_is le h0 =
     let distance = unsigned_abs (to +ℤ neg_ℤ from) in
     let place : to ≡ from +ℤ pos distance = omega (arith, ints) in
     let knot = knot_past_at_level on band from to _ distance (grain_energy on change) place refl h in
-    let near = knot_past_near m band from distance (grain_energy on change) change kept lt refl knot in
-    record { arc = record { distance = distance; place = place; knot = knot }; low = past; high = omega (arith, ints, near) }
+    let arc : IsArcOn on band from to (grain_energy on change) = record { distance = distance; place = place; knot = knot } in
+    record { arc = arc; low = past; high = on_near m band from to change kept lt arc }
 
 -- ---- both
 

@@ -114,14 +114,16 @@ spot_of m band i rate level quotient place h known some rate_is low high place_i
         omega (arith, ints)
 
 -- at a level from 0 on
-pub spot_from_0 : (m : SlopeMap) (band i rate level sum grains : ℕ) (place : ℤ) → AreStarts m.starts → 0 < rate → rate ≡ 27 * slope_of m band i → IsLevelIn m band i level →
-    sum ≡ sum_of m band i → grains ≡ (level - sum) / rate → place ≡ segment_start m.starts i +ℤ pos grains →
-    IsSpotAt m band i (pos level) place
-spot_from_0 m band i rate level sum grains place h some rate_is at sum_at grains_is place_is =
+pub spot_from_0 : (m : SlopeMap) (band i rate n sum grains : ℕ) (level place : ℤ) → AreStarts m.starts → 0 < rate →
+    rate ≡ 27 * slope_of m band i → pos n ≡ level → IsLevelIn m band i n → sum ≡ sum_of m band i →
+    grains ≡ (n - sum) / rate → place ≡ segment_start m.starts i +ℤ pos grains → IsSpotAt m band i level place
+spot_from_0 m band i rate n sum grains level place h some rate_is level_is at sum_at grains_is place_is =
     let low = at.low in
-    let rest = div-add-mod' (level - sum) rate in
-    let less : (level - sum) % rate < rate = omega arith in
-    spot_of m band i rate (pos level) (pos ((level - sum) / rate)) place h at.known some rate_is (omega (arith, ints, rest)) (omega (arith, ints, rest)) (rw grains_is at place_is) (λ _. omega (arith, ints)) (λ n. omega (arith, ints, at.high n))
+    let rest = div-add-mod' (n - sum) rate in
+    let less : (n - sum) % rate < rate = omega arith in
+    spot_of m band i rate level (pos ((n - sum) / rate)) place h at.known some rate_is (omega (arith, ints, rest, level_is))
+    (omega (arith, ints, rest, level_is)) (rw grains_is at place_is) (λ _. omega (arith, ints, level_is))
+    (λ later. omega (arith, ints, level_is, at.high later))
 
 -- at a level below 0, which lies before the first segment's start
 pub spot_before_0 : (m : SlopeMap) (band rate : ℕ) (level place : ℤ) → AreStarts m.starts → 0 < rate → rate ≡ 27 * slope_of m band 0 → level <ℤ pos 0 → place ≡ int_div_euclid level (pos rate) → IsSpotAt m band 0 level place

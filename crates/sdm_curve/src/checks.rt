@@ -1,9 +1,9 @@
 //! Which slopes are accepted: none too weak to carry a curve, and in no band so uneven that rounding grows past a
 //! millimetre.
 
-ghost use Rattle.std.specs.Prelude.{◌≡◌, ℕ, pos, ◌+◌, ◌*◌, ◌<◌, ◌≤◌, ◌*ℤ◌, ◌<ℤ◌, length, slice_index_or, IfSome, IfNone, IsTrue, ◌↔◌};
-ghost use Rattle.sdm_rules.specs.Slopes.{IsStrongSlope, variation};
-ghost use Rattle.sdm_curve.specs.Maps.{map_data, IsMapData, IsSlopeBounded, AreStrong, AreEven, AreAccepted};
+ghost use Rattle.std.specs.Prelude.{ℕ, pos, ◌<◌, ◌≤◌, length, slice_index_or, IfSome, IfNone, IfOk, IfErr};
+ghost use Rattle.sdm_rules.specs.Slopes.{IsStrongSlope};
+ghost use Rattle.sdm_curve.specs.Maps.{map_data, IsMapData, IsSlopeBounded, AreEven, AreAccepted};
 ghost use Rattle.sdm_curve.specs.Checks.{IsWeakIndex, IsRangeOf};
 ghost use Rattle.sdm_curve.specs.Faults.{IsFirstVariedBand, IsMapFault};
 
@@ -13,28 +13,17 @@ use sdm_num::Speed;
 /// 0.05 m/s², in 1/Q m/s² with q = 1. (own)
 const LEAST_SLOPE: i64 = 100_000_000;
 
-// The least and the greatest of some slopes.
+/// How many times the least slope of a band the greatest may be. (own)
+const VARIATION: i128 = 16;
+
+/// The least and the greatest of some slopes.
 #[derive(Clone, Copy)]
 struct SlopeRange {
     least: i64,
     greatest: i64,
 }
 
-// How many times the least slope of a band the greatest may be.
-fn variation_of(_bands: usize) -> i128
-    ensures { result ≡ pos (variation _bands) }
-{
-    16
-}
-
-// True exactly where the slopes of one of so many bands differ too much.
-fn is_too_wide(bands: usize, range: SlopeRange) -> bool
-    ensures { IsTrue result ↔ ((pos (variation bands) *ℤ range.least) <ℤ range.greatest) }
-{
-    variation_of(bands) * i128::from(range.least) < i128::from(range.greatest)
-}
-
-// The index of the first slope that is too weak.
+/// The index of the first slope that is too weak.
 fn first_weak(q: u32, slopes: &[i64]) -> Option<usize>
     requires high_q { q ≤ 11_730 }
     requires bounded { (k : ℕ) → k < length slopes.now → IsSlopeBounded (slice_index_or slopes.now k (pos 0)) }
@@ -50,7 +39,7 @@ fn first_weak(q: u32, slopes: &[i64]) -> Option<usize>
     None
 }
 
-// The range of one slope or more.
+/// The range of one slope or more.
 fn range_of(slopes: &[i64]) -> SlopeRange
     requires { 0 < length slopes.now }
     ensures { IsRangeOf slopes.now result.least result.greatest }
@@ -64,50 +53,48 @@ fn range_of(slopes: &[i64]) -> SlopeRange
     SlopeRange { least, greatest }
 }
 
-// A band and the range of its slopes.
+/// A band and the range of its slopes.
 #[derive(Clone, Copy)]
 struct BandRange {
     band: usize,
     range: SlopeRange,
 }
 
-// The first band whose slopes differ too much.
+/// The first band whose slopes differ too much.
 fn first_varied(q: u32, uppers: &[Speed], starts: &[i32], slopes: &[i64]) -> Option<BandRange>
     requires { IsMapData (map_data q uppers.now starts.now slopes.now) }
     ensures found { IfSome result (λ r. IsFirstVariedBand (map_data q uppers.now starts.now slopes.now) r.band r.range.least r.range.greatest) }
     ensures none { IfNone result (AreEven (map_data q uppers.now starts.now slopes.now)) }
 {
-    let bands = uppers.len() + 1;
     let segments = starts.len();
-    for band in 0..bands {
-        let row = &slopes[band * segments..(band + 1) * segments];
-        let range = range_of(row);
-        if is_too_wide(bands, range) {
+    for band in 0..uppers.len() + 1 {
+        let range = range_of(&slopes[band * segments..(band + 1) * segments]);
+        if VARIATION * i128::from(range.least) < i128::from(range.greatest) {
             return Some(BandRange { band, range });
         }
     }
     None
 }
 
-/// The first fault of slopes, by bands and then by segments; weakness comes before variation.
-pub fn fault_of(q: u32, uppers: &[Speed], starts: &[i32], slopes: &[i64]) -> Option<CurveFault>
+/// Whether the slopes are accepted; else their first fault, by bands and then by segments, weakness before variation.
+pub fn check(q: u32, uppers: &[Speed], starts: &[i32], slopes: &[i64]) -> Result<(), CurveFault>
     requires { IsMapData (map_data q uppers.now starts.now slopes.now) }
-    ensures fault { IfSome result (IsMapFault (map_data q uppers.now starts.now slopes.now)) }
-    ensures accepted { IfNone result (AreAccepted (map_data q uppers.now starts.now slopes.now)) }
+    ensures fault { IfErr result (IsMapFault (map_data q uppers.now starts.now slopes.now)) }
+    ensures accepted { IfOk result (λ _. AreAccepted (map_data q uppers.now starts.now slopes.now)) }
 {
     if let Some(k) = first_weak(q, slopes) {
-        return Some(CurveFault::TooWeak {
+        return Err(CurveFault::TooWeak {
             band: (k / starts.len()) as u32 + 1,
             cell: starts[k % starts.len()],
             slope: slopes[k],
         });
     }
     if let Some(varied) = first_varied(q, uppers, starts, slopes) {
-        return Some(CurveFault::TooVaried {
+        return Err(CurveFault::TooVaried {
             band: varied.band as u32 + 1,
             least: varied.range.least,
             greatest: varied.range.greatest,
         });
     }
-    None
+    Ok(())
 }

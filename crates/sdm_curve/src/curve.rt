@@ -1,19 +1,76 @@
-//! Brake curves. One keeps its foot and its knots, so that each place is found in one band.
+//! Brake curves, and the speeds that they are asked for. A curve keeps its foot and its knots, so that each place is found in
+//! one band. What a speed has in a map, its band and the energy of its square, is worked out once and serves every curve of
+//! that map.
 
-ghost use Rattle.std.specs.Prelude.{◌≡◌, pos, neg_ℤ, ◌^◌, ◌≤◌, ◌+ℤ◌, ◌≤ℤ◌};
+ghost use Rattle.std.specs.Prelude.{◌≡◌, pos, neg_ℤ, ◌^◌, ◌<◌, ◌≤◌, ◌+ℤ◌, ◌≤ℤ◌};
 ghost use Rattle.sdm_num.specs.Bounds.{IsEarlyFor};
 ghost use Rattle.sdm_num.specs.Units.{top_speed};
-ghost use Rattle.sdm_rules.specs.Slopes.{meaning_of, IsUsable};
+ghost use Rattle.sdm_rules.specs.Slopes.{meaning_of, most_bands, IsUsable};
 ghost use Rattle.sdm_rules.specs.Curves.{exact, stepped, most_slack};
-ghost use Rattle.sdm_curve.specs.Asked.{IsAskedOf};
-ghost use Rattle.sdm_curve.specs.Made.{BrakeCurve, IsFootPlace, IsMadeFrom, IsStepped, most_distance};
+ghost use Rattle.sdm_curve.specs.Asked.{Asked, IsAskedOf, IsBandOf};
+ghost use Rattle.sdm_curve.specs.Made.{BrakeCurve, IsFootPlace, IsMadeFrom, most_distance};
 
-use crate::asked::{AskedSpeed, band_of};
 use crate::knots::Knot;
 use crate::map::BandMap;
 use sdm_num::{Early, Place, Speed};
 use sdm_rules::MOST_BANDS;
 use std::marker::Model;
+
+/// A speed with its band in a map, counted from 0, and the energy of its square there. Many curves of the map can be asked
+/// for it. (own)
+#[derive(Clone, Copy, Debug)]
+pub struct AskedSpeed {
+    speed: Speed,
+    band: usize,
+    energy: u128,
+}
+
+impl Model for AskedSpeed {
+    ghost Value = { Asked };
+
+    ghost view = { λ a. record { speed = a.speed; band = a.band; energy = a.energy } };
+
+    ghost invariant = { λ a. (a.speed ≤ top_speed) × (a.band < most_bands) × (a.energy ≤ 10 ^ 32) };
+
+    ghost inverse = { λ a. record { speed = a.speed; band = a.band; energy = a.energy } };
+}
+
+/// The first band whose upper speed is not below the speed, else the last band.
+fn band_of(map: &BandMap, v: Speed) -> usize
+    ensures value { IsBandOf map.now.uppers v result }
+    ensures usable { IsUsable (meaning_of map.now) }
+{
+    let last = map.bands() - 1;
+    for band in 0..last {
+        if v.notches() <= map.upper(band).notches() {
+            return band;
+        }
+    }
+    last
+}
+
+impl BandMap {
+    /// The speed with what it has in this map.
+    pub fn asked(&self, v: Speed) -> AskedSpeed
+        ensures speed { result.speed ≡ v }
+        ensures asked { IsAskedOf (meaning_of self.now) result }
+    {
+        AskedSpeed {
+            speed: v,
+            band: band_of(self, v),
+            energy: self.energy_of(v),
+        }
+    }
+}
+
+impl AskedSpeed {
+    /// The speed itself.
+    pub fn speed(&self) -> Speed
+        ensures { result ≡ self.now.speed }
+    {
+        self.speed
+    }
+}
 
 /// The most grains that a computed place lies before the exact one: less than a millimetre. (own)
 const MOST_SLACK: u32 = 286_331_153;
@@ -37,7 +94,7 @@ impl Model for Curve {
     ghost inverse = { λ c. record { foot = c.place; speed = c.speed; knots = c.knots } };
 }
 
-// The knots of the curve with this foot and foot speed, from its own band back and on.
+/// The knots of the curve with this foot and foot speed, from its own band back and on.
 fn knots_of(map: &BandMap, foot: Place, speed: Speed) -> [Knot; MOST_BANDS]
     requires { IsFootPlace foot }
     ensures made { IsMadeFrom (meaning_of map.now) (record { place = foot; speed = speed; knots = result }) }
@@ -72,19 +129,6 @@ impl Curve {
         }
     }
 
-    // The place where the curve has the asked speed, rounded down to a whole grain at each band border and at the end.
-    fn stepped_place(&self, map: &BandMap, asked: &AskedSpeed) -> Place
-        requires made { IsMadeFrom (meaning_of map.now) self.now }
-        requires asked { IsAskedOf (meaning_of map.now) asked.now }
-        ensures stepped { IsStepped map.now self.now asked.now.speed result }
-        ensures foot { IsFootPlace self.now.place }
-        ensures usable { IsUsable (meaning_of map.now) }
-    {
-        let band = asked.band();
-        let spot = self.knots[band].spot_of(map, band, asked.energy());
-        spot.place()
-    }
-
     /// The place where the curve has the asked speed, on the safe side of the exact one. The map has the contents that the
     /// curve was made from, and that the speed was asked of.
     pub fn place_asked(&self, map: &BandMap, asked: &AskedSpeed) -> Early
@@ -98,7 +142,8 @@ impl Curve {
         ensures not_past { result.at ≤ℤ (self.now.place +ℤ pos most_distance) }
         ensures range { (neg_ℤ (pos (10 ^ 18)) ≤ℤ result.at) × (result.at ≤ℤ pos (10 ^ 18)) }
     {
-        Early::new(self.stepped_place(map, asked), MOST_SLACK)
+        let spot = self.knots[asked.band].spot_of(map, asked.band, asked.energy);
+        Early::new(spot.place(), MOST_SLACK)
     }
 
     /// The place where the curve has the speed `v`, on the safe side of the exact one. The map has the contents that the

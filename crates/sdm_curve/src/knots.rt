@@ -34,7 +34,7 @@ impl Model for Knot {
 }
 
 impl Knot {
-    // The knot at a spot of a band.
+    /// The knot at a spot of a band.
     fn at(map: &BandMap, band: usize, spot: Spot, speed: Speed) -> Knot
         requires known_band { band < bands_of map.now.uppers }
         requires fits { IsPlace spot.grain }

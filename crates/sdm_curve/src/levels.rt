@@ -27,7 +27,7 @@ impl Spot {
     }
 }
 
-// The segment that holds a grain.
+/// The segment that holds a grain.
 fn segment_of_grain(map: &BandMap, grain: i128) -> usize
     ensures { IsPlaceIn map.now result grain }
 {
@@ -57,7 +57,7 @@ pub fn spot_at(map: &BandMap, place: Place) -> Spot
     }
 }
 
-// A segment, found by high words alone: the next one begins past every level with this high word.
+/// A segment, found by high words alone: the next one begins past every level with this high word.
 fn segment_of_key(map: &BandMap, band: usize, key: u64) -> usize
     requires known_band { band < bands_of map.now.uppers }
     ensures known { result < length map.now.starts }
@@ -67,7 +67,7 @@ fn segment_of_key(map: &BandMap, band: usize, key: u64) -> usize
     let mut high = map.segments();
     while high - low > 1 {
         let middle = low + (high - low) / 2;
-        if map.key(band, middle) <= key {
+        if (map.sum(band, middle) >> 64) as u64 <= key {
             low = middle;
         } else {
             high = middle;
@@ -76,7 +76,7 @@ fn segment_of_key(map: &BandMap, band: usize, key: u64) -> usize
     low
 }
 
-// The segment that holds the last grain at a level of a band.
+/// The segment that holds the last grain at a level of a band.
 fn segment_of_level(map: &BandMap, band: usize, level: u128) -> usize
     requires known_band { band < bands_of map.now.uppers }
     ensures { IsLevelIn map.now band result level }
@@ -88,40 +88,8 @@ fn segment_of_level(map: &BandMap, band: usize, level: u128) -> usize
     segment
 }
 
-// The same for a level below 0, which lies before cell 0: the first segment has no beginning.
-fn last_before_0(map: &BandMap, band: usize, level: i128) -> Spot
-    requires known_band { band < bands_of map.now.uppers }
-    requires low { neg_ℤ (pos (10 ^ 37)) ≤ℤ level }
-    requires before { level <ℤ pos 0 }
-    ensures last { IsLastAtMost (meaning_of map.now) band level result.grain }
-    ensures segment { IsPlaceIn map.now result.segment result.grain }
-    ensures kept { IsKeptMap (handed_in map.now) }
-{
-    Spot {
-        segment: 0,
-        grain: level.div_euclid(i128::from(map.rate_before_0(band))),
-    }
-}
-
-// The last grain at a level of a band that is not below 0.
-fn last_from_0(map: &BandMap, band: usize, level: u128) -> Spot
-    requires known_band { band < bands_of map.now.uppers }
-    requires high { level ≤ 10 ^ 37 }
-    ensures last { IsLastAtMost (meaning_of map.now) band (pos level) result.grain }
-    ensures segment { IsPlaceIn map.now result.segment result.grain }
-    ensures kept { IsKeptMap (handed_in map.now) }
-{
-    let segment = segment_of_level(map, band, level);
-    let rest = level - map.sum(band, segment);
-    let rate = u128::from(map.rate(band, segment));
-    let grains = rest / rate;
-    Spot {
-        segment,
-        grain: (u128::from(map.segment_start(segment)) + grains) as i128,
-    }
-}
-
-/// The last grain where the integral of a band is at most a level.
+/// The last grain where the integral of a band is at most a level. A level below 0 lies before cell 0: the first segment has
+/// no beginning.
 pub fn last_at_most(map: &BandMap, band: usize, level: i128) -> Spot
     requires known_band { band < bands_of map.now.uppers }
     requires low { neg_ℤ (pos (10 ^ 37)) ≤ℤ level }
@@ -131,13 +99,22 @@ pub fn last_at_most(map: &BandMap, band: usize, level: i128) -> Spot
     ensures kept { IsKeptMap (handed_in map.now) }
 {
     if level < 0 {
-        last_before_0(map, band, level)
-    } else {
-        last_from_0(map, band, level as u128)
+        return Spot {
+            segment: 0,
+            grain: level.div_euclid(i128::from(map.rate_before_0(band))),
+        };
+    }
+    let segment = segment_of_level(map, band, level as u128);
+    let rest = level as u128 - map.sum(band, segment);
+    let rate = u128::from(map.rate(band, segment));
+    let grains = rest / rate;
+    Spot {
+        segment,
+        grain: (u128::from(map.segment_start(segment)) + grains) as i128,
     }
 }
 
-// The energy of a distance of so many grains, with the distance's sign.
+/// The energy of a distance of so many grains, with the distance's sign.
 fn energy_over(rate: u64, distance: i128) -> i128
     requires rate { rate ≤ 27 * 10 ^ 15 }
     requires low { neg_ℤ (pos (2 ^ 65)) ≤ℤ distance }

@@ -2,7 +2,6 @@
 //! How the place of a curve is found is known here alone: contracts speak of what a map stands for.
 #![tactic(auto)]
 
-mod asked;
 mod checks;
 mod curve;
 mod faults;
@@ -12,8 +11,7 @@ mod map;
 mod map_data;
 mod squares;
 
-pub use asked::AskedSpeed;
-pub use curve::Curve;
+pub use curve::{AskedSpeed, Curve};
 pub use faults::CurveFault;
 pub use map::BandMap;
 pub use map_data::is_map_data;

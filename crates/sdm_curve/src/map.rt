@@ -7,7 +7,7 @@ ghost use Rattle.sdm_curve.specs.Maps.{map_data, handed_in, AreStarts, IsMapData
 ghost use Rattle.sdm_curve.specs.Integrals.{AreRates, AreSums, IsSummed, segment_start, slope_of, sum_of};
 ghost use Rattle.sdm_curve.specs.Faults.{IsMapFault};
 
-use crate::checks::fault_of;
+use crate::checks::check;
 use crate::faults::CurveFault;
 use sdm_num::Speed;
 use std::alloc::{AllocError, Global};
@@ -36,7 +36,7 @@ impl Model for BandMap {
     ghost invariant = { λ m. IsSummed (record { q = m.q; uppers = m.uppers.items; starts = m.starts.items; slopes = m.slopes.items }) m.rates.items m.sums.items };
 }
 
-// Slopes that are not below 0, as naturals.
+/// Slopes that are not below 0, as naturals.
 fn naturals(alloc: Global, slopes: &[i64]) -> Result<Vec<u64>, AllocError>
     ensures { IfOk result (λ v. v.items ≡ map unsigned_abs slopes.now) }
 {
@@ -46,7 +46,7 @@ fn naturals(alloc: Global, slopes: &[i64]) -> Result<Vec<u64>, AllocError>
         .collect(alloc)
 }
 
-// The energy of a grain for each slope.
+/// The energy of a grain for each slope.
 fn rates_of(alloc: Global, slopes: &[u64]) -> Result<Vec<u64>, AllocError>
     requires { (k : ℕ) → k < length slopes.now → slice_index slopes.now k ≤ 10 ^ 15 }
     ensures { IfOk result (λ v. AreRates slopes.now v.items) }
@@ -58,7 +58,7 @@ fn rates_of(alloc: Global, slopes: &[u64]) -> Result<Vec<u64>, AllocError>
     Ok(rates)
 }
 
-// The place in grains where a segment begins.
+/// The place in grains where a segment begins.
 fn segment_start(starts: &[i32], i: usize) -> u64
     requires rising { AreStarts starts.now }
     requires known { i < length starts.now }
@@ -67,7 +67,7 @@ fn segment_start(starts: &[i32], i: usize) -> u64
     CELL * starts[i] as u64
 }
 
-// The length in grains of a segment that is not the last.
+/// The length in grains of a segment that is not the last.
 fn length_at(starts: &[i32], i: usize) -> u64
     requires rising { AreStarts starts.now }
     requires known { i + 1 < length starts.now }
@@ -77,7 +77,7 @@ fn length_at(starts: &[i32], i: usize) -> u64
     segment_start(starts, i + 1) - segment_start(starts, i)
 }
 
-// For each band and segment the energy from cell 0 to the segment's start.
+/// For each band and segment the energy from cell 0 to the segment's start.
 fn sums_of(
     alloc: Global,
     bands: usize,
@@ -104,7 +104,7 @@ fn sums_of(
     Ok(sums)
 }
 
-// The map of what was handed in.
+/// The map of what was handed in.
 fn kept(
     alloc: Global,
     q: u32,
@@ -147,9 +147,7 @@ impl BandMap {
         ensures accepted { IfOk result (λ _. AreAccepted (map_data q uppers.now starts.now slopes.now)) }
         ensures fault { IfErr result (IsMapFault (map_data q uppers.now starts.now slopes.now)) }
     {
-        if let Some(fault) = fault_of(q, uppers, starts, slopes) {
-            return Err(fault);
-        }
+        check(q, uppers, starts, slopes)?;
         kept(alloc, q, uppers, starts, slopes).map_err(|_| CurveFault::Memory)
     }
 
@@ -267,14 +265,5 @@ impl BandMap {
         ensures small { result ≤ 10 ^ 36 }
     {
         self.sums[band * self.segments() + i]
-    }
-
-    /// The high word of that energy, by which a segment is searched.
-    pub(crate) fn key(&self, band: usize, i: usize) -> u64
-        requires known_band { band < bands_of self.now.uppers }
-        requires known { i < length self.now.starts }
-        ensures { result ≡ sum_of self.now band i / 2 ^ 64 }
-    {
-        (self.sum(band, i) >> 64) as u64
     }
 }

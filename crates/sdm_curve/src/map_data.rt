@@ -9,7 +9,7 @@ use sdm_rules::MOST_BANDS;
 /// The furthest that a slope may be from 0.
 const MOST_SLOPE: u64 = 1_000_000_000_000_000;
 
-// Whether the upper speeds are few, above 0 and rising.
+/// Whether the upper speeds are few, above 0 and rising.
 fn are_uppers(uppers: &[Speed]) -> bool
     ensures { IsTrue result → AreUppers uppers.now }
 {
@@ -26,7 +26,7 @@ fn are_uppers(uppers: &[Speed]) -> bool
     true
 }
 
-// Whether the first cells of segments begin at 0 and rise.
+/// Whether the first cells of segments begin at 0 and rise.
 fn are_starts(starts: &[i32]) -> bool
     ensures { IsTrue result → AreStarts starts.now }
 {
@@ -46,7 +46,7 @@ fn are_starts(starts: &[i32]) -> bool
     true
 }
 
-// Whether no slope is too far from 0.
+/// Whether no slope is too far from 0.
 fn are_bounded(slopes: &[i64]) -> bool
     ensures { IsTrue result → (k : ℕ) → k < length slopes.now → IsSlopeBounded (slice_index_or slopes.now k (pos 0)) }
 {
@@ -58,7 +58,7 @@ fn are_bounded(slopes: &[i64]) -> bool
     true
 }
 
-// Whether there are as many slopes as bands and segments ask for.
+/// Whether there are as many slopes as bands and segments ask for.
 fn are_enough(bands: usize, segments: usize, slopes: usize) -> bool
     ensures { IsTrue result → slopes ≡ bands * segments }
 {

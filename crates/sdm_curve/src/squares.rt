@@ -12,7 +12,7 @@ use sdm_num::Speed;
 /// The energy of a change of the square by a squared notch, with q = 1. (own unit)
 const SQUARE_ENERGY: u64 = 5_000_000_000_000;
 
-// The square of a speed.
+/// The square of a speed.
 fn square_of(v: Speed) -> u64
     ensures value { result ≡ v * v }
     ensures small { result ≤ top_speed * top_speed }

@@ -94,13 +94,13 @@ fn a_map_keeps_what_was_handed_in(rt: HostRuntime) -> Result<(), CurveFault> {
 
 // ---- places
 
-// A metre in grains, and 1 m/s in notches.
+/// A metre in grains, and 1 m/s in notches.
 const METRE: i64 = 540_000_000_000;
 
 const M_S: u32 = 54_000;
 
-// A curve by its foot in metres and its foot speed in notches, a speed in notches, and the curve's place of that speed in
-// grains.
+/// A curve by its foot in metres and its foot speed in notches, a speed in notches, and the curve's place of that speed in
+/// grains.
 #[derive(Clone, Copy)]
 struct Case(i32, u32, u32, i64);
 
@@ -113,7 +113,7 @@ fn curve_of(rt: &impl Abort, map: &BandMap, foot: i32, foot_speed: u32) -> Curve
     Curve::from_foot(map, Place::of_mm(1_000 * foot), Speed::new(foot_speed))
 }
 
-// Each place is as the case says, asked by its speed and by the speed that was asked of the map.
+/// Each place is as the case says, asked by its speed and by the speed that was asked of the map.
 fn assert_places(rt: &impl Abort, map: &BandMap, cases: &[Case]) {
     for case in cases {
         let curve = curve_of(rt, map, case.0, case.1);
@@ -226,14 +226,14 @@ fn places_are_rounded_down_at_each_border_and_at_the_end(
 
 // ---- many segments
 
-// Segments with their first cells and slopes.
+/// Segments with their first cells and slopes.
 #[derive(Drop)]
 struct Segments {
     starts: Vec<i32>,
     slopes: Vec<i64>,
 }
 
-// Segments of equal length, whose slopes go by turns.
+/// Segments of equal length, whose slopes go by turns.
 fn by_turns(
     alloc: Global,
     count: i32,
@@ -253,8 +253,8 @@ fn by_turns(
     Ok(Segments { starts, slopes })
 }
 
-// 640 uneven segments over some 9.6 km: segment `i` begins at cell 1500 i + (37 i mod 500), and in band `b`, counted from
-// 0, has the slope of 5 · (1 + (7 i + 3 b) mod 15) cm/s².
+/// 640 uneven segments over some 9.6 km: segment `i` begins at cell 1500 i + (37 i mod 500), and in band `b`, counted from
+/// 0, has the slope of 5 · (1 + (7 i + 3 b) mod 15) cm/s².
 fn uneven(alloc: Global) -> Result<Segments, CurveFault> {
     let mut starts = Vec::new(alloc);
     let mut slopes = Vec::new(alloc);
@@ -279,7 +279,7 @@ fn a_place_among_a_thousand_segments(rt: HostRuntime) -> Result<(), CurveFault> 
     Ok(())
 }
 
-// The places were worked out segment by segment and band by band in whole fractions, by a program apart from this one.
+/// The places were worked out segment by segment and band by band in whole fractions, by a program apart from this one.
 #[test]
 fn places_among_640_segments_in_eight_bands(rt: HostRuntime) -> Result<(), CurveFault> {
     let uppers = [

@@ -3,11 +3,10 @@
 -- places.
 use Rattle.std.proofs.Common.{◌≡◌, ℕ, ℤ, zero, suc, pos, List, [], ◌∷◌, length, slice_index, ◌*◌, ◌<◌, ◌≤◌, ◌*ℤ◌, ◌≤ℤ◌, ◌<ℤ◌, arith, inl, inr}
 use Rattle.std.specs.Prelude.{All}
-use Rattle.std.specs.List.{AllByRecursion}
 use Rattle.std.specs.Int.Signed.{clash_ℤ}
 use Rattle.std.proofs.lemmas.Int.{ints, by_lt_z}
 use Rattle.std.proofs.lemmas.Bool.{cases_lt}
-use Rattle.std.proofs.lemmas.List.Elements.{All-from_recursion}
+use Rattle.std.proofs.lemmas.List.Elements.{All-nil, All-cons}
 use Rattle.std.proofs.lemmas.Nat.{mul-le}
 use Rattle.std.proofs.Math.Nat.{mul-le-mul_left}
 use Rattle.sdm_num.specs.Fractions.{whole, IsAtMost, IsBefore}
@@ -111,12 +110,10 @@ within_held on m f w x usable m_pos within =
 
 -- ---- all points
 
-pub each_held : (on : Slopes) (m : ℕ) (f : ℤ) (w : ℕ) (x : Point) (ys : List Point) → IsUsable on → 0 < m → IsBraking on m x ys →
-    IsWithinCurve on m f w x → AllByRecursion (IsHeldByCurve on m f w) (x ∷ ys)
-each_held on m f w x [] usable m_pos b within = (within_held on m f w x usable m_pos within, tt)
-each_held on m f w x (y ∷ ys) usable m_pos b within = (within_held on m f w x usable m_pos within, each_held on m f w y ys usable m_pos b.1 (step_within on m f w x y usable m_pos b.0 within))
-
 pub braking : (on : Slopes) (m : ℕ) (f : ℤ) (w : ℕ) (x : Point) (ys : List Point) → IsUsable on → 0 < m → IsBraking on m x ys →
     IsWithinCurve on m f w x → All (IsHeldByCurve on m f w) (x ∷ ys)
-braking on m f w x ys usable m_pos b within = All-from_recursion (IsHeldByCurve on m f w) (x ∷ ys)
-    (each_held on m f w x ys usable m_pos b within)
+braking on m f w x [] usable m_pos b within =
+    All-cons (IsHeldByCurve on m f w) x [] (within_held on m f w x usable m_pos within) (All-nil _)
+braking on m f w x (y ∷ ys) usable m_pos b within =
+    All-cons (IsHeldByCurve on m f w) x (y ∷ ys) (within_held on m f w x usable m_pos within)
+    (braking on m f w y ys usable m_pos b.1 (step_within on m f w x y usable m_pos b.0 within))

@@ -1,14 +1,14 @@
 -- The flat supervisor: its one slope is usable, so its curve has the laws of curves; its commands are triggers on the curve's
 -- place, and a motion from a covered line is held by the curve.
-use Rattle.std.proofs.Common.{◌≡◌, ℕ, ℤ, pos, neg_ℤ, false, nat_lt, [], ◌∷◌, ◌<◌, ◌*◌, ◌+ℤ◌, refl, subst, sym, arith}
+use Rattle.std.proofs.Common.{◌≡◌, ℕ, ℤ, pos, neg_ℤ, false, nat_lt, ◌∷◌, ◌<◌, ◌*◌, ◌+ℤ◌, refl, subst, sym, arith}
 use Rattle.std.proofs.lemmas.Int.{ints}
 use Rattle.std.proofs.lemmas.Bool.{not-true}
-use Rattle.std.proofs.lemmas.List.Elements.{All-from_recursion}
+use Rattle.std.proofs.lemmas.List.Elements.{All-weaker}
 use Rattle.std.proofs.Math.Nat.{mul-le-mul_left}
 use Rattle.sdm_rules.specs.declared.motions.Point.{Point}
 use Rattle.sdm_rules.specs.Cells.{place_of_cell}
 use Rattle.sdm_rules.specs.Curves.{stepped}
-use Rattle.sdm_rules.specs.Motion.{IsBy, slice_ends}
+use Rattle.sdm_rules.specs.Motion.{IsBy}
 use Rattle.sdm_rules.specs.Reaction.{build_up_of, d_bec, v_bec}
 use Rattle.sdm_rules.specs.Limits.{computed}
 use Rattle.sdm_rules.specs.Triggers.{is_past}
@@ -18,10 +18,10 @@ use Rattle.sdm_laws.specs.FlatLaws.{LawOfFlatSlopes, LawOfFlatMachines, LawOfFla
 use Rattle.sdm_laws.proofs.Nearness.{exact_sooner, low_sooner}
 use Rattle.sdm_laws.proofs.CurveNearness.{near_on}
 use Rattle.sdm_laws.proofs.TriggerOrder.{same, or_implies, and_implies}
-use Rattle.sdm_laws.proofs.Braking.{each_held}
+use Rattle.sdm_laws.proofs.Braking.{braking}
 use Rattle.sdm_laws.proofs.StopFacts.{within_first}
-use Rattle.sdm_laws.proofs.Reaction.{each_in_reach}
-use Rattle.sdm_laws.proofs.Stops.{not_past, each, all_split}
+use Rattle.sdm_laws.proofs.Reaction.{in_reach}
+use Rattle.sdm_laws.proofs.Stops.{not_past}
 
 pub flat_usable : LawOfFlatSlopes
 flat_usable decel some = record {
@@ -56,12 +56,12 @@ flat_stop s l some covered scale p v xs first more m =
     let free = not-true (is_past 0 l.front (computed on foot 0 l.speed)) covered in
     let same_place : at +ℤ neg_ℤ (pos (0 * 1)) ≡ at = omega (arith, ints) in
     let begins = not_past on usable foot 0 l.speed 0 l.front (subst (λ (n : ℤ). is_past 0 l.front (record { n = n; m = 1 }) ≡ false) (sym same_place) free) in
-    let bounds = each_in_reach scale (flat_start l) on 0 p v xs first more m.1.motion m.1.speed in
+    let reached = in_reach scale (flat_start l) on 0 p v xs first more m.1.motion m.1.speed in
     let reaction = build_up_of (flat_start l) in
     let B : ℕ → ℕ → Point → Type 0 = λ distance speed. IsBounded (p +ℤ pos (scale * scale * distance)) (scale * speed) in
     let distance : d_bec reaction 0 ≡ 0 = omega arith in
     let speed : v_bec reaction 0 ≡ l.speed = omega arith in
-    let last = subst (λ (k : ℕ). B 0 k first) speed (subst (λ (k : ℕ). B k (v_bec reaction 0) first) distance (all_split (B (d_bec reaction 0) (v_bec reaction 0)) (slice_ends p v xs) (first ∷ []) bounds).1.0) in
+    let last = subst (λ (k : ℕ). B 0 k first) speed (subst (λ (k : ℕ). B k (v_bec reaction 0) first) distance reached.begins) in
     let within = within_first on usable scale foot 0 l.speed 0 l.front p first pos_m begins m.1.place last in
-    let held = each_held on (scale * scale) foot 0 first more usable pos_m m.1.motion.braking within in
-    All-from_recursion (IsBy scale foot) (first ∷ more) (each (IsHeldByCurve on (scale * scale) foot 0) (IsBy scale foot) (λ y k. k.standing refl) (first ∷ more) held)
+    let held = braking on (scale * scale) foot 0 first more usable pos_m m.1.motion.braking within in
+    All-weaker (IsHeldByCurve on (scale * scale) foot 0) (IsBy scale foot) (λ y k. k.standing refl) (first ∷ more) held

@@ -7,6 +7,7 @@ pub mod CommonSteps
 pub mod Arcs
 pub mod BandSteps
 pub mod Knots
+pub mod TwoWalks
 pub mod Slack
 pub mod Chains
 pub mod CurveChains

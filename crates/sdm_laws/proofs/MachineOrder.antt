@@ -1,8 +1,7 @@
 -- The order of the three machines over a reading: each computed limit lies just before the exact one, so the exact machine
 -- passes a limit only where the row machine does, and this one only where the early machine does; the triggers follow.
-use Rattle.std.proofs.Common.{ℕ, true, false, List, [], ◌∷◌, Option, Some, None}
+use Rattle.std.proofs.Common.{ℕ, true, false, Option, Some, None}
 use Rattle.std.specs.Prelude.{if◌then◌else◌}
-use Rattle.std.specs.List.{AllByRecursion}
 use Rattle.sdm_num.specs.Units.{millimetre, distance_at}
 use Rattle.sdm_num.specs.Fractions.{Fraction}
 use Rattle.sdm_rules.specs.declared.data.Times.{Times}
@@ -95,10 +94,6 @@ all_exact_sooner x y h = record { ebi = if_exact_sooner _ _ h.ebi; sbi = exact_s
 all_low_sooner : (x y : SupervisionLimits) → AreLimitsJustBefore x y → AreSooner 0 x millimetre y
 all_low_sooner x y h = record { ebi = if_low_sooner _ _ h.ebi; sbi = low_sooner _ _ h.sbi; warning = low_sooner _ _ h.warning; permitted = low_sooner _ _ h.permitted }
 
-each_of : (P : Target → Type 0) → ((t : Target) → P t) → (ts : List Target) → AllByRecursion P ts
-each_of P f [] = tt
-each_of P f (t ∷ ts) = (f t, each_of P f ts)
-
 pub keeps_order : (s : Supervision) (r : OdometerReading) → AreUsable s.train_and_track → KeepsOrder s r (held_after s r)
 unfolding machine_after commands_in commands_after
 keeps_order s r near must may order =
@@ -107,7 +102,7 @@ keeps_order s r near must may order =
     let exact = limits_of exact_places s.train_and_track (estimate_of r) in
     record {
       needed = emergency_implies _ _ must s.commands.eb _ _
-          (triggers_imply exact low 0 0 now (each_of _ (λ t. all_exact_sooner (low t) (exact t) (limits_near s.train_and_track near r t)) now.targets)) order.needed;
+          (triggers_imply exact low 0 0 now (λ t. all_exact_sooner (low t) (exact t) (limits_near s.train_and_track near r t))) order.needed;
       allowed = emergency_implies _ _ s.commands.eb may _ _
-          (triggers_imply low exact 0 millimetre now (each_of _ (λ t. all_low_sooner (low t) (exact t) (limits_near s.train_and_track near r t)) now.targets)) order.allowed;
+          (triggers_imply low exact 0 millimetre now (λ t. all_low_sooner (low t) (exact t) (limits_near s.train_and_track near r t))) order.allowed;
     }

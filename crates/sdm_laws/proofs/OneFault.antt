@@ -1,6 +1,6 @@
 -- An opening is never both accepted and refused, and has one first fault: an earlier fault contradicts that everything before
 -- the later one is accepted.
-use Rattle.std.proofs.Common.{◌≡◌, ℕ, ℤ, suc, pos, ◌*ℤ◌, ◌≤ℤ◌, ◌<ℤ◌, refl, sym, subst, arith, inl, inr, ◌∙◌}
+use Rattle.std.proofs.Common.{◌≡◌, ℕ, ℤ, suc, pos, ◌<◌, ◌*ℤ◌, ◌≤ℤ◌, ◌<ℤ◌, refl, sym, subst, arith, inl, inr, ◌∙◌}
 use Rattle.std.proofs.lemmas.Int.{ints}
 use Rattle.std.proofs.lemmas.Bool.{cases_order}
 use Rattle.sdm_rules.specs.declared.authorities.Authority.{Authority}
@@ -11,6 +11,11 @@ use Rattle.sdm_rules.specs.declared.faults.OpenFault.TheVariants.{TooWeak, TooVa
 use Rattle.sdm_rules.specs.Data.{TrainAndTrack}
 use Rattle.sdm_rules.specs.Decelerations.{slope_at}
 use Rattle.sdm_rules.specs.Opening.{IsStrongAt, IsStrong, IsEven, IsRange, IsAcceptedKind, IsFirstWeak, IsFirstVaried, AreBefore, IsAccepted, IsOpenFault, variation_of}
+
+-- two numbers that are neither before the other are one
+one_number : (b b' : ℕ) → (b < b' → ⊥) → (b' < b → ⊥) → b ≡ b'
+one_number b b' h k =
+    elim (cases_order b b') [ inl e ↦ e | inr o ↦ elim o [ inl lt ↦ absurd (h lt) | inr gt ↦ absurd (k gt) ] ]
 
 -- ---- one kind
 
@@ -33,23 +38,15 @@ varied_refuses : (kind : SlopeKind) (d : TrainAndTrack) (band : ℕ) (least grea
 varied_refuses kind d band least greatest w ok = varied_clash kind d band least greatest w.range w.varied (ok.even band w.known)
 
 one_weak_band : (kind : SlopeKind) (d : TrainAndTrack) (b b' c c' : ℕ) (a a' : ℤ) → IsFirstWeak kind d b c a → IsFirstWeak kind d b' c' a' → b ≡ b'
-one_weak_band kind d b b' c c' a a' w w' = elim (cases_order b b') [
-  | inl e ↦ e
-  | inr o ↦ elim o [
-    | inl lt ↦ absurd (weak_clash kind d b c a w (w'.lower_bands b c lt))
-    | inr gt ↦ absurd (weak_clash kind d b' c' a' w' (w.lower_bands b' c' gt))
-  ]
-]
+one_weak_band kind d b b' c c' a a' w w' =
+    one_number b b' (λ lt. weak_clash kind d b c a w (w'.lower_bands b c lt))
+    (λ gt. weak_clash kind d b' c' a' w' (w.lower_bands b' c' gt))
 
 one_weak_cell : (kind : SlopeKind) (d : TrainAndTrack) (b c c' : ℕ) (a a' : ℤ) → IsFirstWeak kind d b c a → IsFirstWeak kind d b c' a' →
     c ≡ c'
-one_weak_cell kind d b c c' a a' w w' = elim (cases_order c c') [
-  | inl e ↦ e
-  | inr o ↦ elim o [
-    | inl lt ↦ absurd (weak_clash kind d b c a w (w'.earlier_cells c lt))
-    | inr gt ↦ absurd (weak_clash kind d b c' a' w' (w.earlier_cells c' gt))
-  ]
-]
+one_weak_cell kind d b c c' a a' w w' =
+    one_number c c' (λ lt. weak_clash kind d b c a w (w'.earlier_cells c lt))
+    (λ gt. weak_clash kind d b c' a' w' (w.earlier_cells c' gt))
 
 -- where the first weak slope is, there is one value
 record IsSameWeak (b b' c c' : ℕ) (a a' : ℤ) : Type 0 where
@@ -78,13 +75,9 @@ greatest_once kind d b l l' g g' r r' =
     omega (arith, ints)
 
 one_varied_band : (kind : SlopeKind) (d : TrainAndTrack) (b b' : ℕ) (l l' g g' : ℤ) → IsFirstVaried kind d b l g → IsFirstVaried kind d b' l' g' → b ≡ b'
-one_varied_band kind d b b' l l' g g' w w' = elim (cases_order b b') [
-  | inl e ↦ e
-  | inr o ↦ elim o [
-    | inl lt ↦ absurd (varied_clash kind d b l g w.range w.varied (w'.lower_bands b lt))
-    | inr gt ↦ absurd (varied_clash kind d b' l' g' w'.range w'.varied (w.lower_bands b' gt))
-  ]
-]
+one_varied_band kind d b b' l l' g g' w w' =
+    one_number b b' (λ lt. varied_clash kind d b l g w.range w.varied (w'.lower_bands b lt))
+    (λ gt. varied_clash kind d b' l' g' w'.range w'.varied (w.lower_bands b' gt))
 
 -- ---- kinds
 

@@ -1,11 +1,12 @@
 -- A printed limit: it is the least of computed ones, each rounded down to a millimetre, and each of these lies just before its exact
--- one. What a least place is of its list, and what stands in the list of printed places, each by induction.
-use Rattle.std.proofs.Common.{◌≡◌, ℕ, ℤ, zero, suc, pos, Bool, true, false, cond, nat_le, List, [], ◌∷◌, Option, Some, None, ◌⊎◌, inl, inr, ◌*◌, ◌+ℤ◌, ◌*ℤ◌, ◌≤ℤ◌, ◌<ℤ◌, refl, sym, ap, ◌∙◌, subst, arith}
-use Rattle.std.specs.Prelude.{Contains, filter, filter_map, option_map, fold}
+-- one. What stands in the list of printed places is shown by induction.
+use Rattle.std.proofs.Common.{◌≡◌, ℕ, ℤ, zero, suc, pos, Bool, true, false, cond, nat_le, List, [], ◌∷◌, Option, Some, None, inl, inr, ◌*◌, ◌+ℤ◌, ◌*ℤ◌, ◌≤ℤ◌, ◌<ℤ◌, refl, sym, ap, subst, arith}
+use Rattle.std.specs.Prelude.{All, Contains, filter, filter_map, option_map, fold}
 use Rattle.std.specs.Int.{int_min}
 use Rattle.std.specs.List.{cons_option}
-use Rattle.std.proofs.lemmas.Int.{ints, clamps, by_lt_z}
+use Rattle.std.proofs.lemmas.Int.{ints, fold-int_min_bounds, fold-int_min_reached}
 use Rattle.std.proofs.lemmas.Bool.{le-leb, leb-true}
+use Rattle.std.proofs.lemmas.List.Elements.{All-cons, All-contains, All-nil, All-weaker, Contains-append_right}
 use Rattle.sdm_num.specs.Units.{millimetre, place_of_mm}
 use Rattle.sdm_num.specs.Fractions.{Fraction, IsAtMost, IsBefore, floor, more, whole}
 use Rattle.sdm_num.proofs.Ints.{scale-+ℤ, scale-≤}
@@ -44,37 +45,6 @@ near_printed low x h =
     at_most_before x (more low most_slack) _ h.positive h.low_positive h.near
     (record { crossed = below_further low.m low.n (floor low) _ most_slack (floor_high low.m low.n h.low_positive) (omega (arith, ints, high)) })
 
--- ---- the least of a list
-
-IsIn : ℤ → List ℤ → Type 0
-IsIn v [] = ⊥
-IsIn v (x ∷ xs) = (x ≡ v) ⊎ IsIn v xs
-
-record IsLeast (m x : ℤ) (xs : List ℤ) : Type 0 where
-  first : m ≤ℤ x
-  others : (v : ℤ) → IsIn v xs → m ≤ℤ v
-
-least_is : (x : ℤ) (xs : List ℤ) → IsLeast (fold int_min x xs) x xs
-unfolding IsIn
-least_is x [] = record { first = omega (arith, ints); others = λ v h. absurd h }
-least_is x (y ∷ ys) =
-    let h = least_is (int_min x y) ys in
-    record {
-      first = (let f = h.first in omega (arith, ints, clamps, f));
-      others = λ v e. elim e [
-        | inl is ↦ (let f = h.first in let same : y ≡ v = is in omega (arith, ints, clamps, f, same))
-        | inr later ↦ h.others v later
-      ];
-    }
-
-least_in : (x : ℤ) (xs : List ℤ) → IsIn (fold int_min x xs) (x ∷ xs)
-unfolding IsIn
-least_in x [] = inl refl
-least_in x (y ∷ ys) = elim (least_in (int_min x y) ys) [
-  | inl is ↦ by_lt_z y x (λ (lt : y <ℤ x). inr (inl (let f : int_min x y ≡ y = omega (arith, ints, clamps) in sym f ∙ is))) (λ (le : x ≤ℤ y). inl (let f : int_min x y ≡ x = omega (arith, ints, clamps) in sym f ∙ is))
-  | inr later ↦ inr (inr later)
-]
-
 -- ---- what is printed of a list of targets
 
 shown : (Target → Option ℤ) → (Target → Bool) → List Target → List ℤ
@@ -86,43 +56,52 @@ record IsShown (f : Target → Option ℤ) (p : Target → Bool) (ts : List Targ
   passes : p target ≡ true
   is : f target ≡ Some v
 
-in_cons : (o : Option ℤ) (vs : List ℤ) (v : ℤ) → IsIn v vs → IsIn v (cons_option o vs)
-unfolding IsIn
-in_cons None vs v h = h
-in_cons (Some w) vs v h = inr h
+module _ (f : Target → Option ℤ) (p : Target → Bool) where
+  in_cons : (o : Option ℤ) (vs : List ℤ) (v : ℤ) → Contains vs v → Contains (cons_option o vs) v
+  in_cons None vs v h = h
+  in_cons (Some w) vs v h = Contains-append_right (w ∷ []) vs v h
 
-keeps : (f : Target → Option ℤ) (p : Target → Bool) (x : Target) (xs : List Target) (v : ℤ) → IsIn v (shown f p xs) → IsIn v (shown f p (x ∷ xs))
-unfolding shown
-keeps f p x xs v h = elim (p x) as (λ b. IsIn v (filter_map f (cond b (x ∷ filter p xs) (filter p xs)))) [ true ↦ in_cons (f x) _ v h | false ↦ h ]
+  keeps : (x : Target) (xs : List Target) (v : ℤ) → Contains (shown f p xs) v → Contains (shown f p (x ∷ xs)) v
+  unfolding shown
+  keeps x xs v h =
+      elim (p x) as (λ b. Contains (filter_map f (cond b (x ∷ filter p xs) (filter p xs))) v) [
+        | true ↦ in_cons (f x) _ v h
+        | false ↦ h
+      ]
 
-adds : (f : Target → Option ℤ) (p : Target → Bool) (x : Target) (xs : List Target) (v : ℤ) → p x ≡ true → f x ≡ Some v → IsIn v (shown f p (x ∷ xs))
-unfolding shown IsIn
-adds f p x xs v e k = rw (e, k) (inl refl)
+  adds : (x : Target) (xs : List Target) (v : ℤ) → p x ≡ true → f x ≡ Some v → Contains (shown f p (x ∷ xs)) v
+  unfolding shown
+  adds x xs v e k = rw (e, k) (zero, omega arith, refl)
 
-in_shown : (f : Target → Option ℤ) (p : Target → Bool) (ts : List Target) (t : Target) (v : ℤ) → Contains ts t → p t ≡ true → f t ≡ Some v → IsIn v (shown f p ts)
-in_shown f p [] t v (k, lt, is) e j = absurd (omega arith)
-in_shown f p (x ∷ xs) t v (zero, lt, is) e j = adds f p x xs v (subst (λ (y : Target). p y ≡ true) (sym is) e) (subst (λ (y : Target). f y ≡ Some v) (sym is) j)
-in_shown f p (x ∷ xs) t v (suc k, lt, is) e j = keeps f p x xs v (in_shown f p xs t v (k, omega arith, is) e j)
+  -- a target that passes is shown
+  in_shown : (ts : List Target) (t : Target) (v : ℤ) → Contains ts t → p t ≡ true → f t ≡ Some v →
+      Contains (shown f p ts) v
+  in_shown [] t v (k, lt, is) e j = absurd (omega arith)
+  in_shown (x ∷ xs) t v (zero, lt, is) e j =
+      adds x xs v (subst (λ (y : Target). p y ≡ true) (sym is) e) (subst (λ (y : Target). f y ≡ Some v) (sym is) j)
+  in_shown (x ∷ xs) t v (suc k, lt, is) e j = keeps x xs v (in_shown xs t v (k, omega arith, is) e j)
 
-later : (f : Target → Option ℤ) (p : Target → Bool) (x : Target) (xs : List Target) (v : ℤ) → IsShown f p xs v → IsShown f p (x ∷ xs) v
-later f p x xs v h = record { target = h.target; there = (suc h.there.0, omega arith, h.there.2); passes = h.passes; is = h.is }
+  later : (x : Target) (xs : List Target) (v : ℤ) → IsShown f p xs v → IsShown f p (x ∷ xs) v
+  later x xs v h =
+      record { target = h.target; there = Contains-append_right (x ∷ []) xs h.target h.there; passes = h.passes; is = h.is }
 
-from_cons : (f : Target → Option ℤ) (p : Target → Bool) (x : Target) (xs : List Target) (v : ℤ) (o : Option ℤ) → p x ≡ true → f x ≡ o → (IsIn v (shown f p xs) → IsShown f p xs v) → IsIn v (cons_option o (shown f p xs)) → IsShown f p (x ∷ xs) v
-unfolding IsIn
-from_cons f p x xs v None e j rest h = later f p x xs v (rest h)
-from_cons f p x xs v (Some w) e j rest h = elim h [
-  | inl is ↦ record { target = x; there = (zero, omega arith, refl); passes = e; is = subst (λ (y : ℤ). f x ≡ Some y) is j }
-  | inr i ↦ later f p x xs v (rest i)
-]
+  from_cons : (x : Target) (xs : List Target) (vs : List ℤ) (o : Option ℤ) → p x ≡ true → f x ≡ o →
+      All (IsShown f p (x ∷ xs)) vs → All (IsShown f p (x ∷ xs)) (cons_option o vs)
+  from_cons x xs vs None e j rest = rest
+  from_cons x xs vs (Some w) e j rest =
+      All-cons (IsShown f p (x ∷ xs)) w vs (record { target = x; there = (zero, omega arith, refl); passes = e; is = j }) rest
 
-from_shown : (f : Target → Option ℤ) (p : Target → Bool) (ts : List Target) (v : ℤ) → IsIn v (shown f p ts) → IsShown f p ts v
-unfolding shown IsIn
-from_shown f p [] v h = absurd h
-from_shown f p (x ∷ xs) v h =
-    elim (p x) as (λ b. p x ≡ b → IsIn v (filter_map f (cond b (x ∷ filter p xs) (filter p xs))) → IsShown f p (x ∷ xs) v) [
-      | true ↦ λ e i. from_cons f p x xs v (f x) e refl (λ j. from_shown f p xs v j) i
-      | false ↦ λ e i. later f p x xs v (from_shown f p xs v i)
-    ] refl h
+  -- what is shown is that of a target
+  from_shown : (ts : List Target) → All (IsShown f p ts) (shown f p ts)
+  unfolding shown
+  from_shown [] = All-nil (IsShown f p [])
+  from_shown (x ∷ xs) =
+      let rest = All-weaker (IsShown f p xs) (IsShown f p (x ∷ xs)) (later x xs) _ (from_shown xs) in
+      let at : List Target → Type 0 = λ us. All (IsShown f p (x ∷ xs)) (filter_map f us) in
+      elim (p x) as (λ b. p x ≡ b → at (cond b (x ∷ filter p xs) (filter p xs))) [
+        | true ↦ λ e. from_cons x xs _ (f x) e refl rest
+        | false ↦ λ e. rest
+      ] refl
 
 -- ---- a printed limit
 
@@ -160,22 +139,32 @@ module _ (now : Situation) (low exact : Target → Option Fraction) (near : (t :
   is_slow t = nat_le (target_speed t) now.speed
 
   -- the place that is printed of a target stands in the list
-  printed_in : (t : Target) (x : Fraction) → IsPrintedOf now exact t x → (v : ℤ) × IsIn v (shown mm_of is_slow now.targets) × IsAtMost (whole (place_of_mm v)) x
+  printed_in : (t : Target) (x : Fraction) → IsPrintedOf now exact t x → (v : ℤ) × Contains (shown mm_of is_slow now.targets) v × IsAtMost (whole (place_of_mm v)) x
   printed_in t x h =
       let c = has_computed (low t) (exact t) x (near t) h.has in
       (whole_mm c.place, in_shown mm_of is_slow now.targets t (whole_mm c.place) h.there (le-leb _ _ h.slow) (ap (option_map whole_mm) c.is), at_most_printed c.place x c.just)
 
   printed_by : (vs : List ℤ) → shown mm_of is_slow now.targets ≡ vs → IsPrinted now exact (least_of vs)
-  unfolding IsIn
-  printed_by [] e = λ t x h. let i = printed_in t x h in (rw e at i.1)
+  printed_by [] e = λ t x h.
+      let i = printed_in t x h in
+      let there = subst (λ (l : List ℤ). Contains l i.0) e i.1 in
+      absurd (omega (arith, there.1))
   printed_by (v ∷ vs) e =
       let least = fold int_min v vs in
-      let from = from_shown mm_of is_slow now.targets least (subst (λ (l : List ℤ). IsIn least l) (sym e) (least_in v vs)) in
+      let From : ℤ → Type 0 = λ z. least ≤ℤ z in
+      let bounds = fold-int_min_bounds v vs least refl in
+      let there : Contains (v ∷ vs) least = elim (fold-int_min_reached v vs least refl) [
+        | inl is ↦ (zero, omega arith, sym is)
+        | inr later ↦ Contains-append_right (v ∷ []) vs least later
+      ] in
+      let all_shown = subst (All (IsShown mm_of is_slow now.targets)) e (from_shown mm_of is_slow now.targets) in
+      let from = All-contains (IsShown mm_of is_slow now.targets) (v ∷ vs) least all_shown there in
       let x = has_exact (low from.target) (exact from.target) least (near from.target) from.is in
       record {
         not_past = λ t y h.
             let i = printed_in t y h in
-            let le : least ≤ℤ i.0 = elim (subst (λ (l : List ℤ). IsIn i.0 l) e i.1) [ inl is ↦ (let f = (least_is v vs).first in let same : v ≡ i.0 = is in omega (arith, ints, f, same)) | inr j ↦ (least_is v vs).others i.0 j ] in
+            let i_there = subst (λ (l : List ℤ). Contains l i.0) e i.1 in
+            let le : least ≤ℤ i.0 = All-contains From (v ∷ vs) i.0 (All-cons From v vs bounds.0 bounds.1) i_there in
             at_most_trans (whole (place_of_mm least)) (whole (place_of_mm i.0)) y (omega arith) (whole_at_most _ _ (omega (arith, ints, le))) i.2;
         target = from.target;
         place = x.place;

@@ -2,9 +2,8 @@
 -- scale 1, and both together are V_bec and D_bec. A target speed only makes these greater.
 use Rattle.std.proofs.Common.{◌≡◌, ℕ, ℤ, pos, List, [], ◌∷◌, ◌++◌, ◌+◌, ◌*◌, ◌≤◌, ◌+ℤ◌, max, subst, arith}
 use Rattle.std.specs.Prelude.{All}
-use Rattle.std.specs.List.{AllByRecursion}
 use Rattle.std.proofs.lemmas.Int.{ints}
-use Rattle.std.proofs.lemmas.List.Elements.{All-from_recursion, recursion_from_All, All-append}
+use Rattle.std.proofs.lemmas.List.Elements.{All-nil, All-cons, All-append}
 use Rattle.std.proofs.lemmas.Nat.{mul-le}
 use Rattle.std.proofs.Math.Nat.{mul-le-mul_left}
 use Rattle.sdm_rules.specs.declared.motions.Phase.TheVariants.{Traction, Build}
@@ -76,7 +75,7 @@ module _ (s : ℕ) (start : Start) (target : ℕ) (p : ℤ) (v : ℕ) (traction 
       let cut_off = cut_off_speed in
       let one = ends_bounded start Traction p q v b traction parts.0 in_traction (omega arith) (omega (arith, ints)) in
       let two = ends_bounded start Build middle q (last_speed v traction) b build parts.1 in_build braking_speed (omega (arith, ints)) in
-      rw slice_ends-append (All-append (IsBounded q b) _ _ (All-from_recursion (IsBounded q b) _ one) (All-from_recursion (IsBounded q b) _ two))
+      rw slice_ends-append (All-append (IsBounded q b) _ _ one two)
 
   last_in_reach : IsInReach s start target p (last_point (record { place = p; square = v * v }) (slice_ends p v (traction ++ build)))
   last_in_reach =
@@ -87,19 +86,23 @@ module _ (s : ℕ) (start : Start) (target : ℕ) (p : ℤ) (v : ℕ) (traction 
 
 -- ---- a whole motion
 
-pub reaction : (s : ℕ) (start : Start) (on : Slopes) (target : ℕ) (p : ℤ) (v : ℕ) (xs : List Slice) (first : Point) (more : List Point) →
-    IsMotion s start on p v xs first more → v ≤ s * start.speed → All (IsInReach s start target p) (slice_ends p v xs ++ first ∷ [])
-reaction s start on target p v xs first more m slow =
+-- the ends of the slices and the first braking point are in reach
+pub record AreInReach (s : ℕ) (start : Start) (target : ℕ) (p : ℤ) (v : ℕ) (xs : List Slice) (first : Point) : Type 0 where
+  pub ends : All (IsInReach s start target p) (slice_ends p v xs)
+  pub begins : IsInReach s start target p first
+
+pub in_reach : (s : ℕ) (start : Start) (on : Slopes) (target : ℕ) (p : ℤ) (v : ℕ) (xs : List Slice) (first : Point) (more : List Point) →
+    IsMotion s start on p v xs first more → v ≤ s * start.speed → AreInReach s start target p v xs first
+in_reach s start on target p v xs first more m slow =
     let h = m.reaction in
     let slices : AreSlices start v (h.traction ++ h.build) = subst (λ (zs : List Slice). AreSlices start v zs) h.split h.slices in
     let ends = ends_in_reach s start target p v h.traction h.build h.in_traction h.in_build h.traction_time h.build_time slices slow in
     let last = last_in_reach s start target p v h.traction h.build h.in_traction h.in_build h.traction_time h.build_time slices slow in
-    let slices_in_reach : All (IsInReach s start target p) (slice_ends p v xs) = rw h.split ends in
-    let first_in_reach : IsInReach s start target p first = rw (m.begins, h.split) last in
-    All-append (IsInReach s start target p) _ _ slices_in_reach (All-from_recursion (IsInReach s start target p) (first ∷ []) (first_in_reach, tt))
+    record { ends = rw h.split ends; begins = rw (m.begins, h.split) last }
 
--- the same, point by point
-pub each_in_reach : (s : ℕ) (start : Start) (on : Slopes) (target : ℕ) (p : ℤ) (v : ℕ) (xs : List Slice) (first : Point) (more : List Point) →
-    IsMotion s start on p v xs first more → v ≤ s * start.speed → AllByRecursion (IsInReach s start target p) (slice_ends p v xs ++ first ∷ [])
-each_in_reach s start on target p v xs first more m slow =
-    recursion_from_All (IsInReach s start target p) _ (reaction s start on target p v xs first more m slow)
+pub reaction : (s : ℕ) (start : Start) (on : Slopes) (target : ℕ) (p : ℤ) (v : ℕ) (xs : List Slice) (first : Point) (more : List Point) →
+    IsMotion s start on p v xs first more → v ≤ s * start.speed → All (IsInReach s start target p) (slice_ends p v xs ++ first ∷ [])
+reaction s start on target p v xs first more m slow =
+    let h = in_reach s start on target p v xs first more m slow in
+    let R = IsInReach s start target p in
+    All-append R _ _ h.ends (All-cons R first [] h.begins (All-nil R))

@@ -1,9 +1,9 @@
 -- How fast a train gets, and how far it comes, in slices of one phase: with the phase's acceleration over all its time the
 -- sums of the slices' inequalities are those of one slice.
 use Rattle.std.proofs.Common.{◌≡◌, ℕ, ℤ, suc, pos, List, [], ◌∷◌, ◌++◌, ◌+◌, ◌*◌, ◌≤◌, ◌+ℤ◌, refl, subst, ap, arith, ◌∙◌}
-use Rattle.std.specs.Prelude.{◌≤ℤ◌}
-use Rattle.std.specs.List.{AllByRecursion}
+use Rattle.std.specs.Prelude.{◌≤ℤ◌, All}
 use Rattle.std.proofs.lemmas.Int.{ints}
+use Rattle.std.proofs.lemmas.List.Elements.{All-nil, All-cons}
 use Rattle.std.proofs.lemmas.Nat.{mul-le}
 use Rattle.std.proofs.Math.Nat.{mul-le-mul_left}
 use Rattle.sdm_rules.specs.declared.motions.Phase.{Phase}
@@ -58,15 +58,14 @@ phase_distance start phase v (x ∷ xs) h i =
 
 -- each end lies within what bounds the distance and the speed of all the slices
 pub ends_bounded : (start : Start) (phase : Phase) (p q : ℤ) (v b : ℕ) (xs : List Slice) → AreSlices start v xs → IsIn phase xs →
-    v + 54 * accel_in start phase * time_of xs ≤ b → (p +ℤ pos (distance_of xs)) ≤ℤ q → AllByRecursion (IsBounded q b) (slice_ends p v xs)
-ends_bounded start phase p q v b [] h i slow near = tt
+    v + 54 * accel_in start phase * time_of xs ≤ b → (p +ℤ pos (distance_of xs)) ≤ℤ q → All (IsBounded q b) (slice_ends p v xs)
+ends_bounded start phase p q v b [] h i slow near = All-nil (IsBounded q b)
 ends_bounded start phase p q v b (x ∷ xs) h i slow near =
     let here = slice_in start phase v x xs h i in
     let gains = here.gains in
-    let to_le : x.to ≤ b = omega arith in (
-      record { place = omega (arith, ints); square = mul-le x.to x.to b b to_le to_le },
-      ends_bounded start phase (p +ℤ pos x.length) q x.to b xs h.1 (rest_in phase x xs i) (omega arith) (omega (arith, ints)),
-    )
+    let to_le : x.to ≤ b = omega arith in
+    All-cons (IsBounded q b) _ _ (record { place = omega (arith, ints); square = mul-le x.to x.to b b to_le to_le })
+    (ends_bounded start phase (p +ℤ pos x.length) q x.to b xs h.1 (rest_in phase x xs i) (omega arith) (omega (arith, ints)))
 
 -- ---- slices of one phase after those of another
 

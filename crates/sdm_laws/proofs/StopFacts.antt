@@ -1,8 +1,9 @@
 -- What stays within a curve: a point within the bounds of the reaction is within a curve that the front end, with D_bec
 -- before it, has not passed; and speeds do not rise while the train brakes.
 use Rattle.std.proofs.Common.{◌≡◌, ℕ, ℤ, pos, List, [], ◌∷◌, ◌<◌, ◌≤◌, ◌*◌, ◌+ℤ◌, ◌*ℤ◌, ◌≤ℤ◌, arith}
+use Rattle.std.specs.Prelude.{All}
 use Rattle.std.proofs.lemmas.Int.{ints}
-use Rattle.std.specs.List.{AllByRecursion}
+use Rattle.std.proofs.lemmas.List.Elements.{All-nil, All-cons}
 use Rattle.sdm_num.specs.Fractions.{IsAtMost, whole}
 use Rattle.sdm_num.proofs.Ints.{scale-+ℤ}
 use Rattle.sdm_num.proofs.Order.{at_most_trans, whole_at_most}
@@ -28,6 +29,8 @@ within_first on usable s f w v d front p x pos_m h begins b =
     at_most_trans (whole x.place) y (exact_at on m f w x.square) (exact_positive on m f w (m * (v * v)) usable pos_m)
     (at_most_trans (whole x.place) (whole (pos m *ℤ (front +ℤ pos d))) y (omega arith) one two) three
 
-pub slower : (on : Slopes) (m b : ℕ) (x : Point) (ys : List Point) → IsBraking on m x ys → x.square ≤ b → AllByRecursion (λ y. y.square ≤ b) ys
-slower on m b x [] h k = tt
-slower on m b x (y ∷ ys) h k = let g = h.0.brakes.slower in let k' : y.square ≤ b = omega arith in (k', slower on m b y ys h.1 k')
+pub slower : (on : Slopes) (m b : ℕ) (x : Point) (ys : List Point) → IsBraking on m x ys → x.square ≤ b → All (λ y. y.square ≤ b) ys
+slower on m b x [] h k = All-nil (λ (z : Point). z.square ≤ b)
+slower on m b x (y ∷ ys) h k =
+    let next : y.square ≤ b = omega (arith, h.0.brakes.slower) in
+    All-cons (λ (z : Point). z.square ≤ b) y ys next (slower on m b y ys h.1 next)

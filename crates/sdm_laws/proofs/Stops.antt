@@ -1,14 +1,15 @@
 -- From a covered row every motion stops in time: where the front end is not past a target's computed EBI, all ends of slices
 -- and then all braking points are within the target's curve; where V_bec is at most the foot speed, the train is never
 -- faster.
-use Rattle.std.proofs.Common.{◌≡◌, ℕ, ℤ, pos, neg_ℤ, Bool, true, false, ◌||◌, ◌&&◌, not, nat_le, List, [], ◌∷◌, ◌++◌, ◌<◌, ◌≤◌, ◌*◌, ◌+ℤ◌, ◌*ℤ◌, ◌≤ℤ◌, suc, zero, refl, subst, arith, inl, inr}
+use Rattle.std.proofs.Common.{◌≡◌, ℕ, ℤ, pos, neg_ℤ, Bool, true, false, ◌||◌, not, nat_le, List, ◌∷◌, ◌++◌, ◌<◌, ◌≤◌, ◌*◌, ◌+ℤ◌, ◌*ℤ◌, ◌≤ℤ◌, refl, subst, arith, inl, inr}
 use Rattle.std.proofs.lemmas.Int.{ints}
 use Rattle.std.proofs.lemmas.Bool.{false≢true, and_parts, not-true, leb-true}
-use Rattle.std.proofs.lemmas.List.Elements.{All-from_recursion}
+use Rattle.std.proofs.lemmas.List.Elements.{All-append, All-cons, All-contains, All-weaker, Contains-append_right}
+use Rattle.std.proofs.lemmas.List.Sums.{AllPass-from_list_all}
 use Rattle.std.proofs.lemmas.Nat.{mul-le}
 use Rattle.std.proofs.Math.Nat.{mul-le-mul_left}
-use Rattle.std.specs.Prelude.{IsTrue, Contains, is_some, ◌⊎◌, ◌≢◌}
-use Rattle.std.specs.List.{AllByRecursion, list_all}
+use Rattle.std.specs.Prelude.{All, IsTrue, Contains, is_some, ◌⊎◌, ◌≢◌}
+use Rattle.std.specs.List.{list_all}
 use Rattle.std.specs.Option.{option_map_or}
 use Rattle.sdm_num.specs.Fractions.{IsAtMost, whole, less}
 use Rattle.sdm_num.specs.Readings.{OdometerReading, estimate_of}
@@ -34,32 +35,27 @@ use Rattle.sdm_rules.specs.Limits.{computed, limits_of, limits_of_kind, v_bec_fo
 use Rattle.sdm_rules.specs.Triggers.{is_past}
 use Rattle.sdm_rules.specs.Supervision.{Supervision, situation_of, profile_of, row_of, row_in, is_covered_in, is_covered_for, is_met_by_speed}
 use Rattle.sdm_rules.specs.Stop.{IsMotionOn, StopsBySvl, MeetsTarget, IsSpeedTarget, IsSafe}
-use Rattle.sdm_laws.specs.MotionLaws.{IsBounded, IsHeldByCurve}
+use Rattle.sdm_laws.specs.MotionLaws.{IsHeldByCurve, IsInReach, IsWithinCurve}
 use Rattle.sdm_laws.proofs.CurveNearness.{near_on}
-use Rattle.sdm_laws.proofs.Braking.{within_held, each_held}
+use Rattle.sdm_laws.proofs.Braking.{within_held, braking}
 use Rattle.sdm_laws.proofs.MachineOrder.{AreUsable}
-use Rattle.sdm_laws.proofs.Reaction.{each_in_reach}
+use Rattle.sdm_laws.proofs.Reaction.{AreInReach, in_reach}
 use Rattle.sdm_laws.proofs.StopFacts.{within_first, slower}
 
--- ---- lists
-
-all_right : (p : Target → Bool) (xs ys : List Target) → list_all p (xs ++ ys) ≡ true → list_all p ys ≡ true
-all_right p [] ys e = e
-all_right p (x ∷ xs) ys e = all_right p xs ys (and_parts (p x) _ e).1
-
-all_of : (p : Target → Bool) (ts : List Target) (t : Target) → list_all p ts ≡ true → Contains ts t → p t ≡ true
-all_of p [] t e (k, lt, is) = absurd (omega arith)
-all_of p (x ∷ xs) t e (zero, lt, is) = subst (λ (y : Target). p y ≡ true) is (and_parts (p x) (list_all p xs) e).0
-all_of p (x ∷ xs) t e (suc k, lt, is) = all_of p xs t (and_parts (p x) (list_all p xs) e).1 (k, omega arith, is)
+-- ---- the SvL among the targets
 
 svl_at : ℕ → Target
 svl_at svl = record { kind = Svl; place = place_of_cell (pos svl); speed = 0 }
 
-all_svl : (p : Target → Bool) (profile : ℤ → ℕ) (front : ℤ) (eoa svl release : ℕ) → list_all p (targets_of profile (Stop eoa svl release) front false) ≡ true → p (svl_at svl) ≡ true
+all_of : (p : Target → Bool) (ts : List Target) (t : Target) → list_all p ts ≡ true → Contains ts t → p t ≡ true
+all_of p ts t e = All-contains (λ t. p t ≡ true) ts t (AllPass-from_list_all p ts e)
+
+all_svl : (p : Target → Bool) (profile : ℤ → ℕ) (front : ℤ) (eoa svl release : ℕ) →
+    list_all p (targets_of profile (Stop eoa svl release) front false) ≡ true → p (svl_at svl) ≡ true
 unfolding targets_of svl_at
 all_svl p profile front eoa svl release e =
-    let k = all_right p (falls_ahead profile front eoa) (ends_of (Stop eoa svl release) false) e in
-    (and_parts (p (svl_at svl)) true (and_parts (p (record { kind = Eoa; place = place_of_cell (pos eoa); speed = 0 })) (p (svl_at svl) && true) k).1).0
+    let ends = ends_of (Stop eoa svl release) false in
+    all_of p _ (svl_at svl) e (Contains-append_right (falls_ahead profile front eoa) ends (svl_at svl) (1, omega arith, refl))
 
 -- ---- one target
 
@@ -72,54 +68,50 @@ not_past on usable f w v bec front e =
     let k : (pos 1 *ℤ (front +ℤ pos 0)) ≤ℤ (low +ℤ neg_ℤ (pos (bec * 1))) = not_lt_of _ _ e in
     at_most_trans (whole (front +ℤ pos bec)) (whole low) (exact_at on 1 f w (v * v)) j.low_positive (record { crossed = omega (arith, ints) }) j.not_past
 
-pub each : (P Q : Point → Type 0) → ((y : Point) → P y → Q y) → (ys : List Point) → AllByRecursion P ys → AllByRecursion Q ys
-each P Q f [] k = tt
-each P Q f (y ∷ ys) k = (f y k.0, each P Q f ys k.1)
-
-pub all_split : (P : Point → Type 0) (xs ys : List Point) → AllByRecursion P (xs ++ ys) → AllByRecursion P xs × AllByRecursion P ys
-all_split P [] ys h = (tt, h)
-all_split P (x ∷ xs) ys h = let k = all_split P xs ys h.1 in ((h.0, k.0), k.1)
-
-all_join : (P : Point → Type 0) (xs ys : List Point) → AllByRecursion P xs → AllByRecursion P ys → AllByRecursion P (xs ++ ys)
-all_join P [] ys h k = k
-all_join P (x ∷ xs) ys h k = (h.0, all_join P xs ys h.1 k)
-
 module _ (d : TrainAndTrack) (usable : IsUsable (slopes_of Safe d)) (r : OdometerReading) (t : Target)
     (s : ℕ) (p : ℤ) (v : ℕ) (xs : List Slice) (first : Point) (more : List Point) (m : IsMotionOn (slopes_of Safe d) (reaction_start d r) s p v xs first more) where
   pos_m : 0 < s * s
   pos_m = let h = m.0 in omega (arith, mul-le-mul_left s h)
 
-  -- the ends of slices and the first braking point are within D_bec and V_bec
-  bounds : AllByRecursion (IsBounded (p +ℤ pos (s * s * d_bec_for d (estimate_of r) t)) (s * v_bec_for d (estimate_of r) t)) (slice_ends p v xs ++ first ∷ [])
-  bounds = each_in_reach s (reaction_start d r) (slopes_of Safe d) (target_speed t) p v xs first more m.1.motion m.1.speed
+  -- within D_bec and V_bec
+  abbrev IsReached : Point → Type 0
+  IsReached = IsInReach s (reaction_start d r) (target_speed t) p
+
+  reached : AreInReach s (reaction_start d r) (target_speed t) p v xs first
+  reached = in_reach s (reaction_start d r) (slopes_of Safe d) (target_speed t) p v xs first more m.1.motion m.1.speed
 
   -- where the front end is at or before the EBI on a curve from the target, the whole motion is held by that curve
-  held_by_curve : is_past 0 r.max (less (computed (slopes_of Safe d) t.place (foot_speed_of t) (v_bec_for d (estimate_of r) t)) (d_bec_for d (estimate_of r) t)) ≡ false →
-      AllByRecursion (IsHeldByCurve (slopes_of Safe d) (s * s) t.place (foot_speed_of t)) (slice_ends p v xs ++ first ∷ more)
+  held_by_curve :
+      is_past 0 r.max (less (computed (slopes_of Safe d) t.place (foot_speed_of t) (v_bec_for d (estimate_of r) t)) (d_bec_for d (estimate_of r) t)) ≡ false →
+      All (IsHeldByCurve (slopes_of Safe d) (s * s) t.place (foot_speed_of t)) (slice_ends p v xs)
+      × All (IsHeldByCurve (slopes_of Safe d) (s * s) t.place (foot_speed_of t)) (first ∷ more)
   held_by_curve e =
       let on = slopes_of Safe d in
       let w = foot_speed_of t in
-      let H : Point → Type 0 = IsHeldByCurve on (s * s) t.place w in
-      let B : Point → Type 0 = IsBounded (p +ℤ pos (s * s * d_bec_for d (estimate_of r) t)) (s * v_bec_for d (estimate_of r) t) in
-      let h = not_past on usable t.place w (v_bec_for d (estimate_of r) t) (d_bec_for d (estimate_of r) t) r.max e in
-      let held : (y : Point) → B y → H y = λ y b. within_held on (s * s) t.place w y usable pos_m (within_first on usable s t.place w (v_bec_for d (estimate_of r) t) (d_bec_for d (estimate_of r) t) r.max p y pos_m h m.1.place b) in
-      let split = all_split B (slice_ends p v xs) (first ∷ []) bounds in
-      let begins = held first split.1.0 in
-      all_join H (slice_ends p v xs) (first ∷ more) (each B H held _ split.0) (each_held on (s * s) t.place w first more usable pos_m m.1.motion.braking begins.within)
+      let bec = v_bec_for d (estimate_of r) t in
+      let distance = d_bec_for d (estimate_of r) t in
+      let h = not_past on usable t.place w bec distance r.max e in
+      let within : (y : Point) → IsReached y → IsWithinCurve on (s * s) t.place w y =
+      λ y b. within_first on usable s t.place w bec distance r.max p y pos_m h m.1.place b in (
+        All-weaker IsReached (IsHeldByCurve on (s * s) t.place w)
+            (λ y b. within_held on (s * s) t.place w y usable pos_m (within y b)) _ reached.ends,
+        braking on (s * s) t.place w first more usable pos_m m.1.motion.braking (within first reached.begins),
+      )
 
   -- where V_bec is at most the foot speed, the train is never faster
-  never_faster : v_bec_for d (estimate_of r) t ≤ foot_speed_of t → AllByRecursion (KeepsTo s t.place (foot_speed_of t)) (slice_ends p v xs ++ first ∷ more)
+  never_faster : v_bec_for d (estimate_of r) t ≤ foot_speed_of t →
+      All (KeepsTo s t.place (foot_speed_of t)) (slice_ends p v xs ++ first ∷ more)
   never_faster le =
       let bec = v_bec_for d (estimate_of r) t in
       let w = foot_speed_of t in
       let K : Point → Type 0 = KeepsTo s t.place w in
-      let B : Point → Type 0 = IsBounded (p +ℤ pos (s * s * d_bec_for d (estimate_of r) t)) (s * bec) in
-      let split = all_split B (slice_ends p v xs) (first ∷ []) bounds in
-      let top : s * bec * (s * bec) ≤ s * s * (w * w) = (let k = mul-le bec bec w w le le in omega (arith, mul-le-mul_left (s * s) k)) in
-      let slow : (y : Point) → B y → K y = λ y b past. (let h = b.square in omega arith) in
-      let b1 = split.1.0.square in
-      let rest = each (λ y. y.square ≤ s * s * (w * w)) K (λ y k past. k) more (slower (slopes_of Safe d) (s * s) (s * s * (w * w)) first more m.1.motion.braking (omega arith)) in
-      all_join K (slice_ends p v xs) (first ∷ more) (each B K slow _ split.0) (slow first split.1.0, rest)
+      let top : s * bec * (s * bec) ≤ s * s * (w * w) = omega (arith, mul-le-mul_left (s * s) (mul-le bec bec w w le le)) in
+      let slow : (y : Point) → IsReached y → K y = λ y b past. omega (arith, b.square) in
+      let rest = slower (slopes_of Safe d) (s * s) (s * s * (w * w)) first more m.1.motion.braking
+      (omega (arith, reached.begins.square)) in
+      All-append K _ _ (All-weaker IsReached K slow _ reached.ends)
+      (All-cons K first more (slow first reached.begins)
+      (All-weaker (λ (y : Point). y.square ≤ s * s * (w * w)) K (λ y k past. k) more rest))
 
 -- ---- the row
 
@@ -140,20 +132,20 @@ unfolding limits_of
 meets_of d usable r t is e s p v xs first more m =
     let K : Point → Type 0 = KeepsTo s t.place (foot_speed_of t) in
     let H : Point → Type 0 = IsHeldByCurve (slopes_of Safe d) (s * s) t.place (foot_speed_of t) in
-    All-from_recursion K (slice_ends p v xs ++ first ∷ more)
-    (elim (within_or_slow d r t t.kind is.0 is.1 e) [
-      | inl x ↦ each H K (λ y k. k.past) _ (held_by_curve d usable r t s p v xs first more m x)
+    elim (within_or_slow d r t t.kind is.0 is.1 e) [
+      | inl x ↦ (let held = held_by_curve d usable r t s p v xs first more m x in
+          All-weaker H K (λ y k. k.past) _ (All-append H _ _ held.0 held.1))
       | inr x ↦ never_faster d usable r t s p v xs first more m x
-    ])
+    ]
 
 stops_of : (d : TrainAndTrack) → IsUsable (slopes_of Safe d) → (r : OdometerReading) (svl : ℕ) → is_covered_for d r.max (estimate_of r) (svl_at svl) ≡ true → StopsBySvl d r svl
 unfolding limits_of svl_at
 stops_of d usable r svl e s p v xs first more m =
     let t = svl_at svl in
     let past = elim (either _ false e) as (λ _. is_past 0 r.max (less (computed (slopes_of Safe d) t.place 0 (v_bec_for d (estimate_of r) t)) (d_bec_for d (estimate_of r) t)) ≡ false) [ inl x ↦ x | inr x ↦ absurd (false≢true x) ] in
-    let H : Point → Type 0 = IsHeldByCurve (slopes_of Safe d) (s * s) t.place 0 in
-    let rest = (all_split H (slice_ends p v xs) (first ∷ more) (held_by_curve d usable r t s p v xs first more m past)).1 in
-    All-from_recursion (IsBy s t.place) (first ∷ more) (each H (IsBy s t.place) (λ y k. k.standing refl) (first ∷ more) rest)
+    let held = held_by_curve d usable r t s p v xs first more m past in
+    All-weaker (IsHeldByCurve (slopes_of Safe d) (s * s) t.place 0) (IsBy s t.place)
+    (λ y k. k.standing refl) (first ∷ more) held.1
 
 svl_covered : (d : TrainAndTrack) (r : OdometerReading) (profile : ℤ → ℕ) (a : Authority) (in_release_monitoring : Bool) (eoa svl release : ℕ) → a ≡ Stop eoa svl release → in_release_monitoring ≡ false →
     list_all (is_covered_for d r.max (estimate_of r)) (targets_of profile a r.max in_release_monitoring) ≡ true → is_covered_for d r.max (estimate_of r) (svl_at svl) ≡ true

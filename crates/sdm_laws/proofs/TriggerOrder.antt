@@ -2,7 +2,7 @@
 -- of tests "the front end is past the limit", and each of these holds for the sooner limit wherever it holds for the later.
 use Rattle.std.proofs.Common.{ℕ, ℤ, Bool, true, false, ◌||◌, ◌&&◌, not, nat_lt, List, [], ◌∷◌, Option, Some, None, refl}
 use Rattle.std.proofs.lemmas.Bool.{false≢true}
-use Rattle.std.specs.List.{list_any, AllByRecursion}
+use Rattle.std.specs.List.{list_any}
 use Rattle.sdm_num.specs.Fractions.{Fraction}
 use Rattle.sdm_rules.specs.declared.commands.Triggers.{Triggers}
 use Rattle.sdm_rules.specs.declared.targets.Target.{Target}
@@ -59,20 +59,19 @@ not_implies true true h = λ e. e
 not_implies true false h = λ _. absurd (false≢true (h refl))
 not_implies false b h = λ _. refl
 
-any_implies : (p q : Target → Bool) (ts : List Target) → AllByRecursion (λ t. Implies (p t) (q t)) ts → Implies (list_any p ts) (list_any q ts)
+any_implies : (p q : Target → Bool) (ts : List Target) → ((t : Target) → Implies (p t) (q t)) →
+    Implies (list_any p ts) (list_any q ts)
 any_implies p q [] h = same false
-any_implies p q (t ∷ ts) h = or_implies (p t) (q t) _ _ h.0 (any_implies p q ts h.1)
-
-each : (P Q : Target → Type 0) → ((t : Target) → P t → Q t) → (ts : List Target) → AllByRecursion P ts → AllByRecursion Q ts
-each P Q f [] h = tt
-each P Q f (t ∷ ts) h = (f t h.0, each P Q f ts h.1)
+any_implies p q (t ∷ ts) h = or_implies (p t) (q t) _ _ (h t) (any_implies p q ts h)
 
 -- ---- triggers
 
-module _ (f g : Target → SupervisionLimits) (a b : ℕ) (s : Situation) (sooner : AllByRecursion (λ t. AreSooner a (f t) b (g t)) s.targets) where
-  some_implies : (margin : ℕ → ℕ) (x y : Target → Fraction) → ((t : Target) → AreSooner a (f t) b (g t) → IsSooner a (x t) b (y t)) → Implies (some_passed s a margin x) (some_passed s b margin y)
+module _ (f g : Target → SupervisionLimits) (a b : ℕ) (s : Situation) (sooner : (t : Target) → AreSooner a (f t) b (g t)) where
+  some_implies : (margin : ℕ → ℕ) (x y : Target → Fraction) → ((t : Target) → IsSooner a (x t) b (y t)) →
+      Implies (some_passed s a margin x) (some_passed s b margin y)
   some_implies margin x y h =
-      any_implies _ _ s.targets (each _ _ (λ t k. and_implies (nat_lt (with_margin margin t) s.speed) _ _ _ (same _) ((h t k).passed (front_for s.est s.front t.kind))) s.targets sooner)
+      any_implies _ _ s.targets
+      (λ t. and_implies (nat_lt (with_margin margin t) s.speed) _ _ _ (same _) ((h t).passed (front_for s.est s.front t.kind)))
 
   ebi_implies : (t : Target) (x y : Option Fraction) → IsSoonerIfAny a x b y → Implies (passes_ebi s.speed s.est s.front a t x) (passes_ebi s.speed s.est s.front b t y)
   ebi_implies t None y h = λ e. absurd (false≢true e)
@@ -80,16 +79,16 @@ module _ (f g : Target → SupervisionLimits) (a b : ℕ) (s : Situation) (soone
   ebi_implies t (Some x) (Some y) h = and_implies (nat_lt (with_margin ebi_margin t) s.speed) _ _ _ (same _) (h.passed (front_for s.est s.front t.kind))
 
   over_implies : Implies (is_over f a s) (is_over g b s)
-  over_implies = or_implies _ _ _ _ (or_implies (above_ceiling s no_margin) _ _ _ (same _) (some_implies no_margin _ _ (λ t k. k.permitted))) (same (above_release s))
+  over_implies = or_implies _ _ _ _ (or_implies (above_ceiling s no_margin) _ _ _ (same _) (some_implies no_margin _ _ (λ t. (sooner t).permitted))) (same (above_release s))
 
   warn_implies : Implies (is_warned f a s) (is_warned g b s)
-  warn_implies = or_implies (above_ceiling s warning_margin) _ _ _ (same _) (some_implies warning_margin _ _ (λ t k. k.warning))
+  warn_implies = or_implies (above_ceiling s warning_margin) _ _ _ (same _) (some_implies warning_margin _ _ (λ t. (sooner t).warning))
 
   serv_implies : Implies (is_service f a s) (is_service g b s)
-  serv_implies = or_implies (above_ceiling s sbi_margin) _ _ _ (same _) (some_implies sbi_margin _ _ (λ t k. k.sbi))
+  serv_implies = or_implies (above_ceiling s sbi_margin) _ _ _ (same _) (some_implies sbi_margin _ _ (λ t. (sooner t).sbi))
 
   some_ebi_implies : Implies (some_ebi_passed s a (λ t. (f t).ebi)) (some_ebi_passed s b (λ t. (g t).ebi))
-  some_ebi_implies = any_implies _ _ s.targets (each _ _ (λ t k. ebi_implies t (f t).ebi (g t).ebi k.ebi) s.targets sooner)
+  some_ebi_implies = any_implies _ _ s.targets (λ t. ebi_implies t (f t).ebi (g t).ebi (sooner t).ebi)
 
   emer_implies : Implies (is_emergency f a s) (is_emergency g b s)
   emer_implies =

@@ -16,7 +16,7 @@ const FAR: i128 = 1_000_000_000_000_000_000_000;
 /// The greatest square of a point, in 1/s² squared notches. (own)
 const FAST: u128 = 100_000_000_000_000_000;
 
-// Whether a point is in its ranges.
+/// Whether a point is in its ranges.
 fn is_in_range(point: &Point) -> bool
     ensures { IsTrue result ↔ IsPointInRange point.now }
 {
@@ -29,7 +29,7 @@ fn is_in_range(point: &Point) -> bool
     point.square <= FAST
 }
 
-// Whether all points are in their ranges.
+/// Whether all points are in their ranges.
 fn are_in_range(points: &[Point]) -> bool
     ensures { IsTrue result ↔ All IsPointInRange points.now }
 {
@@ -41,7 +41,7 @@ fn are_in_range(points: &[Point]) -> bool
     true
 }
 
-// The place where a motion begins.
+/// The place where a motion begins.
 fn beginning(m: u32, start: &Start) -> i128
     ensures value { result ≡ pos m *ℤ start.now.front }
     ensures front { IsPlace start.now.front }
@@ -49,7 +49,7 @@ fn beginning(m: u32, start: &Start) -> i128
     i128::from(m) * i128::from(start.front.grains())
 }
 
-// Whether the point is where slices from a place and a speed on end, with the square of their last speed.
+/// Whether the point is where slices from a place and a speed on end, with the square of their last speed.
 fn is_first(point: &Point, slices: &[Slice], from: i128, speed: u64) -> bool
     requires low { neg_ℤ (pos (2 * 10 ^ 21)) ≤ℤ from }
     requires range { IsPointInRange point.now }

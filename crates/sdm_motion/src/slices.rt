@@ -12,7 +12,7 @@ const MM_S: u128 = 54;
 /// Grains of a notch in a ds.
 const NOTCH_DS: u128 = 1_000_000;
 
-// The greatest acceleration of a phase, in cm/s².
+/// The greatest acceleration of a phase, in cm/s².
 fn accel_in(start: &Start, phase: Phase) -> u16
     ensures { result ≡ accel_in start.now phase }
 {
@@ -22,7 +22,7 @@ fn accel_in(start: &Start, phase: Phase) -> u16
     }
 }
 
-// Whether a slice gains and moves no more than its acceleration allows, from a speed on.
+/// Whether a slice gains and moves no more than its acceleration allows, from a speed on.
 fn is_slice(accel: u16, speed: u64, slice: &Slice) -> bool
     ensures { IsTrue result ↔ IsSlice accel speed slice.now }
 {
@@ -35,7 +35,7 @@ fn is_slice(accel: u16, speed: u64, slice: &Slice) -> bool
     2 * u128::from(slice.length) <= NOTCH_DS * (from + to) * time
 }
 
-// Whether each slice does so from the end of the one before it.
+/// Whether each slice does so from the end of the one before it.
 fn are_slices(start: &Start, speed: u64, slices: &[Slice]) -> bool
     ensures { IsTrue result ↔ AreSlices start.now speed slices.now }
 {
@@ -49,7 +49,7 @@ fn are_slices(start: &Start, speed: u64, slices: &[Slice]) -> bool
     true
 }
 
-// How many slices of traction come first.
+/// How many slices of traction come first.
 fn traction_count(slices: &[Slice]) -> usize
     ensures { IsCut slices.now result }
 {
@@ -62,7 +62,7 @@ fn traction_count(slices: &[Slice]) -> usize
     slices.len()
 }
 
-// Whether all slices are of the build-up.
+/// Whether all slices are of the build-up.
 fn are_build(slices: &[Slice]) -> bool
     ensures { IsTrue result ↔ IsIn Phase.Build slices.now }
 {
@@ -75,7 +75,7 @@ fn are_build(slices: &[Slice]) -> bool
     true
 }
 
-// The times of slices together.
+/// The times of slices together.
 fn time_of(slices: &[Slice]) -> u128
     ensures { result ≡ time_of slices.now }
 {

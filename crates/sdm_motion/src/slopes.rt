@@ -8,7 +8,7 @@ ghost use Rattle.sdm_motion.specs.Steps.{BeginsBefore, EndsAfter, HaveSlope, Mee
 use sdm_curve::BandMap;
 use sdm_rules::Point;
 
-// Whether the segment begins before a point; the first one has no beginning.
+/// Whether the segment begins before a point; the first one has no beginning.
 fn begins_before(m: u32, map: &BandMap, i: usize, point: &Point) -> bool
     requires { i < length map.now.starts }
     ensures { IsTrue result ↔ BeginsBefore m map.now.starts i point.now.place }
@@ -19,7 +19,7 @@ fn begins_before(m: u32, map: &BandMap, i: usize, point: &Point) -> bool
     map.scaled_segment_start(m, i) < point.place
 }
 
-// Whether the segment ends after a point; the last one has no end.
+/// Whether the segment ends after a point; the last one has no end.
 fn ends_after(m: u32, map: &BandMap, i: usize, point: &Point) -> bool
     requires { i < length map.now.starts }
     ensures { IsTrue result ↔ EndsAfter m map.now.starts i point.now.place }
@@ -30,7 +30,7 @@ fn ends_after(m: u32, map: &BandMap, i: usize, point: &Point) -> bool
     point.place < map.scaled_segment_start(m, i + 1)
 }
 
-// Whether some cell of the segment has a part strictly between the points.
+/// Whether some cell of the segment has a part strictly between the points.
 fn meets(m: u32, map: &BandMap, i: usize, from: &Point, to: &Point) -> bool
     requires { i < length map.now.starts }
     ensures { IsTrue result ↔ Meets m map.now.starts i from.now.place to.now.place }

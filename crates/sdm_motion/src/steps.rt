@@ -12,7 +12,7 @@ use crate::slopes::{first_met, have_slope};
 use sdm_curve::BandMap;
 use sdm_rules::Point;
 
-// Whether the square is at or above the lower border of a band; the first one has none.
+/// Whether the square is at or above the lower border of a band; the first one has none.
 fn is_above(m: u32, map: &BandMap, band: usize, square: u128) -> bool
     requires { band < bands_of map.now.uppers }
     ensures { IsTrue result ↔ (lower_square (meaning_of map.now) m band ≤ square) }
@@ -23,7 +23,7 @@ fn is_above(m: u32, map: &BandMap, band: usize, square: u128) -> bool
     map.upper_square(m, band - 1) <= square
 }
 
-// Whether the square is at or below the upper border of a band; the last one has none.
+/// Whether the square is at or below the upper border of a band; the last one has none.
 fn is_below(m: u32, map: &BandMap, band: usize, square: u128) -> bool
     requires { band < bands_of map.now.uppers }
     ensures { IsTrue result ↔ (band < length map.now.uppers → square ≤ upper_square (meaning_of map.now) m band) }
@@ -34,7 +34,7 @@ fn is_below(m: u32, map: &BandMap, band: usize, square: u128) -> bool
     square <= map.upper_square(m, band)
 }
 
-// Whether the square lies in the band, its borders included.
+/// Whether the square lies in the band, its borders included.
 fn is_in_band(m: u32, map: &BandMap, band: usize, square: u128) -> bool
     requires { band < bands_of map.now.uppers }
     ensures { IsTrue result ↔ IsInBand (meaning_of map.now) m band square }
@@ -56,7 +56,7 @@ pub fn distance_to(point: &Point, from: i128) -> u128
     (point.place - from) as u128
 }
 
-// Whether the train brakes at least with the slope of a band in a segment.
+/// Whether the train brakes at least with the slope of a band in a segment.
 fn brakes(map: &BandMap, band: usize, i: usize, from: &Point, to: &Point) -> bool
     requires known_band { band < bands_of map.now.uppers }
     requires known { i < length map.now.starts }
@@ -70,8 +70,8 @@ fn brakes(map: &BandMap, band: usize, i: usize, from: &Point, to: &Point) -> boo
     u128::from(map.rate(band, i)) * distance_to(to, from.place) <= energy
 }
 
-// Whether all cells of the stretch have one slope in the band, and the train brakes at least with it. A point that stays asks
-// no slope.
+/// Whether all cells of the stretch have one slope in the band, and the train brakes at least with it. A point that stays asks
+/// no slope.
 fn brakes_in(m: u32, map: &BandMap, band: usize, from: &Point, to: &Point) -> bool
     requires some { 0 < m }
     requires known { band < bands_of map.now.uppers }
@@ -91,7 +91,7 @@ fn brakes_in(m: u32, map: &BandMap, band: usize, from: &Point, to: &Point) -> bo
     brakes(map, band, i, from, to)
 }
 
-// Whether the step is possible in the band.
+/// Whether the step is possible in the band.
 fn is_step_in(m: u32, map: &BandMap, band: usize, from: &Point, to: &Point) -> bool
     requires some { 0 < m }
     requires known { band < bands_of map.now.uppers }
@@ -114,7 +114,7 @@ fn is_step_in(m: u32, map: &BandMap, band: usize, from: &Point, to: &Point) -> b
     brakes_in(m, map, band, from, to)
 }
 
-// Whether the step is possible: in some band that holds both squares.
+/// Whether the step is possible: in some band that holds both squares.
 fn is_step(m: u32, map: &BandMap, from: &Point, to: &Point) -> bool
     requires some { 0 < m }
     requires from { IsPointInRange from.now }

@@ -24,8 +24,8 @@ fn map_of(
     }
 }
 
-// `level`: 1 m/s². `parts`: up to 36 km/h 1 m/s² and from 100 m on 0.5 m/s², above it 0.5 m/s² and from 100 m on 1 m/s²;
-// at 200 m a segment begins with the slopes of the one before it.
+/// `level`: 1 m/s². `parts`: up to 36 km/h 1 m/s² and from 100 m on 0.5 m/s², above it 0.5 m/s² and from 100 m on 1 m/s²;
+/// at 200 m a segment begins with the slopes of the one before it.
 fn map_named(alloc: Global, name: &str) -> Result<BandMap, Fail> {
     if name == "level" {
         return map_of(alloc, &[], &[0], &[200_000_000_000]);
@@ -118,7 +118,7 @@ fn points(alloc: Global, text: &str) -> Result<Vec<Point>, Fail> {
     Ok(found)
 }
 
-// The answer to a line.
+/// The answer to a line.
 fn answer_to(alloc: Global, line: &str) -> Result<bool, Fail> {
     let mut columns = line.split('|');
     let map = map_named(alloc, columns.next().ok_or("a map")?.trim())?;
@@ -132,7 +132,7 @@ fn answer_to(alloc: Global, line: &str) -> Result<bool, Fail> {
     Ok(is_motion(scale, &found_slices, &found_points, &from, &map))
 }
 
-// The lines of a table whose answer is not the one that the table gives.
+/// The lines of a table whose answer is not the one that the table gives.
 fn wrong_lines(alloc: Global, table: &str, want: bool) -> Result<Vec<usize>, Fail> {
     let mut wrong = Vec::new(alloc);
     for (i, line) in table.lines().enumerate() {
@@ -146,19 +146,19 @@ fn wrong_lines(alloc: Global, table: &str, want: bool) -> Result<Vec<usize>, Fai
 // In each table: map | scale | front, speed, accelerations, times of the start | phase, time, speed, distance of slices | place, square of
 // points.
 //
-// A train of 20 m/s at 760 m whose brake takes 2 s to build up: for an SvL at 1000 m it is at its EBI, and still covered. It makes
-// full use of the 2 s, brakes no more than it must, and comes to stand exactly at the SvL: no limit could lie later. At scale 1
-// and at scale 16.
+/// A train of 20 m/s at 760 m whose brake takes 2 s to build up: for an SvL at 1000 m it is at its EBI, and still covered. It makes
+/// full use of the 2 s, brakes no more than it must, and comes to stand exactly at the SvL: no limit could lie later. At scale 1
+/// and at scale 16.
 const FROM_THE_EBI: &str = "\
 level | 1 | 410400000000000 1080000 0 0 0 20 | b 10 1080000 10800000000000, b 5 1080000 5400000000000, b 5 1080000 5400000000000 | 432000000000000 1166400000000, 459000000000000 874800000000, 486000000000000 583200000000, 540000000000000 0
 level | 16 | 410400000000000 1080000 0 0 0 20 | b 160 17280000 2764800000000000, b 80 17280000 1382400000000000, b 80 17280000 1382400000000000 | 110592000000000000 298598400000000, 117504000000000000 223948800000000, 124416000000000000 149299200000000, 138240000000000000 0";
 
-// It can't come to stand a grain past the SvL.
+/// It can't come to stand a grain past the SvL.
 const PAST_THE_SVL: &str = "\
 level | 1 | 410400000000000 1080000 0 0 0 20 | b 10 1080000 10800000000000, b 5 1080000 5400000000000, b 5 1080000 5400000000000 | 432000000000000 1166400000000, 459000000000000 874800000000, 486000000000000 583200000000, 540000000000001 0";
 
-// From row to row: slices that gain 1 cm/s² for 1 s; steps to and over starts of segments, and from band to band; places
-// below 0; the ends of the ranges.
+/// From row to row: slices that gain 1 cm/s² for 1 s; steps to and over starts of segments, and from band to band; places
+/// below 0; the ends of the ranges.
 const MOTIONS: &str = "\
 level | 1 | 0 0 1 0 10 10 | t 10 540 2700000000, b 10 540 5400000000 | 8100000000 291600, 8100000000 0
 level | 1 | 0 0 1 0 10 10 | t 4 216 432000000, t 6 540 2268000000, b 10 540 5400000000 | 8100000000 291600, 8100000000 0
@@ -177,7 +177,7 @@ level | 16 | 3906249999999999999 1 0 0 0 1 | b 16 0 256 | 1000000000000000000000
 level | 16 | -3906250000000000001 1 0 0 0 1 | b 16 0 256 | -1000000000000000000000 0
 level | 16 | 0 19764235 1 0 1 0 | t 16 316227766 0 | 0 99999999989350756, 0 0";
 
-// The same with one thing wrong.
+/// The same with one thing wrong.
 const NO_MOTIONS: &str = "\
 level | 1 | 410400000000000 1080000 0 0 0 20 | b 10 1080000 10800000000000, b 5 1080000 5400000000000, b 5 1080000 5400000000000 | 432000000000000 1166400000000, 459000000000001 874800000000, 486000000000000 583200000000, 540000000000000 0
 level | 1 | 410400000000000 1080000 0 0 0 20 | b 10 1080000 10800000000000, b 5 1080000 5400000000000, b 5 1080000 5400000000000 | 431999999999999 1166400000000, 459000000000000 874800000000, 486000000000000 583200000000, 540000000000000 0

@@ -4,8 +4,8 @@ use Rattle.sdm_curve.specs.Maps.{map_data}
 use Rattle.sdm_curve.proofs.Rows.{range_row, even_range}
 use Rattle.sdm_curve.proofs.checks.first_varied.Goals as goal
 
-pub returns-then-is_too_wide-clause-found : goal.returns-then-is_too_wide-clause-found
-returns-then-is_too_wide-clause-found c =
+pub returns-then-from-clause-found : goal.returns-then-from-clause-found
+returns-then-from-clause-found c =
     record { known = omega arith; range = range_row _ _ _ _ c.requires (omega arith) c.range_of-range.ensures; varied = omega (arith, ints); lower_bands = c.loop-band.invariant }
 
 pub loop-band-preserved : goal.loop-band-preserved

@@ -2,7 +2,7 @@ use Rattle.std.proofs.Common.{◌%◌, ◌/◌, length, arith}
 use Rattle.std.proofs.lemmas.Int.{ints}
 use Rattle.sdm_curve.specs.Maps.{map_data}
 use Rattle.sdm_curve.proofs.Rows.{first_weak_is, slope_at_index}
-use Rattle.sdm_curve.proofs.checks.fault_of.Goals as goal
+use Rattle.sdm_curve.proofs.checks.check.Goals as goal
 
 pub returns-in-Some-clause-fault : goal.returns-in-Some-clause-fault
 returns-in-Some-clause-fault c =
