@@ -176,7 +176,7 @@ impl Track {
         under_train::compensated(alloc, &self.gradients, length_cm)
     }
 
-    //// Whether reduced adhesion is in force for a front end in the cell, with a train of this length in cm: from the start of
+    /// Whether reduced adhesion is in force for a front end in the cell, with a train of this length in cm: from the start of
     /// an area until the rear end has left it, past the track's end too. (SUBSET-026-3 3.13.6.2; areas own)
     pub fn reduced(&self, cell: i32, length_cm: u32) -> bool
         ensures { result ≡ (under_train self.now (pos length_cm) cell).reduced }
