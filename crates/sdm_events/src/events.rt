@@ -71,7 +71,7 @@ fn number(fields: &ByteRecord, column: u32, least: i32, greatest: i32) -> Result
     }
 }
 
-// `read`: an odometer reading.
+/// `read`: an odometer reading.
 #[tactic(auto, unfolding(sdm_rules::specs::Forms::read_form))]
 fn read_event(fields: &ByteRecord) -> Result<Event, EventFault>
     ensures value { result ≡ read_form (drop 1 (fields_of fields.now)) }
@@ -123,7 +123,7 @@ fn reading(
     Reading::new(time, est_mm, min_mm, max_mm, speed_mm_s, accel, under_mm_s).unwrap()
 }
 
-// `end`: an authority that ends in a stop.
+/// `end`: an authority that ends in a stop.
 #[tactic(auto, unfolding(sdm_rules::specs::Forms::end_form))]
 fn end_event(fields: &ByteRecord) -> Result<Event, EventFault>
     ensures value { result ≡ end_form (drop 1 (fields_of fields.now)) }
@@ -138,7 +138,7 @@ fn end_event(fields: &ByteRecord) -> Result<Event, EventFault>
     Ok(Event::Authority(Authority::Stop { eoa, svl, release }))
 }
 
-// `limit`: an authority that ends at a speed.
+/// `limit`: an authority that ends at a speed.
 #[tactic(auto, unfolding(sdm_rules::specs::Forms::limit_form))]
 fn limit_event(fields: &ByteRecord) -> Result<Event, EventFault>
     ensures value { result ≡ limit_form (drop 1 (fields_of fields.now)) }
@@ -152,7 +152,7 @@ fn limit_event(fields: &ByteRecord) -> Result<Event, EventFault>
     Ok(Event::Authority(Authority::Limit { loa, speed }))
 }
 
-// `restrict`: a temporary speed restriction.
+/// `restrict`: a temporary speed restriction.
 #[tactic(auto, unfolding(sdm_rules::specs::Forms::restrict_form))]
 fn restrict_event(fields: &ByteRecord) -> Result<Event, EventFault>
     ensures value { result ≡ restrict_form (drop 1 (fields_of fields.now)) }
@@ -175,7 +175,7 @@ fn restrict_event(fields: &ByteRecord) -> Result<Event, EventFault>
     }))
 }
 
-// `revoke`: the end of a temporary speed restriction.
+/// `revoke`: the end of a temporary speed restriction.
 #[tactic(auto, unfolding(sdm_rules::specs::Forms::revoke_form))]
 fn revoke_event(fields: &ByteRecord) -> Result<Event, EventFault>
     ensures value { result ≡ revoke_form (drop 1 (fields_of fields.now)) }

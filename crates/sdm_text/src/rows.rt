@@ -18,7 +18,7 @@ const ALL_BYTES: usize = 212;
 /// A row in the making, of at most `ROW_BYTES` bytes.
 #[derive(Drop)]
 pub struct RowBuf {
-    // The row, and after it bytes of no meaning: a number is copied with as many bytes as the longest has.
+    /// The row, and after it bytes of no meaning: a number is copied with as many bytes as the longest has.
     bytes: [u8; ALL_BYTES],
     len: usize,
 }
@@ -33,7 +33,7 @@ impl Model for RowBuf {
     ghost invariant = { λ b. b.len ≤ 192 };
 }
 
-// Writes a number so that it ends before byte 20, and answers where it starts.
+/// Writes a number so that it ends before byte 20, and answers where it starts.
 #[inline(always)]
 fn write_number(n: i64, text: &mut [u8; 40]) -> usize
     ensures start { result + length (signed_decimal n) ≡ 20 }
