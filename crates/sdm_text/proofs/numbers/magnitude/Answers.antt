@@ -1,5 +1,5 @@
 -- After i digits the number is below 10^i, so that it fits after as many as a number has.
-use Rattle.std.proofs.Common.{◌≡◌, ◌+◌, ◌-◌, ◌*◌, ◌%◌, ◌/◌, ◌<◌, ◌≤◌, ◌^◌, length, refl, arith}
+use Rattle.std.proofs.Common.{◌≡◌, ◌+◌, ◌-◌, ◌*◌, ◌%◌, ◌/◌, ◌≤◌, length, refl, arith}
 use Rattle.sdm_rules.specs.Numbers.{most_digits}
 use Rattle.sdm_text.proofs.NumberDigits.{IsRead, below_greater_power, none_read, one_more}
 use Rattle.sdm_text.proofs.numbers.magnitude.Goals as goal
