@@ -1,17 +1,19 @@
 //! The event of a record: its kind, then the count of its fields, then its columns in order. Each kind of record has a
-//! function of its own.
+//! function of its own. Columns count from 1, the kind being column 1.
 
-ghost use Rattle.std.specs.Prelude.{◌≡◌, ◌≤◌, ◌≤ℤ◌, pos, negsuc, drop, IfOk};
+ghost use Rattle.std.specs.Prelude.{◌≡◌, ◌<◌, ◌≤◌, ◌≤ℤ◌, pos, negsuc, drop, length, Ok, IfOk, IfErr};
 ghost use Rattle.std.specs.Str.{bytes_eq};
 ghost use Rattle.csv.specs.Records.{fields_of};
 ghost use Rattle.sdm_num.specs.Readings.{reading_of};
+ghost use Rattle.sdm_events.specs.Columns.{IsColumnFault, column_of};
 ghost use Rattle.sdm_events.specs.Journey.{IsInForm};
 ghost use Rattle.sdm_rules.specs.Forms.{end_form, event_of, limit_form, read_form, restrict_form, revoke_form};
+ghost use Rattle.sdm_rules.specs.Numbers.{read_int};
 
-use crate::columns::{integer, natural};
 use csv::ByteRecord;
 use sdm_num::Reading;
 use sdm_rules::{Authority, Event, EventFault, LONGEST_TRACK_CM, Restriction, TOP_KMH};
+use sdm_text::read_int;
 
 /// The event that a record writes. It is refused by UnknownKind where its first field names no kind; else by FieldCount
 /// where it has another count of fields than its kind; else by Field where a column is no number in its range, with the
@@ -39,8 +41,8 @@ pub fn event_of(fields: &ByteRecord) -> Result<Event, EventFault>
     }
 }
 
-// A field is the name of a kind: as long, and beginning with it. At a name that stands here `starts_with` is a few compares, where
-// `==` of slices calls a loop.
+/// A field is the name of a kind: as long, and beginning with it.
+// At a name that stands in the code `starts_with` is a few compares, where `==` of slices calls a loop.
 #[inline]
 #[tactic(auto, using(crate::proofs::Fields::same_text, crate::proofs::Fields::other_length))]
 fn is_kind(field: &[u8], kind: &[u8]) -> bool
@@ -52,7 +54,24 @@ fn is_kind(field: &[u8], kind: &[u8]) -> bool
     field.starts_with(kind)
 }
 
-// `read`: an odometer reading.
+/// The number of a column, from `least` to `greatest`, or the column's fault.
+// A reading has seven, at each cycle: in line its number goes into the event by no result in memory.
+#[inline(always)]
+fn number(fields: &ByteRecord, column: u32, least: i32, greatest: i32) -> Result<i32, EventFault>
+    requires first { 0 < column }
+    requires last { column ≤ length (fields_of fields.now) }
+    ensures value { IfOk result (λ n. read_int (column_of (fields_of fields.now) column) least greatest ≡ Ok n) }
+    ensures range { IfOk result (λ n. (least ≤ℤ n) × (n ≤ℤ greatest)) }
+    ensures fault { IfErr result (IsColumnFault column (read_int (column_of (fields_of fields.now) column) least greatest)) }
+{
+    let field = fields.get(column as usize - 1).unwrap();
+    match read_int(field, i64::from(least), i64::from(greatest)) {
+        Ok(number) => Ok(number as i32),
+        Err(fault) => Err(EventFault::Field { column, fault }),
+    }
+}
+
+/// `read`: an odometer reading.
 #[tactic(auto, unfolding(sdm_rules::specs::Forms::read_form))]
 fn read_event(fields: &ByteRecord) -> Result<Event, EventFault>
     ensures value { result ≡ read_form (drop 1 (fields_of fields.now)) }
@@ -61,17 +80,25 @@ fn read_event(fields: &ByteRecord) -> Result<Event, EventFault>
     if fields.len() != 8 {
         return Err(EventFault::FieldCount);
     }
-    let time = natural(fields, 2, 0, 100_000_000)?;
-    let est = integer(fields, 3, -10_000_000, 110_000_000)?;
-    let min = integer(fields, 4, -10_000_000, est)?;
-    let max = integer(fields, 5, est, 110_000_000)?;
-    let speed = natural(fields, 6, 0, 138_888)?;
-    let accel = integer(fields, 7, -300, 300)?;
-    let under = natural(fields, 8, 0, 10_000)?;
-    Ok(Event::Read(reading(time, est, min, max, speed, accel as i16, under)))
+    let time = number(fields, 2, 0, 100_000_000)?;
+    let est = number(fields, 3, -10_000_000, 110_000_000)?;
+    let min = number(fields, 4, -10_000_000, est)?;
+    let max = number(fields, 5, est, 110_000_000)?;
+    let speed = number(fields, 6, 0, 138_888)?;
+    let accel = number(fields, 7, -300, 300)?;
+    let under = number(fields, 8, 0, 10_000)?;
+    Ok(Event::Read(reading(
+        time as u32,
+        est,
+        min,
+        max,
+        speed as u32,
+        accel as i16,
+        under as u32,
+    )))
 }
 
-// The reading of numbers that are in their ranges.
+/// The reading of numbers that are in their ranges.
 #[inline(always)]
 fn reading(
     time: u32,
@@ -96,7 +123,7 @@ fn reading(
     Reading::new(time, est_mm, min_mm, max_mm, speed_mm_s, accel, under_mm_s).unwrap()
 }
 
-// `end`: an authority that ends in a stop.
+/// `end`: an authority that ends in a stop.
 #[tactic(auto, unfolding(sdm_rules::specs::Forms::end_form))]
 fn end_event(fields: &ByteRecord) -> Result<Event, EventFault>
     ensures value { result ≡ end_form (drop 1 (fields_of fields.now)) }
@@ -105,17 +132,13 @@ fn end_event(fields: &ByteRecord) -> Result<Event, EventFault>
     if fields.len() != 4 {
         return Err(EventFault::FieldCount);
     }
-    let eoa = natural(fields, 2, 0, LONGEST_TRACK_CM)?;
-    let svl = natural(fields, 3, 0, LONGEST_TRACK_CM)?;
-    let release = natural(fields, 4, 0, TOP_KMH)?;
-    Ok(Event::Authority(Authority::Stop {
-        eoa,
-        svl,
-        release: release as u16,
-    }))
+    let eoa = number(fields, 2, 0, LONGEST_TRACK_CM as i32)? as u32;
+    let svl = number(fields, 3, 0, LONGEST_TRACK_CM as i32)? as u32;
+    let release = number(fields, 4, 0, TOP_KMH as i32)? as u16;
+    Ok(Event::Authority(Authority::Stop { eoa, svl, release }))
 }
 
-// `limit`: an authority that ends at a speed.
+/// `limit`: an authority that ends at a speed.
 #[tactic(auto, unfolding(sdm_rules::specs::Forms::limit_form))]
 fn limit_event(fields: &ByteRecord) -> Result<Event, EventFault>
     ensures value { result ≡ limit_form (drop 1 (fields_of fields.now)) }
@@ -124,15 +147,12 @@ fn limit_event(fields: &ByteRecord) -> Result<Event, EventFault>
     if fields.len() != 3 {
         return Err(EventFault::FieldCount);
     }
-    let loa = natural(fields, 2, 0, LONGEST_TRACK_CM)?;
-    let speed = natural(fields, 3, 1, TOP_KMH)?;
-    Ok(Event::Authority(Authority::Limit {
-        loa,
-        speed: speed as u16,
-    }))
+    let loa = number(fields, 2, 0, LONGEST_TRACK_CM as i32)? as u32;
+    let speed = number(fields, 3, 1, TOP_KMH as i32)? as u16;
+    Ok(Event::Authority(Authority::Limit { loa, speed }))
 }
 
-// `restrict`: a temporary speed restriction.
+/// `restrict`: a temporary speed restriction.
 #[tactic(auto, unfolding(sdm_rules::specs::Forms::restrict_form))]
 fn restrict_event(fields: &ByteRecord) -> Result<Event, EventFault>
     ensures value { result ≡ restrict_form (drop 1 (fields_of fields.now)) }
@@ -141,21 +161,21 @@ fn restrict_event(fields: &ByteRecord) -> Result<Event, EventFault>
     if fields.len() != 6 {
         return Err(EventFault::FieldCount);
     }
-    let id = natural(fields, 2, 0, 65_535)?;
-    let start = natural(fields, 3, 0, LONGEST_TRACK_CM)?;
-    let end = natural(fields, 4, 0, LONGEST_TRACK_CM)?;
-    let speed = natural(fields, 5, 1, TOP_KMH)?;
-    let delayed = natural(fields, 6, 0, 1)?;
+    let id = number(fields, 2, 0, 65_535)? as u16;
+    let start = number(fields, 3, 0, LONGEST_TRACK_CM as i32)? as u32;
+    let end = number(fields, 4, 0, LONGEST_TRACK_CM as i32)? as u32;
+    let speed = number(fields, 5, 1, TOP_KMH as i32)? as u16;
+    let delayed = number(fields, 6, 0, 1)? as u8;
     Ok(Event::Restrict(Restriction {
-        id: id as u16,
+        id,
         start,
         end,
-        speed: speed as u16,
+        speed,
         delayed: delayed == 1,
     }))
 }
 
-// `revoke`: the end of a temporary speed restriction.
+/// `revoke`: the end of a temporary speed restriction.
 #[tactic(auto, unfolding(sdm_rules::specs::Forms::revoke_form))]
 fn revoke_event(fields: &ByteRecord) -> Result<Event, EventFault>
     ensures value { result ≡ revoke_form (drop 1 (fields_of fields.now)) }
@@ -164,6 +184,6 @@ fn revoke_event(fields: &ByteRecord) -> Result<Event, EventFault>
     if fields.len() != 2 {
         return Err(EventFault::FieldCount);
     }
-    let id = natural(fields, 2, 0, 65_535)?;
-    Ok(Event::Revoke { id: id as u16 })
+    let id = number(fields, 2, 0, 65_535)? as u16;
+    Ok(Event::Revoke { id })
 }

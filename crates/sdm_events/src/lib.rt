@@ -1,7 +1,6 @@
 //! The records of a journey: taken one by one from bytes in memory, and each made the event that it writes.
 #![tactic(auto)]
 
-mod columns;
 mod events;
 mod stream;
 

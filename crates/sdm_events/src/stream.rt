@@ -14,7 +14,7 @@ use std::marker::Model;
 #[derive(Drop)]
 pub struct Records<'a> {
     reader: Reader<&'a [u8]>,
-    // The last answer of `next`, and `Ok(true)` before the first. One that gave no record stays: the reader isn't asked again.
+    /// The last answer of `next`, and `Ok(true)` before the first. One that gave no record stays: the reader isn't asked again.
     last: Result<bool, NoMemory>,
 }
 

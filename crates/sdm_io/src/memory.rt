@@ -50,7 +50,7 @@ impl MemSource {
     }
 }
 
-// Copies as many of the next bytes as fit and are allowed, and says how many.
+/// Copies as many of the next bytes as fit and are allowed, and says how many.
 fn copy_front(rest: &[u8], buf: &mut [u8], most: usize) -> usize
     ensures count { result ≡ min most (min (length buf.old) (length rest.now)) }
     ensures bound { result ≤ length buf.new }

@@ -26,7 +26,7 @@ impl Model for Plan {
     ghost invariant = { λ p. 1 ≤ p.step };
 }
 
-// After so many calls, the next one's number is among those that fail.
+/// After so many calls, the next one's number is among those that fail.
 fn is_next(failing: &[u32], calls: u64) -> bool
     ensures { IsTrue result ↔ Contains failing.now (calls + 1) }
 {

@@ -27,24 +27,24 @@ pub enum Unread {
     Memory,
 }
 
-// The bytes of the first block: 8 KiB. Most inputs are shorter than that, and clearing more would be most of their start.
+/// The bytes of the first block: 8 KiB. Most inputs are shorter than that, and clearing more would be most of their start.
 const FIRST_BLOCK: usize = 8_192;
 
-// The bytes of the block for what is longer, and the most that are asked for at once: 64 KiB, so that it takes few calls.
+/// The bytes of the block for what is longer, and the most that are asked for at once: 64 KiB, so that it takes few calls.
 const BLOCK: usize = 65_536;
 
-// How far the reading over a block came.
+/// How far the reading over a block came.
 #[derive(Clone, Copy, Debug, PartialEq, Eq)]
 enum Reached {
-    // The end of the input.
+    /// The end of the input.
     End,
 
-    // A read that filled the block, so that there may be more.
+    /// A read that filled the block, so that there may be more.
     FullBlock,
 }
 
-// One turn of the reading loop, with so many bytes still free below the limit: the next bytes are kept after those before. Says
-// how many; none at the end of the input alone.
+/// One turn of the reading loop, with so many bytes still free below the limit: the next bytes are kept after those before. Says
+/// how many; none at the end of the input alone.
 #[inline(always)]
 fn read_chunk<I: Source>(
     input: &mut I,
@@ -84,7 +84,7 @@ fn read_chunk<I: Source>(
     Ok(n)
 }
 
-// Reads over a block, with so many bytes still free below the limit: to the end of the input, or until a read filled the block.
+/// Reads over a block, with so many bytes still free below the limit: to the end of the input, or until a read filled the block.
 #[inline(always)]
 fn read_blocks<I: Source>(
     input: &mut I,

@@ -17,7 +17,7 @@ use std::alloc::Global;
 use std::io::{BufWriter, ErrorKind, Read, Write};
 use std::marker::Model;
 
-// Counts an answer of failure, and hands the answer on.
+/// Counts an answer of failure, and hands the answer on.
 fn counted<T>(answer: Result<T, Failed>, faults: &mut u64) -> Result<T, Failed>
     ensures same { result ≡ answer }
     ensures cause { HasCause faults.old faults.new result }
@@ -32,7 +32,7 @@ fn counted<T>(answer: Result<T, Failed>, faults: &mut u64) -> Result<T, Failed>
     }
 }
 
-// One read, made again where the system interrupted it.
+/// One read, made again where the system interrupted it.
 fn read_once<R: Read>(inner: &mut R, buf: &mut [u8]) -> Result<usize, Failed>
     ensures { ReadsAtMost result buf.new }
 {
@@ -46,8 +46,8 @@ fn read_once<R: Read>(inner: &mut R, buf: &mut [u8]) -> Result<usize, Failed>
     Err(Failed)
 }
 
-// One write, likewise. A writer that takes nothing of a piece that is not empty would never come to its end, so that is a
-// failure.
+/// One write, likewise. A writer that takes nothing of a piece that is not empty would never come to its end, so that is a
+/// failure.
 fn write_once<W: Write>(inner: &mut W, piece: &[u8]) -> Result<usize, Failed>
     ensures bound { WritesAtMost result piece.now }
     ensures some { IfOk result (λ n. 0 < length piece.now → 0 < n) }
@@ -62,7 +62,7 @@ fn write_once<W: Write>(inner: &mut W, piece: &[u8]) -> Result<usize, Failed>
     Err(Failed)
 }
 
-// One flush, likewise.
+/// One flush, likewise.
 fn flush_once<W: Write>(inner: &mut W) -> Result<(), Failed> {
     for _ in 0..u64::MAX {
         match inner.flush() {
@@ -74,7 +74,7 @@ fn flush_once<W: Write>(inner: &mut W) -> Result<(), Failed> {
     Err(Failed)
 }
 
-// One flush of a block, likewise.
+/// One flush of a block, likewise.
 fn flush_block<W: Write + Drop>(block: &mut BufWriter<W>) -> Result<(), Failed>
     ensures { OnOk result (writer_buffer block.new ≡ []) }
 {

@@ -37,7 +37,7 @@ pub fn put_data_fault(fault: DataFault, into: &mut RowBuf)
     }
 }
 
-// Words, and the key of which they speak.
+/// Words, and the key of which they speak.
 fn put_key(words: &[u8], at: At, into: &mut RowBuf)
     requires few { length words.now ≤ 25 }
     requires room { length into.old + 80 ≤ ROW_BYTES }
@@ -48,7 +48,7 @@ fn put_key(words: &[u8], at: At, into: &mut RowBuf)
     put_key_path(at.section, at.index, at.key, into);
 }
 
-// Words, and the section of which they speak.
+/// Words, and the section of which they speak.
 fn put_section(words: &[u8], section: Section, index: u32, into: &mut RowBuf)
     requires few { length words.now ≤ 25 }
     requires room { length into.old + 80 ≤ ROW_BYTES }
@@ -78,7 +78,7 @@ fn put_train_fault(fault: TrainFault, into: &mut RowBuf)
     }
 }
 
-// A key of a band, or one of the train's own where the band is 0.
+/// A key of a band, or one of the train's own where the band is 0.
 fn put_train_path(band: u32, key: u8, into: &mut RowBuf)
     requires room { length into.old + 52 ≤ ROW_BYTES }
     ensures text { into.new ≡ into.old ++ train_path band key }

@@ -70,7 +70,7 @@ pub fn put_key_path(section: Section, index: u32, key: u8, into: &mut RowBuf)
     }
 }
 
-// Puts a name below the path of a section.
+/// Puts a name below the path of a section.
 fn put_below(section: Section, index: u32, name: &str, into: &mut RowBuf)
     requires few { length name.now ≤ 25 }
     requires room { length into.old + 52 ≤ ROW_BYTES }
@@ -82,7 +82,7 @@ fn put_below(section: Section, index: u32, name: &str, into: &mut RowBuf)
     put_name(name, into);
 }
 
-// Puts the name of a key.
+/// Puts the name of a key.
 fn put_name(name: &str, into: &mut RowBuf)
     requires few { length name.now ≤ 25 }
     requires room { length into.old + 25 ≤ ROW_BYTES }

@@ -40,7 +40,7 @@ pub fn put_open_fault(fault: OpenFault, into: &mut RowBuf)
     }
 }
 
-// Words, and the kind of slope and the band of which they speak.
+/// Words, and the kind of slope and the band of which they speak.
 fn put_band(words: &[u8], kind: SlopeKind, band: u32, into: &mut RowBuf)
     requires few { length words.now ≤ 25 }
     requires room { length into.old + 80 ≤ ROW_BYTES }
@@ -53,7 +53,7 @@ fn put_band(words: &[u8], kind: SlopeKind, band: u32, into: &mut RowBuf)
     put_count(band, into);
 }
 
-// A cell of the track.
+/// A cell of the track.
 fn put_cell(cell: i32, into: &mut RowBuf)
     requires room { length into.old + 20 ≤ ROW_BYTES }
     ensures text { into.new ≡ into.old ++ signed_decimal cell }

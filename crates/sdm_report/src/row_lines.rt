@@ -28,7 +28,7 @@ pub fn row_bytes(row: &Row, into: &mut RowBuf)
     into.byte(b'\n');
 }
 
-// The status and the commands: traction cut-off, service brake, emergency brake.
+/// The status and the commands: traction cut-off, service brake, emergency brake.
 fn put_held(held: Held, into: &mut RowBuf)
     requires room { length into.old + 7 ≤ ROW_BYTES }
     ensures text { into.new ≡ into.old ++ join_with_byte 44 (status_text held.status ∷ flag_text held.tco ∷ flag_text held.sb ∷ flag_text held.eb ∷ []) }
@@ -43,7 +43,7 @@ fn put_held(held: Held, into: &mut RowBuf)
     put_flag(held.eb, into);
 }
 
-// The places.
+/// The places.
 fn put_places(row: &Row, into: &mut RowBuf)
     requires room { length into.old + 104 ≤ ROW_BYTES }
     ensures text { into.new ≡ into.old ++ join_with_byte 44 (place_text row.now.ebi ∷ place_text row.now.sbi ∷ place_text row.now.warning ∷ place_text row.now.permitted ∷ place_text row.now.indication ∷ []) }
@@ -60,7 +60,7 @@ fn put_places(row: &Row, into: &mut RowBuf)
     put_place(row.indication, into);
 }
 
-// The letter of a type of speed and distance monitoring.
+/// The letter of a type of speed and distance monitoring.
 fn state_byte(state: State) -> u8
     ensures { result ∷ [] ≡ state_text state }
 {
@@ -71,7 +71,7 @@ fn state_byte(state: State) -> u8
     }
 }
 
-// The letter of a status.
+/// The letter of a status.
 fn status_byte(status: Status) -> u8
     ensures { result ∷ [] ≡ status_text status }
 {

@@ -19,21 +19,30 @@ use Rattle.sdm_text.proofs.NumberFields.{no_comma}
 pub below_greater_power : (n i k : ℕ) → n < 10 ^ i → i ≤ k → n < 10 ^ k
 below_greater_power n i k below le = let grows : 10 ^ i ≤ 10 ^ k = pow-le-pow_right (lit< tt) le in omega arith
 
+-- the first i bytes are digits, and this is their number
+pub record IsRead (ds : List ℕ) (i n : ℕ) : Type 0 where
+  pub digits : list_all is_ascii_digit (take i ds) ≡ true
+  pub writes : n ≡ digits_value 10 (take i ds)
+  pub small : n < 10 ^ i
+
+-- no digit
+pub none_read : (ds : List ℕ) → IsRead ds 0 0
+none_read ds = record { digits = refl; writes = refl; small = omega arith }
+
 -- one more digit
-module _ (xs : List ℕ) (i n c d : ℕ) (within : i < length xs) (read : c ≡ get_or xs i 0) (is : is_ascii_digit c ≡ true) (value : d ≡ c - 48) where
-  here : digit_value (get_or xs i 0) ≡ d
-  here = rw (← read, value) (grind (arith, nat_tests))
+module _ (ds : List ℕ) (i n c d : ℕ) (within : i < length ds) (read : c ≡ get_or ds i 0) (digit : (is_ascii_digit c ≡ true) × (d ≡ c - 48)) where
+  here : digit_value (get_or ds i 0) ≡ d
+  here = let is = digit.0 in let value = digit.1 in rw (← read, value) (grind (arith, nat_tests))
 
   small_digit : d < 10
-  small_digit = grind (arith, nat_tests)
+  small_digit = let is = digit.0 in let value = digit.1 in grind (arith, nat_tests)
 
-  pub one_more : list_all is_ascii_digit (take i xs) ≡ true → n ≡ digits_value 10 (take i xs) → n < 10 ^ i →
-      (list_all is_ascii_digit (take (i + 1) xs) ≡ true) × (10 * n + d ≡ digits_value 10 (take (i + 1) xs)) × (10 * n + d < 10 ^ (i + 1))
-  one_more all writes small = (
-    rw (list_all_more is_ascii_digit xs i 0 within) (and_from _ _ all (rw (← read) is)),
-    rw (digits_value_more 10 xs i within, here, ← writes) (omega arith),
-    rw add-one (omega (arith, pow-suc 10 i, small_digit)),
-  )
+  pub one_more : (j m : ℕ) → j ≡ i + 1 → m ≡ 10 * n + d → IsRead ds i n → IsRead ds j m
+  one_more j m next is before = rw (next, is) (record {
+    digits = rw (list_all_more is_ascii_digit ds i 0 within) (and_from _ _ before.digits (rw (← read) digit.0));
+    writes = rw (digits_value_more 10 ds i within, here, ← before.writes) (omega arith);
+    small = let fits = before.small in rw add-one (omega (arith, pow-suc 10 i, small_digit));
+  })
 
 -- ---- digits and then a comma
 

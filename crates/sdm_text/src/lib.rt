@@ -9,7 +9,7 @@ pub mod rows;
 
 pub use keys::{key_name, key_names};
 pub use lines::{split_field, split_line, without_lf};
-pub use numbers::{integer_in, natural_in, read_int, split_number};
+pub use numbers::{natural_in, read_int, split_number};
 pub use rows::{ROW_BYTES, RowBuf};
 pub use sdm_rules::{FieldFault, Section};
 

@@ -40,17 +40,6 @@ fn in_range(number: i64, lo: i64, hi: i64) -> Result<i64, FieldFault>
     }
 }
 
-/// The number of a field in a range that 32 bits hold, or the fault of `read_int`. (own)
-#[inline(always)]
-pub fn integer_in(field: &[u8], least: i32, greatest: i32) -> Result<i32, FieldFault>
-    ensures value { IfOk result (λ n. read_int field.now least greatest ≡ Ok n) }
-    ensures range { IfOk result (λ n. (least ≤ℤ n) × (n ≤ℤ greatest)) }
-    ensures fault { IfErr result (λ fault. read_int field.now least greatest ≡ Err fault) }
-{
-    let number = read_int(field, i64::from(least), i64::from(greatest))?;
-    Ok(number as i32)
-}
-
 /// The number of a field whose range has no number below 0, or the fault of `read_int`. (own)
 #[inline(always)]
 pub fn natural_in(field: &[u8], least: u32, greatest: u32) -> Result<u32, FieldFault>
@@ -73,7 +62,7 @@ fn number_of(field: &[u8]) -> Option<i64>
     }
 }
 
-/// The number that 1 to 18 digits write; none for other bytes.
+/// The number that 1 to 18 digits write; none for other bytes. Digits are read in pairs, after the first of an odd count.
 #[inline(always)]
 fn magnitude(digits: &[u8]) -> Option<u64>
     ensures value { result ≡ if is_digits digits.now then Some (digits_value 10 digits.now) else None }
@@ -82,18 +71,24 @@ fn magnitude(digits: &[u8]) -> Option<u64>
     if digits.is_empty() || digits.len() > MOST_DIGITS {
         return None;
     }
-    let mut number = 0u64;
-    for byte in digits {
-        let digit = digit_of(*byte);
-        if digit > 9 {
+    let mut at = digits.len() % 2;
+    let mut number = if at == 1 { digit_of(digits[0]) } else { 0 };
+    if number > 9 {
+        return None;
+    }
+    while at < digits.len() {
+        let tens = digit_of(digits[at]);
+        let ones = digit_of(digits[at + 1]);
+        if tens > 9 || ones > 9 {
             return None;
         }
-        number = 10 * number + digit;
+        number = 100 * number + 10 * tens + ones;
+        at += 2;
     }
     Some(number)
 }
 
-// The digit that a byte writes, and more than 9 where it writes none: a byte below `0` wraps, so that a caller needs one test.
+/// The digit that a byte writes, and more than 9 where it writes none: a byte below `0` wraps, so that a caller needs one test.
 #[inline]
 fn digit_of(byte: u8) -> u64
     ensures digit { result ≤ 9 → (is_ascii_digit byte ≡ true) × (result ≡ byte - 48) }
@@ -120,7 +115,8 @@ pub fn split_number(line: &[u8], least: i64, greatest: i64) -> Option<(i64, &[u8
     Some((number, after))
 }
 
-// The same of any number.
+/// The number of the first field of a line, and the line after the comma that ends the field; none where no comma does, or the field is
+/// no number.
 fn split_any_number(line: &[u8]) -> Option<(i64, &[u8])>
     ensures some { IfSome result (λ cut. BeginsWithNumber line.now cut.0 cut.1.now) }
     ensures none { IfNone result (BeginsWithNoNumber line.now) }
@@ -137,7 +133,7 @@ fn split_any_number(line: &[u8]) -> Option<(i64, &[u8])>
     Some((number, after))
 }
 
-// The number of a first field of 1 to 18 digits, and the line after its comma; where it answers none, the field may yet be a number.
+/// The number of a first field of 1 to 18 digits, and the line after its comma; where it answers none, the field may yet be a number.
 #[inline(always)]
 fn split_digits(line: &[u8]) -> Option<(u64, &[u8])>
     ensures number { IfSome result (λ cut. BeginsWithNumber line.now (pos cut.0) cut.1.now) }

@@ -12,14 +12,13 @@ pub const ROW_BYTES: usize = 192;
 /// The most bytes of a number. (own)
 const NUMBER_BYTES: usize = 20;
 
-/// `ROW_BYTES + 2 * NUMBER_BYTES`. (own)
-const ALL_BYTES: usize = 232;
+/// `ROW_BYTES + NUMBER_BYTES`. (own)
+const ALL_BYTES: usize = 212;
 
 /// A row in the making, of at most `ROW_BYTES` bytes.
 #[derive(Drop)]
 pub struct RowBuf {
-    // The row, and after it bytes of no meaning: a number is written as far behind the row as the longest is long, and then copied to its
-    // end with as many bytes.
+    /// The row, and after it bytes of no meaning: a number is copied with as many bytes as the longest has.
     bytes: [u8; ALL_BYTES],
     len: usize,
 }
@@ -34,19 +33,17 @@ impl Model for RowBuf {
     ghost invariant = { λ b. b.len ≤ 192 };
 }
 
-// Writes a number so that it ends before a byte, and answers where it starts.
+/// Writes a number so that it ends before byte 20, and answers where it starts.
 #[inline(always)]
-fn write_number(n: i64, bytes: &mut [u8], end: usize) -> usize
-    requires { (20 ≤ end) × (end ≤ length bytes.old) }
-    ensures start { result + length (signed_decimal n) ≡ end }
-    ensures text { drop result bytes.new ≡ signed_decimal n ++ drop end bytes.old }
-    ensures before { take result bytes.new ≡ take result bytes.old }
+fn write_number(n: i64, text: &mut [u8; 40]) -> usize
+    ensures start { result + length (signed_decimal n) ≡ 20 }
+    ensures text { take (20 - result) (drop result text.new) ≡ signed_decimal n }
 {
-    let start = write_digits(n.unsigned_abs(), bytes, end);
+    let start = write_digits(n.unsigned_abs(), text, NUMBER_BYTES);
     if n >= 0 {
         return start;
     }
-    bytes[start - 1] = b'-';
+    text[start - 1] = b'-';
     start - 1
 }
 
@@ -83,12 +80,11 @@ impl RowBuf {
         requires { length self.old + length (signed_decimal n) ≤ ROW_BYTES }
         ensures { self.new ≡ self.old ++ signed_decimal n }
     {
+        let mut text = [0u8; 40];
+        let start = write_number(n, &mut text);
         let end = self.len + NUMBER_BYTES;
-        let start = write_number(n, &mut self.bytes, end);
-        let mut text = [0u8; NUMBER_BYTES];
-        text.copy_from_slice(&self.bytes[start..start + NUMBER_BYTES]);
-        self.bytes[self.len..end].copy_from_slice(&text);
-        self.len += end - start;
+        self.bytes[self.len..end].copy_from_slice(&text[start..start + NUMBER_BYTES]);
+        self.len = end - start;
     }
 
     /// Puts one byte.

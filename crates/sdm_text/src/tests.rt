@@ -1,8 +1,8 @@
 //! Lines and fields, numbers at the ends of their forms and ranges, the keys of each section, and rows up to the last byte that they hold.
 
 use crate::{
-    FieldFault, ROW_BYTES, RowBuf, Section, integer_in, key_name, key_names, natural_in, read_int,
-    split_field, split_line, split_number, without_lf,
+    FieldFault, ROW_BYTES, RowBuf, Section, key_name, key_names, natural_in, read_int, split_field,
+    split_line, split_number, without_lf,
 };
 use std::test::Fail;
 
@@ -201,11 +201,6 @@ fn each_key_has_its_number(rt: HostRuntime) -> Result<(), Fail> {
 
 #[test]
 fn a_number_of_32_bits_is_read_in_its_range(rt: HostRuntime) {
-    let (least, greatest) = (i32::MIN, i32::MAX);
-    assert_eq!(rt; integer_in(b"-2147483648", least, greatest), Ok(least));
-    assert_eq!(rt; integer_in(b"2147483647", least, greatest), Ok(greatest));
-    assert_eq!(rt; integer_in(b"-301", -300, 300), Err(FieldFault::OutOfRange));
-    assert_eq!(rt; integer_in(b"-", -300, 300), Err(FieldFault::NotNumber));
     assert_eq!(rt; natural_in(b"4294967295", 0, u32::MAX), Ok(u32::MAX));
     assert_eq!(rt; natural_in(b"-1", 0, 500), Err(FieldFault::OutOfRange));
     assert_eq!(rt; natural_in(b"1 km", 0, 500), Err(FieldFault::NotNumber));

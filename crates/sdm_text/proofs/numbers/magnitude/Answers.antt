@@ -1,27 +1,39 @@
 -- After i digits the number is below 10^i, so that it fits after as many as a number has.
-use Rattle.std.proofs.Common.{arith, refl}
-use Rattle.std.proofs.lemmas.Bool.{and_right}
-use Rattle.std.proofs.lemmas.List.Folds.{list_all_at}
-use Rattle.std.specs.Char.{is_ascii_digit}
+use Rattle.std.proofs.Common.{◌≡◌, ◌+◌, ◌-◌, ◌*◌, ◌%◌, ◌/◌, ◌≤◌, length, refl, arith}
 use Rattle.sdm_rules.specs.Numbers.{most_digits}
-use Rattle.sdm_text.proofs.NumberDigits.{below_greater_power, one_more}
+use Rattle.sdm_text.proofs.NumberDigits.{IsRead, below_greater_power, none_read, one_more}
 use Rattle.sdm_text.proofs.numbers.magnitude.Goals as goal
+use Rattle.sdm_text.proofs.numbers.magnitude.Goals.{then-at-eq1, else-at-eq1}
+
+pub loop-at-init : goal.loop-at-init
+loop-at-init c =
+    let ds = c.args.digits.now in
+    record {
+      within = omega arith;
+      pairs = (length ds / 2, omega arith);
+      read = elim c.if-at-eq1.branch [
+        | then-at-eq1 w ↦ one_more ds 0 0 _ _ (omega arith) refl (w.digit_of-number.ensures.digit (rw w.number-is at c.if-number-gt9.false)) _ _ w.if-at-eq1.true (omega (arith, w.number-is)) (none_read ds)
+        | else-at-eq1 w ↦ let even : length ds % 2 ≡ 0 = omega (arith, w.if-at-eq1.false) in rw (even, w.number-is) (none_read ds)
+      ];
+    }
 
 pub overflow_mul-number : goal.overflow_mul-number
-overflow_mul-number c = omega (arith, below_greater_power _ _ most_digits c.loop-byte.invariant.small (omega arith))
+overflow_mul-number c = omega (arith, below_greater_power _ _ 16 c.loop-at.invariant.read.small (omega (arith, c.loop-at.invariant.pairs.1)))
 
 pub overflow_add-number : goal.overflow_add-number
-overflow_add-number c = omega (arith, below_greater_power _ _ most_digits c.loop-byte.invariant.small (omega arith))
+overflow_add-number c = omega (arith, below_greater_power _ _ 16 c.loop-at.invariant.read.small (omega (arith, c.loop-at.invariant.pairs.1)))
 
-pub loop-byte-preserved : goal.loop-byte-preserved
-loop-byte-preserved c =
-    let h = c.loop-byte.invariant in
-    let digit = c.digit_of-digit.ensures.digit c.if-digit-gt9.false in
-    let next = one_more _ _ _ _ _ c.loop-byte-test.true refl digit.0 digit.1 h.digits h.writes h.small in
-    record { digits = next.0; writes = next.1; small = next.2 }
+pub overflow_add-number-in-loop-at : goal.overflow_add-number-in-loop-at
+overflow_add-number-in-loop-at c = omega (arith, below_greater_power _ _ 16 c.loop-at.invariant.read.small (omega (arith, c.loop-at.invariant.pairs.1)))
 
-pub returns-then-digit-gt9-clause-value : goal.returns-then-digit-gt9-clause-value
-returns-then-digit-gt9-clause-value c = rw (and_right _ _ (list_all_at is_ascii_digit c.args.digits.now c.loop-byte.byte-index 0 c.loop-byte-test.true (c.digit_of-digit.ensures.none c.if-digit-gt9.true))) refl
+pub loop-at-preserved : goal.loop-at-preserved
+loop-at-preserved c =
+    let ds = c.args.digits.now in
+    let h = c.loop-at.invariant in
+    let two : c.loop-at.at + 2 ≤ length ds = omega (arith, h.pairs.1) in
+    let tens = one_more ds c.loop-at.at c.loop-at.number _ _ (omega arith) refl (c.digit_of-tens.ensures.digit c.if-tens-gt9.false) _ _ refl refl h.read in
+    let read : IsRead ds (c.loop-at.at + 2) (100 * c.loop-at.number + 10 * c.digit_of-tens.result + c.digit_of-ones.result) = one_more ds (c.loop-at.at + 1) _ _ _ (omega arith) refl (c.digit_of-ones.ensures.digit c.if-ones-gt9.false) _ _ (omega arith) (omega arith) tens in
+    record { within = two; pairs = (h.pairs.0 - 1, omega (arith, h.pairs.1)); read = read }
 
 pub returns-clause-fits : goal.returns-clause-fits
-returns-clause-fits c = below_greater_power _ _ most_digits c.loop-byte.invariant.small (omega arith)
+returns-clause-fits c = below_greater_power _ _ most_digits c.loop-at.invariant.read.small (omega arith)

@@ -1,13 +1,15 @@
--- So far each byte is a digit, and the number is that of these digits.
-use Rattle.std.proofs.Common.{◌≡◌, ◌<◌, ◌^◌, true, take}
-use Rattle.std.specs.Char.{is_ascii_digit}
-use Rattle.std.specs.List.{list_all}
-use Rattle.std.specs.Str.Parse.{digits_value}
+-- So far the bytes are digits, the number is theirs, and pairs are left.
+use Rattle.std.proofs.Common.{◌≡◌, ◌+◌, ◌-◌, ◌*◌, ◌≤◌, ℕ, length}
+use Rattle.sdm_text.proofs.NumberDigits.{IsRead}
 use Rattle.sdm_text.proofs.numbers.magnitude.Given as goal
 
-abbrev pub invariant-loop-byte : goal.invariant-loop-byte
-invariant-loop-byte l = record {
-  digits : list_all is_ascii_digit (take l.byte-index l.digits) ≡ true;
-  writes : l.number ≡ digits_value 10 (take l.byte-index l.digits);
-  small : l.number < 10 ^ l.byte-index;
+abbrev pub invariant-loop-at : goal.invariant-loop-at
+invariant-loop-at l = record {
+  within : l.at ≤ length l.digits;
+  pairs : (pairs : ℕ) × (length l.digits ≡ l.at + 2 * pairs);
+  read : IsRead l.digits l.at l.number;
 }
+
+-- each turn takes a pair
+abbrev pub decreases-loop-at : goal.decreases-loop-at
+decreases-loop-at l = length l.digits - l.at
