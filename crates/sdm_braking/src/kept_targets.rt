@@ -2,7 +2,6 @@
 //! the train, the track and the target alone.
 
 ghost use Rattle.std.specs.Prelude.{◌≡◌};
-ghost use Rattle.sdm_rules.specs.declared.data.SlopeKind.TheVariants.{Normal};
 ghost use Rattle.sdm_rules.specs.Decelerations.{slopes_of};
 ghost use Rattle.sdm_rules.specs.Targets.{foot_speed_of};
 ghost use Rattle.sdm_targets.specs.Lists.{IsTarget};

@@ -2,20 +2,16 @@
 //! of the others, which the emergency brake supervises on an EBD. (SUBSET-026-3 3.13.9.3)
 
 ghost use Rattle.std.specs.Prelude.{◌≡◌, ◌≤◌, Option, Some};
-ghost use Rattle.sdm_num.specs.Fractions.{Fraction};
-ghost use Rattle.sdm_rules.specs.Limits.{computed, ebd_limits_of, limits_of, sbd_limits_of};
-ghost use Rattle.sdm_rules.specs.declared.data.SlopeKind.TheVariants.{Expected, Safe};
-ghost use Rattle.sdm_rules.specs.Decelerations.{slopes_of};
-ghost use Rattle.sdm_rules.specs.Targets.{foot_speed_of, target_speed};
+ghost use Rattle.sdm_rules.specs.Limits.{computed, limits_of};
+ghost use Rattle.sdm_rules.specs.Targets.{target_speed};
 ghost use Rattle.sdm_limits.specs.Ranges.{IsGuide};
 ghost use Rattle.sdm_limits.specs.Sides.{AreNear, place_where, places_of};
 ghost use Rattle.sdm_braking.specs.Asked.{IsAsked};
-ghost use Rattle.sdm_braking.specs.KeptCurves.{IsCurveOn, IsKeptTarget, guide_at};
+ghost use Rattle.sdm_braking.specs.KeptCurves.{IsKeptTarget, guide_at};
 
 use crate::asked::AskedEstimate;
 use crate::braking::Braking;
 use crate::kept_targets::KeptTarget;
-use sdm_curve::Curve;
 use sdm_limits::{Limits, ebd_limits_at, sbd_limits};
 use sdm_num::Early;
 use sdm_targets::TargetKind;

@@ -115,7 +115,7 @@ pub fn sbd_limits(
     limits_from_sbi(times, v, guide, None, sbi)
 }
 
-// The limits before an SBI, with an EBI if there is one. (SUBSET-026-3 3.13.9.3.4 to 3.13.9.3.6; form own)
+/// The limits before an SBI, with an EBI if there is one. (SUBSET-026-3 3.13.9.3.4 to 3.13.9.3.6; form own)
 fn limits_from_sbi(
     times: &Times,
     v: Speed,
@@ -149,7 +149,7 @@ fn limits_from_sbi(
     }
 }
 
-// The permitted limit: the place that the driver's time asks for, or the guide where that is earlier.
+/// The permitted limit: the place that the driver's time asks for, or the guide where that is earlier.
 #[tactic(auto, using(crate::proofs::Places::earlier_place, crate::proofs::Places::earlier_fine))]
 fn guided(guide: Option<Early>, driver: Early) -> Early
     requires guide { IsGuide guide }

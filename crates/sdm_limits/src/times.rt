@@ -54,8 +54,8 @@ impl OfTrain for Times {
     }
 }
 
-// T_traction: with an interface the traction is cut off from the warning on, max(T_traction_cut_off - (T_warning + T_bs),
-// 0); without one, T_traction_cut_off. (SUBSET-026-3 3.13.9.3.2)
+/// T_traction: with an interface the traction is cut off from the warning on, max(T_traction_cut_off - (T_warning + T_bs),
+/// 0); without one, T_traction_cut_off. (SUBSET-026-3 3.13.9.3.2)
 fn traction_time(cut_off: u32, interface: bool, bs: u32) -> u32
     requires { bs ≤ most_time }
     ensures { result ≡ t_traction cut_off interface bs }

@@ -112,7 +112,8 @@ impl Findings {
         requires range { AreFindingsInRange self.now }
         requires times { AreTimes times.now }
         ensures { (s : Supervision) (r : OdometerReading) → IsFoundAt s r self.now → time ≡ r.time →
-            times.now ≡ reaction_times s.train_and_track → held ≡ commands_in s.train_and_track s.commands r (situation_of s r) → result ≡ row_of s r }
+            times.now ≡ reaction_times s.train_and_track →
+            held ≡ commands_in s.train_and_track s.commands r (situation_of s r) → result ≡ row_of s r }
     {
         let mut row = Row {
             time,

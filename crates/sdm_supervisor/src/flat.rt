@@ -3,7 +3,6 @@
 ghost use Rattle.std.specs.Prelude.{◌≡◌, ◌≤◌, ℕ, None, Some, ◌||◌, ◌&&◌, nat_lt, int_lt, IsTrue, IfOk, IfErr, OnErr};
 ghost use Rattle.sdm_num.specs.Units.{notches_of_mm_s};
 ghost use Rattle.sdm_rules.specs.Records.{time_fault};
-ghost use Rattle.sdm_rules.specs.Cells.{place_of_cell};
 ghost use Rattle.sdm_rules.specs.Flat.{KeepsFlatOrder, StopsByFlatEnd, after_flat_line, flat_opening, flat_row};
 ghost use Rattle.sdm_rules.specs.Ranges.{longest_track};
 ghost use Rattle.sdm_supervisor.specs.Flats.{ebi_mm, flat_map};
@@ -37,7 +36,7 @@ impl Model for Flat {
     ghost invariant = { λ f. IsFlatCurve f.decel f.end_cm f.map f.curve };
 }
 
-// The slope map of a deceleration in cm/s². It is never refused: 5 cm/s² is the least that a curve may have.
+/// The slope map of a deceleration in cm/s². It is never refused: 5 cm/s² is the least that a curve may have.
 fn map_of(alloc: Global, decel: u16) -> Result<BandMap, NoMemory>
     requires low { 5 ≤ decel }
     requires high { decel ≤ 400 }
@@ -51,14 +50,14 @@ fn map_of(alloc: Global, decel: u16) -> Result<BandMap, NoMemory>
     }
 }
 
-// Whether a line is an emergency, by the computed place of the curve at its speed.
+/// Whether a line is an emergency, by the computed place of the curve at its speed.
 fn is_emergency(limit: Early, end: Place, front: Place, speed: Speed) -> bool
     ensures { result ≡ ((nat_lt 0 speed && int_lt limit.at front) || int_lt end front) }
 {
     speed.notches() > 0 && limit.is_passed_by(front) || end.grains() < front.grains()
 }
 
-// The command that is held after a line: it is released at standstill.
+/// The command that is held after a line: it is released at standstill.
 fn held_after(emergency: bool, held: bool, speed: Speed) -> bool
     ensures { result ≡ (emergency || (held && nat_lt 0 speed)) }
 {
