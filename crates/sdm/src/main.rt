@@ -14,9 +14,7 @@ fn words_of(rt: &HostRuntime) -> Option<Vec<String>> {
     match env::args(rt) {
         Ok(args) => {
             for word in args.skip(1) {
-                if words.push(word).is_err() {
-                    return None;
-                }
+                words.push(word).ok()?;
             }
         }
         Err(error) if error.kind() == ErrorKind::OutOfMemory => return None,
