@@ -14,7 +14,9 @@ fn words_of(rt: &HostRuntime) -> Option<Vec<String>> {
     match env::args(rt) {
         Ok(args) => {
             for word in args.skip(1) {
-                words.push(word).ok()?;
+                if words.push(word).is_err() {
+                    return None;
+                }
             }
         }
         Err(error) if error.kind() == ErrorKind::OutOfMemory => return None,
