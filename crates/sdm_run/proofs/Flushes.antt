@@ -24,26 +24,6 @@ appends_kept (Some xs) None new text k h = absurd h
 appends_kept (Some xs) (Some ys) None text k h = absurd k
 appends_kept (Some xs) (Some ys) (Some zs) text k h = k ∙ h
 
--- what was kept stays kept
-keeps_kept : (old mid new : Option (List ℕ)) → Keeps mid new → Keeps old mid → Keeps old new
-keeps_kept None mid new k h = tt
-keeps_kept (Some xs) None new k h = absurd h
-keeps_kept (Some xs) (Some ys) None k h = absurd k
-keeps_kept (Some xs) (Some ys) (Some zs) k h = k ∙ h
-
--- what out took for an outcome
-takes_kept : (outcome : Outcome) (old mid new : Option (List ℕ)) (text : List ℕ) → Keeps mid new → TakesFor outcome old mid text → TakesFor outcome old new text
-takes_kept Done old mid new text k h = appends_kept old mid new text k h
-takes_kept Usage old mid new text k h = keeps_kept old mid new k h
-takes_kept ReadFault old mid new text k h = keeps_kept old mid new k h
-takes_kept WriteFault old mid new text k h = (h.0, h.1, appends_kept old mid new (take h.0 text) k h.2)
-takes_kept TooLong old mid new text k h = appends_kept old mid new text k h
-takes_kept (BadData fault) old mid new text k h = appends_kept old mid new text k h
-takes_kept (Refused fault) old mid new text k h = appends_kept old mid new text k h
-takes_kept (BadEvent number cause) old mid new text k h = appends_kept old mid new text k h
-takes_kept Memory old mid new text k h =
-    record { prefix = h.prefix; rest = h.rest; parts = h.parts; whole_lines = h.whole_lines; taken = appends_kept old mid new h.prefix k h.taken }
-
 -- ---- what out took for any outcome is a prefix of the text
 
 -- a prefix is a part
@@ -80,7 +60,8 @@ part_of Memory old new text h = part_of_prefix old new h.prefix h.rest text h.pa
 -- a fault of out after an answer is answered as such
 pub answer_failed : (output : Output) (old mid new : Option (List ℕ)) (outcome : Outcome) → Keeps mid new → IsAnswer output old mid outcome → IsAnswer output old new WriteFault
 answer_failed output old mid new outcome k h =
-    record { ended = inr (inr (inl refl)); taken = takes_kept WriteFault old mid new output.text k (part_of outcome old mid output.text h.taken) }
+    let part = part_of outcome old mid output.text h.taken in
+    record { ended = inr (inr (inl refl)); taken = (part.0, part.1, appends_kept old mid new (take part.0 output.text) k part.2) }
 
 -- ---- completeness
 

@@ -61,11 +61,6 @@ pub where_accepted : {A B : Type 0} (answer : Result A B) (P Q : Type 0) → (P 
 where_accepted (Ok x) P Q so h = so h
 where_accepted (Err fault) P Q so h = tt
 
--- where no record is left, the output is at its end
-pub none_left : (tell : Turn → List ℕ) (old : Option (List ℕ)) (n : ℕ) (s : Supervision) (records : List Record) → records ≡ [] →
-    IsAnswer (output_of_records tell n s records) old old Done
-none_left tell old n s records none = rw none (record { ended = inl refl; taken = Appends-nil old })
-
 -- ---- no record is refused as a line
 
 turn_no_line : {F : Type 0} (make : F → EventCause) (o : Option F) (s t : Supervision) (e : Event) (cause : EventCause) →

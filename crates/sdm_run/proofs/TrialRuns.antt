@@ -70,10 +70,6 @@ next_row seed made left s few in_time =
     ap (λ (j : Journey). rows_of j.turns) (reading_taken (suc made) s (reading_in_cycle seed (suc made)) (readings_from seed (suc (suc made)) left) few in_time)
 
 module _ (seed cycles : ℕ) (m : MadeReadings) (s : Supervision) (counts : Counts) (h : IsCycleOf seed cycles m s counts) where
-  -- the reading of the next cycle is not too early
-  pub reading_in_time : (r : OdometerReading) → r ≡ reading_in_cycle m.seed (suc m.made) → time_fault s.last_time r.time ≡ None
-  reading_in_time r r_is = rw r_is h.in_time
-
   -- one more cycle was made, and its row was counted
   pub cycle_made :
       (m' : MadeReadings) (s' : Supervision) (counts' : Counts) (r : OdometerReading) (row : Row) →
