@@ -41,8 +41,8 @@ impl Kept {
         requires { authority_fault braking.now.track.length_cm authority.now ≡ None }
         ensures { IfOk result (IsKept braking.now profile.now authority.now) }
     {
+        let falls = KeptFalls::begin(alloc, braking, profile)?;
         let end = Box::new(alloc, braking.keep_end(authority))?;
-        let falls = KeptFalls::begin(alloc, braking, profile, end.last())?;
         let release = braking.release(authority, &end);
         Ok(Kept {
             falls,

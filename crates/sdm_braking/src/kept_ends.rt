@@ -66,20 +66,13 @@ impl KeptEnd {
         }
     }
 
-    /// The SvL or the LOA.
-    pub fn last(&self) -> &KeptTarget
-        ensures { result.now.brake ≡ brake_curve_of self.now }
-    {
-        match self {
-            KeptEnd::Stop { svl, .. } => svl,
-            KeptEnd::Limit { loa } => loa,
-        }
-    }
-
     /// The EBD of the SvL or of the LOA.
     pub fn brake_curve(&self) -> &Curve
         ensures { result.now ≡ brake_curve_of self.now }
     {
-        &self.last().brake
+        match self {
+            KeptEnd::Stop { svl, .. } => &svl.brake,
+            KeptEnd::Limit { loa } => &loa.brake,
+        }
     }
 }

@@ -3,14 +3,14 @@
 //! stays keeps its curves. Those stand in boxes, so that the list moves no curve; all boxes are taken at the beginning, and those without a
 //! fall are spare.
 
-ghost use Rattle.std.specs.Prelude.{◌≡◌, ◌+◌, ◌<◌, ◌≤◌, ◌≤ℤ◌, ◌<ℤ◌, ℕ, ℤ, pos, map, take, drop, All, [], IfOk, IfSome, MatchOption, true, false, length, slice_index_or, vec_len, vec_capacity};
+ghost use Rattle.std.specs.Prelude.{◌≡◌, ◌+◌, ◌<◌, ◌≤◌, ◌≤ℤ◌, ◌<ℤ◌, ℕ, ℤ, pos, List, map, take, drop, All, [], IfOk, IfSome, MatchOption, true, false, length, slice_index_or, vec_len, vec_capacity};
 ghost use Rattle.std.specs.List.{remove};
 ghost use Rattle.sdm_rules.specs.Data.{TrainAndTrack};
 ghost use Rattle.sdm_rules.specs.Records.{most_restrictions};
-ghost use Rattle.sdm_rules.specs.Targets.{is_fall};
+ghost use Rattle.sdm_rules.specs.Targets.{is_fall, IsNextFall};
 ghost use Rattle.sdm_speed.specs.Changes.{IsChangedInRange};
 ghost use Rattle.sdm_speed.specs.Falls.{AreAtFalls};
-ghost use Rattle.sdm_speed.specs.Profiles.{mrsp_of};
+ghost use Rattle.sdm_speed.specs.Profiles.{mrsp_of, IsProfile};
 ghost use Rattle.sdm_speed.specs.Zones.{IsFallInRange};
 ghost use Rattle.sdm_targets.specs.Lists.{falls_past, target_at, IsTarget};
 ghost use Rattle.sdm_braking.specs.KeptFalls.{at_fall, AreKeptFalls, AreOfProfileBefore, ArePartedPast, IsFallAt, IsKeptFall, IsNextUpTo, KeptFallsData, fall_of, first_cell};
@@ -64,14 +64,19 @@ fn target_at(fall: Fall) -> Target
     }
 }
 
-/// So many boxes. What they hold until a fall wants them, which is never asked for, is a copy of a target.
-fn boxes(alloc: Global, target: &KeptTarget, count: usize) -> Result<Vec<Box<KeptTarget>>, NoMemory>
+/// So many boxes. What they hold until a fall wants them is never asked for.
+fn boxes(alloc: Global, braking: &Braking, count: usize) -> Result<Vec<Box<KeptTarget>>, NoMemory>
     ensures count { IfOk result (λ boxes. vec_len boxes ≡ count) }
     ensures room { IfOk result (λ boxes. count ≤ vec_capacity boxes) }
 {
+    let kept = braking.keep(Target {
+        kind: TargetKind::Svl,
+        place: Place::of_cm(0),
+        speed: 0,
+    });
     let mut boxes = Vec::with_capacity(alloc, count)?;
     for _ in 0..count {
-        boxes.push_reserved(Box::new(alloc, *target)?);
+        boxes.push_reserved(Box::new(alloc, kept)?);
     }
     Ok(boxes)
 }
@@ -114,24 +119,19 @@ fn find(list: &[KeptFall], cell: i32) -> Option<&KeptFall>
 }
 
 impl KeptFalls {
-    /// What is kept of the falls of a profile. Takes the boxes for as many as there may be on its track; a copy of some target fills them.
-    pub fn begin(
-        alloc: Global,
-        braking: &Braking,
-        profile: &Profile,
-        target: &KeptTarget,
-    ) -> Result<KeptFalls, NoMemory>
+    /// What is kept of the falls of a profile. Takes the boxes for as many as there may be on its track.
+    pub fn begin(alloc: Global, braking: &Braking, profile: &Profile) -> Result<KeptFalls, NoMemory>
         ensures { IfOk result (AreKeptFalls braking.now profile.now) }
     {
         let room = profile.speed_count() + MOST_RESTRICTIONS;
         let list = Vec::with_capacity(alloc, room)?;
-        let spare = boxes(alloc, target, room)?;
+        let spare = boxes(alloc, braking, room)?;
         let mut falls = KeptFalls { list, spare };
         falls.fill(braking, profile);
         Ok(falls)
     }
 
-    /// Keeps the falls of a profile in an empty list.
+    // Keeps the falls of a profile in an empty list.
     fn fill(&mut self, braking: &Braking, profile: &Profile)
         requires empty { self.old.list ≡ [] }
         requires room { length profile.now.speeds + most_restrictions ≤ self.old.room }
@@ -146,7 +146,7 @@ impl KeptFalls {
         }
     }
 
-    /// What is kept of a fall, in a box that was spare, comes to an index of the list.
+    // What is kept of a fall, in a box that was spare, comes to an index of the list.
     fn insert(&mut self, i: usize, braking: &Braking, fall: Fall)
         requires place { i ≤ length self.old.list }
         requires room { length self.old.list < self.old.room }
@@ -167,7 +167,7 @@ impl KeptFalls {
         };
     }
 
-    /// Takes out what is kept at a place; its box is spare.
+    // Takes out what is kept at a place; its box is spare.
     fn remove(&mut self, i: usize)
         requires { i < length self.old.list }
         ensures list { self.new.list ≡ remove self.old.list i }
@@ -177,7 +177,7 @@ impl KeptFalls {
         self.spare.push_reserved(kept);
     }
 
-    /// Takes out what is kept from a place on up to and with the cell `last`.
+    // Takes out what is kept from a place on up to and with the cell `last`.
     fn remove_up_to(&mut self, i: usize, last: i32)
         requires { i ≤ length self.old.list }
         ensures before { take i self.new.list ≡ take i self.old.list }
@@ -192,7 +192,7 @@ impl KeptFalls {
         }
     }
 
-    /// Whether what is kept at a place is that of this fall.
+    // Whether what is kept at a place is that of this fall.
     fn is_at(&self, i: usize, fall: Fall) -> bool
         ensures { result ≡ true →
             (i < length self.now.list) × ((d : KeptFall) → (slice_index_or self.now.list i d).fall ≡ fall) }
