@@ -17,6 +17,12 @@ use Rattle.sdm_curve.proofs.Reach.{back_near, on_near}
 use Rattle.sdm_curve.proofs.Points.{point_back, point_on, square-≤, square-<}
 use Rattle.sdm_curve.proofs.Climbs.{IsClimb, climb_begin, climb_past, climb_through, climb_end, IsDescent, descent_begin, descent_past, descent_through, descent_end}
 
+-- a place is the stepped one, and near the foot
+pub record IsStepped (m : SlopeMap) (curve : BrakeCurve) (v : ℕ) (place : ℤ) : Type 0 where
+  pub value : place ≡ stepped (meaning_of m) curve.place curve.speed v
+  pub not_before : (curve.place +ℤ neg_ℤ (pos most_distance)) ≤ℤ place
+  pub not_past : place ≤ℤ (curve.place +ℤ pos most_distance)
+
 -- where no energy is asked, the arc has no length
 no_distance : (on : Slopes) (band : ℕ) (from to : ℤ) (r : ℕ) → r ≡ 0 → IsArcBack on band from to r → to ≡ from
 no_distance on band from to r none h = let place = h.place in let is = none_of h.distance h.knot in omega (arith, ints)

@@ -1,7 +1,7 @@
 -- What a brake curve keeps: its foot, and its knots, one for each speed band (own).
 use Rattle.std.specs.Prelude.{◌≡◌, ℕ, suc, ℤ, pos, negsuc, neg_ℤ, List, ◌-◌, ◌*◌, ◌^◌, ◌<◌, ◌≤◌, ◌+ℤ◌, ◌≤ℤ◌, length, slice_index, slice_index_or}
-use Rattle.sdm_rules.specs.Slopes.{Slopes, SlopeMap, meaning_of}
-use Rattle.sdm_rules.specs.Curves.{grain_energy, stepped}
+use Rattle.sdm_rules.specs.Slopes.{Slopes}
+use Rattle.sdm_rules.specs.Curves.{grain_energy}
 use Rattle.sdm_laws.specs.Energy.{IsKnot, IsKnotPast}
 use Rattle.sdm_curve.specs.Asked.{IsBandOf}
 use Rattle.sdm_curve.specs.Integrals.{integral}
@@ -17,8 +17,8 @@ pub record CurveKnot : Type 0 where
 abbrev pub IsLevel : ℤ → Type 0
 IsLevel z = (neg_ℤ (pos (3 * 10 ^ 36)) ≤ℤ z) × (z ≤ℤ pos (3 * 10 ^ 36))
 
--- A brake curve: the place of its foot in grains, the foot speed in notches, and its knots, that of the first band first
---.
+-- A brake curve: the place of its foot in grains, the foot speed in notches, and its knots, that of the first band
+-- first.
 pub record BrakeCurve : Type 0 where
   pub place : ℤ
   pub speed : ℕ
@@ -91,9 +91,3 @@ pub record IsMadeFrom (on : Slopes) (curve : BrakeCurve) : Type 0 where
 -- a place so near that arcs from it end at places
 abbrev pub IsNear : ℤ → Type 0
 IsNear z = (negsuc 2_999_999_999_999_999_999 ≤ℤ z) × (z ≤ℤ pos 3_000_000_000_000_000_000)
-
--- a place is the stepped one, and near the foot
-pub record IsStepped (m : SlopeMap) (curve : BrakeCurve) (v : ℕ) (place : ℤ) : Type 0 where
-  pub value : place ≡ stepped (meaning_of m) curve.place curve.speed v
-  pub not_before : (curve.place +ℤ neg_ℤ (pos most_distance)) ≤ℤ place
-  pub not_past : place ≤ℤ (curve.place +ℤ pos most_distance)

@@ -3,9 +3,9 @@ use Rattle.std.proofs.lemmas.Int.{ints}
 use Rattle.std.proofs.lemmas.List.{get_or_default}
 use Rattle.sdm_laws.proofs.Slack.{rounding}
 use Rattle.sdm_curve.specs.Asked.{Asked}
-use Rattle.sdm_curve.specs.Made.{BrakeCurve, IsStepped, no_knot}
+use Rattle.sdm_curve.specs.Made.{BrakeCurve, no_knot}
 use Rattle.sdm_curve.proofs.Meanings.{usable_of}
-use Rattle.sdm_curve.proofs.CurveKnots.{stepped_at}
+use Rattle.sdm_curve.proofs.CurveKnots.{IsStepped, stepped_at}
 use Rattle.sdm_curve.proofs.curve.Curve.place_asked.Goals as goal
 use Rattle.sdm_curve.proofs.curve.Curve.place_asked.Goals.{After-spot_of-spot}
 
