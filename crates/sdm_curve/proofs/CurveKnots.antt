@@ -1,17 +1,17 @@
 -- The stepped place of a speed from the knots of a curve: the arc in the speed's band, from the knot where the curve comes
 -- into the band, ends there. The knots are the places that the walk of the definition has at the borders.
-use Rattle.std.proofs.Common.{◌≡◌, ℕ, ℤ, zero, suc, pos, neg_ℤ, ◌+◌, ◌-◌, ◌*◌, ◌<◌, ◌≤◌, ◌+ℤ◌, List, length, get_or, arith, refl, sym, ◌∙◌, inl, inr}
+use Rattle.std.proofs.Common.{◌≡◌, ℕ, ℤ, zero, suc, pos, neg_ℤ, ◌+◌, ◌-◌, ◌*◌, ◌<◌, ◌≤◌, ◌+ℤ◌, List, length, get_or, arith, refl, sym, ◌∙◌, inl, inr, ◌≤ℤ◌}
 use Rattle.std.proofs.lemmas.Int.{ints}
 use Rattle.std.proofs.lemmas.Bool.{cases_lt}
 use Rattle.sdm_num.specs.Units.{top_speed}
 use Rattle.sdm_rules.specs.Slopes.{Slopes, SlopeMap, IsUsable, meaning_of}
-use Rattle.sdm_rules.specs.Curves.{grain_energy, upper_square}
+use Rattle.sdm_rules.specs.Curves.{grain_energy, upper_square, stepped}
 use Rattle.sdm_laws.specs.Energy.{IsKnot}
 use Rattle.sdm_laws.proofs.CurveOrder.{stepped_foot}
 use Rattle.sdm_curve.specs.Maps.{handed_in, IsKeptMap}
 use Rattle.sdm_curve.specs.Asked.{Asked, IsAskedOf, IsBandOf}
 use Rattle.sdm_curve.specs.Integrals.{IsLastAtMost}
-use Rattle.sdm_curve.specs.Made.{BrakeCurve, IsArcBack, IsArcOn, IsMadeFrom, IsStepped, knot_of}
+use Rattle.sdm_curve.specs.Made.{BrakeCurve, IsArcBack, IsArcOn, IsMadeFrom, knot_of, most_distance}
 use Rattle.sdm_curve.proofs.Meanings.{usable_of}
 use Rattle.sdm_curve.proofs.Reach.{back_near, on_near}
 use Rattle.sdm_curve.proofs.Points.{point_back, point_on, square-≤, square-<}
