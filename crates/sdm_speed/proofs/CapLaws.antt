@@ -15,10 +15,6 @@ cap_after : (z : Zone) (cell : ℤ) (ss : List Step) → AreAfter cell ss → Ar
 cap_after z cell [] after = tt
 cap_after z cell (s ∷ ss) after = (after.0, cap_after z s.start ss after.1)
 
-pub cap_rising : (z : Zone) (ss : List Step) → AreRising ss → AreRising (map (capped_step z) ss)
-cap_rising z [] rising = tt
-cap_rising z (s ∷ ss) rising = cap_after z s.start ss rising
-
 -- ---- from a cell to a later one, with no start between them
 
 -- the cell lies at or before the other, or a step starts there

@@ -1,10 +1,10 @@
 -- The zones of the static speed profile, start by start: the zones that are closed and those of the rest are the zones of all.
-use Rattle.std.proofs.Common.{◌≡◌, ℕ, ℤ, pos, List, [], ◌∷◌, length, get_or, drop, Option, Some, None, false, ◌+◌, ◌-◌, ◌<◌, ◌≤◌, ◌≤ℤ◌, refl, arith}
+use Rattle.std.proofs.Common.{◌≡◌, ℕ, ℤ, pos, List, ◌∷◌, length, get_or, drop, Option, Some, false, ◌+◌, ◌-◌, ◌<◌, refl, arith}
 use Rattle.std.specs.Prelude.{unsigned_abs}
 use Rattle.std.proofs.lemmas.Int.{ints}
-use Rattle.std.proofs.lemmas.List.{drop_more, drop_all}
+use Rattle.std.proofs.lemmas.List.{drop_more}
 use Rattle.sdm_rules.specs.declared.data.SpeedStep.{SpeedStep}
-use Rattle.sdm_rules.specs.Profile.{Zone, end_for, static_zones, zones_of_track}
+use Rattle.sdm_rules.specs.Profile.{Zone, end_for, static_zones}
 use Rattle.sdm_rules.specs.Ranges.{longest_track}
 use Rattle.sdm_track.specs.Ranges.{IsSpeedStep, AreSpeeds}
 use Rattle.sdm_speed.specs.Zones.{IsZone, IsLimit}
@@ -17,21 +17,12 @@ none = record { start = pos 0; speed = pos 0; delayed = false }
 abbrev pub zones_from : ℤ → Option ℤ → List SpeedStep → ℕ → List Zone
 zones_from length_cm first es i = static_zones length_cm first (get_or es (i - 1) none) (drop i es)
 
-pub zones_from_first : (length_cm : ℤ) (es : List SpeedStep) → 1 ≤ length es → zones_from length_cm None es 1 ≡ zones_of_track length_cm es
-zones_from_first length_cm [] some = absurd (omega arith)
-zones_from_first length_cm (e ∷ es) some = refl
-
 -- the start closes a zone and opens the next
 pub zones_from_next : (length_cm : ℤ) (first : Option ℤ) (es : List SpeedStep) (i : ℕ) (e next : SpeedStep) → i < length es → e ≡ get_or es (i - 1) none → next ≡ get_or es i none →
     zones_from length_cm first es i ≡ record { first = first; past = Some (end_for length_cm e.delayed next.start); limit = unsigned_abs e.speed } ∷ zones_from length_cm (Some next.start) es (i + 1)
 zones_from_next length_cm first es i e next known e_is next_is =
     let same : i + 1 - 1 ≡ i = omega arith in
     rw (drop_more es i none known, same, ← e_is, ← next_is) refl
-
--- the last zone has no end
-pub zones_from_last : (length_cm : ℤ) (first : Option ℤ) (es : List SpeedStep) (i : ℕ) (e : SpeedStep) → length es ≤ i → e ≡ get_or es (i - 1) none →
-    zones_from length_cm first es i ≡ record { first = first; past = None; limit = unsigned_abs e.speed } ∷ []
-zones_from_last length_cm first es i e known e_is = rw (drop_all i es known, ← e_is) refl
 
 -- ---- each zone in its range
 
@@ -48,14 +39,3 @@ static_zone es i first past e speeds known e_is opened =
       on_track = λ f a. rw (opened f a) in_range.on_track;
       limited = step_limit (pos longest_track) e in_range;
     }
-
--- ---- the ranges of a longer track
-
-pub wider : (short long : ℤ) (es : List SpeedStep) → short ≤ℤ long → AreSpeeds short es → AreSpeeds long es
-wider short long es le h = record {
-  some = h.some;
-  few = h.few;
-  each = λ k d l. let e = h.each k d l in record { not_before = e.not_before; on_track = (let o = e.on_track in omega (arith, ints)); least = e.least; greatest = e.greatest };
-  from_zero = h.from_zero;
-  rise = h.rise;
-}

@@ -51,14 +51,6 @@ module _ (speed : ℤ → ℕ) where
   retaken_speeds [] = tt
   retaken_speeds (s ∷ ss) = (refl, retaken_speeds ss)
 
-  retaken_after : (cell : ℤ) (ss : List Step) → AreAfter cell ss → AreAfter cell (map (retaken speed) ss)
-  retaken_after cell [] after = tt
-  retaken_after cell (s ∷ ss) after = (after.0, retaken_after s.start ss after.1)
-
-  pub retaken_rising : (ss : List Step) → AreRising ss → AreRising (map (retaken speed) ss)
-  retaken_rising [] rising = tt
-  retaken_rising (s ∷ ss) rising = retaken_after s.start ss rising
-
   pub retaken_starts : (c : ℤ) (ss : List Step) → IsStart c ss → IsStart c (map (retaken speed) ss)
   retaken_starts c [] start = start
   retaken_starts c (s ∷ ss) (inl e) = inl e
