@@ -16,8 +16,10 @@ use Rattle.sdm_braking.specs.declared.kept_targets.KeptTarget.{KeptTarget}
 use Rattle.sdm_braking.specs.KeptCurves.{IsCurveOn, IsKeptTarget, brake_kind}
 
 -- the curve that is kept is an EBD
-pub ebd_of : (d : TrainAndTrack) (k : KeptTarget) → brake_kind k.target.kind ≡ Safe → IsKeptTarget d k → IsCurveOn (slopes_of Safe d) k.target.place (foot_speed_of k.target) k.brake
-ebd_of d k safe kept = subst (λ (kind : SlopeKind). IsCurveOn (slopes_of kind d) k.target.place (foot_speed_of k.target) k.brake) safe kept.brake
+pub ebd_of : (d : TrainAndTrack) (k : KeptTarget) → brake_kind k.target.kind ≡ Safe → IsKeptTarget d k →
+    IsCurveOn (slopes_of Safe d) k.target.place (foot_speed_of k.target) k.brake
+ebd_of d k safe kept = subst (λ (kind : SlopeKind).
+    IsCurveOn (slopes_of kind d) k.target.place (foot_speed_of k.target) k.brake) safe kept.brake
 
 -- no other slopes are the safe ones
 abbrev IsOther : SlopeKind → Type 0
@@ -26,14 +28,16 @@ IsOther Expected = ⊤
 IsOther Normal = ⊤
 
 -- an EBI that is that of the EBD, whatever the guide, is that of the target
-ebi_of_kind : (P : CurvePlaces) (d : TrainAndTrack) (e : Estimate) (t : Target) (ebi : Option Fraction) (kind : TargetKind) → brake_kind kind ≡ Safe →
+ebi_of_kind : (P : CurvePlaces) (d : TrainAndTrack) (e : Estimate) (t : Target) (ebi : Option Fraction)
+    (kind : TargetKind) → brake_kind kind ≡ Safe →
     ((guide : Option Fraction) → ebi ≡ (ebd_limits_of P d e t guide).ebi) → ebi ≡ (limits_of_kind P d e t kind).ebi
 ebi_of_kind P d e t ebi Mrsp safe is = is (guidance_place P d e t)
 ebi_of_kind P d e t ebi Loa safe is = is (guidance_place P d e t)
 ebi_of_kind P d e t ebi Eoa safe is = absurd (subst IsOther safe tt)
 ebi_of_kind P d e t ebi Svl safe is = is None
 
-pub ebi_of : (P : CurvePlaces) (d : TrainAndTrack) (e : Estimate) (t : Target) (ebi : Option Fraction) → brake_kind t.kind ≡ Safe →
+pub ebi_of : (P : CurvePlaces) (d : TrainAndTrack) (e : Estimate) (t : Target) (ebi : Option Fraction) →
+    brake_kind t.kind ≡ Safe →
     ((guide : Option Fraction) → ebi ≡ (ebd_limits_of P d e t guide).ebi) → ebi ≡ (limits_of P d e t).ebi
 unfolding limits_of
 ebi_of P d e t ebi safe is = ebi_of_kind P d e t ebi t.kind safe is

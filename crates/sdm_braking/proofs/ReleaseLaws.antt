@@ -13,16 +13,20 @@ use Rattle.sdm_braking.specs.declared.releases.Release.{Release}
 use Rattle.sdm_braking.specs.Releases.{IsReleaseOf, release_speed_at}
 
 -- the release speed that is kept is monitored where the definitions say
-pub release_speed_at_is : (d : TrainAndTrack) (a : Authority) (kept : Option Release) (front : ℤ) → IsReleaseOf d a kept → release_speed_at kept front ≡ release_of d a front
-release_speed_at_is d (Stop eoa svl speed) (Some release) front is = rw (lt-ltb 0 speed is.some, ← is.start, is.speed) refl
+pub release_speed_at_is : (d : TrainAndTrack) (a : Authority) (kept : Option Release) (front : ℤ) →
+    IsReleaseOf d a kept → release_speed_at kept front ≡ release_of d a front
+release_speed_at_is d (Stop eoa svl speed) (Some release) front is =
+    rw (lt-ltb 0 speed is.some, ← is.start, is.speed) refl
 release_speed_at_is d (Stop eoa svl speed) None front is = rw is refl
 release_speed_at_is d (Limit loa speed) (Some release) front is = absurd is
 release_speed_at_is d (Limit loa speed) None front is = refl
 
 -- it is at most 500 km/h
-pub release_speed_in_range : (d : TrainAndTrack) (a : Authority) (kept : Option Release) (front : ℤ) → IsReleaseOf d a kept → IfSome (release_speed_at kept front) (λ kmh. kmh ≤ top_kmh)
+pub release_speed_in_range : (d : TrainAndTrack) (a : Authority) (kept : Option Release) (front : ℤ) →
+    IsReleaseOf d a kept → IfSome (release_speed_at kept front) (λ kmh. kmh ≤ top_kmh)
 release_speed_in_range d (Stop eoa svl speed) (Some release) front is =
-    cond_both (is_past 0 front (place_of release.start)) (Some release.speed_kmh) None (λ kmh. IfSome kmh (λ n. n ≤ top_kmh)) (λ _. omega (arith, is.speed, is.range)) (λ _. tt)
+    cond_both (is_past 0 front (place_of release.start)) (Some release.speed_kmh) None
+    (λ kmh. IfSome kmh (λ n. n ≤ top_kmh)) (λ _. omega (arith, is.speed, is.range)) (λ _. tt)
 release_speed_in_range d (Stop eoa svl speed) None front is = tt
 release_speed_in_range d (Limit loa speed) (Some release) front is = absurd is
 release_speed_in_range d (Limit loa speed) None front is = tt

@@ -1,5 +1,6 @@
 -- The kept falls ahead of a front end and the kept end are the targets of the definitions.
-use Rattle.std.proofs.Common.{◌≡◌, ℕ, suc, ℤ, pos, Bool, true, false, List, [], ◌∷◌, ◌++◌, map, All, ◌∙◌, refl, sym, arith}
+use Rattle.std.proofs.Common.{◌≡◌, ℕ, suc, ℤ, pos, Bool, true, false, List, [], ◌∷◌, ◌++◌, map, All, ◌∙◌, refl, sym}
+use Rattle.std.proofs.Common.{arith}
 use Rattle.sdm_rules.specs.declared.authorities.Authority.{Authority}
 use Rattle.sdm_rules.specs.declared.authorities.Authority.TheVariants.{Stop, Limit}
 use Rattle.sdm_rules.specs.Cells.{cell_of}
@@ -33,7 +34,9 @@ ends_kept d (Stop eoa svl release) (KeptLimit l) h = absurd h
 ends_kept d (Limit loa speed) (KeptStop e s) h = absurd h
 ends_kept d (Limit loa speed) (KeptLimit l) h = h.kept
 
-pub targets_are : (d : TrainAndTrack) (p : ℤ → ℕ) (a : Authority) (ks : List KeptFall) (e : KeptEnd) (after front : ℤ) (end : ℕ) (in_release_monitoring : Bool) → after ≡ cell_of front → end ≡ end_of a → All (IsKeptFall d) ks → falls_past p after (pos end) ≡ map at_fall ks → IsKeptEnd d a e →
+pub targets_are : (d : TrainAndTrack) (p : ℤ → ℕ) (a : Authority) (ks : List KeptFall) (e : KeptEnd) (after front : ℤ)
+    (end : ℕ) (in_release_monitoring : Bool) → after ≡ cell_of front → end ≡ end_of a → All (IsKeptFall d) ks →
+    falls_past p after (pos end) ≡ map at_fall ks → IsKeptEnd d a e →
     map target_of ks ++ targets_in e in_release_monitoring ≡ targets_of p a front in_release_monitoring
 unfolding targets_of
 targets_are d p a ks e after front end in_release_monitoring at last each falls ends =

@@ -14,11 +14,12 @@ use Rattle.sdm_braking.specs.declared.asked.AskedEstimate.{AskedEstimate}
 -- guidance curves are asked for the speed in notches, where they are permitted (SUBSET-026-3 3.13.8.5)
 abbrev pub IsGuidanceAsked : TrainAndTrack → ℕ → Option Asked → Type 0
 IsGuidanceAsked d v None = d.national.guidance ≡ false
-IsGuidanceAsked d v (Some asked) = (d.national.guidance ≡ true) × (asked.speed ≡ v) × IsAskedOf (slopes_of Normal d) asked
+IsGuidanceAsked d v (Some asked) =
+    (d.national.guidance ≡ true) × (asked.speed ≡ v) × IsAskedOf (slopes_of Normal d) asked
 
--- what was worked out of an estimate is what the definitions say of it: what the train may do until its brake works; V_bec with its
--- band on the safe slopes and D_bec in grains, of every target that is no faster than the train; and V_est on the normal slopes,
--- where guidance is permitted (SUBSET-026-3 3.13.8.5, 3.13.9.3.2; own)
+-- what was worked out of an estimate is what the definitions say of it: what the train may do until its brake works;
+-- V_bec with its band on the safe slopes and D_bec in grains, of every target that is no faster than the train; and
+-- V_est on the normal slopes, where guidance is permitted (SUBSET-026-3 3.13.8.5, 3.13.9.3.2; own)
 pub record IsAsked (d : TrainAndTrack) (a : AskedEstimate) : Type 0 where
   pub estimate : IsEstimate a.estimate
   pub build_up : a.build_up ≡ build_up_from d a.estimate

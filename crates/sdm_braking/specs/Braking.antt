@@ -14,7 +14,8 @@ use Rattle.sdm_train.specs.Trains.{IsTrain}
 use Rattle.sdm_track.specs.Ranges.{IsTrack}
 use Rattle.sdm_limits.specs.Ranges.{AreTimes}
 
--- data that supervision accepts: a train and a track within their ranges, and slopes of all kinds that curves can stand on
+-- data that supervision accepts: a train and a track within their ranges, and slopes of all kinds that curves can
+-- stand on
 pub record IsSupervisable (d : TrainAndTrack) : Type 0 where
   pub train : IsTrain d.train
   pub track : IsTrack d.track

@@ -29,7 +29,8 @@ pub record IsCurveOn (on : Slopes) (foot : ℤ) (foot_speed : ℕ) (curve : Brak
   pub speed : curve.speed ≡ foot_speed
   pub made : IsMadeFrom on curve
 
--- the slopes of the curve by which the brake supervises a target: an SBD for the EOA, else an EBD (SUBSET-026-3 3.13.8)
+-- the slopes of the curve by which the brake supervises a target: an SBD for the EOA, else an EBD (SUBSET-026-3
+-- 3.13.8)
 abbrev pub brake_kind : TargetKind → SlopeKind
 brake_kind Mrsp = Safe
 brake_kind Loa = Safe
@@ -48,16 +49,16 @@ abbrev pub IsGuideOf : TrainAndTrack → Target → Option BrakeCurve → Type 0
 IsGuideOf d t None = is_guided d t.kind ≡ false
 IsGuideOf d t (Some guide) = (is_guided d t.kind ≡ true) × IsCurveOn (slopes_of Normal d) t.place (target_speed t) guide
 
--- the speeds above which a target is passed: the target speed, with its warning and its SBI margin, and the foot speed of its EBD, which is
--- that with its EBI margin (SUBSET-026-3 3.13.8.2, 3.13.8.3, 3.13.9.2)
+-- the speeds above which a target is passed: the target speed, with its warning and its SBI margin, and the foot speed
+-- of its EBD, which is that with its EBI margin (SUBSET-026-3 3.13.8.2, 3.13.8.3, 3.13.9.2)
 pub record AreSpeedsOf (t : Target) (s : SpeedLimits) : Type 0 where
   pub permitted : s.permitted ≡ target_speed t
   pub warning : s.warning ≡ with_margin warning_margin t
   pub sbi : s.sbi ≡ with_margin sbi_margin t
   pub ebi : s.ebi ≡ foot_speed_of t
 
--- a target that is kept stands beside its speeds and its curves: its EBD or, for an EOA, its SBD, and its guidance curve if it
--- has one (SUBSET-026-3 3.13.8.3 to 3.13.8.5)
+-- a target that is kept stands beside its speeds and its curves: its EBD or, for an EOA, its SBD, and its guidance
+-- curve if it has one (SUBSET-026-3 3.13.8.3 to 3.13.8.5)
 pub record IsKeptTarget (d : TrainAndTrack) (k : KeptTarget) : Type 0 where
   pub target : IsTarget k.target
   pub speeds : AreSpeedsOf k.target k.speeds
@@ -72,17 +73,20 @@ pub record IsKeptAt (d : TrainAndTrack) (t : Target) (k : KeptTarget) : Type 0 w
 -- what is kept of the end of an authority: its targets with their curves
 abbrev pub IsKeptEnd : TrainAndTrack → Authority → KeptEnd → Type 0
 IsKeptEnd d (Stop eoa svl release) (KeptStop e s) =
-    IsKeptAt d (record { kind = Eoa; place = place_of_cell (pos eoa); speed = 0 }) e × IsKeptAt d (record { kind = Svl; place = place_of_cell (pos svl); speed = 0 }) s
+    IsKeptAt d (record { kind = Eoa; place = place_of_cell (pos eoa); speed = 0 }) e
+    × IsKeptAt d (record { kind = Svl; place = place_of_cell (pos svl); speed = 0 }) s
 IsKeptEnd d (Stop eoa svl release) (KeptLimit l) = ⊥
 IsKeptEnd d (Limit loa speed) (KeptStop e s) = ⊥
-IsKeptEnd d (Limit loa speed) (KeptLimit l) = IsKeptAt d (record { kind = Loa; place = place_of_cell (pos loa); speed = speed }) l
+IsKeptEnd d (Limit loa speed) (KeptLimit l) =
+    IsKeptAt d (record { kind = Loa; place = place_of_cell (pos loa); speed = speed }) l
 
 -- the EBD of the SvL or of the LOA
 abbrev pub brake_curve_of : KeptEnd → BrakeCurve
 brake_curve_of (KeptStop e s) = s.brake
 brake_curve_of (KeptLimit l) = l.brake
 
--- the targets at the end of an authority; in release speed monitoring the EOA and the SvL are none (SUBSET-026-3 3.13.8.2; own)
+-- the targets at the end of an authority; in release speed monitoring the EOA and the SvL are none (SUBSET-026-3
+-- 3.13.8.2; own)
 abbrev pub targets_in : KeptEnd → Bool → List Target
 targets_in (KeptStop e s) in_release_monitoring = if in_release_monitoring then [] else e.target ∷ s.target ∷ []
 targets_in (KeptLimit l) in_release_monitoring = l.target ∷ []
@@ -94,4 +98,5 @@ AreKept d (KeptLimit l) = IsKeptTarget d l
 
 -- the place of a target's guidance curve at the estimated speed, where it has one (SUBSET-026-3 3.13.8.5; own)
 abbrev pub guide_at : TrainAndTrack → Estimate → Target → Option Fraction
-guide_at d e t = if is_guided d t.kind then Some (computed (slopes_of Normal d) t.place (target_speed t) e.speed) else None
+guide_at d e t =
+    if is_guided d t.kind then Some (computed (slopes_of Normal d) t.place (target_speed t) e.speed) else None

@@ -1,5 +1,6 @@
 -- The falls of a speed profile that are kept with their curves (own).
-use Rattle.std.specs.Prelude.{◌≡◌, ℕ, ℤ, negsuc, true, false, List, Option, Some, None, All, length, slice_index_or, ◌+◌, ◌<◌, ◌≤◌, ◌≤ℤ◌, ◌<ℤ◌}
+use Rattle.std.specs.Prelude.{◌≡◌, ℕ, ℤ, negsuc, true, false, List, Option, Some, None, All, length, slice_index_or}
+use Rattle.std.specs.Prelude.{◌+◌, ◌<◌, ◌≤◌, ◌≤ℤ◌, ◌<ℤ◌}
 use Rattle.sdm_rules.specs.declared.targets.Fall.{Fall}
 use Rattle.sdm_rules.specs.declared.targets.Target.{Target}
 use Rattle.sdm_rules.specs.Data.{TrainAndTrack}
@@ -41,8 +42,8 @@ pub record KeptFallsData : Type 0 where
 abbrev pub first_cell : ℤ
 first_cell = negsuc 2_147_483_647
 
--- what is kept of the falls of a profile: one entry for each, in order, with its curves. There is room for as many as the entries
--- of the static speed profile and the most restrictions
+-- what is kept of the falls of a profile: one entry for each, in order, with its curves. There is room for as many as
+-- the entries of the static speed profile and the most restrictions
 pub record AreKeptFalls (d : TrainAndTrack) (p : ProfileData) (v : KeptFallsData) : Type 0 where
   pub falls : AreAtFalls fall_of (mrsp_of p) first_cell v.list
   pub each : All (IsKeptFall d) v.list
@@ -64,9 +65,10 @@ abbrev pub IsNextUpTo : (ℤ → ℕ) → ℤ → ℤ → Option Fall → Type 0
 IsNextUpTo p after last None = (c : ℤ) → after <ℤ c → c ≤ℤ last → is_fall p c ≡ false
 IsNextUpTo p after last (Some fall) = IsNextFall p after fall × (fall.cell ≤ℤ last)
 
--- what is kept is that of a profile which is the same as this one outside the cells that changed. Both fall only where one of some zones
--- begins, of which there are no more than there is room for
-pub record AreOfProfileBefore (d : TrainAndTrack) (p : ProfileData) (changed : Changed) (v : KeptFallsData) : Type 0 where
+-- what is kept is that of a profile which is the same as this one outside the cells that changed. Both fall only where
+-- one of some zones begins, of which there are no more than there is room for
+pub record AreOfProfileBefore (d : TrainAndTrack) (p : ProfileData) (changed : Changed)
+    (v : KeptFallsData) : Type 0 where
   pub old : ProfileData
   pub kept : AreKeptFalls d old v
   pub speeds : p.speeds ≡ old.speeds

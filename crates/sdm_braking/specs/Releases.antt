@@ -9,14 +9,16 @@ use Rattle.sdm_rules.specs.Ranges.{top_kmh}
 use Rattle.sdm_limits.specs.Sides.{place_of}
 use Rattle.sdm_braking.specs.declared.releases.Release.{Release}
 
--- what is kept of a release speed in km/h: the speed, and the computed start of its monitoring (SUBSET-026-3 3.13.9.4; range own)
+-- what is kept of a release speed in km/h: the speed, and the computed start of its monitoring (SUBSET-026-3 3.13.9.4;
+-- range own)
 pub record IsStartOf (d : TrainAndTrack) (eoa svl speed_kmh : ℕ) (release : Release) : Type 0 where
   pub speed : release.speed_kmh ≡ speed_kmh
   pub some : 0 < speed_kmh
   pub range : speed_kmh ≤ top_kmh
   pub start : place_of release.start ≡ release_start computed d eoa svl speed_kmh
 
--- what is kept of an authority's release speed; none where the authority has no release speed (SUBSET-026-3 3.13.9.4; own)
+-- what is kept of an authority's release speed; none where the authority has no release speed (SUBSET-026-3 3.13.9.4;
+-- own)
 abbrev pub IsReleaseOf : TrainAndTrack → Authority → Option Release → Type 0
 IsReleaseOf d (Stop eoa svl speed) (Some release) = IsStartOf d eoa svl speed release
 IsReleaseOf d (Stop eoa svl speed) None = speed ≡ 0
@@ -27,4 +29,5 @@ IsReleaseOf d (Limit loa speed) None = ⊤
 -- (SUBSET-026-3 3.13.10.5; own)
 abbrev pub release_speed_at : Option Release → ℤ → Option ℕ
 release_speed_at None front = None
-release_speed_at (Some release) front = if is_past 0 front (place_of release.start) then Some release.speed_kmh else None
+release_speed_at (Some release) front =
+    if is_past 0 front (place_of release.start) then Some release.speed_kmh else None

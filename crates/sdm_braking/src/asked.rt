@@ -1,5 +1,6 @@
-//! An estimate with what every target's limits ask of it. For a target that is no faster than the train V_bec and D_bec do not depend on the
-//! target, since the greater of both speeds is the train's: so they are worked out once a reading.
+//! An estimate with what every target's limits ask of it. For a target that is no faster than the train V_bec and
+//! D_bec do not depend on the target, since the greater of both speeds is the train's: so they are worked out once a
+//! reading.
 
 ghost use Rattle.std.specs.Prelude.{◌≡◌};
 ghost use Rattle.sdm_rules.specs.Data.{TrainAndTrack};
@@ -57,7 +58,8 @@ impl Braking {
 }
 
 impl AskedEstimate {
-    /// Whether the train needs no distance to brake for a target: it is one of speed, and V_bec is at most its foot speed. (own)
+    /// Whether the train needs no distance to brake for a target: it is one of speed, and V_bec is at most its foot
+    /// speed. (own)
     pub fn is_met_by_speed(&self, kept: &KeptTarget) -> bool
         requires target { IsTarget kept.now.target }
         requires speeds { AreSpeedsOf kept.now.target kept.now.speeds }

@@ -1,5 +1,5 @@
-//! How a train is braked on its track: its data with what is found from them once, at the opening: the slope maps of the three kinds and
-//! the times of reaction.
+//! How a train is braked on its track: its data with what is found from them once, at the opening: the slope maps of
+//! the three kinds and the times of reaction.
 
 ghost use Rattle.std.specs.Prelude.{◌≡◌, ◌≤◌, pos, unsigned_abs, IfOk, IfErr};
 ghost use Rattle.sdm_rules.specs.declared.authorities.Authority.{Authority};
@@ -46,12 +46,14 @@ impl Model for Braking {
 
     ghost view = { λ l. train_and_track_from l.train l.national l.track };
 
-    ghost invariant = { λ l. IsSupervisable (train_and_track_from l.train l.national l.track) × IsBrakingOf (train_and_track_from l.train l.national l.track) l.safe l.expected l.normal l.times };
+    ghost invariant = { λ l. IsSupervisable (train_and_track_from l.train l.national l.track)
+        × IsBrakingOf (train_and_track_from l.train l.national l.track) l.safe l.expected l.normal l.times };
 }
 
 /// What the opening says of a fault of the slopes of a kind.
 fn refusal(kind: SlopeKind, fault: CurveFault) -> OpenFault
-    ensures { (d : TrainAndTrack) (a : Authority) → AreBefore kind d → IsFaultOfKind kind d fault → IsRefusal d a result }
+    ensures { (d : TrainAndTrack) (a : Authority) → AreBefore kind d → IsFaultOfKind kind d fault →
+        IsRefusal d a result }
 {
     match fault {
         CurveFault::TooWeak { band, cell, slope } => OpenFault::TooWeak {
@@ -74,7 +76,8 @@ fn refusal(kind: SlopeKind, fault: CurveFault) -> OpenFault
     }
 }
 
-/// The map of a kind, or why the opening is refused; the slopes of the kinds before it are accepted. (SUBSET-026-3 3.13.6)
+/// The map of a kind, or why the opening is refused; the slopes of the kinds before it are accepted. (SUBSET-026-3
+/// 3.13.6)
 fn map_of(
     alloc: Global,
     kind: SlopeKind,
@@ -83,9 +86,11 @@ fn map_of(
     track: &Track,
 ) -> Result<BandMap, OpenFault>
     requires { AreBefore kind (train_and_track_from train.now national.now track.now) }
-    ensures slopes { IfOk result (λ m. meaning_of m ≡ slopes_of kind (train_and_track_from train.now national.now track.now)) }
+    ensures slopes { IfOk result
+        (λ m. meaning_of m ≡ slopes_of kind (train_and_track_from train.now national.now track.now)) }
     ensures accepted { IfOk result (λ _. IsAcceptedKind kind (train_and_track_from train.now national.now track.now)) }
-    ensures refused { IfErr result (λ fault. (a : Authority) → IsRefusal (train_and_track_from train.now national.now track.now) a fault) }
+    ensures refused { IfErr result
+        (λ fault. (a : Authority) → IsRefusal (train_and_track_from train.now national.now track.now) a fault) }
 {
     match slope_map(alloc, kind, train, national, track) {
         Ok(map) => Ok(map),
@@ -109,8 +114,8 @@ fn times_of(train: &Train, national: &National, track: &Track) -> Times
 }
 
 impl Braking {
-    /// The braking of these data, or the first fault of their slopes: of the safe, then of the expected, then of the normal ones. Takes
-    /// the memory of the maps.
+    /// The braking of these data, or the first fault of their slopes: of the safe, then of the expected, then of the
+    /// normal ones. Takes the memory of the maps.
     pub fn open(
         alloc: Global,
         train: Train,
@@ -119,7 +124,8 @@ impl Braking {
     ) -> Result<Braking, OpenFault>
         ensures data { IfOk result (λ braking. braking ≡ train_and_track_from train national track) }
         ensures accepted { IfOk result IsSupervisable }
-        ensures refused { IfErr result (λ fault. (a : Authority) → IsRefusal (train_and_track_from train national track) a fault) }
+        ensures refused { IfErr result
+            (λ fault. (a : Authority) → IsRefusal (train_and_track_from train national track) a fault) }
     {
         let safe = map_of(alloc, SlopeKind::Safe, &train, &national, &track)?;
         let expected = map_of(alloc, SlopeKind::Expected, &train, &national, &track)?;
@@ -201,7 +207,8 @@ impl Braking {
         &self.times
     }
 
-    /// Whether the service brake is in use: the train has one, and the national values permit it. (SUBSET-026-3 3.13.9.3; own)
+    /// Whether the service brake is in use: the train has one, and the national values permit it. (SUBSET-026-3
+    /// 3.13.9.3; own)
     pub fn is_service_in_use(&self) -> bool
         ensures value { result ≡ service_in_use self.now }
         ensures accepted { IsSupervisable self.now }

@@ -1,5 +1,6 @@
-//! What is kept between records: the targets at the falls of the speed profile and at the end of the authority, with their curves, and the
-//! start of release speed monitoring. It is one value, made again in place where the profile or the authority changes.
+//! What is kept between records: the targets at the falls of the speed profile and at the end of the authority, with
+//! their curves, and the start of release speed monitoring. It is one value, made again in place where the profile or
+//! the authority changes.
 
 ghost use Rattle.std.specs.Prelude.{◌≡◌, None, IfOk};
 ghost use Rattle.sdm_rules.specs.declared.authorities.Authority.{Authority};

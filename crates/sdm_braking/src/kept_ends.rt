@@ -1,5 +1,5 @@
-//! The targets at the end of the authority with their curves, as a supervisor keeps them between records. They follow from the train and
-//! track and the authority alone.
+//! The targets at the end of the authority with their curves, as a supervisor keeps them between records. They follow
+//! from the train and track and the authority alone.
 
 ghost use Rattle.std.specs.Prelude.{◌≡◌, ◌≤◌, ◌≤ℤ◌, None, pos};
 ghost use Rattle.sdm_rules.specs.Cells.{place_of_cell};

@@ -1,9 +1,10 @@
-//! The falls of the speed profile with their curves, as a supervisor keeps them between records. A fall's curves follow from its cell and
-//! the speed beyond it alone, so where a record changes the profile only the starts of the changed cells are looked at, and a fall that
-//! stays keeps its curves. Those stand in boxes, so that the list moves no curve; all boxes are taken at the beginning, and those without a
-//! fall are spare.
+//! The falls of the speed profile with their curves, as a supervisor keeps them between records. A fall's curves
+//! follow from its cell and the speed beyond it alone, so where a record changes the profile only the starts of the
+//! changed cells are looked at, and a fall that stays keeps its curves. Those stand in boxes, so that the list moves
+//! no curve; all boxes are taken at the beginning, and those without a fall are spare.
 
-ghost use Rattle.std.specs.Prelude.{◌≡◌, ◌+◌, ◌<◌, ◌≤◌, ◌≤ℤ◌, ◌<ℤ◌, ℕ, ℤ, pos, List, map, take, drop, All, [], IfOk, IfSome, MatchOption, true, false, length, slice_index_or, vec_len, vec_capacity};
+ghost use Rattle.std.specs.Prelude.{◌≡◌, ◌+◌, ◌<◌, ◌≤◌, ◌≤ℤ◌, ◌<ℤ◌, ℕ, ℤ, pos, List, map, take, drop, All, [], IfOk};
+ghost use Rattle.std.specs.Prelude.{IfSome, MatchOption, true, false, length, slice_index_or, vec_len, vec_capacity};
 ghost use Rattle.std.specs.List.{remove};
 ghost use Rattle.sdm_rules.specs.Data.{TrainAndTrack};
 ghost use Rattle.sdm_rules.specs.Records.{most_restrictions};
@@ -13,7 +14,8 @@ ghost use Rattle.sdm_speed.specs.Falls.{AreAtFalls};
 ghost use Rattle.sdm_speed.specs.Profiles.{mrsp_of, IsProfile};
 ghost use Rattle.sdm_speed.specs.Zones.{IsFallInRange};
 ghost use Rattle.sdm_targets.specs.Lists.{falls_past, target_at, IsTarget};
-ghost use Rattle.sdm_braking.specs.KeptFalls.{at_fall, AreKeptFalls, AreOfProfileBefore, ArePartedPast, IsFallAt, IsKeptFall, IsNextUpTo, KeptFallsData, fall_of, first_cell};
+ghost use Rattle.sdm_braking.specs.KeptFalls.{at_fall, AreKeptFalls, AreOfProfileBefore, ArePartedPast, IsFallAt};
+ghost use Rattle.sdm_braking.specs.KeptFalls.{IsKeptFall, IsNextUpTo, KeptFallsData, fall_of, first_cell};
 
 use crate::braking::Braking;
 use crate::kept_targets::KeptTarget;
@@ -81,7 +83,8 @@ fn boxes(alloc: Global, braking: &Braking, count: usize) -> Result<Vec<Box<KeptT
     Ok(boxes)
 }
 
-/// The next fall of a profile past the start of the cell `after`, if it is at the start of the cell `last` or before it.
+/// The next fall of a profile past the start of the cell `after`, if it is at the start of the cell `last` or before
+/// it.
 fn next_up_to(profile: &Profile, after: i32, last: i32) -> Option<Fall>
     ensures value { IsNextUpTo (mrsp_of profile.now) after last result }
     ensures in_range { IfSome result IsFallInRange }
@@ -131,7 +134,7 @@ impl KeptFalls {
         Ok(falls)
     }
 
-    // Keeps the falls of a profile in an empty list.
+    /// Keeps the falls of a profile in an empty list.
     fn fill(&mut self, braking: &Braking, profile: &Profile)
         requires empty { self.old.list ≡ [] }
         requires room { length profile.now.speeds + most_restrictions ≤ self.old.room }
@@ -146,7 +149,7 @@ impl KeptFalls {
         }
     }
 
-    // What is kept of a fall, in a box that was spare, comes to an index of the list.
+    /// What is kept of a fall, in a box that was spare, comes to an index of the list.
     fn insert(&mut self, i: usize, braking: &Braking, fall: Fall)
         requires place { i ≤ length self.old.list }
         requires room { length self.old.list < self.old.room }
@@ -167,7 +170,7 @@ impl KeptFalls {
         };
     }
 
-    // Takes out what is kept at a place; its box is spare.
+    /// Takes out what is kept at a place; its box is spare.
     fn remove(&mut self, i: usize)
         requires { i < length self.old.list }
         ensures list { self.new.list ≡ remove self.old.list i }
@@ -177,7 +180,7 @@ impl KeptFalls {
         self.spare.push_reserved(kept);
     }
 
-    // Takes out what is kept from a place on up to and with the cell `last`.
+    /// Takes out what is kept from a place on up to and with the cell `last`.
     fn remove_up_to(&mut self, i: usize, last: i32)
         requires { i ≤ length self.old.list }
         ensures before { take i self.new.list ≡ take i self.old.list }
@@ -192,7 +195,7 @@ impl KeptFalls {
         }
     }
 
-    // Whether what is kept at a place is that of this fall.
+    /// Whether what is kept at a place is that of this fall.
     fn is_at(&self, i: usize, fall: Fall) -> bool
         ensures { result ≡ true →
             (i < length self.now.list) × ((d : KeptFall) → (slice_index_or self.now.list i d).fall ≡ fall) }
@@ -200,8 +203,8 @@ impl KeptFalls {
         i < self.list.len() && self.list[i].fall == fall
     }
 
-    /// Keeps the falls of a profile in place of those of the profile before, which was the same outside the cells that changed. Only
-    /// where a fall is new, or its speed is another, are curves made.
+    /// Keeps the falls of a profile in place of those of the profile before, which was the same outside the cells that
+    /// changed. Only where a fall is new, or its speed is another, are curves made.
     pub fn remake(&mut self, braking: &Braking, profile: &Profile, changed: Changed)
         requires before { AreOfProfileBefore braking.now profile.now changed self.old }
         requires cells { IsChangedInRange changed }

@@ -1,5 +1,5 @@
-//! A target as a supervisor keeps it between records: with the speeds above which it is passed, and with its brake curves. All follow from
-//! the train, the track and the target alone.
+//! A target as a supervisor keeps it between records: with the speeds above which it is passed, and with its brake
+//! curves. All follow from the train, the track and the target alone.
 
 ghost use Rattle.std.specs.Prelude.{◌≡◌};
 ghost use Rattle.sdm_rules.specs.Decelerations.{slopes_of};
@@ -25,8 +25,8 @@ pub struct KeptTarget {
 }
 
 impl Braking {
-    /// The curve by which the brake supervises a target: an SBD for the EOA, else an EBD. Its foot speed is the target speed with its EBI
-    /// margin. (SUBSET-026-3 3.13.8.3, 3.13.8.4)
+    /// The curve by which the brake supervises a target: an SBD for the EOA, else an EBD. Its foot speed is the target
+    /// speed with its EBI margin. (SUBSET-026-3 3.13.8.3, 3.13.8.4)
     fn brake_curve(&self, target: &Target, speeds: &SpeedLimits) -> Curve
         requires target { IsTarget target.now }
         requires speeds { AreSpeedsOf target.now speeds.now }
@@ -51,8 +51,8 @@ impl Braking {
         }
     }
 
-    /// The guidance curve of a target, where it has one: its foot is at the target place, with the target speed. (SUBSET-026-3
-    /// 3.13.8.5; own feet)
+    /// The guidance curve of a target, where it has one: its foot is at the target place, with the target speed.
+    /// (SUBSET-026-3 3.13.8.5; own feet)
     fn guidance_curve(&self, target: &Target, speeds: &SpeedLimits) -> Option<Curve>
         requires target { IsTarget target.now }
         requires speeds { AreSpeedsOf target.now speeds.now }
@@ -79,8 +79,8 @@ impl Braking {
         }
     }
 
-    /// Makes what is kept of a target that of another, where it stands: nothing so large is moved then, and a guidance curve that there
-    /// isn't and wasn't isn't written.
+    /// Makes what is kept of a target that of another, where it stands: nothing so large is moved then, and a guidance
+    /// curve that there isn't and wasn't isn't written.
     pub fn keep_in_place(&self, kept: &mut KeptTarget, target: Target)
         requires { IsTarget target }
         ensures target { kept.new.target ≡ target }

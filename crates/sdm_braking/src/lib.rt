@@ -1,6 +1,6 @@
-//! How the train of a journey is braked on its track: the slope maps and times that follow from the data, the targets with their curves as
-//! they are kept between records, their limits at a reading, and where release speed monitoring starts. Of a journey no crate above this
-//! one makes a brake curve.
+//! How the train of a journey is braked on its track: the slope maps and times that follow from the data, the targets
+//! with their curves as they are kept between records, their limits at a reading, and where release speed monitoring
+//! starts. Of a journey no crate above this one makes a brake curve.
 #![tactic(auto)]
 
 mod asked;

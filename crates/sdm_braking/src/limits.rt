@@ -1,5 +1,5 @@
-//! The supervision limits of a target of a journey, by an estimate. A target is an EOA, which the service brake supervises on an SBD, or one
-//! of the others, which the emergency brake supervises on an EBD. (SUBSET-026-3 3.13.9.3)
+//! The supervision limits of a target of a journey, by an estimate. A target is an EOA, which the service brake
+//! supervises on an SBD, or one of the others, which the emergency brake supervises on an EBD. (SUBSET-026-3 3.13.9.3)
 
 ghost use Rattle.std.specs.Prelude.{◌≡◌, ◌≤◌, Option, Some};
 ghost use Rattle.sdm_rules.specs.Limits.{computed, limits_of};
@@ -52,8 +52,8 @@ impl Braking {
         }
     }
 
-    /// The EBI of a target by V_bec and D_bec for it, which may be faster than the train: on it no guidance curve bears, and an EOA has
-    /// none. (SUBSET-026-3 3.13.9.3.2)
+    /// The EBI of a target by V_bec and D_bec for it, which may be faster than the train: on it no guidance curve
+    /// bears, and an EOA has none. (SUBSET-026-3 3.13.9.3.2)
     #[tactic(auto, unfolding(sdm_rules::specs::Limits::limits_of))]
     pub fn ebi(&self, asked: &AskedEstimate, kept: &KeptTarget) -> Option<Early>
         requires asked { IsAsked self.now asked.now }

@@ -1,5 +1,5 @@
-//! Release speed monitoring: where it begins for an authority, and whether a front end is past that. The start follows from the
-//! data and the authority alone, so it is found once, when the authority is taken.
+//! Release speed monitoring: where it begins for an authority, and whether a front end is past that. The start follows
+//! from the data and the authority alone, so it is found once, when the authority is taken.
 
 ghost use Rattle.std.specs.Prelude.{◌≡◌, ◌≤◌, ℕ, None, pos};
 ghost use Rattle.sdm_rules.specs.declared.data.SlopeKind.TheVariants.{Expected, Safe};
@@ -20,7 +20,8 @@ use sdm_num::{Early, Place, Speed};
 use sdm_release::release_start;
 use sdm_targets::Authority;
 
-/// The release speed of an authority with the start of its monitoring, as a supervisor keeps it. (SUBSET-026-3 3.13.9.4; own)
+/// The release speed of an authority with the start of its monitoring, as a supervisor keeps it. (SUBSET-026-3
+/// 3.13.9.4; own)
 #[derive(Clone, Copy, Debug, PartialEq, Eq)]
 pub struct Release {
     /// The max safe front end past which the release speed is monitored.
@@ -41,8 +42,8 @@ pub fn release_kmh_at(release: Option<Release>, front: Place) -> Option<u16>
 }
 
 impl Braking {
-    /// Where release speed monitoring starts, by the EBD of the SvL, the SBD of the EOA and a release speed of at most 500 km/h.
-    /// (SUBSET-026-3 3.13.9.4; own form)
+    /// Where release speed monitoring starts, by the EBD of the SvL, the SBD of the EOA and a release speed of at most
+    /// 500 km/h. (SUBSET-026-3 3.13.9.4; own form)
     fn release_start(&self, ebd: &Curve, sbd: &Curve, release_kmh: u16) -> Early
         requires ebd { IsMadeFrom (slopes_of Safe self.now) ebd.now }
         requires sbd { IsMadeFrom (slopes_of Expected self.now) sbd.now }
@@ -62,8 +63,8 @@ impl Braking {
         )
     }
 
-    /// What is kept of an authority's release speed, by the curves that are kept of its end; none where it has no release speed.
-    /// (SUBSET-026-3 3.13.9.4; own)
+    /// What is kept of an authority's release speed, by the curves that are kept of its end; none where it has no
+    /// release speed. (SUBSET-026-3 3.13.9.4; own)
     // Seldom called, and large: inlined into the loop over records it would slow each reading.
     #[inline(never)]
     pub fn release(&self, authority: &Authority, end: &KeptEnd) -> Option<Release>

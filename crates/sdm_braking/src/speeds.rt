@@ -38,8 +38,8 @@ impl SpeedLimits {
         }
     }
 
-    /// Those of a target; at the EOA and the SvL its speed and every margin count as 0. With its EBI margin the target speed is the foot
-    /// speed of its EBD. (SUBSET-026-3 3.13.8.3, 3.13.10; own)
+    /// Those of a target; at the EOA and the SvL its speed and every margin count as 0. With its EBI margin the target
+    /// speed is the foot speed of its EBD. (SUBSET-026-3 3.13.8.3, 3.13.10; own)
     pub fn of_target(target: &Target) -> SpeedLimits
         requires { target.now.speed ≤ top_kmh }
         ensures { AreSpeedsOf target.now result }

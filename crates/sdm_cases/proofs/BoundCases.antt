@@ -11,13 +11,31 @@ abbrev five_and_two_past : Bound
 five_and_two_past = record { at = pos 5; slack = 2 }
 
 early_for_itself : IsEarlyFor five_and_two_past (whole (pos 5))
-early_for_itself = record { positive = omega arith; not_past = record { crossed = omega (arith, ints) }; near = record { crossed = omega (arith, ints) } }
+early_for_itself = record {
+  positive = omega arith;
+  not_past = record {
+    crossed = omega (arith, ints);
+  };
+  near = record { crossed = omega (arith, ints) };
+}
 
 early_for_six_and_a_half : IsEarlyFor five_and_two_past (record { n = pos 13; m = 2 })
-early_for_six_and_a_half = record { positive = omega arith; not_past = record { crossed = omega (arith, ints) }; near = record { crossed = omega (arith, ints) } }
+early_for_six_and_a_half = record {
+  positive = omega arith;
+  not_past = record {
+    crossed = omega (arith, ints);
+  };
+  near = record { crossed = omega (arith, ints) };
+}
 
 early_for_the_end : IsEarlyFor five_and_two_past (whole (pos 7))
-early_for_the_end = record { positive = omega arith; not_past = record { crossed = omega (arith, ints) }; near = record { crossed = omega (arith, ints) } }
+early_for_the_end = record {
+  positive = omega arith;
+  not_past = record {
+    crossed = omega (arith, ints);
+  };
+  near = record { crossed = omega (arith, ints) };
+}
 
 not_early_for_less : IsEarlyFor five_and_two_past (record { n = pos 49; m = 10 }) → ⊥
 not_early_for_less h = let k = h.not_past.crossed in omega (arith, ints, k)
@@ -31,13 +49,31 @@ not_early_for_no_number h = let k = h.positive in omega (arith, k)
 -- ---- late: from 3 to 5
 
 late_for_itself : IsLateFor five_and_two_past (whole (pos 5))
-late_for_itself = record { positive = omega arith; not_before = record { crossed = omega (arith, ints) }; near = record { crossed = omega (arith, ints) } }
+late_for_itself = record {
+  positive = omega arith;
+  not_before = record {
+    crossed = omega (arith, ints);
+  };
+  near = record { crossed = omega (arith, ints) };
+}
 
 late_for_three_and_a_half : IsLateFor five_and_two_past (record { n = pos 7; m = 2 })
-late_for_three_and_a_half = record { positive = omega arith; not_before = record { crossed = omega (arith, ints) }; near = record { crossed = omega (arith, ints) } }
+late_for_three_and_a_half = record {
+  positive = omega arith;
+  not_before = record {
+    crossed = omega (arith, ints);
+  };
+  near = record { crossed = omega (arith, ints) };
+}
 
 late_for_the_start : IsLateFor five_and_two_past (whole (pos 3))
-late_for_the_start = record { positive = omega arith; not_before = record { crossed = omega (arith, ints) }; near = record { crossed = omega (arith, ints) } }
+late_for_the_start = record {
+  positive = omega arith;
+  not_before = record {
+    crossed = omega (arith, ints);
+  };
+  near = record { crossed = omega (arith, ints) };
+}
 
 not_late_for_more : IsLateFor five_and_two_past (record { n = pos 51; m = 10 }) → ⊥
 not_late_for_more h = let k = h.not_before.crossed in omega (arith, ints, k)

@@ -1,6 +1,7 @@
 -- Worked cases of curves, with q = 100. The slopes 200,000,000,000, 140,000,000,000 and 100,000,000,000 are 1, 0.7 and
--- 0.5 m/s². A change of the square by c needs at 1 m/s² the distance of 5 * 10^14 * c / (27 * 200,000,000,000) = 92.592.. * c
--- grains, and of 185.185.. * c at 0.5 m/s². Feet lie at 1 m, 540,000,000,000 grains, but where it is said.
+-- 0.5 m/s². A change of the square by c needs at 1 m/s² the distance of 5 * 10^14 * c / (27 * 200,000,000,000) =
+-- 92.592.. * c grains, and of 185.185.. * c at 0.5 m/s². Feet lie at 1 m, 540,000,000,000 grains, but where it is
+-- said.
 use Rattle.std.proofs.Common.{◌≡◌, ℕ, pos, [], ◌∷◌, refl}
 use Rattle.sdm_num.specs.Fractions.{IsSame, whole}
 use Rattle.sdm_rules.specs.Slopes.{Slopes, meaning_of}
@@ -26,7 +27,8 @@ forward_rounds_down = refl
 
 -- 1 m/s² up to cell 8, and 0.5 m/s² from there on
 abbrev two_segments : Slopes
-two_segments = meaning_of (record { q = 100; uppers = []; starts = pos 0 ∷ pos 8 ∷ []; slopes = 200_000_000_000 ∷ 100_000_000_000 ∷ [] })
+two_segments = meaning_of
+    (record { q = 100; uppers = []; starts = pos 0 ∷ pos 8 ∷ []; slopes = 200_000_000_000 ∷ 100_000_000_000 ∷ [] })
 
 -- Foot at cell 10: over two cells the square rises by 2 * 5,400,000,000 / 185.185.. = 58,320,000; over the rest of
 -- 41,680,000 the place falls from 43,200,000,000 by 3,859,259,259.26.
@@ -48,7 +50,8 @@ forward_in_the_cell_at_the_place = refl
 
 -- 1 m/s² up to 8,000 notches, and 0.5 m/s² above
 abbrev two_bands : Slopes
-two_bands = meaning_of (record { q = 100; uppers = 8_000 ∷ []; starts = pos 0 ∷ []; slopes = 200_000_000_000 ∷ 100_000_000_000 ∷ [] })
+two_bands = meaning_of
+    (record { q = 100; uppers = 8_000 ∷ []; starts = pos 0 ∷ []; slopes = 200_000_000_000 ∷ 100_000_000_000 ∷ [] })
 
 -- 540,000,000,000 - 5,925,925,925.93, rounded, and for 36,000,000 more another 6,666,666,666.67
 back_through_two_bands : stepped two_bands (pos 540_000_000_000) 0 10_000 ≡ pos 527_407_407_407
@@ -56,7 +59,10 @@ unfolding stepped place_at arc_back back
 back_through_two_bands = refl
 
 -- as a fraction: (27 * 200,000,000,000 * 540,000,000,000 - 5 * 10^14 * 64,000,000) / (27 * 200,000,000,000)
-exact_at_the_border : exact two_bands (pos 540_000_000_000) 0 8_000 ≡ record { n = pos 2_884_000_000_000_000_000_000_000; m = 5_400_000_000_000 }
+exact_at_the_border : exact two_bands (pos 540_000_000_000) 0 8_000 ≡ record {
+  n = pos 2_884_000_000_000_000_000_000_000;
+  m = 5_400_000_000_000;
+}
 unfolding exact exact_at place_at arc_back back
 exact_at_the_border = refl
 
@@ -74,7 +80,8 @@ forward_from_a_border_in_the_band_below = refl
 
 -- two bands of 0.7 m/s² that meet at 18 km/h
 abbrev equal_bands : Slopes
-equal_bands = meaning_of (record { q = 100; uppers = 270_000 ∷ []; starts = pos 0 ∷ []; slopes = 140_000_000_000 ∷ 140_000_000_000 ∷ [] })
+equal_bands = meaning_of
+    (record { q = 100; uppers = 270_000 ∷ []; starts = pos 0 ∷ []; slopes = 140_000_000_000 ∷ 140_000_000_000 ∷ [] })
 
 -- foot at 1000 m: 14 m/s is 756,000 notches, and 14² / (2 * 0.7) = 140, so it is at 860 m
 exact_place_at_14_m_s : IsSame (exact equal_bands (pos 540_000_000_000_000) 0 756_000) (whole (pos 464_400_000_000_000))
@@ -97,14 +104,14 @@ eight_bands =
       slopes = a ∷ a ∷ a ∷ a ∷ a ∷ a ∷ a ∷ a ∷ [];
     })
 
--- With no border it is 530,740,740,740.74. The borders cost 0.41, 0.22, 0.04, 0.85, 0.67, 0.48 and 0.30 grains, and the end
--- 0.78.
+-- With no border it is 530,740,740,740.74. The borders cost 0.41, 0.22, 0.04, 0.85, 0.67, 0.48 and 0.30 grains, and
+-- the end 0.78.
 seven_borders_back_cost_three_grains : stepped eight_bands (pos 540_000_000_000) 0 10_000 ≡ pos 530_740_740_737
 unfolding stepped place_at arc_back back
 seven_borders_back_cost_three_grains = refl
 
--- With no border it is 549,259,259,259.26. The borders cost 0.22, 0.70, 0.52, 0.33, 0.15, 0.96 and 0.78 grains, and the end
--- 0.59.
+-- With no border it is 549,259,259,259.26. The borders cost 0.22, 0.70, 0.52, 0.33, 0.15, 0.96 and 0.78 grains, and
+-- the end 0.59.
 seven_borders_forward_cost_four_grains : stepped eight_bands (pos 540_000_000_000) 10_000 0 ≡ pos 549_259_259_255
 unfolding stepped place_at arc_forward forward
 seven_borders_forward_cost_four_grains = refl

@@ -9,15 +9,26 @@ use Rattle.sdm_rules.specs.Numbers.{read_int}
 use Rattle.sdm_rules.specs.Flat.{flat_opening, flat_row, flat_after, flat_line, flat_text, flat_output}
 
 -- at 2 m/s the curve is 2 m before the end; a tenth of a millimetre past it is an emergency
-past_the_curve : flat_row (flat_opening 100 1_000) (record { time = 5; front = pos (80_001 * 54_000_000); speed = 108_000 }) ≡ record { time = 5; ebi = pos 8_000; covered = false; eb = true }
+past_the_curve : flat_row (flat_opening 100 1_000) (record {
+  time = 5;
+  front = pos (80_001 * 54_000_000);
+  speed =
+      108_000;
+}) ≡ record { time = 5; ebi = pos 8_000; covered = false; eb = true }
 unfolding flat_row flat_after exact stepped exact_at place_at arc_back back arc_forward forward
 past_the_curve = refl
 
-at_the_curve : flat_row (flat_opening 100 1_000) (record { time = 5; front = pos (80_000 * 54_000_000); speed = 108_000 }) ≡ record { time = 5; ebi = pos 8_000; covered = true; eb = false }
+at_the_curve : flat_row (flat_opening 100 1_000) (record {
+  time = 5;
+  front = pos (80_000 * 54_000_000);
+  speed =
+      108_000;
+}) ≡ record { time = 5; ebi = pos 8_000; covered = true; eb = false }
 unfolding flat_row flat_after exact stepped exact_at place_at arc_back back arc_forward forward
 at_the_curve = refl
 
-a_line : flat_line (codes "5,8000,2000") ≡ Some (record { time = 5; front = pos (8_000 * 540_000_000); speed = 108_000 })
+a_line : flat_line (codes "5,8000,2000")
+    ≡ Some (record { time = 5; front = pos (8_000 * 540_000_000); speed = 108_000 })
 unfolding flat_line read_int
 a_line = refl
 
@@ -27,6 +38,10 @@ unfolding flat_line read_int
 carriage_return = refl
 
 -- a row before a line that is not of the form due
-refused_line : flat_output 100 1_000 (codes "0,0,0\n0,0\n") ≡ record { text = codes "0,10000,1,0\n"; end = BadEvent 2 Line }
-unfolding flat_output flat_line read_int flat_text digits flat_row flat_after exact stepped exact_at place_at arc_back back arc_forward forward
+refused_line : flat_output 100 1_000 (codes "0,0,0\n0,0\n") ≡ record {
+  text = codes "0,10000,1,0\n";
+  end = BadEvent 2 Line;
+}
+unfolding flat_output flat_line read_int flat_text digits flat_row flat_after exact stepped exact_at place_at arc_back
+    back arc_forward forward
 refused_line = refl

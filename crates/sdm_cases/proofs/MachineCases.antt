@@ -1,7 +1,9 @@
--- The three machines for the emergency command differ, so that their order says something: two bands of 0.7 m/s² meet at 18 km/h, EOA
--- and SvL lie at 1000 m, and the train runs at 14 m/s. The exact EBI is at 860 m; rounding at the border costs the computed one a grain.
+-- The three machines for the emergency command differ, so that their order says something: two bands of 0.7 m/s² meet
+-- at 18 km/h, EOA and SvL lie at 1000 m, and the train runs at 14 m/s. The exact EBI is at 860 m; rounding at the
+-- border costs the computed one a grain.
 use Rattle.std.proofs.Common.{◌≡◌, refl, ap, ◌∙◌}
-use Rattle.std.specs.Prelude.{ℕ, zero, suc, ℤ, pos, negsuc, unsigned_abs, Bool, true, false, List, [], ◌∷◌, Option, Some, None}
+use Rattle.std.specs.Prelude.{ℕ, zero, suc, ℤ, pos, negsuc, unsigned_abs, Bool, true, false, List, [], ◌∷◌, Option}
+use Rattle.std.specs.Prelude.{Some, None}
 use Rattle.std.proofs.Math.Path.{fun_ext}
 use Rattle.sdm_num.specs.Units.{millimetre}
 use Rattle.sdm_num.specs.Fractions.{Fraction, whole}
@@ -47,13 +49,17 @@ at_14_m_s place = reading_at 0 place 756_000
 commanded : CurvePlaces → ℕ → ℤ → Bool
 commanded P shift place =
     let r = at_14_m_s place in
-    emergency_after false (triggers_of (limits_of P two_bands.train_and_track (estimate_of r)) shift (situation_with two_bands.train_and_track two_bands.authority [] r)) false false
+    emergency_after false (triggers_of (limits_of P two_bands.train_and_track (estimate_of r)) shift
+    (situation_with two_bands.train_and_track two_bands.authority [] r)) false false
 
-commanded_by : (P : CurvePlaces) (shift : ℕ) (place : ℤ) → machine_after P shift two_bands (at_14_m_s place) false ≡ commanded P shift place
-unfolding machine_after two_bands at_14_m_s reading_at two_band_line plain_train_and_track plain_national commanded emergency_after
+commanded_by : (P : CurvePlaces) (shift : ℕ) (place : ℤ) →
+    machine_after P shift two_bands (at_14_m_s place) false ≡ commanded P shift place
+unfolding machine_after two_bands at_14_m_s reading_at two_band_line plain_train_and_track plain_national commanded
+    emergency_after
 commanded_by P shift place =
     let r = at_14_m_s place in
-    ap (λ now. emergency_after false (triggers_of (limits_of P two_bands.train_and_track (estimate_of r)) shift now) false false) (opening_situation two_bands.train_and_track two_bands.authority r)
+    ap (λ now. emergency_after false (triggers_of (limits_of P two_bands.train_and_track
+    (estimate_of r)) shift now) false false) (opening_situation two_bands.train_and_track two_bands.authority r)
 
 -- 0.7 m/s² in two bands that meet at 18 km/h, cell by cell the same
 even : ℕ → ℤ → ℕ
@@ -64,7 +70,8 @@ even (suc (suc band)) cell = 0
 even_slopes : Slopes
 even_slopes = record { q = 100; uppers = 270_000 ∷ []; slope = even }
 
-each_slope : (kind : SlopeKind) (band : ℕ) (cell : ℤ) → unsigned_abs (slope_at kind two_bands.train_and_track band cell) ≡ even band cell
+each_slope : (kind : SlopeKind) (band : ℕ) (cell : ℤ) →
+    unsigned_abs (slope_at kind two_bands.train_and_track band cell) ≡ even band cell
 unfolding two_bands two_band_line band_up_to plain_train_and_track plain_national plain_band slope_at even
 each_slope Safe zero (pos cell) = refl
 each_slope Safe zero (negsuc cell) = refl
@@ -87,11 +94,15 @@ each_slope Normal (suc (suc band)) (negsuc cell) = refl
 
 same_slopes : (kind : SlopeKind) → slopes_of kind two_bands.train_and_track ≡ even_slopes
 unfolding two_bands two_band_line band_up_to plain_train_and_track plain_band slopes_of even_slopes
-same_slopes kind = ap (λ f. record { q = 100; uppers = 270_000 ∷ []; slope = f }) (fun_ext (λ band. fun_ext (λ cell. each_slope kind band cell)))
+same_slopes kind = ap (λ f. record { q = 100; uppers = 270_000 ∷ []; slope = f })
+    (fun_ext (λ band. fun_ext (λ cell. each_slope kind band cell)))
 
 -- the exact place at 14 m/s: 464,400,000,000,000 grains, 860 m
 exact_860_m : Fraction
-exact_860_m = record { n = pos 6_635_532_960_000_000_000_000_000_000_000_000_000_000; m = 14_288_400_000_000_000_000_000_000 }
+exact_860_m = record {
+  n = pos 6_635_532_960_000_000_000_000_000_000_000_000_000_000;
+  m = 14_288_400_000_000_000_000_000_000;
+}
 
 exact_place : exact_places even_slopes (pos 540_000_000_000_000) 0 756_000 ≡ exact_860_m
 unfolding even even_slopes exact_860_m exact exact_at place_at arc_back back arc_forward forward
@@ -116,8 +127,10 @@ limits_with x t = limits_of (λ on f w v. x) two_bands.train_and_track (estimate
 -- the limits of both targets follow from the place of the curves at 14 m/s
 limits_by_place : (P : CurvePlaces) (place : ℤ) (x : Fraction) →
     P even_slopes (pos 540_000_000_000_000) 0 756_000 ≡ x →
-    (limits_of P two_bands.train_and_track (estimate_of (at_14_m_s place)) eoa ≡ limits_with x eoa) × (limits_of P two_bands.train_and_track (estimate_of (at_14_m_s place)) svl ≡ limits_with x svl)
-unfolding two_bands two_band_line plain_train_and_track plain_national at_14_m_s reading_at eoa svl limits_with limits_of reaction_times
+    (limits_of P two_bands.train_and_track (estimate_of (at_14_m_s place)) eoa ≡ limits_with x eoa)
+    × (limits_of P two_bands.train_and_track (estimate_of (at_14_m_s place)) svl ≡ limits_with x svl)
+unfolding two_bands two_band_line plain_train_and_track plain_national at_14_m_s reading_at eoa svl limits_with
+    limits_of reaction_times
 limits_by_place P place x at = (
   rw (same_slopes Expected, at) refl,
   rw (same_slopes Safe, at) refl,
@@ -154,8 +167,11 @@ unfolding commanded decided
 commanded_at P shift place x at seen =
     let limits = limits_by_place P place x at in
     commanded_by P shift place
-    ∙ (ap (λ now. emergency_after false (triggers_of (limits_of P two_bands.train_and_track (estimate_of (at_14_m_s place))) shift now) false false) seen
-    ∙ ap (λ t. emergency_after false t false false) (triggers_of_two (limits_of P two_bands.train_and_track (estimate_of (at_14_m_s place))) (limits_with x) shift place limits.0 limits.1))
+    ∙ (ap (λ now. emergency_after false (triggers_of
+    (limits_of P two_bands.train_and_track (estimate_of (at_14_m_s place))) shift now) false false) seen
+    ∙ ap (λ t. emergency_after false t false false) (triggers_of_two
+    (limits_of P two_bands.train_and_track (estimate_of (at_14_m_s place)))
+    (limits_with x) shift place limits.0 limits.1))
 
 -- the front ends a grain past the exact EBI, on it, a millimetre less a grain before it, and a millimetre before it
 past_the_limit : ℤ
@@ -170,20 +186,28 @@ within_a_millimetre = pos 464_399_460_000_001
 a_millimetre_before : ℤ
 a_millimetre_before = pos 464_399_460_000_000
 
-seen_past : situation_with two_bands.train_and_track two_bands.authority [] (at_14_m_s past_the_limit) ≡ seen_at past_the_limit
-unfolding two_bands two_band_line plain_train_and_track plain_national at_14_m_s reading_at situation_with seen_at eoa svl past_the_limit targets_of mrsp
+seen_past : situation_with two_bands.train_and_track two_bands.authority [] (at_14_m_s past_the_limit)
+    ≡ seen_at past_the_limit
+unfolding two_bands two_band_line plain_train_and_track plain_national at_14_m_s reading_at situation_with seen_at eoa
+    svl past_the_limit targets_of mrsp
 seen_past = refl
 
-seen_on : situation_with two_bands.train_and_track two_bands.authority [] (at_14_m_s on_the_limit) ≡ seen_at on_the_limit
-unfolding two_bands two_band_line plain_train_and_track plain_national at_14_m_s reading_at situation_with seen_at eoa svl on_the_limit targets_of mrsp
+seen_on : situation_with two_bands.train_and_track two_bands.authority [] (at_14_m_s on_the_limit)
+    ≡ seen_at on_the_limit
+unfolding two_bands two_band_line plain_train_and_track plain_national at_14_m_s reading_at situation_with seen_at eoa
+    svl on_the_limit targets_of mrsp
 seen_on = refl
 
-seen_within : situation_with two_bands.train_and_track two_bands.authority [] (at_14_m_s within_a_millimetre) ≡ seen_at within_a_millimetre
-unfolding two_bands two_band_line plain_train_and_track plain_national at_14_m_s reading_at situation_with seen_at eoa svl within_a_millimetre targets_of mrsp
+seen_within : situation_with two_bands.train_and_track two_bands.authority [] (at_14_m_s within_a_millimetre)
+    ≡ seen_at within_a_millimetre
+unfolding two_bands two_band_line plain_train_and_track plain_national at_14_m_s reading_at situation_with seen_at eoa
+    svl within_a_millimetre targets_of mrsp
 seen_within = refl
 
-seen_before : situation_with two_bands.train_and_track two_bands.authority [] (at_14_m_s a_millimetre_before) ≡ seen_at a_millimetre_before
-unfolding two_bands two_band_line plain_train_and_track plain_national at_14_m_s reading_at situation_with seen_at eoa svl a_millimetre_before targets_of mrsp
+seen_before : situation_with two_bands.train_and_track two_bands.authority [] (at_14_m_s a_millimetre_before)
+    ≡ seen_at a_millimetre_before
+unfolding two_bands two_band_line plain_train_and_track plain_national at_14_m_s reading_at situation_with seen_at eoa
+    svl a_millimetre_before targets_of mrsp
 seen_before = refl
 
 -- the emergency commands of the exact, the row and the early machine
@@ -194,8 +218,10 @@ three_commands place =
     ∷ may_after two_bands (at_14_m_s place) false
     ∷ []
 
-three_decided : (place : ℤ) → situation_with two_bands.train_and_track two_bands.authority [] (at_14_m_s place) ≡ seen_at place →
-    three_commands place ≡ decided exact_860_m 0 place ∷ decided (whole (pos 464_399_999_999_999)) 0 place ∷ decided exact_860_m millimetre place ∷ []
+three_decided : (place : ℤ) →
+    situation_with two_bands.train_and_track two_bands.authority [] (at_14_m_s place) ≡ seen_at place →
+    three_commands place ≡ decided exact_860_m 0 place ∷ decided (whole (pos 464_399_999_999_999)) 0 place
+    ∷ decided exact_860_m millimetre place ∷ []
 unfolding three_commands
 three_decided place seen =
     rw (
@@ -205,10 +231,19 @@ three_decided place seen =
     )
     refl
 
--- past the exact EBI all command; on it the exact machine doesn't, the others do; of places before it within a millimetre only the early
--- machine does, down to the last grain; a millimetre before it none does
+-- past the exact EBI all command; on it the exact machine doesn't, the others do; of places before it within a
+-- millimetre only the early machine does, down to the last grain; a millimetre before it none does
 machines_differ :
-    three_commands past_the_limit ∷ three_commands on_the_limit ∷ three_commands within_a_millimetre ∷ three_commands a_millimetre_before ∷ []
-    ≡ (true ∷ true ∷ true ∷ []) ∷ (false ∷ true ∷ true ∷ []) ∷ (false ∷ false ∷ true ∷ []) ∷ (false ∷ false ∷ false ∷ []) ∷ []
-unfolding past_the_limit on_the_limit within_a_millimetre a_millimetre_before decided limits_with exact_860_m seen_at eoa svl two_bands two_band_line plain_train_and_track plain_national at_14_m_s reading_at triggers_of limits_of reaction_times emergency_after
-machines_differ = rw (three_decided past_the_limit seen_past, three_decided on_the_limit seen_on, three_decided within_a_millimetre seen_within, three_decided a_millimetre_before seen_before) refl
+    three_commands past_the_limit ∷ three_commands on_the_limit ∷ three_commands within_a_millimetre
+    ∷ three_commands a_millimetre_before ∷ []
+    ≡ (true ∷ true ∷ true ∷ []) ∷ (false ∷ true ∷ true ∷ []) ∷ (false ∷ false ∷ true ∷ [])
+    ∷ (false ∷ false ∷ false ∷ []) ∷ []
+unfolding past_the_limit on_the_limit within_a_millimetre a_millimetre_before decided limits_with exact_860_m seen_at
+    eoa svl two_bands two_band_line plain_train_and_track plain_national at_14_m_s reading_at triggers_of limits_of
+    reaction_times emergency_after
+machines_differ = rw (
+  three_decided past_the_limit seen_past,
+  three_decided on_the_limit seen_on,
+  three_decided within_a_millimetre seen_within,
+  three_decided a_millimetre_before seen_before,
+) refl

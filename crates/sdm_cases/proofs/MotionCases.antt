@@ -1,4 +1,5 @@
--- Worked cases of motions at scale 1, with q = 100: which steps are steps, and that the bounds of the reaction are reached.
+-- Worked cases of motions at scale 1, with q = 100: which steps are steps, and that the bounds of the reaction are
+-- reached.
 use Rattle.std.proofs.Common.{◌≡◌, ℕ, ℤ, zero, suc, pos, [], ◌∷◌, ◌*◌, ◌<◌, ◌<ℤ◌, get_or, refl, arith}
 use Rattle.std.proofs.lemmas.Int.{ints}
 use Rattle.std.specs.Prelude.{◌≤ℤ◌}
@@ -8,13 +9,18 @@ use Rattle.sdm_rules.specs.declared.motions.Start.{Start}
 use Rattle.sdm_rules.specs.Slopes.{Slopes, SlopeMap, meaning_of}
 use Rattle.sdm_rules.specs.Motion.{IsInBand, IsStep, IsBraking, AreSlices, slice_ends, last_point}
 use Rattle.sdm_rules.specs.Reaction.{build_up_of, v_bec, d_bec}
-use Rattle.sdm_laws.proofs.Segments.{IsRising, slope_in_segment}
+use Rattle.sdm_laws.proofs.OneBand.Segments.{IsRising, slope_in_segment}
 
 -- ---- steps
 
 -- 1 m/s² up to cell 8, and 0.5 m/s² from there on
 abbrev two_segments : SlopeMap
-two_segments = record { q = 100; uppers = []; starts = pos 0 ∷ pos 8 ∷ []; slopes = 200_000_000_000 ∷ 100_000_000_000 ∷ [] }
+two_segments = record {
+  q = 100;
+  uppers = [];
+  starts = pos 0 ∷ pos 8 ∷ [];
+  slopes = 200_000_000_000 ∷ 100_000_000_000 ∷ [];
+}
 
 starts_rise : IsRising (pos 0 ∷ pos 8 ∷ [])
 starts_rise zero zero le lt = omega (arith, ints)
@@ -25,7 +31,8 @@ starts_rise (suc i) zero le lt = absurd (omega arith)
 starts_rise (suc (suc i)) (suc zero) le lt = absurd (omega arith)
 
 before_cell_8 : (cell : ℤ) → cell <ℤ pos 8 → (meaning_of two_segments).slope 0 cell ≡ 200_000_000_000
-before_cell_8 cell lt = slope_in_segment two_segments 0 cell 0 starts_rise (record { known = omega arith; low = λ none. absurd (omega arith); high = later })
+before_cell_8 cell lt = slope_in_segment two_segments 0 cell 0 starts_rise
+    (record { known = omega arith; low = λ none. absurd (omega arith); high = later })
   where
     later : (k : ℕ) → 0 < k → k < 2 → cell <ℤ get_or (pos 0 ∷ pos 8 ∷ []) k (pos 0)
     later zero p l = absurd (omega arith)
@@ -33,13 +40,15 @@ before_cell_8 cell lt = slope_in_segment two_segments 0 cell 0 starts_rise (reco
     later (suc (suc k)) p l = absurd (omega arith)
 
 from_cell_8 : (cell : ℤ) → pos 8 ≤ℤ cell → (meaning_of two_segments).slope 0 cell ≡ 100_000_000_000
-from_cell_8 cell le = slope_in_segment two_segments 0 cell 1 starts_rise (record { known = omega arith; low = λ _. le; high = λ k l m. absurd (omega arith) })
+from_cell_8 cell le = slope_in_segment two_segments 0 cell 1 starts_rise
+    (record { known = omega arith; low = λ _. le; high = λ k l m. absurd (omega arith) })
 
--- Over the cells 6 and 7 the square falls by 2 * 58,320,000 at 1 m/s², and over the cells 8 and 9 by 58,320,000 at 0.5 m/s².
--- The steps meet where the slope changes: a step does not ask for the slope of a cell that it only touches.
+-- Over the cells 6 and 7 the square falls by 2 * 58,320,000 at 1 m/s², and over the cells 8 and 9 by 58,320,000 at 0.5
+-- m/s². The steps meet where the slope changes: a step does not ask for the slope of a cell that it only touches.
 steps_meet_where_the_slope_changes :
     IsBraking (meaning_of two_segments) 1 (record { place = pos 32_400_000_000; square = 174_960_000 })
-    (record { place = pos 43_200_000_000; square = 58_320_000 } ∷ record { place = pos 54_000_000_000; square = 0 } ∷ [])
+    (record { place = pos 43_200_000_000; square = 58_320_000 } ∷ record { place = pos 54_000_000_000; square = 0 }
+    ∷ [])
 steps_meet_where_the_slope_changes = (
   record {
     band = 0;
@@ -67,7 +76,8 @@ steps_meet_where_the_slope_changes = (
 
 -- 1 m/s² up to 8,000 notches, and 0.5 m/s² above
 abbrev two_bands : Slopes
-two_bands = meaning_of (record { q = 100; uppers = 8_000 ∷ []; starts = pos 0 ∷ []; slopes = 200_000_000_000 ∷ 100_000_000_000 ∷ [] })
+two_bands = meaning_of
+    (record { q = 100; uppers = 8_000 ∷ []; starts = pos 0 ∷ []; slopes = 200_000_000_000 ∷ 100_000_000_000 ∷ [] })
 
 -- no step goes from one band into another, however long its distance
 no_step_over_a_border : (p p' : ℤ) →
@@ -97,10 +107,15 @@ abbrev gained_more : Slice
 gained_more = record { phase = Build; time = 20; to = 97_200; length = 1_512_000_000_000 }
 
 these_are_slices : AreSlices gaining 0 (gained ∷ gained_more ∷ [])
-these_are_slices = (record { gains = omega arith; moves = omega arith }, (record { gains = omega arith; moves = omega arith }, tt))
+these_are_slices =
+    (record { gains = omega arith; moves = omega arith }, (record { gains = omega arith; moves = omega arith }, tt))
 
 -- comes as far as D_bec and gets as fast as V_bec
 bounds_are_reached :
     last_point (record { place = pos 0; square = 0 }) (slice_ends (pos 0) 0 (gained ∷ gained_more ∷ []))
-    ≡ record { place = pos (d_bec (build_up_of gaining) 0); square = v_bec (build_up_of gaining) 0 * v_bec (build_up_of gaining) 0 }
+    ≡ record {
+      place = pos (d_bec (build_up_of gaining) 0);
+      square =
+          v_bec (build_up_of gaining) 0 * v_bec (build_up_of gaining) 0;
+    }
 bounds_are_reached = refl

@@ -1,5 +1,5 @@
--- There is an accepted supervision state, so the laws over such states say something: that of the short journey, whose slopes
--- are all 1 m/s². And there are openings that are refused.
+-- There is an accepted supervision state, so the laws over such states say something: that of the short journey, whose
+-- slopes are all 1 m/s². And there are openings that are refused.
 use Rattle.std.proofs.Common.{◌≡◌, ℕ, zero, suc, pos, ◌<◌, refl, arith}
 use Rattle.std.proofs.lemmas.Int.{ints}
 use Rattle.std.specs.Prelude.{[], Some}
@@ -15,7 +15,7 @@ use Rattle.sdm_rules.specs.Opening.{IsAcceptedKind, IsStrong, IsEven, IsOpen, Is
 use Rattle.sdm_rules.specs.Headline.{IsSupervised}
 use Rattle.sdm_cases.proofs.Journeys.{plain_band, plain_national, plain_train_and_track}
 use Rattle.sdm_cases.proofs.RowCases.{short}
-use Rattle.sdm_laws.proofs.Headline.{supervision}
+use Rattle.sdm_laws.proofs.Rows.Headline.{supervision}
 
 short_slope : (kind : SlopeKind) (cell : ℕ) → slope_at kind short.train_and_track 0 (pos cell) ≡ pos 200_000_000_000
 unfolding short plain_train_and_track plain_national plain_band slope_at
@@ -50,7 +50,25 @@ weak_line = plain_train_and_track (pos 100) (Some (pos 0)) (record plain_band { 
 
 too_weak : IsOpenFault weak_line (Stop 1000 1000 0) (TooWeak Safe 1 (pos 0) (pos 8_000_000_000))
 unfolding weak_line plain_train_and_track plain_national plain_band slope_at
-too_weak = (tt, (0, refl, (0, refl, record { known = omega arith; value = refl; weak = omega (arith, ints); lower_bands = λ b c l. absurd (omega arith); earlier_cells = λ c l. absurd (omega arith) })))
+too_weak = (
+  tt,
+  (
+    0,
+    refl,
+    (
+      0,
+      refl,
+      record {
+        known = omega arith;
+        value = refl;
+        weak =
+            omega (arith, ints);
+        lower_bands = λ b c l. absurd (omega arith);
+        earlier_cells = λ c l. absurd (omega arith);
+      },
+    ),
+  ),
+)
 
 -- an EOA behind the SvL, on slopes that are accepted
 svl_before_eoa : IsOpenFault short.train_and_track (Stop 1000 999 0) (BadAuthority SvlBeforeEoa)

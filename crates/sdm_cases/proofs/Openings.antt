@@ -1,5 +1,5 @@
--- The state after an opening: no restriction is in force, which a finite map doesn't show by computing, so its situation and its row
--- are those over an explicit list.
+-- The state after an opening: no restriction is in force, which a finite map doesn't show by computing, so its
+-- situation and its row are those over an explicit list.
 use Rattle.std.proofs.Common.{◌≡◌, ap, sym, ◌∙◌}
 use Rattle.std.specs.Prelude.{List, [], map, is_some}
 use Rattle.std.specs.FinMap as finite
@@ -35,9 +35,11 @@ situation_with d a restrictions r =
       in_use = service_in_use d;
     }
 
-pub opening_situation : (d : TrainAndTrack) (a : Authority) (r : OdometerReading) → situation_of (opening d a) r ≡ situation_with d a [] r
+pub opening_situation : (d : TrainAndTrack) (a : Authority) (r : OdometerReading) →
+    situation_of (opening d a) r ≡ situation_with d a [] r
 unfolding situation_of situation_with
 opening_situation d a r = ap (λ es. situation_with d a (map (λ e. e.1) es) r) none_in_force
 
-pub opening_row : (d : TrainAndTrack) (a : Authority) (r : OdometerReading) → row_of (opening d a) r ≡ row_in d nothing_held r (situation_with d a [] r)
+pub opening_row : (d : TrainAndTrack) (a : Authority) (r : OdometerReading) →
+    row_of (opening d a) r ≡ row_in d nothing_held r (situation_with d a [] r)
 opening_row d a r = ap (λ now. row_in d nothing_held r now) (opening_situation d a r)

@@ -1,5 +1,5 @@
--- What the promises exclude: of each, something that it says is false, so that a text which promises less is seen. The train is that
--- of StopCases, which comes from 760 m at 20 m/s exactly to the SvL at 1000 m.
+-- What the promises exclude: of each, something that it says is false, so that a text which promises less is seen. The
+-- train is that of StopCases, which comes from 760 m at 20 m/s exactly to the SvL at 1000 m.
 use Rattle.std.proofs.Common.{ℕ, pos, true, false, [], ◌∷◌, refl, arith}
 use Rattle.std.proofs.lemmas.Int.{ints}
 use Rattle.std.specs.Prelude.{Contains, None}
@@ -21,7 +21,9 @@ use Rattle.sdm_rules.specs.Supervision.{opening}
 use Rattle.sdm_rules.specs.Targets.{targets_of}
 use Rattle.sdm_cases.proofs.Journeys.{plain_national, plain_train_and_track, reading_at}
 use Rattle.sdm_cases.proofs.Openings.{opening_situation, situation_with}
-use Rattle.sdm_cases.proofs.StopCases.{at_780_m, at_800_m, before_braking, braked_line, braking, reading_at_760_m, standing, stands_before_the_front, stopping, stops_at_the_svl, stops_before_braking, where_it_stands}
+use Rattle.sdm_cases.proofs.StopCases.{at_780_m, at_800_m, before_braking, braked_line, braking, reading_at_760_m}
+use Rattle.sdm_cases.proofs.StopCases.{standing, stands_before_the_front, stopping, stops_at_the_svl}
+use Rattle.sdm_cases.proofs.StopCases.{stops_before_braking, where_it_stands}
 
 -- ---- points, at scale 2: four places to a grain
 
@@ -44,31 +46,41 @@ fast_before_it le = absurd (omega (arith, ints, le))
 -- ---- every motion, each of its points
 
 -- a place a grain before the SvL is passed by the last point
-no_stop_before_the_svl : StopsBy (slopes_of Safe braked_line) (reaction_start braked_line reading_at_760_m) (pos 539_999_999_999_999) → ⊥
+no_stop_before_the_svl : StopsBy (slopes_of Safe braked_line) (reaction_start braked_line reading_at_760_m)
+    (pos 539_999_999_999_999) → ⊥
 unfolding at_800_m braking
-no_stop_before_the_svl h = let k = h 1 (pos 410_400_000_000_000) 1_080_000 before_braking at_800_m braking stops_at_the_svl 3 at_800_m (omega arith) in omega (arith, ints, k)
+no_stop_before_the_svl h = let k = h 1 (pos 410_400_000_000_000) 1_080_000 before_braking at_800_m braking
+    stops_at_the_svl 3 at_800_m (omega arith) in omega (arith, ints, k)
 
 -- a place a grain before the front end is passed by a train that stands, at its only point
-no_stop_before_where_it_stands : StopsBy (slopes_of Safe braked_line) (reaction_start braked_line reading_at_760_m) (pos 410_399_999_999_999) → ⊥
+no_stop_before_where_it_stands : StopsBy (slopes_of Safe braked_line) (reaction_start braked_line reading_at_760_m)
+    (pos 410_399_999_999_999) → ⊥
 unfolding where_it_stands
-no_stop_before_where_it_stands h = let k = h 2 (pos 1_641_599_999_999_999) 0 (standing ∷ []) where_it_stands [] stands_before_the_front 0 where_it_stands (omega arith) in omega (arith, ints, k)
+no_stop_before_where_it_stands h = let k = h 2 (pos 1_641_599_999_999_999) 0
+    (standing ∷ []) where_it_stands [] stands_before_the_front 0 where_it_stands (omega arith)
+    in omega (arith, ints, k)
 
 -- a notch less than the speed at 780 m is not kept at the end of a slice
-not_slow_at_a_slice_end : SlowsTo (slopes_of Safe braked_line) (reaction_start braked_line reading_at_760_m) (pos 421_200_000_000_000) 1_079_999 → ⊥
+not_slow_at_a_slice_end : SlowsTo (slopes_of Safe braked_line) (reaction_start braked_line reading_at_760_m)
+    (pos 421_200_000_000_000) 1_079_999 → ⊥
 unfolding stopping at_780_m
-not_slow_at_a_slice_end h = let k = h 1 (pos 410_400_000_000_000) 1_080_000 stopping at_780_m [] stops_before_braking 0 at_780_m (omega arith) (omega (arith, ints)) in omega (arith, k)
+not_slow_at_a_slice_end h = let k = h 1 (pos 410_400_000_000_000) 1_080_000 stopping at_780_m [] stops_before_braking 0
+    at_780_m (omega arith) (omega (arith, ints)) in omega (arith, k)
 
 -- nor is the speed at 850 m at a braking point
-not_slow_while_braking : SlowsTo (slopes_of Safe braked_line) (reaction_start braked_line reading_at_760_m) (pos 459_000_000_000_000) 935_307 → ⊥
+not_slow_while_braking : SlowsTo (slopes_of Safe braked_line) (reaction_start braked_line reading_at_760_m)
+    (pos 459_000_000_000_000) 935_307 → ⊥
 unfolding before_braking at_800_m braking
-not_slow_while_braking h = let k = h 1 (pos 410_400_000_000_000) 1_080_000 before_braking at_800_m braking stops_at_the_svl 4 at_800_m (omega arith) (omega (arith, ints)) in omega (arith, k)
+not_slow_while_braking h = let k = h 1 (pos 410_400_000_000_000) 1_080_000 before_braking at_800_m braking
+    stops_at_the_svl 4 at_800_m (omega arith) (omega (arith, ints)) in omega (arith, k)
 
 -- ---- of a reading
 
 -- an SvL a centimetre earlier is passed
 no_stop_by_an_earlier_svl : StopsBySvl braked_line reading_at_760_m 99_999 → ⊥
 unfolding at_800_m braking
-no_stop_by_an_earlier_svl h = let k = h 1 (pos 410_400_000_000_000) 1_080_000 before_braking at_800_m braking stops_at_the_svl 3 at_800_m (omega arith) in omega (arith, ints, k)
+no_stop_by_an_earlier_svl h = let k = h 1 (pos 410_400_000_000_000) 1_080_000 before_braking at_800_m braking
+    stops_at_the_svl 3 at_800_m (omega arith) in omega (arith, ints, k)
 
 -- 64 km/h with its margin are 71.5 km/h; at 800 m the train may run 72 km/h
 abbrev at_64_km_h : Target
@@ -76,7 +88,8 @@ at_64_km_h = record { kind = Loa; place = pos 432_000_000_000_000; speed = 64 }
 
 too_fast_for_the_target : MeetsTarget braked_line reading_at_760_m at_64_km_h → ⊥
 unfolding before_braking at_800_m braking
-too_fast_for_the_target h = let k = h 1 (pos 410_400_000_000_000) 1_080_000 before_braking at_800_m braking stops_at_the_svl 3 at_800_m (omega arith) (omega (arith, ints)) in omega (arith, k)
+too_fast_for_the_target h = let k = h 1 (pos 410_400_000_000_000) 1_080_000 before_braking at_800_m braking
+    stops_at_the_svl 3 at_800_m (omega arith) (omega (arith, ints)) in omega (arith, k)
 
 not_safe_before_the_svl : IsSafe (opening braked_line (Stop 99_999 99_999 0)) reading_at_760_m → ⊥
 not_safe_before_the_svl h = no_stop_by_an_earlier_svl (h.stops 99_999 99_999 0 refl)
@@ -87,13 +100,22 @@ the_target_is_ahead = (0, omega arith, refl)
 
 not_safe_for_the_target : IsSafe (opening braked_line (Limit 80_000 64)) reading_at_760_m → ⊥
 not_safe_for_the_target h =
-    too_fast_for_the_target (h.meets at_64_km_h (rw (opening_situation braked_line (Limit 80_000 64) reading_at_760_m) the_target_is_ahead) ((λ e. cc), (λ e. cc)))
+    too_fast_for_the_target (h.meets at_64_km_h (rw (opening_situation braked_line (Limit 80_000 64) reading_at_760_m)
+    the_target_is_ahead) ((λ e. cc), (λ e. cc)))
 
 -- ---- why a row is not covered
 
 -- 0.5 m/s of under-reading
 abbrev reading_with_under : ℕ → OdometerReading
-reading_with_under v = record { time = 0; est = pos 0; min = pos 0; max = pos 0; speed = v; accel = pos 0; under = 27_000 }
+reading_with_under v = record {
+  time = 0;
+  est = pos 0;
+  min = pos 0;
+  max = pos 0;
+  speed = v;
+  accel = pos 0;
+  under = 27_000;
+}
 
 abbrev fall_to : ℕ → Target
 fall_to kmh = record { kind = Mrsp; place = pos 0; speed = kmh }
@@ -104,26 +126,47 @@ unfolding braked_line plain_train_and_track plain_national reaction_times
 a_gap = record { is_speed = ((λ e. cc), (λ e. cc)); slow = omega arith; may_gain = omega arith }
 
 -- 71.5 km/h are passed already
-no_gap_below : IsUncoveredSpeedTarget (opening braked_line (Limit 80_000 64)) (reading_with_under 1_080_000) (fall_to 64) → ⊥
+no_gap_below : IsUncoveredSpeedTarget (opening braked_line (Limit 80_000 64)) (reading_with_under 1_080_000)
+    (fall_to 64) → ⊥
 no_gap_below h = let k = h.slow in omega (arith, k)
 
 -- and 74.5 km/h aren't reached
-no_gap_above : IsUncoveredSpeedTarget (opening braked_line (Limit 80_000 64)) (reading_with_under 1_080_000) (fall_to 67) → ⊥
+no_gap_above : IsUncoveredSpeedTarget (opening braked_line (Limit 80_000 64)) (reading_with_under 1_080_000)
+    (fall_to 67) → ⊥
 unfolding braked_line plain_train_and_track plain_national reaction_times
 no_gap_above h = let k = h.may_gain in omega (arith, k)
 
 -- nor is an SvL one, of a train that stands but may move
-no_gap_at_an_svl : IsUncoveredSpeedTarget (opening braked_line (Limit 80_000 64)) (reading_with_under 0) (record { kind = Svl; place = pos 0; speed = 0 }) → ⊥
+no_gap_at_an_svl : IsUncoveredSpeedTarget (opening braked_line (Limit 80_000 64)) (reading_with_under 0)
+    (record { kind = Svl; place = pos 0; speed = 0 }) → ⊥
 no_gap_at_an_svl h = h.is_speed.1 refl
 
 -- nor an EOA
-no_gap_at_an_eoa : IsUncoveredSpeedTarget (opening braked_line (Limit 80_000 64)) (reading_with_under 0) (record { kind = Eoa; place = pos 0; speed = 0 }) → ⊥
+no_gap_at_an_eoa : IsUncoveredSpeedTarget (opening braked_line (Limit 80_000 64)) (reading_with_under 0)
+    (record { kind = Eoa; place = pos 0; speed = 0 }) → ⊥
 no_gap_at_an_eoa h = h.is_speed.0 refl
 
 -- ---- the ceiling
 
 abbrev row_below_160 : Row
-row_below_160 = record { time = 0; state = C; held = record { tco = false; sb = false; eb = false; status = N }; covered = true; ceiling = 160; ebi = None; sbi = None; warning = None; permitted = None; indication = None }
+row_below_160 = record {
+  time = 0;
+  state = C;
+  held = record {
+    tco = false;
+    sb = false;
+    eb = false;
+    status = N;
+  };
+  covered = true;
+  ceiling = 160;
+  ebi = None;
+  sbi = None;
+  warning =
+      None;
+  permitted = None;
+  indication = None;
+}
 
 -- 171.25 km/h
 at_the_ceiling : IsWithinCeiling (reading_at 0 (pos 0) 2_568_750) row_below_160

@@ -40,7 +40,9 @@ standing_row : row_of short (reading_at 0 (pos (8000 * 540_000_000)) 0) ≡ reco
   permitted = Some (pos 10_000);
   indication = Some (pos 10_000);
 }
-unfolding short plain_train_and_track plain_national plain_band reading_at situation_with targets_of mrsp row_in state_in commands_in is_covered_in commands_after emergency_after triggers_of limits_of release_start reaction_times slopes_of slope_at stepped place_at arc_back back arc_forward forward
+unfolding short plain_train_and_track plain_national plain_band reading_at situation_with targets_of mrsp row_in
+    state_in commands_in is_covered_in commands_after emergency_after triggers_of limits_of release_start
+    reaction_times slopes_of slope_at stepped place_at arc_back back arc_forward forward
 standing_row = opening_row short_line (Stop 1000 1000 0) _ ∙ refl
 
 -- at 2 m/s, which takes 2 m to brake, a tenth of a millimetre before the EBI: a warning, and covered
@@ -56,7 +58,9 @@ row_before_the_limit : row_of short (reading_at 0 (pos (79_999 * 54_000_000)) 10
   permitted = Some (pos 0);
   indication = Some (negsuc 17_999);
 }
-unfolding short plain_train_and_track plain_national plain_band reading_at situation_with targets_of mrsp row_in state_in commands_in is_covered_in commands_after emergency_after triggers_of limits_of release_start reaction_times slopes_of slope_at stepped place_at arc_back back arc_forward forward
+unfolding short plain_train_and_track plain_national plain_band reading_at situation_with targets_of mrsp row_in
+    state_in commands_in is_covered_in commands_after emergency_after triggers_of limits_of release_start
+    reaction_times slopes_of slope_at stepped place_at arc_back back arc_forward forward
 row_before_the_limit = opening_row short_line (Stop 1000 1000 0) _ ∙ refl
 
 -- ---- release speed monitoring
@@ -78,7 +82,9 @@ row_at_release_start : row_of with_release (reading_at 0 (pos 3_712_500_000_000)
   permitted = Some (pos 0);
   indication = Some (negsuc 17_999);
 }
-unfolding with_release plain_train_and_track plain_national plain_band reading_at situation_with targets_of mrsp row_in state_in commands_in is_covered_in commands_after emergency_after triggers_of limits_of release_start reaction_times slopes_of slope_at stepped place_at arc_back back arc_forward forward
+unfolding with_release plain_train_and_track plain_national plain_band reading_at situation_with targets_of mrsp row_in
+    state_in commands_in is_covered_in commands_after emergency_after triggers_of limits_of release_start
+    reaction_times slopes_of slope_at stepped place_at arc_back back arc_forward forward
 row_at_release_start = opening_row short_line (Stop 1000 1000 9) _ ∙ refl
 
 -- a grain further it has: no limit is printed, nothing is commanded below the release speed, and no stop is promised
@@ -94,7 +100,9 @@ row_past_release_start : row_of with_release (reading_at 0 (pos 3_712_500_000_00
   permitted = None;
   indication = None;
 }
-unfolding with_release plain_train_and_track plain_national plain_band reading_at situation_with targets_of mrsp row_in state_in commands_in is_covered_in commands_after emergency_after triggers_of limits_of release_start reaction_times slopes_of slope_at stepped place_at arc_back back arc_forward forward
+unfolding with_release plain_train_and_track plain_national plain_band reading_at situation_with targets_of mrsp row_in
+    state_in commands_in is_covered_in commands_after emergency_after triggers_of limits_of release_start
+    reaction_times slopes_of slope_at stepped place_at arc_back back arc_forward forward
 row_past_release_start = opening_row short_line (Stop 1000 1000 9) _ ∙ refl
 
 -- a notch above the release speed the emergency brake is commanded
@@ -110,13 +118,16 @@ row_above_the_release_speed : row_of with_release (reading_at 0 (pos 4_320_000_0
   permitted = None;
   indication = None;
 }
-unfolding with_release plain_train_and_track plain_national plain_band reading_at situation_with targets_of mrsp row_in state_in commands_in is_covered_in commands_after emergency_after triggers_of limits_of release_start reaction_times slopes_of slope_at stepped place_at arc_back back arc_forward forward
+unfolding with_release plain_train_and_track plain_national plain_band reading_at situation_with targets_of mrsp row_in
+    state_in commands_in is_covered_in commands_after emergency_after triggers_of limits_of release_start
+    reaction_times slopes_of slope_at stepped place_at arc_back back arc_forward forward
 row_above_the_release_speed = opening_row short_line (Stop 1000 1000 9) _ ∙ refl
 
 -- ---- refused records
 
 -- a time before that of the last reading
-refused_time : step (record short { last_time = Some 10 }) (record_kinds.Read (reading_at 9 (pos 0) 0)) ≡ Err (causes.TimeBack 10 9)
+refused_time : step (record short { last_time = Some 10 }) (record_kinds.Read (reading_at 9 (pos 0) 0))
+    ≡ Err (causes.TimeBack 10 9)
 unfolding short plain_train_and_track reading_at step
 refused_time = refl
 

@@ -1,5 +1,6 @@
--- The stop that a covered reading promises is met by a motion, and by one to the grain: a train of 100 m with 1 m/s² in each brake and an
--- emergency brake that works after 2 s runs at 20 m/s, with its front end at 760 m, towards an SvL at 1000 m.
+-- The stop that a covered reading promises is met by a motion, and by one to the grain: a train of 100 m with 1 m/s²
+-- in each brake and an emergency brake that works after 2 s runs at 20 m/s, with its front end at 760 m, towards an
+-- SvL at 1000 m.
 use Rattle.std.proofs.Common.{◌≡◌, refl, ap, ◌*◌, arith}
 use Rattle.std.proofs.lemmas.Int.{ints}
 use Rattle.std.proofs.Math.Path.{fun_ext}
@@ -25,29 +26,61 @@ timed_line : Bool → TrainAndTrack
 timed_line inhibited =
     let line = plain_train_and_track (pos 20_000) None plain_band [] [] in
     record line {
-      train = record (line.train) { cut_off_time = pos 20; cut_off_interface = true; emergency_time = pos 30; service_time = pos 40 };
+      train = record (line.train)
+          { cut_off_time = pos 20; cut_off_interface = true; emergency_time = pos 30; service_time = pos 40 };
       national = record (line.national) { inhibit_under_reading = inhibited };
     }
 
 -- 40 m/s, gaining 0.5 m/s², with 0.5 m/s of under-reading and the max safe front end at 3305 m
 gaining_reading : OdometerReading
-gaining_reading = record { time = 0; est = pos (3_300_000 * millimetre); min = pos (3_295_000 * millimetre); max = pos (3_305_000 * millimetre); speed = 2_160_000; accel = pos 50; under = 27_000 }
+gaining_reading = record {
+  time = 0;
+  est = pos (3_300_000 * millimetre);
+  min = pos (3_295_000 * millimetre);
+  max =
+      pos (3_305_000 * millimetre);
+  speed = 2_160_000;
+  accel = pos 50;
+  under = 27_000;
+}
 
--- the under-reading amount adds to the speed; after the cut-off at most 0.4 m/s² are gained; the traction is off within the 2 s from the
--- warning and the 4 s of the service brake, so the whole 3 s are the emergency brake's
-start_with_under_reading : reaction_start (timed_line false) gaining_reading ≡ record { front = pos 1_784_700_000_000_000; speed = 2_187_000; accel1 = 50; accel2 = 40; traction = 0; berem = 30 }
+-- the under-reading amount adds to the speed; after the cut-off at most 0.4 m/s² are gained; the traction is off
+-- within the 2 s from the warning and the 4 s of the service brake, so the whole 3 s are the emergency brake's
+start_with_under_reading : reaction_start (timed_line false) gaining_reading ≡ record {
+  front = pos 1_784_700_000_000_000;
+  speed = 2_187_000;
+  accel1 = 50;
+  accel2 = 40;
+  traction = 0;
+  berem = 30;
+}
 unfolding timed_line plain_train_and_track plain_national gaining_reading reaction_times
 start_with_under_reading = refl
 
 -- where the compensation is inhibited it doesn't
-start_without_under_reading : reaction_start (timed_line true) gaining_reading ≡ record { front = pos 1_784_700_000_000_000; speed = 2_160_000; accel1 = 50; accel2 = 40; traction = 0; berem = 30 }
+start_without_under_reading : reaction_start (timed_line true) gaining_reading ≡ record {
+  front = pos 1_784_700_000_000_000;
+  speed = 2_160_000;
+  accel1 = 50;
+  accel2 = 40;
+  traction = 0;
+  berem = 30;
+}
 unfolding timed_line plain_train_and_track plain_national gaining_reading reaction_times
 start_without_under_reading = refl
 
 -- without an interface the traction pushes for its whole 2 s, and 1 s of the brake's 3 s is left
 start_without_interface :
-    reaction_start (record (timed_line false) { train = record ((timed_line false).train) { cut_off_interface = false } }) gaining_reading
-    ≡ record { front = pos 1_784_700_000_000_000; speed = 2_187_000; accel1 = 50; accel2 = 40; traction = 20; berem = 10 }
+    reaction_start (record (timed_line false)
+    { train = record ((timed_line false).train) { cut_off_interface = false } }) gaining_reading
+    ≡ record {
+      front = pos 1_784_700_000_000_000;
+      speed = 2_187_000;
+      accel1 = 50;
+      accel2 = 40;
+      traction = 20;
+      berem = 10;
+    }
 unfolding timed_line plain_train_and_track plain_national gaining_reading reaction_times
 start_without_interface = refl
 
@@ -78,7 +111,8 @@ each_slope (suc band) (negsuc cell) = refl
 
 safe_slopes : slopes_of Safe braked_line ≡ plain_slopes
 unfolding braked_line plain_train_and_track plain_band slopes_of plain_slopes
-safe_slopes = ap (λ f. record { q = 100; uppers = []; slope = f }) (fun_ext (λ band. fun_ext (λ cell. each_slope band cell)))
+safe_slopes =
+    ap (λ f. record { q = 100; uppers = []; slope = f }) (fun_ext (λ band. fun_ext (λ cell. each_slope band cell)))
 
 -- 40 m while the brake builds up
 unfoldable pub before_braking : List Slice
@@ -111,13 +145,25 @@ unfolding plain_slopes
 in_the_band u = record { known = omega arith; above = omega arith; below = λ lt. absurd (omega arith) }
 
 -- a step in the one band, by the fall of the square
-a_step : (x y : Point) → BrakesAtLeast plain_slopes 200_000_000_000 x.place x.square y.place y.square → IsStep plain_slopes 1 x y
+a_step : (x y : Point) → BrakesAtLeast plain_slopes 200_000_000_000 x.place x.square y.place y.square →
+    IsStep plain_slopes 1 x y
 unfolding plain_slopes plain_slope
-a_step x y brakes = record { band = 0; slope = 200_000_000_000; from_band = in_the_band x.square; to_band = in_the_band y.square; one_slope = λ cell part. refl; brakes = brakes }
+a_step x y brakes = record {
+  band = 0;
+  slope = 200_000_000_000;
+  from_band = in_the_band x.square;
+  to_band = in_the_band y.square;
+  one_slope =
+      λ cell part. refl;
+  brakes = brakes;
+}
 
 the_slices : AreSlices (reaction_start braked_line reading_at_760_m) 1_080_000 before_braking
 unfolding braked_line plain_train_and_track plain_national reading_at_760_m reading_at reaction_times before_braking
-the_slices = (record { gains = omega arith; moves = omega arith }, (record { gains = omega arith; moves = omega arith }, (record { gains = omega arith; moves = omega arith }, tt)))
+the_slices = (
+  record { gains = omega arith; moves = omega arith },
+  (record { gains = omega arith; moves = omega arith }, (record { gains = omega arith; moves = omega arith }, tt)),
+)
 
 the_braking : IsBraking plain_slopes 1 at_800_m braking
 unfolding at_800_m braking plain_slopes
@@ -130,8 +176,10 @@ the_braking = (
 )
 
 -- it stops at the SvL to the grain
-pub stops_at_the_svl : IsMotionOn (slopes_of Safe braked_line) (reaction_start braked_line reading_at_760_m) 1 (pos 410_400_000_000_000) 1_080_000 before_braking at_800_m braking
-unfolding braked_line plain_train_and_track plain_national reading_at_760_m reading_at reaction_times before_braking at_800_m
+pub stops_at_the_svl : IsMotionOn (slopes_of Safe braked_line) (reaction_start braked_line reading_at_760_m) 1
+    (pos 410_400_000_000_000) 1_080_000 before_braking at_800_m braking
+unfolding braked_line plain_train_and_track plain_national reading_at_760_m reading_at reaction_times before_braking
+    at_800_m
 stops_at_the_svl = rw safe_slopes (
   omega arith,
   record {
@@ -161,8 +209,10 @@ standing = record { phase = Build; time = 40; to = 0; length = 0 }
 unfoldable pub where_it_stands : Point
 where_it_stands = record { place = pos 1_641_599_999_999_999; square = 0 }
 
-pub stands_before_the_front : IsMotionOn (slopes_of Safe braked_line) (reaction_start braked_line reading_at_760_m) 2 (pos 1_641_599_999_999_999) 0 (standing ∷ []) where_it_stands []
-unfolding braked_line plain_train_and_track plain_national reading_at_760_m reading_at reaction_times standing where_it_stands
+pub stands_before_the_front : IsMotionOn (slopes_of Safe braked_line) (reaction_start braked_line reading_at_760_m) 2
+    (pos 1_641_599_999_999_999) 0 (standing ∷ []) where_it_stands []
+unfolding braked_line plain_train_and_track plain_national reading_at_760_m reading_at reaction_times standing
+    where_it_stands
 stands_before_the_front = (
   omega arith,
   record {
@@ -205,7 +255,8 @@ all_stopping (suc (suc k)) d l = absurd (omega arith)
 unfoldable pub at_780_m : Point
 at_780_m = record { place = pos 421_200_000_000_000; square = 0 }
 
-pub stops_before_braking : IsMotionOn (slopes_of Safe braked_line) (reaction_start braked_line reading_at_760_m) 1 (pos 410_400_000_000_000) 1_080_000 stopping at_780_m []
+pub stops_before_braking : IsMotionOn (slopes_of Safe braked_line) (reaction_start braked_line reading_at_760_m) 1
+    (pos 410_400_000_000_000) 1_080_000 stopping at_780_m []
 unfolding braked_line plain_train_and_track plain_national reading_at_760_m reading_at reaction_times stopping at_780_m
 stops_before_braking = (
   omega arith,
@@ -221,7 +272,10 @@ stops_before_braking = (
         in_build = all_stopping;
         traction_time = refl;
         build_time = refl;
-        slices = (record { gains = omega arith; moves = omega arith }, (record { gains = omega arith; moves = omega arith }, tt));
+        slices = (
+          record { gains = omega arith; moves = omega arith },
+          (record { gains = omega arith; moves = omega arith }, tt),
+        );
       };
       begins = refl;
       braking = refl;

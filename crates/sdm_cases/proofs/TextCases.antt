@@ -15,7 +15,8 @@ use Rattle.sdm_rules.specs.declared.faults.EventCause.TheVariants as causes
 use Rattle.sdm_rules.specs.declared.faults.OpenFault.TheVariants as open_faults
 use Rattle.sdm_rules.specs.Text.{row_text}
 use Rattle.sdm_rules.specs.Input.{Data, Refused, BadEvent}
-use Rattle.sdm_rules.specs.FaultLines.{end_line, fault_line, data_text, open_text, cause_text, form_text, field_text, train_text, track_text, kind_text, section_path, list_path, key_path, key_names}
+use Rattle.sdm_rules.specs.FaultLines.{end_line, fault_line, data_text, open_text, cause_text, form_text, field_text}
+use Rattle.sdm_rules.specs.FaultLines.{train_text, track_text, kind_text, section_path, list_path, key_path, key_names}
 
 a_row : row_text (record {
   time = 0;
@@ -33,11 +34,13 @@ a_row : row_text (record {
 unfolding row_text digits
 a_row = refl
 
-unknown_key_line : end_line (Data (data_faults.UnknownKey sections.Band 1)) ≡ codes "sdm: bad data: unknown key in train.band[1]\n"
+unknown_key_line : end_line (Data (data_faults.UnknownKey sections.Band 1))
+    ≡ codes "sdm: bad data: unknown key in train.band[1]\n"
 unfolding end_line fault_line data_text section_path list_path digits
 unknown_key_line = refl
 
-missing_key_line : end_line (Data (data_faults.Missing (record { section = sections.Gradient; index = 2; key = 2 }))) ≡ codes "sdm: bad data: missing track.gradient[2].grad\n"
+missing_key_line : end_line (Data (data_faults.Missing (record { section = sections.Gradient; index = 2; key = 2 })))
+    ≡ codes "sdm: bad data: missing track.gradient[2].grad\n"
 unfolding end_line fault_line data_text key_path key_names section_path list_path digits
 missing_key_line = refl
 
@@ -50,18 +53,22 @@ path_without_key : key_path sections.Train 0 77 ≡ codes "train"
 unfolding key_path key_names section_path list_path
 path_without_key = refl
 
-band_order_line : end_line (Data (data_faults.Train (train_faults.BandOrder 2))) ≡ codes "sdm: bad data: band order train.band[2]\n"
+band_order_line : end_line (Data (data_faults.Train (train_faults.BandOrder 2)))
+    ≡ codes "sdm: bad data: band order train.band[2]\n"
 unfolding end_line fault_line data_text train_text list_path digits
 band_order_line = refl
 
-gap_line : end_line (Data (data_faults.Track (track_faults.Gap sections.Speed))) ≡ codes "sdm: bad data: gap track.speed\n"
+gap_line : end_line (Data (data_faults.Track (track_faults.Gap sections.Speed)))
+    ≡ codes "sdm: bad data: gap track.speed\n"
 unfolding end_line fault_line data_text track_text list_path
 gap_line = refl
 
-too_weak_line : end_line (Refused (open_faults.TooWeak Safe 1 (pos 90_000) (pos 7))) ≡ codes "sdm: refused: too weak: safe band 1 cell 90000\n"
+too_weak_line : end_line (Refused (open_faults.TooWeak Safe 1 (pos 90_000) (pos 7)))
+    ≡ codes "sdm: refused: too weak: safe band 1 cell 90000\n"
 unfolding end_line fault_line open_text kind_text digits
 too_weak_line = refl
 
-field_line : end_line (BadEvent 1 (causes.Form (event_faults.Field 8 NotNumber))) ≡ codes "sdm: bad event 1: field 8: not a number\n"
+field_line : end_line (BadEvent 1 (causes.Form (event_faults.Field 8 NotNumber)))
+    ≡ codes "sdm: bad event 1: field 8: not a number\n"
 unfolding end_line fault_line cause_text form_text field_text digits
 field_line = refl

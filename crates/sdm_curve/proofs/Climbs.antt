@@ -1,16 +1,20 @@
--- The walk of the stepped place from band to band: at each place where it comes into a band, what `back_through_bands` or
--- `forward_through_bands` gives from there is the place that is asked for. Each band adds one arc.
-use Rattle.std.proofs.Common.{◌≡◌, ℕ, ℤ, zero, suc, pos, neg_ℤ, ◌+◌, ◌-◌, ◌*◌, ◌<◌, ◌≤◌, ◌+ℤ◌, ◌*ℤ◌, ◌≤ℤ◌, length, ap, arith, sym, refl, ◌∙◌, inl, inr}
+-- The walk of the stepped place from band to band: at each place where it comes into a band, what `back_through_bands`
+-- or `forward_through_bands` gives from there is the place that is asked for. Each band adds one arc.
+use Rattle.std.proofs.Common.{◌≡◌, ℕ, ℤ, zero, suc, pos, neg_ℤ, ◌+◌, ◌-◌, ◌*◌, ◌<◌, ◌≤◌, ◌+ℤ◌, ◌*ℤ◌, ◌≤ℤ◌, length, ap}
+use Rattle.std.proofs.Common.{arith, sym, refl, ◌∙◌, inl, inr}
 use Rattle.std.proofs.lemmas.Int.{ints}
 use Rattle.std.proofs.lemmas.Bool.{cases_lt}
 use Rattle.sdm_num.specs.Fractions.{whole, floor}
 use Rattle.sdm_rules.specs.Slopes.{Slopes, IsUsable}
-use Rattle.sdm_rules.specs.Curves.{back_through_bands, forward_through_bands, stepped, to_grain, upper_square, grain_energy}
-use Rattle.sdm_laws.proofs.BandSteps.{climb_skip, climb_stop, descend_skip, descend_stop, place_up, place_down}
-use Rattle.sdm_laws.proofs.Knots.{knot_back, knot_forward, climb_knot, descend_knot}
+use Rattle.sdm_rules.specs.Curves.{back_through_bands, forward_through_bands, stepped, to_grain, upper_square}
+use Rattle.sdm_rules.specs.Curves.{grain_energy}
+use Rattle.sdm_laws.proofs.BrakeCurves.BandSteps.{climb_skip, climb_stop, descend_skip, descend_stop, place_up}
+use Rattle.sdm_laws.proofs.BrakeCurves.BandSteps.{place_down}
+use Rattle.sdm_laws.proofs.BrakeCurves.Knots.{knot_back, knot_forward, climb_knot, descend_knot}
 use Rattle.sdm_curve.specs.Made.{IsArcBack, IsArcOn}
 
--- Back, above the foot speed: from the foot the walk has come to the place `p` and the square `u`, in the bands from `band` on.
+-- Back, above the foot speed: from the foot the walk has come to the place `p` and the square `u`, in the bands from
+-- `band` on.
 pub record IsClimb (on : Slopes) (foot : ℤ) (w v band : ℕ) (p : ℤ) (u : ℕ) : Type 0 where
   pub known : band ≤ length on.uppers
   pub below : u < v * v

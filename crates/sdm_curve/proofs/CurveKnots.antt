@@ -1,13 +1,14 @@
--- The stepped place of a speed from the knots of a curve: the arc in the speed's band, from the knot where the curve comes
--- into the band, ends there. The knots are the places that the walk of the definition has at the borders.
-use Rattle.std.proofs.Common.{◌≡◌, ℕ, ℤ, zero, suc, pos, neg_ℤ, ◌+◌, ◌-◌, ◌*◌, ◌<◌, ◌≤◌, ◌+ℤ◌, List, length, get_or, arith, refl, sym, ◌∙◌, inl, inr, ◌≤ℤ◌}
+-- The stepped place of a speed from the knots of a curve: the arc in the speed's band, from the knot where the curve
+-- comes into the band, ends there. The knots are the places that the walk of the definition has at the borders.
+use Rattle.std.proofs.Common.{◌≡◌, ℕ, ℤ, zero, suc, pos, neg_ℤ, ◌+◌, ◌-◌, ◌*◌, ◌<◌, ◌≤◌, ◌+ℤ◌, List, length, get_or}
+use Rattle.std.proofs.Common.{arith, refl, sym, ◌∙◌, inl, inr, ◌≤ℤ◌}
 use Rattle.std.proofs.lemmas.Int.{ints}
 use Rattle.std.proofs.lemmas.Bool.{cases_lt}
 use Rattle.sdm_num.specs.Units.{top_speed}
 use Rattle.sdm_rules.specs.Slopes.{Slopes, SlopeMap, IsUsable, meaning_of}
 use Rattle.sdm_rules.specs.Curves.{grain_energy, upper_square, stepped}
 use Rattle.sdm_laws.specs.Energy.{IsKnot}
-use Rattle.sdm_laws.proofs.CurveOrder.{stepped_foot}
+use Rattle.sdm_laws.proofs.BrakeCurves.CurveOrder.{stepped_foot}
 use Rattle.sdm_curve.specs.Maps.{handed_in, IsKeptMap}
 use Rattle.sdm_curve.specs.Asked.{Asked, IsAskedOf, IsBandOf}
 use Rattle.sdm_curve.specs.Integrals.{IsLastAtMost}
@@ -15,7 +16,8 @@ use Rattle.sdm_curve.specs.Made.{BrakeCurve, IsArcBack, IsArcOn, IsMadeFrom, kno
 use Rattle.sdm_curve.proofs.Meanings.{usable_of}
 use Rattle.sdm_curve.proofs.Reach.{back_near, on_near}
 use Rattle.sdm_curve.proofs.Points.{point_back, point_on, square-≤, square-<}
-use Rattle.sdm_curve.proofs.Climbs.{IsClimb, climb_begin, climb_past, climb_through, climb_end, IsDescent, descent_begin, descent_past, descent_through, descent_end}
+use Rattle.sdm_curve.proofs.Climbs.{IsClimb, climb_begin, climb_past, climb_through, climb_end, IsDescent}
+use Rattle.sdm_curve.proofs.Climbs.{descent_begin, descent_past, descent_through, descent_end}
 
 -- a place is the stepped one, and near the foot
 pub record IsStepped (m : SlopeMap) (curve : BrakeCurve) (v : ℕ) (place : ℤ) : Type 0 where
@@ -95,7 +97,8 @@ module _ (m : SlopeMap) (curve : BrakeCurve) (kept : IsKeptMap (handed_in m))
       beyond (suc below) past own = let known = own.known in
           omega (arith, (h.back below (omega arith) (omega arith)).speed, own.above below (omega arith))
 
-  -- the knot of a band below the foot's is faster than a speed that is below the foot speed and the border above the band
+  -- the knot of a band below the foot's is faster than a speed that is below the foot speed and the border above the
+  -- band
   knot_past : (band v : ℕ) → band ≤ h.own → v < curve.speed → (band < h.own → v < upper band) → v < speed_in band
   knot_past band v le lt past =
       elim (cases_lt band h.own) [

@@ -1,12 +1,13 @@
 -- No knot lies far: each grain of its distance has at least the least slope.
-use Rattle.std.proofs.Common.{◌≡◌, ℕ, ℤ, zero, suc, pos, neg_ℤ, ◌+◌, ◌*◌, ◌<◌, ◌≤◌, ◌+ℤ◌, ◌≤ℤ◌, length, arith, refl, inl, inr}
+use Rattle.std.proofs.Common.{◌≡◌, ℕ, ℤ, zero, suc, pos, neg_ℤ, ◌+◌, ◌*◌, ◌<◌, ◌≤◌, ◌+ℤ◌, ◌≤ℤ◌, length, arith, refl}
+use Rattle.std.proofs.Common.{inl, inr}
 use Rattle.std.proofs.lemmas.Int.{ints}
 use Rattle.std.proofs.lemmas.Bool.{cases_lt}
 use Rattle.std.proofs.Math.Nat.{mul-le-mul_left}
 use Rattle.sdm_rules.specs.Slopes.{Slopes, SlopeMap, meaning_of, bands_of, least_slope}
 use Rattle.sdm_rules.specs.Curves.{grain_energy}
 use Rattle.sdm_laws.specs.Energy.{energy, IsKnot, IsKnotPast}
-use Rattle.sdm_laws.proofs.Energy.{energy_at_least}
+use Rattle.sdm_laws.proofs.OneBand.Energy.{energy_at_least}
 use Rattle.sdm_curve.specs.Maps.{handed_in, IsKeptMap}
 use Rattle.sdm_curve.specs.Made.{IsArcBack, IsArcOn}
 use Rattle.sdm_curve.proofs.Meanings.{slope_least}

@@ -11,10 +11,13 @@ pub record IsSmall (z : ℤ) : Type 0 where
 pub wide : (z : ℤ) → IsSmall z → to_z w128 (of_z w128 z) ≡ z
 wide z h = let low = h.low in let high = h.high in to_z-of_z w128 z (omega (arith, ints))
 
-pub wide_sum : (x y : ℤ) → IsSmall x → IsSmall y → to_z w128 (of_z w128 (to_z w128 (of_z w128 x) +ℤ to_z w128 (of_z w128 y))) ≡ x +ℤ y
-wide_sum x y h k = let a = h.low in let b = h.high in let c = k.low in let d = k.high in rw (wide x h, wide y k) (to_z-of_z w128 (x +ℤ y) (omega (arith, ints)))
+pub wide_sum : (x y : ℤ) → IsSmall x → IsSmall y →
+    to_z w128 (of_z w128 (to_z w128 (of_z w128 x) +ℤ to_z w128 (of_z w128 y))) ≡ x +ℤ y
+wide_sum x y h k = let a = h.low in let b = h.high in let c = k.low in let d =
+    k.high in rw (wide x h, wide y k) (to_z-of_z w128 (x +ℤ y) (omega (arith, ints)))
 
-pub wide_difference : (x y : ℤ) → IsSmall x → IsSmall y → to_z w128 (of_z w128 (to_z w128 (of_z w128 x) -ℤ to_z w128 (of_z w128 y))) ≡ x +ℤ neg_ℤ y
+pub wide_difference : (x y : ℤ) → IsSmall x → IsSmall y →
+    to_z w128 (of_z w128 (to_z w128 (of_z w128 x) -ℤ to_z w128 (of_z w128 y))) ≡ x +ℤ neg_ℤ y
 wide_difference x y h k =
     let a = h.low in
     let b = h.high in

@@ -63,7 +63,8 @@ struct BandRange {
 /// The first band whose slopes differ too much.
 fn first_varied(q: u32, uppers: &[Speed], starts: &[i32], slopes: &[i64]) -> Option<BandRange>
     requires { IsMapData (map_data q uppers.now starts.now slopes.now) }
-    ensures found { IfSome result (λ r. IsFirstVariedBand (map_data q uppers.now starts.now slopes.now) r.band r.range.least r.range.greatest) }
+    ensures found { IfSome result (λ r.
+        IsFirstVariedBand (map_data q uppers.now starts.now slopes.now) r.band r.range.least r.range.greatest) }
     ensures none { IfNone result (AreEven (map_data q uppers.now starts.now slopes.now)) }
 {
     let segments = starts.len();

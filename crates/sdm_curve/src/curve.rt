@@ -1,6 +1,6 @@
-//! Brake curves, and the speeds that they are asked for. A curve keeps its foot and its knots, so that each place is found in
-//! one band. What a speed has in a map, its band and the energy of its square, is worked out once and serves every curve of
-//! that map.
+//! Brake curves, and the speeds that they are asked for. A curve keeps its foot and its knots, so that each place is
+//! found in one band. What a speed has in a map, its band and the energy of its square, is worked out once and serves
+//! every curve of that map.
 
 ghost use Rattle.std.specs.Prelude.{◌≡◌, pos, neg_ℤ, ◌^◌, ◌<◌, ◌≤◌, ◌+ℤ◌, ◌≤ℤ◌};
 ghost use Rattle.sdm_num.specs.Bounds.{IsEarlyFor};
@@ -16,8 +16,8 @@ use sdm_num::{Early, Place, Speed};
 use sdm_rules::MOST_BANDS;
 use std::marker::Model;
 
-/// A speed with its band in a map, counted from 0, and the energy of its square there. Many curves of the map can be asked
-/// for it. (own)
+/// A speed with its band in a map, counted from 0, and the energy of its square there. Many curves of the map can be
+/// asked for it. (own)
 #[derive(Clone, Copy, Debug)]
 pub struct AskedSpeed {
     speed: Speed,
@@ -75,8 +75,8 @@ impl AskedSpeed {
 /// The most grains that a computed place lies before the exact one: less than a millimetre. (own)
 const MOST_SLACK: u32 = 286_331_153;
 
-/// A brake curve, by its foot and its knots. Above the foot speed it lies before the foot, and below it runs on past the
-/// foot. (SUBSET-026-3 3.13.8.3 to 3.13.8.5; below the foot own)
+/// A brake curve, by its foot and its knots. Above the foot speed it lies before the foot, and below it runs on past
+/// the foot. (SUBSET-026-3 3.13.8.3 to 3.13.8.5; below the foot own)
 #[derive(Clone, Copy, Debug)]
 pub struct Curve {
     foot: Place,
@@ -129,8 +129,8 @@ impl Curve {
         }
     }
 
-    /// The place where the curve has the asked speed, on the safe side of the exact one. The map has the contents that the
-    /// curve was made from, and that the speed was asked of.
+    /// The place where the curve has the asked speed, on the safe side of the exact one. The map has the contents that
+    /// the curve was made from, and that the speed was asked of.
     pub fn place_asked(&self, map: &BandMap, asked: &AskedSpeed) -> Early
         requires made { IsMadeFrom (meaning_of map.now) self.now }
         requires asked { IsAskedOf (meaning_of map.now) asked.now }
@@ -146,8 +146,8 @@ impl Curve {
         Early::new(spot.place(), MOST_SLACK)
     }
 
-    /// The place where the curve has the speed `v`, on the safe side of the exact one. The map has the contents that the
-    /// curve was made from.
+    /// The place where the curve has the speed `v`, on the safe side of the exact one. The map has the contents that
+    /// the curve was made from.
     pub fn place(&self, map: &BandMap, v: Speed) -> Early
         requires { IsMadeFrom (meaning_of map.now) self.now }
         ensures at { result.at ≡ stepped (meaning_of map.now) self.now.place self.now.speed v }

@@ -1,6 +1,6 @@
-//! Knots: where a curve comes into its speed bands. A knot keeps the level of its band: the integral of its place and the
-//! energy of its square. From there the curve has each speed of the band at the last grain where the integral is at most the
-//! level without the energy of that speed's square, whether it lies before the knot or past it.
+//! Knots: where a curve comes into its speed bands. A knot keeps the level of its band: the integral of its place and
+//! the energy of its square. From there the curve has each speed of the band at the last grain where the integral is
+//! at most the level without the energy of that speed's square, whether it lies before the knot or past it.
 
 ghost use Rattle.std.specs.Prelude.{◌≡◌, pos, neg_ℤ, ◌*◌, ◌^◌, ◌<◌, ◌≤◌, ◌+ℤ◌, ◌≤ℤ◌};
 ghost use Rattle.sdm_num.specs.Units.{top_speed, IsPlace};

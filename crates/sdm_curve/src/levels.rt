@@ -1,5 +1,5 @@
-//! The energy integral of a band: its value at a grain, and the last grain where it is at most a level. A segment is found
-//! by halving; then one product gives the value, and one division the grain.
+//! The energy integral of a band: its value at a grain, and the last grain where it is at most a level. A segment is
+//! found by halving; then one product gives the value, and one division the grain.
 
 ghost use Rattle.std.specs.Prelude.{◌≡◌, pos, neg_ℤ, suc, ◌*◌, ◌/◌, ◌^◌, ◌<◌, ◌≤◌, ◌*ℤ◌, ◌≤ℤ◌, ◌<ℤ◌, length};
 ghost use Rattle.sdm_num.specs.Units.{IsPlace};
@@ -88,8 +88,8 @@ fn segment_of_level(map: &BandMap, band: usize, level: u128) -> usize
     segment
 }
 
-/// The last grain where the integral of a band is at most a level. A level below 0 lies before cell 0: the first segment has
-/// no beginning.
+/// The last grain where the integral of a band is at most a level. A level below 0 lies before cell 0: the first
+/// segment has no beginning.
 pub fn last_at_most(map: &BandMap, band: usize, level: i128) -> Spot
     requires known_band { band < bands_of map.now.uppers }
     requires low { neg_ℤ (pos (10 ^ 37)) ≤ℤ level }

@@ -1,5 +1,5 @@
-//! Slope maps, which hold a deceleration for each speed band and stretch of track, and the brake curves that follow them.
-//! How the place of a curve is found is known here alone: contracts speak of what a map stands for.
+//! Slope maps, which hold a deceleration for each speed band and stretch of track, and the brake curves that follow
+//! them. How the place of a curve is found is known here alone: contracts speak of what a map stands for.
 #![tactic(auto)]
 
 mod checks;

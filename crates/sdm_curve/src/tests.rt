@@ -99,8 +99,8 @@ const METRE: i64 = 540_000_000_000;
 
 const M_S: u32 = 54_000;
 
-/// A curve by its foot in metres and its foot speed in notches, a speed in notches, and the curve's place of that speed in
-/// grains.
+/// A curve by its foot in metres and its foot speed in notches, a speed in notches, and the curve's place of that
+/// speed in grains.
 #[derive(Clone, Copy)]
 struct Case(i32, u32, u32, i64);
 
@@ -253,8 +253,8 @@ fn by_turns(
     Ok(Segments { starts, slopes })
 }
 
-/// 640 uneven segments over some 9.6 km: segment `i` begins at cell 1500 i + (37 i mod 500), and in band `b`, counted from
-/// 0, has the slope of 5 · (1 + (7 i + 3 b) mod 15) cm/s².
+/// 640 uneven segments over some 9.6 km: segment `i` begins at cell 1500 i + (37 i mod 500), and in band `b`, counted
+/// from 0, has the slope of 5 · (1 + (7 i + 3 b) mod 15) cm/s².
 fn uneven(alloc: Global) -> Result<Segments, CurveFault> {
     let mut starts = Vec::new(alloc);
     let mut slopes = Vec::new(alloc);
@@ -279,7 +279,8 @@ fn a_place_among_a_thousand_segments(rt: HostRuntime) -> Result<(), CurveFault> 
     Ok(())
 }
 
-/// The places were worked out segment by segment and band by band in whole fractions, by a program apart from this one.
+/// The places were worked out segment by segment and band by band in whole fractions, by a program apart from this
+/// one.
 #[test]
 fn places_among_640_segments_in_eight_bands(rt: HostRuntime) -> Result<(), CurveFault> {
     let uppers = [

@@ -1,14 +1,16 @@
 -- The data of two documents, those of examples/approach and examples/refused-data.
 use Rattle.std.proofs.Common.{◌≡◌, refl}
 use Rattle.std.specs.Prelude.{ℕ, ℤ, pos, true, false, List, [], ◌∷◌, Some, None, Ok, Err, codes}
-use Rattle.toml.specs.Data.{Data, integer, boolean, string, array, table, Items, no_items, item, Members, no_members, member}
+use Rattle.toml.specs.Data.{Data, integer, boolean, string, array, table, Items, no_items, item, Members, no_members}
+use Rattle.toml.specs.Data.{member}
 use Rattle.sdm_rules.specs.declared.authorities.Authority.TheVariants.{Stop}
 use Rattle.sdm_rules.specs.declared.faults.Section.TheVariants.{Gradient}
 use Rattle.sdm_rules.specs.declared.faults.DataFault.TheVariants.{Missing}
 use Rattle.sdm_rules.specs.FaultLines.{key_names}
 use Rattle.sdm_rules.specs.Ranges.{train_fault, national_fault, track_fault, gradients_fault, speeds_fault, areas_fault}
 use Rattle.sdm_data.specs.Members.{known, required, optional, number}
-use Rattle.sdm_data.specs.Sections.{root_in, band_in, train_in, national_in, gradient_in, speed_in, adhesion_in, track_in, authority_in, end_in}
+use Rattle.sdm_data.specs.Sections.{root_in, band_in, train_in, national_in, gradient_in, speed_in, adhesion_in}
+use Rattle.sdm_data.specs.Sections.{track_in, authority_in, end_in}
 use Rattle.sdm_data.specs.Journey.{data_of}
 
 -- the members of a table
@@ -99,19 +101,53 @@ approach : data_of (document (pos 10_000) []) ≡ Ok (
       emergency_time = pos 0;
       service_time = pos 0;
       service_brake = true;
-      bands = record { upper = None; emergency = pos 100; service = pos 100; normal = pos 100; kdry = pos 1000; kwet = pos 1000; kn_up = pos 0; kn_down = pos 0 } ∷ [];
+      bands = record {
+        upper = None;
+        emergency = pos 100;
+        service = pos 100;
+        normal = pos 100;
+        kdry = pos 1000;
+        kwet =
+            pos 1000;
+        kn_up = pos 0;
+        kn_down = pos 0;
+      } ∷ [];
     };
-    national = record { avadh = pos 20; adhesion_max = pos 70; guidance = false; service_in_target = true; early_release = false; inhibit_under_reading = false };
-    track = record { length_cm = pos 200_000; gradients = []; speeds = record { start = pos 0; speed = pos 160; delayed = true } ∷ []; areas = [] };
+    national = record {
+      avadh = pos 20;
+      adhesion_max = pos 70;
+      guidance = false;
+      service_in_target = true;
+      early_release =
+          false;
+      inhibit_under_reading = false;
+    };
+    track = record {
+      length_cm = pos 200_000;
+      gradients = [];
+      speeds = record {
+        start = pos 0;
+        speed = pos 160;
+        delayed = true;
+      } ∷ [];
+      areas = [];
+    };
   },
   Stop 100_000 100_000 0,
 )
-unfolding document tables members data_of root_in band_in train_in national_in gradient_in speed_in adhesion_in track_in authority_in end_in known required optional number key_names train_fault national_fault track_fault gradients_fault speeds_fault areas_fault
+unfolding document tables members data_of root_in band_in train_in national_in gradient_in speed_in adhesion_in
+    track_in authority_in end_in known required optional number key_names train_fault national_fault track_fault
+    gradients_fault speeds_fault areas_fault
 approach = refl
 
 -- a train of 0 cm, and a second gradient without `grad`, its second key: the missing key comes first
 refused_data :
-    data_of (document (pos 0) ((codes "gradient", tables (((codes "start", integer (pos 0)) ∷ (codes "grad", integer (pos 0)) ∷ []) ∷ ((codes "start", integer (pos 50_000)) ∷ []) ∷ [])) ∷ []))
+    data_of (document (pos 0) ((
+      codes "gradient",
+      tables (((codes "start", integer (pos 0))
+          ∷ (codes "grad", integer (pos 0)) ∷ []) ∷ ((codes "start", integer (pos 50_000)) ∷ []) ∷ []),
+    ) ∷ []))
     ≡ Err (Missing (record { section = Gradient; index = 2; key = 2 }))
-unfolding document tables members data_of root_in band_in train_in national_in gradient_in speed_in adhesion_in track_in authority_in end_in known required optional number key_names
+unfolding document tables members data_of root_in band_in train_in national_in gradient_in speed_in adhesion_in
+    track_in authority_in end_in known required optional number key_names
 refused_data = refl

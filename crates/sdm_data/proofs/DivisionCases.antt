@@ -10,7 +10,8 @@ unfolding divide
 divided = refl
 
 -- no input at all; a space, a letter or a third sign; CR at the end of the input; a byte order mark
-not_divided : map divide ([] ∷ codes "%% \n" ∷ codes " %%\n" ∷ codes "a%%\n" ∷ codes "%%%\n" ∷ codes "%\n" ∷ codes "%%\r" ∷ (239 ∷ 187 ∷ 191 ∷ codes "%%\n") ∷ [])
+not_divided : map divide ([] ∷ codes "%% \n" ∷ codes " %%\n" ∷ codes "a%%\n" ∷ codes "%%%\n" ∷ codes "%\n"
+    ∷ codes "%%\r" ∷ (239 ∷ 187 ∷ 191 ∷ codes "%%\n") ∷ [])
     ≡ None ∷ None ∷ None ∷ None ∷ None ∷ None ∷ None ∷ None ∷ []
 unfolding divide
 not_divided = refl

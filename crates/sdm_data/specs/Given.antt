@@ -29,7 +29,12 @@ with_first_bands t = record t { bands = take most_bands t.bands }
 
 -- the track that was given
 abbrev pub given_track : GivenTrack → TrackData
-given_track t = record { length_cm = t.length; gradients = t.gradients.items; speeds = t.speeds.items; areas = t.areas.items }
+given_track t = record {
+  length_cm = t.length;
+  gradients = t.gradients.items;
+  speeds = t.speeds.items;
+  areas = t.areas.items;
+}
 
 -- the data of a journey but for its authority
 abbrev pub train_and_track_of : JourneyData → TrainAndTrack

@@ -14,8 +14,8 @@ abbrev pub unless_broken : {A F : Type 0} → (F → DataFault) → Option F →
 unless_broken fault None kept = Ok kept
 unless_broken fault (Some f) kept = Err (fault f)
 
--- Section by section in the order root, train with its bands, national values, track with its lists, authority; and then the
--- rules of the train, of the national values and of the track.
+-- Section by section in the order root, train with its bands, national values, track with its lists, authority; and
+-- then the rules of the train, of the national values and of the track.
 unfoldable pub data_of : Members → Result (TrainAndTrack × Authority) DataFault
 data_of members = do
   root ← root_in members

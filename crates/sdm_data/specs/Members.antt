@@ -1,8 +1,10 @@
 -- A section of the data part: what a key of it holds, or the rule that is broken there (own).
-use Rattle.std.specs.Prelude.{ℕ, suc, ◌-◌, ◌^◌, min, ℤ, pos, unsigned_abs, Bool, not, is_some, if◌then◌else◌, List, [], ◌∷◌, Option, Some, None, Result, Ok, Err, option_and_then}
+use Rattle.std.specs.Prelude.{ℕ, suc, ◌-◌, ◌^◌, min, ℤ, pos, unsigned_abs, Bool, not, is_some, if◌then◌else◌, List, []}
+use Rattle.std.specs.Prelude.{◌∷◌, Option, Some, None, Result, Ok, Err, option_and_then}
 use Rattle.std.specs.List.{list_any, list_all, filter_map}
 use Rattle.std.specs.Str.{bytes_eq}
-use Rattle.toml.specs.Data.{Data, Items, no_items, item, Members, no_members, member, get_member, as_array, as_integer, as_table}
+use Rattle.toml.specs.Data.{Data, Items, no_items, item, Members, no_members, member, get_member, as_array, as_integer}
+use Rattle.toml.specs.Data.{as_table}
 use Rattle.sdm_rules.specs.declared.faults.Section.{Section}
 use Rattle.sdm_rules.specs.declared.faults.At.{At}
 use Rattle.sdm_rules.specs.declared.faults.DataFault.{DataFault}
@@ -77,7 +79,8 @@ optional kind s key = if_there (of_kind kind s key) (found s key)
 
 -- a number of a key, from `least` to `greatest`; else Value
 abbrev pub within : SectionMembers → ℕ → ℕ → ℕ → ℤ → Result ℕ DataFault
-within s key least greatest n = if is_within (pos least) (pos greatest) n then Ok (unsigned_abs n) else Err (Value (at s key))
+within s key least greatest n =
+    if is_within (pos least) (pos greatest) n then Ok (unsigned_abs n) else Err (Value (at s key))
 
 -- the number, from `least` to `greatest`, that a key must hold: Missing, WrongKind, Value
 unfoldable pub number : SectionMembers → ℕ → ℕ → ℕ → Result ℕ DataFault
@@ -92,7 +95,8 @@ values_of (item value more) = value ∷ values_of more
 
 -- values that are all tables, as these
 abbrev pub all_tables : List Data → Option (List Members)
-all_tables values = if list_all (λ value. is_some (as_table value)) values then Some (filter_map as_table values) else None
+all_tables values =
+    if list_all (λ value. is_some (as_table value)) values then Some (filter_map as_table values) else None
 
 -- an array that holds nothing but tables, as these
 abbrev pub as_tables : Data → Option (List Members)
@@ -102,9 +106,10 @@ as_tables value = option_and_then (λ items. all_tables (values_of items)) (as_a
 abbrev pub after : ℕ → ℕ
 after index = min (suc index) (2 ^ 32 - 1)
 
--- The entries of a list of tables, of which the first has this index: each as `read` defines it, or the first rule that one
--- of them breaks.
-abbrev pub entries_from : {A : Type 0} → (ℕ → Members → Result A DataFault) → ℕ → List Members → Result (List A) DataFault
+-- The entries of a list of tables, of which the first has this index: each as `read` defines it, or the first rule
+-- that one of them breaks.
+abbrev pub entries_from : {A : Type 0} → (ℕ → Members → Result A DataFault) → ℕ → List Members →
+    Result (List A) DataFault
 entries_from read index [] = Ok []
 entries_from read index (table ∷ more) = do
   entry ← read index table

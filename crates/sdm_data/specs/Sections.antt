@@ -1,5 +1,5 @@
--- What each section of the data part holds, or the first rule that it breaks: UnknownKey, and then key by key Missing, WrongKind
--- and, for some, Value (own).
+-- What each section of the data part holds, or the first rule that it breaks: UnknownKey, and then key by key Missing,
+-- WrongKind and, for some, Value (own).
 use Rattle.std.specs.Prelude.{ℕ, pos, true, List, [], Option, Result, Ok, Err, codes, unwrap_or, if◌then◌else◌}
 use Rattle.std.specs.Str.{bytes_eq}
 use Rattle.toml.specs.Data.{Members, as_integer, as_bool, as_str, as_table}
@@ -19,7 +19,8 @@ use Rattle.sdm_rules.specs.FaultLines.{key_names}
 use Rattle.sdm_rules.specs.Ranges.{longest_track, top_kmh}
 use Rattle.sdm_data.specs.declared.versions.Version.{Version}
 use Rattle.sdm_data.specs.Versions.{version_of, known_keys, end_keys, limit_keys}
-use Rattle.sdm_data.specs.Members.{◌>>=◌, SectionMembers, section_of, at, or_fault, known, required, optional, within, number, as_tables, entries_from}
+use Rattle.sdm_data.specs.Members.{◌>>=◌, SectionMembers, section_of, at, or_fault, known, required, optional, within}
+use Rattle.sdm_data.specs.Members.{number, as_tables, entries_from}
 
 -- ---- the root
 
@@ -59,7 +60,17 @@ band_in version index members = do
   kwet ← required as_integer band keys.BAND_KWET
   kn_up ← required as_integer band keys.BAND_KN_UP
   kn_down ← required as_integer band keys.BAND_KN_DOWN
-  Ok (record { upper = upper; emergency = emergency; service = service; normal = normal; kdry = kdry; kwet = kwet; kn_up = kn_up; kn_down = kn_down })
+  Ok (record {
+    upper = upper;
+    emergency = emergency;
+    service = service;
+    normal = normal;
+    kdry = kdry;
+    kwet =
+        kwet;
+    kn_up = kn_up;
+    kn_down = kn_down;
+  })
 
 -- the train with all the bands that are given
 unfoldable pub train_in : Version → Members → Result TrainData DataFault

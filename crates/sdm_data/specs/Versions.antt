@@ -1,4 +1,5 @@
--- The versions of the data part, and the keys that its sections may have by them, of those that `key_names` numbers (own).
+-- The versions of the data part, and the keys that its sections may have by them, of those that `key_names` numbers
+-- (own).
 use Rattle.std.specs.Prelude.{ℕ, ℤ, pos, List, Option, Some, None, ◌++◌, take, drop, if◌then◌else◌}
 use Rattle.std.specs.Ordering.{int_eq}
 use Rattle.sdm_rules.specs.declared.faults.Section.{Section}

@@ -7,7 +7,8 @@ ghost use Rattle.std.specs.Str.{bytes_eq};
 ghost use Rattle.toml.specs.Data.{get_member, as_bool, as_integer, as_str, as_table};
 ghost use Rattle.toml.specs.View.{view, table_view};
 ghost use Rattle.sdm_data.specs.Versions.{known_keys};
-ghost use Rattle.sdm_data.specs.Members.{as_tables, at, found, known, number, optional, or_fault, required, section_of, within};
+ghost use Rattle.sdm_data.specs.Members.{as_tables, at, found, known, number, optional, or_fault, required};
+ghost use Rattle.sdm_data.specs.Members.{section_of, within};
 ghost use Rattle.sdm_data.specs.Views.{members_of, seen, tables_in};
 
 use crate::versions::{Version, known_keys};

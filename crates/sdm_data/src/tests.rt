@@ -1,5 +1,6 @@
-//! Whole data parts, read to their values, and the first rule that is broken, as tables of text. The clauses say that code
-//! and definition agree; the rows show that both mean what the profile wants. Every expected value is worked by hand.
+//! Whole data parts, read to their values, and the first rule that is broken, as tables of text. The clauses say that
+//! code and definition agree; the rows show that both mean what the profile wants. Every expected value is worked by
+//! hand.
 
 mod data_parts;
 mod faults;
@@ -86,7 +87,8 @@ fn told_data(alloc: Global, data: &JourneyData) -> Result<String, AllocError> {
     Ok(text)
 }
 
-/// Length, greatest speed, rotating mass, cut-off time and interface, emergency and service time, service brake; the bands.
+/// Length, greatest speed, rotating mass, cut-off time and interface, emergency and service time, service brake; the
+/// bands.
 fn told_train(alloc: Global, data: &JourneyData, text: &mut String) -> Result<(), AllocError> {
     let train = &data.train;
     let (length, max_speed, mass) = (train.length(), train.max_speed(), train.rotating_mass());

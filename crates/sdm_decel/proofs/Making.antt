@@ -1,6 +1,7 @@
--- What a map is made of is well formed, and gives the slopes of the kind in every band and cell: the slope of a stretch is
--- that of its first cell, and the same lies under the train in all its cells.
-use Rattle.std.proofs.Common.{◌≡◌, ℕ, ℤ, pos, List, map, length, get_or, slice_get, ◌+◌, ◌*◌, ◌^◌, ◌≤◌, ap, sym, subst, refl, ◌∙◌}
+-- What a map is made of is well formed, and gives the slopes of the kind in every band and cell: the slope of a
+-- stretch is that of its first cell, and the same lies under the train in all its cells.
+use Rattle.std.proofs.Common.{◌≡◌, ℕ, ℤ, pos, List, map, length, get_or, slice_get, ◌+◌, ◌*◌, ◌^◌, ◌≤◌, ap, sym, subst}
+use Rattle.std.proofs.Common.{refl, ◌∙◌}
 use Rattle.std.specs.Int.{int_max}
 use Rattle.std.specs.Option.{option_map_or}
 use Rattle.std.proofs.lemmas.List.{length-map}
@@ -32,12 +33,15 @@ unders d starts = map (under_train d.track d.train.length_cm) starts
 as_many : (d : TrainAndTrack) (starts : List ℤ) → length (unders d starts) ≡ length starts
 as_many d starts = length-map starts (under_train d.track d.train.length_cm)
 
-module _ (kind : SlopeKind) (d : TrainAndTrack) (q : ℕ) (uppers : List ℕ) (starts slopes : List ℤ) (parts : AreParts kind d uppers starts slopes) (q_is : q ≡ q_of d.train.rotating_mass) (low_q : 100 ≤ q) (high_q : q ≤ 11_730) where
+module _ (kind : SlopeKind) (d : TrainAndTrack) (q : ℕ) (uppers : List ℕ) (starts slopes : List ℤ)
+    (parts : AreParts kind d uppers starts slopes) (q_is : q ≡ q_of d.train.rotating_mass) (low_q : 100 ≤ q)
+    (high_q : q ≤ 11_730) where
   count : bands_of uppers ≡ length d.train.bands
   count = rw parts.uppers_are (count_uppers d.train.bands parts.train.bands)
 
   lengths : length slopes ≡ bands_of uppers * length starts
-  lengths = ap length parts.slopes_are ∙ length_rows (slope_in_band kind d) (unders d starts) d.train.bands ∙ rw (as_many d starts, ← count) refl
+  lengths = ap length parts.slopes_are ∙ length_rows (slope_in_band kind d) (unders d starts) d.train.bands
+      ∙ rw (as_many d starts, ← count) refl
 
   pub map_data_is : IsMapData (map_data q uppers starts slopes)
   map_data_is = record {
@@ -46,33 +50,54 @@ module _ (kind : SlopeKind) (d : TrainAndTrack) (q : ℕ) (uppers : List ℕ) (s
     uppers = rw parts.uppers_are (uppers_are d.train.bands parts.train.bands);
     starts = parts.stretches.starts;
     lengths = lengths;
-    bounded = λ k l. (let near = small_of _ (10 ^ 15) (parts.small k (pos 0) l) in record { low = near.0; high = near.1 });
+    bounded =
+        λ k l. (let near = small_of _ (10 ^ 15) (parts.small k (pos 0) l) in record { low = near.0; high = near.1 });
   }
 
   -- the track under the train in the cells of a stretch
-  under_is : (c : ℤ) → get_or (unders d starts) (segment_of starts c) (under_train d.track d.train.length_cm (pos 0)) ≡ under_train d.track d.train.length_cm (int_max c (pos 0))
-  under_is c = get_or-map (under_train d.track d.train.length_cm) starts (segment_of starts c) (pos 0) ∙ sym (parts.stretches.same c)
+  under_is : (c : ℤ) → get_or (unders d starts) (segment_of starts c) (under_train d.track d.train.length_cm (pos 0))
+      ≡ under_train d.track d.train.length_cm (int_max c (pos 0))
+  under_is c = get_or-map (under_train d.track d.train.length_cm) starts (segment_of starts c) (pos 0)
+      ∙ sym (parts.stretches.same c)
 
-  slope_is : (band : ℕ) (c : ℤ) → slope_at kind d band c ≡ slope_in (map_data q uppers starts slopes) band (segment_of starts c)
+  slope_is : (band : ℕ) (c : ℤ) →
+      slope_at kind d band c ≡ slope_in (map_data q uppers starts slopes) band (segment_of starts c)
   unfolding slope_at
   slope_is band c =
       let i = segment_of starts c in
       let many = length (unders d starts) in
       let here = under_train d.track d.train.length_cm (pos 0) in
-      let row : get_or slopes (band * many + i) (pos 0) ≡ option_map_or (λ (b : Band). slope_in_band kind d b (get_or (unders d starts) i here)) (slice_get d.train.bands band) (pos 0) =
-      ap (λ (xs : List ℤ). get_or xs (band * many + i) (pos 0)) parts.slopes_are ∙ get_or-rows (slope_in_band kind d) (unders d starts) d.train.bands band i here (rw (as_many d starts) (segment_known starts c parts.stretches.starts)) in
-      sym (ap (λ (n : ℕ). get_or slopes (band * n + i) (pos 0)) (sym (as_many d starts)) ∙ row ∙ ap (λ (u : UnderTrain). option_map_or (λ (b : Band). slope_in_band kind d b u) (slice_get d.train.bands band) (pos 0)) (under_is c))
+      let row : get_or slopes (band * many + i) (pos 0) ≡ option_map_or
+      (λ (b : Band). slope_in_band kind d b (get_or (unders d starts) i here)) (slice_get d.train.bands band)
+      (pos 0) =
+      ap (λ (xs : List ℤ). get_or xs (band * many + i) (pos 0)) parts.slopes_are
+      ∙ get_or-rows (slope_in_band kind d) (unders d starts) d.train.bands band i here
+      (rw (as_many d starts) (segment_known starts c parts.stretches.starts)) in
+      sym (ap (λ (n : ℕ). get_or slopes (band * n + i) (pos 0)) (sym (as_many d starts)) ∙ row
+      ∙ ap (λ (u : UnderTrain).
+      option_map_or (λ (b : Band). slope_in_band kind d b u) (slice_get d.train.bands band) (pos 0)) (under_is c))
 
   gives : Gives kind d (map_data q uppers starts slopes)
-  gives = record { q = q_is; uppers = parts.uppers_are; bands = count; starts = parts.stretches.starts; slope = λ band lt c. slope_is band c }
+  gives = record {
+    q = q_is;
+    uppers = parts.uppers_are;
+    bands = count;
+    starts = parts.stretches.starts;
+    slope =
+        λ band lt c. slope_is band c;
+  }
 
   -- ---- what comes of them
 
-  pub stands_for : (m : SlopeMap) → handed_in m ≡ map_data q uppers starts slopes → AreAccepted (map_data q uppers starts slopes) → meaning_of m ≡ slopes_of kind d
-  stands_for m is accepted = meaning_kind kind d (map_data q uppers starts slopes) gives m (rw is (record { well_formed = map_data_is; accepted = accepted })) is
+  pub stands_for : (m : SlopeMap) → handed_in m ≡ map_data q uppers starts slopes →
+      AreAccepted (map_data q uppers starts slopes) → meaning_of m ≡ slopes_of kind d
+  stands_for m is accepted = meaning_kind kind d (map_data q uppers starts slopes) gives m
+      (rw is (record { well_formed = map_data_is; accepted = accepted })) is
 
-  pub stretches_kept : (m : SlopeMap) → handed_in m ≡ map_data q uppers starts slopes → AreStretches d.track d.train.length_cm m.starts
-  stretches_kept m is = subst (λ (xs : List ℤ). AreStretches d.track d.train.length_cm xs) (sym (ap (λ (x : MapData). x.starts) is)) parts.stretches
+  pub stretches_kept : (m : SlopeMap) → handed_in m ≡ map_data q uppers starts slopes →
+      AreStretches d.track d.train.length_cm m.starts
+  stretches_kept m is = subst (λ (xs : List ℤ). AreStretches d.track d.train.length_cm xs)
+      (sym (ap (λ (x : MapData). x.starts) is)) parts.stretches
 
   pub accepts : AreAccepted (map_data q uppers starts slopes) → IsAcceptedKind kind d
   accepts h = accepted_kind kind d (map_data q uppers starts slopes) gives h

@@ -1,6 +1,7 @@
--- The same lies under the train with its front end in two cells, where nothing changes past the first up to the second: each
--- gradient has begun for both or for neither, and each area is in force for both or for neither.
-use Rattle.std.proofs.Common.{◌≡◌, ℕ, suc, ℤ, pos, List, [], ◌∷◌, length, get_or, Bool, int_le, int_lt, ◌<◌, ◌+ℤ◌, ◌≤ℤ◌, ◌<ℤ◌, refl, sym, ◌∙◌, ap₂, arith}
+-- The same lies under the train with its front end in two cells, where nothing changes past the first up to the
+-- second: each gradient has begun for both or for neither, and each area is in force for both or for neither.
+use Rattle.std.proofs.Common.{◌≡◌, ℕ, suc, ℤ, pos, List, [], ◌∷◌, length, get_or, Bool, int_le, int_lt, ◌<◌, ◌+ℤ◌}
+use Rattle.std.proofs.Common.{◌≤ℤ◌, ◌<ℤ◌, refl, sym, ◌∙◌, ap₂, arith}
 use Rattle.std.proofs.lemmas.Int.{ints, by_lt_z}
 use Rattle.sdm_num.proofs.Comparisons.{le_is, not_le_is, lt_is, not_lt_is}
 use Rattle.sdm_rules.specs.declared.data.Area.{Area}
@@ -29,31 +30,40 @@ module _ (s c : ℤ) (le : s ≤ℤ c) where
 
   -- ---- gradients
 
-  last_same : {E V : Type 0} (start : E → ℤ) (value : E → V) (es : List E) (before : V) → ((k : ℕ) (d : E) → k < length es → IsBegun s c (start (get_or es k d))) →
+  last_same : {E V : Type 0} (start : E → ℤ) (value : E → V) (es : List E) (before : V) →
+      ((k : ℕ) (d : E) → k < length es → IsBegun s c (start (get_or es k d))) →
       last_at start value es c before ≡ last_at start value es s before
   last_same start value [] before h = refl
-  last_same start value (x ∷ xs) before h = rw (le_same (start x) (h 0 x (omega arith))) (last_same start value xs _ (λ k d l. h (suc k) d (omega arith)))
+  last_same start value (x ∷ xs) before h =
+      rw (le_same (start x) (h 0 x (omega arith))) (last_same start value xs _ (λ k d l. h (suc k) d (omega arith)))
 
-  value_same : {E V : Type 0} (start : E → ℤ) (value : E → V) (none : V) (es : List E) → ((k : ℕ) (d : E) → k < length es → IsBegun s c (start (get_or es k d))) →
+  value_same : {E V : Type 0} (start : E → ℤ) (value : E → V) (none : V) (es : List E) →
+      ((k : ℕ) (d : E) → k < length es → IsBegun s c (start (get_or es k d))) →
       value_at start value none es c ≡ value_at start value none es s
   value_same start value none [] h = refl
   value_same start value none (x ∷ xs) h = last_same start value xs (value x) (λ k d l. h (suc k) d (omega arith))
 
   -- ---- areas
 
-  any_same : (length_cm : ℤ) (areas : List Area) → ((k : ℕ) (d : Area) → k < length areas → IsBegun s c (get_or areas k d).start) → ((k : ℕ) (d : Area) → k < length areas → IsBegun s c ((get_or areas k d).end +ℤ length_cm)) →
+  any_same : (length_cm : ℤ) (areas : List Area) → ((k : ℕ) (d : Area) → k < length areas →
+      IsBegun s c (get_or areas k d).start) →
+      ((k : ℕ) (d : Area) → k < length areas → IsBegun s c ((get_or areas k d).end +ℤ length_cm)) →
       any_in_force areas length_cm c ≡ any_in_force areas length_cm s
   any_same length_cm [] starts ends = refl
   any_same length_cm (a ∷ more) starts ends =
       let front = le_same a.start (starts 0 a (omega arith)) in
       let rear = lt_same (a.end +ℤ length_cm) (ends 0 a (omega arith)) in
-      let rest = any_same length_cm more (λ k d l. starts (suc k) d (omega arith)) (λ k d l. ends (suc k) d (omega arith)) in
+      let rest = any_same length_cm more (λ k d l. starts (suc k) d (omega arith))
+      (λ k d l. ends (suc k) d (omega arith)) in
       cc
 
   -- ---- the track under the train
 
-  pub under_same : (track : TrackData) (length_cm : ℕ) (segments : List Segment) → AreGradientsUnder track length_cm segments → ((k : ℕ) (d : Segment) → k < length segments → IsBegun s c (get_or segments k d).start) →
-      ((k : ℕ) (d : Area) → k < length track.areas → IsBegun s c (get_or track.areas k d).start) → ((k : ℕ) (d : Area) → k < length track.areas → IsBegun s c ((get_or track.areas k d).end +ℤ pos length_cm)) →
+  pub under_same : (track : TrackData) (length_cm : ℕ) (segments : List Segment) →
+      AreGradientsUnder track length_cm segments →
+      ((k : ℕ) (d : Segment) → k < length segments → IsBegun s c (get_or segments k d).start) →
+      ((k : ℕ) (d : Area) → k < length track.areas → IsBegun s c (get_or track.areas k d).start) →
+      ((k : ℕ) (d : Area) → k < length track.areas → IsBegun s c ((get_or track.areas k d).end +ℤ pos length_cm)) →
       under_train track (pos length_cm) c ≡ under_train track (pos length_cm) s
   under_same track length_cm segments given gradients starts ends =
       let grad = sym (given.at c) ∙ value_same (λ x. x.start) (λ x. x.value) (pos 0) segments gradients ∙ given.at s in

@@ -1,5 +1,6 @@
 -- Sizes of whole numbers: what fits, and how large products are.
-use Rattle.std.proofs.Common.{◌≡◌, ℕ, ℤ, pos, negsuc, neg_ℤ, ◌+◌, ◌-◌, ◌*◌, ◌^◌, ◌<◌, ◌≤◌, ◌-ℤ◌, ◌*ℤ◌, ◌≤ℤ◌, unsigned_abs, FitsSigned, w64, to_z, of_z, refl, arith}
+use Rattle.std.proofs.Common.{◌≡◌, ℕ, ℤ, pos, negsuc, neg_ℤ, ◌+◌, ◌-◌, ◌*◌, ◌^◌, ◌<◌, ◌≤◌, ◌-ℤ◌, ◌*ℤ◌, ◌≤ℤ◌}
+use Rattle.std.proofs.Common.{unsigned_abs, FitsSigned, w64, to_z, of_z, refl, arith}
 use Rattle.std.proofs.lemmas.Int.{ints, to_z-of_z, fits_signed_from_abs, unsigned_abs-mul}
 use Rattle.std.proofs.Math.Nat.{mul-le-mul}
 use Rattle.sdm_rules.specs.declared.data.Band.{Band}
@@ -21,7 +22,8 @@ size_of (pos n) m h = omega (arith, ints, h.0, h.1)
 size_of (negsuc n) m h = omega (arith, ints, h.0, h.1)
 
 pub product_small : (a : ℕ) (b : ℤ) (m n : ℕ) → a ≤ m → IsSmall n b → IsSmall (m * n) (pos a *ℤ b)
-product_small a b m n le small = small_of (pos a *ℤ b) (m * n) (rw (unsigned_abs-mul (pos a) b) (mul-le-mul le (size_of b n small)))
+product_small a b m n le small =
+    small_of (pos a *ℤ b) (m * n) (rw (unsigned_abs-mul (pos a) b) (mul-le-mul le (size_of b n small)))
 
 pub fits : (x : ℤ) (m : ℕ) → IsSmall m x → m < 2 ^ 63 → FitsSigned w64 x
 fits x m small lt = fits_signed_from_abs w64 x (omega (arith, size_of x m small))
@@ -42,7 +44,8 @@ rest m (negsuc n) low high = absurd (omega (arith, ints))
 
 -- the emergency brake's deceleration, in naturals
 pub brake_safe_is : (avadh : ℕ) (b : Band) → IsBand b →
-    pos (unsigned_abs b.kdry * (20 * unsigned_abs b.kwet + avadh * (1000 - unsigned_abs b.kwet)) * unsigned_abs b.emergency)
+    pos (unsigned_abs b.kdry * (20 * unsigned_abs b.kwet + avadh * (1000 - unsigned_abs b.kwet))
+    * unsigned_abs b.emergency)
     ≡ brake_safe (pos avadh) b b.emergency
 brake_safe_is avadh b h =
     let kdry = nat_is b.kdry (omega (arith, ints, h.kdry.0)) in

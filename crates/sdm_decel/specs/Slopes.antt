@@ -25,18 +25,21 @@ train_and_track_from train national track = record { train = train; national = n
 
 -- the slopes of the bands, one for each of the tracks under the train, all those of the first band first
 abbrev pub slopes_of_bands : SlopeKind → TrainData → NationalFields → List UnderTrain → List Band → List ℤ
-slopes_of_bands kind train national unders bands = flat_map (λ b. map (λ u. slope_under kind train national u b) unders) bands
+slopes_of_bands kind train national unders bands =
+    flat_map (λ b. map (λ u. slope_under kind train national u b) unders) bands
 
 -- what the map of a kind is made of: upper speeds, first cells of the stretches, and slopes within 10^15 of 0
 pub record AreParts (kind : SlopeKind) (d : TrainAndTrack) (uppers : List ℕ) (starts slopes : List ℤ) : Type 0 where
   pub train : IsTrain d.train
   pub uppers_are : uppers ≡ uppers_of d.train.bands
   pub stretches : AreStretches d.track d.train.length_cm starts
-  pub slopes_are : slopes ≡ slopes_of_bands kind d.train d.national (map (under_train d.track d.train.length_cm) starts) d.train.bands
+  pub slopes_are : slopes
+      ≡ slopes_of_bands kind d.train d.national (map (under_train d.track d.train.length_cm) starts) d.train.bands
   pub small : All (λ z. unsigned_abs z ≤ 10 ^ 15) slopes
 
 -- the first fault of the slopes of a kind, over all cells from 0 on; want of memory may come at any time
 abbrev pub IsFaultOfKind : SlopeKind → TrainAndTrack → CurveFault → Type 0
-IsFaultOfKind kind d (TooWeak band cell slope) = IsNthFrom1 band (λ b. (c : ℕ) × (cell ≡ pos c) × IsFirstWeak kind d b c slope)
+IsFaultOfKind kind d (TooWeak band cell slope) =
+    IsNthFrom1 band (λ b. (c : ℕ) × (cell ≡ pos c) × IsFirstWeak kind d b c slope)
 IsFaultOfKind kind d (TooVaried band least greatest) = IsNthFrom1 band (λ b. IsFirstVaried kind d b least greatest)
 IsFaultOfKind kind d Memory = ⊤

@@ -1,5 +1,7 @@
--- The cells of the front end where what lies under the train may change, and the segments of track that begin there (own).
-use Rattle.std.specs.Prelude.{◌≡◌, ℕ, ℤ, pos, List, [], ◌∷◌, map, All, length, slice_index_or, unsigned_abs, ◌+◌, ◌≤◌, ◌+ℤ◌, ◌≤ℤ◌}
+-- The cells of the front end where what lies under the train may change, and the segments of track that begin there
+-- (own).
+use Rattle.std.specs.Prelude.{◌≡◌, ℕ, ℤ, pos, List, [], ◌∷◌, map, All, length, slice_index_or, unsigned_abs, ◌+◌, ◌≤◌}
+use Rattle.std.specs.Prelude.{◌+ℤ◌, ◌≤ℤ◌}
 use Rattle.std.specs.Int.{int_max}
 use Rattle.std.specs.List.{flat_map}
 use Rattle.sdm_rules.specs.declared.data.Area.{Area}
@@ -24,10 +26,11 @@ gradient_starts segments = map (λ s. unsigned_abs s.start) segments
 abbrev pub area_ends : ℕ → List Area → List ℕ
 area_ends length_cm areas = flat_map (λ a. unsigned_abs a.start ∷ unsigned_abs (a.end +ℤ pos length_cm) ∷ []) areas
 
--- the first cells of the segments of track in each of which the same lies under the train; what lies under it before cell 0 is
--- taken as at cell 0
+-- the first cells of the segments of track in each of which the same lies under the train; what lies under it before
+-- cell 0 is taken as at cell 0
 pub record AreStretches (track : TrackData) (length_cm : ℤ) (cells : List ℤ) : Type 0 where
   pub starts : AreStarts cells
   pub few : length cells ≤ 2_000
   pub near : All (λ s. s ≤ℤ pos (longest_track + longest_train)) cells
-  pub same : (c : ℤ) → under_train track length_cm (int_max c (pos 0)) ≡ under_train track length_cm (slice_index_or cells (segment_of cells c) (pos 0))
+  pub same : (c : ℤ) → under_train track length_cm (int_max c (pos 0))
+      ≡ under_train track length_cm (slice_index_or cells (segment_of cells c) (pos 0))

@@ -1,5 +1,5 @@
-//! Where what lies under the train may change: where the gradient under it does, where an area of a list begins, and where its
-//! rear end has left one. Between two such cells the decelerations stay the same.
+//! Where what lies under the train may change: where the gradient under it does, where an area of a list begins, and
+//! where its rear end has left one. Between two such cells the decelerations stay the same.
 
 ghost use Rattle.std.specs.Prelude.{◌≡◌, ℕ, ℤ, pos, ◌++◌, map, All, Contains, IfOk, OnOk, length, ◌+◌, ◌≤◌};
 ghost use Rattle.std.specs.List.Sorted.{IsStrictlyIncreasing};
@@ -22,7 +22,8 @@ fn push_gradients(cells: &mut Vec<u32>, segments: &Segments) -> Result<(), NoMem
     Ok(())
 }
 
-/// Adds where the areas of a list come into force and where the rear end of a train of this length in cm has left them.
+/// Adds where the areas of a list come into force and where the rear end of a train of this length in cm has left
+/// them.
 fn push_areas(cells: &mut Vec<u32>, areas: &[Area], length_cm: u32) -> Result<(), NoMemory>
     requires areas { All (IsArea (pos longest_track)) areas.now }
     requires length { length_cm ≤ longest_train }

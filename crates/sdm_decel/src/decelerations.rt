@@ -1,7 +1,9 @@
-//! The decelerations of SUBSET-026-3 3.13.6 in whole numbers of 1/Q m/s², with Q = 2·10⁹·q: in this unit each is exact.
+//! The decelerations of SUBSET-026-3 3.13.6 in whole numbers of 1/Q m/s², with Q = 2·10⁹·q: in this unit each is
+//! exact.
 
 ghost use Rattle.std.specs.Prelude.{◌≡◌, ℤ, pos, neg_ℤ, unsigned_abs, ◌^◌, ◌+◌, ◌-◌, ◌*◌, ◌*ℤ◌, ◌<◌, ◌≤◌, ◌≤ℤ◌};
-ghost use Rattle.sdm_rules.specs.Decelerations.{q_of, brake_safe, brake_under, mass_factor, a_gradient, kn_of, kn_term, slope_under};
+ghost use Rattle.sdm_rules.specs.Decelerations.{q_of, brake_safe, brake_under, mass_factor, a_gradient, kn_of};
+ghost use Rattle.sdm_rules.specs.Decelerations.{kn_term, slope_under};
 ghost use Rattle.sdm_rules.specs.Ranges.{steepest};
 ghost use Rattle.sdm_decel.specs.Slopes.{brake_of};
 ghost use Rattle.sdm_train.specs.Trains.{IsBand};
@@ -48,7 +50,8 @@ fn scaled<const M: u32, const N: u64>(a: u32, b: i64) -> i64
     i64::from(a) * b
 }
 
-/// q: 100 plus the rotating mass in percent; 102 · 115 where it is not known, for both values that are then taken. (own unit)
+/// q: 100 plus the rotating mass in percent; 102 · 115 where it is not known, for both values that are then taken.
+/// (own unit)
 pub fn q_of(train: &Train) -> u32
     ensures value { result ≡ q_of train.now.rotating_mass }
     ensures least { 100 ≤ result }
@@ -60,8 +63,8 @@ pub fn q_of(train: &Train) -> u32
     }
 }
 
-/// Where the rotating mass is not known, 15 percent are taken uphill and 2 percent downhill: with q = 102 · 115 this leaves
-/// the factor 102 uphill and 115 downhill. (SUBSET-026-3 3.13.4.3; own values)
+/// Where the rotating mass is not known, 15 percent are taken uphill and 2 percent downhill: with q = 102 · 115 this
+/// leaves the factor 102 uphill and 115 downhill. (SUBSET-026-3 3.13.4.3; own values)
 fn mass_factor(rotating_mass: Option<i64>, grad: i64) -> i64
     ensures value { result ≡ mass_factor rotating_mass grad }
     ensures range { (pos 1 ≤ℤ result) × (result ≤ℤ pos 115) }
@@ -93,7 +96,8 @@ fn weighted_kwet(avadh: u64, kwet: u64) -> u64
     20 * kwet + product::<20, 1000>(avadh, 1000 - kwet)
 }
 
-/// Kdry_rst · (Kwet_rst + M_NVAVADH · (1 − Kwet_rst)) · A_brake_emergency, in 1/(2·10⁹) m/s². (SUBSET-026-3 3.13.6.2.1)
+/// Kdry_rst · (Kwet_rst + M_NVAVADH · (1 − Kwet_rst)) · A_brake_emergency, in 1/(2·10⁹) m/s². (SUBSET-026-3
+/// 3.13.6.2.1)
 #[tactic(auto, using(crate::proofs::Sizes::brake_safe_is))]
 fn brake_safe(avadh: u64, band: &Band) -> u64
     requires avadh { avadh ≤ 20 }
@@ -140,8 +144,8 @@ fn kn_term(band: &Band, grad: i64) -> i64
     scaled::<GREATEST_KN, STEEPEST>(KN_UNIT * kn_of(band, grad), grad)
 }
 
-/// What the brakes give, in 1/(2·10⁹) m/s²: A_brake_safe, A_brake_service, or A_brake_normal_service less Kn · grad / 1000.
-/// Reduced adhesion counts for the emergency brake alone. (SUBSET-026-3 3.13.6.2, 3.13.6.3, 3.13.6.4)
+/// What the brakes give, in 1/(2·10⁹) m/s²: A_brake_safe, A_brake_service, or A_brake_normal_service less Kn · grad /
+/// 1000. Reduced adhesion counts for the emergency brake alone. (SUBSET-026-3 3.13.6.2, 3.13.6.3, 3.13.6.4)
 fn brake(kind: SlopeKind, national: &National, under: Under, band: &Band) -> i64
     requires { IsBand band.now }
     ensures value { result ≡ brake_of kind national.now under band.now }

@@ -134,12 +134,12 @@ pub fn slope_map(
     )
 }
 
-/// The map of A_safe, on which emergency brake deceleration curves stand (SUBSET-026-3 3.13.6.2, 3.13.8.3): the slopes of the
-/// definitions in every band and cell, before the track and past its end too. A segment begins at each cell where the gradient
-/// under the train or the adhesion changes: at most 2,000 segments, none past cell 10,150,000. TooWeak comes exactly where a
-/// slope is below 0.05 m/s², with the first by bands, counted from 1, and then by cells from 0 on; TooVaried exactly where none
-/// is and in some band the greatest slope is too many times the least, with the first such band. Both yield to Memory. (limits
-/// own)
+/// The map of A_safe, on which emergency brake deceleration curves stand (SUBSET-026-3 3.13.6.2, 3.13.8.3): the slopes
+/// of the definitions in every band and cell, before the track and past its end too. A segment begins at each cell
+/// where the gradient under the train or the adhesion changes: at most 2,000 segments, none past cell 10,150,000.
+/// TooWeak comes exactly where a slope is below 0.05 m/s², with the first by bands, counted from 1, and then by cells
+/// from 0 on; TooVaried exactly where none is and in some band the greatest slope is too many times the least, with
+/// the first such band. Both yield to Memory. (limits own)
 pub fn safe(
     alloc: Global,
     train: &Train,
@@ -155,8 +155,8 @@ pub fn safe(
     slope_map(alloc, SlopeKind::Safe, train, national, track)
 }
 
-/// The map of A_expected, on which service brake deceleration curves stand (SUBSET-026-3 3.13.6.3, 3.13.8.4), with segments and
-/// faults as those of `safe`.
+/// The map of A_expected, on which service brake deceleration curves stand (SUBSET-026-3 3.13.6.3, 3.13.8.4), with
+/// segments and faults as those of `safe`.
 pub fn expected(
     alloc: Global,
     train: &Train,
@@ -173,8 +173,8 @@ pub fn expected(
     slope_map(alloc, SlopeKind::Expected, train, national, track)
 }
 
-/// The map of A_normal_service, on which guidance curves stand (SUBSET-026-3 3.13.6.4, 3.13.8.5), with segments and faults as
-/// those of `safe`.
+/// The map of A_normal_service, on which guidance curves stand (SUBSET-026-3 3.13.6.4, 3.13.8.5), with segments and
+/// faults as those of `safe`.
 pub fn normal(
     alloc: Global,
     train: &Train,

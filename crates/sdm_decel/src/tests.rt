@@ -1,5 +1,5 @@
-//! The clauses say of all data what the maps stand for. Here the formulas stand as rows worked by hand, so that the definitions
-//! are tested too.
+//! The clauses say of all data what the maps stand for. Here the formulas stand as rows worked by hand, so that the
+//! definitions are tested too.
 
 use crate::{BandMap, CurveFault, expected, normal, safe};
 use sdm_national::{National, NationalFields};
@@ -9,7 +9,7 @@ use sdm_train::{Train, TrainFields};
 use std::alloc::{AllocError, Global};
 use std::test::Fail;
 
-// The data of a case: a train of 100 m that brakes with 1 m/s², on a level track of 2 km, but for what a row changes.
+/// The data of a case: a train of 100 m that brakes with 1 m/s², on a level track of 2 km, but for what a row changes.
 #[derive(Drop)]
 struct Case {
     train: TrainFields,
@@ -27,7 +27,7 @@ fn base(alloc: Global) -> Case {
     }
 }
 
-// Sets a number by its key in the data, or the count of bands.
+/// Sets a number by its key in the data, or the count of bands.
 fn set(case: &mut Case, key: &str, number: i64) -> Result<(), &'static str> {
     match key {
         "no_mass" => case.train.rotating_mass = None,
@@ -52,7 +52,7 @@ fn set_numbers(case: &mut Case, numbers: &str) -> Result<(), &'static str> {
     Ok(())
 }
 
-// Starts and gradients in turn.
+/// Starts and gradients in turn.
 fn set_gradients(case: &mut Case, gradients: &str) -> Result<(), &'static str> {
     let mut words = gradients.split_whitespace();
     while let Some(word) = words.next() {
@@ -64,7 +64,7 @@ fn set_gradients(case: &mut Case, gradients: &str) -> Result<(), &'static str> {
     Ok(())
 }
 
-// Starts and ends in turn.
+/// Starts and ends in turn.
 fn set_areas(case: &mut Case, areas: &str) -> Result<(), &'static str> {
     let mut words = areas.split_whitespace();
     while let Some(word) = words.next() {
@@ -75,7 +75,7 @@ fn set_areas(case: &mut Case, areas: &str) -> Result<(), &'static str> {
     Ok(())
 }
 
-// The data of a row: the numbers that differ, each after its key; the gradients; the areas.
+/// The data of a row: the numbers that differ, each after its key; the gradients; the areas.
 fn case_of(alloc: Global, row: &str) -> Result<Case, &'static str> {
     let (numbers, lists) = row.split_once(';').ok_or("no semicolon")?;
     let (gradients, areas) = lists.split_once(';').ok_or("no semicolon")?;
@@ -86,7 +86,7 @@ fn case_of(alloc: Global, row: &str) -> Result<Case, &'static str> {
     Ok(case)
 }
 
-// The map of a kind.
+/// The map of a kind.
 fn map_of(
     alloc: Global,
     kind: &str,
@@ -110,7 +110,7 @@ fn map_of(
     }
 }
 
-// The slope of a band in a cell: of the last segment that starts at most there, else of the first.
+/// The slope of a band in a cell: of the last segment that starts at most there, else of the first.
 fn slope_in(map: &BandMap, band: usize, cell: i64) -> Option<i64> {
     let segments = map.segments();
     if map.bands() <= band {
@@ -125,7 +125,7 @@ fn slope_in(map: &BandMap, band: usize, cell: i64) -> Option<i64> {
     Some(slope)
 }
 
-// What a row asks for, as text: the slope of a kind in a band, counted from 1, and in a cell; or the fault.
+/// What a row asks for, as text: the slope of a kind in a band, counted from 1, and in a cell; or the fault.
 fn outcome(alloc: Global, asked: &str, case: Case) -> Result<String, &'static str> {
     let mut words = asked.split_whitespace();
     let kind = words.next().ok_or("no kind")?;
@@ -190,7 +190,7 @@ slope 8000000000 too weak in band 1, cell 0: expected 1 0; service 4; ;
 10000000000: safe 1 90000; emergency 80 service 80 normal 80 adhesion_max 5; ; 90000 100000
 slopes from 10000000000 to 162000000000 too varied in band 1: safe 1 0; emergency 81 service 80 normal 80 adhesion_max 5; ; 90000 100000";
 
-// The first row whose outcome is another one.
+/// The first row whose outcome is another one.
 fn first_other(alloc: Global) -> Result<Option<&'static str>, &'static str> {
     for row in OUTCOMES.lines() {
         let (wanted, rest) = row.split_once(':').ok_or("no colon")?;
@@ -208,7 +208,7 @@ fn slopes_and_faults_are_those_worked_by_hand(rt: HostRuntime) {
     assert_eq!(rt; first_other(rt.alloc()), Ok(None));
 }
 
-// Gradients of 0 and -5 per mille in turn every 3 m, and areas that end 5 m after their start every 20 m.
+/// Gradients of 0 and -5 per mille in turn every 3 m, and areas that end 5 m after their start every 20 m.
 fn greatest_lists(alloc: Global) -> Result<Case, AllocError> {
     let mut case = base(alloc);
     case.train.length = 1;
@@ -235,7 +235,7 @@ fn segments_of(alloc: Global, kind: &str) -> Result<usize, &'static str> {
     }
 }
 
-// The gradient under the train falls at each of 256 entries and rises a cell after 255; each area adds two cells.
+/// The gradient under the train falls at each of 256 entries and rises a cell after 255; each area adds two cells.
 #[test]
 fn the_longest_lists_make_a_segment_at_each_change(rt: HostRuntime) {
     assert_eq!(rt; segments_of(rt.alloc(), "safe"), Ok(640));

@@ -1,5 +1,6 @@
 -- The fields of a record by their indices: what a look-up finds, and the list of all that follow an index.
-use Rattle.std.proofs.Common.{◌≡◌, ◌≢◌, ◌<◌, ◌∙◌, ℕ, false, List, [], ◌∷◌, length, drop, Option, Some, None, Bor, IsSome, option_map, get_or, refl, sym, ap, arith}
+use Rattle.std.proofs.Common.{◌≡◌, ◌≢◌, ◌<◌, ◌∙◌, ℕ, false, List, [], ◌∷◌, length, drop, Option, Some, None, Bor}
+use Rattle.std.proofs.Common.{IsSome, option_map, get_or, refl, sym, ap, arith}
 use Rattle.std.specs.Bool.{one_answer}
 use Rattle.std.specs.List.{starts_with}
 use Rattle.std.specs.Str.{bytes_eq}
@@ -11,23 +12,27 @@ use Rattle.csv.specs.Records.{field_at}
 use Rattle.csv.proofs.RecordFacts.{field-get, field-there}
 
 -- a look-up within the record finds a field
-pub field_found : (fields : List (List ℕ)) (i : ℕ) (o : Option (Bor (List ℕ))) → option_map (λ s. s.now) o ≡ field_at fields i → i < length fields → IsSome o
+pub field_found : (fields : List (List ℕ)) (i : ℕ) (o : Option (Bor (List ℕ))) →
+    option_map (λ s. s.now) o ≡ field_at fields i → i < length fields → IsSome o
 field_found fields i None is within = absurd (field-there fields i within (sym is))
 field_found fields i (Some f) is within = refl
 
 -- and what it finds is that field
-pub field_is : (fields : List (List ℕ)) (i : ℕ) (o : Option (Bor (List ℕ))) (f : Bor (List ℕ)) → option_map (λ s. s.now) o ≡ field_at fields i → o ≡ Some f → f.now ≡ get_or fields i []
+pub field_is : (fields : List (List ℕ)) (i : ℕ) (o : Option (Bor (List ℕ))) (f : Bor (List ℕ)) →
+    option_map (λ s. s.now) o ≡ field_at fields i → o ≡ Some f → f.now ≡ get_or fields i []
 field_is fields i None f is found = cc found
 field_is fields i (Some g) f is found = cc (field-get fields i g.now (sym is))
 
 -- a record that has a first field is that field and those after it
-pub first_field : (fields : List (List ℕ)) (o : Option (Bor (List ℕ))) (f : Bor (List ℕ)) → option_map (λ s. s.now) o ≡ field_at fields 0 → o ≡ Some f → fields ≡ f.now ∷ drop 1 fields
+pub first_field : (fields : List (List ℕ)) (o : Option (Bor (List ℕ))) (f : Bor (List ℕ)) →
+    option_map (λ s. s.now) o ≡ field_at fields 0 → o ≡ Some f → fields ≡ f.now ∷ drop 1 fields
 unfolding field_at
 first_field [] o f is found = cc (rw found at is)
 first_field (k ∷ more) o f is found = cc (rw found at is)
 
 -- a record without a first field has no fields
-pub no_fields : (fields : List (List ℕ)) (o : Option (Bor (List ℕ))) → option_map (λ s. s.now) o ≡ field_at fields 0 → o ≡ None → fields ≡ []
+pub no_fields : (fields : List (List ℕ)) (o : Option (Bor (List ℕ))) → option_map (λ s. s.now) o ≡ field_at fields 0 →
+    o ≡ None → fields ≡ []
 unfolding field_at
 no_fields [] o is none = refl
 no_fields (k ∷ more) o is none = cc (rw none at is)
@@ -39,8 +44,10 @@ pub same_text : (s p : List ℕ) → length s ≡ length p → starts_with eqb s
 same_text s p long =
     let whole : starts_with eqb s p ≡ bytes_eq p s = ap (bytes_eq p) (take_all (length p) s (omega (arith, long))) in
     let back = bytes_eq-Decides p s in
-    whole ∙ one_answer (bytes_eq p s) (bytes_eq s p) ((λ yes. sym (back.0 yes)), (λ same. back.1 (sym same))) (bytes_eq-Decides s p)
+    whole ∙ one_answer (bytes_eq p s) (bytes_eq s p) ((λ yes. sym (back.0 yes)), (λ same. back.1 (sym same)))
+    (bytes_eq-Decides s p)
 
 -- a field of another length is another text
 pub other_length : (s p : List ℕ) → length s ≢ length p → false ≡ bytes_eq s p
-other_length s p other = one_answer false (bytes_eq s p) ((λ no. absurd (false≢true no)), (λ same. absurd (other (ap length same)))) (bytes_eq-Decides s p)
+other_length s p other = one_answer false (bytes_eq s p)
+    ((λ no. absurd (false≢true no)), (λ same. absurd (other (ap length same)))) (bytes_eq-Decides s p)

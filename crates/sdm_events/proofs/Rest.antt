@@ -1,9 +1,11 @@
--- Each record takes a byte at least, and after it the parser stands between two records. So the records of the rest of a text
--- are the next one and those after it, whatever count bounds them.
-use Rattle.std.proofs.Common.{◌≡◌, ◌≤◌, ◌<◌, ◌+◌, ◌-◌, ◌==◌, if◌then◌else◌, ℕ, zero, suc, Bool, true, false, List, [], ◌∷◌, ◌++◌, length, Option, Some, None, refl, ap, arith, add-one, inl, inr}
+-- Each record takes a byte at least, and after it the parser stands between two records. So the records of the rest of
+-- a text are the next one and those after it, whatever count bounds them.
+use Rattle.std.proofs.Common.{◌≡◌, ◌≤◌, ◌<◌, ◌+◌, ◌-◌, ◌==◌, if◌then◌else◌, ℕ, zero, suc, Bool, true, false, List, []}
+use Rattle.std.proofs.Common.{◌∷◌, ◌++◌, length, Option, Some, None, refl, ap, arith, add-one, inl, inr}
 use Rattle.std.proofs.lemmas.Bool.{false≢true, cases_Bool}
 use Rattle.std.proofs.lemmas.Option.{same_Some}
-use Rattle.csv.specs.Machine.{Read, next_record, step, is_end, ends_at_end, ends_with, in_field, start_field, start_record, fields_after, field_after}
+use Rattle.csv.specs.Machine.{Read, next_record, step, is_end, ends_at_end, ends_with, in_field, start_field}
+use Rattle.csv.specs.Machine.{start_record, fields_after, field_after}
 use Rattle.csv.specs.Reading.{default_config, records_from, records_next}
 use Rattle.csv.specs.declared.parser.Action.{Action}
 use Rattle.csv.specs.declared.parser.State.{State}
@@ -32,7 +34,8 @@ after_line_end true = refl
 after_line_end false = refl
 
 in_field_ends : (c : ℕ) → EndsBetween (in_field default_config c)
-in_field_ends c = either_ends (c == 44) _ _ no_end (either_ends (ends_with term.CRLF c) _ _ (λ _. after_line_end (c == 13)) no_end)
+in_field_ends c =
+    either_ends (c == 44) _ _ no_end (either_ends (ends_with term.CRLF c) _ _ (λ _. after_line_end (c == 13)) no_end)
 
 start_field_ends : (c : ℕ) → EndsBetween (start_field default_config c)
 start_field_ends c = either_ends (c == 34) _ _ no_end (in_field_ends c)
@@ -63,46 +66,57 @@ leaves_same most x p e h = rw (← same_Some x p e) h
 leaves_more : (a b : ℕ) (p : Read) → a ≤ b → Leaves a p → Leaves b p
 leaves_more a b p le h = record { shorter = omega (arith, h.shorter, le); between = h.between }
 
-leaves_at_end : (b : Bool) (fields : List (List ℕ)) (field : List ℕ) (p : Read) → (if b then Some (fields ++ (field ∷ []), st.StartRecord, []) else None) ≡ Some p → Leaves 0 p
+leaves_at_end : (b : Bool) (fields : List (List ℕ)) (field : List ℕ) (p : Read) →
+    (if b then Some (fields ++ (field ∷ []), st.StartRecord, []) else None) ≡ Some p → Leaves 0 p
 leaves_at_end true fields field p h = leaves_same 0 _ p h (record { shorter = omega arith; between = refl })
 leaves_at_end false fields field p h = cc h
 
-leaves : (s : State) (fields : List (List ℕ)) (field : List ℕ) (bytes : List ℕ) (p : Read) → next_record default_config s fields field bytes ≡ Some p → Leaves (length bytes - 1) p
+leaves : (s : State) (fields : List (List ℕ)) (field : List ℕ) (bytes : List ℕ) (p : Read) →
+    next_record default_config s fields field bytes ≡ Some p → Leaves (length bytes - 1) p
 unfolding next_record
 leaves s fields field [] p h = leaves_more 0 _ p (omega arith) (leaves_at_end (ends_at_end s) fields field p h)
 leaves s fields field (c ∷ rest) p h =
     elim (cases_Bool (is_end (step default_config s c).1)) [
       | inl e ↦ leaves_same _ _ p (rw e at h) (record { shorter = omega arith; between = step_ends s c e })
-      | inr e ↦ leaves_more _ _ p (omega arith) (leaves (step default_config s c).0 (fields_after (step default_config s c).1 fields field) (field_after (step default_config s c).1 c field) rest p (rw e at h))
+      | inr e ↦ leaves_more _ _ p (omega arith) (leaves (step default_config s c).0
+          (fields_after (step default_config s c).1 fields field)
+          (field_after (step default_config s c).1 c field) rest p (rw e at h))
     ]
 
 -- the next record, from between two records
-pub next_takes_a_byte : (s : State) (bytes : List ℕ) (p : Read) → Between s → next_record default_config s [] [] bytes ≡ Some p → (length p.2 < length bytes) × Between p.1
+pub next_takes_a_byte : (s : State) (bytes : List ℕ) (p : Read) → Between s →
+    next_record default_config s [] [] bytes ≡ Some p → (length p.2 < length bytes) × Between p.1
 unfolding next_record
 next_takes_a_byte s [] p b h = cc (rw b at h)
 next_takes_a_byte s (c ∷ rest) p b h = let g = leaves s [] [] (c ∷ rest) p h in (omega (arith, g.shorter), g.between)
 
 -- ---- the records of the rest
 
-same_next : (n m : ℕ) (o : Option Read) → ((p : Read) → o ≡ Some p → records_from default_config n p.1 p.2 ≡ records_from default_config m p.1 p.2)
+same_next : (n m : ℕ) (o : Option Read) →
+    ((p : Read) → o ≡ Some p → records_from default_config n p.1 p.2 ≡ records_from default_config m p.1 p.2)
     → records_next (records_from default_config n) o ≡ records_next (records_from default_config m) o
 same_next n m None h = refl
 same_next n m (Some p) h = ap (λ more. p.0 ∷ more) (h p refl)
 
 -- each count above the length gives the same records
-same_records : (n m : ℕ) (s : State) (bytes : List ℕ) → Between s → length bytes < n → length bytes < m → records_from default_config n s bytes ≡ records_from default_config m s bytes
+same_records : (n m : ℕ) (s : State) (bytes : List ℕ) → Between s → length bytes < n → length bytes < m →
+    records_from default_config n s bytes ≡ records_from default_config m s bytes
 unfolding records_from
 same_records zero m s bytes b h k = absurd (omega (arith, h))
 same_records (suc n) zero s bytes b h k = absurd (omega (arith, k))
 same_records (suc n) (suc m) s bytes b h k = same_next n m (next_record default_config s [] [] bytes)
-    (λ p e. let g = next_takes_a_byte s bytes p b e in same_records n m p.1 p.2 g.1 (omega (arith, g.0, h)) (omega (arith, g.0, k)))
+    (λ p e. let g = next_takes_a_byte s bytes p b e
+    in same_records n m p.1 p.2 g.1 (omega (arith, g.0, h)) (omega (arith, g.0, k)))
 
-pub rest_some : (s : State) (bytes : List ℕ) (p : Read) → Between s → next_record default_config s [] [] bytes ≡ Some p → rest_records s bytes ≡ p.0 ∷ rest_records p.1 p.2
+pub rest_some : (s : State) (bytes : List ℕ) (p : Read) → Between s →
+    next_record default_config s [] [] bytes ≡ Some p → rest_records s bytes ≡ p.0 ∷ rest_records p.1 p.2
 unfolding records_from
 rest_some s bytes p b e =
     let g = next_takes_a_byte s bytes p b e in
-    rw (add-one (length bytes), e) (ap (λ more. p.0 ∷ more) (same_records (length bytes) (length p.2 + 1) p.1 p.2 g.1 g.0 (omega arith)))
+    rw (add-one (length bytes), e)
+    (ap (λ more. p.0 ∷ more) (same_records (length bytes) (length p.2 + 1) p.1 p.2 g.1 g.0 (omega arith)))
 
-pub rest_none : (s : State) (bytes : List ℕ) → next_record default_config s [] [] bytes ≡ None → rest_records s bytes ≡ []
+pub rest_none : (s : State) (bytes : List ℕ) → next_record default_config s [] [] bytes ≡ None →
+    rest_records s bytes ≡ []
 unfolding records_from
 rest_none s bytes e = rw (add-one (length bytes), e) refl

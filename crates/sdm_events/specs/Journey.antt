@@ -9,7 +9,8 @@ use Rattle.csv.specs.Reading.{default_config, records, strip_bom}
 abbrev pub Record : Type 0
 Record = List (List ℕ)
 
--- the records of bytes: comma separated, with no header row and of any lengths, after a byte order mark if there is one
+-- the records of bytes: comma separated, with no header row and of any lengths, after a byte order mark if there is
+-- one
 abbrev pub records_of : List ℕ → List Record
 records_of bytes = records default_config (strip_bom bytes)
 

@@ -15,9 +15,9 @@ use sdm_num::Reading;
 use sdm_rules::{Authority, Event, EventFault, LONGEST_TRACK_CM, Restriction, TOP_KMH};
 use sdm_text::read_int;
 
-/// The event that a record writes. It is refused by UnknownKind where its first field names no kind; else by FieldCount
-/// where it has another count of fields than its kind; else by Field where a column is no number in its range, with the
-/// first such column. TooMany is never answered here. No memory is taken. (own)
+/// The event that a record writes. It is refused by UnknownKind where its first field names no kind; else by
+/// FieldCount where it has another count of fields than its kind; else by Field where a column is no number in its
+/// range, with the first such column. TooMany is never answered here. No memory is taken. (own)
 #[tactic(auto, unfolding(sdm_rules::specs::Forms::event_of))]
 pub fn event_of(fields: &ByteRecord) -> Result<Event, EventFault>
     ensures value { result ≡ event_of (fields_of fields.now) }

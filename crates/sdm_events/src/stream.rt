@@ -1,5 +1,5 @@
-//! The records of a journey, one by one from bytes in memory. `csv` decides what a record is, and its settings stand here
-//! alone: comma separated, no header row, any count of fields.
+//! The records of a journey, one by one from bytes in memory. `csv` decides what a record is, and its settings stand
+//! here alone: comma separated, no header row, any count of fields.
 
 ghost use Rattle.std.specs.Prelude.{◌≡◌, ◌∷◌, [], Ok, true, false, is_err};
 ghost use Rattle.csv.specs.Records.{fields_of};
@@ -14,7 +14,8 @@ use std::marker::Model;
 #[derive(Drop)]
 pub struct Records<'a> {
     reader: Reader<&'a [u8]>,
-    /// The last answer of `next`, and `Ok(true)` before the first. One that gave no record stays: the reader isn't asked again.
+    /// The last answer of `next`, and `Ok(true)` before the first. One that gave no record stays: the reader isn't
+    /// asked again.
     last: Result<bool, NoMemory>,
 }
 
@@ -44,8 +45,9 @@ impl<'a> Records<'a> {
         }
     }
 
-    /// Takes the first of the records that are left into `into`; false where none is left. The only error is want of memory,
-    /// since a reader of bytes in memory never fails; it is answered from then on. Only after true `into` holds a record.
+    /// Takes the first of the records that are left into `into`; false where none is left. The only error is want of
+    /// memory, since a reader of bytes in memory never fails; it is answered from then on. Only after true `into`
+    /// holds a record.
     pub fn next(&mut self, into: &mut ByteRecord) -> Result<bool, NoMemory>
         ensures found { result ≡ Ok true → self.old.left ≡ fields_of into.new ∷ self.new.left }
         ensures end { result ≡ Ok false → (self.old.left ≡ []) × (self.new.left ≡ []) }

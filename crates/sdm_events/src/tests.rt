@@ -5,7 +5,7 @@ use sdm_num::Reading;
 use std::alloc::Global;
 use std::test::Fail;
 
-// A reading as its time in ds, its front ends in grains, its speeds in notches and its acceleration in cm/s².
+/// A reading as its time in ds, its front ends in grains, its speeds in notches and its acceleration in cm/s².
 fn shown_reading(alloc: Global, reading: Reading) -> Result<String, Fail> {
     let time = reading.time();
     let est = reading.est_mm().grains();
@@ -26,7 +26,7 @@ fn shown_authority(alloc: Global, authority: Authority) -> Result<String, Fail> 
     }
 }
 
-// An event as the word of its kind and its numbers in order.
+/// An event as the word of its kind and its numbers in order.
 fn shown(alloc: Global, event: Event) -> Result<String, Fail> {
     match event {
         Event::Read(reading) => shown_reading(alloc, reading),
@@ -39,7 +39,7 @@ fn shown(alloc: Global, event: Event) -> Result<String, Fail> {
     }
 }
 
-// The event that a record writes, or its fault.
+/// The event that a record writes, or its fault.
 fn answer(alloc: Global, record: &ByteRecord) -> Result<String, Fail> {
     match event_of(record) {
         Ok(event) => shown(alloc, event),
@@ -47,7 +47,7 @@ fn answer(alloc: Global, record: &ByteRecord) -> Result<String, Fail> {
     }
 }
 
-// The answer to the first record of a text.
+/// The answer to the first record of a text.
 fn first_answer(alloc: Global, text: &[u8]) -> Result<String, Fail> {
     let mut records = Records::begin(alloc, text);
     let mut record = ByteRecord::new(alloc);
@@ -159,7 +159,7 @@ fn fields_of_any_bytes_are_read(rt: HostRuntime) -> Result<(), Fail> {
     Ok(())
 }
 
-// The records of a text, each field before a '|' and each record before a '/'.
+/// The records of a text, each field before a '|' and each record before a '/'.
 fn shown_records(alloc: Global, text: &[u8]) -> Result<Vec<u8>, Fail> {
     let mut records = Records::begin(alloc, text);
     let mut record = ByteRecord::new(alloc);

@@ -19,7 +19,8 @@ FailsNext plan = Contains plan.failing (plan.calls + 1)
 
 -- the plan after a call, which is counted, and also as a fault where it failed
 abbrev pub after_call : CallPlan → Bool → CallPlan
-after_call plan failed = record plan { calls = next_count plan.calls; faults = if failed then next_count plan.faults else plan.faults }
+after_call plan failed =
+    record plan { calls = next_count plan.calls; faults = if failed then next_count plan.faults else plan.faults }
 
 -- a source over memory
 pub record MemoryInput : Type 0 where

@@ -1,5 +1,5 @@
-//! A source of borrowed bytes and a sink that keeps nothing. Neither ever fails, so over them a program's own faults are
-//! the only ones that are left.
+//! A source of borrowed bytes and a sink that keeps nothing. Neither ever fails, so over them a program's own faults
+//! are the only ones that are left.
 
 ghost use Rattle.std.specs.Prelude.{◌≡◌, ℕ, List, Some, None, Ok, length, min};
 ghost use Rattle.std.specs.Io.{ReadsAtMost};

@@ -1,6 +1,6 @@
-//! Bytes that come in and bytes that go out. A source and a sink count their faults, so that a caller's answer "it failed"
-//! can be tied to a fault that happened; some tell their bytes, so that contracts can speak of them. Two loops stand over
-//! these traits alone: one writes a whole piece, the other reads to the end within a limit.
+//! Bytes that come in and bytes that go out. A source and a sink count their faults, so that a caller's answer "it
+//! failed" can be tied to a fault that happened; some tell their bytes, so that contracts can speak of them. Two loops
+//! stand over these traits alone: one writes a whole piece, the other reads to the end within a limit.
 #![tactic(auto)]
 
 pub mod faults;

@@ -1,11 +1,13 @@
-//! A source and a sink over memory that fail at chosen calls. They are for tests of programs: the bytes are told, and every
-//! fault, short read and short write can be brought about.
+//! A source and a sink over memory that fail at chosen calls. They are for tests of programs: the bytes are told, and
+//! every fault, short read and short write can be brought about.
 
-ghost use Rattle.std.specs.Prelude.{◌≡◌, ◌↔◌, ◌⊎◌, ◌<◌, ◌≤◌, ◌++◌, Some, [], take, drop, length, min, vec_len, vec_capacity, is_err, IfOk, IsErr, IsTrue};
+ghost use Rattle.std.specs.Prelude.{◌≡◌, ◌↔◌, ◌⊎◌, ◌<◌, ◌≤◌, ◌++◌, Some, [], take, drop, length, min, vec_len};
+ghost use Rattle.std.specs.Prelude.{vec_capacity, is_err, IfOk, IsErr, IsTrue};
 ghost use Rattle.std.specs.Io.{ReadsAtMost, WritesAtMost};
 ghost use Rattle.std.specs.Io.KnownBytes.{Keeps, ReadConsumes, WriteAppends};
 ghost use Rattle.sdm_io.specs.Causes.{HasCause};
-ghost use Rattle.sdm_io.specs.Memory.{FailsNext, MeetsNoRoom, MemoryInput, MemoryOutput, after_call, fresh_plan, readable, writable};
+ghost use Rattle.sdm_io.specs.Memory.{FailsNext, MeetsNoRoom, MemoryInput, MemoryOutput, after_call, fresh_plan};
+ghost use Rattle.sdm_io.specs.Memory.{readable, writable};
 
 use crate::faults::Failed;
 use crate::plans::Plan;
@@ -102,8 +104,9 @@ impl Model for MemSink {
 }
 
 impl MemSink {
-    /// Takes memory for `room` bytes. At most `step` bytes a call; a call fails exactly where its number, from 1, stands in
-    /// `failing`, or a piece that is not empty meets no free room. A flush is a call too, and finds nothing to give on.
+    /// Takes memory for `room` bytes. At most `step` bytes a call; a call fails exactly where its number, from 1,
+    /// stands in `failing`, or a piece that is not empty meets no free room. A flush is a call too, and finds nothing
+    /// to give on.
     pub fn new(
         alloc: Global,
         room: usize,
@@ -166,7 +169,7 @@ impl Sink for MemSink {
         Ok(n)
     }
 
-    // Nothing is held back. The call is one of those that the plan numbers.
+    /// Nothing is held back. The call is one of those that the plan numbers.
     fn flush(&mut self) -> Result<(), Failed>
         ensures bytes { Keeps (Some self.old.taken) (Some self.new.taken) }
         ensures cause { HasCause self.old.plan.faults self.new.plan.faults result }

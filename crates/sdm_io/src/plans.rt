@@ -1,5 +1,5 @@
-//! The plan by which a source or a sink over memory behaves. Both fail in the same way, at calls that are chosen by their
-//! numbers, so that a test can make any one call of a program fail.
+//! The plan by which a source or a sink over memory behaves. Both fail in the same way, at calls that are chosen by
+//! their numbers, so that a test can make any one call of a program fail.
 
 ghost use Rattle.std.specs.Prelude.{◌≡◌, ◌↔◌, ◌+◌, ◌≤◌, Contains, IfOk, IsTrue};
 ghost use Rattle.sdm_io.specs.Causes.{next_count};

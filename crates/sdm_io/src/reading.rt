@@ -1,6 +1,6 @@
-//! The reading loop. It asks for one byte more than the limit allows and never for two, so an input that is too long is
-//! known at the first byte above the limit, and nothing past that byte is taken. A block is cleared before it is read into, so
-//! the first one is small, and a large one takes its place only where a read filled it.
+//! The reading loop. It asks for one byte more than the limit allows and never for two, so an input that is too long
+//! is known at the first byte above the limit, and nothing past that byte is taken. A block is cleared before it is
+//! read into, so the first one is small, and a large one takes its place only where a read filled it.
 
 ghost use Rattle.std.specs.Prelude.{◌≡◌, ◌≢◌, ◌+◌, ◌<◌, ◌≤◌, length, Ok, Err, IfOk, OnOk, OnErr, IsErrOf};
 ghost use Rattle.std.specs.Io.KnownBytes.{IsAtEnd, Keeps};
@@ -27,10 +27,12 @@ pub enum Unread {
     Memory,
 }
 
-/// The bytes of the first block: 8 KiB. Most inputs are shorter than that, and clearing more would be most of their start.
+/// The bytes of the first block: 8 KiB. Most inputs are shorter than that, and clearing more would be most of their
+/// start.
 const FIRST_BLOCK: usize = 8_192;
 
-/// The bytes of the block for what is longer, and the most that are asked for at once: 64 KiB, so that it takes few calls.
+/// The bytes of the block for what is longer, and the most that are asked for at once: 64 KiB, so that it takes few
+/// calls.
 const BLOCK: usize = 65_536;
 
 /// How far the reading over a block came.
@@ -43,8 +45,8 @@ enum Reached {
     FullBlock,
 }
 
-/// One turn of the reading loop, with so many bytes still free below the limit: the next bytes are kept after those before. Says
-/// how many; none at the end of the input alone.
+/// One turn of the reading loop, with so many bytes still free below the limit: the next bytes are kept after those
+/// before. Says how many; none at the end of the input alone.
 #[inline(always)]
 fn read_chunk<I: Source>(
     input: &mut I,
@@ -54,7 +56,8 @@ fn read_chunk<I: Source>(
 ) -> Result<usize, Unread>
     requires some { 0 < length block.old }
 
-    ensures more { IfOk result (λ n. 0 < n → KeepsMore (I.left input.old) (I.left input.new) bytes.old.items bytes.new.items) }
+    ensures more { IfOk result
+        (λ n. 0 < n → KeepsMore (I.left input.old) (I.left input.new) bytes.old.items bytes.new.items) }
     ensures count { IfOk result (λ n. length bytes.new.items ≡ length bytes.old.items + n) }
     ensures free { IfOk result (λ n. n ≤ free) }
     ensures last { result ≡ Ok 0 → IsAtEnd (I.left input.new) }
@@ -84,7 +87,8 @@ fn read_chunk<I: Source>(
     Ok(n)
 }
 
-/// Reads over a block, with so many bytes still free below the limit: to the end of the input, or until a read filled the block.
+/// Reads over a block, with so many bytes still free below the limit: to the end of the input, or until a read filled
+/// the block.
 #[inline(always)]
 fn read_blocks<I: Source>(
     input: &mut I,
@@ -116,8 +120,8 @@ fn read_blocks<I: Source>(
     }
 }
 
-/// Reads the input to its end, which comes after at most `most` bytes. Errors: Fault, only where the source failed; TooLong,
-/// exactly where one byte more came; Memory. Each turn but the last takes at least one byte. (own)
+/// Reads the input to its end, which comes after at most `most` bytes. Errors: Fault, only where the source failed;
+/// TooLong, exactly where one byte more came; Memory. Each turn but the last takes at least one byte. (own)
 pub fn read_to_end<I: Source>(alloc: Global, input: &mut I, most: usize) -> Result<Vec<u8>, Unread>
     ensures whole { IfOk result (λ v. Told (I.left input.old) (λ bytes. v.items ≡ bytes)) }
     ensures end { OnOk result (IsAtEnd (I.left input.new)) }

@@ -27,7 +27,8 @@ pub trait Sink {
         ensures bytes { WriteAppends (taken self.old) (taken self.new) result piece.now }
         ensures cause { HasCause (faults self.old) (faults self.new) result };
 
-    /// Gives on what was taken and is held back, and takes nothing further. A call that failed may have given on a prefix of it.
+    /// Gives on what was taken and is held back, and takes nothing further. A call that failed may have given on a
+    /// prefix of it.
     fn flush(&mut self) -> Result<(), Failed>
         ensures bytes { Keeps (taken self.old) (taken self.new) }
         ensures given_on { OnOk result (HoldsNothing (held self.new)) }

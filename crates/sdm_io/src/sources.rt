@@ -15,8 +15,8 @@ pub trait Source {
     /// How often the source has failed: a count from 0 to 2⁶⁴ − 1, where it stands.
     ghost faults: { Self → ℕ };
 
-    /// Puts the next bytes into a prefix of the buffer and says how many. 0 into a buffer that is not empty is the end.
-    /// A call that failed gave nothing.
+    /// Puts the next bytes into a prefix of the buffer and says how many. 0 into a buffer that is not empty is the
+    /// end. A call that failed gave nothing.
     fn read(&mut self, buf: &mut [u8]) -> Result<usize, Failed>
         ensures bound { ReadsAtMost result buf.new }
         // 0 into a buffer that is not empty comes only where nothing is left

@@ -1,6 +1,6 @@
 //! The adapters over the standard streams: the trusted edge. No contract can say what a stream holds, so they tell no
-//! bytes; they are proved to count each fault, and the one with a block is proved to hold nothing back after a flush. A call
-//! that the system interrupted is made again, as often as the library's own loops do that; then it is a fault.
+//! bytes; they are proved to count each fault, and the one with a block is proved to hold nothing back after a flush.
+//! A call that the system interrupted is made again, as often as the library's own loops do that; then it is a fault.
 
 ghost use Rattle.std.specs.Prelude.{◌≡◌, ◌<◌, ℕ, List, [], None, Some, length, is_err, if◌then◌else◌, IfOk, OnOk};
 ghost use Rattle.std.specs.Io.{ReadsAtMost, WritesAtMost};
@@ -46,8 +46,8 @@ fn read_once<R: Read>(inner: &mut R, buf: &mut [u8]) -> Result<usize, Failed>
     Err(Failed)
 }
 
-/// One write, likewise. A writer that takes nothing of a piece that is not empty would never come to its end, so that is a
-/// failure.
+/// One write, likewise. A writer that takes nothing of a piece that is not empty would never come to its end, so that
+/// is a failure.
 fn write_once<W: Write>(inner: &mut W, piece: &[u8]) -> Result<usize, Failed>
     ensures bound { WritesAtMost result piece.now }
     ensures some { IfOk result (λ n. 0 < length piece.now → 0 < n) }
@@ -173,8 +173,8 @@ impl<W: Write> Sink for StdSink<W> {
 /// The bytes of a block: 64 KiB. (own)
 const BLOCK: usize = 65_536;
 
-/// A sink that gathers a block before it writes, over a writer as standard output. Contracts see what it holds back and its
-/// count of faults. (own)
+/// A sink that gathers a block before it writes, over a writer as standard output. Contracts see what it holds back
+/// and its count of faults. (own)
 pub struct BlockSink<W: Write + Drop> {
     inner: BufWriter<W>,
     faults: u64,
@@ -224,7 +224,7 @@ impl<W: Write + Drop> Sink for BlockSink<W> {
 }
 
 impl<W: Write + Drop> Drop for BlockSink<W> {
-    // What is held back after a failed flush is let go: the library's block would write it once more.
+    /// What is held back after a failed flush is let go: the library's block would write it once more.
     fn drop(self) {
         let BlockSink { inner, faults: _ } = self;
         let (_writer, _held) = inner.into_parts();

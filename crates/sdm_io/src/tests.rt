@@ -1,6 +1,6 @@
-//! What each call moves at short steps, at chosen failures and at want of room, as tables; and what no clause says: how the
-//! adapters answer a stream that fails. `F` stands for a failure, `.` for the end of a source, `-` for nothing, and `!` for a
-//! flush.
+//! What each call moves at short steps, at chosen failures and at want of room, as tables; and what no clause says:
+//! how the adapters answer a stream that fails. `F` stands for a failure, `.` for the end of a source, `-` for
+//! nothing, and `!` for a flush.
 
 mod reading;
 
@@ -12,7 +12,7 @@ use std::alloc::Global;
 use std::io;
 use std::test::Fail;
 
-// The fields of a line.
+/// The fields of a line.
 fn fields_of<'a>(alloc: Global, line: &'a str) -> Result<Vec<&'a str>, Fail> {
     let mut fields = Vec::new(alloc);
     for field in line.split('|') {
@@ -47,7 +47,7 @@ fn sink_of(alloc: Global, room: &str, step: &str, failing: &str) -> Result<MemSi
     Ok(MemSink::new(alloc, room.parse::<usize>()?, step, &failing)?)
 }
 
-// What one read into a buffer of so many bytes answers.
+/// What one read into a buffer of so many bytes answers.
 fn read_answer<'a, S: Source>(source: &mut S, buf: &'a mut [u8]) -> &'a [u8] {
     match source.read(buf) {
         Ok(0) => b".",
@@ -56,7 +56,7 @@ fn read_answer<'a, S: Source>(source: &mut S, buf: &'a mut [u8]) -> &'a [u8] {
     }
 }
 
-// step | failing | buffer | answers
+/// step | failing | buffer | answers
 const READS: &str = "\
     8 | - | 8 | abcdefg . .
     3 | - | 8 | abc def g . .
@@ -87,7 +87,7 @@ fn a_source_over_memory_gives_its_bytes_by_its_plan(rt: HostRuntime) -> Result<(
     Ok(())
 }
 
-// What a sink answers to one piece, or to a flush.
+/// What a sink answers to one piece, or to a flush.
 fn write_answer(alloc: Global, sink: &mut MemSink, piece: &str) -> Result<String, Fail> {
     if piece == "!" {
         return Ok(match sink.flush() {
@@ -101,7 +101,7 @@ fn write_answer(alloc: Global, sink: &mut MemSink, piece: &str) -> Result<String
     })
 }
 
-// room | step | failing | pieces | answers | taken
+/// room | step | failing | pieces | answers | taken
 const WRITES: &str = "\
     9 | 9 | - | abc ! de ! | 3 ok 2 ok | abcde
     9 | 9 | 2 | abc ! ! de | 3 F ok 2 | abcde
@@ -144,7 +144,7 @@ fn a_fixed_source_and_a_null_sink_never_fail(rt: HostRuntime) {
     assert_eq!(rt; NullSink::new().flush(), Ok(()));
 }
 
-// room | step | failing | piece | answer | taken
+/// room | step | failing | piece | answer | taken
 const PIECES: &str = "\
     9 | 9 | - | abcde | ok | abcde
     9 | 1 | - | abcde | ok | abcde
@@ -172,7 +172,7 @@ fn a_piece_is_taken_whole_or_a_front_of_it(rt: HostRuntime) -> Result<(), Fail> 
     Ok(())
 }
 
-// The calls of a stream that fails at each one of an odd number.
+/// The calls of a stream that fails at each one of an odd number.
 #[derive(Drop)]
 struct Calls {
     made: u8,
@@ -180,12 +180,12 @@ struct Calls {
 }
 
 impl Calls {
-    // None so far.
+    /// None so far.
     fn new(failure: io::ErrorKind) -> Calls {
         Calls { made: 0, failure }
     }
 
-    // The number of the next call, which counts from 1.
+    /// The number of the next call, which counts from 1.
     fn next(&mut self) -> io::Result<u8> {
         self.made = self.made.saturating_add(1);
         if self.made % 2 == 1 {
@@ -195,7 +195,7 @@ impl Calls {
     }
 }
 
-// A reader that gives one byte at a call that does not fail.
+/// A reader that gives one byte at a call that does not fail.
 #[derive(Drop)]
 struct UnsteadyReader<'a> {
     bytes: &'a [u8],
@@ -212,7 +212,7 @@ impl<'a> io::Read for UnsteadyReader<'a> {
     }
 }
 
-// A writer that keeps one byte at a call that does not fail, but nothing at its fourth.
+/// A writer that keeps one byte at a call that does not fail, but nothing at its fourth.
 #[derive(Drop)]
 struct UnsteadyWriter<'a> {
     kept: &'a mut Vec<u8>,
@@ -238,7 +238,7 @@ impl<'a> io::Write for UnsteadyWriter<'a> {
     }
 }
 
-// What the calls of an unsteady source answer.
+/// What the calls of an unsteady source answer.
 fn unsteady_reads(alloc: Global, failure: io::ErrorKind, calls: u8) -> Result<String, Fail> {
     let mut source = StdSource::new(UnsteadyReader {
         bytes: b"ab",
@@ -302,7 +302,7 @@ fn an_interrupted_write_or_flush_is_made_again(rt: HostRuntime) {
     assert!(rt; kept.as_slice() == b"ae".as_slice());
 }
 
-// What reaches a writer of pieces that go over a block: of a flush at the end, or of none.
+/// What reaches a writer of pieces that go over a block: of a flush at the end, or of none.
 fn blocked(alloc: Global, pieces: &[&[u8]], is_flushed: bool) -> Result<Vec<u8>, Fail> {
     let mut written = Vec::new(alloc);
     let mut sink = BlockSink::new(alloc, &mut written)?;
@@ -329,7 +329,7 @@ fn a_block_is_written_when_it_is_full_or_flushed(rt: HostRuntime) -> Result<(), 
     Ok(())
 }
 
-// A writer that fails, and counts its calls.
+/// A writer that fails, and counts its calls.
 #[derive(Drop)]
 struct Full<'a> {
     calls: &'a mut u32,

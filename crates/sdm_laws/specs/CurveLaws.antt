@@ -1,11 +1,12 @@
--- The laws of brake curves: what is true of exact and stepped places for any usable slopes, every foot `f` in grains, every
--- foot speed `w` in notches and every scale `s` (own).
+-- The laws of brake curves: what is true of exact and stepped places for any usable slopes, every foot `f` in grains,
+-- every foot speed `w` in notches and every scale `s` (own).
 use Rattle.std.specs.Prelude.{◌≡◌, ℕ, suc, ℤ, pos, neg_ℤ, ◌+◌, ◌-◌, ◌*◌, ◌<◌, ◌≤◌, ◌+ℤ◌, ◌*ℤ◌, length}
 use Rattle.sdm_num.specs.Units.{millimetre}
 use Rattle.sdm_num.specs.Fractions.{IsBefore, IsSame, floor, times, whole}
 use Rattle.sdm_num.specs.Bounds.{IsEarlyFor}
 use Rattle.sdm_rules.specs.Slopes.{Slopes, IsUsable, bands_of, variation}
-use Rattle.sdm_rules.specs.Curves.{arc_back, arc_forward, grain_energy, upper_square, to_grain, back_through_bands, forward_through_bands, exact_at, exact, stepped, most_slack, slack_after}
+use Rattle.sdm_rules.specs.Curves.{arc_back, arc_forward, grain_energy, upper_square, to_grain, back_through_bands}
+use Rattle.sdm_rules.specs.Curves.{forward_through_bands, exact_at, exact, stepped, most_slack, slack_after}
 use Rattle.sdm_laws.specs.Energy.{IsKnot, IsKnotPast}
 
 -- ---- rounding
@@ -22,8 +23,8 @@ pub record IsRounded (on : Slopes) (f : ℤ) (w v : ℕ) : Type 0 where
   pub early_at_most : IsEarlyFor (record { at = stepped on f w v; slack = most_slack }) (exact on f w v)
   pub fine : most_slack < millimetre
 
--- On usable slopes, for every foot and every speed, the stepped place is at most the exact one, and less than a millimetre
--- before it.
+-- On usable slopes, for every foot and every speed, the stepped place is at most the exact one, and less than a
+-- millimetre before it.
 abbrev pub LawOfRounding : Type 0
 LawOfRounding = (on : Slopes) (f : ℤ) (w v : ℕ) → IsUsable on → IsRounded on f w v
 
@@ -56,8 +57,8 @@ LawOfFoot = (on : Slopes) (f : ℤ) (w : ℕ) → IsAtFoot on f w
 
 -- ---- knots
 
--- What the two facts of a knot give: the stepped end of an arc from a whole grain, back and forward; and so the stepped
--- place goes back from a border of the band to the next, and forward to the one below.
+-- What the two facts of a knot give: the stepped end of an arc from a whole grain, back and forward; and so the
+-- stepped place goes back from a border of the band to the next, and forward to the one below.
 pub record HasKnots (on : Slopes) (band : ℕ) : Type 0 where
   pub back :
       (at : ℤ) (d change : ℕ) → IsKnot on band at d (grain_energy on change) →

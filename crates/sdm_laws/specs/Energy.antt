@@ -1,5 +1,5 @@
--- The energy that a distance asks for in one band, and what fixes a whole distance by its energy. These are means of proof: no
--- definition of the profile cites them (own).
+-- The energy that a distance asks for in one band, and what fixes a whole distance by its energy. These are means of
+-- proof: no definition of the profile cites them (own).
 use Rattle.std.specs.Prelude.{◌≡◌, ℕ, zero, suc, ℤ, pos, neg_ℤ, ◌+◌, ◌*◌, ◌<◌, ◌≤◌, ◌+ℤ◌}
 use Rattle.sdm_rules.specs.Slopes.{Slopes}
 use Rattle.sdm_rules.specs.Curves.{cell_at}
@@ -9,7 +9,8 @@ unfoldable pub total : (ℕ → ℕ) → ℕ → ℕ
 total f zero = 0
 total f (suc d) = total f d + f d
 
--- the sum of the slopes of the `d` steps from `p` on, where a grain has `m` steps; 27 times it is the energy of the distance
+-- the sum of the slopes of the `d` steps from `p` on, where a grain has `m` steps; 27 times it is the energy of the
+-- distance
 abbrev pub energy : Slopes → ℕ → ℕ → ℤ → ℕ → ℕ
 energy on band m p d = total (λ k. on.slope band (cell_at m (p +ℤ pos k))) d
 

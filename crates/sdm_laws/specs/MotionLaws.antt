@@ -1,5 +1,5 @@
--- The laws of motions: how far and how fast a train comes at most while it brakes, and before its brakes work. A motion is
--- a list of inequalities that know nothing of curves (own).
+-- The laws of motions: how far and how fast a train comes at most while it brakes, and before its brakes work. A
+-- motion is a list of inequalities that know nothing of curves (own).
 use Rattle.std.specs.Prelude.{◌≡◌, ℕ, ℤ, pos, List, [], ◌∷◌, ◌++◌, ◌*◌, ◌<◌, ◌≤◌, ◌+ℤ◌, ◌*ℤ◌, ◌≤ℤ◌, All}
 use Rattle.sdm_num.specs.Fractions.{IsAtMost, whole}
 use Rattle.sdm_rules.specs.declared.motions.Point.{Point}
@@ -33,12 +33,13 @@ IsSteepest on m a x y =
     (band : ℕ) (cell : ℤ) → HasBandPart on m band y.square x.square → HasPart m cell x.place y.place →
     on.slope band cell ≤ a
 
--- Of one stretch: a train within the curve that brakes at least with the slope `a`, the steepest of its stretch, is within the
--- curve after it.
+-- Of one stretch: a train within the curve that brakes at least with the slope `a`, the steepest of its stretch, is
+-- within the curve after it.
 abbrev pub LawOfStretch : Type 0
 LawOfStretch =
     (on : Slopes) (m : ℕ) (f : ℤ) (w a : ℕ) (x y : Point) → IsUsable on → 0 < m → 0 < a →
-    IsSteepest on m a x y → BrakesAtLeast on a x.place x.square y.place y.square → IsWithinCurve on m f w x → IsWithinCurve on m f w y
+    IsSteepest on m a x y → BrakesAtLeast on a x.place x.square y.place y.square → IsWithinCurve on m f w x →
+    IsWithinCurve on m f w y
 
 -- the point is within the curve; at or past the foot the speed is at most the foot speed; and a foot of speed 0 is not
 -- passed
@@ -47,8 +48,8 @@ pub record IsHeldByCurve (on : Slopes) (m : ℕ) (f : ℤ) (w : ℕ) (x : Point)
   pub past : (pos m *ℤ f) ≤ℤ x.place → x.square ≤ m * (w * w)
   pub standing : w ≡ 0 → x.place ≤ℤ (pos m *ℤ f)
 
--- Of braking: a train that begins within the curve and brakes step by step, at least as the slopes of its stretch, is held by
--- the curve at every point.
+-- Of braking: a train that begins within the curve and brakes step by step, at least as the slopes of its stretch, is
+-- held by the curve at every point.
 abbrev pub LawOfBraking : Type 0
 LawOfBraking =
     (on : Slopes) (m : ℕ) (f : ℤ) (w : ℕ) (x : Point) (ys : List Point) → IsUsable on → 0 < m →
@@ -63,12 +64,14 @@ pub record IsBounded (q : ℤ) (b : ℕ) (x : Point) : Type 0 where
 
 -- the point lies at most D_bec past the beginning `p`, with a speed of at most V_bec for a target speed
 abbrev pub IsInReach : ℕ → Start → ℕ → ℤ → Point → Type 0
-IsInReach s start target p = IsBounded (p +ℤ pos (s * s * d_bec (build_up_of start) target)) (s * v_bec (build_up_of start) target)
+IsInReach s start target p =
+    IsBounded (p +ℤ pos (s * s * d_bec (build_up_of start) target)) (s * v_bec (build_up_of start) target)
 
--- Of the reaction: in every motion that begins with at most the speed of its start, the ends of the slices and the first
--- braking point lie at most D_bec past the beginning, with a speed of at most V_bec, for any target speed.
+-- Of the reaction: in every motion that begins with at most the speed of its start, the ends of the slices and the
+-- first braking point lie at most D_bec past the beginning, with a speed of at most V_bec, for any target speed.
 abbrev pub LawOfReaction : Type 0
 LawOfReaction =
-    (s : ℕ) (start : Start) (on : Slopes) (target : ℕ) (p : ℤ) (v : ℕ) (xs : List Slice) (first : Point) (more : List Point) →
+    (s : ℕ) (start : Start) (on : Slopes) (target : ℕ) (p : ℤ) (v : ℕ) (xs : List Slice) (first : Point)
+    (more : List Point) →
     IsMotion s start on p v xs first more → v ≤ s * start.speed →
     All (IsInReach s start target p) (slice_ends p v xs ++ first ∷ [])

@@ -16,7 +16,8 @@ pub record IsPrintedOf (now : Situation) (limit : Target → Option Fraction) (t
   pub slow : target_speed t ≤ now.speed
   pub has : limit t ≡ Some x
 
--- a printed limit in mm is at or before that of each target that it is printed of, and less than two millimetres before one of them
+-- a printed limit in mm is at or before that of each target that it is printed of, and less than two millimetres
+-- before one of them
 pub record IsPrintedAt (now : Situation) (limit : Target → Option Fraction) (mm : ℤ) : Type 0 where
   pub not_past : (t : Target) (x : Fraction) → IsPrintedOf now limit t x → IsAtMost (whole (place_of_mm mm)) x
   pub target : Target
@@ -31,11 +32,16 @@ IsPrinted now limit None = (t : Target) (x : Fraction) → IsPrintedOf now limit
 
 -- the printed limits of a row stand for the exact ones
 pub record ArePrinted (s : Supervision) (r : OdometerReading) : Type 0 where
-  pub ebi : IsPrinted (situation_of s r) (λ t. (limits_of exact_places s.train_and_track (estimate_of r) t).ebi) (row_of s r).ebi
-  pub sbi : IsPrinted (situation_of s r) (λ t. Some (limits_of exact_places s.train_and_track (estimate_of r) t).sbi) (row_of s r).sbi
-  pub warning : IsPrinted (situation_of s r) (λ t. Some (limits_of exact_places s.train_and_track (estimate_of r) t).warning) (row_of s r).warning
-  pub permitted : IsPrinted (situation_of s r) (λ t. Some (limits_of exact_places s.train_and_track (estimate_of r) t).permitted) (row_of s r).permitted
-  pub indication : IsPrinted (situation_of s r) (λ t. Some (limits_of exact_places s.train_and_track (estimate_of r) t).indication) (row_of s r).indication
+  pub ebi : IsPrinted (situation_of s r) (λ t. (limits_of exact_places s.train_and_track (estimate_of r) t).ebi)
+      (row_of s r).ebi
+  pub sbi : IsPrinted (situation_of s r) (λ t. Some (limits_of exact_places s.train_and_track (estimate_of r) t).sbi)
+      (row_of s r).sbi
+  pub warning : IsPrinted (situation_of s r)
+      (λ t. Some (limits_of exact_places s.train_and_track (estimate_of r) t).warning) (row_of s r).warning
+  pub permitted : IsPrinted (situation_of s r)
+      (λ t. Some (limits_of exact_places s.train_and_track (estimate_of r) t).permitted) (row_of s r).permitted
+  pub indication : IsPrinted (situation_of s r)
+      (λ t. Some (limits_of exact_places s.train_and_track (estimate_of r) t).indication) (row_of s r).indication
 
 -- each printed limit is at most the exact one and less than two millimetres before it
 abbrev pub LawOfPrintedLimits : Type 0

@@ -24,17 +24,20 @@ use Rattle.sdm_rules.specs.Headline.{IsSupervised, AreTurnsSafe}
 
 -- the slopes of accepted data are usable
 abbrev pub LawOfAcceptedSlopes : Type 0
-LawOfAcceptedSlopes = (kind : SlopeKind) (d : TrainAndTrack) → HasBands d.train.bands → IsAcceptedKind kind d → IsUsable (slopes_of kind d)
+LawOfAcceptedSlopes = (kind : SlopeKind) (d : TrainAndTrack) → HasBands d.train.bands → IsAcceptedKind kind d →
+    IsUsable (slopes_of kind d)
 
 -- an accepted opening is open, and a state stays open over each record: no record changes the data
 pub record IsKeptOpen : Type 0 where
   pub opens : (d : TrainAndTrack) (a : Authority) → HasBands d.train.bands → IsAccepted d a → IsOpen (opening d a)
   pub stays : (s : Supervision) (e : Event) → IsOpen s → IfOk (step s e) IsOpen
 
--- on accepted slopes each computed place of a curve lies at most `most_slack` grains before the exact one, never past it
+-- on accepted slopes each computed place of a curve lies at most `most_slack` grains before the exact one, never past
+-- it
 abbrev pub LawOfNearness : Type 0
 LawOfNearness = (kind : SlopeKind) (d : TrainAndTrack) → HasBands d.train.bands → IsAcceptedKind kind d →
-    (f : ℤ) (w v : ℕ) → IsEarlyFor (record { at = stepped (slopes_of kind d) f w v; slack = most_slack }) (exact (slopes_of kind d) f w v)
+    (f : ℤ) (w v : ℕ) → IsEarlyFor (record { at = stepped (slopes_of kind d) f w v; slack = most_slack })
+    (exact (slopes_of kind d) f w v)
 
 -- `low` is at most `x`, and at most `most_slack` grains before it
 pub record IsJustBefore (low x : Fraction) : Type 0 where
@@ -58,10 +61,11 @@ pub record AreLimitsJustBefore (low x : SupervisionLimits) : Type 0 where
   pub permitted : IsJustBefore low.permitted x.permitted
   pub indication : IsJustBefore low.indication x.indication
 
--- each computed limit, and the computed start of release speed monitoring, is at most the exact one and less than a millimetre before it
--- (SUBSET-026-3 3.13.9.3, 3.13.9.4)
+-- each computed limit, and the computed start of release speed monitoring, is at most the exact one and less than a
+-- millimetre before it (SUBSET-026-3 3.13.9.3, 3.13.9.4)
 pub record AreEarly (d : TrainAndTrack) (r : OdometerReading) : Type 0 where
-  pub limits : (t : Target) → AreLimitsJustBefore (limits_of computed d (estimate_of r) t) (limits_of exact_places d (estimate_of r) t)
+  pub limits : (t : Target) →
+      AreLimitsJustBefore (limits_of computed d (estimate_of r) t) (limits_of exact_places d (estimate_of r) t)
   pub release_start : (eoa svl release : ℕ) →
       IsJustBefore (release_start computed d eoa svl release) (release_start exact_places d eoa svl release)
   pub fine : most_slack < millimetre
@@ -95,8 +99,8 @@ LawOfReleaseStart = (s : Supervision) (r : OdometerReading) → IsOpen s → Beg
 abbrev pub LawOfSupervision : Type 0
 LawOfSupervision = (s : Supervision) (r : OdometerReading) → IsOpen s → IsSupervised s r
 
--- THE HEADLINE over every journey: from an accepted supervision state on, in which the three commands stand in order, each turn is
--- safe, whatever the records and by whatever form they are read
+-- THE HEADLINE over every journey: from an accepted supervision state on, in which the three commands stand in order,
+-- each turn is safe, whatever the records and by whatever form they are read
 abbrev pub LawOfJourneys : Type 0 → Type 0
 LawOfJourneys Record =
     (form : ℕ → Record → Result Event EventFault) (n : ℕ) (s : Supervision) (must may : Bool) (records : List Record) →

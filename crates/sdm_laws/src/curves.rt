@@ -1,10 +1,11 @@
-//! The laws of brake curves, for any usable slopes, every foot, every foot speed and every scale. Each function makes no
-//! call and only states its law.
+//! The laws of brake curves, for any usable slopes, every foot, every foot speed and every scale. Each function makes
+//! no call and only states its law.
 
-ghost use Rattle.sdm_laws.specs.CurveLaws.{LawOfFoot, LawOfFractions, LawOfKnots, LawOfOrder, LawOfRounding, LawOfScale};
+ghost use Rattle.sdm_laws.specs.CurveLaws.{LawOfFoot, LawOfFractions, LawOfKnots, LawOfOrder, LawOfRounding};
+ghost use Rattle.sdm_laws.specs.CurveLaws.{LawOfScale};
 
-/// The stepped place of a speed is never past the exact one, and at most as far before it as the number of bands allows:
-/// less than a millimetre.
+/// The stepped place of a speed is never past the exact one, and at most as far before it as the number of bands
+/// allows: less than a millimetre.
 pub fn law_of_rounding()
     ensures { LawOfRounding }
 {}
@@ -29,7 +30,8 @@ pub fn law_of_foot()
     ensures { LawOfFoot }
 {}
 
-/// The two facts of a knot fix the stepped end of an arc from a whole grain, and so the stepped place from border to border.
+/// The two facts of a knot fix the stepped end of an arc from a whole grain, and so the stepped place from border to
+/// border.
 pub fn law_of_knots()
     ensures { LawOfKnots }
 {}

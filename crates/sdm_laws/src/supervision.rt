@@ -1,66 +1,69 @@
-//! The laws of supervision: of every accepted supervision state and reading, and of every list of records. Each function
-//! makes no call and only states its clause.
+//! The laws of supervision: of every accepted supervision state and reading, and of every list of records. Each
+//! function makes no call and only states its clause.
 
 ghost use Rattle.sdm_laws.specs.PrintedLimits.{LawOfPrintedLimits};
-ghost use Rattle.sdm_laws.specs.SupervisionLaws.{IsKeptOpen, LawOfAcceptedSlopes, LawOfCeiling, LawOfGaps, LawOfJourneys, LawOfLimits, LawOfMachines, LawOfNearness, LawOfReleaseStart, LawOfStop, LawOfSupervision};
+ghost use Rattle.sdm_laws.specs.SupervisionLaws.{IsKeptOpen, LawOfAcceptedSlopes, LawOfCeiling, LawOfGaps};
+ghost use Rattle.sdm_laws.specs.SupervisionLaws.{LawOfJourneys, LawOfLimits, LawOfMachines, LawOfNearness};
+ghost use Rattle.sdm_laws.specs.SupervisionLaws.{LawOfReleaseStart, LawOfStop, LawOfSupervision};
 
 /// The slopes of accepted data are usable: brake curves on them have their laws.
-#[tactic(auto, using(crate::proofs::AcceptedSlopes::accepted_usable))]
+#[tactic(auto, using(crate::proofs::Openings::AcceptedSlopes::accepted_usable))]
 pub fn law_of_accepted_slopes()
     ensures { LawOfAcceptedSlopes }
 {}
 
 /// What the opening accepts stays so over every record.
-#[tactic(auto, using(crate::proofs::Headline::kept_open))]
+#[tactic(auto, using(crate::proofs::Rows::Headline::kept_open))]
 pub fn law_of_openings()
     ensures { IsKeptOpen }
 {}
 
-/// On accepted slopes each computed place of a curve lies less than a millimetre before the exact one, and never past it.
-#[tactic(auto, using(crate::proofs::Headline::nearness))]
+/// On accepted slopes each computed place of a curve lies less than a millimetre before the exact one, and never past
+/// it.
+#[tactic(auto, using(crate::proofs::Rows::Headline::nearness))]
 pub fn law_of_nearness()
     ensures { LawOfNearness }
 {}
 
-/// Each computed limit of a target, and the computed start of release speed monitoring, is at most the exact one and less than a
-/// millimetre before it.
+/// Each computed limit of a target, and the computed start of release speed monitoring, is at most the exact one and
+/// less than a millimetre before it.
 pub fn law_of_limits()
     ensures { LawOfLimits }
 {}
 
-/// Each printed limit of a row is at or before the exact limits that it is printed of, and less than two millimetres before the least
-/// of them.
-#[tactic(auto, using(crate::proofs::PrintedLimits::printed_limits))]
+/// Each printed limit of a row is at or before the exact limits that it is printed of, and less than two millimetres
+/// before the least of them.
+#[tactic(auto, using(crate::proofs::Rows::PrintedLimits::printed_limits))]
 pub fn law_of_printed_limits()
     ensures { LawOfPrintedLimits }
 {}
 
 /// Over each reading the commands of the exact machine, the supervisor and the early machine stay in order.
-#[tactic(auto, using(crate::proofs::Headline::machines))]
+#[tactic(auto, using(crate::proofs::Rows::Headline::machines))]
 pub fn law_of_machines()
     ensures { LawOfMachines }
 {}
 
 /// From every covered row each motion stops by the supervised location and meets each speed target.
-#[tactic(auto, using(crate::proofs::Headline::stop))]
+#[tactic(auto, using(crate::proofs::Rows::Headline::stop))]
 pub fn law_of_stop()
     ensures { LawOfStop }
 {}
 
 /// Why a row is not covered where no emergency brake is commanded.
-#[tactic(auto, using(crate::proofs::Gaps::gaps))]
+#[tactic(auto, using(crate::proofs::Rows::Gaps::gaps))]
 pub fn law_of_gaps()
     ensures { LawOfGaps }
 {}
 
 /// How fast the train runs where no emergency brake is commanded.
-#[tactic(auto, using(crate::proofs::Ceiling::within_ceiling))]
+#[tactic(auto, using(crate::proofs::Rows::Ceiling::within_ceiling))]
 pub fn law_of_ceiling()
     ensures { LawOfCeiling }
 {}
 
 /// When release speed monitoring begins.
-#[tactic(auto, using(crate::proofs::Headline::release))]
+#[tactic(auto, using(crate::proofs::Rows::Headline::release))]
 pub fn law_of_release_start()
     ensures { LawOfReleaseStart }
 {}

@@ -38,9 +38,12 @@ pub ebd_places :
     places_of l ≡ ebd_limits_at times v guide bec (whole z)
 ebd_places l times v guide ebi sbi bec distance z found ebi_at sbi_at distance_is =
     let sbi_at' = subst (λ (w : ℕ). sbi.at ≡ ebi.at +ℤ neg_ℤ (pos w)) distance_is sbi_at in
-    let from_ebi = subst (λ (s : Fraction). places_of l ≡ limits_from_sbi times v guide (Some (place_of ebi)) s) (whole_less sbi.at ebi.at (distance_at v times.bs) sbi_at') found in
-    subst (λ (e : Fraction). places_of l ≡ limits_from_sbi times v guide (Some e) (less e (distance_at v times.bs))) (whole_less ebi.at z bec ebi_at) from_ebi
+    let from_ebi = subst (λ (s : Fraction). places_of l ≡ limits_from_sbi times v guide (Some (place_of ebi)) s)
+    (whole_less sbi.at ebi.at (distance_at v times.bs) sbi_at') found in
+    subst (λ (e : Fraction). places_of l ≡ limits_from_sbi times v guide (Some e) (less e (distance_at v times.bs)))
+    (whole_less ebi.at z bec ebi_at) from_ebi
 
 -- a bound of a place that lies a distance before another one
-pub early_before : (e : Bound) (x : Fraction) (distance v time : ℕ) → distance ≡ distance_at v time → IsEarlyFor e (less x distance) → IsEarlyFor e (less x (distance_at v time))
+pub early_before : (e : Bound) (x : Fraction) (distance v time : ℕ) → distance ≡ distance_at v time →
+    IsEarlyFor e (less x distance) → IsEarlyFor e (less x (distance_at v time))
 early_before e x distance v time distance_is h = subst (λ (w : ℕ). IsEarlyFor e (less x w)) distance_is h

@@ -18,8 +18,8 @@ pub record AreTimes (t : Times) : Type 0 where
   pub bs : t.bs ≤ most_time
   pub indication : t.indication ≤ most_time
 
--- a build-up with V_delta1 and V_delta2, the gains of speed until the traction is cut off and after that (SUBSET-026-3 3.13.9.3.2). No part
--- is too great: the speed is at most 500 km/h and an under-reading of 10,000 mm/s (ranges own)
+-- a build-up with V_delta1 and V_delta2, the gains of speed until the traction is cut off and after that (SUBSET-026-3
+-- 3.13.9.3.2). No part is too great: the speed is at most 500 km/h and an under-reading of 10,000 mm/s (ranges own)
 pub record IsBuildUp (b : BuildUp) (v_delta1 v_delta2 : ℕ) : Type 0 where
   pub speed : b.speed ≤ notches top_kmh + notches_of_mm_s 10_000
   pub accel1 : b.accel1 ≤ 300

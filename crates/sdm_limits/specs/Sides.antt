@@ -1,4 +1,5 @@
--- What limits that were found say of the limits of the profile: where they lie, and which exact ones they stand for (own).
+-- What limits that were found say of the limits of the profile: where they lie, and which exact ones they stand for
+-- (own).
 use Rattle.std.specs.Prelude.{ℕ, ◌*◌, ◌≤◌, Option, Some, None, option_map, ⊤}
 use Rattle.std.specs.Option.{ForSome}
 use Rattle.sdm_num.specs.Fractions.{Fraction, whole}
@@ -14,7 +15,8 @@ use Rattle.sdm_limits.specs.Ranges.{IsNearZero, reach}
 
 -- the limits on an EBD with a foot, on the slopes of a map, for any way to find the places of a curve
 -- (SUBSET-026-3 3.13.9.3)
-abbrev pub ebd_limits_by : CurvePlaces → SlopeMap → BrakeCurve → Option Fraction → Times → ℕ → Reaction → SupervisionLimits
+abbrev pub ebd_limits_by : CurvePlaces → SlopeMap → BrakeCurve → Option Fraction → Times → ℕ → Reaction →
+    SupervisionLimits
 ebd_limits_by P map ebd guide times v reaction =
     ebd_limits_at times v guide reaction.d_bec (P (meaning_of map) ebd.place ebd.speed reaction.v_bec)
 

@@ -1,6 +1,6 @@
-//! The limits of a target, each so many grains before the place of its brake curve: EBI, SBI, W, P and I. They are found
-//! from the computed place of the curve just as the exact limits from the exact one. Own: T_bs1 and T_bs2 are the same, and
-//! each target has one SBI, on its EBD or, for an EOA, on its SBD.
+//! The limits of a target, each so many grains before the place of its brake curve: EBI, SBI, W, P and I. They are
+//! found from the computed place of the curve just as the exact limits from the exact one. Own: T_bs1 and T_bs2 are
+//! the same, and each target has one SBI, on its EBD or, for an EOA, on its SBD.
 
 ghost use Rattle.std.specs.Prelude.{◌≡◌, ◌≤◌, ◌*◌, ◌^◌, Option};
 ghost use Rattle.std.specs.Option.{option_map_or};
@@ -12,7 +12,8 @@ ghost use Rattle.sdm_rules.specs.Slopes.{meaning_of};
 ghost use Rattle.sdm_rules.specs.Ranges.{top_kmh};
 ghost use Rattle.sdm_curve.specs.Made.{IsMadeFrom};
 ghost use Rattle.sdm_limits.specs.Ranges.{AreTimes, IsGuide, IsNearZero, curve_reach, reach};
-ghost use Rattle.sdm_limits.specs.Sides.{AreFine, AreNear, IsEarlyWhere, IsFine, IsFineWhere, StandFor, ebd_limits_by, place_of, place_where, places_of, sbd_limits_by};
+ghost use Rattle.sdm_limits.specs.Sides.{AreFine, AreNear, IsEarlyWhere, IsFine, IsFineWhere, StandFor, ebd_limits_by};
+ghost use Rattle.sdm_limits.specs.Sides.{place_of, place_where, places_of, sbd_limits_by};
 
 use crate::reaction::Reaction;
 use crate::times::{T_DRIVER, T_WARNING};
@@ -36,9 +37,9 @@ pub struct Limits {
     pub indication: Early,
 }
 
-/// The limits on an EBD at the estimated speed `v`, with the guidance curve's place at `v` where there is a guidance curve.
-/// The curve was made from the map; `v` is at most 500 km/h, each time at most 300 ds, D_bec at most 10¹⁶ grains, and the
-/// guide lies within 10¹⁸ grains of the origin. (SUBSET-026-3 3.13.9.3; ranges own)
+/// The limits on an EBD at the estimated speed `v`, with the guidance curve's place at `v` where there is a guidance
+/// curve. The curve was made from the map; `v` is at most 500 km/h, each time at most 300 ds, D_bec at most 10¹⁶
+/// grains, and the guide lies within 10¹⁸ grains of the origin. (SUBSET-026-3 3.13.9.3; ranges own)
 pub fn ebd_limits(
     safe: &BandMap,
     ebd: &Curve,
@@ -63,8 +64,8 @@ pub fn ebd_limits(
     ebd_limits_at(place, guide, times, v, reaction.d_bec)
 }
 
-/// The limits on an EBD by its place at V_bec, which lies within 9·10¹⁷ grains of the origin; the other conditions are those of
-/// `ebd_limits`. (SUBSET-026-3 3.13.9.3; ranges own)
+/// The limits on an EBD by its place at V_bec, which lies within 9·10¹⁷ grains of the origin; the other conditions are
+/// those of `ebd_limits`. (SUBSET-026-3 3.13.9.3; ranges own)
 pub fn ebd_limits_at(
     place: Early,
     guide: Option<Early>,
@@ -90,8 +91,8 @@ pub fn ebd_limits_at(
     limits_from_sbi(times, v, guide, Some(ebi), sbi)
 }
 
-/// The limits on an SBD, which have no EBI, at the estimated speed `v`, with the guidance curve's place at `v` where there is
-/// a guidance curve. The conditions are those of `ebd_limits`. (SUBSET-026-3 3.13.9.3; ranges own)
+/// The limits on an SBD, which have no EBI, at the estimated speed `v`, with the guidance curve's place at `v` where
+/// there is a guidance curve. The conditions are those of `ebd_limits`. (SUBSET-026-3 3.13.9.3; ranges own)
 pub fn sbd_limits(
     expected: &BandMap,
     sbd: &Curve,

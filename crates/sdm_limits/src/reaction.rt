@@ -22,8 +22,8 @@ pub struct Reaction {
     pub d_bec: u64,
 }
 
-/// How the train goes on from the emergency brake command until the brake works, whichever the target is: speeds in notches,
-/// accelerations in cm/s², times in ds; 1 cm/s² gains 54 notches in a ds. (SUBSET-026-3 3.13.9.3.2)
+/// How the train goes on from the emergency brake command until the brake works, whichever the target is: speeds in
+/// notches, accelerations in cm/s², times in ds; 1 cm/s² gains 54 notches in a ds. (SUBSET-026-3 3.13.9.3.2)
 #[derive(Debug, Drop)]
 pub struct BuildUp {
     /// V_est + V_delta0.
@@ -63,9 +63,9 @@ impl Model for BuildUp {
 }
 
 impl BuildUp {
-    /// From the estimated speed `v` on; `under` is V_delta0, the under-reading amount where it is compensated, else 0. Each time is at
-    /// most 300 ds, `v` at most 500 km/h, `under` at most 10,000 mm/s, and the estimated acceleration from −300 to 300 cm/s².
-    /// (SUBSET-026-3 3.13.9.3.2; ranges own)
+    /// From the estimated speed `v` on; `under` is V_delta0, the under-reading amount where it is compensated, else 0.
+    /// Each time is at most 300 ds, `v` at most 500 km/h, `under` at most 10,000 mm/s, and the estimated acceleration
+    /// from −300 to 300 cm/s². (SUBSET-026-3 3.13.9.3.2; ranges own)
     pub fn of(times: &Times, v: Speed, under: Speed, accel: i16) -> BuildUp
         requires times { AreTimes times.now }
         requires speed { v ≤ notches top_kmh }
@@ -74,7 +74,8 @@ impl BuildUp {
         requires gaining { accel ≤ℤ pos 300 }
         ensures { result ≡ build_up times.now (v + under) accel }
     {
-        // A_est1 is the estimated acceleration, 0 if it is negative; A_est2 is at most 0.4 m/s² (SUBSET-026-3 3.13.9.3.2)
+        // A_est1 is the estimated acceleration, 0 if it is negative; A_est2 is at most 0.4 m/s² (SUBSET-026-3
+        // 3.13.9.3.2)
         let a_est1 = accel.max(0) as u32;
         let a_est2 = a_est1.min(A_EST2_MOST);
         BuildUp {
@@ -121,8 +122,9 @@ impl BuildUp {
 }
 
 /// V_bec and D_bec from the estimated speed `v` on, for a target with a speed; `under` is V_delta0, the under-reading
-/// amount where it is compensated, else 0. Each time is at most 300 ds, `v` and the target's speed at most 500 km/h, `under`
-/// at most 10,000 mm/s, and the estimated acceleration from −300 to 300 cm/s². (SUBSET-026-3 3.13.9.3.2; ranges own)
+/// amount where it is compensated, else 0. Each time is at most 300 ds, `v` and the target's speed at most 500 km/h,
+/// `under` at most 10,000 mm/s, and the estimated acceleration from −300 to 300 cm/s². (SUBSET-026-3 3.13.9.3.2;
+/// ranges own)
 pub fn reaction_of(times: &Times, v: Speed, under: Speed, accel: i16, target: Speed) -> Reaction
     requires times { AreTimes times.now }
     requires speed { v ≤ notches top_kmh }

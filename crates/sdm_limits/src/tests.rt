@@ -24,7 +24,7 @@ fn number(line: &str, i: usize) -> Result<i32, &'static str> {
     word(line, i)?.parse::<i32>().map_err(|_| "not a number")
 }
 
-// T_traction, T_berem, T_bs and T_indication, which a row begins with.
+/// T_traction, T_berem, T_bs and T_indication, which a row begins with.
 fn times_of_row(rt: &impl Abort, line: &str) -> Result<Times, &'static str>
     ensures { IfOk result AreTimes }
 {
@@ -155,9 +155,9 @@ fn times_of_a_train_are_times_of_its_reaction(rt: HostRuntime) {
 
 // ---- limits
 
-/// For a train at 20 m/s and curves at 1 m/s² with their feet at 1000 m: times in ds, acceleration in cm/s², target in km/h,
-/// foot speed of the EBD in m/s, guidance curve's place; then EBI, SBI, W, P and I of the EBD, and SBI, W, P and I of the
-/// SBD to a stop. Places in mm.
+/// For a train at 20 m/s and curves at 1 m/s² with their feet at 1000 m: times in ds, acceleration in cm/s², target in
+/// km/h, foot speed of the EBD in m/s, guidance curve's place; then EBI, SBI, W, P and I of the EBD, and SBI, W, P and
+/// I of the SBD to a stop. Places in mm.
 const LIMITS: &str = "\
 0 20 30 90 0 0 0 - 760000 700000 660000 620000 440000 740000 700000 660000 480000
 0 20 30 90 0 0 0 600000 760000 700000 660000 600000 420000 740000 700000 600000 420000
@@ -169,12 +169,12 @@ const LIMITS: &str = "\
 0 20 30 90 0 90 30 - 1087500 1027500 987500 947500 767500 740000 700000 660000 480000
 300 300 300 300 0 0 0 - -400000 -1000000 -1040000 -1080000 -1680000 200000 160000 120000 -480000";
 
-// One band and one slope of 1 m/s².
+/// One band and one slope of 1 m/s².
 fn level(alloc: Global) -> Result<BandMap, CurveFault> {
     BandMap::new(alloc, 100, &[], &[0], &[200_000_000_000])
 }
 
-// The guide of a row, if it has one.
+/// The guide of a row, if it has one.
 fn guide_of_row(rt: &impl Abort, line: &str, i: usize) -> Result<Option<Early>, &'static str>
     ensures { IfOk result IsGuide }
 {

@@ -19,9 +19,9 @@ const INDICATION_LEAST: u32 = 50;
 pub trait OfTrain {
     ghost of_gives: { ℕ → Bool → ℕ → ℕ → Bool → Self };
 
-    /// The times of a train, all in ds and at most 300: of its traction cut-off, with whether it has an interface for that,
-    /// and the build-up times of its emergency brake and its service brake, with whether the service brake is in use. The
-    /// service brake's is in steps of 5 ds, so that 0.8 of it is whole. (ranges own)
+    /// The times of a train, all in ds and at most 300: of its traction cut-off, with whether it has an interface for
+    /// that, and the build-up times of its emergency brake and its service brake, with whether the service brake is in
+    /// use. The service brake's is in steps of 5 ds, so that 0.8 of it is whole. (ranges own)
     fn of(cut_off: u32, interface: bool, emergency: u32, service: u32, service_used: bool) -> Self
         requires cut_off { cut_off ≤ most_time }
         requires emergency { emergency ≤ most_time }
@@ -54,8 +54,8 @@ impl OfTrain for Times {
     }
 }
 
-/// T_traction: with an interface the traction is cut off from the warning on, max(T_traction_cut_off - (T_warning + T_bs),
-/// 0); without one, T_traction_cut_off. (SUBSET-026-3 3.13.9.3.2)
+/// T_traction: with an interface the traction is cut off from the warning on, max(T_traction_cut_off - (T_warning +
+/// T_bs), 0); without one, T_traction_cut_off. (SUBSET-026-3 3.13.9.3.2)
 fn traction_time(cut_off: u32, interface: bool, bs: u32) -> u32
     requires { bs ≤ most_time }
     ensures { result ≡ t_traction cut_off interface bs }

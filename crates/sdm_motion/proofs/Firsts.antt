@@ -1,5 +1,7 @@
--- Slices end past their beginning by all their lengths, with the square of the last speed: by induction over the slices.
-use Rattle.std.proofs.Common.{◌≡◌, ℕ, suc, ℤ, pos, List, [], ◌∷◌, Some, None, length, slice_get, ◌-◌, ◌+◌, ◌*◌, ◌+ℤ◌, arith, ap, sym, refl, ◌∙◌}
+-- Slices end past their beginning by all their lengths, with the square of the last speed: by induction over the
+-- slices.
+use Rattle.std.proofs.Common.{◌≡◌, ℕ, suc, ℤ, pos, List, [], ◌∷◌, Some, None, length, slice_get, ◌-◌, ◌+◌, ◌*◌, ◌+ℤ◌}
+use Rattle.std.proofs.Common.{arith, ap, sym, refl, ◌∙◌}
 use Rattle.std.proofs.lemmas.Int.{ints}
 use Rattle.std.proofs.lemmas.Option.{slice_get-get_or}
 use Rattle.sdm_rules.specs.declared.motions.Point.{Point}
@@ -36,19 +38,24 @@ point p u = record { place = p; square = u }
 same_point : (p p' : ℤ) (u u' : ℕ) → p ≡ p' → u ≡ u' → point p u ≡ point p' u'
 same_point p p' u u' e f = cc
 
-pub first_is : (p : ℤ) (v : ℕ) (xs : List Slice) → first_of p v xs ≡ point (p +ℤ pos (length_of xs)) (speed_after v xs * speed_after v xs)
+pub first_is : (p : ℤ) (v : ℕ) (xs : List Slice) →
+    first_of p v xs ≡ point (p +ℤ pos (length_of xs)) (speed_after v xs * speed_after v xs)
 first_is p v [] = same_point p (p +ℤ pos 0) (v * v) (v * v) (omega (arith, ints)) refl
 first_is p v (x ∷ xs) =
     let u = speed_after x.to xs * speed_after x.to xs in
     first_is (p +ℤ pos x.length) x.to xs
-    ∙ same_point ((p +ℤ pos x.length) +ℤ pos (length_of xs)) (p +ℤ pos (x.length + length_of xs)) u u (omega (arith, ints)) refl
+    ∙ same_point ((p +ℤ pos x.length) +ℤ pos (length_of xs)) (p +ℤ pos (x.length + length_of xs)) u u
+    (omega (arith, ints)) refl
 
 -- the first point, by its place and its square
 pub place_is : (p : ℤ) (v : ℕ) (xs : List Slice) (x : Point) → x ≡ first_of p v xs → x.place ≡ p +ℤ pos (length_of xs)
 place_is p v xs x e = ap (λ (y : Point). y.place) (e ∙ first_is p v xs)
 
-pub square_is : (p : ℤ) (v : ℕ) (xs : List Slice) (x : Point) → x ≡ first_of p v xs → x.square ≡ speed_after v xs * speed_after v xs
+pub square_is : (p : ℤ) (v : ℕ) (xs : List Slice) (x : Point) → x ≡ first_of p v xs →
+    x.square ≡ speed_after v xs * speed_after v xs
 square_is p v xs x e = ap (λ (y : Point). y.square) (e ∙ first_is p v xs)
 
-pub is_first_of : (p : ℤ) (v : ℕ) (xs : List Slice) (x : Point) → x.place ≡ p +ℤ pos (length_of xs) → x.square ≡ speed_after v xs * speed_after v xs → x ≡ first_of p v xs
-is_first_of p v xs x e f = same_point x.place (p +ℤ pos (length_of xs)) x.square (speed_after v xs * speed_after v xs) e f ∙ sym (first_is p v xs)
+pub is_first_of : (p : ℤ) (v : ℕ) (xs : List Slice) (x : Point) → x.place ≡ p +ℤ pos (length_of xs) →
+    x.square ≡ speed_after v xs * speed_after v xs → x ≡ first_of p v xs
+is_first_of p v xs x e f = same_point x.place (p +ℤ pos (length_of xs)) x.square
+    (speed_after v xs * speed_after v xs) e f ∙ sym (first_is p v xs)

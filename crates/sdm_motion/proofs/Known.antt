@@ -10,12 +10,17 @@ use Rattle.sdm_rules.specs.Stop.{IsMotionOn}
 use Rattle.sdm_motion.specs.Motions.{first_of, IsPointInRange, IsKnownMotion, LawOfKnownMotion}
 use Rattle.sdm_motion.specs.Steps.{AreBraking}
 
-pub known_of : (s : ℕ) (start : Start) (on : Slopes) (xs : List Slice) (points : List Point) (x : Point) (p : ℤ) (v : ℕ) → p ≡ pos (s * s) *ℤ start.front → v ≡ s * start.speed →
-    slice_get points 0 ≡ Some x → All IsPointInRange points → IsReaction s start v xs → x ≡ first_of p v xs → AreBraking on (s * s) points → IsKnownMotion s start on xs points
-known_of s start on xs points x p v p_is v_is at ranges reaction is braking = known_at s start on xs points x at ranges (rw v_is at reaction) (rw (p_is, v_is) at is) braking
+pub known_of : (s : ℕ) (start : Start) (on : Slopes) (xs : List Slice) (points : List Point) (x : Point) (p : ℤ)
+    (v : ℕ) → p ≡ pos (s * s) *ℤ start.front → v ≡ s * start.speed →
+    slice_get points 0 ≡ Some x → All IsPointInRange points → IsReaction s start v xs → x ≡ first_of p v xs →
+    AreBraking on (s * s) points → IsKnownMotion s start on xs points
+known_of s start on xs points x p v p_is v_is at ranges reaction is braking =
+    known_at s start on xs points x at ranges (rw v_is at reaction) (rw (p_is, v_is) at is) braking
   where
-    known_at : (s : ℕ) (start : Start) (on : Slopes) (xs : List Slice) (points : List Point) (x : Point) → slice_get points 0 ≡ Some x → All IsPointInRange points →
-        IsReaction s start (s * start.speed) xs → x ≡ first_of (pos (s * s) *ℤ start.front) (s * start.speed) xs → AreBraking on (s * s) points → IsKnownMotion s start on xs points
+    known_at : (s : ℕ) (start : Start) (on : Slopes) (xs : List Slice) (points : List Point) (x : Point) →
+        slice_get points 0 ≡ Some x → All IsPointInRange points →
+        IsReaction s start (s * start.speed) xs → x ≡ first_of (pos (s * s) *ℤ start.front) (s * start.speed) xs →
+        AreBraking on (s * s) points → IsKnownMotion s start on xs points
     known_at s start on xs [] x at ranges reaction is braking = absurd braking
     known_at s start on xs (y ∷ ys) x at ranges reaction is braking = record {
       first = y;
@@ -29,7 +34,8 @@ known_of s start on xs points x p v p_is v_is at ranges reaction is braking = kn
       ranges = ranges;
     }
 
-pub known_braking : (s : ℕ) (start : Start) (on : Slopes) (xs : List Slice) (points : List Point) → IsKnownMotion s start on xs points → AreBraking on (s * s) points
+pub known_braking : (s : ℕ) (start : Start) (on : Slopes) (xs : List Slice) (points : List Point) →
+    IsKnownMotion s start on xs points → AreBraking on (s * s) points
 known_braking s start on xs points h = rw h.split h.motion.braking
 
 -- it begins exactly at the front and with the speed of the start, which motions are at most at and at most have

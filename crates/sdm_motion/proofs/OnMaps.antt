@@ -2,9 +2,9 @@
 use Rattle.std.proofs.Common.{ℕ, ◌*◌, ◌<◌, arith}
 use Rattle.std.proofs.Math.Nat.{mul-le-mul_left}
 use Rattle.sdm_rules.specs.Slopes.{meaning_of}
-use Rattle.sdm_laws.proofs.Stretch.{stretch}
-use Rattle.sdm_laws.proofs.Braking.{braking}
-use Rattle.sdm_laws.proofs.Reaction.{reaction}
+use Rattle.sdm_laws.proofs.Moving.Stretch.{stretch}
+use Rattle.sdm_laws.proofs.Moving.Braking.{braking}
+use Rattle.sdm_laws.proofs.Moving.Reaction.{reaction}
 use Rattle.sdm_curve.proofs.Meanings.{usable_of}
 use Rattle.sdm_motion.specs.MapLaws.{LawOfMapStretch, LawOfMapBraking, LawOfMapReaction, LawOfMapMotion}
 
@@ -22,4 +22,5 @@ pub square_some : (s : ℕ) → 0 < s → 0 < s * s
 square_some s some = omega (arith, mul-le-mul_left s some)
 
 pub map_motion : LawOfMapMotion
-map_motion map s start f w p v xs first more kept some motion = map_braking map (s * s) f w first more kept (square_some s some) motion.braking
+map_motion map s start f w p v xs first more kept some motion =
+    map_braking map (s * s) f w first more kept (square_some s some) motion.braking

@@ -17,8 +17,8 @@ pub record IsPointInRange (x : Point) : Type 0 where
 abbrev pub first_of : ℤ → ℕ → List Slice → Point
 first_of p v xs = last_point (record { place = p; square = v * v }) (slice_ends p v xs)
 
--- the slices and points are a motion that begins exactly at the front and with the speed of the start, and every point is
--- in its ranges
+-- the slices and points are a motion that begins exactly at the front and with the speed of the start, and every point
+-- is in its ranges
 pub record IsKnownMotion (s : ℕ) (start : Start) (on : Slopes) (xs : List Slice) (points : List Point) : Type 0 where
   pub first : Point
   pub more : List Point
@@ -26,14 +26,16 @@ pub record IsKnownMotion (s : ℕ) (start : Start) (on : Slopes) (xs : List Slic
   pub motion : IsMotion s start on (pos (s * s) *ℤ start.front) (s * start.speed) xs first more
   pub ranges : All IsPointInRange points
 
--- the slices and points are a motion that the promises of a start speak of, so what is promised of every motion holds of them
+-- the slices and points are a motion that the promises of a start speak of, so what is promised of every motion holds
+-- of them
 pub record IsPromisedMotion (s : ℕ) (start : Start) (on : Slopes) (xs : List Slice) (points : List Point) : Type 0 where
   pub first : Point
   pub more : List Point
   pub split : points ≡ first ∷ more
   pub motion : IsMotionOn on start s (pos (s * s) *ℤ start.front) (s * start.speed) xs first more
   pub stops : (place : ℤ) → StopsBy on start place → All (IsBy s place) points
-  pub slows : (place : ℤ) (w : ℕ) → SlowsTo on start place w → All (KeepsTo s place w) (slice_ends (pos (s * s) *ℤ start.front) (s * start.speed) xs ++ points)
+  pub slows : (place : ℤ) (w : ℕ) → SlowsTo on start place w →
+      All (KeepsTo s place w) (slice_ends (pos (s * s) *ℤ start.front) (s * start.speed) xs ++ points)
 
 -- what is known as a motion is one of those that the promises speak of
 abbrev pub LawOfKnownMotion : Type 0

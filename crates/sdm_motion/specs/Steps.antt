@@ -1,5 +1,5 @@
--- What the check of a step asks of one band, and of the segments of a map (own). Places are in 1/m grain and squares in
--- 1/m squared notch.
+-- What the check of a step asks of one band, and of the segments of a map (own). Places are in 1/m grain and squares
+-- in 1/m squared notch.
 use Rattle.std.specs.Prelude.{◌≡◌, ℕ, ℤ, pos, List, [], ◌∷◌, ◌+◌, ◌<◌, ◌<ℤ◌, length, slice_index_or}
 use Rattle.sdm_rules.specs.declared.motions.Point.{Point}
 use Rattle.sdm_rules.specs.Slopes.{Slopes, SlopeMap}

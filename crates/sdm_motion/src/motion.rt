@@ -65,9 +65,9 @@ fn is_first(point: &Point, slices: &[Slice], from: i128, speed: u64) -> bool
     point.square == last * last
 }
 
-/// Whether the slices and points are a motion that begins at the front and with the speed of the start, on the slopes of
-/// the map, with every place within ±10²¹ and every square at most 10¹⁷. For a scale `s` from 1 to 16, times are in 1/s ds,
-/// speeds in 1/s notch, places, lengths and squares in 1/s² of a grain and of a squared notch. (own)
+/// Whether the slices and points are a motion that begins at the front and with the speed of the start, on the slopes
+/// of the map, with every place within ±10²¹ and every square at most 10¹⁷. For a scale `s` from 1 to 16, times are in
+/// 1/s ds, speeds in 1/s notch, places, lengths and squares in 1/s² of a grain and of a squared notch. (own)
 pub fn is_motion(
     scale: u32,
     slices: &[Slice],

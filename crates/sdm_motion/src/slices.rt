@@ -86,8 +86,8 @@ fn time_of(slices: &[Slice]) -> u128
     time
 }
 
-/// Whether the slices are what a train may do before its brakes work: first all slices of traction and then those of the
-/// build-up, each with its time.
+/// Whether the slices are what a train may do before its brakes work: first all slices of traction and then those of
+/// the build-up, each with its time.
 pub fn is_reaction(scale: u32, slices: &[Slice], start: &Start, speed: u64) -> bool
     ensures { IsTrue result ↔ IsReaction scale start.now speed slices.now }
 {

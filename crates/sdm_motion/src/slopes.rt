@@ -1,4 +1,5 @@
-//! The slopes that a step meets on its stretch. Cells of one segment have one slope, so segments are asked in place of cells.
+//! The slopes that a step meets on its stretch. Cells of one segment have one slope, so segments are asked in place of
+//! cells.
 
 ghost use Rattle.std.specs.Prelude.{◌≡◌, ◌↔◌, ◌+◌, ◌<◌, length, IsTrue, MatchOption};
 ghost use Rattle.sdm_rules.specs.Slopes.{bands_of};
@@ -46,7 +47,8 @@ fn meets(m: u32, map: &BandMap, i: usize, from: &Point, to: &Point) -> bool
 
 /// The first segment that a stretch meets, if there is one.
 pub fn first_met(m: u32, map: &BandMap, from: &Point, to: &Point) -> Option<usize>
-    ensures met { MatchOption result (NoneIsMet m map.now.starts from.now.place to.now.place) (λ i. IsMet m map.now.starts i from.now.place to.now.place) }
+    ensures met { MatchOption result (NoneIsMet m map.now.starts from.now.place to.now.place)
+        (λ i. IsMet m map.now.starts i from.now.place to.now.place) }
     ensures rising { AreStarts map.now.starts }
 {
     for i in 0..map.segments() {

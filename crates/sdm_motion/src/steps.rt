@@ -64,14 +64,15 @@ fn brakes(map: &BandMap, band: usize, i: usize, from: &Point, to: &Point) -> boo
     requires to { IsPointInRange to.now }
     requires forward { from.now.place ≤ℤ to.now.place }
     requires slower { to.now.square ≤ from.now.square }
-    ensures { IsTrue result ↔ BrakesAtLeast (meaning_of map.now) (slope_of map.now band i) from.now.place from.now.square to.now.place to.now.square }
+    ensures { IsTrue result ↔ BrakesAtLeast (meaning_of map.now)
+        (slope_of map.now band i) from.now.place from.now.square to.now.place to.now.square }
 {
     let energy = map.energy_of_change((from.square - to.square) as u64);
     u128::from(map.rate(band, i)) * distance_to(to, from.place) <= energy
 }
 
-/// Whether all cells of the stretch have one slope in the band, and the train brakes at least with it. A point that stays asks
-/// no slope.
+/// Whether all cells of the stretch have one slope in the band, and the train brakes at least with it. A point that
+/// stays asks no slope.
 fn brakes_in(m: u32, map: &BandMap, band: usize, from: &Point, to: &Point) -> bool
     requires some { 0 < m }
     requires known { band < bands_of map.now.uppers }

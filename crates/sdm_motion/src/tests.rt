@@ -1,5 +1,6 @@
-//! Motions worked by hand. At q = 100 a slope of 200,000,000,000 is 1 m/s², a metre is 540,000,000,000 grains and 1 m/s is
-//! 54,000 notches; the distance between two speeds is the difference of their squares by twice the deceleration.
+//! Motions worked by hand. At q = 100 a slope of 200,000,000,000 is 1 m/s², a metre is 540,000,000,000 grains and 1
+//! m/s is 54,000 notches; the distance between two speeds is the difference of their squares by twice the
+//! deceleration.
 
 use crate::{Phase, Point, Slice, Start, is_motion};
 use sdm_curve::{BandMap, is_map_data};
@@ -24,8 +25,8 @@ fn map_of(
     }
 }
 
-/// `level`: 1 m/s². `parts`: up to 36 km/h 1 m/s² and from 100 m on 0.5 m/s², above it 0.5 m/s² and from 100 m on 1 m/s²;
-/// at 200 m a segment begins with the slopes of the one before it.
+/// `level`: 1 m/s². `parts`: up to 36 km/h 1 m/s² and from 100 m on 0.5 m/s², above it 0.5 m/s² and from 100 m on 1
+/// m/s²; at 200 m a segment begins with the slopes of the one before it.
 fn map_named(alloc: Global, name: &str) -> Result<BandMap, Fail> {
     if name == "level" {
         return map_of(alloc, &[], &[0], &[200_000_000_000]);
@@ -143,12 +144,12 @@ fn wrong_lines(alloc: Global, table: &str, want: bool) -> Result<Vec<usize>, Fai
     Ok(wrong)
 }
 
-// In each table: map | scale | front, speed, accelerations, times of the start | phase, time, speed, distance of slices | place, square of
-// points.
+// In each table: map | scale | front, speed, accelerations, times of the start | phase, time, speed, distance of
+// slices | place, square of points.
 //
-/// A train of 20 m/s at 760 m whose brake takes 2 s to build up: for an SvL at 1000 m it is at its EBI, and still covered. It makes
-/// full use of the 2 s, brakes no more than it must, and comes to stand exactly at the SvL: no limit could lie later. At scale 1
-/// and at scale 16.
+/// A train of 20 m/s at 760 m whose brake takes 2 s to build up: for an SvL at 1000 m it is at its EBI, and still
+/// covered. It makes full use of the 2 s, brakes no more than it must, and comes to stand exactly at the SvL: no limit
+/// could lie later. At scale 1 and at scale 16.
 const FROM_THE_EBI: &str = "\
 level | 1 | 410400000000000 1080000 0 0 0 20 | b 10 1080000 10800000000000, b 5 1080000 5400000000000, b 5 1080000 5400000000000 | 432000000000000 1166400000000, 459000000000000 874800000000, 486000000000000 583200000000, 540000000000000 0
 level | 16 | 410400000000000 1080000 0 0 0 20 | b 160 17280000 2764800000000000, b 80 17280000 1382400000000000, b 80 17280000 1382400000000000 | 110592000000000000 298598400000000, 117504000000000000 223948800000000, 124416000000000000 149299200000000, 138240000000000000 0";
@@ -157,8 +158,8 @@ level | 16 | 410400000000000 1080000 0 0 0 20 | b 160 17280000 2764800000000000,
 const PAST_THE_SVL: &str = "\
 level | 1 | 410400000000000 1080000 0 0 0 20 | b 10 1080000 10800000000000, b 5 1080000 5400000000000, b 5 1080000 5400000000000 | 432000000000000 1166400000000, 459000000000000 874800000000, 486000000000000 583200000000, 540000000000001 0";
 
-/// From row to row: slices that gain 1 cm/s² for 1 s; steps to and over starts of segments, and from band to band; places
-/// below 0; the ends of the ranges.
+/// From row to row: slices that gain 1 cm/s² for 1 s; steps to and over starts of segments, and from band to band;
+/// places below 0; the ends of the ranges.
 const MOTIONS: &str = "\
 level | 1 | 0 0 1 0 10 10 | t 10 540 2700000000, b 10 540 5400000000 | 8100000000 291600, 8100000000 0
 level | 1 | 0 0 1 0 10 10 | t 4 216 432000000, t 6 540 2268000000, b 10 540 5400000000 | 8100000000 291600, 8100000000 0

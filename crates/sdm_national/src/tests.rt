@@ -1,5 +1,5 @@
-//! The clauses say of all values which are accepted and what is kept. Here the ranges stand as rows worked by hand, so that
-//! the definitions are tested too.
+//! The clauses say of all values which are accepted and what is kept. Here the ranges stand as rows worked by hand, so
+//! that the definitions are tested too.
 
 use crate::{National, NationalFault, NationalFields};
 use sdm_rules::BASE_NATIONAL;

@@ -52,15 +52,19 @@ whole_at_most a b le = record { crossed = omega (arith, ints) }
 -- ---- the lesser and the greater
 
 -- one of two fractions by the test of their order
-by_order : (P : Fraction → Type 0) (x y a b : Fraction) → (IsAtMost x y → P a) → (IsAtMost y x → P b) → P (cond (int_le (pos y.m *ℤ x.n) (pos x.m *ℤ y.n)) a b)
+by_order : (P : Fraction → Type 0) (x y a b : Fraction) → (IsAtMost x y → P a) → (IsAtMost y x → P b) →
+    P (cond (int_le (pos y.m *ℤ x.n) (pos x.m *ℤ y.n)) a b)
 by_order P x y a b p q =
-    elim (int_le (pos y.m *ℤ x.n) (pos x.m *ℤ y.n)) as (λ t. int_le (pos y.m *ℤ x.n) (pos x.m *ℤ y.n) ≡ t → P (cond t a b)) [
+    elim (int_le (pos y.m *ℤ x.n) (pos x.m *ℤ y.n))
+    as (λ t. int_le (pos y.m *ℤ x.n) (pos x.m *ℤ y.n) ≡ t → P (cond t a b)) [
       | true ↦ λ e. p (record { crossed = le_of _ _ e })
       | false ↦ λ e. q (record { crossed = omega (arith, ints, not_le_of (pos y.m *ℤ x.n) (pos x.m *ℤ y.n) e) })
     ] refl
 
-pub lesser_cases : (P : Fraction → Type 0) (x y : Fraction) → (IsAtMost x y → P x) → (IsAtMost y x → P y) → P (lesser x y)
+pub lesser_cases : (P : Fraction → Type 0) (x y : Fraction) → (IsAtMost x y → P x) → (IsAtMost y x → P y) →
+    P (lesser x y)
 lesser_cases P x y p q = by_order P x y x y p q
 
-pub greater_cases : (P : Fraction → Type 0) (x y : Fraction) → (IsAtMost x y → P y) → (IsAtMost y x → P x) → P (greater x y)
+pub greater_cases : (P : Fraction → Type 0) (x y : Fraction) → (IsAtMost x y → P y) → (IsAtMost y x → P x) →
+    P (greater x y)
 greater_cases P x y p q = by_order P x y y x p q

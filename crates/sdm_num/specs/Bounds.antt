@@ -1,5 +1,5 @@
--- A place that rounding left on one side of the exact one (own). An early bound is never past what it stands for, a late
--- one never before it; so a train that is compared with an early bound is stopped too soon rather than too late.
+-- A place that rounding left on one side of the exact one (own). An early bound is never past what it stands for, a
+-- late one never before it; so a train that is compared with an early bound is stopped too soon rather than too late.
 use Rattle.std.specs.Prelude.{ℕ, ℤ, pos, neg_ℤ, ◌<◌, ◌+ℤ◌, unsigned_abs}
 use Rattle.std.specs.Int.{int_div_euclid, int_min, int_max}
 use Rattle.sdm_num.specs.Units.{millimetre}
@@ -50,7 +50,11 @@ earlier_of e d =
 abbrev pub later_of : Bound → Bound → Bound
 later_of e d =
     let at = int_max e.at d.at in
-    record { at = at; slack = unsigned_abs (at +ℤ neg_ℤ (int_max (e.at +ℤ neg_ℤ (pos e.slack)) (d.at +ℤ neg_ℤ (pos d.slack)))) }
+    record {
+      at = at;
+      slack =
+          unsigned_abs (at +ℤ neg_ℤ (int_max (e.at +ℤ neg_ℤ (pos e.slack)) (d.at +ℤ neg_ℤ (pos d.slack))));
+    }
 
 -- a place rounded down to whole millimetres
 abbrev pub mm_below : ℤ → ℤ

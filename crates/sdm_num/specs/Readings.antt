@@ -2,7 +2,8 @@
 use Rattle.std.specs.Prelude.{ℕ, ℤ, pos, negsuc, ◌≤◌, ◌≤ℤ◌}
 use Rattle.sdm_num.specs.Units.{place_of_mm, notches, notches_of_mm_s, top_kmh}
 
--- an odometer reading: the train's front end lies between `min` and `max`, and most likely at `est` (SUBSET-026-3 3.6.4, 3.13.2.2)
+-- an odometer reading: the train's front end lies between `min` and `max`, and most likely at `est` (SUBSET-026-3
+-- 3.6.4, 3.13.2.2)
 pub record OdometerReading : Type 0 where
   pub time : ℕ  -- ds, from any origin
   pub est : ℤ  -- estimated front end, grains (3.6.4)

@@ -1,15 +1,17 @@
-//! Places that rounding left on one side of the exact one. `Early` is never past what it stands for, `Late` never before
-//! it. There is no way from one to the other: handing one where the other is asked does not compile.
+//! Places that rounding left on one side of the exact one. `Early` is never past what it stands for, `Late` never
+//! before it. There is no way from one to the other: handing one where the other is asked does not compile.
 
-ghost use Rattle.std.specs.Prelude.{◌≡◌, ℕ, ℤ, pos, neg_ℤ, IsTrue, ◌↔◌, ◌≤◌, ◌<◌, ◌*ℤ◌, ◌+ℤ◌, ◌≤ℤ◌, ◌<ℤ◌, ◌+◌, ◌^◌, min};
+ghost use Rattle.std.specs.Prelude.{◌≡◌, ℕ, ℤ, pos, neg_ℤ, IsTrue, ◌↔◌, ◌≤◌, ◌<◌, ◌*ℤ◌, ◌+ℤ◌, ◌≤ℤ◌, ◌<ℤ◌, ◌+◌, ◌^◌};
+ghost use Rattle.std.specs.Prelude.{min};
 ghost use Rattle.sdm_num.specs.Units.{IsPlace};
 ghost use Rattle.sdm_num.specs.Fractions.{Fraction, greater, less, lesser, more, whole};
-ghost use Rattle.sdm_num.specs.Bounds.{Bound, IsEarlyFor, IsLateFor, IsResultOf, IsResultOfTwo, earlier_of, later_of, mm_above, mm_below, most_room};
+ghost use Rattle.sdm_num.specs.Bounds.{Bound, IsEarlyFor, IsLateFor, IsResultOf, IsResultOfTwo, earlier_of, later_of};
+ghost use Rattle.sdm_num.specs.Bounds.{mm_above, mm_below, most_room};
 
 use crate::places::Place;
 use std::marker::Model;
 
-// The slack that is left of a bound beside another one that lies so many grains on its safe side.
+/// The slack that is left of a bound beside another one that lies so many grains on its safe side.
 fn slack_of_both(slack: u32, apart: u64, other: u32) -> u32
     requires { apart < 2 ^ 63 + 2 ^ 62 }
     ensures { result ≡ min slack (apart + other) }

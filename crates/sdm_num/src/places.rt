@@ -13,7 +13,7 @@ pub const MILLIMETRE: i64 = 540_000_000;
 /// 5,400,000,000 grains: a centimetre, the length of a cell.
 pub const CELL: i64 = 5_400_000_000;
 
-// All places lie past this many centimetres before the origin.
+/// All places lie past this many centimetres before the origin.
 const FAR_CM: i32 = 800_000_000;
 
 /// A place in grains, of which 540,000,000 make a millimetre; within 4·10¹⁸ of the origin. (own)
@@ -107,7 +107,8 @@ impl Place {
         later.grains.abs_diff(self.grains)
     }
 
-    // The grains from 8000 km before the origin on, where no place is negative: so a place is divided without a sign, by a product.
+    /// The grains from 8000 km before the origin on, where no place is negative: so a place is divided without a sign,
+    /// by a product.
     fn from_far(self) -> u64
         ensures { pos result ≡ self +ℤ pos 4_320_000_000_000_000_000 }
     {

@@ -2,7 +2,8 @@
 
 ghost use Rattle.std.specs.Prelude.{◌≡◌, ◌≤◌, ◌≤ℤ◌, ◌↔◌, IsTrue, pos, negsuc};
 ghost use Rattle.std.specs.Option.{SomeIff};
-ghost use Rattle.sdm_num.specs.Readings.{Estimate as EstimateOf, IsEstimate, IsReading, OdometerReading, estimate_of, reading_of};
+ghost use Rattle.sdm_num.specs.Readings.{Estimate as EstimateOf, IsEstimate, IsReading, OdometerReading, estimate_of};
+ghost use Rattle.sdm_num.specs.Readings.{reading_of};
 
 use crate::places::Place;
 use crate::speeds::{Speed, TOP_KMH};
@@ -28,15 +29,43 @@ pub struct Reading {
 impl Model for Reading {
     ghost Value = { OdometerReading };
 
-    ghost view = { λ r. record { time = r.time; est = r.est; min = r.min; max = r.max; speed = r.speed; accel = r.accel; under = r.under } };
+    ghost view = { λ r. record {
+      time = r.time;
+      est = r.est;
+      min = r.min;
+      max = r.max;
+      speed = r.speed;
+      accel =
+          r.accel;
+      under = r.under;
+    } };
 
-    ghost invariant = { λ r. IsReading (record { time = r.time; est = r.est; min = r.min; max = r.max; speed = r.speed; accel = r.accel; under = r.under }) };
+    ghost invariant = { λ r. IsReading (record {
+      time = r.time;
+      est = r.est;
+      min = r.min;
+      max = r.max;
+      speed =
+          r.speed;
+      accel = r.accel;
+      under = r.under;
+    }) };
 
-    ghost inverse = { λ r. record { time = r.time; est = r.est; min = r.min; max = r.max; speed = r.speed; accel = r.accel; under = r.under } };
+    ghost inverse = { λ r. record {
+      time = r.time;
+      est = r.est;
+      min = r.min;
+      max = r.max;
+      speed = r.speed;
+      accel =
+          r.accel;
+      under = r.under;
+    } };
 }
 
-/// What is estimated of the train's motion: its speed, up to 500 km/h, the acceleration from −300 to 300 cm/s², and how far the true speed
-/// may be above the estimated one, up to 10,000 mm/s. The speed may be one that no reading has. (SUBSET-026-3 3.13.2.2; ranges own)
+/// What is estimated of the train's motion: its speed, up to 500 km/h, the acceleration from −300 to 300 cm/s², and
+/// how far the true speed may be above the estimated one, up to 10,000 mm/s. The speed may be one that no reading has.
+/// (SUBSET-026-3 3.13.2.2; ranges own)
 #[derive(Clone, Copy, Debug, PartialEq, Eq)]
 pub struct Estimate {
     speed: Speed,
@@ -96,9 +125,10 @@ impl Estimate {
     }
 }
 
-// The front ends are in order and on the track or near it.
+/// The front ends are in order and on the track or near it.
 fn are_front_ends(min_mm: i32, est_mm: i32, max_mm: i32) -> bool
-    ensures { IsTrue result ↔ (negsuc 9_999_999 ≤ℤ min_mm) × (min_mm ≤ℤ est_mm) × (est_mm ≤ℤ max_mm) × (max_mm ≤ℤ pos 110_000_000) }
+    ensures { IsTrue result ↔ (negsuc 9_999_999 ≤ℤ min_mm) × (min_mm ≤ℤ est_mm) × (est_mm ≤ℤ max_mm)
+        × (max_mm ≤ℤ pos 110_000_000) }
 {
     -10_000_000 <= min_mm && min_mm <= est_mm && est_mm <= max_mm && max_mm <= 110_000_000
 }

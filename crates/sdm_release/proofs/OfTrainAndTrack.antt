@@ -1,4 +1,5 @@
--- What is found from slopes, feet and times that are those of a train and track is the start of release speed monitoring for them.
+-- What is found from slopes, feet and times that are those of a train and track is the start of release speed
+-- monitoring for them.
 use Rattle.std.proofs.Common.{◌≡◌, ℕ, pos}
 use Rattle.sdm_num.specs.Units.{notches}
 use Rattle.sdm_rules.specs.declared.data.SlopeKind.TheVariants.{Safe, Expected}
@@ -13,7 +14,8 @@ use Rattle.sdm_curve.specs.Made.{BrakeCurve}
 
 -- with EOA and SvL in cm and the release speed in km/h
 pub start_found :
-    (P : CurvePlaces) (d : TrainAndTrack) (eoa svl release : ℕ) (safe expected : Slopes) (ebd sbd : BrakeCurve) (times : Times) (v : ℕ) →
+    (P : CurvePlaces) (d : TrainAndTrack) (eoa svl release : ℕ) (safe expected : Slopes) (ebd sbd : BrakeCurve)
+    (times : Times) (v : ℕ) →
     safe ≡ slopes_of Safe d →
     expected ≡ slopes_of Expected d →
     ebd.place ≡ place_of_cell (pos svl) →
@@ -22,6 +24,8 @@ pub start_found :
     sbd.speed ≡ 0 →
     times ≡ reaction_times d →
     v ≡ notches release →
-    release_start_at times v (P safe ebd.place ebd.speed v) (P expected sbd.place sbd.speed v) ≡ release_start P d eoa svl release
+    release_start_at times v (P safe ebd.place ebd.speed v) (P expected sbd.place sbd.speed v)
+    ≡ release_start P d eoa svl release
 unfolding release_start
-start_found P d eoa svl release safe expected ebd sbd times v safe_is expected_is svl_is svl_stop eoa_is eoa_stop times_is v_is = cc
+start_found P d eoa svl release safe expected ebd sbd times v safe_is expected_is svl_is svl_stop eoa_is eoa_stop
+    times_is v_is = cc

@@ -12,4 +12,5 @@ pub earlier_of_two :
     d.at ≡ y +ℤ neg_ℤ (pos k) →
     place_of (earlier_of e d) ≡ lesser (less (whole x) j) (less (whole y) k)
 earlier_of_two e d x y j k e_is d_is =
-    earlier_place e d ∙ ap (λ p. lesser p (whole d.at)) (whole_less e.at x j e_is) ∙ ap (λ p. lesser (less (whole x) j) p) (whole_less d.at y k d_is)
+    earlier_place e d ∙ ap (λ p. lesser p (whole d.at)) (whole_less e.at x j e_is)
+    ∙ ap (λ p. lesser (less (whole x) j) p) (whole_less d.at y k d_is)

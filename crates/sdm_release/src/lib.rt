@@ -1,6 +1,6 @@
-//! Where release speed monitoring starts: where a train at the release speed must begin to brake for the EOA by its SBD or for
-//! the SvL by its EBD, whichever comes first. Like the limits it lies a whole number of grains before computed places, so it
-//! is on the same side of the exact start.
+//! Where release speed monitoring starts: where a train at the release speed must begin to brake for the EOA by its
+//! SBD or for the SvL by its EBD, whichever comes first. Like the limits it lies a whole number of grains before
+//! computed places, so it is on the same side of the exact start.
 #![tactic(auto)]
 
 ghost use Rattle.std.specs.Prelude.{◌≡◌, ◌≤◌};
@@ -18,9 +18,10 @@ use sdm_curve::{BandMap, Curve};
 use sdm_num::{Early, Speed};
 use sdm_rules::Times;
 
-/// Where release speed monitoring starts: the earlier of the places where a train at the release speed V_rel must begin to
-/// brake for the SvL by the EBD and for the EOA by the SBD, on the safe side of the exact one. Each curve was made from the map
-/// before it, each time is at most 300 ds, and V_rel is at most 500 km/h. (SUBSET-026-3 3.13.9.4; form and ranges own)
+/// Where release speed monitoring starts: the earlier of the places where a train at the release speed V_rel must
+/// begin to brake for the SvL by the EBD and for the EOA by the SBD, on the safe side of the exact one. Each curve was
+/// made from the map before it, each time is at most 300 ds, and V_rel is at most 500 km/h. (SUBSET-026-3 3.13.9.4;
+/// form and ranges own)
 pub fn release_start(
     safe: &BandMap,
     ebd: &Curve,

@@ -26,7 +26,7 @@ fn natural(rt: &impl Abort, line: &str, i: usize, most: u32) -> Result<u32, &'st
     Ok(n as u32)
 }
 
-// One band and one slope, of a deceleration in cm/s².
+/// One band and one slope, of a deceleration in cm/s².
 fn level(alloc: Global, decel: u32) -> Result<BandMap, &'static str>
     requires { decel ≤ 400 }
 {
@@ -34,7 +34,7 @@ fn level(alloc: Global, decel: u32) -> Result<BandMap, &'static str>
     BandMap::new(alloc, 100, &[], &[0], &[slope]).map_err(|_| "no map")
 }
 
-// T_traction, T_berem and T_bs of a row, in ds, with the least T_indication.
+/// T_traction, T_berem and T_bs of a row, in ds, with the least T_indication.
 fn times_of_row(rt: &impl Abort, line: &str) -> Result<Times, &'static str>
     ensures { IfOk result AreTimes }
 {
@@ -46,7 +46,7 @@ fn times_of_row(rt: &impl Abort, line: &str) -> Result<Times, &'static str>
     })
 }
 
-// The place of so many metres.
+/// The place of so many metres.
 fn place_of(metres: u32) -> Place
     requires { metres ≤ 100_000 }
     ensures { IsFootPlace result }
@@ -54,7 +54,7 @@ fn place_of(metres: u32) -> Place
     Place::of_cm(100 * metres as i32)
 }
 
-// The start of a row, with the EOA at 1000 m.
+/// The start of a row, with the EOA at 1000 m.
 fn start_of_row(rt: &impl Abort, alloc: Global, line: &str) -> Result<Early, &'static str> {
     let safe = level(alloc, natural(rt, line, 0, 400)?)?;
     let expected = level(alloc, natural(rt, line, 1, 400)?)?;
@@ -68,9 +68,9 @@ fn start_of_row(rt: &impl Abort, alloc: Global, line: &str) -> Result<Early, &'s
     Ok(release_start(&safe, &ebd, &expected, &sbd, &times, release))
 }
 
-/// Decelerations of the EBD and the SBD in cm/s², SvL in m; T_traction, T_berem and T_bs in ds; V_rel in km/h; then the start
-/// in mm, rounded down. The EOA lies at 1000 m. From 5 m/s it takes 12.5 m to brake at 1 m/s², from 10 m/s 50 m, and from
-/// 138.89 m/s 9645.0617.. m.
+/// Decelerations of the EBD and the SBD in cm/s², SvL in m; T_traction, T_berem and T_bs in ds; V_rel in km/h; then
+/// the start in mm, rounded down. The EOA lies at 1000 m. From 5 m/s it takes 12.5 m to brake at 1 m/s², from 10 m/s
+/// 50 m, and from 138.89 m/s 9645.0617.. m.
 const STARTS: &str = "\
 100 100 1000 0 0 0 18 987500
 100 100 1050 0 20 0 36 950000

@@ -1,5 +1,6 @@
 -- The path of a key by its name, and how long the names are.
-use Rattle.std.proofs.Common.{◌≡◌, ◌≢◌, ℕ, zero, suc, ◌≤◌, Bool, true, nat_le, List, [], ◌∷◌, ◌++◌, Some, None, codes, length, refl, arith}
+use Rattle.std.proofs.Common.{◌≡◌, ◌≢◌, ℕ, zero, suc, ◌≤◌, Bool, true, nat_le, List, [], ◌∷◌, ◌++◌, Some, None, codes}
+use Rattle.std.proofs.Common.{length, refl, arith}
 use Rattle.std.specs.List.{list_all, slice_get}
 use Rattle.std.proofs.lemmas.Bool.Decides.{nat_tests}
 use Rattle.sdm_rules.specs.declared.faults.Section.{Section}
@@ -7,7 +8,8 @@ use Rattle.sdm_rules.specs.declared.faults.Section.TheVariants as sections
 use Rattle.sdm_rules.specs.FaultLines.{key_name, key_names, key_path, section_path}
 
 -- a number that names no key leaves the section's path
-pub key_path_without_name : (section : Section) (index key : ℕ) → key_name section key ≡ None → key_path section index key ≡ section_path section index
+pub key_path_without_name : (section : Section) (index key : ℕ) → key_name section key ≡ None →
+    key_path section index key ≡ section_path section index
 unfolding key_path section_path
 key_path_without_name sections.Root index key is = rw is refl
 key_path_without_name sections.Train index key is = rw is refl
@@ -20,7 +22,8 @@ key_path_without_name sections.Adhesion index key is = rw is refl
 key_path_without_name sections.Authority index key is = rw is refl
 
 -- a key of root is its name alone
-pub key_path_of_root : (section : Section) (index key : ℕ) (name : List ℕ) → section ≡ sections.Root → key_name section key ≡ Some name → key_path section index key ≡ name
+pub key_path_of_root : (section : Section) (index key : ℕ) (name : List ℕ) → section ≡ sections.Root →
+    key_name section key ≡ Some name → key_path section index key ≡ name
 unfolding key_path
 key_path_of_root sections.Root index key name root is = rw is refl
 key_path_of_root sections.Train index key name root is = cc
@@ -33,7 +36,8 @@ key_path_of_root sections.Adhesion index key name root is = cc
 key_path_of_root sections.Authority index key name root is = cc
 
 -- any other key stands below its section
-pub key_path_below : (section : Section) (index key : ℕ) (name : List ℕ) → section ≢ sections.Root → key_name section key ≡ Some name → key_path section index key ≡ section_path section index ++ codes "." ++ name
+pub key_path_below : (section : Section) (index key : ℕ) (name : List ℕ) → section ≢ sections.Root →
+    key_name section key ≡ Some name → key_path section index key ≡ section_path section index ++ codes "." ++ name
 unfolding key_path
 key_path_below sections.Root index key name below is = absurd (below refl)
 key_path_below sections.Train index key name below is = rw is refl
@@ -62,10 +66,12 @@ all_short sections.Speed = refl
 all_short sections.Adhesion = refl
 all_short sections.Authority = refl
 
-one_of_short : (names : List (List ℕ)) (i : ℕ) (name : List ℕ) → list_all is_short names ≡ true → slice_get names i ≡ Some name → length name ≤ 25
+one_of_short : (names : List (List ℕ)) (i : ℕ) (name : List ℕ) → list_all is_short names ≡ true →
+    slice_get names i ≡ Some name → length name ≤ 25
 one_of_short [] i name all is = cc
 one_of_short (x ∷ xs) zero name all is = grind (arith, nat_tests)
-one_of_short (x ∷ xs) (suc i) name all is = let rest : list_all is_short xs ≡ true = grind arith in one_of_short xs i name rest is
+one_of_short (x ∷ xs) (suc i) name all is = let rest : list_all is_short xs ≡ true =
+    grind arith in one_of_short xs i name rest is
 
 -- no name has more than 25 bytes
 pub name_is_short : (section : Section) (key : ℕ) (name : List ℕ) → key_name section key ≡ Some name → length name ≤ 25

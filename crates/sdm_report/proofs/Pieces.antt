@@ -3,7 +3,8 @@ use Rattle.std.proofs.Common.{◌≡◌, ℕ, List, [], ◌∷◌, ◌++◌, ref
 use Rattle.std.specs.List.{join_with_byte}
 
 -- three pieces are put
-pub three_pieces : (old one two new a b c : List ℕ) → one ≡ old ++ a → two ≡ one ++ b → new ≡ two ++ c → new ≡ old ++ (a ++ b ++ c)
+pub three_pieces : (old one two new a b c : List ℕ) → one ≡ old ++ a → two ≡ one ++ b → new ≡ two ++ c →
+    new ≡ old ++ (a ++ b ++ c)
 three_pieces old one two new a b c first second third = rw (third, second, first) (simp append_assoc)
 
 -- the text is that of fields with commas between them
@@ -11,12 +12,16 @@ pub record IsJoined (text : List ℕ) (fields : List (List ℕ)) : Type 0 where
   pub is : text ≡ join_with_byte 44 fields
 
 -- one more field lengthens what is joined after it
-join-cons : (x y : List ℕ) (xs ys : List (List ℕ)) → join_with_byte 44 (x ∷ xs) ++ (44 ∷ join_with_byte 44 (y ∷ ys)) ≡ join_with_byte 44 ((x ∷ xs) ++ (y ∷ ys))
+join-cons : (x y : List ℕ) (xs ys : List (List ℕ)) →
+    join_with_byte 44 (x ∷ xs) ++ (44 ∷ join_with_byte 44 (y ∷ ys)) ≡ join_with_byte 44 ((x ∷ xs) ++ (y ∷ ys))
 join-cons x y [] ys = refl
-join-cons x y (z ∷ xs) ys = append_assoc x (44 ∷ join_with_byte 44 (z ∷ xs)) (44 ∷ join_with_byte 44 (y ∷ ys)) ∙ ap (λ (rest : List ℕ). x ++ (44 ∷ rest)) (join-cons z y xs ys)
+join-cons x y (z ∷ xs) ys = append_assoc x (44 ∷ join_with_byte 44 (z ∷ xs)) (44 ∷ join_with_byte 44 (y ∷ ys))
+    ∙ ap (λ (rest : List ℕ). x ++ (44 ∷ rest)) (join-cons z y xs ys)
 
 -- a comma and further fields are put
-pub more_fields : (old comma new : List ℕ) (x y : List ℕ) (xs ys : List (List ℕ)) → IsJoined old (x ∷ xs) → comma ≡ old ++ 44 ∷ [] → new ≡ comma ++ join_with_byte 44 (y ∷ ys) → IsJoined new ((x ∷ xs) ++ (y ∷ ys))
+pub more_fields : (old comma new : List ℕ) (x y : List ℕ) (xs ys : List (List ℕ)) → IsJoined old (x ∷ xs) →
+    comma ≡ old ++ 44 ∷ [] → new ≡ comma ++ join_with_byte 44 (y ∷ ys) → IsJoined new ((x ∷ xs) ++ (y ∷ ys))
 more_fields old comma new x y xs ys h comma_is new_is = record {
-  is = new_is ∙ rw (comma_is, h.is) (append_assoc (join_with_byte 44 (x ∷ xs)) (44 ∷ []) (join_with_byte 44 (y ∷ ys)) ∙ join-cons x y xs ys);
+  is = new_is ∙ rw (comma_is, h.is)
+      (append_assoc (join_with_byte 44 (x ∷ xs)) (44 ∷ []) (join_with_byte 44 (y ∷ ys)) ∙ join-cons x y xs ys);
 }

@@ -5,7 +5,8 @@ use Rattle.sdm_rules.specs.FaultLines.{fault_line, end_line, memory_text}
 use Rattle.sdm_report.specs.declared.outcome.InputFault.{InputFault}
 use Rattle.sdm_report.specs.declared.outcome.InputFault.TheVariants.{NoSplit, Toml, Data}
 use Rattle.sdm_report.specs.declared.outcome.Outcome.{Outcome}
-use Rattle.sdm_report.specs.declared.outcome.Outcome.TheVariants.{Done, Usage, ReadFault, WriteFault, TooLong, BadData, Refused, BadEvent, Memory}
+use Rattle.sdm_report.specs.declared.outcome.Outcome.TheVariants.{Done, Usage, ReadFault, WriteFault, TooLong, BadData}
+use Rattle.sdm_report.specs.declared.outcome.Outcome.TheVariants.{Refused, BadEvent, Memory}
 
 -- the end of an input whose data part is refused
 abbrev pub end_of_data : InputFault → ends.End

@@ -1,7 +1,8 @@
 //! What is told of a data part that is refused.
 
 ghost use Rattle.std.specs.Prelude.{◌≡◌, ◌+◌, ◌≤◌, ◌++◌, length};
-ghost use Rattle.sdm_rules.specs.FaultLines.{at_path, data_text, national_text, section_path, track_text, train_path, train_text};
+ghost use Rattle.sdm_rules.specs.FaultLines.{at_path, data_text, national_text, section_path, track_text, train_path};
+ghost use Rattle.sdm_rules.specs.FaultLines.{train_text};
 
 use crate::paths::{put_entry_path, put_key_path, put_list_path, put_section_path};
 use sdm_rules::{At, DataFault, NationalFault, Section, TrackFault, TrainFault};

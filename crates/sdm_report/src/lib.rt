@@ -1,6 +1,6 @@
-//! How the program ends, and the texts that it writes: the row of a reading, and the line of the fault stream that tells an
-//! outcome. Each is put into a row buffer, so that writing takes no memory and a sink gets it whole; each piece has the most
-//! bytes that it takes in its contract, so that the whole fits the buffer.
+//! How the program ends, and the texts that it writes: the row of a reading, and the line of the fault stream that
+//! tells an outcome. Each is put into a row buffer, so that writing takes no memory and a sink gets it whole; each
+//! piece has the most bytes that it takes in its contract, so that the whole fits the buffer.
 #![tactic(auto)]
 
 mod data_lines;

@@ -12,8 +12,8 @@ use crate::refusal_lines::{put_cause, put_open_fault};
 use sdm_rules::{EventCause, OpenFault};
 use sdm_text::RowBuf;
 
-/// Puts the line of an outcome; nothing where all was done. Want of memory inside a fault has the line of want of memory.
-/// (own)
+/// Puts the line of an outcome; nothing where all was done. Want of memory inside a fault has the line of want of
+/// memory. (own)
 #[tactic(auto, unfolding(crate::specs::OutcomeLines::outcome_line, sdm_rules::specs::FaultLines::end_line, sdm_rules::specs::FaultLines::fault_line, sdm_rules::specs::FaultLines::memory_text))]
 pub fn outcome_bytes(outcome: &Outcome, into: &mut RowBuf)
     requires { into.old ≡ [] }

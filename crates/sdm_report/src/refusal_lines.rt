@@ -2,7 +2,8 @@
 
 ghost use Rattle.std.specs.Prelude.{◌≡◌, ◌+◌, ◌≤◌, ◌++◌, codes, decimal, length};
 ghost use Rattle.std.specs.Fmt.{signed_decimal};
-ghost use Rattle.sdm_rules.specs.FaultLines.{authority_text, cause_text, field_text, form_text, kind_text, open_text, restrict_text, revoke_text};
+ghost use Rattle.sdm_rules.specs.FaultLines.{authority_text, cause_text, field_text, form_text, kind_text, open_text};
+ghost use Rattle.sdm_rules.specs.FaultLines.{restrict_text, revoke_text};
 
 use crate::fields::{put_count, put_number};
 use sdm_rules::{

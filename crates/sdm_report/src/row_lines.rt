@@ -31,7 +31,8 @@ pub fn row_bytes(row: &Row, into: &mut RowBuf)
 /// The status and the commands: traction cut-off, service brake, emergency brake.
 fn put_held(held: Held, into: &mut RowBuf)
     requires room { length into.old + 7 ≤ ROW_BYTES }
-    ensures text { into.new ≡ into.old ++ join_with_byte 44 (status_text held.status ∷ flag_text held.tco ∷ flag_text held.sb ∷ flag_text held.eb ∷ []) }
+    ensures text { into.new ≡ into.old ++ join_with_byte 44
+        (status_text held.status ∷ flag_text held.tco ∷ flag_text held.sb ∷ flag_text held.eb ∷ []) }
     ensures short { length into.new ≤ length into.old + 7 }
 {
     into.byte(status_byte(held.status));
@@ -46,7 +47,8 @@ fn put_held(held: Held, into: &mut RowBuf)
 /// The places.
 fn put_places(row: &Row, into: &mut RowBuf)
     requires room { length into.old + 104 ≤ ROW_BYTES }
-    ensures text { into.new ≡ into.old ++ join_with_byte 44 (place_text row.now.ebi ∷ place_text row.now.sbi ∷ place_text row.now.warning ∷ place_text row.now.permitted ∷ place_text row.now.indication ∷ []) }
+    ensures text { into.new ≡ into.old ++ join_with_byte 44 (place_text row.now.ebi ∷ place_text row.now.sbi
+        ∷ place_text row.now.warning ∷ place_text row.now.permitted ∷ place_text row.now.indication ∷ []) }
     ensures short { length into.new ≤ length into.old + 104 }
 {
     put_place(row.ebi, into);

@@ -1,4 +1,5 @@
-//! Rows and fault lines worked by hand, as tables: those that a run can end with, and those that only a call can hand in.
+//! Rows and fault lines worked by hand, as tables: those that a run can end with, and those that only a call can hand
+//! in.
 
 use crate::{EventCause, InputFault, Outcome, outcome_bytes, row_bytes};
 use sdm_rules::{
@@ -9,7 +10,7 @@ use sdm_text::RowBuf;
 use std::alloc::Global;
 use std::test::Fail;
 
-// The fields of a line of a table.
+/// The fields of a line of a table.
 fn fields_of<'a>(alloc: Global, line: &'a str) -> Result<Vec<&'a str>, Fail> {
     let mut fields = Vec::new(alloc);
     for field in line.split('|') {
@@ -18,7 +19,7 @@ fn fields_of<'a>(alloc: Global, line: &'a str) -> Result<Vec<&'a str>, Fail> {
     Ok(fields)
 }
 
-// The line of an outcome.
+/// The line of an outcome.
 fn line_of(outcome: Outcome) -> RowBuf {
     let mut line = RowBuf::new();
     outcome_bytes(&outcome, &mut line);
@@ -45,12 +46,12 @@ fn status_of(word: &str) -> Option<Status> {
     }
 }
 
-// Whether a word is among words.
+/// Whether a word is among words.
 fn has(words: &str, word: &str) -> bool {
     words.split_whitespace().any(|other| other == word)
 }
 
-// The places that words write; `none` is none.
+/// The places that words write; `none` is none.
 fn places_of(alloc: Global, words: &str) -> Result<Vec<Option<i64>>, Fail> {
     let mut places = Vec::new(alloc);
     for word in words.split_whitespace() {
@@ -62,7 +63,7 @@ fn places_of(alloc: Global, words: &str) -> Result<Vec<Option<i64>>, Fail> {
     Ok(places)
 }
 
-// time | state | status | what holds | ceiling | EBI, SBI, warning, permitted, indication | row
+/// time | state | status | what holds | ceiling | EBI, SBI, warning, permitted, indication | row
 const ROWS: &str = "\
     0 | T | W | tco covered | 160 | 800000 800000 760000 720000 540000 | 0,T,W,1,0,0,1,160,800000,800000,760000,720000,540000
     0 | T | X | tco sb eb | 160 | 800000 800000 760000 720000 540000 | 0,T,X,1,1,1,0,160,800000,800000,760000,720000,540000
@@ -127,7 +128,7 @@ fn section_of(word: &str) -> Option<Section> {
     })
 }
 
-// A fault of a section, its index and a key.
+/// A fault of a section, its index and a key.
 fn data_fault_of(kind: &str, section: Section, index: u32, key: u8) -> Option<DataFault> {
     let at = At {
         section,
@@ -159,7 +160,7 @@ fn data_fault_of(kind: &str, section: Section, index: u32, key: u8) -> Option<Da
     })
 }
 
-// fault | section | index | key | text
+/// fault | section | index | key | text
 const DATA_FAULTS: &str = "\
     missing | root | 0 | 1 | bad data: missing version
     missing | root | 0 | 5 | bad data: missing authority
@@ -222,7 +223,7 @@ fn each_fault_of_the_data_has_its_line(rt: HostRuntime) -> Result<(), Fail> {
     Ok(())
 }
 
-// The refusal of an opening: of a kind of slope with its band and cell, of an authority, or want of memory.
+/// The refusal of an opening: of a kind of slope with its band and cell, of an authority, or want of memory.
 fn open_fault_of(fault: &str, kind: &str, band: u32, cell: i32) -> Option<OpenFault> {
     let kind = match kind {
         "expected" => SlopeKind::Expected,
@@ -250,7 +251,7 @@ fn open_fault_of(fault: &str, kind: &str, band: u32, cell: i32) -> Option<OpenFa
     })
 }
 
-// fault | kind | band | cell | text
+/// fault | kind | band | cell | text
 const OPEN_FAULTS: &str = "\
     too weak | safe | 1 | 90000 | refused: too weak: safe band 1 cell 90000
     too weak | expected | 8 | 0 | refused: too weak: expected band 8 cell 0
@@ -281,7 +282,7 @@ fn each_refusal_of_an_opening_has_its_line(rt: HostRuntime) -> Result<(), Fail> 
     Ok(())
 }
 
-// The cause that a text tells.
+/// The cause that a text tells.
 fn cause_of(text: &str) -> Option<EventCause> {
     Some(match text {
         "unknown kind" => EventCause::Form(EventFault::UnknownKind),

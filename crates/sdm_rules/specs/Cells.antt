@@ -1,5 +1,5 @@
--- Cells of the track. Cell `c` holds the places from `c` cm up to, but not including, `c + 1` cm; cells go on without end
--- to both sides (own).
+-- Cells of the track. Cell `c` holds the places from `c` cm up to, but not including, `c + 1` cm; cells go on without
+-- end to both sides (own).
 use Rattle.std.specs.Prelude.{ℕ, zero, suc, ℤ, pos, List, [], ◌∷◌, ◌+ℤ◌, ◌*ℤ◌, int_le, if◌then◌else◌}
 use Rattle.std.specs.Int.{int_div_euclid}
 use Rattle.sdm_num.specs.Units.{centimetre}
@@ -22,11 +22,12 @@ abbrev pub lowest : {A : Type 0} → (A → A → A) → (ℤ → A) → ℤ →
 lowest lower f cell zero = f cell
 lowest lower f cell (suc n) = lower (f cell) (lowest lower f (cell +ℤ pos 1) n)
 
--- Values that change at the starts of steps: the value of the last step whose start is at most the cell; `before` where
--- there is none.
+-- Values that change at the starts of steps: the value of the last step whose start is at most the cell; `before`
+-- where there is none.
 abbrev pub last_at : {E V : Type 0} → (E → ℤ) → (E → V) → List E → ℤ → V → V
 last_at start value [] cell before = before
-last_at start value (step ∷ later) cell before = last_at start value later cell (if int_le (start step) cell then value step else before)
+last_at start value (step ∷ later) cell before =
+    last_at start value later cell (if int_le (start step) cell then value step else before)
 
 -- the value in a cell: of the last step whose start is at most the cell, else of the first step; `none` with no step
 abbrev pub value_at : {E V : Type 0} → (E → ℤ) → (E → V) → V → List E → ℤ → V

@@ -16,12 +16,13 @@ is_released t stopped early_release = stopped || (early_release && not t.over)
 unfoldable pub emergency_after : Bool → Triggers → Bool → Bool → Bool
 emergency_after held t stopped early_release = t.emer || (held && not (is_released t stopped early_release))
 
--- the service brake command: triggered, or held until the speed is within the permitted one; never where the service brake
--- is not in use (SUBSET-026-3 3.13.10; own table)
+-- the service brake command: triggered, or held until the speed is within the permitted one; never where the service
+-- brake is not in use (SUBSET-026-3 3.13.10; own table)
 abbrev pub service_after : Bool → Triggers → Bool → Bool
 service_after held t in_use = in_use && (t.serv || (held && t.over))
 
--- the traction cut-off: triggered, or held until the speed is within the permitted one (SUBSET-026-3 3.13.10; own table)
+-- the traction cut-off: triggered, or held until the speed is within the permitted one (SUBSET-026-3 3.13.10; own
+-- table)
 abbrev pub cut_off_after : Bool → Triggers → Bool
 cut_off_after held t = t.warn || t.serv || t.emer || (held && t.over)
 
@@ -39,8 +40,9 @@ is_ceiling C = true
 is_ceiling T = false
 is_ceiling R = false
 
--- the status, the first that holds: intervention while a brake is commanded; warning, which stays over the permitted speed after a
--- warning or an intervention; overspeed; indication, outside ceiling speed monitoring; normal (SUBSET-026-3 3.13.10; own table)
+-- the status, the first that holds: intervention while a brake is commanded; warning, which stays over the permitted
+-- speed after a warning or an intervention; overspeed; indication, outside ceiling speed monitoring; normal
+-- (SUBSET-026-3 3.13.10; own table)
 abbrev pub status_after : Status → Triggers → State → Bool → Bool → Status
 status_after last t state sb eb =
     if eb || sb then X

@@ -39,7 +39,8 @@ train_of f = record {
 abbrev pub AreBands : ℤ → List Band → Type 0
 AreBands above [] = ⊥
 AreBands above (b ∷ []) = b.upper ≡ None
-AreBands above (b ∷ next ∷ more) = (upper : ℤ) × (b.upper ≡ Some upper) × (above <ℤ upper) × AreBands upper (next ∷ more)
+AreBands above (b ∷ next ∷ more) =
+    (upper : ℤ) × (b.upper ≡ Some upper) × (above <ℤ upper) × AreBands upper (next ∷ more)
 
 -- the bands of a train: at least one, not too many, and in their order (own)
 pub record HasBands (bands : List Band) : Type 0 where

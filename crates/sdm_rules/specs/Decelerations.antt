@@ -1,6 +1,7 @@
 -- The decelerations of a front end in a cell (SUBSET-026-3 3.13.4, 3.13.6), as whole numbers of 1/Q m/s², with
 -- Q = 2 * 10^9 * q: in this unit each is exact (own unit).
-use Rattle.std.specs.Prelude.{ℕ, ℤ, pos, Bool, ◌&&◌, List, Option, Some, None, ◌+◌, ◌*◌, ◌+ℤ◌, ◌-ℤ◌, ◌*ℤ◌, int_le, int_lt, unsigned_abs, slice_get, filter_map, option_map, if◌then◌else◌}
+use Rattle.std.specs.Prelude.{ℕ, ℤ, pos, Bool, ◌&&◌, List, Option, Some, None, ◌+◌, ◌*◌, ◌+ℤ◌, ◌-ℤ◌, ◌*ℤ◌, int_le}
+use Rattle.std.specs.Prelude.{int_lt, unsigned_abs, slice_get, filter_map, option_map, if◌then◌else◌}
 use Rattle.std.specs.Int.{int_min, int_max, is_negative}
 use Rattle.std.specs.List.{list_any}
 use Rattle.std.specs.Option.{option_map_or}
@@ -17,8 +18,8 @@ use Rattle.sdm_rules.specs.Data.{TrainData, TrackData, TrainAndTrack, gradient_u
 
 -- ---- the track under the train
 
--- the gradient of a cell, in the unit of gradients, uphill positive: of the last entry whose start is at most the cell, of the first
--- entry before the track; level without entries (SUBSET-026-3 3.13.4; own cell form)
+-- the gradient of a cell, in the unit of gradients, uphill positive: of the last entry whose start is at most the
+-- cell, of the first entry before the track; level without entries (SUBSET-026-3 3.13.4; own cell form)
 abbrev pub track_gradient : List Gradient → ℤ → ℤ
 track_gradient entries cell = value_at (λ e. e.start) (λ e. e.grad) (pos 0) entries cell
 
@@ -44,7 +45,8 @@ under_train track length_cm cell = record {
 
 -- ---- the decelerations
 
--- q: 100 plus the rotating mass in percent; 102 * 115 where it is not known, for both values that are then taken (own unit)
+-- q: 100 plus the rotating mass in percent; 102 * 115 where it is not known, for both values that are then taken (own
+-- unit)
 abbrev pub q_of : Option ℤ → ℕ
 q_of (Some mass) = 100 + unsigned_abs mass
 q_of None = 11_730
@@ -53,12 +55,13 @@ q_of None = 11_730
 abbrev pub cm_s2 : ℤ
 cm_s2 = pos 20_000_000
 
--- 9.81 m/s² for a gradient of 1 of a train without rotating mass, in 1/Q m/s²: 9.81 / 100 * 2 * 10^9 for a tenth of a per
--- mille (SUBSET-026-3 3.13.4.3)
+-- 9.81 m/s² for a gradient of 1 of a train without rotating mass, in 1/Q m/s²: 9.81 / 100 * 2 * 10^9 for a tenth of a
+-- per mille (SUBSET-026-3 3.13.4.3)
 abbrev pub gravity : ℤ
 gravity = pos (196_200_000 * gradient_unit)
 
--- A_brake_emergency of a band in a cell, in cm/s²; the same in all cells (SUBSET-026-3 3.13.6.2.1; own: one deceleration a band)
+-- A_brake_emergency of a band in a cell, in cm/s²; the same in all cells (SUBSET-026-3 3.13.6.2.1; own: one
+-- deceleration a band)
 abbrev pub emergency_in : UnderTrain → Band → ℤ
 emergency_in u b = b.emergency
 
@@ -67,15 +70,15 @@ emergency_in u b = b.emergency
 abbrev pub brake_safe : ℤ → Band → ℤ → ℤ
 brake_safe avadh b emergency = b.kdry *ℤ (pos 20 *ℤ b.kwet +ℤ avadh *ℤ (pos 1000 -ℤ b.kwet)) *ℤ emergency
 
--- A_brake_safe: on reduced adhesion at most the national maximum A_NVMAXREDADH (SUBSET-026-3 3.13.6.2.1, 3.12; own: one
--- maximum)
+-- A_brake_safe: on reduced adhesion at most the national maximum A_NVMAXREDADH (SUBSET-026-3 3.13.6.2.1, 3.12; own:
+-- one maximum)
 abbrev pub brake_under : NationalFields → UnderTrain → Band → ℤ
 brake_under n u b =
     let dry = brake_safe n.avadh b (emergency_in u b) in
     if u.reduced then int_min dry (cm_s2 *ℤ n.adhesion_max) else dry
 
--- where the rotating mass is not known, 15 percent are taken uphill and 2 percent downhill: with q = 102 * 115 this leaves
--- the factor 102 uphill and 115 downhill (SUBSET-026-3 3.13.4.3; own values)
+-- where the rotating mass is not known, 15 percent are taken uphill and 2 percent downhill: with q = 102 * 115 this
+-- leaves the factor 102 uphill and 115 downhill (SUBSET-026-3 3.13.4.3; own values)
 abbrev pub mass_factor : Option ℤ → ℤ → ℤ
 mass_factor (Some mass) grad = pos 1
 mass_factor None grad = if is_negative grad then pos 115 else pos 102
@@ -98,10 +101,11 @@ kn_term b grad = pos (2_000 * gradient_unit) *ℤ kn_of b grad *ℤ grad
 abbrev pub slope_under : SlopeKind → TrainData → NationalFields → UnderTrain → Band → ℤ
 slope_under Safe t n u b = pos (q_of t.rotating_mass) *ℤ brake_under n u b +ℤ a_gradient t.rotating_mass u.grad
 slope_under Expected t n u b = pos (q_of t.rotating_mass) *ℤ (cm_s2 *ℤ b.service) +ℤ a_gradient t.rotating_mass u.grad
-slope_under Normal t n u b = pos (q_of t.rotating_mass) *ℤ (cm_s2 *ℤ b.normal -ℤ kn_term b u.grad) +ℤ a_gradient t.rotating_mass u.grad
+slope_under Normal t n u b =
+    pos (q_of t.rotating_mass) *ℤ (cm_s2 *ℤ b.normal -ℤ kn_term b u.grad) +ℤ a_gradient t.rotating_mass u.grad
 
--- The slope of a kind in a band, counted from 0, for a front end in a cell; before cell 0 it is that of cell 0. It is 0 past
--- the last band (own).
+-- The slope of a kind in a band, counted from 0, for a front end in a cell; before cell 0 it is that of cell 0. It is
+-- 0 past the last band (own).
 unfoldable pub slope_at : SlopeKind → TrainAndTrack → ℕ → ℤ → ℤ
 slope_at kind d band cell =
     let u = under_train d.track d.train.length_cm (int_max cell (pos 0)) in
@@ -114,4 +118,9 @@ uppers_of bands = filter_map (λ b. option_map (λ v. notches (unsigned_abs v)) 
 -- what the brake curves of a kind stand on: EBD on Safe, SBD on Expected, guidance curve on Normal
 -- (SUBSET-026-3 3.13.8.3, 3.13.8.4, 3.13.8.5)
 unfoldable pub slopes_of : SlopeKind → TrainAndTrack → Slopes
-slopes_of kind d = record { q = q_of d.train.rotating_mass; uppers = uppers_of d.train.bands; slope = λ band cell. unsigned_abs (slope_at kind d band cell) }
+slopes_of kind d = record {
+  q = q_of d.train.rotating_mass;
+  uppers = uppers_of d.train.bands;
+  slope =
+      λ band cell. unsigned_abs (slope_at kind d band cell);
+}

@@ -163,8 +163,10 @@ kind_text Normal = codes "normal"
 
 -- the text why an opening is refused
 unfoldable pub open_text : OpenFault → List ℕ
-open_text (open_faults.TooWeak kind band cell slope) = codes "refused: too weak: " ++ kind_text kind ++ codes " band " ++ decimal band ++ codes " cell " ++ signed_decimal cell
-open_text (open_faults.TooVaried kind band least greatest) = codes "refused: too varied: " ++ kind_text kind ++ codes " band " ++ decimal band
+open_text (open_faults.TooWeak kind band cell slope) = codes "refused: too weak: " ++ kind_text kind ++ codes " band "
+    ++ decimal band ++ codes " cell " ++ signed_decimal cell
+open_text (open_faults.TooVaried kind band least greatest) =
+    codes "refused: too varied: " ++ kind_text kind ++ codes " band " ++ decimal band
 open_text (open_faults.BadAuthority fault) = codes "refused: " ++ authority_text fault
 open_text open_faults.Memory = memory_text
 

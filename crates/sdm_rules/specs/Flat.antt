@@ -1,6 +1,7 @@
--- The supervisor of one brake curve on a level track: one band, one deceleration, and an end (own). It is the plainest case
--- of a brake curve, and its command stays beside the whole supervisor.
-use Rattle.std.specs.Prelude.{ℕ, suc, ℤ, pos, negsuc, Bool, false, not, ◌&&◌, ◌||◌, List, [], ◌∷◌, ◌++◌, Option, Some, None, Result, Ok, Err, ◌*◌, decimal, nat_lt, int_lt, unsigned_abs}
+-- The supervisor of one brake curve on a level track: one band, one deceleration, and an end (own). It is the plainest
+-- case of a brake curve, and its command stays beside the whole supervisor.
+use Rattle.std.specs.Prelude.{ℕ, suc, ℤ, pos, negsuc, Bool, false, not, ◌&&◌, ◌||◌, List, [], ◌∷◌, ◌++◌, Option, Some}
+use Rattle.std.specs.Prelude.{None, Result, Ok, Err, ◌*◌, decimal, nat_lt, int_lt, unsigned_abs}
 use Rattle.std.specs.Fmt.{signed_decimal}
 use Rattle.sdm_num.specs.Units.{place_of_mm, notches_of_mm_s, millimetre}
 use Rattle.sdm_num.specs.Fractions.{Fraction}
@@ -74,10 +75,11 @@ flat_row s l = record {
 abbrev pub after_flat_line : FlatSupervision → FlatLine → FlatSupervision
 after_flat_line s l = record s { last_time = Some l.time; eb = (flat_row s l).eb }
 
--- commands in order stay in order over the line: of the exact machine, of the supervisor, whose new command is `eb`, and of
--- the machine whose curve is one millimetre earlier
+-- commands in order stay in order over the line: of the exact machine, of the supervisor, whose new command is `eb`,
+-- and of the machine whose curve is one millimetre earlier
 abbrev pub KeepsFlatOrder : FlatSupervision → FlatLine → Bool → Type 0
-KeepsFlatOrder s l eb = (must may : Bool) → InOrder must s.eb may → InOrder (flat_after exact_places 0 s must l) eb (flat_after exact_places millimetre s may l)
+KeepsFlatOrder s l eb = (must may : Bool) → InOrder must s.eb may →
+    InOrder (flat_after exact_places 0 s must l) eb (flat_after exact_places millimetre s may l)
 
 -- the start of motions from a line: they brake at once
 abbrev pub flat_start : FlatLine → Start
@@ -100,7 +102,12 @@ flat_line_of (time ∷ front ∷ speed ∷ []) =
     with_field (read_int time (pos 0) (pos 100_000_000)) (λ time.
     with_field (read_int front (negsuc 9_999_999) (pos 110_000_000)) (λ front.
     with_field (read_int speed (pos 0) (pos 138_888)) (λ speed.
-    Some (record { time = unsigned_abs time; front = place_of_mm front; speed = notches_of_mm_s (unsigned_abs speed) }))))
+    Some (record {
+      time = unsigned_abs time;
+      front = place_of_mm front;
+      speed =
+          notches_of_mm_s (unsigned_abs speed);
+    }))))
 flat_line_of _ = None
 
 -- a line of the input, if it is of the form due

@@ -1,5 +1,6 @@
 -- The forms of records, as fields of bytes: the kind, then numbers within ranges (own).
-use Rattle.std.specs.Prelude.{ℕ, ℤ, pos, negsuc, List, [], ◌∷◌, Result, Ok, Err, ◌==◌, codes, unsigned_abs, if◌then◌else◌}
+use Rattle.std.specs.Prelude.{ℕ, ℤ, pos, negsuc, List, [], ◌∷◌, Result, Ok, Err, ◌==◌, codes, unsigned_abs}
+use Rattle.std.specs.Prelude.{if◌then◌else◌}
 use Rattle.std.specs.Str.{bytes_eq}
 use Rattle.sdm_num.specs.Readings.{reading_of}
 use Rattle.sdm_rules.specs.declared.authorities.Authority.TheVariants.{Stop, Limit}
@@ -30,7 +31,8 @@ read_form (time ∷ est ∷ min ∷ max ∷ speed ∷ accel ∷ under ∷ []) =
     column 6 speed (pos 0) (pos 138_888) (λ speed.
     column 7 accel (negsuc 299) (pos 300) (λ accel.
     column 8 under (pos 0) (pos 10_000) (λ under.
-    Ok (record_kinds.Read (reading_of (unsigned_abs time) est min max (unsigned_abs speed) accel (unsigned_abs under))))))))))
+    Ok (record_kinds.Read
+    (reading_of (unsigned_abs time) est min max (unsigned_abs speed) accel (unsigned_abs under))))))))))
 read_form _ = Err FieldCount
 
 -- `end`: EOA and SvL in cm, release speed in km/h
@@ -58,7 +60,14 @@ restrict_form (id ∷ start ∷ end ∷ speed ∷ delayed ∷ []) =
     column 4 end (pos 0) (pos longest_track) (λ end.
     column 5 speed (pos 1) (pos top_kmh) (λ speed.
     column 6 delayed (pos 0) (pos 1) (λ delayed.
-    Ok (record_kinds.Restrict (record { id = unsigned_abs id; start = unsigned_abs start; end = unsigned_abs end; speed = unsigned_abs speed; delayed = unsigned_abs delayed == 1 })))))))
+    Ok (record_kinds.Restrict (record {
+      id = unsigned_abs id;
+      start = unsigned_abs start;
+      end =
+          unsigned_abs end;
+      speed = unsigned_abs speed;
+      delayed = unsigned_abs delayed == 1;
+    })))))))
 restrict_form _ = Err FieldCount
 
 -- `revoke`: identity

@@ -1,5 +1,5 @@
--- The headline over every journey: the three machines stay in order, each covered row is safe, and what else is promised of a row
--- holds (own).
+-- The headline over every journey: the three machines stay in order, each covered row is safe, and what else is
+-- promised of a row holds (own).
 use Rattle.std.specs.Prelude.{◌≡◌, Bool, false, IsTrue, ⊤, List, [], ◌∷◌}
 use Rattle.sdm_num.specs.Readings.{OdometerReading}
 use Rattle.sdm_rules.specs.declared.records.Event.{Event}
@@ -37,7 +37,8 @@ over_record machine s (record_kinds.Authority a) held = held
 over_record machine s (record_kinds.Restrict r) held = held
 over_record machine s (record_kinds.Revoke id) held = held
 
--- THE HEADLINE: each turn is safe, one after the other, from what the exact and the early machine hold before the first
+-- THE HEADLINE: each turn is safe, one after the other, from what the exact and the early machine hold before the
+-- first
 abbrev pub AreTurnsSafe : Bool → Bool → List Turn → Type 0
 AreTurnsSafe must may [] = ⊤
 AreTurnsSafe must may (t ∷ ts) =

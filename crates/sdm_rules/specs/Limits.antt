@@ -1,5 +1,5 @@
--- The supervision limits of a target (SUBSET-026-3 3.13.9.3), stated once for any way to find the places of a brake curve:
--- the exact places, or those that the supervisor computes.
+-- The supervision limits of a target (SUBSET-026-3 3.13.9.3), stated once for any way to find the places of a brake
+-- curve: the exact places, or those that the supervisor computes.
 use Rattle.std.specs.Prelude.{ℕ, ℤ, pos, Option, Some, None, ◌+◌, if◌then◌else◌}
 use Rattle.std.specs.Option.{option_map_or}
 use Rattle.sdm_num.specs.Units.{notches, distance_at}
@@ -38,13 +38,20 @@ pub record SupervisionLimits : Type 0 where
   pub permitted : Fraction
   pub indication : Fraction
 
--- d_W = d_SBI - V_est * T_warning; d_P = d_SBI - V_est * T_driver, or the guidance curve's place where that is earlier;
--- d_I = d_P - V_est * T_indication (SUBSET-026-3 3.13.9.3.4 to 3.13.9.3.6; own form)
+-- d_W = d_SBI - V_est * T_warning; d_P = d_SBI - V_est * T_driver, or the guidance curve's place where that is
+-- earlier; d_I = d_P - V_est * T_indication (SUBSET-026-3 3.13.9.3.4 to 3.13.9.3.6; own form)
 abbrev pub limits_from_sbi : Times → ℕ → Option Fraction → Option Fraction → Fraction → SupervisionLimits
 limits_from_sbi times v guide ebi sbi =
     let driver = less sbi (distance_at v driver_time) in
     let permitted = option_map_or (λ g. lesser g driver) guide driver in
-    record { ebi = ebi; sbi = sbi; warning = less sbi (distance_at v warning_time); permitted = permitted; indication = less permitted (distance_at v times.indication) }
+    record {
+      ebi = ebi;
+      sbi = sbi;
+      warning = less sbi (distance_at v warning_time);
+      permitted = permitted;
+      indication =
+          less permitted (distance_at v times.indication);
+    }
 
 -- the limits on an EBD: d_EBI = d_EBD(V_bec) - D_bec and d_SBI = d_EBI - V_est * T_bs, with the curve's place at V_bec
 -- (SUBSET-026-3 3.13.9.3.2, 3.13.9.3.3)
@@ -65,19 +72,23 @@ v_bec_for d e t = v_bec (build_up_from d e) (target_speed t)
 abbrev pub d_bec_for : TrainAndTrack → Estimate → Target → ℕ
 d_bec_for d e t = d_bec (build_up_from d e) (target_speed t)
 
--- the limits of a target with an EBD: its foot is at the target place with the foot speed (SUBSET-026-3 3.13.8.3, 3.13.9.3)
+-- the limits of a target with an EBD: its foot is at the target place with the foot speed (SUBSET-026-3 3.13.8.3,
+-- 3.13.9.3)
 abbrev pub ebd_limits_of : CurvePlaces → TrainAndTrack → Estimate → Target → Option Fraction → SupervisionLimits
 ebd_limits_of P d e t guide =
-    ebd_limits_at (reaction_times d) e.speed guide (d_bec_for d e t) (P (slopes_of Safe d) t.place (foot_speed_of t) (v_bec_for d e t))
+    ebd_limits_at (reaction_times d) e.speed guide (d_bec_for d e t)
+    (P (slopes_of Safe d) t.place (foot_speed_of t) (v_bec_for d e t))
 
 -- the limits of the EOA, on the SBD: its foot is speed 0 at the EOA (SUBSET-026-3 3.13.8.4, 3.13.9.3)
 abbrev pub sbd_limits_of : CurvePlaces → TrainAndTrack → Estimate → Target → Option Fraction → SupervisionLimits
-sbd_limits_of P d e t guide = sbd_limits_at (reaction_times d) e.speed guide (P (slopes_of Expected d) t.place 0 e.speed)
+sbd_limits_of P d e t guide =
+    sbd_limits_at (reaction_times d) e.speed guide (P (slopes_of Expected d) t.place 0 e.speed)
 
--- the guidance curve's place at V_est, where Q_NVGUIPERM permits guidance: its foot is at the target place with the target
--- speed (SUBSET-026-3 3.13.8.5; own feet)
+-- the guidance curve's place at V_est, where Q_NVGUIPERM permits guidance: its foot is at the target place with the
+-- target speed (SUBSET-026-3 3.13.8.5; own feet)
 abbrev pub guidance_place : CurvePlaces → TrainAndTrack → Estimate → Target → Option Fraction
-guidance_place P d e t = if d.national.guidance then Some (P (slopes_of Normal d) t.place (target_speed t) e.speed) else None
+guidance_place P d e t =
+    if d.national.guidance then Some (P (slopes_of Normal d) t.place (target_speed t) e.speed) else None
 
 -- the limits of a target by its kind; the SvL has no guidance curve of its own (own)
 abbrev pub limits_of_kind : CurvePlaces → TrainAndTrack → Estimate → Target → TargetKind → SupervisionLimits
@@ -90,15 +101,15 @@ limits_of_kind P d e t Svl = ebd_limits_of P d e t None
 unfoldable pub limits_of : CurvePlaces → TrainAndTrack → Estimate → Target → SupervisionLimits
 limits_of P d e t = limits_of_kind P d e t t.kind
 
--- where release speed monitoring starts, with the places of the EBD and the SBD at the release speed V_rel (notches): the
--- earlier of d_SBD(V_rel) - V_rel * T_bs and d_EBD(V_rel) - V_rel * (T_traction + T_berem + T_bs)
--- (SUBSET-026-3 3.13.9.4; own form)
+-- where release speed monitoring starts, with the places of the EBD and the SBD at the release speed V_rel (notches):
+-- the earlier of d_SBD(V_rel) - V_rel * T_bs and d_EBD(V_rel) - V_rel * (T_traction + T_berem + T_bs) (SUBSET-026-3
+-- 3.13.9.4; own form)
 abbrev pub release_start_at : Times → ℕ → Fraction → Fraction → Fraction
 release_start_at times v ebd sbd =
     lesser (less sbd (distance_at v times.bs)) (less ebd (distance_at v (times.traction + times.berem + times.bs)))
 
--- where release speed monitoring starts, with EOA and SvL in cm and the release speed in km/h: both curves have speed 0 at their foot
--- (SUBSET-026-3 3.13.9.4; own form)
+-- where release speed monitoring starts, with EOA and SvL in cm and the release speed in km/h: both curves have speed
+-- 0 at their foot (SUBSET-026-3 3.13.9.4; own form)
 unfoldable pub release_start : CurvePlaces → TrainAndTrack → ℕ → ℕ → ℕ → Fraction
 release_start P d eoa svl release =
     let v = notches release in

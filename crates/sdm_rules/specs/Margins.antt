@@ -1,5 +1,5 @@
--- The margins over a speed limit of whole km/h, in notches (SUBSET-026-3 3.13.9.2; own values). Each rises evenly with the
--- speed from 110 km/h on, up to a greatest value. At whole km/h each is a whole number of notches.
+-- The margins over a speed limit of whole km/h, in notches (SUBSET-026-3 3.13.9.2; own values). Each rises evenly with
+-- the speed from 110 km/h on, up to a greatest value. At whole km/h each is a whole number of notches.
 use Rattle.std.specs.Prelude.{ℕ, ◌+◌, ◌-◌, ◌*◌, min}
 
 -- dV_ebi: 7.5 km/h, and from 210 km/h on 15 km/h (SUBSET-026-3 3.13.9.2; own values)

@@ -1,6 +1,7 @@
--- Motions of a train: what kinematics asks of them, and nothing of brake curves (own). For a scale `s`, times are in 1/s
--- ds, speeds in 1/s notch, places, lengths and squares of speeds in 1/s² of a grain and of a squared notch.
-use Rattle.std.specs.Prelude.{◌≡◌, ℕ, zero, suc, ℤ, pos, List, [], ◌∷◌, ◌++◌, ◌+◌, ◌-◌, ◌*◌, ◌<◌, ◌≤◌, ◌+ℤ◌, ◌*ℤ◌, ◌≤ℤ◌, ◌<ℤ◌, All, ⊤, length}
+-- Motions of a train: what kinematics asks of them, and nothing of brake curves (own). For a scale `s`, times are in
+-- 1/s ds, speeds in 1/s notch, places, lengths and squares of speeds in 1/s² of a grain and of a squared notch.
+use Rattle.std.specs.Prelude.{◌≡◌, ℕ, zero, suc, ℤ, pos, List, [], ◌∷◌, ◌++◌, ◌+◌, ◌-◌, ◌*◌, ◌<◌, ◌≤◌, ◌+ℤ◌, ◌*ℤ◌}
+use Rattle.std.specs.Prelude.{◌≤ℤ◌, ◌<ℤ◌, All, ⊤, length}
 use Rattle.sdm_num.specs.Units.{centimetre}
 use Rattle.sdm_rules.specs.declared.motions.Phase.{Phase}
 use Rattle.sdm_rules.specs.declared.motions.Phase.TheVariants.{Traction, Build}
@@ -35,8 +36,8 @@ pub record BrakesAtLeast (on : Slopes) (a : ℕ) (p : ℤ) (u : ℕ) (p' : ℤ) 
   pub slower : u' ≤ u
   pub enough : (pos (27 * a) *ℤ p') ≤ℤ (pos (27 * a) *ℤ p +ℤ pos (grain_energy on (u - u')))
 
--- one step of braking: some band holds both squares, all cells between both places have one slope in it, and the train brakes at
--- least with it
+-- one step of braking: some band holds both squares, all cells between both places have one slope in it, and the train
+-- brakes at least with it
 pub record IsStep (on : Slopes) (m : ℕ) (x y : Point) : Type 0 where
   pub band : ℕ
   pub slope : ℕ
@@ -79,7 +80,8 @@ IsIn phase xs = All (λ x. x.phase ≡ phase) xs
 -- where the train is at the end of each slice, from a place and a speed on
 abbrev pub slice_ends : ℤ → ℕ → List Slice → List Point
 slice_ends p v [] = []
-slice_ends p v (x ∷ xs) = record { place = p +ℤ pos x.length; square = x.to * x.to } ∷ slice_ends (p +ℤ pos x.length) x.to xs
+slice_ends p v (x ∷ xs) =
+    record { place = p +ℤ pos x.length; square = x.to * x.to } ∷ slice_ends (p +ℤ pos x.length) x.to xs
 
 -- the last of one or more points
 abbrev pub last_point : Point → List Point → Point
@@ -88,7 +90,8 @@ last_point x (y ∷ ys) = last_point y ys
 
 -- ---- a whole motion
 
--- the part of a motion before braking, from the speed `v` on: slices of traction and then of the build-up, each with its time
+-- the part of a motion before braking, from the speed `v` on: slices of traction and then of the build-up, each with
+-- its time
 pub record IsReaction (s : ℕ) (start : Start) (v : ℕ) (xs : List Slice) : Type 0 where
   pub traction : List Slice
   pub build : List Slice
@@ -99,15 +102,17 @@ pub record IsReaction (s : ℕ) (start : Start) (v : ℕ) (xs : List Slice) : Ty
   pub build_time : time_of build ≡ s * start.berem
   pub slices : AreSlices start v xs
 
--- a motion that begins at the place `p` with the speed `v`: slices before braking, and braking from the point `first` on, at which they
--- end
-pub record IsMotion (s : ℕ) (start : Start) (on : Slopes) (p : ℤ) (v : ℕ) (xs : List Slice) (first : Point) (more : List Point) : Type 0 where
+-- a motion that begins at the place `p` with the speed `v`: slices before braking, and braking from the point `first`
+-- on, at which they end
+pub record IsMotion (s : ℕ) (start : Start) (on : Slopes) (p : ℤ) (v : ℕ) (xs : List Slice) (first : Point)
+    (more : List Point) : Type 0 where
   pub reaction : IsReaction s start v xs
   pub begins : first ≡ last_point (record { place = p; square = v * v }) (slice_ends p v xs)
   pub braking : IsBraking on (s * s) first more
 
 -- a motion that begins at most at the front end and with at most the speed of the start
-pub record IsMotionFrom (s : ℕ) (start : Start) (on : Slopes) (p : ℤ) (v : ℕ) (xs : List Slice) (first : Point) (more : List Point) : Type 0 where
+pub record IsMotionFrom (s : ℕ) (start : Start) (on : Slopes) (p : ℤ) (v : ℕ) (xs : List Slice) (first : Point)
+    (more : List Point) : Type 0 where
   pub place : p ≤ℤ (pos (s * s) *ℤ start.front)
   pub speed : v ≤ s * start.speed
   pub motion : IsMotion s start on p v xs first more

@@ -1,5 +1,6 @@
 -- Numbers in records and words: an optional minus sign and 1 to 18 decimal digits (own).
-use Rattle.std.specs.Prelude.{ℕ, ℤ, pos, neg_ℤ, Bool, ◌&&◌, List, [], ◌∷◌, Option, Some, None, Result, Ok, Err, ◌==◌, nat_le, int_le, length, if◌then◌else◌}
+use Rattle.std.specs.Prelude.{ℕ, ℤ, pos, neg_ℤ, Bool, ◌&&◌, List, [], ◌∷◌, Option, Some, None, Result, Ok, Err, ◌==◌}
+use Rattle.std.specs.Prelude.{nat_le, int_le, length, if◌then◌else◌}
 use Rattle.std.specs.Char.{is_ascii_digit}
 use Rattle.std.specs.List.{list_all}
 use Rattle.std.specs.Str.Parse.{digits_value}
@@ -21,7 +22,8 @@ negated ds = if is_digits ds then Some (neg_ℤ (pos (digits_value 10 ds))) else
 -- the number that a field writes, if it is of this form
 abbrev pub number_of : List ℕ → Option ℤ
 number_of [] = None
-number_of (c ∷ ds) = if c == 45 then negated ds else if is_digits (c ∷ ds) then Some (pos (digits_value 10 (c ∷ ds))) else None
+number_of (c ∷ ds) =
+    if c == 45 then negated ds else if is_digits (c ∷ ds) then Some (pos (digits_value 10 (c ∷ ds))) else None
 
 -- the number where it is from `least` to `greatest`, both included, or why it is refused
 abbrev pub in_range : ℤ → ℤ → Option ℤ → Result ℤ FieldFault

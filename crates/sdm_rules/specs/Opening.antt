@@ -1,5 +1,5 @@
--- Which data are accepted at the opening, and the first fault of those that are not (own). A slope that is too weak would
--- carry a curve too far, and slopes that differ too much in one band would let rounding grow past a millimetre.
+-- Which data are accepted at the opening, and the first fault of those that are not (own). A slope that is too weak
+-- would carry a curve too far, and slopes that differ too much in one band would let rounding grow past a millimetre.
 use Rattle.std.specs.Prelude.{◌≡◌, ℕ, suc, ℤ, pos, Some, None, ◌<◌, ◌*ℤ◌, ◌≤ℤ◌, ◌<ℤ◌, length, ⊤}
 use Rattle.sdm_rules.specs.declared.data.SlopeKind.{SlopeKind}
 use Rattle.sdm_rules.specs.declared.data.SlopeKind.TheVariants.{Safe, Expected, Normal}
@@ -32,7 +32,8 @@ variation_of d = variation (band_count_of d)
 
 -- in the band the slopes differ no more than they may
 abbrev pub IsEven : SlopeKind → TrainAndTrack → ℕ → Type 0
-IsEven kind d band = (cell cell' : ℕ) → slope_at kind d band (pos cell) ≤ℤ (pos (variation_of d) *ℤ slope_at kind d band (pos cell'))
+IsEven kind d band =
+    (cell cell' : ℕ) → slope_at kind d band (pos cell) ≤ℤ (pos (variation_of d) *ℤ slope_at kind d band (pos cell'))
 
 -- the slopes of a kind are accepted
 pub record IsAcceptedKind (kind : SlopeKind) (d : TrainAndTrack) : Type 0 where
@@ -89,7 +90,9 @@ IsNthFrom1 n P = (i : ℕ) × (n ≡ suc i) × P i
 
 -- the first fault of an opening
 abbrev pub IsOpenFault : TrainAndTrack → Authority → OpenFault → Type 0
-IsOpenFault d a (TooWeak kind band cell slope) = AreBefore kind d × IsNthFrom1 band (λ b. (c : ℕ) × (cell ≡ pos c) × IsFirstWeak kind d b c slope)
-IsOpenFault d a (TooVaried kind band least greatest) = AreBefore kind d × IsNthFrom1 band (λ b. IsFirstVaried kind d b least greatest)
+IsOpenFault d a (TooWeak kind band cell slope) =
+    AreBefore kind d × IsNthFrom1 band (λ b. (c : ℕ) × (cell ≡ pos c) × IsFirstWeak kind d b c slope)
+IsOpenFault d a (TooVaried kind band least greatest) =
+    AreBefore kind d × IsNthFrom1 band (λ b. IsFirstVaried kind d b least greatest)
 IsOpenFault d a (BadAuthority fault) = HasAcceptedSlopes d × (authority_fault d.track.length_cm a ≡ Some fault)
 IsOpenFault d a Memory = ⊥

@@ -10,9 +10,11 @@ use Rattle.sdm_rules.specs.Machines.{BeginsReleaseMonitoringAt}
 use Rattle.sdm_rules.specs.Stop.{IsUncoveredSpeedTarget}
 use Rattle.sdm_rules.specs.Supervision.{Supervision, situation_of, is_covered_for}
 
--- of a moving train each target that is not covered is a gap: a target of speed whose foot speed V_est does not pass and V_bec does
+-- of a moving train each target that is not covered is a gap: a target of speed whose foot speed V_est does not pass
+-- and V_bec does
 abbrev pub HasOnlyGaps : Supervision → OdometerReading → Type 0
-HasOnlyGaps s r = 0 < r.speed → (t : Target) → Contains (situation_of s r).targets t → is_covered_for s.train_and_track r.max (estimate_of r) t ≡ false →
+HasOnlyGaps s r = 0 < r.speed → (t : Target) → Contains (situation_of s r).targets t →
+    is_covered_for s.train_and_track r.max (estimate_of r) t ≡ false →
     IsUncoveredSpeedTarget s r t
 
 -- the speed is at most the ceiling of the row with its EBI margin, in notches (SUBSET-026-3 3.13.10.3; own)

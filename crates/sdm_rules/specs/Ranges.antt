@@ -1,6 +1,7 @@
--- Which data are accepted, and the first rule that others break: a number outside its range, too many or too few entries,
--- entries out of order (ranges own). Indices count from 1.
-use Rattle.std.specs.Prelude.{ℕ, suc, ℤ, pos, neg_ℤ, Bool, true, ◌&&◌, List, [], ◌∷◌, Option, Some, None, ◌-ℤ◌, ◌+ℤ◌, ◌/◌, ◌%◌, ◌==◌, int_le, int_lt, nat_lt, nat_le, length, unsigned_abs, if◌then◌else◌}
+-- Which data are accepted, and the first rule that others break: a number outside its range, too many or too few
+-- entries, entries out of order (ranges own). Indices count from 1.
+use Rattle.std.specs.Prelude.{ℕ, suc, ℤ, pos, neg_ℤ, Bool, true, ◌&&◌, List, [], ◌∷◌, Option, Some, None, ◌-ℤ◌, ◌+ℤ◌}
+use Rattle.std.specs.Prelude.{◌/◌, ◌%◌, ◌==◌, int_le, int_lt, nat_lt, nat_le, length, unsigned_abs, if◌then◌else◌}
 pub use Rattle.sdm_num.specs.Units.{top_kmh}
 use Rattle.sdm_rules.specs.declared.data.Band.{Band}
 use Rattle.sdm_rules.specs.declared.data.Gradient.{Gradient}
@@ -85,7 +86,8 @@ train_refused t = first_refused
     ∷ refused keys.TRAIN_ROTATING_MASS (is_within_if_any (pos 0) (pos 50) t.rotating_mass)
     ∷ refused keys.TRAIN_TRACTION_CUTOFF_TIME (is_within (pos 0) (pos 300) t.cut_off_time)
     ∷ refused keys.TRAIN_EMERGENCY_TIME (is_within (pos 0) (pos 300) t.emergency_time)
-    ∷ refused keys.TRAIN_SERVICE_TIME (is_within (pos 0) (pos 300) t.service_time && ((unsigned_abs t.service_time % 5) == 0))
+    ∷ refused keys.TRAIN_SERVICE_TIME
+    (is_within (pos 0) (pos 300) t.service_time && ((unsigned_abs t.service_time % 5) == 0))
     ∷ [])
 
 -- the first of a band's numbers that is refused (own)
@@ -104,14 +106,16 @@ band_refused b = first_refused
 -- the first value of the bands that is refused, from the band `i` on (own)
 abbrev pub band_value_fault : ℕ → List Band → Option TrainFault
 band_value_fault i [] = None
-band_value_fault i (b ∷ more) = or_else (fault_at (λ key. train_faults.Value i key) (band_refused b)) (band_value_fault (suc i) more)
+band_value_fault i (b ∷ more) =
+    or_else (fault_at (λ key. train_faults.Value i key) (band_refused b)) (band_value_fault (suc i) more)
 
 -- the fault of the last band where it has an upper speed (own)
 abbrev pub order_of_last : ℕ → Option ℤ → Option TrainFault
 order_of_last i None = None
 order_of_last i (Some upper) = Some (train_faults.BandOrder i)
 
--- the fault of any other band where it has no upper speed above that of the band before it, `above`; else that of the bands after it (own)
+-- the fault of any other band where it has no upper speed above that of the band before it, `above`; else that of the
+-- bands after it (own)
 abbrev pub order_of_next : ℕ → ℤ → Option ℤ → (ℤ → Option TrainFault) → Option TrainFault
 order_of_next i above None later = Some (train_faults.BandOrder i)
 order_of_next i above (Some upper) later = if int_lt above upper then later upper else Some (train_faults.BandOrder i)
@@ -120,14 +124,15 @@ order_of_next i above (Some upper) later = if int_lt above upper then later uppe
 abbrev pub band_order_fault : ℕ → ℤ → List Band → Option TrainFault
 band_order_fault i above [] = None
 band_order_fault i above (b ∷ []) = order_of_last i b.upper
-band_order_fault i above (b ∷ next ∷ more) = order_of_next i above b.upper (λ upper. band_order_fault (suc i) upper (next ∷ more))
+band_order_fault i above (b ∷ next ∷ more) =
+    order_of_next i above b.upper (λ upper. band_order_fault (suc i) upper (next ∷ more))
 
 -- the fault of a count of bands where there is none, or too many (own)
 abbrev pub band_count_fault : ℕ → Option TrainFault
 band_count_fault count = if nat_lt 0 count && nat_le count most_bands then None else Some train_faults.BandCount
 
--- The first rule that a train breaks, where so many bands were given: of its own numbers, of the count of bands, of their
--- numbers, of their order (own).
+-- The first rule that a train breaks, where so many bands were given: of its own numbers, of the count of bands, of
+-- their numbers, of their order (own).
 unfoldable pub train_fault : ℕ → TrainData → Option TrainFault
 train_fault count t =
     or_else (fault_at (λ key. train_faults.Value 0 key) (train_refused t))
@@ -138,30 +143,37 @@ train_fault count t =
 -- the first rule that national values break (own)
 unfoldable pub national_fault : NationalFields → Option NationalFault
 national_fault n = fault_at (λ key. national_faults.Value key)
-    (first_refused (refused keys.NATIONAL_AVADH (is_within (pos 0) (pos 20) n.avadh) ∷ refused keys.NATIONAL_ADHESION_MAX (is_within (pos 1) (pos 400) n.adhesion_max) ∷ []))
+    (first_refused (refused keys.NATIONAL_AVADH (is_within (pos 0) (pos 20) n.avadh)
+    ∷ refused keys.NATIONAL_ADHESION_MAX (is_within (pos 1) (pos 400) n.adhesion_max) ∷ []))
 
 -- ---- the track
 
 -- the first number of a gradient that is refused, on a track of a length in cm (own)
 abbrev pub gradient_refused : ℤ → Gradient → Option ℕ
-gradient_refused length_cm g = first_refused (refused keys.GRADIENT_START (is_within (pos 0) (length_cm -ℤ pos 1) g.start) ∷ refused keys.GRADIENT_GRAD (is_within (neg_ℤ steepest) steepest g.grad) ∷ [])
+gradient_refused length_cm g = first_refused (refused keys.GRADIENT_START
+    (is_within (pos 0) (length_cm -ℤ pos 1) g.start)
+    ∷ refused keys.GRADIENT_GRAD (is_within (neg_ℤ steepest) steepest g.grad) ∷ [])
 
 -- the first number of an entry of the static speed profile that is refused (own)
 abbrev pub speed_refused : ℤ → SpeedStep → Option ℕ
-speed_refused length_cm s = first_refused (refused keys.SPEED_START (is_within (pos 0) (length_cm -ℤ pos 1) s.start) ∷ refused keys.SPEED_SPEED (is_within (pos 1) (pos top_kmh) s.speed) ∷ [])
+speed_refused length_cm s = first_refused (refused keys.SPEED_START (is_within (pos 0) (length_cm -ℤ pos 1) s.start)
+    ∷ refused keys.SPEED_SPEED (is_within (pos 1) (pos top_kmh) s.speed) ∷ [])
 
 -- the first number of an area that is refused; its end is to be past its start (own)
 abbrev pub area_refused : ℤ → Area → Option ℕ
-area_refused length_cm a = first_refused (refused keys.AREA_START (is_within (pos 0) (length_cm -ℤ pos 1) a.start) ∷ refused keys.AREA_END (is_within (a.start +ℤ pos 1) length_cm a.end) ∷ [])
+area_refused length_cm a = first_refused (refused keys.AREA_START (is_within (pos 0) (length_cm -ℤ pos 1) a.start)
+    ∷ refused keys.AREA_END (is_within (a.start +ℤ pos 1) length_cm a.end) ∷ [])
 
 -- the first value of a list's entries that is refused, from the entry `i` on (own)
 abbrev pub value_fault : {E : Type 0} → Section → (E → Option ℕ) → ℕ → List E → Option TrackFault
 value_fault list key_refused i [] = None
-value_fault list key_refused i (e ∷ more) = or_else (fault_at (λ key. Value list i key) (key_refused e)) (value_fault list key_refused (suc i) more)
+value_fault list key_refused i (e ∷ more) =
+    or_else (fault_at (λ key. Value list i key) (key_refused e)) (value_fault list key_refused (suc i) more)
 
 -- the fault of a list with fewer than `least` or more than `most` entries (own)
 abbrev pub count_fault : {E : Type 0} → Section → ℕ → ℕ → List E → Option TrackFault
-count_fault list least most entries = if nat_le least (length entries) && nat_le (length entries) most then None else Some (Count list)
+count_fault list least most entries =
+    if nat_le least (length entries) && nat_le (length entries) most then None else Some (Count list)
 
 -- the fault of a list whose first entry does not start at 0 (own)
 abbrev pub gap_fault : {E : Type 0} → Section → (E → ℤ) → List E → Option TrackFault
@@ -172,7 +184,8 @@ gap_fault list start (e ∷ more) = if int_lt (pos 0) (start e) then Some (Gap l
 abbrev pub order_fault : {E : Type 0} → Section → (E → ℤ) → (E → ℤ) → ℕ → List E → Option TrackFault
 order_fault list start past i [] = None
 order_fault list start past i (e ∷ []) = None
-order_fault list start past i (e ∷ next ∷ more) = if int_lt (start next) (past e) then Some (Order list (suc i)) else order_fault list start past (suc i) (next ∷ more)
+order_fault list start past i (e ∷ next ∷ more) = if int_lt (start next) (past e) then Some (Order list (suc i))
+    else order_fault list start past (suc i) (next ∷ more)
 
 -- the fault of gradients whose starts do not rise (own)
 abbrev pub gradient_order : List Gradient → Option TrackFault
@@ -190,24 +203,29 @@ area_order list es = order_fault list (λ e. e.start) (λ e. e.end) 1 es
 unfoldable pub gradients_fault : ℤ → List Gradient → Option TrackFault
 gradients_fault length_cm es =
     or_else (count_fault sections.Gradient 0 most_gradients es)
-    (or_else (value_fault sections.Gradient (gradient_refused length_cm) 1 es) (or_else (gap_fault sections.Gradient (λ e. e.start) es) (gradient_order es)))
+    (or_else (value_fault sections.Gradient (gradient_refused length_cm) 1 es)
+    (or_else (gap_fault sections.Gradient (λ e. e.start) es) (gradient_order es)))
 
 -- the first rule that the static speed profile breaks; it is to have an entry (own)
 unfoldable pub speeds_fault : ℤ → List SpeedStep → Option TrackFault
 speeds_fault length_cm es =
     or_else (count_fault sections.Speed 1 most_speeds es)
-    (or_else (value_fault sections.Speed (speed_refused length_cm) 1 es) (or_else (gap_fault sections.Speed (λ e. e.start) es) (speed_order es)))
+    (or_else (value_fault sections.Speed (speed_refused length_cm) 1 es)
+    (or_else (gap_fault sections.Speed (λ e. e.start) es) (speed_order es)))
 
 -- the first rule that a list of areas breaks; it may be empty (own)
 unfoldable pub areas_fault : Section → ℤ → List Area → Option TrackFault
-areas_fault list length_cm es = or_else (count_fault list 0 most_areas es) (or_else (value_fault list (area_refused length_cm) 1 es) (area_order list es))
+areas_fault list length_cm es = or_else (count_fault list 0 most_areas es)
+    (or_else (value_fault list (area_refused length_cm) 1 es) (area_order list es))
 
 -- the fault of a track's length, in cm, that is out of its range (own)
 abbrev pub length_fault : ℤ → Option TrackFault
-length_fault length_cm = if is_within (pos 1) (pos longest_track) length_cm then None else Some (Value sections.Track 0 keys.TRACK_LENGTH)
+length_fault length_cm =
+    if is_within (pos 1) (pos longest_track) length_cm then None else Some (Value sections.Track 0 keys.TRACK_LENGTH)
 
 -- the first rule that a track breaks: of its length, then list by list (own)
 unfoldable pub track_fault : TrackData → Option TrackFault
 track_fault t =
     or_else (length_fault t.length_cm)
-    (or_else (gradients_fault t.length_cm t.gradients) (or_else (speeds_fault t.length_cm t.speeds) (areas_fault sections.Adhesion t.length_cm t.areas)))
+    (or_else (gradients_fault t.length_cm t.gradients)
+    (or_else (speeds_fault t.length_cm t.speeds) (areas_fault sections.Adhesion t.length_cm t.areas)))

@@ -1,5 +1,6 @@
 -- What each record makes of the supervision state, or why it is refused (own).
-use Rattle.std.specs.Prelude.{ℕ, suc, ℤ, pos, List, [], ◌∷◌, Option, Some, None, Result, Ok, Err, ◌||◌, nat_lt, nat_le, ◌==◌, int_lt, filter_map, if◌then◌else◌}
+use Rattle.std.specs.Prelude.{ℕ, suc, ℤ, pos, List, [], ◌∷◌, Option, Some, None, Result, Ok, Err, ◌||◌, nat_lt, nat_le}
+use Rattle.std.specs.Prelude.{◌==◌, int_lt, filter_map, if◌then◌else◌}
 use Rattle.std.specs.Ordering.{nat_cmp}
 use Rattle.std.specs.FinMap as finite
 use Rattle.sdm_rules.specs.declared.authorities.Authority.{Authority}
@@ -20,7 +21,8 @@ use Rattle.sdm_rules.specs.declared.faults.CycleFault.TheVariants.{TimeBack}
 use Rattle.sdm_rules.specs.declared.faults.EventCause.{EventCause}
 use Rattle.sdm_rules.specs.declared.faults.EventCause.TheVariants as causes
 use Rattle.sdm_rules.specs.declared.rows.Row.{Row}
-use Rattle.sdm_rules.specs.Supervision.{Supervision, row_of, after_reading, after_authority, after_restriction, after_revocation}
+use Rattle.sdm_rules.specs.Supervision.{Supervision, row_of, after_reading, after_authority, after_restriction}
+use Rattle.sdm_rules.specs.Supervision.{after_revocation}
 use Rattle.sdm_rules.specs.Ranges.{top_kmh}
 
 -- ---- refusals
@@ -72,7 +74,8 @@ unless cause (Some fault) s = Err (cause fault)
 -- the state after a record, or why it is refused
 unfoldable pub step : Supervision → Event → Result Supervision EventCause
 step s (record_kinds.Read r) = unless time_cause (time_fault s.last_time r.time) (after_reading s r)
-step s (record_kinds.Authority a) = unless causes.Authority (authority_fault s.train_and_track.track.length_cm a) (after_authority s a)
+step s (record_kinds.Authority a) =
+    unless causes.Authority (authority_fault s.train_and_track.track.length_cm a) (after_authority s a)
 step s (record_kinds.Restrict r) =
     unless causes.Restrict (restrict_fault s.train_and_track.track.length_cm s.restrictions r) (after_restriction s r)
 step s (record_kinds.Revoke id) = unless causes.Revoke (revoke_fault s.restrictions id) (after_revocation s id)
@@ -116,8 +119,8 @@ rows_of turns = filter_map row_of_turn turns
 abbrev pub most_records : ℕ
 most_records = 100_000
 
--- a journey: its turns up to the first record that is refused, and that record's number, from 1, with its cause; an accepted
--- journey has none
+-- a journey: its turns up to the first record that is refused, and that record's number, from 1, with its cause; an
+-- accepted journey has none
 pub record Journey : Type 0 where
   pub turns : List Turn
   pub refused : Option (ℕ × EventCause)

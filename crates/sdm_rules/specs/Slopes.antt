@@ -1,15 +1,17 @@
--- What brake curves stand on: a deceleration for each speed band and each cell of the track (SUBSET-026-3 3.13.6; own form).
-use Rattle.std.specs.Prelude.{ℕ, suc, ℤ, pos, int_le, List, ◌+◌, ◌-◌, ◌*◌, ◌<◌, ◌≤◌, ◌≤ℤ◌, length, slice_index, count_by}
+-- What brake curves stand on: a deceleration for each speed band and each cell of the track (SUBSET-026-3 3.13.6; own
+-- form).
+use Rattle.std.specs.Prelude.{ℕ, suc, ℤ, pos, int_le, List, ◌+◌, ◌-◌, ◌*◌, ◌<◌, ◌≤◌, ◌≤ℤ◌, length, slice_index}
+use Rattle.std.specs.Prelude.{count_by}
 
--- A slope is a deceleration, not the track's gradient: a number of 1/Q m/s², with Q = 2 * 10^9 * q (own unit). `uppers` are the
--- upper speeds in notches of all bands but the last, which has none. Bands count from 0.
+-- A slope is a deceleration, not the track's gradient: a number of 1/Q m/s², with Q = 2 * 10^9 * q (own unit).
+-- `uppers` are the upper speeds in notches of all bands but the last, which has none. Bands count from 0.
 pub record Slopes : Type 0 where
   pub q : ℕ
   pub uppers : List ℕ
   pub slope : ℕ → ℤ → ℕ
 
--- Slopes as they are kept, by segments of the track: `starts` are the first cells of the segments, and `slopes` has one value for
--- each band and segment, all segments of the first band first (own).
+-- Slopes as they are kept, by segments of the track: `starts` are the first cells of the segments, and `slopes` has
+-- one value for each band and segment, all segments of the first band first (own).
 pub record SlopeMap : Type 0 where
   pub q : ℕ
   pub uppers : List ℕ
@@ -30,7 +32,12 @@ IsStrongSlope q slope = pos (least_slope q) ≤ℤ slope
 
 -- the slopes by band and cell that a slope map stands for (own)
 abbrev pub meaning_of : SlopeMap → Slopes
-meaning_of m = record { q = m.q; uppers = m.uppers; slope = λ band cell. slice_index m.slopes (band * length m.starts + segment_of m.starts cell) }
+meaning_of m = record {
+  q = m.q;
+  uppers = m.uppers;
+  slope =
+      λ band cell. slice_index m.slopes (band * length m.starts + segment_of m.starts cell);
+}
 
 -- the most speed bands of a train (own)
 abbrev pub most_bands : ℕ
@@ -44,11 +51,12 @@ variation bands = 16
 abbrev pub bands_of : List ℕ → ℕ
 bands_of uppers = suc (length uppers)
 
--- slopes that the laws of curves hold for: above 0, in bands that are few enough and rise, in each of which they differ no more
--- than they may (own)
+-- slopes that the laws of curves hold for: above 0, in bands that are few enough and rise, in each of which they
+-- differ no more than they may (own)
 pub record IsUsable (on : Slopes) : Type 0 where
   pub unit : 0 < on.q
   pub few : bands_of on.uppers ≤ most_bands
   pub rising : (i j : ℕ) → i ≤ j → j < length on.uppers → slice_index on.uppers i ≤ slice_index on.uppers j
   pub positive : (band : ℕ) → band ≤ length on.uppers → (c : ℤ) → 0 < on.slope band c
-  pub even : (band : ℕ) → band ≤ length on.uppers → (c c' : ℤ) → on.slope band c ≤ variation (bands_of on.uppers) * on.slope band c'
+  pub even : (band : ℕ) → band ≤ length on.uppers → (c c' : ℤ) →
+      on.slope band c ≤ variation (bands_of on.uppers) * on.slope band c'

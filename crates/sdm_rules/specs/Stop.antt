@@ -34,12 +34,13 @@ SlowsTo on start place w =
     (s : ℕ) (p : ℤ) (v : ℕ) (xs : List Slice) (first : Point) (more : List Point) →
     IsMotionOn on start s p v xs first more → All (KeepsTo s place w) (slice_ends p v xs ++ first ∷ more)
 
--- every motion within the bounds of a reading that brakes from T_traction + T_berem after it on stops at or before the SvL, in cm
+-- every motion within the bounds of a reading that brakes from T_traction + T_berem after it on stops at or before the
+-- SvL, in cm
 abbrev pub StopsBySvl : TrainAndTrack → OdometerReading → ℕ → Type 0
 StopsBySvl d r svl = StopsBy (slopes_of Safe d) (reaction_start d r) (place_of_cell (pos svl))
 
--- every motion within the bounds of a reading that brakes from T_traction + T_berem after it on has, at or past the target, at most
--- the target's speed with its EBI margin
+-- every motion within the bounds of a reading that brakes from T_traction + T_berem after it on has, at or past the
+-- target, at most the target's speed with its EBI margin
 abbrev pub MeetsTarget : TrainAndTrack → OdometerReading → Target → Type 0
 MeetsTarget d r t = SlowsTo (slopes_of Safe d) (reaction_start d r) t.place (foot_speed_of t)
 
@@ -47,13 +48,15 @@ MeetsTarget d r t = SlowsTo (slopes_of Safe d) (reaction_start d r) t.place (foo
 abbrev pub IsSpeedTarget : Target → Type 0
 IsSpeedTarget t = (t.kind ≢ Eoa) × (t.kind ≢ Svl)
 
--- the promise of a covered reading: the train stops at or before the SvL, where there is one, and meets each target of speed
+-- the promise of a covered reading: the train stops at or before the SvL, where there is one, and meets each target of
+-- speed
 pub record IsSafe (s : Supervision) (r : OdometerReading) : Type 0 where
   pub stops : (eoa svl release : ℕ) → s.authority ≡ Stop eoa svl release → StopsBySvl s.train_and_track r svl
   pub meets : (t : Target) → Contains (situation_of s r).targets t → IsSpeedTarget t → MeetsTarget s.train_and_track r t
 
--- a target of speed that keeps a row from being covered where no emergency brake is commanded: V_est is at most its foot speed
--- V_target + dV_ebi(V_target), so V_est cannot trigger its EBI, and V_bec, with the under-reading, is above it
+-- a target of speed that keeps a row from being covered where no emergency brake is commanded: V_est is at most its
+-- foot speed V_target + dV_ebi(V_target), so V_est cannot trigger its EBI, and V_bec, with the under-reading, is above
+-- it
 pub record IsUncoveredSpeedTarget (s : Supervision) (r : OdometerReading) (t : Target) : Type 0 where
   pub is_speed : IsSpeedTarget t
   pub slow : r.speed ≤ foot_speed_of t

@@ -1,5 +1,6 @@
 -- The supervision state, and what a reading makes of it: the row and the commands (SUBSET-026-3 3.13.10; rows own).
-use Rattle.std.specs.Prelude.{ℕ, ℤ, pos, Bool, true, false, not, ◌&&◌, ◌||◌, List, [], ◌∷◌, Option, Some, None, fold, filter, filter_map, option_map, nat_le, nat_lt, ◌==◌, int_lt, is_some, if◌then◌else◌}
+use Rattle.std.specs.Prelude.{ℕ, ℤ, pos, Bool, true, false, not, ◌&&◌, ◌||◌, List, [], ◌∷◌, Option, Some, None, fold}
+use Rattle.std.specs.Prelude.{filter, filter_map, option_map, nat_le, nat_lt, ◌==◌, int_lt, is_some, if◌then◌else◌}
 use Rattle.std.specs.Int.{int_min}
 use Rattle.std.specs.List.{list_all}
 use Rattle.std.specs.Option.{option_map_or}
@@ -27,8 +28,8 @@ use Rattle.sdm_rules.specs.Limits.{computed, limits_of, release_start, v_bec_for
 use Rattle.sdm_rules.specs.Triggers.{Situation, is_past, triggers_of, is_indicated}
 use Rattle.sdm_rules.specs.Commands.{commands_after, nothing_held}
 
--- what a supervisor holds: the data, the authority, the temporary restrictions by identity, the time of the last reading
--- in ds, and the commands with the status (own)
+-- what a supervisor holds: the data, the authority, the temporary restrictions by identity, the time of the last
+-- reading in ds, and the commands with the status (own)
 pub record Supervision : Type 0 where
   pub train_and_track : TrainAndTrack
   pub authority : Authority
@@ -38,14 +39,20 @@ pub record Supervision : Type 0 where
 
 -- the supervision state after the opening: no restriction, no reading and no command (own)
 abbrev pub opening : TrainAndTrack → Authority → Supervision
-opening d a = record { train_and_track = d; authority = a; restrictions = finite.empty; last_time = None; commands = nothing_held }
+opening d a = record {
+  train_and_track = d;
+  authority = a;
+  restrictions = finite.empty;
+  last_time = None;
+  commands = nothing_held;
+}
 
 -- the MRSP in force, in km/h by cell (SUBSET-026-3 3.13.7)
 abbrev pub profile_of : Supervision → ℤ → ℕ
 profile_of s = mrsp s.train_and_track.train s.train_and_track.track (finite.values s.restrictions)
 
--- the release speed in km/h, where there is one and the max safe front end is past the start of release speed monitoring, by
--- the computed places (SUBSET-026-3 3.13.10.5; own)
+-- the release speed in km/h, where there is one and the max safe front end is past the start of release speed
+-- monitoring, by the computed places (SUBSET-026-3 3.13.10.5; own)
 abbrev pub release_of : TrainAndTrack → Authority → ℤ → Option ℕ
 release_of d (Stop eoa svl release) front =
     if nat_lt 0 release && is_past 0 front (release_start computed d eoa svl release) then Some release else None
@@ -73,12 +80,14 @@ situation_of s r =
 
 -- the type of speed and distance monitoring; release speed monitoring is decided first (SUBSET-026-3 3.13.10.6; own)
 unfoldable pub state_in : TrainAndTrack → OdometerReading → Situation → State
-state_in d r now = if is_some now.release then R else if is_indicated (limits_of computed d (estimate_of r)) now then T else C
+state_in d r now =
+    if is_some now.release then R else if is_indicated (limits_of computed d (estimate_of r)) now then T else C
 
 -- the commands after a reading, from the commands that are held, by the computed limits (SUBSET-026-3 3.13.10)
 unfoldable pub commands_in : TrainAndTrack → Held → OdometerReading → Situation → Held
 commands_in d held r now =
-    commands_after held (triggers_of (limits_of computed d (estimate_of r)) 0 now) (state_in d r now) (r.speed == 0) d.national.early_release now.in_use
+    commands_after held (triggers_of (limits_of computed d (estimate_of r)) 0 now) (state_in d r now)
+    (r.speed == 0) d.national.early_release now.in_use
 
 -- ---- the row
 
@@ -93,9 +102,11 @@ least_of (x ∷ xs) = Some (fold int_min x xs)
 
 -- a printed limit: the least over the targets whose speed is at most the train's, in mm (own)
 abbrev pub shown_limit : ℕ → List Target → (Target → Option Fraction) → Option ℤ
-shown_limit speed ts limit = least_of (filter_map (λ t. option_map whole_mm (limit t)) (filter (λ t. nat_le (target_speed t) speed) ts))
+shown_limit speed ts limit =
+    least_of (filter_map (λ t. option_map whole_mm (limit t)) (filter (λ t. nat_le (target_speed t) speed) ts))
 
--- a target of kind Mrsp or Loa is met by speed where V_bec is at most its foot speed: the train need not brake for it (own)
+-- a target of kind Mrsp or Loa is met by speed where V_bec is at most its foot speed: the train need not brake for it
+-- (own)
 abbrev pub is_met_by_speed : TargetKind → ℕ → ℕ → Bool
 is_met_by_speed Mrsp bec foot = nat_le bec foot
 is_met_by_speed Loa bec foot = nat_le bec foot
@@ -105,11 +116,12 @@ is_met_by_speed Svl bec foot = false
 -- the front end is at or before the target's computed EBI, or the target is met by speed (own)
 abbrev pub is_covered_for : TrainAndTrack → ℤ → Estimate → Target → Bool
 is_covered_for d front e t =
-    option_map_or (λ ebi. not (is_past 0 front ebi) || is_met_by_speed t.kind (v_bec_for d e t) (foot_speed_of t)) (limits_of computed d e t).ebi true
+    option_map_or (λ ebi. not (is_past 0 front ebi) || is_met_by_speed t.kind (v_bec_for d e t) (foot_speed_of t))
+    (limits_of computed d e t).ebi true
 
--- covered: the state isn't R, and each target with an EBI has the max safe front end at or before its computed EBI, or V_bec at most
--- its foot speed. Then `IsSafe` is promised, of every motion that brakes from T_traction + T_berem after the reading on; else no
--- stop is promised (own)
+-- covered: the state isn't R, and each target with an EBI has the max safe front end at or before its computed EBI, or
+-- V_bec at most its foot speed. Then `IsSafe` is promised, of every motion that brakes from T_traction + T_berem after
+-- the reading on; else no stop is promised (own)
 unfoldable pub is_covered_in : TrainAndTrack → OdometerReading → Situation → Bool
 is_covered_in d r now = not (is_some now.release) && list_all (is_covered_for d r.max (estimate_of r)) now.targets
 
@@ -139,7 +151,8 @@ row_of s r = row_in s.train_and_track s.commands r (situation_of s r)
 
 -- the supervision state after an accepted reading (own)
 unfoldable pub after_reading : Supervision → OdometerReading → Supervision
-after_reading s r = record s { last_time = Some r.time; commands = commands_in s.train_and_track s.commands r (situation_of s r) }
+after_reading s r =
+    record s { last_time = Some r.time; commands = commands_in s.train_and_track s.commands r (situation_of s r) }
 
 -- the supervision state after an accepted authority; no command changes (own)
 abbrev pub after_authority : Supervision → Authority → Supervision

@@ -1,5 +1,6 @@
 -- The targets of a front end (SUBSET-026-3 3.13.8.2).
-use Rattle.std.specs.Prelude.{◌≡◌, ℕ, ℤ, pos, Bool, true, false, List, [], ◌∷◌, ◌++◌, ◌+◌, ◌+ℤ◌, ◌-ℤ◌, ◌<ℤ◌, map, filter, nat_lt, if◌then◌else◌}
+use Rattle.std.specs.Prelude.{◌≡◌, ℕ, ℤ, pos, Bool, true, false, List, [], ◌∷◌, ◌++◌, ◌+◌, ◌+ℤ◌, ◌-ℤ◌, ◌<ℤ◌, map}
+use Rattle.std.specs.Prelude.{filter, nat_lt, if◌then◌else◌}
 use Rattle.std.specs.Int.{int_gap}
 use Rattle.sdm_num.specs.Units.{notches}
 use Rattle.sdm_rules.specs.declared.authorities.Authority.{Authority}
@@ -42,19 +43,23 @@ fall_at profile cell = record { kind = Mrsp; place = place_of_cell cell; speed =
 -- the falls of the profile strictly ahead of the front end and at or before the end of the authority, in order
 -- (SUBSET-026-3 3.13.8.2; own cell form)
 abbrev pub falls_ahead : (ℤ → ℕ) → ℤ → ℕ → List Target
-falls_ahead profile front end = map (fall_at profile) (filter (is_fall profile) (cells (cell_of front +ℤ pos 1) (int_gap (cell_of front) (pos end))))
+falls_ahead profile front end = map (fall_at profile)
+    (filter (is_fall profile) (cells (cell_of front +ℤ pos 1) (int_gap (cell_of front) (pos end))))
 
--- the targets at the end of the authority, also once they are passed; in release speed monitoring the EOA and SvL are none
--- (SUBSET-026-3 3.13.8.2)
+-- the targets at the end of the authority, also once they are passed; in release speed monitoring the EOA and SvL are
+-- none (SUBSET-026-3 3.13.8.2)
 abbrev pub ends_of : Authority → Bool → List Target
 ends_of (Stop eoa svl release) in_release_monitoring =
-    if in_release_monitoring then [] else record { kind = Eoa; place = place_of_cell (pos eoa); speed = 0 } ∷ record { kind = Svl; place = place_of_cell (pos svl); speed = 0 } ∷ []
-ends_of (Limit loa speed) in_release_monitoring = record { kind = Loa; place = place_of_cell (pos loa); speed = speed } ∷ []
+    if in_release_monitoring then [] else record { kind = Eoa; place = place_of_cell (pos eoa); speed = 0 }
+    ∷ record { kind = Svl; place = place_of_cell (pos svl); speed = 0 } ∷ []
+ends_of (Limit loa speed) in_release_monitoring =
+    record { kind = Loa; place = place_of_cell (pos loa); speed = speed } ∷ []
 
 -- all targets, by place and then by kind: the falls come first, since they lie at or before the end of the authority
 -- (SUBSET-026-3 3.13.8.2)
 unfoldable pub targets_of : (ℤ → ℕ) → Authority → ℤ → Bool → List Target
-targets_of profile a front in_release_monitoring = falls_ahead profile front (end_of a) ++ ends_of a in_release_monitoring
+targets_of profile a front in_release_monitoring =
+    falls_ahead profile front (end_of a) ++ ends_of a in_release_monitoring
 
 -- ---- their speeds
 

@@ -35,8 +35,10 @@ place_text (Some z) = signed_decimal z
 -- the fields of a row in order: time in ds, the ceiling in km/h, places in mm
 abbrev pub fields_of : Row → List (List ℕ)
 fields_of r =
-    decimal r.time ∷ state_text r.state ∷ status_text r.held.status ∷ flag_text r.held.tco ∷ flag_text r.held.sb ∷ flag_text r.held.eb ∷ flag_text r.covered
-    ∷ decimal r.ceiling ∷ place_text r.ebi ∷ place_text r.sbi ∷ place_text r.warning ∷ place_text r.permitted ∷ place_text r.indication ∷ []
+    decimal r.time ∷ state_text r.state ∷ status_text r.held.status ∷ flag_text r.held.tco ∷ flag_text r.held.sb
+    ∷ flag_text r.held.eb ∷ flag_text r.covered
+    ∷ decimal r.ceiling ∷ place_text r.ebi ∷ place_text r.sbi ∷ place_text r.warning ∷ place_text r.permitted
+    ∷ place_text r.indication ∷ []
 
 -- the line of fields, with commas between them and a line feed at the end
 abbrev pub text_line : List (List ℕ) → List ℕ

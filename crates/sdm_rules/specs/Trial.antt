@@ -1,5 +1,7 @@
 -- A journey from a number: fixed data, made readings, and a summary of the rows (own).
-use Rattle.std.specs.Prelude.{ℕ, zero, suc, ℤ, pos, negsuc, true, false, Some, None, Result, Ok, List, [], ◌∷◌, ◌++◌, ◌+◌, ◌*◌, ◌%◌, ◌+ℤ◌, ◌-ℤ◌, codes, decimal, count_by, fold, length, unwrap_or, unsigned_abs}
+use Rattle.std.specs.Prelude.{ℕ, zero, suc, ℤ, pos, negsuc, true, false, Some, None, Result, Ok, List, [], ◌∷◌, ◌++◌}
+use Rattle.std.specs.Prelude.{◌+◌, ◌*◌, ◌%◌, ◌+ℤ◌, ◌-ℤ◌, codes, decimal, count_by, fold, length, unwrap_or}
+use Rattle.std.specs.Prelude.{unsigned_abs}
 use Rattle.std.specs.Int.{int_rem_euclid}
 use Rattle.sdm_num.specs.Readings.{OdometerReading, reading_of}
 use Rattle.sdm_rules.specs.declared.authorities.Authority.{Authority}
@@ -53,20 +55,49 @@ trial_train = record {
   service_time = pos 40;
   service_brake = true;
   bands =
-      record { upper = Some (pos 100); emergency = pos 120; service = pos 90; normal = pos 60; kdry = pos 850; kwet = pos 950; kn_up = pos 0; kn_down = pos 0 }
-      ∷ record { upper = None; emergency = pos 100; service = pos 80; normal = pos 50; kdry = pos 850; kwet = pos 950; kn_up = pos 0; kn_down = pos 0 }
+      record {
+        upper = Some (pos 100);
+        emergency = pos 120;
+        service = pos 90;
+        normal = pos 60;
+        kdry = pos 850;
+        kwet =
+            pos 950;
+        kn_up = pos 0;
+        kn_down = pos 0;
+      }
+      ∷ record {
+        upper = None;
+        emergency = pos 100;
+        service = pos 80;
+        normal = pos 50;
+        kdry = pos 850;
+        kwet = pos 950;
+        kn_up =
+            pos 0;
+        kn_down = pos 0;
+      }
       ∷ [];
 }
 
 -- the national values: the wet factor counts in full, no guidance, the service brake in use, no early release
 abbrev pub trial_national : NationalFields
-trial_national = record { avadh = pos 0; adhesion_max = pos 70; guidance = false; service_in_target = true; early_release = false; inhibit_under_reading = false }
+trial_national = record {
+  avadh = pos 0;
+  adhesion_max = pos 70;
+  guidance = false;
+  service_in_target = true;
+  early_release =
+      false;
+  inhibit_under_reading = false;
+}
 
 -- the track: 6 km at 160 km/h, falling by 5 per mille from 2 km to 4 km, else level
 abbrev pub trial_track : TrackData
 trial_track = record {
   length_cm = pos 600_000;
-  gradients = record { start = pos 0; grad = pos 0 } ∷ record { start = pos 200_000; grad = negsuc 4 } ∷ record { start = pos 400_000; grad = pos 0 } ∷ [];
+  gradients = record { start = pos 0; grad = pos 0 } ∷ record { start = pos 200_000; grad = negsuc 4 }
+      ∷ record { start = pos 400_000; grad = pos 0 } ∷ [];
   speeds = record { start = pos 0; speed = pos 160; delayed = true } ∷ [];
   areas = [];
 }
@@ -87,7 +118,8 @@ reading_record r = Ok (record_kinds.Read r)
 
 -- the journey of so many cycles from a seed
 abbrev pub trial_journey : ℕ → ℕ → Journey
-trial_journey seed cycles = journey_from (event_at reading_record) 1 (opening trial_train_and_track trial_authority) (readings_from seed 1 cycles)
+trial_journey seed cycles = journey_from (event_at reading_record) 1 (opening trial_train_and_track trial_authority)
+    (readings_from seed 1 cycles)
 
 -- ---- the summary
 
@@ -99,8 +131,8 @@ ebi_sum rows = fold (λ total r. total +ℤ unwrap_or r.ebi (pos 0)) (pos 0) row
 abbrev pub count_text : List ℕ → ℕ → List ℕ
 count_text word n = word ++ codes " " ++ decimal n ++ codes "\n"
 
--- the summary: how many rows, how many of them covered, with the emergency and the service brake commanded, and the sum of
--- the EBI places modulo 10^9
+-- the summary: how many rows, how many of them covered, with the emergency and the service brake commanded, and the
+-- sum of the EBI places modulo 10^9
 abbrev pub summary_text : List Row → List ℕ
 summary_text rows =
     count_text (codes "rows") (length rows)

@@ -38,7 +38,8 @@ front_for est max Loa = max
 -- the speed is above the target's with a margin of it, and the front end that the target compares is past the limit
 -- (SUBSET-026-3 3.13.10.4; own)
 abbrev pub passes : ℕ → ℤ → ℤ → ℕ → (ℕ → ℕ) → Target → Fraction → Bool
-passes speed est max shift margin t limit = nat_lt (with_margin margin t) speed && is_past shift (front_for est max t.kind) limit
+passes speed est max shift margin t limit =
+    nat_lt (with_margin margin t) speed && is_past shift (front_for est max t.kind) limit
 
 -- an EBI is passed, where the target has one (SUBSET-026-3 3.13.10.4; own)
 abbrev pub passes_ebi : ℕ → ℤ → ℤ → ℕ → Target → Option Fraction → Bool
@@ -64,14 +65,16 @@ above_release s = option_map_or (λ kmh. nat_lt (notches kmh) s.speed) s.release
 abbrev pub no_margin : ℕ → ℕ
 no_margin kmh = 0
 
--- the speed is above the permitted speed: that of the ceiling, of a target past its permitted limit, or the release speed
--- (SUBSET-026-3 3.13.10; own table)
+-- the speed is above the permitted speed: that of the ceiling, of a target past its permitted limit, or the release
+-- speed (SUBSET-026-3 3.13.10; own table)
 abbrev pub is_over : (Target → SupervisionLimits) → ℕ → Situation → Bool
-is_over limits shift s = above_ceiling s no_margin || some_passed s shift no_margin (λ t. (limits t).permitted) || above_release s
+is_over limits shift s =
+    above_ceiling s no_margin || some_passed s shift no_margin (λ t. (limits t).permitted) || above_release s
 
 -- the warning limit of the ceiling or of a target is passed (SUBSET-026-3 3.13.10; own table)
 abbrev pub is_warned : (Target → SupervisionLimits) → ℕ → Situation → Bool
-is_warned limits shift s = above_ceiling s warning_margin || some_passed s shift warning_margin (λ t. (limits t).warning)
+is_warned limits shift s =
+    above_ceiling s warning_margin || some_passed s shift warning_margin (λ t. (limits t).warning)
 
 -- the SBI limit of the ceiling or of a target is passed (SUBSET-026-3 3.13.10; own table)
 abbrev pub is_service : (Target → SupervisionLimits) → ℕ → Situation → Bool
@@ -81,15 +84,21 @@ is_service limits shift s = above_ceiling s sbi_margin || some_passed s shift sb
 abbrev pub is_ebi_passed : (Target → SupervisionLimits) → ℕ → Situation → Bool
 is_ebi_passed limits shift s = above_ceiling s ebi_margin || some_ebi_passed s shift (λ t. (limits t).ebi)
 
--- an emergency: an EBI is passed, the min safe front end is past the EOA, the speed is above the release speed, or an SBI is passed
--- with no service brake in use
--- (SUBSET-026-3 3.13.10; own table)
+-- an emergency: an EBI is passed, the min safe front end is past the EOA, the speed is above the release speed, or an
+-- SBI is passed with no service brake in use (SUBSET-026-3 3.13.10; own table)
 abbrev pub is_emergency : (Target → SupervisionLimits) → ℕ → Situation → Bool
-is_emergency limits shift s = is_ebi_passed limits shift s || s.past_end || above_release s || (is_service limits shift s && not s.in_use)
+is_emergency limits shift s =
+    is_ebi_passed limits shift s || s.past_end || above_release s || (is_service limits shift s && not s.in_use)
 
 -- the triggers of the four kinds of limits: permitted, warning, SBI and EBI (SUBSET-026-3 3.13.10; own tables)
 unfoldable pub triggers_of : (Target → SupervisionLimits) → ℕ → Situation → Triggers
-triggers_of limits shift s = record { over = is_over limits shift s; warn = is_warned limits shift s; serv = is_service limits shift s; emer = is_emergency limits shift s }
+triggers_of limits shift s = record {
+  over = is_over limits shift s;
+  warn = is_warned limits shift s;
+  serv = is_service limits shift s;
+  emer =
+      is_emergency limits shift s;
+}
 
 -- target speed monitoring: some target's indication limit is passed (SUBSET-026-3 3.13.10.4; own)
 abbrev pub is_indicated : (Target → SupervisionLimits) → Situation → Bool

@@ -41,7 +41,7 @@ pub const BASE_NATIONAL: NationalFields = NationalFields {
     inhibit_under_reading: false,
 };
 
-// The number of a key by its name, if it is one of these.
+/// The number of a key by its name, if it is one of these.
 fn number_of(names: &[&str], name: &str) -> Option<u8> {
     let index = names.iter().position(|other| name == *other)?;
     u8::try_from(index).ok()?.checked_add(1)
@@ -68,8 +68,8 @@ impl Band {
 }
 
 impl TrainFields {
-    /// Sets what a key of this name says, of the train or else of its first band; 1 stands for true. False where there is no
-    /// such key.
+    /// Sets what a key of this name says, of the train or else of its first band; 1 stands for true. False where there
+    /// is no such key.
     pub fn set(&mut self, name: &str, number: i64) -> bool
         ensures { result ≡ false → self.new ≡ self.old }
     {

@@ -1,6 +1,7 @@
 //! The state of supervision, what triggers commands, and the commands that are held.
 
-/// The type of speed and distance monitoring: ceiling speed, target speed or release speed monitoring. (SUBSET-026-3 3.13.10)
+/// The type of speed and distance monitoring: ceiling speed, target speed or release speed monitoring. (SUBSET-026-3
+/// 3.13.10)
 #[derive(Clone, Copy, Debug, PartialEq, Eq)]
 pub enum State {
     /// Ceiling speed monitoring.

@@ -38,7 +38,8 @@ pub struct TrainFields {
     pub traction_cutoff_time: i64,
     /// Whether the onboard equipment can cut the traction off.
     pub traction_cutoff_interface: bool,
-    /// T_be in ds: from the last covered reading until the emergency brake works in full; no equivalent time. (SUBSET-026-3 3.13.9.3.2)
+    /// T_be in ds: from the last covered reading until the emergency brake works in full; no equivalent time.
+    /// (SUBSET-026-3 3.13.9.3.2)
     pub emergency_time: i64,
     /// Build-up time of the service brake in ds. (SUBSET-026-3 3.13.9.3.3)
     pub service_time: i64,

@@ -1,5 +1,5 @@
-//! The keys of the data part. For each section there are the names of its keys, and the numbers by which faults tell them: those
-//! of the names in their order, from 1. (own)
+//! The keys of the data part. For each section there are the names of its keys, and the numbers by which faults tell
+//! them: those of the names in their order, from 1. (own)
 
 /// The root of the document.
 pub const ROOT: [&str; 5] = ["version", "train", "national", "track", "authority"];

@@ -1,7 +1,7 @@
 //! The profile of SUBSET-026-3 section 3.13 and appendix A.3 that this program keeps: every definition that a contract
-//! cites, in `specs/`, and the plain types that they speak of. There is no code here but the greatest numbers, the tests of a
-//! range, and the base of made data. `docs/ASSUMPTIONS.md` lists what an assessor must believe: these definitions, and those
-//! of how an input is read, which stand in the crates that read it.
+//! cites, in `specs/`, and the plain types that they speak of. There is no code here but the greatest numbers, the
+//! tests of a range, and the base of made data. `docs/ASSUMPTIONS.md` lists what an assessor must believe: these
+//! definitions, and those of how an input is read, which stand in the crates that read it.
 #![tactic(auto)]
 
 pub mod authorities;

@@ -1,4 +1,5 @@
-//! The greatest numbers of the data, and numbers in their ranges, for code; `specs/Ranges.antt` has them as definitions. (own)
+//! The greatest numbers of the data, and numbers in their ranges, for code; `specs/Ranges.antt` has them as
+//! definitions. (own)
 
 ghost use Rattle.std.specs.Prelude.{◌≡◌};
 ghost use Rattle.sdm_rules.specs.Ranges.{first_refused, is_within, is_within_if_any, refused};

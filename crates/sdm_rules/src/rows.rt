@@ -2,8 +2,8 @@
 
 use crate::commands::{Held, State};
 
-/// The row of a reading. Each place is the least computed limit of its name over the targets whose speed is at most the
-/// train's, in mm rounded down; none where there is no such target. (own)
+/// The row of a reading. Each place is the least computed limit of its name over the targets whose speed is at most
+/// the train's, in mm rounded down; none where there is no such target. (own)
 #[derive(Clone, Copy, Debug, PartialEq, Eq)]
 pub struct Row {
     /// Time of the reading in ds.
@@ -12,7 +12,8 @@ pub struct Row {
     pub state: State,
     /// The commands after the reading, with the status.
     pub held: Held,
-    /// Whether the stop is promised, of every motion within the reading's bounds that brakes from T_traction + T_berem after it on.
+    /// Whether the stop is promised, of every motion within the reading's bounds that brakes from T_traction + T_berem
+    /// after it on.
     pub covered: bool,
     /// The ceiling in km/h.
     pub ceiling: u16,

@@ -1,13 +1,16 @@
--- Which outcomes answer an output, and what out must have taken by then: an output of two lines that ends at a third one. And what the
--- promises of the rows say: of `flat` for lines of a train with 1 m/s² towards an end at 10 m, of `run` and `trial` for the first turn.
-use Rattle.std.proofs.Common.{◌≡◌, ℕ, zero, suc, pos, true, false, List, [], ◌∷◌, ◌++◌, Some, length, take, get_or, refl, ap, sym, subst, ◌∙◌, inl, inr, arith, ◌*◌}
+-- Which outcomes answer an output, and what out must have taken by then: an output of two lines that ends at a third
+-- one. And what the promises of the rows say: of `flat` for lines of a train with 1 m/s² towards an end at 10 m, of
+-- `run` and `trial` for the first turn.
+use Rattle.std.proofs.Common.{◌≡◌, ℕ, zero, suc, pos, true, false, List, [], ◌∷◌, ◌++◌, Some, length, take, get_or}
+use Rattle.std.proofs.Common.{refl, ap, sym, subst, ◌∙◌, inl, inr, arith, ◌*◌}
 use Rattle.std.proofs.lemmas.List.{length-append}
 use Rattle.std.proofs.lemmas.Bool.{false≢true}
 use Rattle.std.proofs.lemmas.Int.{ints}
 use Rattle.std.specs.Prelude.{IsTrue, codes}
 use Rattle.sdm_rules.specs.declared.faults.EventCause.TheVariants.{Line}
 use Rattle.sdm_rules.specs.Curves.{exact, stepped, exact_at, place_at, arc_back, back, arc_forward, forward}
-use Rattle.sdm_rules.specs.Flat.{Output, StopsByFlatEnd, flat_after, flat_line, flat_opening, flat_output, flat_row, flat_slopes, flat_start}
+use Rattle.sdm_rules.specs.Flat.{Output, StopsByFlatEnd, flat_after, flat_line, flat_opening, flat_output, flat_row}
+use Rattle.sdm_rules.specs.Flat.{flat_slopes, flat_start}
 use Rattle.sdm_rules.specs.Headline.{AreTurnsSafe, IsRecordSafe, IsRowSafe}
 use Rattle.sdm_rules.specs.Input as ends
 use Rattle.sdm_rules.specs.Motion.{IsInBand}
@@ -15,11 +18,14 @@ use Rattle.sdm_rules.specs.Numbers.{read_int}
 use Rattle.sdm_rules.specs.Records.{Turn, rows_of, step}
 use Rattle.sdm_rules.specs.Stop.{IsMotionOn}
 use Rattle.sdm_rules.specs.Supervision.{opening, row_of}
-use Rattle.sdm_rules.specs.Trial.{reading_in_cycle, summary_text, trial_authority, trial_journey, trial_output, trial_train_and_track}
+use Rattle.sdm_rules.specs.Trial.{reading_in_cycle, summary_text, trial_authority, trial_journey, trial_output}
+use Rattle.sdm_rules.specs.Trial.{trial_train_and_track}
 use Rattle.sdm_report.specs.declared.outcome.Outcome.TheVariants.{Done, ReadFault, WriteFault, BadEvent, Memory}
 use Rattle.sdm_run.specs.Answers.{AreWholeLines, IsAnswer, IsComplete}
 use Rattle.sdm_run.specs.Commands.{AreRunRowsSafe, AreTrialRowsSafe}
-use Rattle.sdm_run.specs.FlatRun.{AreFlatRowsSafe, AreFlatTurnsSafe, FlatTurn, IsEbiShown, IsFlatTurnSafe, IsStopCovered, flat_may_after_turn, flat_must_after_turn, flat_row_of_turn, text_of_turns, turns_of}
+use Rattle.sdm_run.specs.FlatRun.{AreFlatRowsSafe, AreFlatTurnsSafe, FlatTurn, IsEbiShown, IsFlatTurnSafe}
+use Rattle.sdm_run.specs.FlatRun.{IsStopCovered, flat_may_after_turn, flat_must_after_turn, flat_row_of_turn}
+use Rattle.sdm_run.specs.FlatRun.{text_of_turns, turns_of}
 use Rattle.sdm_run.specs.Journeys.{IsRunOutput}
 
 -- ---- answers
@@ -40,10 +46,16 @@ not_complete (inr h) = cc
 
 -- another record, and another end
 no_other_record : IsAnswer two_lines (Some []) (Some (codes "a\nb\n")) (BadEvent 4 Line) → ⊥
-no_other_record h = elim h.ended [ inl e ↦ cc | inr e ↦ elim e [ inl f ↦ cc | inr f ↦ elim f [ inl g ↦ cc | inr g ↦ cc ] ] ]
+no_other_record h = elim h.ended [
+  | inl e ↦ cc
+  | inr e ↦ elim e [ inl f ↦ cc | inr f ↦ elim f [ inl g ↦ cc | inr g ↦ cc ] ]
+]
 
 no_other_end : IsAnswer two_lines (Some []) (Some (codes "a\nb\n")) Done → ⊥
-no_other_end h = elim h.ended [ inl e ↦ cc | inr e ↦ elim e [ inl f ↦ cc | inr f ↦ elim f [ inl g ↦ cc | inr g ↦ cc ] ] ]
+no_other_end h = elim h.ended [
+  | inl e ↦ cc
+  | inr e ↦ elim e [ inl f ↦ cc | inr f ↦ elim f [ inl g ↦ cc | inr g ↦ cc ] ]
+]
 
 -- before a read fault nothing is written, also of a text that is there
 nothing_is_written : IsAnswer two_lines (Some []) (Some (codes "a\n")) ReadFault → ⊥
@@ -64,7 +76,13 @@ no_other_bytes h = not_taken h.taken.0 h.taken.2
 whole_line : IsAnswer two_lines (Some []) (Some (codes "a\n")) Memory
 whole_line = record {
   ended = inr (inr (inr refl));
-  taken = record { prefix = codes "a\n"; rest = codes "b\n"; parts = refl; whole_lines = inr (codes "a", refl); taken = refl };
+  taken = record {
+    prefix = codes "a\n";
+    rest = codes "b\n";
+    parts = refl;
+    whole_lines = inr (codes "a", refl);
+    taken = refl;
+  };
 }
 
 no_part_of_a_line : IsAnswer two_lines (Some []) (Some (codes "a")) Memory → ⊥
@@ -81,7 +99,10 @@ no_part_of_a_line h = not_whole h.taken.prefix h.taken.taken h.taken.whole_lines
 -- ---- the rows of `flat`
 
 abbrev a_turn : FlatTurn
-a_turn = record { before = flat_opening 100 1_000; line = record { time = 5; front = pos (80_000 * 54_000_000); speed = 108_000 } }
+a_turn = record {
+  before = flat_opening 100 1_000;
+  line = record { time = 5; front = pos (80_000 * 54_000_000); speed = 108_000 };
+}
 
 -- the line that is refused is no turn, and none after it is
 one_turn : turns_of 100 1_000 (codes "5,8000,2000\n0,0\n6,8000,2000\n") ≡ a_turn ∷ []
@@ -101,7 +122,8 @@ not_safe : AreFlatTurnsSafe true true (a_turn ∷ []) → ⊥
 not_safe h = not_in_order h.0
 
 -- of two turns it says that the second is safe
-second_is_safe : AreFlatTurnsSafe true true (a_turn ∷ a_turn ∷ []) → IsFlatTurnSafe (flat_must_after_turn a_turn true) (flat_may_after_turn a_turn true) a_turn
+second_is_safe : AreFlatTurnsSafe true true (a_turn ∷ a_turn ∷ []) →
+    IsFlatTurnSafe (flat_must_after_turn a_turn true) (flat_may_after_turn a_turn true) a_turn
 second_is_safe h = h.1.0
 
 -- at 8 m the row is covered, and from there each motion stops by the end
@@ -111,13 +133,18 @@ stops_when_covered h = h refl
 
 -- a tenth of a millimetre further it isn't, and a motion from there passes the end by as much
 abbrev past_turn : FlatTurn
-past_turn = record { before = flat_opening 100 1_000; line = record { time = 5; front = pos (80_001 * 54_000_000); speed = 108_000 } }
+past_turn = record {
+  before = flat_opening 100 1_000;
+  line = record { time = 5; front = pos (80_001 * 54_000_000); speed = 108_000 };
+}
 
 nothing_promised_past_it : IsStopCovered past_turn
 unfolding flat_row exact stepped exact_at place_at arc_back back arc_forward forward
 nothing_promised_past_it covered = absurd (false≢true covered)
 
-passing : IsMotionOn (flat_slopes 100) (flat_start past_turn.line) 1 (pos 4_320_054_000_000) 108_000 [] (record { place = pos 4_320_054_000_000; square = 11_664_000_000 }) (record { place = pos 5_400_054_000_000; square = 0 } ∷ [])
+passing : IsMotionOn (flat_slopes 100) (flat_start past_turn.line) 1 (pos 4_320_054_000_000) 108_000 []
+    (record { place = pos 4_320_054_000_000; square = 11_664_000_000 })
+    (record { place = pos 5_400_054_000_000; square = 0 } ∷ [])
 passing = (
   omega arith,
   record {
@@ -154,7 +181,10 @@ passing = (
     in_the_band u = record { known = omega arith; above = omega arith; below = λ lt. absurd (omega arith) }
 
 no_stop_past_it : StopsByFlatEnd past_turn.before past_turn.line → ⊥
-no_stop_past_it h = let k = h 1 (pos 4_320_054_000_000) 108_000 [] (record { place = pos 4_320_054_000_000; square = 11_664_000_000 }) (record { place = pos 5_400_054_000_000; square = 0 } ∷ []) passing 1 (record { place = pos 0; square = 0 }) (omega arith) in omega (arith, ints, k)
+no_stop_past_it h = let k = h 1 (pos 4_320_054_000_000) 108_000 []
+    (record { place = pos 4_320_054_000_000; square = 11_664_000_000 })
+    (record { place = pos 5_400_054_000_000; square = 0 } ∷ []) passing 1 (record { place = pos 0; square = 0 })
+    (omega arith) in omega (arith, ints, k)
 
 -- ---- all rows of a command
 
@@ -162,17 +192,22 @@ abbrev a_line : List ℕ
 a_line = codes "5,7000,2000\n"
 
 abbrev early_turn : FlatTurn
-early_turn = record { before = flat_opening 100 1_000; line = record { time = 5; front = pos (70_000 * 54_000_000); speed = 108_000 } }
+early_turn = record {
+  before = flat_opening 100 1_000;
+  line = record { time = 5; front = pos (70_000 * 54_000_000); speed = 108_000 };
+}
 
 one_early_turn : turns_of 100 1_000 a_line ≡ early_turn ∷ []
 unfolding turns_of flat_line read_int
 one_early_turn = refl
 
 -- the text is that of the row
-text_of_one_row : AreFlatRowsSafe 100 1_000 a_line → (flat_output 100 1_000 a_line).text ≡ text_of_turns (early_turn ∷ [])
+text_of_one_row : AreFlatRowsSafe 100 1_000 a_line →
+    (flat_output 100 1_000 a_line).text ≡ text_of_turns (early_turn ∷ [])
 text_of_one_row h = h.text ∙ ap text_of_turns one_early_turn
 
--- before the first line no machine holds a command: a metre before the curve the early one doesn't, so neither does the row
+-- before the first line no machine holds a command: a metre before the curve the early one doesn't, so neither does
+-- the row
 not_commanded : AreFlatRowsSafe 100 1_000 a_line → IsTrue (flat_row_of_turn early_turn).eb → ⊥
 unfolding flat_after exact exact_at place_at arc_back back arc_forward forward
 not_commanded h holds = false≢true (sym none_early ∙ allowed holds)
@@ -181,20 +216,26 @@ not_commanded h holds = false≢true (sym none_early ∙ allowed holds)
     none_early = refl
 
     allowed : IsTrue (flat_row_of_turn early_turn).eb → IsTrue (flat_may_after_turn early_turn false)
-    allowed = (subst (λ (turns : List FlatTurn). AreFlatTurnsSafe false false turns) one_early_turn h.safe).0.order.allowed
+    allowed =
+        (subst (λ (turns : List FlatTurn). AreFlatTurnsSafe false false turns) one_early_turn h.safe).0.order.allowed
 
 -- of `run`: where an output has turns, the record of the first is safe
-first_turn_of_run : (bytes : List ℕ) (output : Output) (told : IsRunOutput bytes output) (t : Turn) (ts : List Turn) → told.turns ≡ t ∷ ts → AreRunRowsSafe bytes → IsRecordSafe false false t.before t.event
-first_turn_of_run bytes output told t ts is h = (subst (λ (turns : List Turn). AreTurnsSafe false false turns) is (h output told)).0
+first_turn_of_run : (bytes : List ℕ) (output : Output) (told : IsRunOutput bytes output) (t : Turn) (ts : List Turn) →
+    told.turns ≡ t ∷ ts → AreRunRowsSafe bytes → IsRecordSafe false false t.before t.event
+first_turn_of_run bytes output told t ts is h =
+    (subst (λ (turns : List Turn). AreTurnsSafe false false turns) is (h output told)).0
 
 -- of `trial`: the text sums up the row of its one reading, which is safe
-text_of_one_cycle : AreTrialRowsSafe 7 1 → (trial_output 7 1).text ≡ summary_text (row_of (opening trial_train_and_track trial_authority) (reading_in_cycle 7 1) ∷ [])
+text_of_one_cycle : AreTrialRowsSafe 7 1 → (trial_output 7 1).text
+    ≡ summary_text (row_of (opening trial_train_and_track trial_authority) (reading_in_cycle 7 1) ∷ [])
 unfolding step
 text_of_one_cycle h = h.text ∙ ap summary_text one_row
   where
-    one_row : rows_of (trial_journey 7 1).turns ≡ row_of (opening trial_train_and_track trial_authority) (reading_in_cycle 7 1) ∷ []
+    one_row : rows_of (trial_journey 7 1).turns
+        ≡ row_of (opening trial_train_and_track trial_authority) (reading_in_cycle 7 1) ∷ []
     one_row = refl
 
-first_cycle_is_safe : AreTrialRowsSafe 7 1 → IsRowSafe false false (opening trial_train_and_track trial_authority) (reading_in_cycle 7 1)
+first_cycle_is_safe : AreTrialRowsSafe 7 1 →
+    IsRowSafe false false (opening trial_train_and_track trial_authority) (reading_in_cycle 7 1)
 unfolding step
 first_cycle_is_safe h = h.safe.0

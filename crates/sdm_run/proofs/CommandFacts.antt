@@ -1,5 +1,6 @@
 -- What each command promises of its rows, and what the limit of an input makes of its output.
-use Rattle.std.proofs.Common.{◌≡◌, ℕ, ◌≤◌, ◌<◌, List, [], Option, Some, None, length, nat_lt, true, false, inl, refl, subst, arith}
+use Rattle.std.proofs.Common.{◌≡◌, ℕ, ◌≤◌, ◌<◌, List, [], Option, Some, None, length, nat_lt, true, false, inl, refl}
+use Rattle.std.proofs.Common.{subst, arith}
 use Rattle.std.proofs.lemmas.Bool.Decides.{nat_tests}
 use Rattle.std.proofs.KnownBytes.{Appends-nil}
 use Rattle.std.specs.Prelude.{IfSome, Bool, MatchBool, IsTrue}
@@ -27,7 +28,8 @@ rows_safe Run bytes h = run_rows_safe bytes
 rows_safe (Trial seed cycles) bytes h = trial_rows_safe seed cycles
 
 -- what holds of all bytes holds of those that a command answers
-pub of_input : (shape : Shape) (left : Option (List ℕ)) (P : List ℕ → Type 0) → ((bytes : List ℕ) → P bytes) → OfInput shape left P
+pub of_input : (shape : Shape) (left : Option (List ℕ)) (P : List ℕ → Type 0) → ((bytes : List ℕ) → P bytes) →
+    OfInput shape left P
 of_input shape left P h = by_reading shape.reads_input left
   where
     by_reading : (reads : Bool) (left : Option (List ℕ)) → MatchBool reads (Told left P) ((bytes : List ℕ) → P bytes)
@@ -36,13 +38,16 @@ of_input shape left P h = by_reading shape.reads_input left
     by_reading false left = h
 
 -- the promise of a command's rows, at the command that the words ask for
-pub rows_told : (o : Option Command) (command : Command) (left : Option (List ℕ)) → o ≡ Some command → IsCommandInRange command →
+pub rows_told : (o : Option Command) (command : Command) (left : Option (List ℕ)) → o ≡ Some command →
+    IsCommandInRange command →
     IfSome o (λ command. OfInput (shape_of command) left (AreRowsSafe command))
-rows_told o command left is range = rw is (of_input (shape_of command) left (AreRowsSafe command) (λ bytes. rows_safe command bytes range))
+rows_told o command left is range =
+    rw is (of_input (shape_of command) left (AreRowsSafe command) (λ bytes. rows_safe command bytes range))
 
 -- ---- the bytes that are answered
 
--- what holds of the bytes that were read, if any are, holds of those that a command answers: a command that reads none answers all alike
+-- what holds of the bytes that were read, if any are, holds of those that a command answers: a command that reads none
+-- answers all alike
 answered :
     (reads : Bool) (left : Option (List ℕ)) (bytes : List ℕ) (P : List ℕ → Type 0) →
     (IsTrue reads → Told left (λ told. bytes ≡ told)) → P bytes → (reads ≡ false → (other : List ℕ) → P other) →
@@ -52,8 +57,10 @@ answered true (Some told) bytes P whole h alike = subst P (whole refl) h
 answered false left bytes P whole h alike = alike refl
 
 -- a command that reads nothing has the same output for all bytes
-outputs_alike : (command : Command) (A : Output → Type 0) (bytes : List ℕ) → ((output : Output) → IsOutputOf command bytes output → A output) →
-    (shape_of command).reads_input ≡ false → (other : List ℕ) (output : Output) → IsOutputOf command other output → A output
+outputs_alike : (command : Command) (A : Output → Type 0) (bytes : List ℕ) →
+    ((output : Output) → IsOutputOf command bytes output → A output) →
+    (shape_of command).reads_input ≡ false → (other : List ℕ) (output : Output) → IsOutputOf command other output →
+    A output
 outputs_alike (Flat decel end) A bytes h none other = absurd cc
 outputs_alike Run A bytes h none other = absurd cc
 outputs_alike (Trial seed cycles) A bytes h none other = h
@@ -65,10 +72,13 @@ pub answer_told :
     (IsTrue (shape_of command).reads_input → Told left (λ told. read ≡ told)) →
     bytes ≡ read →
     ((output : Output) → IsOutputOf command bytes output → A output) →
-    IfSome o (λ command. OfInput (shape_of command) left (λ told. (output : Output) → IsOutputOf command told output → A output))
+    IfSome o (λ command.
+    OfInput (shape_of command) left (λ told. (output : Output) → IsOutputOf command told output → A output))
 answer_told o command left read bytes A is whole same h =
     let of_read = subst (λ (b : List ℕ). (output : Output) → IsOutputOf command b output → A output) same h in
-    rw is (answered (shape_of command).reads_input left read (λ told. (output : Output) → IsOutputOf command told output → A output) whole of_read (outputs_alike command A read of_read))
+    rw is (answered (shape_of command).reads_input left read
+    (λ told. (output : Output) → IsOutputOf command told output → A output) whole of_read
+    (outputs_alike command A read of_read))
 
 -- ---- the limit
 
@@ -76,28 +86,40 @@ within : (bytes : List ℕ) (output : Output) → length bytes ≤ most_bytes �
 within bytes output short =
     let no : nat_lt most_bytes (length bytes) ≡ false = grind (arith, nat_tests) in rw no
 
-above : (bytes : List ℕ) (output : Output) → most_bytes < length bytes → within_limit bytes output ≡ record { text = []; end = ends.TooLong }
+above : (bytes : List ℕ) (output : Output) → most_bytes < length bytes → within_limit bytes output ≡ record {
+  text = [];
+  end = ends.TooLong;
+}
 above bytes output long =
     let yes : nat_lt most_bytes (length bytes) ≡ true = grind (arith, nat_tests) in rw yes
 
 -- an input within the limit is answered by what `flat` makes of it
-pub within_answer : (bytes : List ℕ) (flat : Output) (old new : Option (List ℕ)) (outcome : Outcome) → length bytes ≤ most_bytes → IsAnswer flat old new outcome →
+pub within_answer : (bytes : List ℕ) (flat : Output) (old new : Option (List ℕ)) (outcome : Outcome) →
+    length bytes ≤ most_bytes → IsAnswer flat old new outcome →
     (output : Output) → output ≡ within_limit bytes flat → IsAnswer output old new outcome
 within_answer bytes flat old new outcome short h output is = rw (is, within bytes flat short) h
 
-too_long : (command : Command) (bytes : List ℕ) (old : Option (List ℕ)) → IsTrue (shape_of command).reads_input → most_bytes < length bytes → (output : Output) → IsOutputOf command bytes output → IsAnswer output old old TooLong
-too_long (Flat decel end) bytes old reads long output is = rw (is, above bytes (flat_output decel end bytes) long) (record { ended = inl refl; taken = Appends-nil old })
+too_long : (command : Command) (bytes : List ℕ) (old : Option (List ℕ)) → IsTrue (shape_of command).reads_input →
+    most_bytes < length bytes → (output : Output) → IsOutputOf command bytes output → IsAnswer output old old TooLong
+too_long (Flat decel end) bytes old reads long output is =
+    rw (is, above bytes (flat_output decel end bytes) long) (record { ended = inl refl; taken = Appends-nil old })
 too_long Run bytes old reads long output is = run_too_long bytes old long output is
 too_long (Trial seed cycles) bytes old reads long output is = absurd cc
 
-too_long_of : (reads : Bool) (left : Option (List ℕ)) (P : List ℕ → Type 0) → IsTrue reads → Told left (λ bytes. most_bytes < length bytes) →
-    ((bytes : List ℕ) → most_bytes < length bytes → P bytes) → MatchBool reads (Told left P) ((bytes : List ℕ) → P bytes)
+too_long_of : (reads : Bool) (left : Option (List ℕ)) (P : List ℕ → Type 0) → IsTrue reads →
+    Told left (λ bytes. most_bytes < length bytes) →
+    ((bytes : List ℕ) → most_bytes < length bytes → P bytes) →
+    MatchBool reads (Told left P) ((bytes : List ℕ) → P bytes)
 too_long_of true None P reads long h = tt
 too_long_of true (Some bytes) P reads long h = h bytes long
 too_long_of false left P reads long h = absurd cc
 
 -- an input above the limit is answered as too long, whatever it tells
-pub too_long_told : (o : Option Command) (command : Command) (left old : Option (List ℕ)) → o ≡ Some command → IsTrue (shape_of command).reads_input → Told left (λ bytes. most_bytes < length bytes) →
-    IfSome o (λ command. OfInput (shape_of command) left (λ bytes. (output : Output) → IsOutputOf command bytes output → IsAnswer output old old TooLong))
+pub too_long_told : (o : Option Command) (command : Command) (left old : Option (List ℕ)) → o ≡ Some command →
+    IsTrue (shape_of command).reads_input → Told left (λ bytes. most_bytes < length bytes) →
+    IfSome o (λ command. OfInput (shape_of command) left
+    (λ bytes. (output : Output) → IsOutputOf command bytes output → IsAnswer output old old TooLong))
 too_long_told o command left old is reads long =
-    rw is (too_long_of (shape_of command).reads_input left (λ bytes. (output : Output) → IsOutputOf command bytes output → IsAnswer output old old TooLong) reads long (λ bytes long. too_long command bytes old reads long))
+    rw is (too_long_of (shape_of command).reads_input left (λ bytes. (output : Output) →
+    IsOutputOf command bytes output → IsAnswer output old old TooLong) reads long
+    (λ bytes long. too_long command bytes old reads long))

@@ -1,6 +1,7 @@
--- What stands after the second comma of a line is read as its third field: a number has no comma in it, so where one is read there
--- the line has three fields, and where none is read the line is refused whatever it has.
-use Rattle.std.proofs.Common.{◌≡◌, ◌≢◌, ℕ, ℤ, pos, negsuc, List, [], ◌∷◌, Option, Some, None, Result, Ok, Err, unsigned_abs, refl, ap, sym, ◌∙◌}
+-- What stands after the second comma of a line is read as its third field: a number has no comma in it, so where one
+-- is read there the line has three fields, and where none is read the line is refused whatever it has.
+use Rattle.std.proofs.Common.{◌≡◌, ◌≢◌, ℕ, ℤ, pos, negsuc, List, [], ◌∷◌, Option, Some, None, Result, Ok, Err}
+use Rattle.std.proofs.Common.{unsigned_abs, refl, ap, sym, ◌∙◌}
 use Rattle.std.proofs.lemmas.List.Splits.{join_with_byte-slice_split}
 use Rattle.std.specs.List.{join_with_byte}
 use Rattle.sdm_num.specs.Units.{place_of_mm, notches_of_mm_s}
@@ -34,7 +35,8 @@ no_number (Err fault) rest none = refl
 no_number (Ok n) rest none = absurd (none n refl)
 
 -- by those after it
-refused_after : (r : Result ℤ FieldFault) (rest : ℤ → Option FlatLine) → ((n : ℤ) → rest n ≡ None) → with_field r rest ≡ None
+refused_after : (r : Result ℤ FieldFault) (rest : ℤ → Option FlatLine) → ((n : ℤ) → rest n ≡ None) →
+    with_field r rest ≡ None
 refused_after (Err fault) rest none = refl
 refused_after (Ok n) rest none = none n
 
@@ -57,15 +59,18 @@ module _ (line rest : List ℕ) (t : ℤ) (first : BeginsWithNumberIn line (pos 
       by_fields : (fields : List (List ℕ)) → comma_fields rest ≡ fields → flat_line_of (first.field ∷ fields) ≡ None
       by_fields [] was = refl
       by_fields (b ∷ []) was = refl
-      by_fields (b ∷ d ∷ []) was = refused_after (time_of first.field) _ (λ n. no_number (front_of b) _ (λ m. none b d [] m was))
+      by_fields (b ∷ d ∷ []) was =
+          refused_after (time_of first.field) _ (λ n. no_number (front_of b) _ (λ m. none b d [] m was))
       by_fields (b ∷ d ∷ e ∷ more) was = refl
 
-  module _ (speed : List ℕ) (f : ℤ) (second : BeginsWithNumberIn rest (negsuc 9_999_999) (pos 110_000_000) f speed) where
+  module _ (speed : List ℕ) (f : ℤ)
+      (second : BeginsWithNumberIn rest (negsuc 9_999_999) (pos 110_000_000) f speed) where
     abbrev fields_with : List (List ℕ) → List (List ℕ)
     fields_with third = first.field ∷ second.field ∷ third
 
     refused : (fault : FieldFault) → speed_of speed ≡ Err fault → flat_line_of (fields_with (speed ∷ [])) ≡ None
-    refused fault is = refused_after (time_of first.field) _ (λ n. refused_after (front_of second.field) _ (λ m. rw is refl))
+    refused fault is =
+        refused_after (time_of first.field) _ (λ n. refused_after (front_of second.field) _ (λ m. rw is refl))
 
     -- what is left is the third field
     third_field : flat_line_of (fields_with (comma_fields speed)) ≡ flat_line_of (fields_with (speed ∷ []))
@@ -74,12 +79,15 @@ module _ (line rest : List ℕ) (t : ℤ) (first : BeginsWithNumberIn line (pos 
         none_read : number_of speed ≡ None → flat_line_of (fields_with (speed ∷ [])) ≡ None
         none_read none = refused NotNumber (not_number speed none)
 
-        by_fields : (fields : List (List ℕ)) → comma_fields speed ≡ fields → number_of speed ≡ None → flat_line_of (fields_with fields) ≡ None
+        by_fields : (fields : List (List ℕ)) → comma_fields speed ≡ fields → number_of speed ≡ None →
+            flat_line_of (fields_with fields) ≡ None
         by_fields [] was none = refl
-        by_fields (d ∷ []) was none = let whole : d ≡ speed = sym (ap (join_with_byte 44) was) ∙ join_with_byte-slice_split 44 speed in rw whole (none_read none)
+        by_fields (d ∷ []) was none = let whole : d ≡ speed =
+            sym (ap (join_with_byte 44) was) ∙ join_with_byte-slice_split 44 speed in rw whole (none_read none)
         by_fields (d ∷ e ∷ more) was none = refl
 
-        by_number : (o : Option ℤ) → number_of speed ≡ o → flat_line_of (fields_with (comma_fields speed)) ≡ flat_line_of (fields_with (speed ∷ []))
+        by_number : (o : Option ℤ) → number_of speed ≡ o →
+            flat_line_of (fields_with (comma_fields speed)) ≡ flat_line_of (fields_with (speed ∷ []))
         by_number None is = by_fields (comma_fields speed) refl is ∙ sym (none_read is)
         by_number (Some n) is = ap (λ (fs : List (List ℕ)). flat_line_of (fields_with fs)) (number_in_one speed n is)
 
@@ -90,5 +98,6 @@ module _ (line rest : List ℕ) (t : ℤ) (first : BeginsWithNumberIn line (pos 
     pub bad_speed : (fault : FieldFault) → speed_of speed ≡ Err fault → flat_line line ≡ None
     bad_speed fault is = line_is ∙ refused fault is
 
-    pub good_line : (n : ℕ) → speed_of speed ≡ Ok (pos n) → flat_line line ≡ Some (record { time = unsigned_abs t; front = place_of_mm f; speed = notches_of_mm_s n })
+    pub good_line : (n : ℕ) → speed_of speed ≡ Ok (pos n) →
+        flat_line line ≡ Some (record { time = unsigned_abs t; front = place_of_mm f; speed = notches_of_mm_s n })
     good_line n is = line_is ∙ rw (first.read, second.read, is) refl

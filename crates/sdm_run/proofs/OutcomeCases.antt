@@ -7,16 +7,19 @@ use Rattle.sdm_rules.specs.declared.faults.OpenFault.TheVariants as open_faults
 use Rattle.sdm_rules.specs.declared.faults.OpenFault.TheVariants.{BadAuthority}
 use Rattle.sdm_rules.specs.declared.faults.TrainFault.TheVariants.{BandCount}
 use Rattle.sdm_report.specs.declared.outcome.InputFault.TheVariants.{Data, NoSplit, Toml}
-use Rattle.sdm_report.specs.declared.outcome.Outcome.TheVariants.{Done, Usage, ReadFault, WriteFault, TooLong, BadData, Refused, BadEvent, Memory}
+use Rattle.sdm_report.specs.declared.outcome.Outcome.TheVariants.{Done, Usage, ReadFault, WriteFault, TooLong, BadData}
+use Rattle.sdm_report.specs.declared.outcome.Outcome.TheVariants.{Refused, BadEvent, Memory}
 use Rattle.sdm_run.specs.Answers.{ComesOfReadingAlone, LeavesOutUntouched, NeedsTheWholeInput}
 use Rattle.sdm_run.specs.Shapes.{IsOutcomeIn, flat_shape, run_shape, trial_shape}
 
 -- ---- when an outcome comes
 
-before_any_row : LeavesOutUntouched Usage × LeavesOutUntouched ReadFault × LeavesOutUntouched TooLong × LeavesOutUntouched (BadData NoSplit) × LeavesOutUntouched (Refused (BadAuthority SvlBeforeEoa))
+before_any_row : LeavesOutUntouched Usage × LeavesOutUntouched ReadFault × LeavesOutUntouched TooLong
+    × LeavesOutUntouched (BadData NoSplit) × LeavesOutUntouched (Refused (BadAuthority SvlBeforeEoa))
 before_any_row = (tt, tt, tt, tt, tt)
 
-not_before_rows : (LeavesOutUntouched Done → ⊥) × (LeavesOutUntouched WriteFault → ⊥) × (LeavesOutUntouched (BadEvent 3 Line) → ⊥) × (LeavesOutUntouched Memory → ⊥)
+not_before_rows : (LeavesOutUntouched Done → ⊥) × (LeavesOutUntouched WriteFault → ⊥)
+    × (LeavesOutUntouched (BadEvent 3 Line) → ⊥) × (LeavesOutUntouched Memory → ⊥)
 not_before_rows = ((λ h. h), (λ h. h), (λ h. h), (λ h. h))
 
 before_the_bytes_are_answered : ComesOfReadingAlone Usage × ComesOfReadingAlone ReadFault × ComesOfReadingAlone TooLong
@@ -24,7 +27,8 @@ before_the_bytes_are_answered = (tt, tt, tt)
 
 not_of_reading_alone :
     (ComesOfReadingAlone Done → ⊥) × (ComesOfReadingAlone WriteFault → ⊥) × (ComesOfReadingAlone (BadData NoSplit) → ⊥)
-    × (ComesOfReadingAlone (Refused (BadAuthority SvlBeforeEoa)) → ⊥) × (ComesOfReadingAlone (BadEvent 3 Line) → ⊥) × (ComesOfReadingAlone Memory → ⊥)
+    × (ComesOfReadingAlone (Refused (BadAuthority SvlBeforeEoa)) → ⊥) × (ComesOfReadingAlone (BadEvent 3 Line) → ⊥)
+    × (ComesOfReadingAlone Memory → ⊥)
 not_of_reading_alone = ((λ h. h), (λ h. h), (λ h. h), (λ h. h), (λ h. h), (λ h. h))
 
 after_the_whole_input :
@@ -33,19 +37,24 @@ after_the_whole_input :
 after_the_whole_input = (tt, tt, tt, tt, tt)
 
 not_after_the_whole_input :
-    (NeedsTheWholeInput Usage → ⊥) × (NeedsTheWholeInput ReadFault → ⊥) × (NeedsTheWholeInput TooLong → ⊥) × (NeedsTheWholeInput Memory → ⊥)
+    (NeedsTheWholeInput Usage → ⊥) × (NeedsTheWholeInput ReadFault → ⊥) × (NeedsTheWholeInput TooLong → ⊥)
+    × (NeedsTheWholeInput Memory → ⊥)
 not_after_the_whole_input = ((λ h. h), (λ h. h), (λ h. h), (λ h. h))
 
 -- ---- which outcomes a command may have
 
 -- `flat` reads its input, and refuses a line of it alone
-outcomes_of_flat : IsOutcomeIn flat_shape Done × IsOutcomeIn flat_shape ReadFault × IsOutcomeIn flat_shape WriteFault × IsOutcomeIn flat_shape TooLong × IsOutcomeIn flat_shape (BadEvent 1 Line) × IsOutcomeIn flat_shape Memory
+outcomes_of_flat : IsOutcomeIn flat_shape Done × IsOutcomeIn flat_shape ReadFault × IsOutcomeIn flat_shape WriteFault
+    × IsOutcomeIn flat_shape TooLong × IsOutcomeIn flat_shape (BadEvent 1 Line) × IsOutcomeIn flat_shape Memory
 outcomes_of_flat = (tt, refl, tt, refl, (omega arith, refl), tt)
 
 not_of_flat :
-    (IsOutcomeIn flat_shape Usage → ⊥) × (IsOutcomeIn flat_shape (BadData NoSplit) → ⊥) × (IsOutcomeIn flat_shape (BadData Toml) → ⊥)
-    × (IsOutcomeIn flat_shape (BadData (Data (data_faults.Train BandCount))) → ⊥) × (IsOutcomeIn flat_shape (Refused (BadAuthority SvlBeforeEoa)) → ⊥)
-    × (IsOutcomeIn flat_shape (BadEvent 1 (Authority SvlBeforeEoa)) → ⊥) × (IsOutcomeIn flat_shape (BadEvent 0 Line) → ⊥)
+    (IsOutcomeIn flat_shape Usage → ⊥) × (IsOutcomeIn flat_shape (BadData NoSplit) → ⊥)
+    × (IsOutcomeIn flat_shape (BadData Toml) → ⊥)
+    × (IsOutcomeIn flat_shape (BadData (Data (data_faults.Train BandCount))) → ⊥)
+    × (IsOutcomeIn flat_shape (Refused (BadAuthority SvlBeforeEoa)) → ⊥)
+    × (IsOutcomeIn flat_shape (BadEvent 1 (Authority SvlBeforeEoa)) → ⊥)
+    × (IsOutcomeIn flat_shape (BadEvent 0 Line) → ⊥)
 not_of_flat = (
   (λ h. h),
   (λ h. cc),
@@ -58,12 +67,17 @@ not_of_flat = (
 
 -- `run` refuses data, an opening and a record, and none of them for want of memory
 outcomes_of_run :
-    IsOutcomeIn run_shape Done × IsOutcomeIn run_shape ReadFault × IsOutcomeIn run_shape WriteFault × IsOutcomeIn run_shape TooLong × IsOutcomeIn run_shape (BadData NoSplit) × IsOutcomeIn run_shape (BadData Toml)
-    × IsOutcomeIn run_shape (BadData (Data (data_faults.Train BandCount))) × IsOutcomeIn run_shape (Refused (BadAuthority SvlBeforeEoa)) × IsOutcomeIn run_shape (BadEvent 1 (Authority SvlBeforeEoa)) × IsOutcomeIn run_shape Memory
+    IsOutcomeIn run_shape Done × IsOutcomeIn run_shape ReadFault × IsOutcomeIn run_shape WriteFault
+    × IsOutcomeIn run_shape TooLong × IsOutcomeIn run_shape (BadData NoSplit)
+    × IsOutcomeIn run_shape (BadData Toml)
+    × IsOutcomeIn run_shape (BadData (Data (data_faults.Train BandCount)))
+    × IsOutcomeIn run_shape (Refused (BadAuthority SvlBeforeEoa))
+    × IsOutcomeIn run_shape (BadEvent 1 (Authority SvlBeforeEoa)) × IsOutcomeIn run_shape Memory
 outcomes_of_run = (tt, refl, tt, refl, refl, refl, (refl, λ e. cc), (refl, λ e. cc), (omega arith, refl), tt)
 
 not_of_run :
-    (IsOutcomeIn run_shape Usage → ⊥) × (IsOutcomeIn run_shape (BadData (Data data_faults.Memory)) → ⊥) × (IsOutcomeIn run_shape (Refused open_faults.Memory) → ⊥)
+    (IsOutcomeIn run_shape Usage → ⊥) × (IsOutcomeIn run_shape (BadData (Data data_faults.Memory)) → ⊥)
+    × (IsOutcomeIn run_shape (Refused open_faults.Memory) → ⊥)
     × (IsOutcomeIn run_shape (BadEvent 1 Line) → ⊥) × (IsOutcomeIn run_shape (BadEvent 0 (Authority SvlBeforeEoa)) → ⊥)
 not_of_run = (
   (λ h. h),
@@ -78,8 +92,10 @@ outcomes_of_trial : IsOutcomeIn trial_shape Done × IsOutcomeIn trial_shape Writ
 outcomes_of_trial = (tt, tt, tt)
 
 not_of_trial :
-    (IsOutcomeIn trial_shape Usage → ⊥) × (IsOutcomeIn trial_shape ReadFault → ⊥) × (IsOutcomeIn trial_shape TooLong → ⊥) × (IsOutcomeIn trial_shape (BadData NoSplit) → ⊥)
-    × (IsOutcomeIn trial_shape (Refused (BadAuthority SvlBeforeEoa)) → ⊥) × (IsOutcomeIn trial_shape (BadEvent 1 Line) → ⊥)
+    (IsOutcomeIn trial_shape Usage → ⊥) × (IsOutcomeIn trial_shape ReadFault → ⊥)
+    × (IsOutcomeIn trial_shape TooLong → ⊥) × (IsOutcomeIn trial_shape (BadData NoSplit) → ⊥)
+    × (IsOutcomeIn trial_shape (Refused (BadAuthority SvlBeforeEoa)) → ⊥)
+    × (IsOutcomeIn trial_shape (BadEvent 1 Line) → ⊥)
 not_of_trial = (
   (λ h. h),
   (λ h. cc),

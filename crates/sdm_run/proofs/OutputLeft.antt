@@ -1,5 +1,6 @@
 -- An output that is written piece by piece: what was written and the output that is left are the whole output.
-use Rattle.std.proofs.Common.{◌≡◌, ℕ, ◌+◌, List, [], ◌∷◌, ◌++◌, length, take, Option, inl, inr, refl, ap, ◌∙◌, sym, subst, append_assoc, length-append, arith}
+use Rattle.std.proofs.Common.{◌≡◌, ℕ, ◌+◌, List, [], ◌∷◌, ◌++◌, length, take, Option, inl, inr, refl, ap, ◌∙◌, sym}
+use Rattle.std.proofs.Common.{subst, append_assoc, length-append, arith}
 use Rattle.std.proofs.Math.Seq.{take-append-add}
 use Rattle.std.proofs.lemmas.List.{append-nil, take-append-le}
 use Rattle.std.specs.Io.KnownBytes.{Appends}
@@ -7,7 +8,8 @@ use Rattle.std.proofs.KnownBytes.{Appends-nil, Appends-trans}
 use Rattle.sdm_io.specs.Told.{AppendsPart}
 use Rattle.sdm_rules.specs.Flat.{Output}
 use Rattle.sdm_report.specs.declared.outcome.Outcome.{Outcome}
-use Rattle.sdm_report.specs.declared.outcome.Outcome.TheVariants.{Done, Usage, ReadFault, WriteFault, TooLong, BadData, Refused, BadEvent, Memory}
+use Rattle.sdm_report.specs.declared.outcome.Outcome.TheVariants.{Done, Usage, ReadFault, WriteFault, TooLong, BadData}
+use Rattle.sdm_report.specs.declared.outcome.Outcome.TheVariants.{Refused, BadEvent, Memory}
 use Rattle.sdm_run.specs.Answers.{AreWholeLines, ComesOfReadingAlone, IsAnswer, IsOutcomeOf, TakesFor}
 
 -- the output that begins with a text, and goes on as another output
@@ -45,8 +47,11 @@ module _ (old mid new : Option (List ℕ)) (whole left : Output) (so_far : IsLef
   takes WriteFault never h =
       let at = length so_far.done + h.0 in
       let part : take at whole.text ≡ so_far.done ++ take h.0 left.text =
-      ap (take at) so_far.text ∙ take-append-add so_far.done left.text h.0 in
-      (at, rw (so_far.text, length-append) (omega (arith, h.1)), subst (Appends old new) (sym part) (after_done (take h.0 left.text) h.2))
+      ap (take at) so_far.text ∙ take-append-add so_far.done left.text h.0 in (
+        at,
+        rw (so_far.text, length-append) (omega (arith, h.1)),
+        subst (Appends old new) (sym part) (after_done (take h.0 left.text) h.2),
+      )
   takes TooLong never h = absurd (never tt)
   takes (BadData fault) never h = all_taken h
   takes (Refused fault) never h = all_taken h
@@ -74,7 +79,8 @@ module _ (old mid new : Option (List ℕ)) (whole left : Output) (so_far : IsLef
       done = so_far.done ++ text;
       whole_lines = lines_both so_far.done text so_far.whole_lines lines;
       taken = after_done text h;
-      text = so_far.text ∙ ap (λ (o : Output). so_far.done ++ o.text) first ∙ sym (append_assoc so_far.done text next.text);
+      text = so_far.text ∙ ap (λ (o : Output). so_far.done ++ o.text) first
+          ∙ sym (append_assoc so_far.done text next.text);
       end = so_far.end ∙ ap (λ (o : Output). o.end) first;
     }
 

@@ -1,5 +1,6 @@
 -- What the parts of `run` say makes the output of the whole: an input has one run, so it is enough to name one.
-use Rattle.std.proofs.Common.{◌≡◌, ℕ, ◌≤◌, ◌<◌, true, false, List, [], Option, Some, None, take, drop, length, nat_lt, inl, inr, refl, ap, ◌∙◌, sym, subst, arith}
+use Rattle.std.proofs.Common.{◌≡◌, ℕ, ◌≤◌, ◌<◌, true, false, List, [], Option, Some, None, take, drop, length, nat_lt}
+use Rattle.std.proofs.Common.{inl, inr, refl, ap, ◌∙◌, sym, subst, arith}
 use Rattle.std.proofs.lemmas.Bool.Decides.{nat_tests}
 use Rattle.std.specs.Prelude.{Result, Ok, Err, Bool, MatchBool, not}
 use Rattle.std.proofs.KnownBytes.{Appends-nil}
@@ -8,17 +9,19 @@ use Rattle.sdm_rules.specs.declared.authorities.Authority.{Authority}
 use Rattle.sdm_rules.specs.declared.faults.DataFault.{DataFault}
 use Rattle.sdm_rules.specs.Data.{TrainAndTrack, HasBands}
 use Rattle.sdm_rules.specs.Flat.{Output}
-use Rattle.sdm_rules.specs.Input.{most_bytes, End, IsRun, IsOpened, IsAfterData, IsAfterDocument, IsAfterDivision, journey_of}
+use Rattle.sdm_rules.specs.Input.{most_bytes, End, IsRun, IsOpened, IsAfterData, IsAfterDocument, IsAfterDivision}
+use Rattle.sdm_rules.specs.Input.{journey_of}
 use Rattle.sdm_rules.specs.Input as ends
 use Rattle.sdm_rules.specs.Records.{Turn}
 use Rattle.sdm_rules.specs.Supervision.{Supervision, opening}
 use Rattle.sdm_rules.specs.Text.{run_tells, told}
 use Rattle.sdm_rules.specs.Headline.{AreTurnsSafe}
-use Rattle.sdm_laws.proofs.Journeys.{turns_safe}
-use Rattle.sdm_laws.proofs.OneRun.{one_run}
+use Rattle.sdm_laws.proofs.Rows.Journeys.{turns_safe}
+use Rattle.sdm_laws.proofs.Openings.OneRun.{one_run}
 use Rattle.sdm_report.specs.declared.outcome.InputFault.TheVariants.{NoSplit, Toml, Data}
 use Rattle.sdm_report.specs.declared.outcome.Outcome.{Outcome}
-use Rattle.sdm_report.specs.declared.outcome.Outcome.TheVariants.{Done, Usage, ReadFault, WriteFault, TooLong, BadData, Refused, BadEvent, Memory}
+use Rattle.sdm_report.specs.declared.outcome.Outcome.TheVariants.{Done, Usage, ReadFault, WriteFault, TooLong, BadData}
+use Rattle.sdm_report.specs.declared.outcome.Outcome.TheVariants.{Refused, BadEvent, Memory}
 use Rattle.sdm_data.specs.Division.{divide}
 use Rattle.sdm_data.specs.Document.{document_of}
 use Rattle.sdm_data.specs.Journey.{data_of}
@@ -36,7 +39,8 @@ abbrev pub output_by : List Turn → End → Output
 output_by turns end = record { text = told run_tells turns; end = end }
 
 -- an output of the input is that of any turns and end that are its run
-pub only_output : (bytes : List ℕ) (turns : List Turn) (end : End) → IsRun run_reader bytes turns end → (output : Output) → IsRunOutput bytes output → output ≡ output_by turns end
+pub only_output : (bytes : List ℕ) (turns : List Turn) (end : End) → IsRun run_reader bytes turns end →
+    (output : Output) → IsRunOutput bytes output → output ≡ output_by turns end
 only_output bytes turns end run output is =
     let one = one_run run_reader bytes in
     let mine = one.only turns end run in
@@ -44,41 +48,64 @@ only_output bytes turns end run output is =
     λ k. record { text = (is.text_is ∙ ap (told run_tells) (its.0 ∙ sym mine.0)) k; end = (its.1 ∙ sym mine.1) k }
 
 -- what answers the output of one run answers each output
-pub answers_all : (bytes : List ℕ) (turns : List Turn) (end : End) (old new : Option (List ℕ)) (outcome : Outcome) → IsRun run_reader bytes turns end → IsAnswer (output_by turns end) old new outcome →
+pub answers_all : (bytes : List ℕ) (turns : List Turn) (end : End) (old new : Option (List ℕ)) (outcome : Outcome) →
+    IsRun run_reader bytes turns end → IsAnswer (output_by turns end) old new outcome →
     (output : Output) → IsRunOutput bytes output → IsAnswer output old new outcome
-answers_all bytes turns end old new outcome run answer output is = subst (λ (o : Output). IsAnswer o old new outcome) (sym (only_output bytes turns end run output is)) answer
+answers_all bytes turns end old new outcome run answer output is =
+    subst (λ (o : Output). IsAnswer o old new outcome) (sym (only_output bytes turns end run output is)) answer
 
 -- ---- the limit
 
-pub run_too_long : (bytes : List ℕ) (old : Option (List ℕ)) → most_bytes < length bytes → (output : Output) → IsRunOutput bytes output → IsAnswer output old old TooLong
+pub run_too_long : (bytes : List ℕ) (old : Option (List ℕ)) → most_bytes < length bytes → (output : Output) →
+    IsRunOutput bytes output → IsAnswer output old old TooLong
 run_too_long bytes old long =
     let yes : nat_lt most_bytes (length bytes) ≡ true = grind (arith, nat_tests) in
-    answers_all bytes [] ends.TooLong old old TooLong (rw yes (refl, refl)) (record { ended = inl refl; taken = Appends-nil old })
+    answers_all bytes [] ends.TooLong old old TooLong (rw yes (refl, refl))
+    (record { ended = inl refl; taken = Appends-nil old })
 
 -- an input within the limit has the run of its parts
-pub run_of_parts : (bytes : List ℕ) (turns : List Turn) (end : End) → length bytes ≤ most_bytes → IsAfterDivision run_reader turns end bytes (divide bytes) → IsRun run_reader bytes turns end
+pub run_of_parts : (bytes : List ℕ) (turns : List Turn) (end : End) → length bytes ≤ most_bytes →
+    IsAfterDivision run_reader turns end bytes (divide bytes) → IsRun run_reader bytes turns end
 run_of_parts bytes turns end short parts =
     let no : nat_lt most_bytes (length bytes) ≡ false = grind (arith, nat_tests) in rw no parts
 
 -- ---- the data part
 
 -- no dividing line
-pub no_split : (bytes : List ℕ) (old : Option (List ℕ)) → length bytes ≤ most_bytes → divide bytes ≡ None → (output : Output) → IsRunOutput bytes output → IsAnswer output old old (BadData NoSplit)
-no_split bytes old short none = answers_all bytes [] ends.NoSplit old old (BadData NoSplit) (run_of_parts bytes [] ends.NoSplit short (rw none (refl, refl))) (record { ended = inl refl; taken = Appends-nil old })
+pub no_split : (bytes : List ℕ) (old : Option (List ℕ)) → length bytes ≤ most_bytes → divide bytes ≡ None →
+    (output : Output) → IsRunOutput bytes output → IsAnswer output old old (BadData NoSplit)
+no_split bytes old short none = answers_all bytes [] ends.NoSplit old old (BadData NoSplit)
+    (run_of_parts bytes [] ends.NoSplit short (rw none (refl, refl)))
+    (record { ended = inl refl; taken = Appends-nil old })
 
 -- want of memory before the first row
 pub memory_first : (old : Option (List ℕ)) (output : Output) → IsAnswer output old old Memory
-memory_first old output = record { ended = inr (inr (inr refl)); taken = record { prefix = []; rest = output.text; parts = refl; whole_lines = inl refl; taken = Appends-nil old } }
+memory_first old output = record {
+  ended = inr (inr (inr refl));
+  taken = record {
+    prefix = [];
+    rest = output.text;
+    parts = refl;
+    whole_lines = inl refl;
+    taken = Appends-nil old;
+  };
+}
 
 -- a data part that opens no supervisor
-pub refused : (bytes : List ℕ) (data_end start : ℕ) (old : Option (List ℕ)) (outcome : Outcome) → length bytes ≤ most_bytes → divide bytes ≡ Some (data_end, start) → IsRefusedBy (take data_end bytes) outcome →
+pub refused : (bytes : List ℕ) (data_end start : ℕ) (old : Option (List ℕ)) (outcome : Outcome) →
+    length bytes ≤ most_bytes → divide bytes ≡ Some (data_end, start) → IsRefusedBy (take data_end bytes) outcome →
     (output : Output) → IsRunOutput bytes output → IsAnswer output old old outcome
 refused bytes data_end start old (BadData Toml) short cut none =
-    answers_all bytes [] ends.Toml old old (BadData Toml) (run_of_parts bytes [] ends.Toml short (rw (cut, none) (refl, refl))) (record { ended = inl refl; taken = Appends-nil old })
+    answers_all bytes [] ends.Toml old old (BadData Toml) (run_of_parts bytes [] ends.Toml short
+    (rw (cut, none) (refl, refl))) (record { ended = inl refl; taken = Appends-nil old })
 refused bytes data_end start old (BadData (Data fault)) short cut (known, table, document, read) =
-    answers_all bytes [] (ends.Data fault) old old (BadData (Data fault)) (run_of_parts bytes [] (ends.Data fault) short (rw (cut, document, read) (refl, refl))) (record { ended = inl refl; taken = Appends-nil old })
+    answers_all bytes [] (ends.Data fault) old old (BadData (Data fault))
+    (run_of_parts bytes [] (ends.Data fault) short (rw (cut, document, read) (refl, refl)))
+    (record { ended = inl refl; taken = Appends-nil old })
 refused bytes data_end start old (Refused fault) short cut (known, train_and_track, a, given, first) =
-    answers_all bytes [] (ends.Refused fault) old old (Refused fault) (run_of_parts bytes [] (ends.Refused fault) short (rw (cut, given.document, given.read) (inr (fault, first, refl, refl)))) (record { ended = inl refl; taken = Appends-nil old })
+    answers_all bytes [] (ends.Refused fault) old old (Refused fault)
+    (run_of_parts bytes [] (ends.Refused fault) short (rw (cut, given.document, given.read)
+    (inr (fault, first, refl, refl)))) (record { ended = inl refl; taken = Appends-nil old })
 refused bytes data_end start old Memory short cut free = λ output is. memory_first old output
 refused bytes data_end start old Done short cut none = absurd none
 refused bytes data_end start old Usage short cut none = absurd none
@@ -91,12 +118,19 @@ refused bytes data_end start old (BadEvent number cause) short cut none = absurd
 -- ---- the records
 
 -- the records of an input whose data part opens a supervisor
-pub recorded : (bytes : List ℕ) (data_end start : ℕ) (s : Supervision) (old new : Option (List ℕ)) (outcome : Outcome) → length bytes ≤ most_bytes → divide bytes ≡ Some (data_end, start) →
-    IsOpeningOf (take data_end bytes) s → IsAnswer (output_of_records run_tells 1 s (records_of (drop start bytes))) old new outcome → (output : Output) → IsRunOutput bytes output → IsAnswer output old new outcome
+pub recorded : (bytes : List ℕ) (data_end start : ℕ) (s : Supervision) (old new : Option (List ℕ))
+    (outcome : Outcome) → length bytes ≤ most_bytes → divide bytes ≡ Some (data_end, start) →
+    IsOpeningOf (take data_end bytes) s → IsAnswer (output_of_records run_tells 1 s
+    (records_of (drop start bytes))) old new outcome → (output : Output) → IsRunOutput bytes output →
+    IsAnswer output old new outcome
 recorded bytes data_end start s old new outcome short cut is answer =
     let journey = journey_of run_reader is.train_and_track is.authority (records_of (drop start bytes)) in
-    let run = run_of_parts bytes journey.turns (ends.end_of_journey journey.refused) short (rw (cut, is.given.document, is.given.read) (inl (record { accepted = is.accepted; turns_are = refl; end_is = refl }))) in
-    answers_all bytes journey.turns (ends.end_of_journey journey.refused) old new outcome run (subst (λ (t : Supervision). IsAnswer (output_of_records run_tells 1 t (records_of (drop start bytes))) old new outcome) is.state answer)
+    let run = run_of_parts bytes journey.turns (ends.end_of_journey journey.refused) short
+    (rw (cut, is.given.document, is.given.read)
+    (inl (record { accepted = is.accepted; turns_are = refl; end_is = refl }))) in
+    answers_all bytes journey.turns (ends.end_of_journey journey.refused) old new outcome run
+    (subst (λ (t : Supervision). IsAnswer (output_of_records run_tells 1 t
+    (records_of (drop start bytes))) old new outcome) is.state answer)
 
 -- ---- the turns
 
@@ -105,26 +139,33 @@ module _ (records : List Record) (turns : List Turn) (end : End) where
   none_safe : turns ≡ [] → AreTurnsSafe false false turns
   none_safe none = rw none tt
 
-  opened_safe : (d : TrainAndTrack) (a : Authority) → HasBands d.train.bands → IsOpened run_reader d a records turns end → AreTurnsSafe false false turns
+  opened_safe : (d : TrainAndTrack) (a : Authority) → HasBands d.train.bands →
+      IsOpened run_reader d a records turns end → AreTurnsSafe false false turns
   opened_safe d a bands o =
       rw o.turns_are
-      (turns_safe _ 1 (opening d a) false false records (record { bands = bands; usable = o.accepted.0 }) (record { needed = λ h. h; allowed = λ h. h }))
+      (turns_safe _ 1 (opening d a) false false records (record { bands = bands; usable = o.accepted.0 })
+      (record { needed = λ h. h; allowed = λ h. h }))
 
-  after_data_safe : (members : Members) (r : Result (TrainAndTrack × Authority) DataFault) → data_of members ≡ r → IsAfterData run_reader turns end records r → AreTurnsSafe false false turns
+  after_data_safe : (members : Members) (r : Result (TrainAndTrack × Authority) DataFault) → data_of members ≡ r →
+      IsAfterData run_reader turns end records r → AreTurnsSafe false false turns
   after_data_safe members (Err fault) read h = none_safe h.0
   after_data_safe members (Ok x) read (inl o) = opened_safe x.0 x.1 (has_bands members x.0 x.1 read) o
   after_data_safe members (Ok x) read (inr f) = none_safe f.2
 
-  after_document_safe : (document : Option Members) → IsAfterDocument run_reader turns end records document → AreTurnsSafe false false turns
+  after_document_safe : (document : Option Members) → IsAfterDocument run_reader turns end records document →
+      AreTurnsSafe false false turns
   after_document_safe None h = none_safe h.0
   after_document_safe (Some members) h = after_data_safe members (data_of members) refl h
 
-after_division_safe : (bytes : List ℕ) (turns : List Turn) (end : End) (division : Option (ℕ × ℕ)) → IsAfterDivision run_reader turns end bytes division → AreTurnsSafe false false turns
+after_division_safe : (bytes : List ℕ) (turns : List Turn) (end : End) (division : Option (ℕ × ℕ)) →
+    IsAfterDivision run_reader turns end bytes division → AreTurnsSafe false false turns
 after_division_safe bytes turns end None h = rw h.0 tt
-after_division_safe bytes turns end (Some x) h = after_document_safe (records_of (drop x.1 bytes)) turns end (document_of (take x.0 bytes)) h
+after_division_safe bytes turns end (Some x) h =
+    after_document_safe (records_of (drop x.1 bytes)) turns end (document_of (take x.0 bytes)) h
 
 within_safe : (bytes : List ℕ) (turns : List Turn) (end : End) (long : Bool) →
-    MatchBool long ((turns ≡ []) × (end ≡ ends.TooLong)) (IsAfterDivision run_reader turns end bytes (divide bytes)) → AreTurnsSafe false false turns
+    MatchBool long ((turns ≡ []) × (end ≡ ends.TooLong)) (IsAfterDivision run_reader turns end bytes (divide bytes)) →
+    AreTurnsSafe false false turns
 within_safe bytes turns end true h = rw h.0 tt
 within_safe bytes turns end false h = after_division_safe bytes turns end (divide bytes) h
 
@@ -134,7 +175,8 @@ run_rows_safe bytes output told = within_safe bytes told.turns output.end (nat_l
 
 -- ---- no outcome of these comes before the bytes are answered
 
-pub refused_not_before : (bytes : List ℕ) (outcome : Outcome) → IsRefusedBy bytes outcome → ComesOfReadingAlone outcome → ⊥
+pub refused_not_before : (bytes : List ℕ) (outcome : Outcome) → IsRefusedBy bytes outcome →
+    ComesOfReadingAlone outcome → ⊥
 refused_not_before bytes Done h b = b
 refused_not_before bytes Usage h b = h
 refused_not_before bytes ReadFault h b = h
@@ -158,4 +200,5 @@ flat_not_before Memory h b = b
 
 -- an outcome that records may have is one that `run` may have
 pub records_possible : (outcome : Outcome) → IsOutcomeIn records_shape outcome → IsOutcomeIn run_shape outcome
-records_possible = of_records (IsOutcomeIn run_shape) tt tt (λ number cause from_1 possible. (from_1, ap not possible)) tt
+records_possible =
+    of_records (IsOutcomeIn run_shape) tt tt (λ number cause from_1 possible. (from_1, ap not possible)) tt

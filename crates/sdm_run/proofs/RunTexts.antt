@@ -1,5 +1,6 @@
 -- The output of records, record by record, and the outcomes that it may end with.
-use Rattle.std.proofs.Common.{◌≡◌, ℕ, suc, ◌≤◌, List, ◌∷◌, ◌++◌, Option, Some, None, inl, inr, refl, ap, ◌∙◌, sym, subst, arith}
+use Rattle.std.proofs.Common.{◌≡◌, ℕ, suc, ◌≤◌, List, ◌∷◌, ◌++◌, Option, Some, None, inl, inr, refl, ap, ◌∙◌, sym}
+use Rattle.std.proofs.Common.{subst, arith}
 use Rattle.std.specs.Prelude.{Result, Ok, Err, OnOk, ◌⊎◌, Bool, true, false, not, IsTrue}
 use Rattle.std.proofs.lemmas.Bool.{le-ltb}
 use Rattle.std.specs.Io.KnownBytes.{Appends}
@@ -11,11 +12,13 @@ use Rattle.sdm_rules.specs.declared.faults.CycleFault.TheVariants.{TimeBack}
 use Rattle.sdm_rules.specs.declared.records.Event.{Event}
 use Rattle.sdm_rules.specs.declared.records.Event.TheVariants as record_kinds
 use Rattle.sdm_rules.specs.Forms.{event_of}
-use Rattle.sdm_rules.specs.Records.{Turn, authority_fault, restrict_fault, revoke_fault, time_fault, time_cause, unless, step, turn_of, turn_to, event_at, most_records}
+use Rattle.sdm_rules.specs.Records.{Turn, authority_fault, restrict_fault, revoke_fault, time_fault, time_cause}
+use Rattle.sdm_rules.specs.Records.{unless, step, turn_of, turn_to, event_at, most_records}
 use Rattle.sdm_rules.specs.Supervision.{Supervision}
 use Rattle.sdm_report.specs.declared.outcome.InputFault.TheVariants.{NoSplit, Toml, Data}
 use Rattle.sdm_report.specs.declared.outcome.Outcome.{Outcome}
-use Rattle.sdm_report.specs.declared.outcome.Outcome.TheVariants.{Done, Usage, ReadFault, WriteFault, TooLong, BadData, Refused, BadEvent, Memory}
+use Rattle.sdm_report.specs.declared.outcome.Outcome.TheVariants.{Done, Usage, ReadFault, WriteFault, TooLong, BadData}
+use Rattle.sdm_report.specs.declared.outcome.Outcome.TheVariants.{Refused, BadEvent, Memory}
 use Rattle.sdm_events.specs.Journey.{Record}
 use Rattle.sdm_run.specs.Answers.{ComesOfReadingAlone, LeavesOutUntouched}
 use Rattle.sdm_run.specs.Journeys.{output_of_records}
@@ -28,16 +31,22 @@ use Rattle.sdm_run.specs.Shapes.{IsOutcomeIn, is_of_line, records_shape}
 output_first : (tell : Turn → List ℕ) (n : ℕ) (s : Supervision) (x : Record) (more : List Record) (turn : Turn) →
     turn_of s (event_at event_of n x) ≡ Ok turn →
     output_of_records tell n s (x ∷ more) ≡
-    record { text = tell turn ++ (output_of_records tell (suc n) turn.after more).text; end = (output_of_records tell (suc n) turn.after more).end }
+    record {
+      text = tell turn ++ (output_of_records tell (suc n) turn.after more).text;
+      end =
+          (output_of_records tell (suc n) turn.after more).end;
+    }
 output_first tell n s x more turn e = rw e refl
 
 -- a record that was told and written is taken
-pub took : (tell : Turn → List ℕ) (old new : Option (List ℕ)) (n : ℕ) (s t : Supervision) (records more : List Record) (x : Record) (text : List ℕ) →
+pub took : (tell : Turn → List ℕ) (old new : Option (List ℕ)) (n : ℕ) (s t : Supervision) (records more : List Record)
+    (x : Record) (text : List ℕ) →
     records ≡ x ∷ more → IsToldRecord tell s t (event_at event_of n x) text → n ≤ most_records → Appends old new text →
     TakesRecord tell old new n s t records more
 took tell old new n s t records more x text is told counted h = record {
   text = text;
-  first = ap (output_of_records tell n s) is ∙ rw (sym told.after, told.text_is) (output_first tell n s x more told.turn told.taken);
+  first = ap (output_of_records tell n s) is
+      ∙ rw (sym told.after, told.text_is) (output_first tell n s x more told.turn told.taken);
   whole_lines = told.whole_lines;
   taken = h;
   counted = counted;
@@ -45,7 +54,8 @@ took tell old new n s t records more x text is told counted h = record {
 }
 
 -- an event that was taken is the turn of its record
-pub told_record : (tell : Turn → List ℕ) (s t : Supervision) (n : ℕ) (x : Record) (e : Event) (text : List ℕ) → n ≤ most_records → event_of x ≡ Ok e →
+pub told_record : (tell : Turn → List ℕ) (s t : Supervision) (n : ℕ) (x : Record) (e : Event) (text : List ℕ) →
+    n ≤ most_records → event_of x ≡ Ok e →
     IsToldEvent tell s t e text → IsToldRecord tell s t (event_at event_of n x) text
 told_record tell s t n x e text counted form told = record {
   turn = record { before = s; event = e; after = t };
@@ -62,7 +72,8 @@ where_accepted (Err fault) P Q so h = tt
 
 -- ---- no record is refused as a line
 
-turn_no_line : {F : Type 0} (make : F → EventCause) (o : Option F) (s t : Supervision) (e : Event) (cause : EventCause) →
+turn_no_line : {F : Type 0} (make : F → EventCause) (o : Option F) (s t : Supervision) (e : Event)
+    (cause : EventCause) →
     ((f : F) → is_of_line (make f) ≡ false) → turn_to s e (unless make o t) ≡ Err cause → is_of_line cause ≡ false
 turn_no_line make None s t e cause never is = cc
 turn_no_line make (Some f) s t e cause never is =
@@ -71,21 +82,27 @@ turn_no_line make (Some f) s t e cause never is =
 time_no_line : (f : CycleFault) → is_of_line (time_cause f) ≡ false
 time_no_line (TimeBack last time) = refl
 
-no_line : (s : Supervision) (e : Result Event EventFault) (cause : EventCause) → turn_of s e ≡ Err cause → is_of_line cause ≡ false
+no_line : (s : Supervision) (e : Result Event EventFault) (cause : EventCause) → turn_of s e ≡ Err cause →
+    is_of_line cause ≡ false
 unfolding step
 no_line s (Err fault) cause e =
     let same : causes.Form fault ≡ cause = cc in subst (λ (c : EventCause). is_of_line c ≡ false) same refl
-no_line s (Ok (record_kinds.Read r)) cause e = turn_no_line time_cause (time_fault s.last_time r.time) s _ _ cause time_no_line e
-no_line s (Ok (record_kinds.Authority a)) cause e = turn_no_line causes.Authority (authority_fault s.train_and_track.track.length_cm a) s _ _ cause (λ f. refl) e
-no_line s (Ok (record_kinds.Restrict r)) cause e = turn_no_line causes.Restrict (restrict_fault s.train_and_track.track.length_cm s.restrictions r) s _ _ cause (λ f. refl) e
-no_line s (Ok (record_kinds.Revoke id)) cause e = turn_no_line causes.Revoke (revoke_fault s.restrictions id) s _ _ cause (λ f. refl) e
+no_line s (Ok (record_kinds.Read r)) cause e =
+    turn_no_line time_cause (time_fault s.last_time r.time) s _ _ cause time_no_line e
+no_line s (Ok (record_kinds.Authority a)) cause e =
+    turn_no_line causes.Authority (authority_fault s.train_and_track.track.length_cm a) s _ _ cause (λ f. refl) e
+no_line s (Ok (record_kinds.Restrict r)) cause e = turn_no_line causes.Restrict
+    (restrict_fault s.train_and_track.track.length_cm s.restrictions r) s _ _ cause (λ f. refl) e
+no_line s (Ok (record_kinds.Revoke id)) cause e =
+    turn_no_line causes.Revoke (revoke_fault s.restrictions id) s _ _ cause (λ f. refl) e
 
 not_true : (b : Bool) → IsTrue (not b) → b ≡ false
 not_true true h = sym h
 not_true false h = refl
 
 -- a record that is refused ends `run` with an outcome of records
-pub refused_outcome : (n : ℕ) (s : Supervision) (e : Result Event EventFault) (cause : EventCause) → 1 ≤ n → turn_of s e ≡ Err cause →
+pub refused_outcome : (n : ℕ) (s : Supervision) (e : Result Event EventFault) (cause : EventCause) → 1 ≤ n →
+    turn_of s e ≡ Err cause →
     IsOutcomeIn records_shape (BadEvent n cause)
 refused_outcome n s e cause from_1 is = (from_1, ap not (no_line s e cause is))
 
@@ -110,13 +127,16 @@ of_records P done write bad memory Memory h = memory
 
 -- no outcome of records comes before any row
 pub not_first : (outcome : Outcome) → IsOutcomeIn records_shape outcome → LeavesOutUntouched outcome → ⊥
-not_first = of_records (λ outcome. LeavesOutUntouched outcome → ⊥) (λ h. h) (λ h. h) (λ number cause from_1 possible h. h) (λ h. h)
+not_first = of_records (λ outcome. LeavesOutUntouched outcome → ⊥) (λ h. h) (λ h. h)
+    (λ number cause from_1 possible h. h) (λ h. h)
 
 -- nor before the bytes are answered
 pub records_not_before : (outcome : Outcome) → IsOutcomeIn records_shape outcome → ComesOfReadingAlone outcome → ⊥
-records_not_before = of_records (λ outcome. ComesOfReadingAlone outcome → ⊥) (λ h. h) (λ h. h) (λ number cause from_1 possible h. h) (λ h. h)
+records_not_before = of_records (λ outcome. ComesOfReadingAlone outcome → ⊥) (λ h. h) (λ h. h)
+    (λ number cause from_1 possible h. h) (λ h. h)
 
 -- what was left alone so far, and by a turn that did not fail, is left alone
-pub left_alone : {S : Type 0} (start old new : S) (Before Failed : Type 0) → (Before → old ≡ start) → (Failed → ⊥) → (Before × (new ≡ old)) ⊎ Failed → new ≡ start
+pub left_alone : {S : Type 0} (start old new : S) (Before Failed : Type 0) → (Before → old ≡ start) → (Failed → ⊥) →
+    (Before × (new ≡ old)) ⊎ Failed → new ≡ start
 left_alone start old new Before Failed so_far never (inl (before, same)) = same ∙ so_far before
 left_alone start old new Before Failed so_far never (inr failed) = absurd (never failed)

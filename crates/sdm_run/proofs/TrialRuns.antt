@@ -1,6 +1,7 @@
--- A trial cycle by cycle: the rows of the cycles that were made, and those that the cycles left give from the state that is reached,
--- are the rows of all.
-use Rattle.std.proofs.Common.{◌≡◌, ℕ, suc, pos, false, List, [], ◌∷◌, ◌++◌, Option, None, Some, inl, ◌+◌, ◌≤◌, ◌∙◌, ap, sym, arith, refl, append_assoc}
+-- A trial cycle by cycle: the rows of the cycles that were made, and those that the cycles left give from the state
+-- that is reached, are the rows of all.
+use Rattle.std.proofs.Common.{◌≡◌, ℕ, suc, pos, false, List, [], ◌∷◌, ◌++◌, Option, None, Some, inl, ◌+◌, ◌≤◌, ◌∙◌, ap}
+use Rattle.std.proofs.Common.{sym, arith, refl, append_assoc}
 use Rattle.std.specs.Io.KnownBytes.{Appends}
 use Rattle.std.proofs.lemmas.Int.{ints}
 use Rattle.std.proofs.lemmas.List.{append-nil}
@@ -13,9 +14,10 @@ use Rattle.sdm_rules.specs.Input.{end_of_journey}
 use Rattle.sdm_rules.specs.Opening.{IsOpen}
 use Rattle.sdm_rules.specs.Records.{Journey, event_at, journey_from, rows_of, time_fault, most_records}
 use Rattle.sdm_rules.specs.Supervision.{Supervision, after_reading, opening, row_of}
-use Rattle.sdm_rules.specs.Trial.{reading_in_cycle, reading_record, readings_from, summary_text, trial_authority, trial_journey, trial_train_and_track, trial_output}
-use Rattle.sdm_laws.proofs.Journeys.{turns_safe}
-use Rattle.sdm_laws.proofs.OneFault.{not_both}
+use Rattle.sdm_rules.specs.Trial.{reading_in_cycle, reading_record, readings_from, summary_text, trial_authority}
+use Rattle.sdm_rules.specs.Trial.{trial_journey, trial_train_and_track, trial_output}
+use Rattle.sdm_laws.proofs.Rows.Journeys.{turns_safe}
+use Rattle.sdm_laws.proofs.Openings.OneFault.{not_both}
 use Rattle.sdm_braking.specs.Braking.{IsRefusal}
 use Rattle.sdm_trial.specs.Made.{MadeReadings, TakesCycle}
 use Rattle.sdm_trial.specs.Summaries.{Counts, counts_of}
@@ -29,13 +31,16 @@ use Rattle.sdm_run.specs.Commands.{AreTrialRowsSafe}
 pub only_memory : (fault : OpenFault) → IsRefusal trial_train_and_track trial_authority fault → fault ≡ Memory
 only_memory (TooWeak kind band cell slope) h = absurd
     (not_both trial_train_and_track trial_authority (TooWeak kind band cell slope) accepted h)
-only_memory (TooVaried kind band least greatest) h = absurd (not_both trial_train_and_track trial_authority (TooVaried kind band least greatest) accepted h)
-only_memory (BadAuthority fault) h = absurd (not_both trial_train_and_track trial_authority (BadAuthority fault) accepted h)
+only_memory (TooVaried kind band least greatest) h =
+    absurd (not_both trial_train_and_track trial_authority (TooVaried kind band least greatest) accepted h)
+only_memory (BadAuthority fault) h =
+    absurd (not_both trial_train_and_track trial_authority (BadAuthority fault) accepted h)
 only_memory Memory h = refl
 
 -- the rows from a state on of the cycles that are left
 abbrev rows_left : MadeReadings → Supervision → List Row
-rows_left m s = rows_of (journey_from (event_at reading_record) (suc m.made) s (readings_from m.seed (suc m.made) m.left)).turns
+rows_left m s =
+    rows_of (journey_from (event_at reading_record) (suc m.made) s (readings_from m.seed (suc m.made) m.left)).turns
 
 -- what was counted are the rows of the cycles that were made
 pub record IsCycleOf (seed cycles : ℕ) (m : MadeReadings) (s : Supervision) (counts : Counts) : Type 0 where
@@ -48,7 +53,8 @@ pub record IsCycleOf (seed cycles : ℕ) (m : MadeReadings) (s : Supervision) (c
   pub rows : rows_of (trial_journey seed cycles).turns ≡ done ++ rows_left m s
 
 -- at first all cycles are left
-pub first_cycle : (seed cycles : ℕ) → cycles ≤ most_records → IsCycleOf seed cycles (record { seed = seed; made = 0; left = cycles }) (opening trial_train_and_track trial_authority) (counts_of [])
+pub first_cycle : (seed cycles : ℕ) → cycles ≤ most_records → IsCycleOf seed cycles
+    (record { seed = seed; made = 0; left = cycles }) (opening trial_train_and_track trial_authority) (counts_of [])
 first_cycle seed cycles few = record {
   seed_is = refl;
   few = omega (arith, few);
@@ -65,11 +71,14 @@ next_row :
     suc made ≤ 100_000 →
     time_fault s.last_time (reading_in_cycle seed (suc made)).time ≡ None →
     rows_left (record { seed = seed; made = made; left = suc left }) s ≡
-    row_of s (reading_in_cycle seed (suc made)) ∷ rows_left (record { seed = seed; made = suc made; left = left }) (after_reading s (reading_in_cycle seed (suc made)))
+    row_of s (reading_in_cycle seed (suc made)) ∷ rows_left (record { seed = seed; made = suc made; left = left })
+    (after_reading s (reading_in_cycle seed (suc made)))
 next_row seed made left s few in_time =
-    ap (λ (j : Journey). rows_of j.turns) (reading_taken (suc made) s (reading_in_cycle seed (suc made)) (readings_from seed (suc (suc made)) left) few in_time)
+    ap (λ (j : Journey). rows_of j.turns) (reading_taken (suc made) s (reading_in_cycle seed (suc made))
+    (readings_from seed (suc (suc made)) left) few in_time)
 
-module _ (seed cycles : ℕ) (m : MadeReadings) (s : Supervision) (counts : Counts) (h : IsCycleOf seed cycles m s counts) where
+module _ (seed cycles : ℕ) (m : MadeReadings) (s : Supervision) (counts : Counts)
+    (h : IsCycleOf seed cycles m s counts) where
   -- one more cycle was made, and its row was counted
   pub cycle_made :
       (m' : MadeReadings) (s' : Supervision) (counts' : Counts) (r : OdometerReading) (row : Row) →
@@ -81,10 +90,13 @@ module _ (seed cycles : ℕ) (m : MadeReadings) (s : Supervision) (counts : Coun
       ((rows : List Row) → counts ≡ counts_of rows → counts' ≡ counts_of (rows ++ row ∷ [])) →
       IsCycleOf seed cycles m' s' counts'
   cycle_made m' s' counts' r row r_is taken s'_is row_is one_more counted =
-      let r_of_seed : r ≡ reading_in_cycle seed (suc m.made) = r_is ∙ ap (λ x. reading_in_cycle x (suc m.made)) h.seed_is in
+      let r_of_seed : r ≡ reading_in_cycle seed (suc m.made) = r_is
+      ∙ ap (λ x. reading_in_cycle x (suc m.made)) h.seed_is in
       let first = next_row seed m.made m'.left s (omega (arith, h.few, taken.left)) h.in_time in
-      let left_is : rows_left m s ≡ row ∷ rows_left m' s' = rw (s'_is, row_is, r_of_seed, taken.seed, taken.made, h.seed_is, taken.left) first in
-      let later : time_fault (after_reading s (reading_in_cycle seed (suc m.made))).last_time (reading_in_cycle seed (suc (suc m.made))).time ≡ None = next_in_time s seed (suc m.made) in
+      let left_is : rows_left m s ≡ row
+      ∷ rows_left m' s' = rw (s'_is, row_is, r_of_seed, taken.seed, taken.made, h.seed_is, taken.left) first in
+      let later : time_fault (after_reading s (reading_in_cycle seed (suc m.made))).last_time
+      (reading_in_cycle seed (suc (suc m.made))).time ≡ None = next_in_time s seed (suc m.made) in
       record {
         seed_is = taken.seed ∙ h.seed_is;
         few = omega (arith, h.few, taken.left, taken.made);
@@ -96,23 +108,32 @@ module _ (seed cycles : ℕ) (m : MadeReadings) (s : Supervision) (counts : Coun
       }
 
 -- where no cycle is left, all rows were counted
-pub all_made : (seed cycles : ℕ) (m : MadeReadings) (s : Supervision) (counts : Counts) → IsCycleOf seed cycles m s counts → m.left ≡ 0 → counts ≡ counts_of (rows_of (trial_journey seed cycles).turns)
+pub all_made : (seed cycles : ℕ) (m : MadeReadings) (s : Supervision) (counts : Counts) →
+    IsCycleOf seed cycles m s counts → m.left ≡ 0 → counts ≡ counts_of (rows_of (trial_journey seed cycles).turns)
 all_made seed cycles m s counts h none =
     let nothing : rows_left m s ≡ [] = rw none refl in
     h.counts_are ∙ ap counts_of (sym (h.rows ∙ ap (λ rows. h.done ++ rows) nothing ∙ append-nil h.done))
 
 -- the whole summary answers a trial
-pub trial_done : (seed cycles : ℕ) (old new : Option (List ℕ)) → cycles ≤ most_records → Appends old new (summary_text (rows_of (trial_journey seed cycles).turns)) → IsAnswer (trial_output seed cycles) old new Done
-trial_done seed cycles old new few h = record { ended = inl (ap Some (sym (ap end_of_journey (trial_taken seed cycles few).0))); taken = h }
+pub trial_done : (seed cycles : ℕ) (old new : Option (List ℕ)) → cycles ≤ most_records → Appends old new
+    (summary_text (rows_of (trial_journey seed cycles).turns)) → IsAnswer (trial_output seed cycles) old new Done
+trial_done seed cycles old new few h = record {
+  ended = inl (ap Some (sym (ap end_of_journey (trial_taken seed cycles few).0)));
+  taken = h;
+}
 
 -- ---- the promises of the rows
 
 trial_open : IsOpen (opening trial_train_and_track trial_authority)
-trial_open = record { bands = record { few = omega arith; in_order = (pos 100, refl, omega (arith, ints), refl) }; usable = accepted.0 }
+trial_open = record {
+  bands = record { few = omega arith; in_order = (pos 100, refl, omega (arith, ints), refl) };
+  usable = accepted.0;
+}
 
 -- each turn of a trial is safe
 pub trial_rows_safe : (seed cycles : ℕ) → AreTrialRowsSafe seed cycles
 trial_rows_safe seed cycles = record {
   text = refl;
-  safe = turns_safe (event_at reading_record) 1 (opening trial_train_and_track trial_authority) false false (readings_from seed 1 cycles) trial_open (record { needed = λ h. h; allowed = λ h. h });
+  safe = turns_safe (event_at reading_record) 1 (opening trial_train_and_track trial_authority) false false
+      (readings_from seed 1 cycles) trial_open (record { needed = λ h. h; allowed = λ h. h });
 }

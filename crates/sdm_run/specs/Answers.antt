@@ -5,7 +5,8 @@ use Rattle.sdm_io.specs.Told.{AppendsPart}
 use Rattle.sdm_rules.specs.Input as ends
 use Rattle.sdm_rules.specs.Flat.{Output}
 use Rattle.sdm_report.specs.declared.outcome.Outcome.{Outcome}
-use Rattle.sdm_report.specs.declared.outcome.Outcome.TheVariants.{Done, Usage, ReadFault, WriteFault, TooLong, BadData, Refused, BadEvent, Memory}
+use Rattle.sdm_report.specs.declared.outcome.Outcome.TheVariants.{Done, Usage, ReadFault, WriteFault, TooLong, BadData}
+use Rattle.sdm_report.specs.declared.outcome.Outcome.TheVariants.{Refused, BadEvent, Memory}
 use Rattle.sdm_report.specs.OutcomeLines.{end_of_data}
 
 -- the end that an outcome tells, if it tells one
@@ -40,9 +41,9 @@ pub record AppendsLines (old new : Option (List ℕ)) (text : List ℕ) : Type 0
   pub whole_lines : AreWholeLines prefix
   pub taken : Appends old new prefix
 
--- What out took of the defined text: where an end is told, the whole text before it; after a write fault a prefix of it,
--- after want of memory whole lines, and else nothing. A text is empty that ends as too long, with bad data, or with a refused
--- opening.
+-- What out took of the defined text: where an end is told, the whole text before it; after a write fault a prefix of
+-- it, after want of memory whole lines, and else nothing. A text is empty that ends as too long, with bad data, or
+-- with a refused opening.
 abbrev pub TakesFor : Outcome → Option (List ℕ) → Option (List ℕ) → List ℕ → Type 0
 TakesFor Done old new text = Appends old new text
 TakesFor Usage old new text = Keeps old new
@@ -61,7 +62,8 @@ pub record IsAnswer (output : Output) (old new : Option (List ℕ)) (outcome : O
 
 -- the outcome is that of the defined end, and out took the whole text; or memory was wanting
 abbrev pub IsComplete : Output → Option (List ℕ) → Option (List ℕ) → Outcome → Type 0
-IsComplete output old new outcome = ((told_end outcome ≡ Some output.end) × Appends old new output.text) ⊎ (outcome ≡ Memory)
+IsComplete output old new outcome =
+    ((told_end outcome ≡ Some output.end) × Appends old new output.text) ⊎ (outcome ≡ Memory)
 
 -- an outcome that comes before any row, whatever the input tells
 abbrev pub LeavesOutUntouched : Outcome → Type 0

@@ -27,7 +27,8 @@ pub record HasOneOutput (command : Command) (bytes : List ℕ) : Type 0 where
   pub is : IsOutputOf command bytes output
   pub only : (other : Output) → IsOutputOf command bytes other → other ≡ output
 
--- whatever turns make an output of `run` (its text is that of their rows), each of them is safe, from no command held on
+-- whatever turns make an output of `run` (its text is that of their rows), each of them is safe, from no command held
+-- on
 abbrev pub AreRunRowsSafe : List ℕ → Type 0
 AreRunRowsSafe bytes = (output : Output) (told : IsRunOutput bytes output) → AreTurnsSafe false false told.turns
 

@@ -7,7 +7,8 @@ use Rattle.sdm_rules.specs.Limits.{exact_places}
 use Rattle.sdm_rules.specs.Machines.{InOrder}
 use Rattle.sdm_rules.specs.Records.{time_fault}
 use Rattle.sdm_rules.specs.Lines.{lines_of}
-use Rattle.sdm_rules.specs.Flat.{FlatSupervision, FlatLine, flat_opening, flat_line, flat_row, flat_after, after_flat_line, flat_text, flat_output, StopsByFlatEnd}
+use Rattle.sdm_rules.specs.Flat.{FlatSupervision, FlatLine, flat_opening, flat_line, flat_row, flat_after}
+use Rattle.sdm_rules.specs.Flat.{after_flat_line, flat_text, flat_output, StopsByFlatEnd}
 use Rattle.sdm_supervisor.specs.Flats.{ebi_mm}
 
 -- an accepted line and the state that it meets
@@ -53,7 +54,8 @@ flat_may_after_turn t held = flat_after exact_places millimetre t.before held t.
 
 -- for a whole speed in mm/s the row shows END - v² / (2A), rounded down to a millimetre
 abbrev pub IsEbiShown : FlatTurn → Type 0
-IsEbiShown t = (v : ℕ) → t.line.speed ≡ notches_of_mm_s v → (flat_row_of_turn t).ebi ≡ ebi_mm t.before.decel t.before.end v
+IsEbiShown t =
+    (v : ℕ) → t.line.speed ≡ notches_of_mm_s v → (flat_row_of_turn t).ebi ≡ ebi_mm t.before.decel t.before.end v
 
 -- from a covered row every motion stops by the end
 abbrev pub IsStopCovered : FlatTurn → Type 0

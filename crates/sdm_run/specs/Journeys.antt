@@ -12,9 +12,16 @@ use Rattle.sdm_data.specs.Document.{document_of}
 use Rattle.sdm_data.specs.Journey.{data_of}
 use Rattle.sdm_events.specs.Journey.{Record, records_of}
 
--- how the parts of an input are read: about the dividing line a TOML document and CSV records, as `toml` and `csv` define them
+-- how the parts of an input are read: about the dividing line a TOML document and CSV records, as `toml` and `csv`
+-- define them
 abbrev pub run_reader : Reader Members Record
-run_reader = record { divide = divide; document = document_of; data_of = data_of; records = records_of; form = event_of }
+run_reader = record {
+  divide = divide;
+  document = document_of;
+  data_of = data_of;
+  records = records_of;
+  form = event_of;
+}
 
 -- the text and the end of records, by what is told of each turn; the first record has the number `n`
 abbrev pub output_of_records : (Turn → List ℕ) → ℕ → Supervision → List Record → Output

@@ -13,7 +13,8 @@ use Rattle.sdm_rules.specs.Records.{Turn, most_records, step, turn_of}
 use Rattle.sdm_rules.specs.Supervision.{Supervision, opening}
 use Rattle.sdm_report.specs.declared.outcome.InputFault.TheVariants.{NoSplit, Toml, Data}
 use Rattle.sdm_report.specs.declared.outcome.Outcome.{Outcome}
-use Rattle.sdm_report.specs.declared.outcome.Outcome.TheVariants.{Done, Usage, ReadFault, WriteFault, TooLong, BadData, Refused, BadEvent, Memory}
+use Rattle.sdm_report.specs.declared.outcome.Outcome.TheVariants.{Done, Usage, ReadFault, WriteFault, TooLong, BadData}
+use Rattle.sdm_report.specs.declared.outcome.Outcome.TheVariants.{Refused, BadEvent, Memory}
 use Rattle.sdm_data.specs.Document.{document_of}
 use Rattle.sdm_data.specs.Journey.{data_of}
 use Rattle.sdm_events.specs.Journey.{Record}
@@ -36,8 +37,8 @@ pub record IsOpeningOf (bytes : List ℕ) (s : Supervision) : Type 0 where
   pub accepted : IsAccepted train_and_track authority
   pub state : s ≡ opening train_and_track authority
 
--- the outcome of a data part that opens none: no document, the first rule that is broken, or the first fault of the opening; want
--- of memory may come at any time
+-- the outcome of a data part that opens none: no document, the first rule that is broken, or the first fault of the
+-- opening; want of memory may come at any time
 abbrev pub IsRefusedBy : List ℕ → Outcome → Type 0
 IsRefusedBy bytes Done = ⊥
 IsRefusedBy bytes Usage = ⊥
@@ -46,8 +47,10 @@ IsRefusedBy bytes WriteFault = ⊥
 IsRefusedBy bytes TooLong = ⊥
 IsRefusedBy bytes (BadData NoSplit) = ⊥
 IsRefusedBy bytes (BadData Toml) = document_of bytes ≡ None
-IsRefusedBy bytes (BadData (Data fault)) = (fault ≢ data_faults.Memory) × (members : Members) × (document_of bytes ≡ Some members) × (data_of members ≡ Err fault)
-IsRefusedBy bytes (Refused fault) = (fault ≢ open_faults.Memory) × (train_and_track : TrainAndTrack) × (a : Authority) × IsDataOf bytes train_and_track a × IsOpenFault train_and_track a fault
+IsRefusedBy bytes (BadData (Data fault)) = (fault ≢ data_faults.Memory) × (members : Members)
+    × (document_of bytes ≡ Some members) × (data_of members ≡ Err fault)
+IsRefusedBy bytes (Refused fault) = (fault ≢ open_faults.Memory) × (train_and_track : TrainAndTrack) × (a : Authority)
+    × IsDataOf bytes train_and_track a × IsOpenFault train_and_track a fault
 IsRefusedBy bytes (BadEvent number cause) = ⊥
 IsRefusedBy bytes Memory = ⊤
 
@@ -60,19 +63,25 @@ pub record IsToldEvent (tell : Turn → List ℕ) (s t : Supervision) (e : Event
   pub whole_lines : AreWholeLines text
 
 -- a record was taken as a turn to the state `t`, and what is told of it was put
-pub record IsToldRecord (tell : Turn → List ℕ) (s t : Supervision) (e : Result Event EventFault) (text : List ℕ) : Type 0 where
+pub record IsToldRecord (tell : Turn → List ℕ) (s t : Supervision) (e : Result Event EventFault)
+    (text : List ℕ) : Type 0 where
   pub turn : Turn
   pub taken : turn_of s e ≡ Ok turn
   pub after : turn.after ≡ t
   pub text_is : text ≡ tell turn
   pub whole_lines : AreWholeLines text
 
--- The record of the number `n` was taken, and what is told of it was written: what it and the records after it define is its text and
--- what these define from the next state on.
-pub record TakesRecord (tell : Turn → List ℕ) (old new : Option (List ℕ)) (n : ℕ) (s t : Supervision) (records more : List Record) : Type 0 where
+-- The record of the number `n` was taken, and what is told of it was written: what it and the records after it define
+-- is its text and what these define from the next state on.
+pub record TakesRecord (tell : Turn → List ℕ) (old new : Option (List ℕ)) (n : ℕ) (s t : Supervision)
+    (records more : List Record) : Type 0 where
   pub text : List ℕ
   pub first : output_of_records tell n s records ≡
-      record { text = text ++ (output_of_records tell (suc n) t more).text; end = (output_of_records tell (suc n) t more).end }
+      record {
+        text = text ++ (output_of_records tell (suc n) t more).text;
+        end =
+            (output_of_records tell (suc n) t more).end;
+      }
   pub whole_lines : AreWholeLines text
   pub taken : Appends old new text
   pub counted : n ≤ most_records

@@ -7,7 +7,8 @@ use Rattle.sdm_rules.specs.declared.faults.DataFault.TheVariants as data_faults
 use Rattle.sdm_rules.specs.declared.faults.OpenFault.TheVariants as open_faults
 use Rattle.sdm_report.specs.declared.outcome.InputFault.TheVariants.{NoSplit, Toml, Data}
 use Rattle.sdm_report.specs.declared.outcome.Outcome.{Outcome}
-use Rattle.sdm_report.specs.declared.outcome.Outcome.TheVariants.{Done, Usage, ReadFault, WriteFault, TooLong, BadData, Refused, BadEvent, Memory}
+use Rattle.sdm_report.specs.declared.outcome.Outcome.TheVariants.{Done, Usage, ReadFault, WriteFault, TooLong, BadData}
+use Rattle.sdm_report.specs.declared.outcome.Outcome.TheVariants.{Refused, BadEvent, Memory}
 use Rattle.sdm_run.specs.declared.words.Command.{Command}
 use Rattle.sdm_run.specs.declared.words.Command.TheVariants.{Flat, Run, Trial}
 
@@ -31,11 +32,27 @@ is_of_line Line = true
 
 -- `flat`: an input of lines alone
 abbrev pub flat_shape : Shape
-flat_shape = record { reads_input = true; has_division = false; has_data = false; opens = false; takes_memory_first = true; refuses = is_of_line }
+flat_shape = record {
+  reads_input = true;
+  has_division = false;
+  has_data = false;
+  opens = false;
+  takes_memory_first = true;
+  refuses =
+      is_of_line;
+}
 
 -- records, once a supervision state is opened
 abbrev pub records_shape : Shape
-records_shape = record { reads_input = false; has_division = false; has_data = false; opens = false; takes_memory_first = false; refuses = λ cause. not (is_of_line cause) }
+records_shape = record {
+  reads_input = false;
+  has_division = false;
+  has_data = false;
+  opens = false;
+  takes_memory_first = false;
+  refuses =
+      λ cause. not (is_of_line cause);
+}
 
 -- `run`: about the dividing line a data part, which opens a supervision state, and records
 abbrev pub run_shape : Shape
@@ -43,7 +60,15 @@ run_shape = record records_shape { reads_input = true; has_division = true; has_
 
 -- `trial`: it reads nothing, and nothing of it is refused
 abbrev pub trial_shape : Shape
-trial_shape = record { reads_input = false; has_division = false; has_data = false; opens = false; takes_memory_first = true; refuses = λ cause. false }
+trial_shape = record {
+  reads_input = false;
+  has_division = false;
+  has_data = false;
+  opens = false;
+  takes_memory_first = true;
+  refuses =
+      λ cause. false;
+}
 
 -- the shape of a command
 abbrev pub shape_of : Command → Shape
@@ -65,6 +90,7 @@ IsOutcomeIn shape (Refused fault) = IsTrue shape.opens × (fault ≢ open_faults
 IsOutcomeIn shape (BadEvent number cause) = (1 ≤ number) × IsTrue (shape.refuses cause)
 IsOutcomeIn shape Memory = ⊤
 
--- a fact of the bytes that a command answers: those of the input, where the source tells them; for a command that reads nothing any
+-- a fact of the bytes that a command answers: those of the input, where the source tells them; for a command that
+-- reads nothing any
 abbrev pub OfInput : Shape → Option (List ℕ) → (List ℕ → Type 0) → Type 0
 OfInput shape left P = MatchBool shape.reads_input (Told left P) ((bytes : List ℕ) → P bytes)

@@ -15,4 +15,5 @@ pub record IsAcceptedLine (old new : FlatSupervision) (bytes : List ℕ) (row : 
 
 -- the bytes are no line of the form due, or its time is before that of the last accepted one
 abbrev pub IsRefusedLine : FlatSupervision → List ℕ → Type 0
-IsRefusedLine s bytes = (flat_line bytes ≡ None) ⊎ ((l : FlatLine) × (fault : CycleFault) × (flat_line bytes ≡ Some l) × (time_fault s.last_time l.time ≡ Some fault))
+IsRefusedLine s bytes = (flat_line bytes ≡ None) ⊎
+    ((l : FlatLine) × (fault : CycleFault) × (flat_line bytes ≡ Some l) × (time_fault s.last_time l.time ≡ Some fault))

@@ -1,5 +1,6 @@
 -- What the words after the program's name ask for (own).
-use Rattle.std.specs.Prelude.{ℕ, ℤ, pos, List, [], ◌∷◌, Option, Some, None, Result, Ok, Err, ◌≤◌, String, string_bytes, map, codes, unsigned_abs, if◌then◌else◌}
+use Rattle.std.specs.Prelude.{ℕ, ℤ, pos, List, [], ◌∷◌, Option, Some, None, Result, Ok, Err, ◌≤◌, String, string_bytes}
+use Rattle.std.specs.Prelude.{map, codes, unsigned_abs, if◌then◌else◌}
 use Rattle.std.specs.Str.{bytes_eq}
 use Rattle.std.specs.declared.alloc.Global.{Global}
 use Rattle.sdm_rules.specs.declared.faults.FieldFault.{FieldFault}
@@ -33,7 +34,8 @@ trial_of (Err fault) cycles = None
 
 -- the words after `trial`: NUMBER and CYCLES
 abbrev pub trial_command : List (List ℕ) → Option Command
-trial_command (seed ∷ cycles ∷ []) = trial_of (read_int seed (pos 0) (pos 65_535)) (read_int cycles (pos 1) (pos most_records))
+trial_command (seed ∷ cycles ∷ []) =
+    trial_of (read_int seed (pos 0) (pos 65_535)) (read_int cycles (pos 1) (pos most_records))
 trial_command _ = None
 
 -- the shapes of the words, each with its command: `run`, `flat A END`, and `trial NUMBER CYCLES`

@@ -1,6 +1,7 @@
 //! The top call: from the words and the bytes of an input to the bytes of out and of the fault stream, and an outcome.
 
-ghost use Rattle.std.specs.Prelude.{◌≡◌, ◌≢◌, ◌⊎◌, ◌↔◌, ◌+◌, ◌<◌, ◌≤◌, ℕ, List, length, false, Some, Err, IsNone, IsTrue, IfSome, IfOk, OnOk, OnErr};
+ghost use Rattle.std.specs.Prelude.{◌≡◌, ◌≢◌, ◌⊎◌, ◌↔◌, ◌+◌, ◌<◌, ◌≤◌, ℕ, List, length, false, Some, Err, IsNone};
+ghost use Rattle.std.specs.Prelude.{IsTrue, IfSome, IfOk, OnOk, OnErr};
 ghost use Rattle.std.specs.Io.KnownBytes.{Appends, IsAtEnd};
 ghost use Rattle.sdm_io.specs.Causes.{Rose};
 ghost use Rattle.sdm_io.specs.Told.{AppendsPart, HoldsNothing, ReadsExactly, ReadsWithin, Told};
@@ -8,7 +9,8 @@ ghost use Rattle.sdm_report.specs.OutcomeLines.{outcome_line};
 ghost use Rattle.sdm_rules.specs.Flat.{Output};
 ghost use Rattle.sdm_rules.specs.Input.{most_bytes};
 ghost use Rattle.sdm_run.specs.declared.words.Command.{Command};
-ghost use Rattle.sdm_run.specs.Answers.{ComesOfReadingAlone, LeavesOutUntouched, NeedsTheWholeInput, IsAnswer, IsComplete, told_end};
+ghost use Rattle.sdm_run.specs.Answers.{ComesOfReadingAlone, LeavesOutUntouched, NeedsTheWholeInput, IsAnswer};
+ghost use Rattle.sdm_run.specs.Answers.{IsComplete, told_end};
 ghost use Rattle.sdm_run.specs.Commands.{AreRowsSafe, HasOneOutput, IsOutputOf, ReadsNothing};
 ghost use Rattle.sdm_run.specs.Shapes.{IsOutcomeIn, OfInput, shape_of};
 ghost use Rattle.sdm_run.specs.Words.{IsCommandInRange, asked_by};

@@ -1,19 +1,19 @@
-//! Worked journeys as tables, with refusals and faults at chosen calls. In the tables `/` stands for a line feed, `~` for a
-//! carriage return and `-` for nothing.
+//! Worked journeys as tables, with refusals and faults at chosen calls. In the tables `/` stands for a line feed, `~`
+//! for a carriage return and `-` for nothing.
 
 mod flats;
 mod journeys;
 mod trials;
 
-use sdm_run::{EventCause, Outcome, outcome_of, sdm_main};
 use journeys::{CUTS, PARTS, REFUSALS, RUN_FAULTS, RUNS};
 use sdm_data::BASE_PART;
 use sdm_io::{FixedSource, MemSink, MemSource, NullSink};
+use sdm_run::{EventCause, Outcome, outcome_of, sdm_main};
 use std::alloc::Global;
 use std::process::Abort;
 use std::test::Fail;
 
-// The fields of a line of a table.
+/// The fields of a line of a table.
 fn fields_of<'a>(alloc: Global, line: &'a str) -> Result<Vec<&'a str>, Fail> {
     let mut fields = Vec::new(alloc);
     for field in line.split('|') {
@@ -22,7 +22,7 @@ fn fields_of<'a>(alloc: Global, line: &'a str) -> Result<Vec<&'a str>, Fail> {
     Ok(fields)
 }
 
-// The bytes that a field writes.
+/// The bytes that a field writes.
 fn bytes_of(alloc: Global, field: &str) -> Result<Vec<u8>, Fail> {
     let mut bytes = Vec::new(alloc);
     if field == "-" {
@@ -38,7 +38,7 @@ fn bytes_of(alloc: Global, field: &str) -> Result<Vec<u8>, Fail> {
     Ok(bytes)
 }
 
-// The words that a field writes, with spaces between them.
+/// The words that a field writes, with spaces between them.
 fn words_of(alloc: Global, field: &str) -> Result<Vec<String>, Fail> {
     let mut words = Vec::new(alloc);
     for word in field.split_whitespace() {
@@ -49,7 +49,7 @@ fn words_of(alloc: Global, field: &str) -> Result<Vec<String>, Fail> {
     Ok(words)
 }
 
-// The numbers that a field writes; `-` is none.
+/// The numbers that a field writes; `-` is none.
 fn numbers_of(alloc: Global, field: &str) -> Result<Vec<u32>, Fail> {
     let mut numbers = Vec::new(alloc);
     for word in field.split_whitespace() {
@@ -60,7 +60,7 @@ fn numbers_of(alloc: Global, field: &str) -> Result<Vec<u32>, Fail> {
     Ok(numbers)
 }
 
-// How a source and sinks over memory behave: bytes moved at once, and the calls that fail.
+/// How a source and sinks over memory behave: bytes moved at once, and the calls that fail.
 #[derive(Drop)]
 struct Streams<'a> {
     step: &'a str,
@@ -76,7 +76,7 @@ const STEADY: Streams<'static> = Streams {
     failing_lines: "-",
 };
 
-// What the program answered, and what its sinks took.
+/// What the program answered, and what its sinks took.
 #[derive(Drop)]
 struct Answer {
     code: u8,
@@ -106,7 +106,7 @@ fn answer_to(alloc: Global, words: &str, bytes: &[u8], streams: &Streams) -> Res
     })
 }
 
-// A line of the base data, as some changes have it: each is a line, `>` and what stands in its place.
+/// A line of the base data, as some changes have it: each is a line, `>` and what stands in its place.
 fn changed<'a>(line: &'a str, changes: &'a str) -> &'a str {
     for change in changes.split(';') {
         if let Some((old, new)) = change.split_once('>') {
@@ -118,7 +118,7 @@ fn changed<'a>(line: &'a str, changes: &'a str) -> &'a str {
     line
 }
 
-// The answer to a journey over the base data with changes.
+/// The answer to a journey over the base data with changes.
 fn run_of(alloc: Global, changes: &str, records: &str, streams: &Streams) -> Result<Answer, Fail> {
     let mut input = Vec::new(alloc);
     for line in BASE_PART.lines() {
@@ -130,7 +130,7 @@ fn run_of(alloc: Global, changes: &str, records: &str, streams: &Streams) -> Res
     answer_to(alloc, "run", &input, streams)
 }
 
-// words | code
+/// words | code
 const WORDS: &str = "\
     - | 1
     flat | 1
@@ -251,7 +251,7 @@ fn a_journey_may_be_cut_off_anywhere(rt: HostRuntime) -> Result<(), Fail> {
     Ok(())
 }
 
-// words | failing writes of the line | code | line
+/// words | failing writes of the line | code | line
 const UNTOLD: &str = "\
     - | - | 1 | sdm: bad words/
     - | 1 | 1 | -
@@ -331,7 +331,7 @@ fn the_limit_of_an_input_is_not_past_it(rt: HostRuntime) -> Result<(), Fail> {
     Ok(())
 }
 
-// The base data with so many records, of which the odd ones and the even ones are alike.
+/// The base data with so many records, of which the odd ones and the even ones are alike.
 fn many_records(alloc: Global, count: u32, odd: &str, even: &str) -> Result<Vec<u8>, Fail> {
     let mut input = BASE_PART.as_bytes().to_vec(alloc)?;
     input.extend_from_slice(b"%%\n")?;
@@ -342,7 +342,7 @@ fn many_records(alloc: Global, count: u32, odd: &str, even: &str) -> Result<Vec<
     Ok(input)
 }
 
-// odd records | even records
+/// odd records | even records
 const PAST_THE_LAST: &str = "\
     limit,0,1 | limit,0,1
     restrict,1,0,1,1,0 | revoke,1";
@@ -367,7 +367,7 @@ fn a_record_past_the_hundred_thousandth_is_too_many(rt: HostRuntime) -> Result<(
     Ok(())
 }
 
-// Ten thousand lines, which begin with their numbers after a front that they share.
+/// Ten thousand lines, which begin with their numbers after a front that they share.
 fn ten_thousand(alloc: Global, front: &str, back: &str) -> Result<Vec<u8>, Fail> {
     let mut lines = Vec::new(alloc);
     for i in 0..10_000u32 {
@@ -377,7 +377,7 @@ fn ten_thousand(alloc: Global, front: &str, back: &str) -> Result<Vec<u8>, Fail>
     Ok(lines)
 }
 
-// What a row has after its time: of a train that stands before its EOA, all limits are the EOA.
+/// What a row has after its time: of a train that stands before its EOA, all limits are the EOA.
 const STANDING_FLAT: &str = ",1000000,1,0";
 
 const STANDING: &str = ",C,N,0,0,0,1,160,1000000,1000000,1000000,1000000,1000000";
@@ -398,7 +398,7 @@ fn ten_thousand_readings_have_their_rows(rt: HostRuntime) -> Result<(), Fail> {
     Ok(())
 }
 
-// section | entry | one entry too many | line
+/// section | entry | one entry too many | line
 const TOO_LONG_LISTS: &str = "\
     gradient | start = 0/grad = 0/ | 513 | sdm: bad data: count track.gradient/
     adhesion | start = 0/end = 1/ | 65 | sdm: bad data: count track.adhesion/

@@ -1,5 +1,6 @@
 -- A profile of steps falls only where a step starts that is lower than the speed before it.
-use Rattle.std.proofs.Common.{◌≡◌, ℕ, ℤ, pos, List, [], ◌∷◌, Option, Some, None, Bool, true, false, nat_lt, if◌then◌else◌, ◌<◌, ◌≤◌, ◌-ℤ◌, ◌≤ℤ◌, ◌<ℤ◌, refl, sym, ◌∙◌, arith}
+use Rattle.std.proofs.Common.{◌≡◌, ℕ, ℤ, pos, List, [], ◌∷◌, Option, Some, None, Bool, true, false, nat_lt}
+use Rattle.std.proofs.Common.{if◌then◌else◌, ◌<◌, ◌≤◌, ◌-ℤ◌, ◌≤ℤ◌, ◌<ℤ◌, refl, sym, ◌∙◌, arith}
 use Rattle.std.proofs.lemmas.Int.{ints, by_lt_z}
 use Rattle.std.proofs.lemmas.Bool.{le-ltb, lt-ltb, ltb-false, ltb-true}
 use Rattle.sdm_rules.specs.declared.targets.Fall.{Fall}
@@ -11,9 +12,11 @@ use Rattle.sdm_speed.proofs.StepLaws.{first_begun, none_begun}
 -- the first of the steps that is lower than the speed before it
 abbrev pub first_fall : ℕ → List Step → Option Fall
 first_fall v [] = None
-first_fall v (s ∷ ss) = let next = first_fall s.speed ss in if nat_lt s.speed v then Some (record { cell = s.start; speed = s.speed }) else next
+first_fall v (s ∷ ss) = let next =
+    first_fall s.speed ss in if nat_lt s.speed v then Some (record { cell = s.start; speed = s.speed }) else next
 
-pub falls_first : (v : ℕ) (s : Step) (ss : List Step) → s.speed < v → first_fall v (s ∷ ss) ≡ Some (record { cell = s.start; speed = s.speed })
+pub falls_first : (v : ℕ) (s : Step) (ss : List Step) → s.speed < v →
+    first_fall v (s ∷ ss) ≡ Some (record { cell = s.start; speed = s.speed })
 falls_first v s ss lt = rw (lt-ltb s.speed v lt) refl
 
 pub falls_later : (v : ℕ) (s : Step) (ss : List Step) → v ≤ s.speed → first_fall v (s ∷ ss) ≡ first_fall s.speed ss
@@ -24,7 +27,8 @@ abbrev pub IsQuiet : (ℤ → ℕ) → ℤ → ℤ → Type 0
 IsQuiet profile after at = (c : ℤ) → after <ℤ c → c ≤ℤ at → is_fall profile c ≡ false
 
 -- what is past a quiet stretch of one profile is past its beginning in another, which is the same from there on
-pub fall_past : (f g : ℤ → ℕ) (after at : ℤ) (next : Option Fall) → after ≤ℤ at → IsQuiet f after at → ((c : ℤ) → at ≤ℤ c → f c ≡ g c) → IsFallAfter g at next → IsFallAfter f after next
+pub fall_past : (f g : ℤ → ℕ) (after at : ℤ) (next : Option Fall) → after ≤ℤ at → IsQuiet f after at →
+    ((c : ℤ) → at ≤ℤ c → f c ≡ g c) → IsFallAfter g at next → IsFallAfter f after next
 fall_past f g after at None le quiet same h = λ c a.
     by_lt_z at c
     (λ (l : at <ℤ c). rw (same c (omega (arith, ints)), same (c -ℤ pos 1) (omega (arith, ints))) (h c l))
@@ -69,17 +73,25 @@ module _ (v : ℕ) (s : Step) (ss : List Step) (after : ℤ) (past : after <ℤ 
   quiet_up_to le c a l =
       by_lt_z c s.start
       (λ (lt : c <ℤ s.start). quiet_before c lt)
-      (λ (ge : s.start ≤ℤ c). let e : c ≡ s.start = omega (arith, ints) in rw (e, at_start, up_to (s.start -ℤ pos 1) (omega (arith, ints))) (le-ltb s.speed v le))
+      (λ (ge : s.start ≤ℤ c). let e : c ≡ s.start = omega (arith, ints)
+      in rw (e, at_start, up_to (s.start -ℤ pos 1) (omega (arith, ints))) (le-ltb s.speed v le))
 
-  by_speed : (b : Bool) → nat_lt s.speed v ≡ b → IsFallAfter (speeds_of s.speed ss) s.start (first_fall s.speed ss) → IsFallAfter profile after (if b then Some (record { cell = s.start; speed = s.speed }) else first_fall s.speed ss)
+  by_speed : (b : Bool) → nat_lt s.speed v ≡ b → IsFallAfter (speeds_of s.speed ss) s.start (first_fall s.speed ss) →
+      IsFallAfter profile after
+      (if b then Some (record { cell = s.start; speed = s.speed }) else first_fall s.speed ss)
   by_speed true is rest = falls_here (ltb-true s.speed v is)
-  by_speed false is rest = fall_past profile (speeds_of s.speed ss) after s.start (first_fall s.speed ss) (omega (arith, ints)) (quiet_up_to (ltb-false s.speed v is)) from rest
+  by_speed false is rest = fall_past profile (speeds_of s.speed ss) after s.start (first_fall s.speed ss)
+      (omega (arith, ints)) (quiet_up_to (ltb-false s.speed v is)) from rest
 
 -- it is the next fall past a cell before them all
-pub first_fall_is : (v : ℕ) (ss : List Step) (after : ℤ) → AreAfter after ss → IsFallAfter (speeds_of v ss) after (first_fall v ss)
+pub first_fall_is : (v : ℕ) (ss : List Step) (after : ℤ) → AreAfter after ss →
+    IsFallAfter (speeds_of v ss) after (first_fall v ss)
 first_fall_is v [] after h = λ c a. le-ltb v v (omega arith)
-first_fall_is v (s ∷ ss) after h = by_speed v s ss after h.0 h.1 (nat_lt s.speed v) refl (first_fall_is s.speed ss s.start h.1)
+first_fall_is v (s ∷ ss) after h =
+    by_speed v s ss after h.0 h.1 (nat_lt s.speed v) refl (first_fall_is s.speed ss s.start h.1)
 
 -- a profile that is the same from a cell on falls next where this one does
-pub fall_from : (f g : ℤ → ℕ) (after : ℤ) (next : Option Fall) → ((c : ℤ) → after ≤ℤ c → f c ≡ g c) → IsFallAfter g after next → IsFallAfter f after next
-fall_from f g after next same h = fall_past f g after after next (omega (arith, ints)) (λ c a l. absurd (omega (arith, ints))) same h
+pub fall_from : (f g : ℤ → ℕ) (after : ℤ) (next : Option Fall) → ((c : ℤ) → after ≤ℤ c → f c ≡ g c) →
+    IsFallAfter g after next → IsFallAfter f after next
+fall_from f g after next same h =
+    fall_past f g after after next (omega (arith, ints)) (λ c a l. absurd (omega (arith, ints))) same h

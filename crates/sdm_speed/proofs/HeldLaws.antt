@@ -1,6 +1,8 @@
--- A list of restrictions of distinct identities stands for a map by identity: one more at its end is an insertion, one less a
--- removal, and the lowest limit of their zones is the same in the order of the list and in that of the map.
-use Rattle.std.proofs.Common.{◌≡◌, ◌≢◌, ℕ, zero, suc, ℤ, List, [], ◌∷◌, ◌++◌, length, get_or, take, drop, All, map, Option, Some, None, is_some, Bool, true, false, cond, position, ◌==◌, ◌+◌, ◌<◌, refl, sym, ap, ◌∙◌, arith}
+-- A list of restrictions of distinct identities stands for a map by identity: one more at its end is an insertion, one
+-- less a removal, and the lowest limit of their zones is the same in the order of the list and in that of the map.
+use Rattle.std.proofs.Common.{◌≡◌, ◌≢◌, ℕ, zero, suc, ℤ, List, [], ◌∷◌, ◌++◌, length, get_or, take, drop, All, map}
+use Rattle.std.proofs.Common.{Option, Some, None, is_some, Bool, true, false, cond, position, ◌==◌, ◌+◌, ◌<◌, refl}
+use Rattle.std.proofs.Common.{sym, ap, ◌∙◌, arith}
 use Rattle.std.specs.List.{remove, position_from}
 use Rattle.std.specs.Ordering.{nat_cmp, eq_by_cmp, is_eq}
 use Rattle.std.specs.Cmp.{nat_cmp_total}
@@ -45,8 +47,10 @@ none = record { id = 0; start = 0; end = 0; speed = 0; delayed = false }
 
 -- ---- the map
 
-module _ (q : ℕ) (r : Restriction) (rs : List Restriction) (missing : finite.find nat_cmp q (map keyed (r ∷ rs)) ≡ None) where
-  missed : (b : Bool) → cond b (Some r) (finite.find nat_cmp q (map keyed rs)) ≡ None → (b ≡ false) × (finite.find nat_cmp q (map keyed rs) ≡ None)
+module _ (q : ℕ) (r : Restriction) (rs : List Restriction)
+    (missing : finite.find nat_cmp q (map keyed (r ∷ rs)) ≡ None) where
+  missed : (b : Bool) → cond b (Some r) (finite.find nat_cmp q (map keyed rs)) ≡ None →
+      (b ≡ false) × (finite.find nat_cmp q (map keyed rs) ≡ None)
   missed true e = absurd cc
   missed false e = (refl, e)
 
@@ -62,79 +66,105 @@ get_is rs q = finite.get-from_entries nat_cmp_total (map keyed rs) q
 -- as many keys as restrictions
 pub len_is : (rs : List Restriction) → AreDistinct rs → finite.len (by_identity rs) ≡ length rs
 len_is [] h = finite.len-empty nat_cmp Restriction
-len_is (r ∷ rs) h = finite.len-insert nat_cmp_total (by_identity rs) r.id r ∙ rw (get_is rs r.id, h.0) (let rest = len_is rs h.1 in omega arith)
+len_is (r ∷ rs) h = finite.len-insert nat_cmp_total (by_identity rs) r.id r
+    ∙ rw (get_is rs r.id, h.0) (let rest = len_is rs h.1 in omega arith)
 
 -- an identity is in the map where it has an index in the list
-found_from : (id : ℕ) (rs : List Restriction) (i : ℕ) → is_some (finite.find nat_cmp id (map keyed rs)) ≡ is_some (position_from (has_id id) i rs)
+found_from : (id : ℕ) (rs : List Restriction) (i : ℕ) →
+    is_some (finite.find nat_cmp id (map keyed rs)) ≡ is_some (position_from (has_id id) i rs)
 found_from id [] i = refl
 found_from id (x ∷ xs) i =
-    rw (tie_is id x.id) (elim (x.id == id) as (λ b. is_some (cond b (Some x) (finite.find nat_cmp id (map keyed xs))) ≡ is_some (cond b (Some i) (position_from (has_id id) (i + 1) xs))) [ true ↦ refl | false ↦ found_from id xs (i + 1) ])
+    rw (tie_is id x.id) (elim (x.id == id) as (λ b. is_some (cond b (Some x) (finite.find nat_cmp id (map keyed xs)))
+    ≡ is_some (cond b (Some i) (position_from (has_id id) (i + 1) xs)))
+    [ true ↦ refl | false ↦ found_from id xs (i + 1) ])
 
-pub contains_is : (rs : List Restriction) (id : ℕ) → finite.contains_key (by_identity rs) id ≡ is_some (position (has_id id) rs)
+pub contains_is : (rs : List Restriction) (id : ℕ) →
+    finite.contains_key (by_identity rs) id ≡ is_some (position (has_id id) rs)
 contains_is rs id = rw (get_is rs id) (found_from id rs 0 ∙ ap is_some (sym (position_from-zero (has_id id) rs)))
 
 pub no_value : (o : Option Restriction) → is_some o ≡ false → o ≡ None
 no_value None e = refl
 no_value (Some r) e = absurd cc
 
-pub missing_of : (rs : List Restriction) (id : ℕ) → finite.contains_key (by_identity rs) id ≡ false → finite.find nat_cmp id (map keyed rs) ≡ None
+pub missing_of : (rs : List Restriction) (id : ℕ) → finite.contains_key (by_identity rs) id ≡ false →
+    finite.find nat_cmp id (map keyed rs) ≡ None
 missing_of rs id new = sym (get_is rs id) ∙ no_value (finite.get (by_identity rs) id) new
 
 -- one restriction more at the end
-missing_more : (q : ℕ) (rs : List Restriction) (r : Restriction) → finite.find nat_cmp r.id (map keyed rs) ≡ None → eq_by_cmp nat_cmp q r.id ≡ false → finite.find nat_cmp q (map keyed rs) ≡ None → finite.find nat_cmp q (map keyed (rs ++ r ∷ [])) ≡ None
-missing_more q rs r rest apart missing = rw (map-append keyed rs (r ∷ []), find-append nat_cmp nat_cmp_total (map keyed rs) r.id r q rest, apart) missing
+missing_more : (q : ℕ) (rs : List Restriction) (r : Restriction) → finite.find nat_cmp r.id (map keyed rs) ≡ None →
+    eq_by_cmp nat_cmp q r.id ≡ false → finite.find nat_cmp q (map keyed rs) ≡ None →
+    finite.find nat_cmp q (map keyed (rs ++ r ∷ [])) ≡ None
+missing_more q rs r rest apart missing =
+    rw (map-append keyed rs (r ∷ []), find-append nat_cmp nat_cmp_total (map keyed rs) r.id r q rest, apart) missing
 
-pub distinct_more : (rs : List Restriction) (r : Restriction) → AreDistinct rs → finite.find nat_cmp r.id (map keyed rs) ≡ None → AreDistinct (rs ++ r ∷ [])
+pub distinct_more : (rs : List Restriction) (r : Restriction) → AreDistinct rs →
+    finite.find nat_cmp r.id (map keyed rs) ≡ None → AreDistinct (rs ++ r ∷ [])
 distinct_more [] r h missing = (refl, tt)
 distinct_more (x ∷ xs) r h missing =
     let apart : eq_by_cmp nat_cmp x.id r.id ≡ false = tie_both_ways x.id r.id ∙ missed_first r.id x xs missing in
     let rest = missed_rest r.id x xs missing in
     (missing_more x.id xs r rest apart h.0, distinct_more xs r h.1 rest)
 
-pub inserted : (rs : List Restriction) (r : Restriction) → finite.find nat_cmp r.id (map keyed rs) ≡ None → by_identity (rs ++ r ∷ []) ≡ finite.insert (by_identity rs) r.id r
-inserted rs r missing = rw (map-append keyed rs (r ∷ [])) (finite.from_entries_push nat_cmp_total finite.nat_cmp-IsAntisymmetric (map keyed rs) r.id r missing)
+pub inserted : (rs : List Restriction) (r : Restriction) → finite.find nat_cmp r.id (map keyed rs) ≡ None →
+    by_identity (rs ++ r ∷ []) ≡ finite.insert (by_identity rs) r.id r
+inserted rs r missing = rw (map-append keyed rs (r ∷ []))
+    (finite.from_entries_push nat_cmp_total finite.nat_cmp-IsAntisymmetric (map keyed rs) r.id r missing)
 
 -- a restriction is found by its identity
-found_at : (rs : List Restriction) (id i : ℕ) (d : Restriction) → i < length rs → (get_or rs i d).id ≡ id → ((k : ℕ) → k < i → (get_or rs k d).id ≢ id) → finite.find nat_cmp id (map keyed rs) ≡ Some (get_or rs i d)
+found_at : (rs : List Restriction) (id i : ℕ) (d : Restriction) → i < length rs → (get_or rs i d).id ≡ id →
+    ((k : ℕ) → k < i → (get_or rs k d).id ≢ id) → finite.find nat_cmp id (map keyed rs) ≡ Some (get_or rs i d)
 found_at [] id i d known here before = absurd (omega arith)
 found_at (x ∷ xs) id zero d known here before = rw (← here, tie_self x.id) refl
 found_at (x ∷ xs) id (suc i) d known here before =
-    first (eq_by_cmp nat_cmp id x.id) (λ t. before 0 (omega arith) (sym (tied id x.id t))) (found_at xs id i d (omega arith) here (λ k l. before (suc k) (omega arith)))
+    first (eq_by_cmp nat_cmp id x.id) (λ t. before 0 (omega arith) (sym (tied id x.id t)))
+    (found_at xs id i d (omega arith) here (λ k l. before (suc k) (omega arith)))
   where
-    first : (b : Bool) → (b ≡ true → ⊥) → finite.find nat_cmp id (map keyed xs) ≡ Some (get_or xs i d) → cond b (Some x) (finite.find nat_cmp id (map keyed xs)) ≡ Some (get_or xs i d)
+    first : (b : Bool) → (b ≡ true → ⊥) → finite.find nat_cmp id (map keyed xs) ≡ Some (get_or xs i d) →
+        cond b (Some x) (finite.find nat_cmp id (map keyed xs)) ≡ Some (get_or xs i d)
     first true apart rest = absurd (apart refl)
     first false apart rest = rest
 
-pub get_at : (rs : List Restriction) (id i : ℕ) (d : Restriction) → position (has_id id) rs ≡ Some i → (i < length rs) × (finite.get (by_identity rs) id ≡ Some (get_or rs i d))
+pub get_at : (rs : List Restriction) (id i : ℕ) (d : Restriction) → position (has_id id) rs ≡ Some i →
+    (i < length rs) × (finite.get (by_identity rs) id ≡ Some (get_or rs i d))
 get_at rs id i d at_index =
     let at = position-Some (has_id id) rs i d at_index in
     (at.0, get_is rs id ∙ found_at rs id i d at.0 (same_id at.1) (λ k l e. not_here (at.2 k l) e))
 
 -- one restriction less
-found_less : (rs : List Restriction) (id i : ℕ) (d : Restriction) (q : ℕ) → AreDistinct rs → i < length rs → (get_or rs i d).id ≡ id → ((k : ℕ) → k < i → (get_or rs k d).id ≢ id) →
-    finite.find nat_cmp q (map keyed (remove rs i)) ≡ cond (eq_by_cmp nat_cmp q id) None (finite.find nat_cmp q (map keyed rs))
+found_less : (rs : List Restriction) (id i : ℕ) (d : Restriction) (q : ℕ) → AreDistinct rs → i < length rs →
+    (get_or rs i d).id ≡ id → ((k : ℕ) → k < i → (get_or rs k d).id ≢ id) →
+    finite.find nat_cmp q (map keyed (remove rs i))
+    ≡ cond (eq_by_cmp nat_cmp q id) None (finite.find nat_cmp q (map keyed rs))
 found_less [] id i d q h known here before = absurd (omega arith)
 found_less (x ∷ xs) id zero d q h known here before = taken_out (eq_by_cmp nat_cmp q x.id) refl
   where
-    taken_out : (b : Bool) → eq_by_cmp nat_cmp q x.id ≡ b → finite.find nat_cmp q (map keyed xs) ≡ cond (eq_by_cmp nat_cmp q id) None (cond b (Some x) (finite.find nat_cmp q (map keyed xs)))
+    taken_out : (b : Bool) → eq_by_cmp nat_cmp q x.id ≡ b → finite.find nat_cmp q (map keyed xs)
+        ≡ cond (eq_by_cmp nat_cmp q id) None (cond b (Some x) (finite.find nat_cmp q (map keyed xs)))
     taken_out true t = (let e : q ≡ x.id = tied q x.id t in rw (← here, t, e) h.0)
     taken_out false t = rw (← here, t) refl
 found_less (x ∷ xs) id (suc i) d q h known here before =
-    rw (found_less xs id i d q h.1 (omega arith) here (λ k l. before (suc k) (omega arith))) (kept (eq_by_cmp nat_cmp q x.id) (eq_by_cmp nat_cmp q id) (λ s t. before 0 (omega arith) (sym (tied q x.id s) ∙ tied q id t)))
+    rw (found_less xs id i d q h.1 (omega arith) here (λ k l. before (suc k) (omega arith)))
+    (kept (eq_by_cmp nat_cmp q x.id) (eq_by_cmp nat_cmp q id)
+    (λ s t. before 0 (omega arith) (sym (tied q x.id s) ∙ tied q id t)))
   where
-    kept : (a b : Bool) → (a ≡ true → b ≡ true → ⊥) → cond a (Some x) (cond b None (finite.find nat_cmp q (map keyed xs))) ≡ cond b None (cond a (Some x) (finite.find nat_cmp q (map keyed xs)))
+    kept : (a b : Bool) → (a ≡ true → b ≡ true → ⊥) → cond a (Some x)
+        (cond b None (finite.find nat_cmp q (map keyed xs)))
+        ≡ cond b None (cond a (Some x) (finite.find nat_cmp q (map keyed xs)))
     kept true true apart = absurd (apart refl refl)
     kept true false apart = refl
     kept false b apart = refl
 
-pub removed : (rs : List Restriction) (id i : ℕ) → AreDistinct rs → position (has_id id) rs ≡ Some i → by_identity (remove rs i) ≡ finite.remove (by_identity rs) id
+pub removed : (rs : List Restriction) (id i : ℕ) → AreDistinct rs → position (has_id id) rs ≡ Some i →
+    by_identity (remove rs i) ≡ finite.remove (by_identity rs) id
 removed rs id i h at_index =
     let at = position-Some (has_id id) rs i none at_index in
     finite.same_map nat_cmp_total finite.nat_cmp-IsAntisymmetric _ _
     (λ q. get_is (remove rs i) q ∙ found_less rs id i none q h at.0 (same_id at.1) (λ k l e. not_here (at.2 k l) e)
-    ∙ sym (finite.get-remove nat_cmp_total (by_identity rs) id q ∙ ap (λ o. cond (eq_by_cmp nat_cmp q id) None o) (get_is rs q)))
+    ∙ sym (finite.get-remove nat_cmp_total (by_identity rs) id q
+    ∙ ap (λ o. cond (eq_by_cmp nat_cmp q id) None o) (get_is rs q)))
 
-none_less : (rs : List Restriction) (q i : ℕ) → finite.find nat_cmp q (map keyed rs) ≡ None → finite.find nat_cmp q (map keyed (remove rs i)) ≡ None
+none_less : (rs : List Restriction) (q i : ℕ) → finite.find nat_cmp q (map keyed rs) ≡ None →
+    finite.find nat_cmp q (map keyed (remove rs i)) ≡ None
 none_less [] q zero missing = missing
 none_less [] q (suc i) missing = missing
 none_less (x ∷ xs) q zero missing = missed_rest q x xs missing
@@ -158,20 +188,30 @@ lowest_of top cell length_cm es = lowest_limit top cell (map (zone_of length_cm)
 
 module _ (top : ℕ) (cell length_cm : ℤ) where
   -- an entry that is put among the others counts as if it stood before them
-  put_at : (o : Ordering) (k : ℕ) (r : Restriction) (e : ℕ × Restriction) (es : List (ℕ × Restriction)) → cond (is_eq o) (Some e.1) (finite.find nat_cmp k es) ≡ None →
-      (finite.find nat_cmp k es ≡ None → lowest_of top cell length_cm (put nat_cmp k r es) ≡ capped cell (zone_of length_cm r) (lowest_of top cell length_cm es)) →
-      lowest_of top cell length_cm (by_order o ((k, r) ∷ e ∷ es) ((e.0, r) ∷ es) (e ∷ put nat_cmp k r es)) ≡ capped cell (zone_of length_cm r) (lowest_of top cell length_cm (e ∷ es))
+  put_at : (o : Ordering) (k : ℕ) (r : Restriction) (e : ℕ × Restriction) (es : List (ℕ × Restriction)) →
+      cond (is_eq o) (Some e.1) (finite.find nat_cmp k es) ≡ None →
+      (finite.find nat_cmp k es ≡ None → lowest_of top cell length_cm (put nat_cmp k r es)
+      ≡ capped cell (zone_of length_cm r) (lowest_of top cell length_cm es)) →
+      lowest_of top cell length_cm (by_order o ((k, r) ∷ e ∷ es) ((e.0, r) ∷ es) (e ∷ put nat_cmp k r es))
+      ≡ capped cell (zone_of length_cm r) (lowest_of top cell length_cm (e ∷ es))
   put_at Less k r e es missing rest = refl
   put_at Equal k r e es missing rest = absurd cc
-  put_at Greater k r e es missing rest = rw (rest missing) (capped_in_any_order cell (zone_of length_cm e.1) (zone_of length_cm r) (lowest_of top cell length_cm es))
+  put_at Greater k r e es missing rest = rw (rest missing)
+      (capped_in_any_order cell (zone_of length_cm e.1) (zone_of length_cm r) (lowest_of top cell length_cm es))
 
-  pub put_among : (k : ℕ) (r : Restriction) (es : List (ℕ × Restriction)) → finite.find nat_cmp k es ≡ None → lowest_of top cell length_cm (put nat_cmp k r es) ≡ capped cell (zone_of length_cm r) (lowest_of top cell length_cm es)
+  pub put_among : (k : ℕ) (r : Restriction) (es : List (ℕ × Restriction)) → finite.find nat_cmp k es ≡ None →
+      lowest_of top cell length_cm (put nat_cmp k r es)
+      ≡ capped cell (zone_of length_cm r) (lowest_of top cell length_cm es)
   put_among k r [] missing = refl
   put_among k r (e ∷ es) missing = put_at (nat_cmp k e.0) k r e es missing (put_among k r es)
 
   -- so the order of the map changes nothing
-  pub lowest_by_identity : (rs : List Restriction) → AreDistinct rs → lowest_limit top cell (map (zone_of length_cm) (finite.values (by_identity rs))) ≡ lowest_limit top cell (map (zone_of length_cm) rs)
-  lowest_by_identity [] h = ap (lowest_of top cell length_cm) (nil_from_length (finite.entries (by_identity [])) (sym (finite.len-entries (by_identity [])) ∙ len_is [] tt))
+  pub lowest_by_identity : (rs : List Restriction) → AreDistinct rs → lowest_limit top cell
+      (map (zone_of length_cm) (finite.values (by_identity rs))) ≡ lowest_limit top cell (map (zone_of length_cm) rs)
+  lowest_by_identity [] h = ap (lowest_of top cell length_cm)
+      (nil_from_length (finite.entries (by_identity [])) (sym (finite.len-entries (by_identity [])) ∙ len_is [] tt))
   lowest_by_identity (r ∷ rs) h =
       let missing = sym (finite.get-entries (by_identity rs) r.id) ∙ get_is rs r.id ∙ h.0 in
-      rw (finite.entries-insert nat_cmp_total (by_identity rs) r.id r) (put_among r.id r (finite.entries (by_identity rs)) missing ∙ ap (capped cell (zone_of length_cm r)) (lowest_by_identity rs h.1))
+      rw (finite.entries-insert nat_cmp_total (by_identity rs) r.id r)
+      (put_among r.id r (finite.entries (by_identity rs)) missing
+      ∙ ap (capped cell (zone_of length_cm r)) (lowest_by_identity rs h.1))

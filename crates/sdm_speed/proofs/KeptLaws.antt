@@ -1,5 +1,6 @@
 -- What the fields of a profile say of its value: how many restrictions there are, and that the steps give the MRSP.
-use Rattle.std.proofs.Common.{◌≡◌, ℕ, ℤ, pos, List, ◌++◌, length, map, Option, Some, None, MatchOption, IfSome, All, true, ◌≤◌, sym, ap, subst, ◌∙◌, arith}
+use Rattle.std.proofs.Common.{◌≡◌, ℕ, ℤ, pos, List, ◌++◌, length, map, Option, Some, None, MatchOption, IfSome, All}
+use Rattle.std.proofs.Common.{true, ◌≤◌, sym, ap, subst, ◌∙◌, arith}
 use Rattle.std.specs.Ordering.{nat_cmp}
 use Rattle.std.specs.FinMap as finite
 use Rattle.std.proofs.lemmas.Int.{ints}
@@ -24,13 +25,23 @@ use Rattle.sdm_speed.proofs.MrspLaws.{limit_in_range}
 held_zone : (length_cm : ℤ) (r : Restriction) → IsHeldRestriction r → IsZone (zone_of length_cm r)
 held_zone length_cm r held = record {
   not_before = λ first is. let same : pos r.start ≡ first = cc in rw (← same) (omega (arith, ints));
-  on_track = λ first is. let same : pos r.start ≡ first = cc in rw (← same) (omega (arith, ints, held.some_cell, held.on_track));
+  on_track = λ first is. let same : pos r.start ≡ first =
+      cc in rw (← same) (omega (arith, ints, held.some_cell, held.on_track));
   limited = held.limited;
 }
 
 -- with other restrictions, but not too many, a profile stays in its ranges
-pub with_held : (p : ProfileData) (held : finite.FinMap nat_cmp Restriction) → IsProfile p → finite.len held ≤ most_restrictions → IsProfile (record p { restrictions = held })
-with_held p held h few = record { top = h.top; shortest_train = h.shortest_train; longest_train = h.longest_train; longest_track = h.longest_track; speeds = h.speeds; few = few }
+pub with_held : (p : ProfileData) (held : finite.FinMap nat_cmp Restriction) → IsProfile p →
+    finite.len held ≤ most_restrictions → IsProfile (record p { restrictions = held })
+with_held p held h few = record {
+  top = h.top;
+  shortest_train = h.shortest_train;
+  longest_train = h.longest_train;
+  longest_track =
+      h.longest_track;
+  speeds = h.speeds;
+  few = few;
+}
 
 module _ (f : Inside) (kept : IsKeptProfile f) where
   -- as many restrictions as are held
@@ -41,14 +52,17 @@ module _ (f : Inside) (kept : IsKeptProfile f) where
   zones = static_zones_of f ++ held_zones_of f
 
   each : All IsZone zones
-  each = All-append IsZone (static_zones_of f) (held_zones_of f) kept.each_static (All-map IsZone (zone_of (pos f.length_cm)) f.held.items (λ k d l. held_zone (pos f.length_cm) _ (kept.each_held k d l)))
+  each = All-append IsZone (static_zones_of f) (held_zones_of f) kept.each_static
+      (All-map IsZone (zone_of (pos f.length_cm)) f.held.items
+      (λ k d l. held_zone (pos f.length_cm) _ (kept.each_held k d l)))
 
   -- the zones give the MRSP
   zones_at : (cell : ℤ) → zone_limits f.max_speed zones cell ≡ mrsp_of (profile_data_of f) cell
   zones_at cell =
       let statics = static_zones_of f in
       lowest_limit-append f.max_speed cell statics (held_zones_of f)
-      ∙ ap (λ n. lowest_limit n cell statics) (sym (lowest_by_identity f.max_speed cell (pos f.length_cm) f.held.items kept.distinct))
+      ∙ ap (λ n. lowest_limit n cell statics)
+      (sym (lowest_by_identity f.max_speed cell (pos f.length_cm) f.held.items kept.distinct))
       ∙ sym (lowest_limit-append f.max_speed cell statics
       (map (zone_of (pos f.length_cm)) (finite.values (profile_data_of f).restrictions)))
 
@@ -63,8 +77,11 @@ module _ (f : Inside) (kept : IsKeptProfile f) where
   mrsp_in_range cell = subst IsLimit (zones_at cell) (limit_in_range f.max_speed cell zones kept.in_range.top each)
 
   -- a fall lies on the track, and its speed is a limit
-  pub fall_in_range : (after : ℤ) (next : Option Fall) → MatchOption next (HasNoFall (mrsp_of (profile_data_of f)) after) (IsNextFall (mrsp_of (profile_data_of f)) after) → IfSome next IsFallInRange
+  pub fall_in_range : (after : ℤ) (next : Option Fall) → MatchOption next
+      (HasNoFall (mrsp_of (profile_data_of f)) after) (IsNextFall (mrsp_of (profile_data_of f)) after) →
+      IfSome next IsFallInRange
   fall_in_range after None h = tt
   fall_in_range after (Some fall) h =
-      let begins = start_on_track zones fall.cell each (starts_at_fall f.max_speed zones fall.cell (subst (λ (profile : ℤ → ℕ). is_fall profile fall.cell ≡ true) (sym zones_mrsp) h.falls)) in
+      let begins = start_on_track zones fall.cell each (starts_at_fall f.max_speed zones fall.cell
+      (subst (λ (profile : ℤ → ℕ). is_fall profile fall.cell ≡ true) (sym zones_mrsp) h.falls)) in
       record { not_before = begins.0; on_track = begins.1; limited = rw h.lower (mrsp_in_range fall.cell) }

@@ -1,6 +1,7 @@
--- The lowest speed of consecutive cells is that of the steps that they lie in: of the first cell's, and of each that starts at or before
--- the last.
-use Rattle.std.proofs.Common.{◌≡◌, ℕ, zero, suc, ℤ, pos, List, [], ◌∷◌, min, int_le, if◌then◌else◌, ◌≤◌, ◌+ℤ◌, ◌≤ℤ◌, ◌<ℤ◌, refl, arith}
+-- The lowest speed of consecutive cells is that of the steps that they lie in: of the first cell's, and of each that
+-- starts at or before the last.
+use Rattle.std.proofs.Common.{◌≡◌, ℕ, zero, suc, ℤ, pos, List, [], ◌∷◌, min, int_le, if◌then◌else◌, ◌≤◌, ◌+ℤ◌, ◌≤ℤ◌}
+use Rattle.std.proofs.Common.{◌<ℤ◌, refl, arith}
 use Rattle.std.proofs.lemmas.Int.{ints, by_lt_z}
 use Rattle.sdm_num.proofs.Comparisons.{le_is, not_le_is}
 use Rattle.sdm_rules.specs.Cells.{lowest}
@@ -9,9 +10,11 @@ use Rattle.sdm_speed.specs.Steps.{AreAfter, speeds_of}
 use Rattle.sdm_speed.proofs.StepLaws.{first_begun, none_begun}
 
 -- speeds that are the same from a cell on have the same lowest
-pub lowest_same : (f g : ℤ → ℕ) (from : ℤ) (n : ℕ) → ((c : ℤ) → from ≤ℤ c → f c ≡ g c) → lowest min f from n ≡ lowest min g from n
+pub lowest_same : (f g : ℤ → ℕ) (from : ℤ) (n : ℕ) → ((c : ℤ) → from ≤ℤ c → f c ≡ g c) →
+    lowest min f from n ≡ lowest min g from n
 lowest_same f g from zero same = same from (omega (arith, ints))
-lowest_same f g from (suc n) same = rw (same from (omega (arith, ints)), lowest_same f g (from +ℤ pos 1) n (λ c l. same c (omega (arith, ints)))) refl
+lowest_same f g from (suc n) same =
+    rw (same from (omega (arith, ints)), lowest_same f g (from +ℤ pos 1) n (λ c l. same c (omega (arith, ints)))) refl
 
 -- it is at most the first
 lowest_first : (f : ℤ → ℕ) (from : ℤ) (n : ℕ) → lowest min f from n ≤ f from
@@ -23,17 +26,20 @@ abbrev pub lowest_to : ℕ → List Step → ℤ → ℕ
 lowest_to low [] to = low
 lowest_to low (s ∷ ss) to = let more = lowest_to (min low s.speed) ss to in if int_le s.start to then more else low
 
-pub lowest_on : (low : ℕ) (s : Step) (ss : List Step) (to : ℤ) → s.start ≤ℤ to → lowest_to low (s ∷ ss) to ≡ lowest_to (min low s.speed) ss to
+pub lowest_on : (low : ℕ) (s : Step) (ss : List Step) (to : ℤ) → s.start ≤ℤ to →
+    lowest_to low (s ∷ ss) to ≡ lowest_to (min low s.speed) ss to
 lowest_on low s ss to le = rw (le_is s.start to le) refl
 
 pub lowest_end : (low : ℕ) (s : Step) (ss : List Step) (to : ℤ) → to <ℤ s.start → lowest_to low (s ∷ ss) to ≡ low
 lowest_end low s ss to lt = rw (not_le_is s.start to lt) refl
 
-lowest_to_is : (low v : ℕ) (ss : List Step) (from : ℤ) (n : ℕ) (to : ℤ) → to ≡ from +ℤ pos n → AreAfter from ss → low ≤ v → min low (lowest min (speeds_of v ss) from n) ≡ lowest_to low ss to
+lowest_to_is : (low v : ℕ) (ss : List Step) (from : ℤ) (n : ℕ) (to : ℤ) → to ≡ from +ℤ pos n → AreAfter from ss →
+    low ≤ v → min low (lowest min (speeds_of v ss) from n) ≡ lowest_to low ss to
 lowest_to_is low v [] from zero to is after le = omega arith
 lowest_to_is low v (s ∷ ss) from zero to is after le =
     let past = after.0 in
-    rw (not_le_is s.start to (omega (arith, ints)), none_begun from v (s ∷ ss) from after (omega (arith, ints))) (omega arith)
+    rw (not_le_is s.start to (omega (arith, ints)), none_begun from v (s ∷ ss) from after (omega (arith, ints)))
+    (omega arith)
 lowest_to_is low v [] from (suc n) to is after le =
     let rest = lowest_to_is low v [] (from +ℤ pos 1) n to (omega (arith, ints)) tt le in omega arith
 lowest_to_is low v (s ∷ ss) from (suc n) to is after le =
@@ -47,12 +53,14 @@ lowest_to_is low v (s ∷ ss) from (suc n) to is after le =
     let here : from +ℤ pos 1 ≡ s.start = omega (arith, ints) in
     let first = none_begun from v (s ∷ ss) from after (omega (arith, ints)) in
     let rest = lowest_to_is (min low s.speed) s.speed ss s.start n to (omega (arith, ints)) after.1 (omega arith) in
-    let same : lowest min (speeds_of v (s ∷ ss)) s.start n ≡ lowest min (speeds_of s.speed ss) s.start n = lowest_same _ _ s.start n (λ c l. first_begun v s ss c l) in
+    let same : lowest min (speeds_of v (s ∷ ss)) s.start n
+    ≡ lowest min (speeds_of s.speed ss) s.start n = lowest_same _ _ s.start n (λ c l. first_begun v s ss c l) in
     let most = lowest_first (speeds_of s.speed ss) s.start n in
     let start_is = none_begun s.start s.speed ss s.start after.1 (omega (arith, ints)) in
     rw (le_is s.start to (omega (arith, ints)), first, here, same, ← rest) (omega arith))
 
-pub lowest_of_steps : (v : ℕ) (ss : List Step) (from : ℤ) (n : ℕ) (to : ℤ) → to ≡ from +ℤ pos n → AreAfter from ss → lowest min (speeds_of v ss) from n ≡ lowest_to v ss to
+pub lowest_of_steps : (v : ℕ) (ss : List Step) (from : ℤ) (n : ℕ) (to : ℤ) → to ≡ from +ℤ pos n → AreAfter from ss →
+    lowest min (speeds_of v ss) from n ≡ lowest_to v ss to
 lowest_of_steps v ss from n to is after =
     let whole = lowest_to_is v v ss from n to is after (omega arith) in
     let most = lowest_first (speeds_of v ss) from n in

@@ -1,6 +1,9 @@
--- A step that is put where it starts, with the speed that holds there, changes no speed: before its start it says nothing, and from there
--- on it says what held. Where both ends of a zone were put, the zone covers the steps from the one to the other.
-use Rattle.std.proofs.Common.{◌≡◌, ◌⊎◌, ℕ, zero, suc, ℤ, List, [], ◌∷◌, length, get_or, take, Bool, true, false, if◌then◌else◌, int_le, Option, Some, None, inl, inr, ◌<◌, ◌≤◌, ◌≤ℤ◌, ◌<ℤ◌, refl, sym, ap, ◌∙◌, arith}
+-- A step that is put where it starts, with the speed that holds there, changes no speed: before its start it says
+-- nothing, and from there on it says what held. Where both ends of a zone were put, the zone covers the steps from the
+-- one to the other.
+use Rattle.std.proofs.Common.{◌≡◌, ◌⊎◌, ℕ, zero, suc, ℤ, List, [], ◌∷◌, length, get_or, take, Bool, true, false}
+use Rattle.std.proofs.Common.{if◌then◌else◌, int_le, Option, Some, None, inl, inr, ◌<◌, ◌≤◌, ◌≤ℤ◌, ◌<ℤ◌, refl, sym, ap}
+use Rattle.std.proofs.Common.{◌∙◌, arith}
 use Rattle.std.specs.List.{insert}
 use Rattle.std.proofs.lemmas.Bool.{cases_lt}
 use Rattle.std.proofs.lemmas.Int.{ints, by_lt_z}
@@ -8,7 +11,8 @@ use Rattle.std.proofs.lemmas.List.{get_or-take}
 use Rattle.sdm_num.proofs.Comparisons.{le_is, lt_is, not_le_is, not_lt_is}
 use Rattle.sdm_rules.specs.Profile.{Zone, covers}
 use Rattle.sdm_speed.specs.declared.steps.Step.{Step}
-use Rattle.sdm_speed.specs.Steps.{AreAfter, AreCovered, AreRising, ArePartedAt, IsSplit, IsSplitAt, IsStart, KeepsStarts, speed_to, speeds_of}
+use Rattle.sdm_speed.specs.Steps.{AreAfter, AreCovered, AreRising, ArePartedAt, IsSplit, IsSplitAt, IsStart}
+use Rattle.sdm_speed.specs.Steps.{KeepsStarts, speed_to, speeds_of}
 use Rattle.sdm_speed.proofs.StepLaws.{first_begun, none}
 
 either : (b : Bool) (v : ℕ) → (if b then v else v) ≡ v
@@ -22,20 +26,26 @@ same_speed : (x : Step) (v : ℕ) (c : ℤ) → x.speed ≡ v → (if int_le x.s
 same_speed x v c is = rw is (either (int_le x.start c) v)
 
 -- before its start
-insert_past : (x : Step) (v : ℕ) (ss : List Step) (i : ℕ) (c : ℤ) → c <ℤ x.start → speeds_of v (insert ss i x) c ≡ speeds_of v ss c
+insert_past : (x : Step) (v : ℕ) (ss : List Step) (i : ℕ) (c : ℤ) → c <ℤ x.start →
+    speeds_of v (insert ss i x) c ≡ speeds_of v ss c
 insert_past x v ss zero c lt = ap (λ w. speeds_of w ss c) (not_begun x v c lt)
 insert_past x v [] (suc i) c lt = not_begun x v c lt
 insert_past x v (s ∷ ss) (suc i) c lt = insert_past x (if int_le s.start c then s.speed else v) ss i c lt
 
 -- where all steps before it have begun
-insert_begun : (x : Step) (v : ℕ) (ss : List Step) (i : ℕ) (c : ℤ) → x.speed ≡ speed_to v ss i → ((k : ℕ) (d : Step) → k < i → k < length ss → (get_or ss k d).start ≤ℤ c) → speeds_of v (insert ss i x) c ≡ speeds_of v ss c
+insert_begun : (x : Step) (v : ℕ) (ss : List Step) (i : ℕ) (c : ℤ) → x.speed ≡ speed_to v ss i →
+    ((k : ℕ) (d : Step) → k < i → k < length ss → (get_or ss k d).start ≤ℤ c) →
+    speeds_of v (insert ss i x) c ≡ speeds_of v ss c
 insert_begun x v ss zero c is begun = ap (λ w. speeds_of w ss c) (same_speed x v c is)
 insert_begun x v [] (suc i) c is begun = same_speed x v c is
 insert_begun x v (s ∷ ss) (suc i) c is begun =
     let here = begun 0 s (omega arith) (omega arith) in
-    first_begun v s (insert ss i x) c here ∙ insert_begun x s.speed ss i c is (λ k d l m. begun (suc k) d (omega arith) (omega arith)) ∙ sym (first_begun v s ss c here)
+    first_begun v s (insert ss i x) c here ∙ insert_begun x s.speed ss i c is
+    (λ k d l m. begun (suc k) d (omega arith) (omega arith)) ∙ sym (first_begun v s ss c here)
 
-pub insert_same : (x : Step) (v : ℕ) (ss : List Step) (i : ℕ) (c : ℤ) → x.speed ≡ speed_to v ss i → ((k : ℕ) (d : Step) → k < i → k < length ss → (get_or ss k d).start <ℤ x.start) → speeds_of v (insert ss i x) c ≡ speeds_of v ss c
+pub insert_same : (x : Step) (v : ℕ) (ss : List Step) (i : ℕ) (c : ℤ) → x.speed ≡ speed_to v ss i →
+    ((k : ℕ) (d : Step) → k < i → k < length ss → (get_or ss k d).start <ℤ x.start) →
+    speeds_of v (insert ss i x) c ≡ speeds_of v ss c
 insert_same x v ss i c is before =
     by_lt_z c x.start
     (λ (lt : c <ℤ x.start). insert_past x v ss i c lt)
@@ -43,19 +53,27 @@ insert_same x v ss i c is before =
 
 -- the starts still rise
 module _ (x : Step) where
-  insert_after : (cell : ℤ) (ss : List Step) (i : ℕ) → AreAfter cell ss → cell <ℤ x.start → ((k : ℕ) (d : Step) → k < i → k < length ss → (get_or ss k d).start <ℤ x.start) → ((d : Step) → i < length ss → x.start <ℤ (get_or ss i d).start) → AreAfter cell (insert ss i x)
+  insert_after : (cell : ℤ) (ss : List Step) (i : ℕ) → AreAfter cell ss → cell <ℤ x.start →
+      ((k : ℕ) (d : Step) → k < i → k < length ss → (get_or ss k d).start <ℤ x.start) →
+      ((d : Step) → i < length ss → x.start <ℤ (get_or ss i d).start) → AreAfter cell (insert ss i x)
   insert_after cell [] zero after past before later = (past, tt)
   insert_after cell [] (suc i) after past before later = (past, tt)
   insert_after cell (s ∷ ss) zero after past before later = (past, (later s (omega arith), after.1))
-  insert_after cell (s ∷ ss) (suc i) after past before later =
-      (after.0, insert_after s.start ss i after.1 (before 0 s (omega arith) (omega arith)) (λ k d l m. before (suc k) d (omega arith) (omega arith)) (λ d l. later d (omega arith)))
+  insert_after cell (s ∷ ss) (suc i) after past before later = (
+    after.0,
+    insert_after s.start ss i after.1 (before 0 s (omega arith) (omega arith))
+        (λ k d l m. before (suc k) d (omega arith) (omega arith)) (λ d l. later d (omega arith)),
+  )
 
-  pub insert_rising : (ss : List Step) (i : ℕ) → AreRising ss → ((k : ℕ) (d : Step) → k < i → k < length ss → (get_or ss k d).start <ℤ x.start) → ((d : Step) → i < length ss → x.start <ℤ (get_or ss i d).start) → AreRising (insert ss i x)
+  pub insert_rising : (ss : List Step) (i : ℕ) → AreRising ss →
+      ((k : ℕ) (d : Step) → k < i → k < length ss → (get_or ss k d).start <ℤ x.start) →
+      ((d : Step) → i < length ss → x.start <ℤ (get_or ss i d).start) → AreRising (insert ss i x)
   insert_rising [] zero rising before later = tt
   insert_rising [] (suc i) rising before later = tt
   insert_rising (s ∷ ss) zero rising before later = (later s (omega arith), rising)
   insert_rising (s ∷ ss) (suc i) rising before later =
-      insert_after s.start ss i rising (before 0 s (omega arith) (omega arith)) (λ k d l m. before (suc k) d (omega arith) (omega arith)) (λ d l. later d (omega arith))
+      insert_after s.start ss i rising (before 0 s (omega arith) (omega arith))
+      (λ k d l m. before (suc k) d (omega arith) (omega arith)) (λ d l. later d (omega arith))
 
   -- it starts where it starts, and no start is lost
   pub insert_start : (ss : List Step) (i : ℕ) → IsStart x.start (insert ss i x)
@@ -79,7 +97,10 @@ module _ (x : Step) where
   insert_only (s ∷ ss) zero c (inl e) = inl (sym e)
   insert_only (s ∷ ss) zero c (inr later) = inr later
   insert_only (s ∷ ss) (suc i) c (inl e) = inr (inl e)
-  insert_only (s ∷ ss) (suc i) c (inr later) = elim (insert_only ss i c later) [ inl e ↦ inl e | inr rest ↦ inr (inr rest) ]
+  insert_only (s ∷ ss) (suc i) c (inr later) = elim (insert_only ss i c later) [
+    | inl e ↦ inl e
+    | inr rest ↦ inr (inr rest)
+  ]
 
 -- each step has a start
 pub index_is_start : (ss : List Step) (i : ℕ) (d : Step) → i < length ss → IsStart (get_or ss i d).start ss
@@ -91,12 +112,14 @@ index_is_start (s ∷ ss) (suc i) d known = inr (index_is_start ss i d (omega ar
 
 -- the same index in lists that begin alike
 get_same : (xs ys : List Step) (i k : ℕ) (d : Step) → take i xs ≡ take i ys → k < i → get_or xs k d ≡ get_or ys k d
-get_same xs ys i k d same l = sym (get_or-take i xs k d l) ∙ ap (λ (ss : List Step). get_or ss k d) same ∙ get_or-take i ys k d l
+get_same xs ys i k d same l =
+    sym (get_or-take i xs k d l) ∙ ap (λ (ss : List Step). get_or ss k d) same ∙ get_or-take i ys k d l
 
 -- no more steps start before a cell than before a later one
 parted_earlier : (ss : List Step) (a b : ℤ) (i j : ℕ) → a ≤ℤ b → ArePartedAt a ss i → ArePartedAt b ss j → i ≤ j
 parted_earlier ss a b i j le first past = elim (cases_lt j i) [
-  | inl lt ↦ (let bound = first.bound in let before = first.before j none lt in let from = past.from j none (omega arith) (omega arith) in absurd (omega (arith, ints)))
+  | inl lt ↦ (let bound = first.bound in let before = first.before j none lt in let from =
+      past.from j none (omega arith) (omega arith) in absurd (omega (arith, ints)))
   | inr ge ↦ ge
 ]
 
@@ -119,12 +142,14 @@ module _ (limit : ℕ) where
       (λ (le : f ≤ℤ c). rw (le_is f c le, not_lt_is c p past) refl)
 
   -- from the first end up to the other; where that comes first, the zone covers nothing
-  between : (f p : ℤ) (old mid new : List Step) (from to : ℕ) → IsSplitAt f old mid from → IsSplitAt p mid new to → AreCovered (zone (Some f) (Some p)) new from to
+  between : (f p : ℤ) (old mid new : List Step) (from to : ℕ) → IsSplitAt f old mid from → IsSplitAt p mid new to →
+      AreCovered (zone (Some f) (Some p)) new from to
   between f p old mid new from to first past =
       by_lt_z p f
       (λ (lt : p <ℤ f).
       let none_of = parted_earlier mid p f to from (omega (arith, ints)) past.parted_before first.parted in
-      let off : (c : ℤ) → covers c (zone (Some f) (Some p)) ≡ false = λ c. by_lt_z c f (λ (l : c <ℤ f). cell_before f c (Some p) l) (λ (l : f ≤ℤ c). cell_past f p c (omega (arith, ints))) in
+      let off : (c : ℤ) → covers c (zone (Some f) (Some p)) ≡ false = λ c. by_lt_z c f
+      (λ (l : c <ℤ f). cell_before f c (Some p) l) (λ (l : f ≤ℤ c). cell_past f p c (omega (arith, ints))) in
       record {
         bound = past.parted.bound;
         before = λ k d l m. off _;
@@ -134,16 +159,20 @@ module _ (limit : ℕ) where
       (λ (le : f ≤ℤ p).
       let some = parted_earlier mid f p from to le first.parted past.parted_before in
       let bound = past.parted_before.bound in
-      let same : (k : ℕ) (d : Step) → k < to → get_or new k d ≡ get_or mid k d = λ k d l. get_same new mid to k d past.same_before l in
+      let same : (k : ℕ) (d : Step) → k < to →
+      get_or new k d ≡ get_or mid k d = λ k d l. get_same new mid to k d past.same_before l in
       record {
         bound = past.parted.bound;
         before = λ k d l m. cell_before f _ (Some p) (rw (same k d (omega arith)) (first.parted.before k d l));
-        within = λ k d l m. covered_cell f p _ (rw (same k d m) (first.parted.from k d l (omega arith))) (past.parted.before k d m);
+        within = λ k d l m.
+            covered_cell f p _ (rw (same k d m) (first.parted.from k d l (omega arith))) (past.parted.before k d m);
         past = λ k d l m. cell_past f p _ (past.parted.from k d l m);
       })
 
-  -- the zone covers the steps from where one end was put up to where the other was; an end that there isn't lies before or past all
-  pub split_covered : (first past : Option ℤ) (old mid new : List Step) (from to : ℕ) → IsSplit first 0 old mid from → IsSplit past (length mid) mid new to → AreCovered (zone first past) new from to
+  -- the zone covers the steps from where one end was put up to where the other was; an end that there isn't lies
+  -- before or past all
+  pub split_covered : (first past : Option ℤ) (old mid new : List Step) (from to : ℕ) → IsSplit first 0 old mid from →
+      IsSplit past (length mid) mid new to → AreCovered (zone first past) new from to
   split_covered None None old mid new from to one both =
       rw both.1 (record {
         bound = rw both.0 (omega arith);

@@ -1,5 +1,7 @@
--- A profile falls only where a zone begins: a zone that covers a cell and does not begin there covers the cell before it too.
-use Rattle.std.proofs.Common.{◌≡◌, ℕ, suc, ℤ, pos, List, [], ◌∷◌, Option, Some, None, Bool, true, false, ◌||◌, int_le, int_lt, if◌then◌else◌, min, ◌≤◌, ◌-ℤ◌, ◌≤ℤ◌, ◌<ℤ◌, refl, sym, ap, ◌∙◌, arith, All}
+-- A profile falls only where a zone begins: a zone that covers a cell and does not begin there covers the cell before
+-- it too.
+use Rattle.std.proofs.Common.{◌≡◌, ℕ, suc, ℤ, pos, List, [], ◌∷◌, Option, Some, None, Bool, true, false, ◌||◌, int_le}
+use Rattle.std.proofs.Common.{int_lt, if◌then◌else◌, min, ◌≤◌, ◌-ℤ◌, ◌≤ℤ◌, ◌<ℤ◌, refl, sym, ap, ◌∙◌, arith, All}
 use Rattle.std.specs.Option.{option_map_or}
 use Rattle.std.specs.Ordering.{int_eq}
 use Rattle.std.proofs.lemmas.Int.{ints, by_lt_z}
@@ -21,7 +23,8 @@ eq_of a b t = (Decides-int_eq a b).0 t
 
 -- ---- no fall where no zone begins
 
-begun_before : (first : Option ℤ) (c : ℤ) → option_map_or (int_eq c) first false ≡ false → option_map_or (λ f. int_le f c) first true ≡ true → option_map_or (λ f. int_le f (c -ℤ pos 1)) first true ≡ true
+begun_before : (first : Option ℤ) (c : ℤ) → option_map_or (int_eq c) first false ≡ false →
+    option_map_or (λ f. int_le f c) first true ≡ true → option_map_or (λ f. int_le f (c -ℤ pos 1)) first true ≡ true
 begun_before None c off on = refl
 begun_before (Some f) c off on =
     let begun = le_of f c on in
@@ -29,24 +32,29 @@ begun_before (Some f) c off on =
     (λ (l : f <ℤ c). le_is f (c -ℤ pos 1) (omega (arith, ints)))
     (λ (m : c ≤ℤ f). absurd (true≢false (sym (eq_is c f (omega (arith, ints))) ∙ off)))
 
-goes_on_before : (past : Option ℤ) (c : ℤ) → option_map_or (λ p. int_lt c p) past true ≡ true → option_map_or (λ p. int_lt (c -ℤ pos 1) p) past true ≡ true
+goes_on_before : (past : Option ℤ) (c : ℤ) → option_map_or (λ p. int_lt c p) past true ≡ true →
+    option_map_or (λ p. int_lt (c -ℤ pos 1) p) past true ≡ true
 goes_on_before None c on = refl
 goes_on_before (Some p) c on = lt_is (c -ℤ pos 1) p (omega (arith, ints, lt_of c p on))
 
 -- a zone that covers the cell and does not begin there
 covers_before : (z : Zone) (c : ℤ) → starts_at c z ≡ false → covers c z ≡ true → covers (c -ℤ pos 1) z ≡ true
-covers_before z c off on = and_from _ _ (begun_before z.first c off (and_parts _ _ on).0) (goes_on_before z.past c (and_parts _ _ on).1)
+covers_before z c off on =
+    and_from _ _ (begun_before z.first c off (and_parts _ _ on).0) (goes_on_before z.past c (and_parts _ _ on).1)
 
-capped_no_fall : (a b : Bool) (k m n : ℕ) → (b ≡ true → a ≡ true) → m ≤ n → (if a then min k m else m) ≤ (if b then min k n else n)
+capped_no_fall : (a b : Bool) (k m n : ℕ) → (b ≡ true → a ≡ true) → m ≤ n →
+    (if a then min k m else m) ≤ (if b then min k n else n)
 capped_no_fall true true k m n both le = omega arith
 capped_no_fall true false k m n both le = omega arith
 capped_no_fall false true k m n both le = absurd (true≢false (sym (both refl)))
 capped_no_fall false false k m n both le = le
 
-no_lower : (top : ℕ) (zs : List Zone) (c : ℤ) → has_start zs c ≡ false → lowest_limit top (c -ℤ pos 1) zs ≤ lowest_limit top c zs
+no_lower : (top : ℕ) (zs : List Zone) (c : ℤ) → has_start zs c ≡ false →
+    lowest_limit top (c -ℤ pos 1) zs ≤ lowest_limit top c zs
 no_lower top [] c off = omega arith
 no_lower top (z ∷ zs) c off =
-    capped_no_fall (covers (c -ℤ pos 1) z) (covers c z) z.limit _ _ (covers_before z c (or_parts _ _ off).0) (no_lower top zs c (or_parts _ _ off).1)
+    capped_no_fall (covers (c -ℤ pos 1) z) (covers c z) z.limit _ _ (covers_before z c (or_parts _ _ off).0)
+    (no_lower top zs c (or_parts _ _ off).1)
 
 pub no_fall : (top : ℕ) (zs : List Zone) (c : ℤ) → has_start zs c ≡ false → is_fall (zone_limits top zs) c ≡ false
 no_fall top zs c off = le-ltb _ _ (no_lower top zs c off)
@@ -59,11 +67,16 @@ start_is : (first : Option ℤ) (c : ℤ) → option_map_or (int_eq c) first fal
 start_is None c here = absurd cc
 start_is (Some f) c here = ap Some (sym (eq_of c f here))
 
-on_track_by : (z : Zone) (zs : List Zone) (c : ℤ) (b : Bool) → starts_at c z ≡ b → (b || has_start zs c) ≡ true → IsZone z → (has_start zs c ≡ true → (pos 0 ≤ℤ c) × (c <ℤ pos longest_track)) → (pos 0 ≤ℤ c) × (c <ℤ pos longest_track)
-on_track_by z zs c true here either zone rest = let first = start_is z.first c here in (zone.not_before c first, zone.on_track c first)
+on_track_by : (z : Zone) (zs : List Zone) (c : ℤ) (b : Bool) → starts_at c z ≡ b → (b || has_start zs c) ≡ true →
+    IsZone z → (has_start zs c ≡ true → (pos 0 ≤ℤ c) × (c <ℤ pos longest_track)) →
+    (pos 0 ≤ℤ c) × (c <ℤ pos longest_track)
+on_track_by z zs c true here either zone rest = let first =
+    start_is z.first c here in (zone.not_before c first, zone.on_track c first)
 on_track_by z zs c false here either zone rest = rest either
 
 -- on the longest track
-pub start_on_track : (zs : List Zone) (c : ℤ) → All IsZone zs → has_start zs c ≡ true → (pos 0 ≤ℤ c) × (c <ℤ pos longest_track)
+pub start_on_track : (zs : List Zone) (c : ℤ) → All IsZone zs → has_start zs c ≡ true →
+    (pos 0 ≤ℤ c) × (c <ℤ pos longest_track)
 start_on_track [] c each here = absurd cc
-start_on_track (z ∷ zs) c each here = on_track_by z zs c (starts_at c z) refl here (each 0 z (omega arith)) (start_on_track zs c (λ k d l. each (suc k) d (omega arith)))
+start_on_track (z ∷ zs) c each here = on_track_by z zs c (starts_at c z) refl here (each 0 z (omega arith))
+    (start_on_track zs c (λ k d l. each (suc k) d (omega arith)))

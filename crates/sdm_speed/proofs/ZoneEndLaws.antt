@@ -1,5 +1,7 @@
 -- The speeds under restrictions change only at ends of zones, and steps that start at these are no more than they.
-use Rattle.std.proofs.Common.{◌≡◌, ◌⊎◌, ℕ, zero, suc, ℤ, pos, List, [], ◌∷◌, ◌++◌, Some, map, length, get_or, Bool, int_le, int_lt, min, if◌then◌else◌, inl, inr, ◌+◌, ◌*◌, ◌<◌, ◌≤◌, ◌-ℤ◌, ◌≤ℤ◌, ◌<ℤ◌, refl, sym, ap, ◌∙◌, arith}
+use Rattle.std.proofs.Common.{◌≡◌, ◌⊎◌, ℕ, zero, suc, ℤ, pos, List, [], ◌∷◌, ◌++◌, Some, map, length, get_or, Bool}
+use Rattle.std.proofs.Common.{int_le, int_lt, min, if◌then◌else◌, inl, inr, ◌+◌, ◌*◌, ◌<◌, ◌≤◌, ◌-ℤ◌, ◌≤ℤ◌, ◌<ℤ◌, refl}
+use Rattle.std.proofs.Common.{sym, ap, ◌∙◌, arith}
 use Rattle.std.specs.List.{remove}
 use Rattle.std.proofs.lemmas.Int.{ints, by_lt_z}
 use Rattle.sdm_num.proofs.Comparisons.{le_is, not_le_is, lt_is, not_lt_is}
@@ -14,20 +16,23 @@ use Rattle.sdm_speed.proofs.ZoneLaws.{capped_in_any_order}
 -- ---- the ends of restrictions
 
 module _ (length_cm c : ℤ) where
-  pub end_at : (rs : List Restriction) (i : ℕ) (d : Restriction) → i < length rs → IsEnd length_cm c (get_or rs i d) → IsEndOfOne length_cm c rs
+  pub end_at : (rs : List Restriction) (i : ℕ) (d : Restriction) → i < length rs → IsEnd length_cm c (get_or rs i d) →
+      IsEndOfOne length_cm c rs
   end_at [] i d known end = absurd (omega arith)
   end_at (r ∷ rs) zero d known end = inl end
   end_at (r ∷ rs) (suc i) d known end = inr (end_at rs i d (omega arith) end)
 
   -- one restriction more at the end
-  pub end_more : (rs : List Restriction) (r : Restriction) → IsEndOfOne length_cm c rs ⊎ IsEnd length_cm c r → IsEndOfOne length_cm c (rs ++ r ∷ [])
+  pub end_more : (rs : List Restriction) (r : Restriction) → IsEndOfOne length_cm c rs ⊎ IsEnd length_cm c r →
+      IsEndOfOne length_cm c (rs ++ r ∷ [])
   end_more [] r (inl none) = absurd none
   end_more [] r (inr end) = inl end
   end_more (x ∷ xs) r (inl (inl end)) = inl end
   end_more (x ∷ xs) r (inl (inr later)) = inr (end_more xs r (inl later))
   end_more (x ∷ xs) r (inr end) = inr (end_more xs r (inr end))
 
-  pub end_of_more : (rs : List Restriction) (r : Restriction) → IsEndOfOne length_cm c (rs ++ r ∷ []) → IsEndOfOne length_cm c rs ⊎ IsEnd length_cm c r
+  pub end_of_more : (rs : List Restriction) (r : Restriction) → IsEndOfOne length_cm c (rs ++ r ∷ []) →
+      IsEndOfOne length_cm c rs ⊎ IsEnd length_cm c r
   end_of_more [] r (inl end) = inr end
   end_of_more [] r (inr none) = absurd none
   end_of_more (x ∷ xs) r (inl end) = inl (inl end)
@@ -41,7 +46,8 @@ module _ (length_cm c : ℤ) where
   end_among (r ∷ rs) (suc i) (inl end) = inl end
   end_among (r ∷ rs) (suc i) (inr later) = inr (end_among rs i later)
 
-  pub end_less : (rs : List Restriction) (i : ℕ) (d : Restriction) → IsEndOfOne length_cm c rs → IsEndOfOne length_cm c (remove rs i) ⊎ IsEnd length_cm c (get_or rs i d)
+  pub end_less : (rs : List Restriction) (i : ℕ) (d : Restriction) → IsEndOfOne length_cm c rs →
+      IsEndOfOne length_cm c (remove rs i) ⊎ IsEnd length_cm c (get_or rs i d)
   end_less [] i d end = absurd end
   end_less (r ∷ rs) zero d (inl end) = inr end
   end_less (r ∷ rs) zero d (inr later) = inl later
@@ -50,12 +56,14 @@ module _ (length_cm c : ℤ) where
 
 -- the one that is taken out lowers the limit of those that are left
 pub limit_less : (n : ℕ) (c length_cm : ℤ) (rs : List Restriction) (i : ℕ) (d : Restriction) → i < length rs →
-    lowest_limit n c (map (zone_of length_cm) rs) ≡ capped c (zone_of length_cm (get_or rs i d)) (lowest_limit n c (map (zone_of length_cm) (remove rs i)))
+    lowest_limit n c (map (zone_of length_cm) rs)
+    ≡ capped c (zone_of length_cm (get_or rs i d)) (lowest_limit n c (map (zone_of length_cm) (remove rs i)))
 limit_less n c length_cm [] i d known = absurd (omega arith)
 limit_less n c length_cm (r ∷ rs) zero d known = refl
 limit_less n c length_cm (r ∷ rs) (suc i) d known =
     ap (capped c (zone_of length_cm r)) (limit_less n c length_cm rs i d (omega arith))
-    ∙ capped_in_any_order c (zone_of length_cm r) (zone_of length_cm (get_or rs i d)) (lowest_limit n c (map (zone_of length_cm) (remove rs i)))
+    ∙ capped_in_any_order c (zone_of length_cm r) (zone_of length_cm (get_or rs i d))
+    (lowest_limit n c (map (zone_of length_cm) (remove rs i)))
 
 -- ---- steps that start at the ends of zones
 
@@ -65,7 +73,9 @@ zone_ends_none length_cm statics = record {
   no_other = λ c start. inl start;
 }
 
-pub zone_ends_more : (length_cm : ℤ) (statics : List Step) (held : List Restriction) (r : Restriction) (old new : List Step) → AreAtZoneEnds length_cm statics held old → HasStartsOf (zone_of length_cm r) old new → AreAtZoneEnds length_cm statics (held ++ r ∷ []) new
+pub zone_ends_more : (length_cm : ℤ) (statics : List Step) (held : List Restriction) (r : Restriction)
+    (old new : List Step) → AreAtZoneEnds length_cm statics held old → HasStartsOf (zone_of length_cm r) old new →
+    AreAtZoneEnds length_cm statics (held ++ r ∷ []) new
 zone_ends_more length_cm statics held r old new at starts = record {
   each = λ c zone_end. elim zone_end [
     | inl start ↦ starts.kept c (at.each c (inl start))
@@ -77,7 +87,8 @@ zone_ends_more length_cm statics held r old new at starts = record {
   no_other = λ c start. elim (starts.only c start) [
     | inl is ↦ (let e : pos r.start ≡ c = cc in inr (end_more length_cm c held r (inr (inl e))))
     | inr rest ↦ elim rest [
-      | inl is ↦ (let e : end_for length_cm r.delayed (pos r.end) ≡ c = cc in inr (end_more length_cm c held r (inr (inr e))))
+      | inl is ↦
+          (let e : end_for length_cm r.delayed (pos r.end) ≡ c = cc in inr (end_more length_cm c held r (inr (inr e))))
       | inr before ↦ elim (at.no_other c before) [
         | inl static ↦ inl static
         | inr one ↦ inr (end_more length_cm c held r (inl one))
@@ -86,12 +97,17 @@ zone_ends_more length_cm statics held r old new at starts = record {
   ];
 }
 
-module _ (length_cm : ℤ) (statics : List Step) (held : List Restriction) (i : ℕ) (steps : List Step) (at : AreAtZoneEnds length_cm statics held steps) (c : ℤ) where
+module _ (length_cm : ℤ) (statics : List Step) (held : List Restriction) (i : ℕ) (steps : List Step)
+    (at : AreAtZoneEnds length_cm statics held steps) (c : ℤ) where
   -- what is left when a restriction is taken out
   pub each_left : IsZoneEnd length_cm statics (remove held i) c → IsStart c steps
-  each_left zone_end = elim zone_end [ inl static ↦ at.each c (inl static) | inr end ↦ at.each c (inr (end_among length_cm c held i end)) ]
+  each_left zone_end = elim zone_end [
+    | inl static ↦ at.each c (inl static)
+    | inr end ↦ at.each c (inr (end_among length_cm c held i end))
+  ]
 
-  pub no_other_left : (d : Restriction) → IsStart c steps → IsZoneEnd length_cm statics (remove held i) c ⊎ IsEnd length_cm c (get_or held i d)
+  pub no_other_left : (d : Restriction) → IsStart c steps →
+      IsZoneEnd length_cm statics (remove held i) c ⊎ IsEnd length_cm c (get_or held i d)
   no_other_left d start = elim (at.no_other c start) [
     | inl static ↦ inl (inl static)
     | inr end ↦ elim (end_less length_cm c held i d end) [ inl one ↦ inl (inr one) | inr here ↦ inr here ]
@@ -124,17 +140,25 @@ starts_same v (s ∷ ss) c off =
 capped_same : (a b : Bool) (k m n : ℕ) → a ≡ b → m ≡ n → (if a then min k m else m) ≡ (if b then min k n else n)
 capped_same a b k m n same rest = rw (same, rest) refl
 
-covers_same : (length_cm c : ℤ) (r : Restriction) → (IsEnd length_cm c r → ⊥) → covers c (zone_of length_cm r) ≡ covers (c -ℤ pos 1) (zone_of length_cm r)
-covers_same length_cm c r off = rw (le_same (pos r.start) c (λ e. off (inl e)), lt_same (end_for length_cm r.delayed (pos r.end)) c (λ e. off (inr e))) refl
+covers_same : (length_cm c : ℤ) (r : Restriction) → (IsEnd length_cm c r → ⊥) →
+    covers c (zone_of length_cm r) ≡ covers (c -ℤ pos 1) (zone_of length_cm r)
+covers_same length_cm c r off = rw (
+  le_same (pos r.start) c (λ e. off (inl e)),
+  lt_same (end_for length_cm r.delayed (pos r.end)) c (λ e. off (inr e)),
+) refl
 
-ends_same : (length_cm : ℤ) (n : ℕ) (rs : List Restriction) (c : ℤ) → (IsEndOfOne length_cm c rs → ⊥) → lowest_limit n c (map (zone_of length_cm) rs) ≡ lowest_limit n (c -ℤ pos 1) (map (zone_of length_cm) rs)
+ends_same : (length_cm : ℤ) (n : ℕ) (rs : List Restriction) (c : ℤ) → (IsEndOfOne length_cm c rs → ⊥) →
+    lowest_limit n c (map (zone_of length_cm) rs) ≡ lowest_limit n (c -ℤ pos 1) (map (zone_of length_cm) rs)
 ends_same length_cm n [] c off = refl
 ends_same length_cm n (r ∷ rs) c off =
-    capped_same (covers c (zone_of length_cm r)) (covers (c -ℤ pos 1) (zone_of length_cm r)) r.speed _ _ (covers_same length_cm c r (λ end. off (inl end))) (ends_same length_cm n rs c (λ later. off (inr later)))
+    capped_same (covers c (zone_of length_cm r)) (covers (c -ℤ pos 1) (zone_of length_cm r)) r.speed _ _
+    (covers_same length_cm c r (λ end. off (inl end))) (ends_same length_cm n rs c (λ later. off (inr later)))
 
-limit_before : (length_cm : ℤ) (n : ℕ) (rs : List Restriction) (c : ℤ) → ((b : ℤ) → IsEndOfOne length_cm b rs → c <ℤ b) → lowest_limit n c (map (zone_of length_cm) rs) ≡ n
+limit_before : (length_cm : ℤ) (n : ℕ) (rs : List Restriction) (c : ℤ) →
+    ((b : ℤ) → IsEndOfOne length_cm b rs → c <ℤ b) → lowest_limit n c (map (zone_of length_cm) rs) ≡ n
 limit_before length_cm n [] c past = refl
-limit_before length_cm n (r ∷ rs) c past = rw (not_le_is (pos r.start) c (past (pos r.start) (inl (inl refl)))) (limit_before length_cm n rs c (λ b later. past b (inr later)))
+limit_before length_cm n (r ∷ rs) c past = rw (not_le_is (pos r.start) c (past (pos r.start) (inl (inl refl))))
+    (limit_before length_cm n rs c (λ b later. past b (inr later)))
 
 after_all_starts : (c : ℤ) (ss : List Step) → AreRising ss → ((b : ℤ) → IsStart b ss → c <ℤ b) → AreAfter c ss
 after_all_starts c [] rising past = tt
@@ -143,19 +167,25 @@ after_all_starts c (s ∷ ss) rising past = (past s.start (inl refl), rising)
 start_past : (c b : ℤ) (ss : List Step) → AreAfter c ss → IsStart b ss → c <ℤ b
 start_past c b [] after start = absurd start
 start_past c b (s ∷ ss) after (inl e) = let first = after.0 in omega (arith, ints)
-start_past c b (s ∷ ss) after (inr later) = let first = after.0 in let rest = start_past s.start b ss after.1 later in omega (arith, ints)
+start_past c b (s ∷ ss) after (inr later) = let first = after.0 in let rest =
+    start_past s.start b ss after.1 later in omega (arith, ints)
 
 module _ (length_cm : ℤ) (v : ℕ) (statics : List Step) (held : List Restriction) where
   -- no end of a zone, no change
-  pub under_same : (c : ℤ) → (IsZoneEnd length_cm statics held c → ⊥) → speed_under length_cm v statics held c ≡ speed_under length_cm v statics held (c -ℤ pos 1)
+  pub under_same : (c : ℤ) → (IsZoneEnd length_cm statics held c → ⊥) →
+      speed_under length_cm v statics held c ≡ speed_under length_cm v statics held (c -ℤ pos 1)
   under_same c off =
       ap (λ n. lowest_limit n c (map (zone_of length_cm) held)) (starts_same v statics c (λ start. off (inl start)))
       ∙ ends_same length_cm (speeds_of v statics (c -ℤ pos 1)) held c (λ end. off (inr end))
 
   -- before all ends of zones
-  pub under_before : (c : ℤ) (ss : List Step) → AreRising statics → ((b : ℤ) → IsZoneEnd length_cm statics held b → IsStart b ss) → AreAfter c ss → speed_under length_cm v statics held c ≡ v
+  pub under_before : (c : ℤ) (ss : List Step) → AreRising statics →
+      ((b : ℤ) → IsZoneEnd length_cm statics held b → IsStart b ss) → AreAfter c ss →
+      speed_under length_cm v statics held c ≡ v
   under_before c ss rising each after =
-      ap (λ n. lowest_limit n c (map (zone_of length_cm) held)) (none_begun c v statics c (after_all_starts c statics rising (λ b start. start_past c b ss after (each b (inl start)))) (omega (arith, ints)))
+      ap (λ n. lowest_limit n c (map (zone_of length_cm) held))
+      (none_begun c v statics c (after_all_starts c statics rising
+      (λ b start. start_past c b ss after (each b (inl start)))) (omega (arith, ints)))
       ∙ limit_before length_cm v held c (λ b end. start_past c b ss after (each b (inr end)))
 
 -- ---- how many
@@ -164,7 +194,8 @@ abbrev begun : ℤ → ℤ → ℕ
 begun b at = if int_le b at then 1 else 0
 
 begun_most : (b at : ℤ) → begun b at ≤ 1
-begun_most b at = by_lt_z at b (λ (l : at <ℤ b). rw (not_le_is b at l) (omega arith)) (λ (g : b ≤ℤ at). rw (le_is b at g) (omega arith))
+begun_most b at = by_lt_z at b (λ (l : at <ℤ b). rw (not_le_is b at l) (omega arith))
+    (λ (g : b ≤ℤ at). rw (le_is b at g) (omega arith))
 
 begun_rises : (b at c : ℤ) → at ≤ℤ c → begun b at ≤ begun b c
 begun_rises b at c le =
@@ -192,8 +223,10 @@ steps_rise (s ∷ ss) at c le = omega (arith, begun_rises s.start at c le, steps
 steps_more : (ss : List Step) (at c : ℤ) → at <ℤ c → IsStart c ss → passed_steps ss at + 1 ≤ passed_steps ss c
 unfolding passed_steps
 steps_more [] at c lt start = absurd start
-steps_more (s ∷ ss) at c lt (inl e) = omega (arith, begun_here s.start at c lt e, steps_rise ss at c (omega (arith, ints)))
-steps_more (s ∷ ss) at c lt (inr later) = omega (arith, begun_rises s.start at c (omega (arith, ints)), steps_more ss at c lt later)
+steps_more (s ∷ ss) at c lt (inl e) =
+    omega (arith, begun_here s.start at c lt e, steps_rise ss at c (omega (arith, ints)))
+steps_more (s ∷ ss) at c lt (inr later) =
+    omega (arith, begun_rises s.start at c (omega (arith, ints)), steps_more ss at c lt later)
 
 module _ (length_cm : ℤ) where
   abbrev past_of : Restriction → ℤ
@@ -211,9 +244,11 @@ module _ (length_cm : ℤ) where
   ends_rise : (rs : List Restriction) (at c : ℤ) → at ≤ℤ c → passed_ends rs at ≤ passed_ends rs c
   unfolding passed_ends
   ends_rise [] at c le = omega arith
-  ends_rise (r ∷ rs) at c le = omega (arith, begun_rises (pos r.start) at c le, begun_rises (past_of r) at c le, ends_rise rs at c le)
+  ends_rise (r ∷ rs) at c le =
+      omega (arith, begun_rises (pos r.start) at c le, begun_rises (past_of r) at c le, ends_rise rs at c le)
 
-  ends_more : (rs : List Restriction) (at c : ℤ) → at <ℤ c → IsEndOfOne length_cm c rs → passed_ends rs at + 1 ≤ passed_ends rs c
+  ends_more : (rs : List Restriction) (at c : ℤ) → at <ℤ c → IsEndOfOne length_cm c rs →
+      passed_ends rs at + 1 ≤ passed_ends rs c
   unfolding passed_ends
   ends_more [] at c lt end = absurd end
   ends_more (r ∷ rs) at c lt (inl (inl e)) =
@@ -227,11 +262,16 @@ module _ (length_cm : ℤ) where
       omega (arith, begun_rises (pos r.start) at c le, begun_rises (past_of r) at c le, ends_more rs at c lt later)
 
   module _ (statics : List Step) (held : List Restriction) where
-    one_more : (at c : ℤ) → at <ℤ c → IsZoneEnd length_cm statics held c → (passed_steps statics at + passed_ends held at) + 1 ≤ passed_steps statics c + passed_ends held c
-    one_more at c lt (inl start) = omega (arith, steps_more statics at c lt start, ends_rise held at c (omega (arith, ints)))
-    one_more at c lt (inr end) = omega (arith, steps_rise statics at c (omega (arith, ints)), ends_more held at c lt end)
+    one_more : (at c : ℤ) → at <ℤ c → IsZoneEnd length_cm statics held c →
+        (passed_steps statics at + passed_ends held at) + 1 ≤ passed_steps statics c + passed_ends held c
+    one_more at c lt (inl start) =
+        omega (arith, steps_more statics at c lt start, ends_rise held at c (omega (arith, ints)))
+    one_more at c lt (inr end) =
+        omega (arith, steps_rise statics at c (omega (arith, ints)), ends_more held at c lt end)
 
-    few_after : (at : ℤ) (ss : List Step) → AreAfter at ss → ((c : ℤ) → IsStart c ss → IsZoneEnd length_cm statics held c) → length ss + (passed_steps statics at + passed_ends held at) ≤ length statics + 2 * length held
+    few_after : (at : ℤ) (ss : List Step) → AreAfter at ss →
+        ((c : ℤ) → IsStart c ss → IsZoneEnd length_cm statics held c) →
+        length ss + (passed_steps statics at + passed_ends held at) ≤ length statics + 2 * length held
     few_after at [] after no_other = omega (arith, steps_most statics at, ends_most held at)
     few_after at (s ∷ ss) after no_other =
         let here = one_more at s.start after.0 (no_other s.start (inl refl)) in
@@ -239,7 +279,9 @@ module _ (length_cm : ℤ) where
         omega (arith, here, rest)
 
     -- each start is another end of a zone
-    pub few_starts : (ss : List Step) → AreRising ss → AreAtZoneEnds length_cm statics held ss → length ss ≤ length statics + 2 * length held
+    pub few_starts : (ss : List Step) → AreRising ss → AreAtZoneEnds length_cm statics held ss →
+        length ss ≤ length statics + 2 * length held
     few_starts [] rising zone_ends = omega arith
     few_starts (s ∷ ss) rising zone_ends =
-        let few = few_after (s.start -ℤ pos 1) (s ∷ ss) (omega (arith, ints), rising) zone_ends.no_other in omega (arith, few)
+        let few = few_after (s.start -ℤ pos 1) (s ∷ ss) (omega (arith, ints), rising) zone_ends.no_other
+        in omega (arith, few)

@@ -13,8 +13,8 @@ use Rattle.sdm_rules.specs.Ranges.{longest_track, longest_train}
 use Rattle.sdm_track.specs.Ranges.{AreSpeeds}
 use Rattle.sdm_speed.specs.Zones.{IsLimit}
 
--- the maximum train speed in km/h, the lengths of train and track in cm, the static speed profile, and the temporary restrictions in
--- force by identity (SUBSET-026-3 3.13.7)
+-- the maximum train speed in km/h, the lengths of train and track in cm, the static speed profile, and the temporary
+-- restrictions in force by identity (SUBSET-026-3 3.13.7)
 pub record ProfileData : Type 0 where
   pub max_speed : ℕ
   pub length_cm : ℤ
@@ -32,12 +32,13 @@ new_profile track max_speed length_cm = record {
   restrictions = finite.empty;
 }
 
--- the speed limits of a profile: of the static speed profile, and of the temporary restrictions (SUBSET-026-3 3.13.7; own cell form)
+-- the speed limits of a profile: of the static speed profile, and of the temporary restrictions (SUBSET-026-3 3.13.7;
+-- own cell form)
 abbrev pub zones_of : ProfileData → List Zone
 zones_of p = zones_of_track p.length_cm p.speeds ++ map (zone_of p.length_cm) (finite.values p.restrictions)
 
--- the MRSP of a cell in km/h: that of the definition for a train of this maximum speed and length, a track of this static speed
--- profile, and these restrictions (SUBSET-026-3 3.13.7; own cell form)
+-- the MRSP of a cell in km/h: that of the definition for a train of this maximum speed and length, a track of this
+-- static speed profile, and these restrictions (SUBSET-026-3 3.13.7; own cell form)
 abbrev pub mrsp_of : ProfileData → ℤ → ℕ
 mrsp_of p cell = lowest_limit p.max_speed cell (zones_of p)
 
@@ -61,7 +62,8 @@ coded_step =
 -- profiles as such tuples (own)
 abbrev pub coded_profile : Coded ProfileData
 coded_profile =
-    code_by ((ℕ × (ℤ × ℤ)) × (List SpeedStep × finite.FinMap nat_cmp Restriction)) (coded× (coded× coded_ℕ (coded× coded_ℤ coded_ℤ)) (coded× (coded_list coded_step) coded_restrictions))
+    code_by ((ℕ × (ℤ × ℤ)) × (List SpeedStep × finite.FinMap nat_cmp Restriction))
+    (coded× (coded× coded_ℕ (coded× coded_ℤ coded_ℤ)) (coded× (coded_list coded_step) coded_restrictions))
     (λ p. ((p.max_speed, (p.length_cm, p.track_cm)), (p.speeds, p.restrictions)))
     (λ p. record { max_speed = p.0.0; length_cm = p.0.1.0; track_cm = p.0.1.1; speeds = p.1.0; restrictions = p.1.1 })
     (λ _. refl)

@@ -1,5 +1,6 @@
 -- Speeds of all cells as steps: what they are, and what a zone makes of them (own).
-use Rattle.std.specs.Prelude.{◌≡◌, ◌⊎◌, ℕ, zero, suc, ℤ, true, false, List, [], ◌∷◌, length, slice_index_or, Option, Some, None, MatchOption, is_none, min, take, if◌then◌else◌, ◌<◌, ◌≤◌, ◌≤ℤ◌, ◌<ℤ◌}
+use Rattle.std.specs.Prelude.{◌≡◌, ◌⊎◌, ℕ, zero, suc, ℤ, true, false, List, [], ◌∷◌, length, slice_index_or, Option}
+use Rattle.std.specs.Prelude.{Some, None, MatchOption, is_none, min, take, if◌then◌else◌, ◌<◌, ◌≤◌, ◌≤ℤ◌, ◌<ℤ◌}
 use Rattle.std.specs.Coded.{×_prop, Unit-prop}
 use denote.Struct.Props as logic
 use Rattle.sdm_rules.specs.declared.targets.Fall.{Fall}
@@ -43,7 +44,8 @@ pub record IsSplitAt (cell : ℤ) (old new : List Step) (i : ℕ) : Type 0 where
   pub parted_before : ArePartedAt cell old i
   pub same_before : take i new ≡ take i old
 
--- new steps have one that starts at an end of a zone, if there is one: the first `i` start before it, now as before, and are the same
+-- new steps have one that starts at an end of a zone, if there is one: the first `i` start before it, now as before,
+-- and are the same
 abbrev pub IsSplit : Option ℤ → ℕ → List Step → List Step → ℕ → Type 0
 IsSplit None otherwise old new i = (i ≡ otherwise) × (new ≡ old)
 IsSplit (Some end) otherwise old new i = IsSplitAt end old new i

@@ -5,10 +5,11 @@ use Rattle.sdm_rules.specs.Profile.{Zone, end_for, lowest_limit, zone_of}
 use Rattle.sdm_speed.specs.declared.steps.Step.{Step}
 use Rattle.sdm_speed.specs.Steps.{IsStart, KeepsStarts, speeds_of}
 
--- the speed of a cell in km/h: that of the static steps, lowered by restrictions, for a train of a length in cm (SUBSET-026-3 3.13.7;
--- own cell form)
+-- the speed of a cell in km/h: that of the static steps, lowered by restrictions, for a train of a length in cm
+-- (SUBSET-026-3 3.13.7; own cell form)
 abbrev pub speed_under : ℤ → ℕ → List Step → List Restriction → ℤ → ℕ
-speed_under length_cm before statics held cell = lowest_limit (speeds_of before statics cell) cell (map (zone_of length_cm) held)
+speed_under length_cm before statics held cell =
+    lowest_limit (speeds_of before statics cell) cell (map (zone_of length_cm) held)
 
 -- the zone of a restriction begins or ends at the cell, for a train of a length in cm
 abbrev pub IsEnd : ℤ → ℤ → Restriction → Type 0
@@ -24,7 +25,8 @@ abbrev pub IsZoneEnd : ℤ → List Step → List Restriction → ℤ → Type 0
 IsZoneEnd length_cm statics held cell = IsStart cell statics ⊎ IsEndOfOne length_cm cell held
 
 -- steps start at these cells, and at no others
-pub record AreAtZoneEnds (length_cm : ℤ) (statics : List Step) (held : List Restriction) (steps : List Step) : Type 0 where
+pub record AreAtZoneEnds (length_cm : ℤ) (statics : List Step) (held : List Restriction)
+    (steps : List Step) : Type 0 where
   pub each : (c : ℤ) → IsZoneEnd length_cm statics held c → IsStart c steps
   pub no_other : (c : ℤ) → IsStart c steps → IsZoneEnd length_cm statics held c
 

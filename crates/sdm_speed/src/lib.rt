@@ -1,5 +1,5 @@
-//! The most restrictive speed profile (MRSP, SUBSET-026-3 3.13.7): the maximum train speed, the static speed profile, and the
-//! temporary restrictions, which come and go. All room is taken when a profile begins.
+//! The most restrictive speed profile (MRSP, SUBSET-026-3 3.13.7): the maximum train speed, the static speed profile,
+//! and the temporary restrictions, which come and go. All room is taken when a profile begins.
 #![tactic(auto)]
 
 mod changes;

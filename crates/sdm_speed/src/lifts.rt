@@ -1,5 +1,6 @@
-//! What a restriction that is lifted leaves. Only the steps in its zone may have another speed, so these take those of the static profile
-//! and of the restrictions that are left; then a step goes that started at an end of the zone alone.
+//! What a restriction that is lifted leaves. Only the steps in its zone may have another speed, so these take those of
+//! the static profile and of the restrictions that are left; then a step goes that started at an end of the zone
+//! alone.
 
 ghost use Rattle.std.specs.Prelude.{◌≡◌, ◌⊎◌, ◌≤◌, ℕ, ℤ, pos, true, All, map, vec_capacity};
 ghost use Rattle.sdm_rules.specs.Profile.{capped, zone_of};

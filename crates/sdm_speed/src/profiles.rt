@@ -1,8 +1,9 @@
-//! The speed profile of a train on a track. Its speeds are kept as steps: a restriction that comes lowers those in its zone, and one that
-//! goes leaves them to what is left. Both tell the cells whose speed may be another now, so that what is kept elsewhere of the other cells
-//! can stay.
+//! The speed profile of a train on a track. Its speeds are kept as steps: a restriction that comes lowers those in its
+//! zone, and one that goes leaves them to what is left. Both tell the cells whose speed may be another now, so that
+//! what is kept elsewhere of the other cells can stay.
 
-ghost use Rattle.std.specs.Prelude.{◌≡◌, ℤ, pos, ◌*◌, ◌≤◌, ◌≤ℤ◌, All, Some, None, IfOk, IfErr, IfSome, MatchOption, OnOk, OnErr, length, min, position, vec_len};
+ghost use Rattle.std.specs.Prelude.{◌≡◌, ℤ, pos, ◌*◌, ◌≤◌, ◌≤ℤ◌, All, Some, None, IfOk, IfErr, IfSome, MatchOption};
+ghost use Rattle.std.specs.Prelude.{OnOk, OnErr, length, min, position, vec_len};
 ghost use Rattle.std.specs.FinMap as finite;
 ghost use Rattle.std.specs.Int.{int_gap};
 ghost use Rattle.std.specs.Result.{result_err};
@@ -122,8 +123,8 @@ fn index_of(held: &[Restriction], id: u16) -> Option<usize>
 impl Profile {
     ghost use Rattle.sdm_speed.specs.Profiles.{ProfileData};
 
-    /// The profile of a track for a train: maximum speed in km/h, 1 to 500, and length in cm, 1 to 150,000. No restriction is
-    /// held. Takes the room for 32.
+    /// The profile of a track for a train: maximum speed in km/h, 1 to 500, and length in cm, 1 to 150,000. No
+    /// restriction is held. Takes the room for 32.
     pub fn begin(
         alloc: Global,
         track: &Track,
@@ -194,9 +195,9 @@ impl Profile {
         Ok(())
     }
 
-    /// Puts a restriction into force, and tells the cells that it covers: in no others is the MRSP another. Its speed is 1 to
-    /// 500 km/h. Refused where 32 are held, where one with its identity is held, and where it ends at or before its start or past
-    /// the track's end; the profile is then as it was. (SUBSET-026-3 3.11.5; refusals own)
+    /// Puts a restriction into force, and tells the cells that it covers: in no others is the MRSP another. Its speed
+    /// is 1 to 500 km/h. Refused where 32 are held, where one with its identity is held, and where it ends at or
+    /// before its start or past the track's end; the profile is then as it was. (SUBSET-026-3 3.11.5; refusals own)
     pub fn impose(&mut self, r: Restriction) -> Result<Changed, RestrictFault>
         requires slowest { 1 ≤ r.speed }
         requires fastest { r.speed ≤ top_kmh }
@@ -216,8 +217,8 @@ impl Profile {
         Ok(cells_of(r, self.length_cm))
     }
 
-    /// Takes a restriction out of force, and tells the cells that it covered: in no others is the MRSP another. Refused where none
-    /// with this identity is held; the profile is then as it was. (own)
+    /// Takes a restriction out of force, and tells the cells that it covered: in no others is the MRSP another.
+    /// Refused where none with this identity is held; the profile is then as it was. (own)
     pub fn lift(&mut self, id: u16) -> Result<Changed, RevokeFault>
         ensures accepted { OnOk result (revoke_fault self.old.restrictions id ≡ None) }
         ensures removed { OnOk result
@@ -242,9 +243,9 @@ impl Profile {
         Ok(cells_of(lifted, self.length_cm))
     }
 
-    /// Puts a restriction into force; its speed is 1 to 500 km/h. Refused where 32 are held, where one with its identity is held,
-    /// and where it ends at or before its start or past the track's end; the profile is then as it was. (SUBSET-026-3 3.11.5;
-    /// refusals own)
+    /// Puts a restriction into force; its speed is 1 to 500 km/h. Refused where 32 are held, where one with its
+    /// identity is held, and where it ends at or before its start or past the track's end; the profile is then as it
+    /// was. (SUBSET-026-3 3.11.5; refusals own)
     pub fn set(&mut self, r: Restriction) -> Result<(), RestrictFault>
         requires slowest { 1 ≤ r.speed }
         requires fastest { r.speed ≤ top_kmh }
@@ -259,7 +260,8 @@ impl Profile {
         Ok(())
     }
 
-    /// Takes a restriction out of force. Refused where none with this identity is held; the profile is then as it was. (own)
+    /// Takes a restriction out of force. Refused where none with this identity is held; the profile is then as it was.
+    /// (own)
     pub fn revoke(&mut self, id: u16) -> Result<(), RevokeFault>
         ensures accepted { OnOk result (revoke_fault self.old.restrictions id ≡ None) }
         ensures removed { OnOk result

@@ -1,13 +1,17 @@
-//! Speeds of all cells as steps. They change only where a step starts, so a look at the step in which a cell lies answers for the
-//! cell, and the falls are among the starts. A zone lowers them in place: its ends become starts, and each step that it covers takes
-//! its limit. A step can take another speed, and go again, where a restriction has gone.
+//! Speeds of all cells as steps. They change only where a step starts, so a look at the step in which a cell lies
+//! answers for the cell, and the falls are among the starts. A zone lowers them in place: its ends become starts, and
+//! each step that it covers takes its limit. A step can take another speed, and go again, where a restriction has
+//! gone.
 
-ghost use Rattle.std.specs.Prelude.{◌≡◌, ◌⊎◌, ◌+◌, ◌<◌, ◌≤◌, ◌+ℤ◌, ◌≤ℤ◌, ℕ, ℤ, pos, [], Some, true, IfOk, length, map, min, set, take, slice_index_or, vec_len, vec_capacity};
+ghost use Rattle.std.specs.Prelude.{◌≡◌, ◌⊎◌, ◌+◌, ◌<◌, ◌≤◌, ◌+ℤ◌, ◌≤ℤ◌, ℕ, ℤ, pos, [], Some, true, IfOk, length, map};
+ghost use Rattle.std.specs.Prelude.{min, set, take, slice_index_or, vec_len, vec_capacity};
 ghost use Rattle.std.specs.Int.{int_gap};
 ghost use Rattle.sdm_rules.specs.Cells.{lowest};
 ghost use Rattle.sdm_rules.specs.Profile.{capped};
 ghost use Rattle.sdm_speed.specs.ZoneEnds.{AreSpeedsAt, HasStartsOf};
-ghost use Rattle.sdm_speed.specs.Steps.{AreAfter, AreCovered, AreRising, AreRising-prop, ArePartedAt, IsFallAfter, IsSplit, IsStart, KeepsStarts, capped_before, capped_step, speed_to, speeds_of};
+ghost use Rattle.sdm_speed.specs.Steps.{AreAfter, AreCovered, AreRising, AreRising-prop, ArePartedAt, IsFallAfter};
+ghost use Rattle.sdm_speed.specs.Steps.{IsSplit, IsStart, KeepsStarts, capped_before, capped_step, speed_to};
+ghost use Rattle.sdm_speed.specs.Steps.{speeds_of};
 
 use crate::zones::Zone;
 use sdm_num::NoMemory;

@@ -172,7 +172,7 @@ fn delayed(word: Option<&str>) -> Result<bool, Fail> {
     Ok(word.ok_or("a flag is wanting")? == "1")
 }
 
-// The entries of a static profile.
+/// The entries of a static profile.
 fn steps(alloc: Global, text: &str) -> Result<Vec<SpeedStep>, Fail> {
     let mut steps = Vec::new(alloc);
     for entry in text.split(',') {
@@ -186,7 +186,7 @@ fn steps(alloc: Global, text: &str) -> Result<Vec<SpeedStep>, Fail> {
     Ok(steps)
 }
 
-// A new profile.
+/// A new profile.
 fn begun(alloc: Global, text: &str) -> Result<Profile, Fail> {
     let mut words = text.split_whitespace();
     let track_cm = length(words.next())?;
@@ -202,7 +202,7 @@ fn begun(alloc: Global, text: &str) -> Result<Profile, Fail> {
     Ok(Profile::begin(alloc, &track, max_speed, length_cm)?)
 }
 
-// A restriction as it is given.
+/// A restriction as it is given.
 fn restriction(words: &mut SplitWhitespace<'_>) -> Result<Restriction, Fail> {
     Ok(Restriction {
         id: identity(words.next())?,
@@ -213,7 +213,7 @@ fn restriction(words: &mut SplitWhitespace<'_>) -> Result<Restriction, Fail> {
     })
 }
 
-// The text of the fault, or `set`.
+/// The text of the fault, or `set`.
 fn set(alloc: Global, profile: &mut Profile, r: Restriction) -> Result<String, Fail> {
     if r.speed < 1 || 500 < r.speed {
         return Err("no speed")?;
@@ -224,7 +224,7 @@ fn set(alloc: Global, profile: &mut Profile, r: Restriction) -> Result<String, F
     }
 }
 
-// The text of the fault, or of the cells that changed.
+/// The text of the fault, or of the cells that changed.
 fn imposed(alloc: Global, profile: &mut Profile, r: Restriction) -> Result<String, Fail> {
     if r.speed < 1 || 500 < r.speed {
         return Err("no speed")?;
@@ -235,7 +235,7 @@ fn imposed(alloc: Global, profile: &mut Profile, r: Restriction) -> Result<Strin
     }
 }
 
-// The answer to what is asked.
+/// The answer to what is asked.
 fn answer(alloc: Global, profile: &mut Profile, asked: &str) -> Result<String, Fail> {
     let mut words = asked.split_whitespace();
     match words.next() {
@@ -282,7 +282,7 @@ fn at(id: u16) -> Restriction {
     }
 }
 
-// Each line of a table, asked of the profile that the lines before it have made.
+/// Each line of a table, asked of the profile that the lines before it have made.
 fn ask(rt: &impl Abort, alloc: Global, table: &str) -> Result<(), Fail> {
     let mut profile = begun(alloc, "200000 10000 160 0:160:0")?;
     for line in table.lines() {

@@ -1,13 +1,13 @@
-//! Zones: stretches of the track with a speed limit, of which the lowest counts where several lie over one another. Static speed
-//! profile and temporary restrictions are zones alike.
+//! Zones: stretches of the track with a speed limit, of which the lowest counts where several lie over one another.
+//! Static speed profile and temporary restrictions are zones alike.
 
 ghost use Rattle.std.specs.Prelude.{◌≡◌};
 ghost use Rattle.sdm_rules.specs.Profile.{capped, covers};
 
 use std::marker::Model;
 
-/// A speed limit in km/h from its first cell up to, but not including, the cell past its last; none where it has no beginning
-/// or no end.
+/// A speed limit in km/h from its first cell up to, but not including, the cell past its last; none where it has no
+/// beginning or no end.
 #[derive(Clone, Copy, Debug)]
 pub struct Zone {
     pub first: Option<i32>,

@@ -1,6 +1,6 @@
 //! The brake commands and the supervision status after a reading, from those that are held, what is triggered and the
-//! state. Each command has a rule of its own for what raises it and what lets it go; the status shows the gravest of what
-//! holds.
+//! state. Each command has a rule of its own for what raises it and what lets it go; the status shows the gravest of
+//! what holds.
 #![tactic(auto)]
 
 ghost use Rattle.std.specs.Prelude.{◌≡◌};
@@ -8,9 +8,9 @@ ghost use Rattle.sdm_rules.specs.Commands.{commands_after, status_after};
 
 pub use sdm_rules::{Held, State, Status, Triggers};
 
-/// The commands and the status after a reading at which `t` is triggered in `state`. `stopped` says that the speed is 0,
-/// `early_release` that the emergency brake may be released before standstill (Q_NVEMRRLS), and `service` that the service
-/// brake is in use. (SUBSET-026-3 3.13.10; own tables)
+/// The commands and the status after a reading at which `t` is triggered in `state`. `stopped` says that the speed is
+/// 0, `early_release` that the emergency brake may be released before standstill (Q_NVEMRRLS), and `service` that the
+/// service brake is in use. (SUBSET-026-3 3.13.10; own tables)
 #[tactic(auto, unfolding(sdm_rules::specs::Commands::commands_after, sdm_rules::specs::Commands::emergency_after))]
 pub fn next(
     held: Held,
@@ -35,8 +35,8 @@ pub fn next(
     }
 }
 
-/// The status: the first that holds of intervention, warning, overspeed, indication and normal. A warning stays over the
-/// permitted speed, also after an intervention.
+/// The status: the first that holds of intervention, warning, overspeed, indication and normal. A warning stays over
+/// the permitted speed, also after an intervention.
 fn status_after(last: Status, t: Triggers, state: State, sb: bool, eb: bool) -> Status
     ensures { result ≡ status_after last t state sb eb }
 {

@@ -1,12 +1,12 @@
-//! The tables of commands and status at telling cases, worked by hand. In a run some of these can't come about; `next` is
-//! asked for every held state all the same.
+//! The tables of commands and status at telling cases, worked by hand. In a run some of these can't come about; `next`
+//! is asked for every held state all the same.
 
 use crate::{Held, State, Status, Triggers, next};
 use std::test::Fail;
 
-/// What is held (traction cut-off, service brake, emergency brake, status); what is triggered (over, warn, serv, emer); the
-/// state; whether the train is stopped, early release permitted, the service brake in use; what is then held; what the
-/// case shows.
+/// What is held (traction cut-off, service brake, emergency brake, status); what is triggered (over, warn, serv,
+/// emer); the state; whether the train is stopped, early release permitted, the service brake in use; what is then
+/// held; what the case shows.
 const CASES: &str = "\
 000N 0000 C 001 000N nothing is triggered: normal
 000N 0000 T 001 000I a target is supervised: indication

@@ -19,12 +19,23 @@ use Rattle.sdm_supervisor.specs.Verdicts.{IsVerdictOf}
 -- the state of a supervisor, by what it keeps
 abbrev pub state_of : TrainAndTrack → Authority → ProfileData → Option ℕ → Held → Supervision
 state_of train_and_track a p last held =
-    record { train_and_track = train_and_track; authority = a; restrictions = p.restrictions; last_time = last; commands = held }
+    record {
+      train_and_track = train_and_track;
+      authority = a;
+      restrictions = p.restrictions;
+      last_time = last;
+      commands =
+          held;
+    }
 
-pub found_is : (train_and_track : TrainAndTrack) (a : Authority) (p : ProfileData) (last : Option ℕ) (held : Held) (r : OdometerReading) (found : Findings) → IsProfileOf train_and_track p →
-    found.speed ≡ r.speed → found.ceiling_kmh ≡ lowest min (mrsp_of p) (cell_of r.min) (int_gap (cell_of r.min) (cell_of r.max)) → found.past_end ≡ is_past_end a r.min →
+pub found_is : (train_and_track : TrainAndTrack) (a : Authority) (p : ProfileData) (last : Option ℕ) (held : Held)
+    (r : OdometerReading) (found : Findings) → IsProfileOf train_and_track p →
+    found.speed ≡ r.speed → found.ceiling_kmh ≡ lowest min (mrsp_of p) (cell_of r.min)
+    (int_gap (cell_of r.min) (cell_of r.max)) → found.past_end ≡ is_past_end a r.min →
     found.release_kmh ≡ release_of train_and_track a r.max → found.in_use ≡ service_in_use train_and_track →
-    IsVerdictOf train_and_track (estimate_of r) r.est r.max (targets_of (mrsp_of p) a r.max (is_some (release_of train_and_track a r.max))) found.verdict → IsFoundAt (state_of train_and_track a p last held) r found
+    IsVerdictOf train_and_track (estimate_of r) r.est r.max (targets_of (mrsp_of p) a r.max
+    (is_some (release_of train_and_track a r.max))) found.verdict →
+    IsFoundAt (state_of train_and_track a p last held) r found
 unfolding situation_of
 found_is train_and_track a p last held r found is speed ceiling past_end release in_use verdict =
     let profile = sym (mrsp_is p train_and_track.train train_and_track.track is.max_speed is.length_cm is.speeds) in
@@ -34,5 +45,6 @@ found_is train_and_track a p last held r found is speed ceiling past_end release
       past_end = past_end;
       release = release;
       in_use = in_use;
-      verdict = subst (λ (f : ℤ → ℕ). IsVerdictOf train_and_track (estimate_of r) r.est r.max (targets_of f a r.max (is_some (release_of train_and_track a r.max))) found.verdict) profile verdict;
+      verdict = subst (λ (f : ℤ → ℕ). IsVerdictOf train_and_track (estimate_of r) r.est r.max
+          (targets_of f a r.max (is_some (release_of train_and_track a r.max))) found.verdict) profile verdict;
     }

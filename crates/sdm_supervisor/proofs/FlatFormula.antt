@@ -1,5 +1,5 @@
--- With one slope the energy of a distance is the slope for each of its grains; so the exact place is the foot less the square over
--- twice the deceleration, and rounding it to a grain first and to a millimetre then is rounding it once.
+-- With one slope the energy of a distance is the slope for each of its grains; so the exact place is the foot less the
+-- square over twice the deceleration, and rounding it to a grain first and to a millimetre then is rounding it once.
 use Rattle.std.proofs.Common.{◌≡◌, ℕ, ℤ, pos, neg_ℤ, ◌-◌, ◌*◌, ◌<◌, ◌+ℤ◌, ◌*ℤ◌, ◌≤ℤ◌, ◌<ℤ◌, ap, sym, ◌∙◌, refl, arith}
 use Rattle.std.proofs.lemmas.Int.{ints}
 use Rattle.std.specs.Int.{int_div_euclid}
@@ -13,8 +13,8 @@ use Rattle.sdm_rules.specs.Curves.{arc_back, back, grain_energy, exact}
 use Rattle.sdm_rules.specs.Flat.{flat_slopes}
 use Rattle.sdm_rules.specs.Supervision.{whole_mm}
 use Rattle.sdm_laws.specs.Energy.{energy}
-use Rattle.sdm_laws.proofs.Energy.{energy_at_most, energy_at_least}
-use Rattle.sdm_laws.proofs.Walks.{IsBackBy, back-is}
+use Rattle.sdm_laws.proofs.OneBand.Energy.{energy_at_most, energy_at_least}
+use Rattle.sdm_laws.proofs.OneBand.Walks.{IsBackBy, back-is}
 use Rattle.sdm_supervisor.specs.Flats.{ebi_mm}
 use Rattle.sdm_supervisor.proofs.FlatCurves.{exact_arc}
 
@@ -30,7 +30,11 @@ energy_of v = 500_000_000_000_000 * (v * v)
 
 one_energy : (decel m d : ℕ) (p : ℤ) → 27 * energy (flat_slopes decel) 0 m p d ≡ rate decel * d
 one_energy decel m d p =
-    omega (arith, energy_at_most (flat_slopes decel) 0 m (2_000_000_000 * decel) d p (λ z. omega arith), energy_at_least (flat_slopes decel) 0 m (2_000_000_000 * decel) d p (λ z. omega arith))
+    omega (
+      arith,
+      energy_at_most (flat_slopes decel) 0 m (2_000_000_000 * decel) d p (λ z. omega arith),
+      energy_at_least (flat_slopes decel) 0 m (2_000_000_000 * decel) d p (λ z. omega arith),
+    )
 
 -- an arc back from a whole grain ends where the energy is used up
 arc_formula : (decel : ℕ) (f : ℤ) (e : ℕ) (y : Fraction) → 0 < decel → IsBackBy (flat_slopes decel) 1 0 (whole f) y e →
@@ -40,14 +44,16 @@ arc_formula decel f e y some h =
     let used : rate decel * h.d ≡ h.t * e = sym (one_energy decel (1 * y.m) h.d y.n) ∙ h.is.used in
     (omega (arith, m_is, h.positive), rw m_is (by_distance (rate decel) h.t h.d e y.n f h.is.distance used))
   where
-    by_distance : (r t d e : ℕ) (n f : ℤ) → pos t *ℤ f ≡ n +ℤ pos d → r * d ≡ t * e → pos r *ℤ n ≡ pos t *ℤ (pos r *ℤ f +ℤ neg_ℤ (pos e))
+    by_distance : (r t d e : ℕ) (n f : ℤ) → pos t *ℤ f ≡ n +ℤ pos d → r * d ≡ t * e →
+        pos r *ℤ n ≡ pos t *ℤ (pos r *ℤ f +ℤ neg_ℤ (pos e))
     by_distance r t d e n f distance used =
         let n_is : n ≡ pos t *ℤ f +ℤ neg_ℤ (pos d) = omega (arith, ints) in
         let turned : r * t ≡ t * r = omega arith in
         rw n_is (simp scales (rw (turned, used)))
 
 -- the exact place lies back from the foot by this energy
-exact_back : (decel : ℕ) (f : ℤ) (v : ℕ) → exact (flat_slopes decel) f 0 v ≡ back (flat_slopes decel) 1 0 (energy_of v) (whole f) (energy_of v)
+exact_back : (decel : ℕ) (f : ℤ) (v : ℕ) →
+    exact (flat_slopes decel) f 0 v ≡ back (flat_slopes decel) 1 0 (energy_of v) (whole f) (energy_of v)
 unfolding arc_back
 exact_back decel f v =
     let foot : pos 1 *ℤ f ≡ f = omega (arith, ints) in
@@ -57,12 +63,15 @@ exact_back decel f v =
 exact_formula : (decel : ℕ) (f : ℤ) (v : ℕ) (x : Fraction) → 0 < decel → x ≡ exact (flat_slopes decel) f 0 v →
     (0 < x.m) × (pos (rate decel) *ℤ x.n ≡ pos x.m *ℤ (pos (rate decel) *ℤ f +ℤ neg_ℤ (pos (energy_of v))))
 exact_formula decel f v x some is =
-    rw (is, exact_back decel f v) (arc_formula decel f (energy_of v) _ some (back-is (flat_slopes decel) 1 0 (energy_of v) (whole f) (energy_of v) (λ c. omega arith) (omega arith) (omega arith)))
+    rw (is, exact_back decel f v) (arc_formula decel f (energy_of v) _ some
+    (back-is (flat_slopes decel) 1 0 (energy_of v) (whole f) (energy_of v) (λ c. omega arith) (omega arith)
+    (omega arith)))
 
 -- ---- rounded down once
 
 -- a fraction n / m that is N / r, in whole millimetres
-rounded_once : (m r : ℕ) (n N c : ℤ) → 0 < m → 0 < r → pos r *ℤ n ≡ pos m *ℤ N → c ≡ mm_below (int_div_euclid n (pos m)) →
+rounded_once : (m r : ℕ) (n N c : ℤ) → 0 < m → 0 < r → pos r *ℤ n ≡ pos m *ℤ N →
+    c ≡ mm_below (int_div_euclid n (pos m)) →
     ((pos r *ℤ (pos millimetre *ℤ c)) ≤ℤ N) × (N <ℤ (pos r *ℤ (pos millimetre *ℤ (c +ℤ pos 1))))
 rounded_once m r n N c m_pos r_pos same is =
     let fl = int_div_euclid n (pos m) in
@@ -76,7 +85,8 @@ rounded_once m r n N c m_pos r_pos same is =
     let at_most : (pos m *ℤ low) ≤ℤ n = omega (arith, ints, scale-≤ m low fl mm_low) in
     let below : n <ℤ (pos m *ℤ high) = omega (arith, ints, scale-≤ m (fl +ℤ pos 1) high mm_next) in
     let next : (n +ℤ pos 1) ≤ℤ (pos m *ℤ high) = omega (arith, ints) in
-    let less : (pos r *ℤ n) <ℤ (pos r *ℤ (pos m *ℤ high)) = omega (arith, ints, rw scale-+ℤ at (scale-≤ r (n +ℤ pos 1) (pos m *ℤ high) next)) in (
+    let less : (pos r *ℤ n) <ℤ (pos r *ℤ (pos m *ℤ high)) = omega
+    (arith, ints, rw scale-+ℤ at (scale-≤ r (n +ℤ pos 1) (pos m *ℤ high) next)) in (
       scale-≤_cancel m (pos r *ℤ low) N m_pos (rw (scale-swap m r low, ← same) (scale-≤ r (pos m *ℤ low) n at_most)),
       scale-<_cancel m N (pos r *ℤ high) (rw (scale-swap m r high, ← same) less),
     )
@@ -95,7 +105,8 @@ difference : (k a b : ℕ) → pos k *ℤ (pos a +ℤ neg_ℤ (pos b)) ≡ pos (
 difference k a b = scale-+ℤ k (pos a) (neg_ℤ (pos b)) ∙ ap (λ (z : ℤ). pos (k * a) +ℤ z) (scale-neg k (pos b))
 
 -- both bounds, by the common factor
-floor_in_common : (k a : ℕ) (low high N M c : ℤ) → 0 < k → 0 < a → low ≡ pos k *ℤ (pos a *ℤ c) → high ≡ pos k *ℤ (pos a *ℤ (c +ℤ pos 1)) → M ≡ pos k *ℤ N → low ≤ℤ M → M <ℤ high →
+floor_in_common : (k a : ℕ) (low high N M c : ℤ) → 0 < k → 0 < a → low ≡ pos k *ℤ (pos a *ℤ c) →
+    high ≡ pos k *ℤ (pos a *ℤ (c +ℤ pos 1)) → M ≡ pos k *ℤ N → low ≤ℤ M → M <ℤ high →
     int_div_euclid N (pos a) ≡ c
 floor_in_common k a low high N M c k_pos a_pos low_is high_is m_is below above =
     floor_is a N c a_pos
@@ -103,7 +114,8 @@ floor_in_common k a low high N M c k_pos a_pos low_is high_is m_is below above =
     (scale-<_cancel k N (pos a *ℤ (c +ℤ pos 1)) (rw (← high_is, ← m_is) above))
 
 -- for a whole speed in mm/s the exact place, rounded down to a millimetre, is END - v² / (2A)
-pub ebi_is : (decel end v : ℕ) → 0 < decel → whole_mm (exact (flat_slopes decel) (place_of_cell (pos end)) 0 (notches_of_mm_s v)) ≡ ebi_mm decel end v
+pub ebi_is : (decel end v : ℕ) → 0 < decel →
+    whole_mm (exact (flat_slopes decel) (place_of_cell (pos end)) 0 (notches_of_mm_s v)) ≡ ebi_mm decel end v
 ebi_is decel end v some =
     let x = exact (flat_slopes decel) (place_of_cell (pos end)) 0 (notches_of_mm_s v) in
     let c = whole_mm x in
@@ -112,7 +124,9 @@ ebi_is decel end v some =
     let distance : rate decel * (end * centimetre) ≡ common * (200 * decel * end) = omega arith in
     let used : energy_of (notches_of_mm_s v) ≡ common * (v * v) = omega arith in
     let unit : rate decel * millimetre ≡ common * (20 * decel) = omega arith in
-    let whole_distance : pos (rate decel * (end * centimetre)) +ℤ neg_ℤ (pos (energy_of (notches_of_mm_s v))) ≡ pos common *ℤ (pos (200 * decel * end) +ℤ neg_ℤ (pos (v * v)))
+    let whole_distance : pos (rate decel * (end * centimetre)) +ℤ neg_ℤ (pos (energy_of (notches_of_mm_s v)))
+    ≡ pos common *ℤ (pos (200 * decel * end) +ℤ neg_ℤ (pos (v * v)))
     = rw (distance, used) (sym (difference common (200 * decel * end) (v * v))) in
     sym (floor_in_common common (20 * decel) _ _ _ _ c (omega arith) (omega arith)
-    (in_common (rate decel) common (20 * decel) c unit) (in_common (rate decel) common (20 * decel) (c +ℤ pos 1) unit) whole_distance bounds.0 bounds.1)
+    (in_common (rate decel) common (20 * decel) c unit)
+    (in_common (rate decel) common (20 * decel) (c +ℤ pos 1) unit) whole_distance bounds.0 bounds.1)

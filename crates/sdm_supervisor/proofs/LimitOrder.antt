@@ -1,6 +1,7 @@
--- The indication limit of a target is the first of its computed limits: each lies so many grains before another one, or is the lesser of two
--- places. So a front end that is not past it is past none.
-use Rattle.std.proofs.Common.{◌≡◌, ℕ, ℤ, pos, neg_ℤ, true, false, ◌*◌, ◌+ℤ◌, ◌*ℤ◌, ◌≤ℤ◌, int_lt, Option, Some, None, refl, arith, if◌then◌else◌}
+-- The indication limit of a target is the first of its computed limits: each lies so many grains before another one,
+-- or is the lesser of two places. So a front end that is not past it is past none.
+use Rattle.std.proofs.Common.{◌≡◌, ℕ, ℤ, pos, neg_ℤ, true, false, ◌*◌, ◌+ℤ◌, ◌*ℤ◌, ◌≤ℤ◌, int_lt, Option, Some, None}
+use Rattle.std.proofs.Common.{refl, arith, if◌then◌else◌}
 use Rattle.std.specs.Prelude.{option_map}
 use Rattle.std.specs.Option.{option_map_or}
 use Rattle.std.proofs.lemmas.Int.{ints}
@@ -17,7 +18,8 @@ use Rattle.sdm_rules.specs.declared.targets.TargetKind.TheVariants.{Mrsp, Loa, E
 use Rattle.sdm_rules.specs.Curves.{stepped}
 use Rattle.sdm_rules.specs.Data.{TrainAndTrack}
 use Rattle.sdm_rules.specs.Decelerations.{slopes_of}
-use Rattle.sdm_rules.specs.Limits.{SupervisionLimits, computed, d_bec_for, ebd_limits_of, guidance_place, limits_from_sbi, limits_of, limits_of_kind, sbd_limits_of, v_bec_for}
+use Rattle.sdm_rules.specs.Limits.{SupervisionLimits, computed, d_bec_for, ebd_limits_of, guidance_place}
+use Rattle.sdm_rules.specs.Limits.{limits_from_sbi, limits_of, limits_of_kind, sbd_limits_of, v_bec_for}
 use Rattle.sdm_rules.specs.Reaction.{driver_time, reaction_times, warning_time}
 use Rattle.sdm_rules.specs.Targets.{foot_speed_of, target_speed}
 use Rattle.sdm_rules.specs.Triggers.{is_past}
@@ -35,7 +37,8 @@ later a b front le ahead = not_lt_is b front (omega (arith, ints, not_lt_of a fr
 
 -- a place lies past itself less some grains
 of_less : (front : ℤ) (x : Fraction) (k : ℕ) → is_past 0 front (less x k) ≡ false → is_past 0 front x ≡ false
-of_less front x k ahead = later (x.n +ℤ neg_ℤ (pos (k * x.m))) x.n (pos x.m *ℤ (front +ℤ pos 0)) (omega (arith, ints)) ahead
+of_less front x k ahead =
+    later (x.n +ℤ neg_ℤ (pos (k * x.m))) x.n (pos x.m *ℤ (front +ℤ pos 0)) (omega (arith, ints)) ahead
 
 -- the second of two places lies at or past the lesser of both
 of_lesser : (front x y : ℤ) → is_past 0 front (lesser (whole x) (whole y)) ≡ false → is_past 0 front (whole y) ≡ false
@@ -45,19 +48,24 @@ of_lesser front x y =
     (λ le ahead. ahead)
 
 -- where a front end is not past what the driver's time asks for, it is past none of these
-module _ (front z : ℤ) (times : Times) (v : ℕ) (ebi : Option Fraction) (of_ebi : is_past 0 front (whole z) ≡ false → option_map_or (is_past 0 front) ebi false ≡ false) where
-  of_driver : (guide : Option Fraction) → is_past 0 front (less (whole z) (distance_at v driver_time)) ≡ false → is_past 0 front (limits_from_sbi times v guide ebi (whole z)).permitted ≡ false →
+module _ (front z : ℤ) (times : Times) (v : ℕ) (ebi : Option Fraction)
+    (of_ebi : is_past 0 front (whole z) ≡ false → option_map_or (is_past 0 front) ebi false ≡ false) where
+  of_driver : (guide : Option Fraction) → is_past 0 front (less (whole z) (distance_at v driver_time)) ≡ false →
+      is_past 0 front (limits_from_sbi times v guide ebi (whole z)).permitted ≡ false →
       IsPastNone front (limits_from_sbi times v guide ebi (whole z))
   of_driver guide driver permitted =
       let sbi = of_less front (whole z) (distance_at v driver_time) driver in
       record {
         ebi = of_ebi sbi;
         sbi = sbi;
-        warning = later (z +ℤ neg_ℤ (pos (distance_at v driver_time * 1))) (z +ℤ neg_ℤ (pos (distance_at v warning_time * 1))) (pos 1 *ℤ (front +ℤ pos 0)) (omega (arith, ints)) driver;
+        warning = later (z +ℤ neg_ℤ (pos (distance_at v driver_time * 1)))
+            (z +ℤ neg_ℤ (pos (distance_at v warning_time * 1))) (pos 1 *ℤ (front +ℤ pos 0))
+            (omega (arith, ints)) driver;
         permitted = permitted;
       }
 
-  of_indication : (guide : Option ℤ) → is_past 0 front (limits_from_sbi times v (option_map whole guide) ebi (whole z)).indication ≡ false →
+  of_indication : (guide : Option ℤ) →
+      is_past 0 front (limits_from_sbi times v (option_map whole guide) ebi (whole z)).indication ≡ false →
       IsPastNone front (limits_from_sbi times v (option_map whole guide) ebi (whole z))
   of_indication None ahead =
       let driver = of_less front (less (whole z) (distance_at v driver_time)) (distance_at v times.indication) ahead in
@@ -65,35 +73,50 @@ module _ (front z : ℤ) (times : Times) (v : ℕ) (ebi : Option Fraction) (of_e
   of_indication (Some g) ahead =
       let permitted = of_less front (lesser (whole g) (less (whole z) (distance_at v driver_time)))
       (distance_at v times.indication) ahead in
-      of_driver (Some (whole g)) (of_lesser front g (z +ℤ neg_ℤ (pos (distance_at v driver_time * 1))) permitted) permitted
+      of_driver (Some (whole g))
+      (of_lesser front g (z +ℤ neg_ℤ (pos (distance_at v driver_time * 1))) permitted) permitted
 
 -- ---- the limits of a target
 
 module _ (d : TrainAndTrack) (e : Estimate) (t : Target) (front : ℤ) where
-  ebd : (guide : Option ℤ) → is_past 0 front (ebd_limits_of computed d e t (option_map whole guide)).indication ≡ false → IsPastNone front (ebd_limits_of computed d e t (option_map whole guide))
+  ebd : (guide : Option ℤ) → is_past 0 front (ebd_limits_of computed d e t (option_map whole guide)).indication
+      ≡ false → IsPastNone front (ebd_limits_of computed d e t (option_map whole guide))
   ebd guide =
       let bs = distance_at e.speed (reaction_times d).bs in
-      let ebi = stepped (slopes_of Safe d) t.place (foot_speed_of t) (v_bec_for d e t) +ℤ neg_ℤ (pos (d_bec_for d e t * 1)) in
-      of_indication front (ebi +ℤ neg_ℤ (pos (bs * 1))) (reaction_times d) e.speed (Some (whole ebi)) (of_less front (whole ebi) bs) guide
+      let ebi = stepped (slopes_of Safe d) t.place (foot_speed_of t) (v_bec_for d e t)
+      +ℤ neg_ℤ (pos (d_bec_for d e t * 1)) in
+      of_indication front (ebi +ℤ neg_ℤ (pos (bs * 1))) (reaction_times d) e.speed (Some (whole ebi))
+      (of_less front (whole ebi) bs) guide
 
-  sbd : (guide : Option ℤ) → is_past 0 front (sbd_limits_of computed d e t (option_map whole guide)).indication ≡ false → IsPastNone front (sbd_limits_of computed d e t (option_map whole guide))
+  sbd : (guide : Option ℤ) → is_past 0 front (sbd_limits_of computed d e t (option_map whole guide)).indication
+      ≡ false → IsPastNone front (sbd_limits_of computed d e t (option_map whole guide))
   sbd guide =
-      let sbi = stepped (slopes_of Expected d) t.place 0 e.speed +ℤ neg_ℤ (pos (distance_at e.speed (reaction_times d).bs * 1)) in
+      let sbi = stepped (slopes_of Expected d) t.place 0 e.speed
+      +ℤ neg_ℤ (pos (distance_at e.speed (reaction_times d).bs * 1)) in
       of_indication front sbi (reaction_times d) e.speed None (λ _. refl) guide
 
   -- a guide is at a whole place, where there is one
-  guided : (P : Option Fraction → Type 0) → ((guide : Option ℤ) → P (option_map whole guide)) → P (guidance_place computed d e t)
+  guided : (P : Option Fraction → Type 0) → ((guide : Option ℤ) → P (option_map whole guide)) →
+      P (guidance_place computed d e t)
   guided P h =
       let place = stepped (slopes_of Normal d) t.place (target_speed t) e.speed in
-      elim d.national.guidance as (λ b. P (if b then Some (whole place) else None)) [ true ↦ h (Some place) | false ↦ h None ]
+      elim d.national.guidance as (λ b. P (if b then Some (whole place) else None)) [
+        | true ↦ h (Some place)
+        | false ↦ h None
+      ]
 
-  of_kind : (kind : TargetKind) → is_past 0 front (limits_of_kind computed d e t kind).indication ≡ false → IsPastNone front (limits_of_kind computed d e t kind)
-  of_kind Mrsp = guided (λ g. is_past 0 front (ebd_limits_of computed d e t g).indication ≡ false → IsPastNone front (ebd_limits_of computed d e t g)) ebd
-  of_kind Loa = guided (λ g. is_past 0 front (ebd_limits_of computed d e t g).indication ≡ false → IsPastNone front (ebd_limits_of computed d e t g)) ebd
-  of_kind Eoa = guided (λ g. is_past 0 front (sbd_limits_of computed d e t g).indication ≡ false → IsPastNone front (sbd_limits_of computed d e t g)) sbd
+  of_kind : (kind : TargetKind) → is_past 0 front (limits_of_kind computed d e t kind).indication ≡ false →
+      IsPastNone front (limits_of_kind computed d e t kind)
+  of_kind Mrsp = guided (λ g. is_past 0 front (ebd_limits_of computed d e t g).indication ≡ false →
+      IsPastNone front (ebd_limits_of computed d e t g)) ebd
+  of_kind Loa = guided (λ g. is_past 0 front (ebd_limits_of computed d e t g).indication ≡ false →
+      IsPastNone front (ebd_limits_of computed d e t g)) ebd
+  of_kind Eoa = guided (λ g. is_past 0 front (sbd_limits_of computed d e t g).indication ≡ false →
+      IsPastNone front (sbd_limits_of computed d e t g)) sbd
   of_kind Svl = ebd None
 
   -- up to the indication limit no limit of a target is passed
-  pub past_none : is_past 0 front (limits_of computed d e t).indication ≡ false → IsPastNone front (limits_of computed d e t)
+  pub past_none : is_past 0 front (limits_of computed d e t).indication ≡ false →
+      IsPastNone front (limits_of computed d e t)
   unfolding limits_of
   past_none = of_kind t.kind

@@ -1,5 +1,7 @@
--- One more target behind the others: the printed limit of a name becomes the lesser of theirs and its own, where its limits count.
-use Rattle.std.proofs.Common.{◌≡◌, ℕ, ℤ, pos, neg_ℤ, ◌+ℤ◌, true, false, nat_le, List, [], ◌∷◌, ◌++◌, Option, Some, None, refl, ap, sym, ◌∙◌, ◌≤◌, ◌<◌, ◌≤ℤ◌, ◌<ℤ◌, arith}
+-- One more target behind the others: the printed limit of a name becomes the lesser of theirs and its own, where its
+-- limits count.
+use Rattle.std.proofs.Common.{◌≡◌, ℕ, ℤ, pos, neg_ℤ, ◌+ℤ◌, true, false, nat_le, List, [], ◌∷◌, ◌++◌, Option, Some}
+use Rattle.std.proofs.Common.{None, refl, ap, sym, ◌∙◌, ◌≤◌, ◌<◌, ◌≤ℤ◌, ◌<ℤ◌, arith}
 use Rattle.std.specs.Prelude.{filter, filter_map, option_map}
 use Rattle.std.specs.Int.{int_min}
 use Rattle.std.proofs.lemmas.Bool.{le-leb, lt-leb}
@@ -44,10 +46,13 @@ lesser_earlier a b k = omega (arith, ints, clamps)
 mm_of_lesser : (a b : ℤ) → mm_below (int_min a b) ≡ int_min (mm_below a) (mm_below b)
 mm_of_lesser a b =
     by_lt_z b a
-    (λ (l : b <ℤ a). let below = mm_rises b a (omega (arith, ints)) in ap mm_below (lesser_second a b (omega (arith, ints))) ∙ sym (lesser_second (mm_below a) (mm_below b) below))
-    (λ (g : a ≤ℤ b). let below = mm_rises a b g in ap mm_below (lesser_first a b g) ∙ sym (lesser_first (mm_below a) (mm_below b) below))
+    (λ (l : b <ℤ a). let below = mm_rises b a (omega (arith, ints))
+    in ap mm_below (lesser_second a b (omega (arith, ints))) ∙ sym (lesser_second (mm_below a) (mm_below b) below))
+    (λ (g : a ≤ℤ b). let below =
+    mm_rises a b g in ap mm_below (lesser_first a b g) ∙ sym (lesser_first (mm_below a) (mm_below b) below))
 
-mm_of_nearer : (a b : Option ℤ) → option_map mm_below (nearer a b) ≡ nearer (option_map mm_below a) (option_map mm_below b)
+mm_of_nearer : (a b : Option ℤ) →
+    option_map mm_below (nearer a b) ≡ nearer (option_map mm_below a) (option_map mm_below b)
 mm_of_nearer None b = refl
 mm_of_nearer (Some x) None = refl
 mm_of_nearer (Some x) (Some y) = ap Some (mm_of_lesser x y)
@@ -77,32 +82,41 @@ module _ (v : ℕ) (ts : List Target) (t : Target) (limit : Target → Option Fr
   counted us = filter (λ u. nat_le (target_speed u) v) us
 
   of_more : places (counted (ts ++ t ∷ [])) ≡ places (counted ts) ++ places (counted (t ∷ []))
-  of_more = ap places (filter-append (λ u. nat_le (target_speed u) v) ts (t ∷ [])) ∙ filter_map-append (λ u. option_map whole_mm (limit u)) (counted ts) (counted (t ∷ []))
+  of_more = ap places (filter-append (λ u. nat_le (target_speed u) v) ts (t ∷ []))
+      ∙ filter_map-append (λ u. option_map whole_mm (limit u)) (counted ts) (counted (t ∷ []))
 
   -- a target above the train's speed has no part in it
   pub not_counted : v < target_speed t → shown_limit v (ts ++ t ∷ []) limit ≡ shown_limit v ts limit
-  not_counted slower = ap least_of (of_more ∙ (rw (lt-leb (target_speed t) v slower) (append-nil (places (counted ts)))))
+  not_counted slower =
+      ap least_of (of_more ∙ (rw (lt-leb (target_speed t) v slower) (append-nil (places (counted ts)))))
 
-  place_behind : (x : Option ℤ) → option_map whole_mm (limit t) ≡ x → least_of (places (counted ts) ++ places (t ∷ [])) ≡ nearer (shown_limit v ts limit) x
-  place_behind None is = rw is (ap least_of (append-nil (places (counted ts))) ∙ sym (nearer_none (shown_limit v ts limit)))
+  place_behind : (x : Option ℤ) → option_map whole_mm (limit t) ≡ x →
+      least_of (places (counted ts) ++ places (t ∷ [])) ≡ nearer (shown_limit v ts limit) x
+  place_behind None is =
+      rw is (ap least_of (append-nil (places (counted ts))) ∙ sym (nearer_none (shown_limit v ts limit)))
   place_behind (Some y) is = rw is (least_of_more (places (counted ts)) y)
 
   -- of another the lesser of its limit and theirs, in whole millimetres
-  pub with_limit : target_speed t ≤ v → (x y : Option ℤ) → limit t ≡ option_map whole y → option_map mm_below x ≡ shown_limit v ts limit →
+  pub with_limit : target_speed t ≤ v → (x y : Option ℤ) → limit t ≡ option_map whole y →
+      option_map mm_below x ≡ shown_limit v ts limit →
       option_map mm_below (nearer x y) ≡ shown_limit v (ts ++ t ∷ []) limit
   with_limit slow x y is so_far =
-      mm_of_nearer x y ∙ (λ k. nearer (so_far k) (sym (mm_where y) k)) ∙ sym (ap least_of (of_more ∙ rw (le-leb (target_speed t) v slow) refl)
+      mm_of_nearer x y ∙ (λ k. nearer (so_far k) (sym (mm_where y) k))
+      ∙ sym (ap least_of (of_more ∙ rw (le-leb (target_speed t) v slow) refl)
       ∙ place_behind (option_map whole_mm (option_map whole y)) (ap (option_map whole_mm) is))
 
   -- and where each of them is taken so many grains earlier
-  pub with_earlier : target_speed t ≤ v → (k : ℕ) (x : Option ℤ) (y : ℤ) → limit t ≡ Some (whole (y +ℤ neg_ℤ (pos k))) → option_map (mm_before k) x ≡ shown_limit v ts limit →
+  pub with_earlier : target_speed t ≤ v → (k : ℕ) (x : Option ℤ) (y : ℤ) →
+      limit t ≡ Some (whole (y +ℤ neg_ℤ (pos k))) → option_map (mm_before k) x ≡ shown_limit v ts limit →
       option_map (mm_before k) (nearer x (Some y)) ≡ shown_limit v (ts ++ t ∷ []) limit
   with_earlier slow k None y is so_far = with_limit slow None (Some (y +ℤ neg_ℤ (pos k))) is so_far
   with_earlier slow k (Some x) y is so_far =
-      ap (λ z. Some (mm_below z)) (lesser_earlier x y k) ∙ with_limit slow (Some (x +ℤ neg_ℤ (pos k))) (Some (y +ℤ neg_ℤ (pos k))) is so_far
+      ap (λ z. Some (mm_below z)) (lesser_earlier x y k)
+      ∙ with_limit slow (Some (x +ℤ neg_ℤ (pos k))) (Some (y +ℤ neg_ℤ (pos k))) is so_far
 
 -- the nearest limits are not changed by a target above the train's speed
-pub nearest_without : (times : Times) (v : ℕ) (all : Target → SupervisionLimits) (ts : List Target) (t : Target) (near : Option Nearest) → v < target_speed t → AreNearest times v all ts near →
+pub nearest_without : (times : Times) (v : ℕ) (all : Target → SupervisionLimits) (ts : List Target) (t : Target)
+    (near : Option Nearest) → v < target_speed t → AreNearest times v all ts near →
     AreNearest times v all (ts ++ t ∷ []) near
 nearest_without times v all ts t near slower is = record {
   ebi = is.ebi ∙ sym (not_counted v ts t (λ u. (all u).ebi) slower);
@@ -115,24 +129,28 @@ nearest_without times v all ts t near slower is = record {
 -- ---- limits that lie so many grains before others
 
 module _ (d : TrainAndTrack) (e : Estimate) (t : Target) where
-  warning_of_kind : (kind : TargetKind) → (limits_of_kind computed d e t kind).warning ≡ less (limits_of_kind computed d e t kind).sbi (distance_at e.speed warning_time)
+  warning_of_kind : (kind : TargetKind) → (limits_of_kind computed d e t kind).warning
+      ≡ less (limits_of_kind computed d e t kind).sbi (distance_at e.speed warning_time)
   warning_of_kind Mrsp = refl
   warning_of_kind Loa = refl
   warning_of_kind Eoa = refl
   warning_of_kind Svl = refl
 
   indication_of_kind : (kind : TargetKind) →
-      (limits_of_kind computed d e t kind).indication ≡ less (limits_of_kind computed d e t kind).permitted (distance_at e.speed (reaction_times d).indication)
+      (limits_of_kind computed d e t kind).indication
+      ≡ less (limits_of_kind computed d e t kind).permitted (distance_at e.speed (reaction_times d).indication)
   indication_of_kind Mrsp = refl
   indication_of_kind Loa = refl
   indication_of_kind Eoa = refl
   indication_of_kind Svl = refl
 
-  warning_of : (limits_of computed d e t).warning ≡ less (limits_of computed d e t).sbi (distance_at e.speed warning_time)
+  warning_of : (limits_of computed d e t).warning
+      ≡ less (limits_of computed d e t).sbi (distance_at e.speed warning_time)
   unfolding limits_of
   warning_of = warning_of_kind t.kind
 
-  indication_of : (limits_of computed d e t).indication ≡ less (limits_of computed d e t).permitted (distance_at e.speed (reaction_times d).indication)
+  indication_of : (limits_of computed d e t).indication
+      ≡ less (limits_of computed d e t).permitted (distance_at e.speed (reaction_times d).indication)
   unfolding limits_of
   indication_of = indication_of_kind t.kind
 
@@ -141,20 +159,35 @@ whole_where None = refl
 whole_where (Some x) = refl
 
 -- a place so many grains before a whole one
-before_whole : (x y : Fraction) (k : ℕ) (z : ℤ) → x ≡ less y k → whole z ≡ y → Some x ≡ Some (whole (z +ℤ neg_ℤ (pos k)))
-before_whole x y k z is place = ap Some (is ∙ (λ i. less (sym place i) k) ∙ sym (whole_less (z +ℤ neg_ℤ (pos k)) z k refl))
+before_whole : (x y : Fraction) (k : ℕ) (z : ℤ) → x ≡ less y k → whole z ≡ y →
+    Some x ≡ Some (whole (z +ℤ neg_ℤ (pos k)))
+before_whole x y k z is place =
+    ap Some (is ∙ (λ i. less (sym place i) k) ∙ sym (whole_less (z +ℤ neg_ℤ (pos k)) z k refl))
 
 -- each nearest limit becomes the lesser of what it was and the target's
-pub nearest_with : (d : TrainAndTrack) (e : Estimate) (ts : List Target) (t : Target) (l : Limits) (near : Option Nearest) (new : Nearest) → target_speed t ≤ e.speed → places_of l ≡ limits_of computed d e t →
-    IsNearer near l new → AreNearest (reaction_times d) e.speed (limits_of computed d e) ts near → AreNearest (reaction_times d) e.speed (limits_of computed d e) (ts ++ t ∷ []) (Some new)
+pub nearest_with : (d : TrainAndTrack) (e : Estimate) (ts : List Target) (t : Target) (l : Limits)
+    (near : Option Nearest) (new : Nearest) → target_speed t ≤ e.speed → places_of l ≡ limits_of computed d e t →
+    IsNearer near l new → AreNearest (reaction_times d) e.speed (limits_of computed d e) ts near →
+    AreNearest (reaction_times d) e.speed (limits_of computed d e) (ts ++ t ∷ []) (Some new)
 nearest_with d e ts t l near new slow places is so_far =
     let all = limits_of computed d e in
-    let warned = before_whole (all t).warning (all t).sbi (distance_at e.speed warning_time) l.sbi.at (warning_of d e t) (λ k. (places k).sbi) in
-    let indicated = before_whole (all t).indication (all t).permitted (distance_at e.speed (reaction_times d).indication) l.permitted.at (indication_of d e t) (λ k. (places k).permitted) in
+    let warned = before_whole (all t).warning (all t).sbi (distance_at e.speed warning_time) l.sbi.at
+    (warning_of d e t) (λ k. (places k).sbi) in
+    let indicated = before_whole (all t).indication (all t).permitted
+    (distance_at e.speed (reaction_times d).indication) l.permitted.at (indication_of d e t)
+    (λ k. (places k).permitted) in
     record {
-      ebi = ap (option_map mm_below) is.ebi ∙ with_limit e.speed ts t (λ u. (all u).ebi) slow (ebi_in near) (option_map (λ x. x.at) l.ebi) (sym (λ k. (places k).ebi) ∙ whole_where l.ebi) so_far.ebi;
-      sbi = ap (option_map mm_below) is.sbi ∙ with_limit e.speed ts t (λ u. Some (all u).sbi) slow (sbi_in near) (Some l.sbi.at) (sym (λ k. Some (places k).sbi)) so_far.sbi;
-      warning = ap (option_map (mm_before (distance_at e.speed warning_time))) is.sbi ∙ with_earlier e.speed ts t (λ u. Some (all u).warning) slow (distance_at e.speed warning_time) (sbi_in near) l.sbi.at warned so_far.warning;
-      permitted = ap (option_map mm_below) is.permitted ∙ with_limit e.speed ts t (λ u. Some (all u).permitted) slow (permitted_in near) (Some l.permitted.at) (sym (λ k. Some (places k).permitted)) so_far.permitted;
-      indication = ap (option_map (mm_before (distance_at e.speed (reaction_times d).indication))) is.permitted ∙ with_earlier e.speed ts t (λ u. Some (all u).indication) slow (distance_at e.speed (reaction_times d).indication) (permitted_in near) l.permitted.at indicated so_far.indication;
+      ebi = ap (option_map mm_below) is.ebi ∙ with_limit e.speed ts t (λ u. (all u).ebi) slow (ebi_in near)
+          (option_map (λ x. x.at) l.ebi) (sym (λ k. (places k).ebi) ∙ whole_where l.ebi) so_far.ebi;
+      sbi = ap (option_map mm_below) is.sbi ∙ with_limit e.speed ts t (λ u. Some (all u).sbi) slow (sbi_in near)
+          (Some l.sbi.at) (sym (λ k. Some (places k).sbi)) so_far.sbi;
+      warning = ap (option_map (mm_before (distance_at e.speed warning_time))) is.sbi
+          ∙ with_earlier e.speed ts t (λ u. Some (all u).warning) slow (distance_at e.speed warning_time)
+          (sbi_in near) l.sbi.at warned so_far.warning;
+      permitted = ap (option_map mm_below) is.permitted ∙ with_limit e.speed ts t (λ u. Some (all u).permitted) slow
+          (permitted_in near) (Some l.permitted.at) (sym (λ k. Some (places k).permitted)) so_far.permitted;
+      indication = ap (option_map (mm_before (distance_at e.speed (reaction_times d).indication))) is.permitted
+          ∙ with_earlier e.speed ts t (λ u. Some (all u).indication) slow
+          (distance_at e.speed (reaction_times d).indication)
+          (permitted_in near) l.permitted.at indicated so_far.indication;
     }

@@ -1,6 +1,8 @@
--- One more target behind the others. A target above the train's speed only says whether it is covered, since no margin makes its speed
--- lower; and one whose indication limit is not passed says nothing, since that is the first of its limits.
-use Rattle.std.proofs.Common.{◌≡◌, ℕ, ℤ, pos, ◌+ℤ◌, ◌*ℤ◌, ◌≤ℤ◌, ◌<ℤ◌, Bool, true, false, not, ◌||◌, ◌&&◌, nat_lt, List, [], ◌∷◌, ◌++◌, ◌+◌, ◌≤◌, ◌<◌, Option, Some, None, refl, ap, sym, ◌∙◌, arith}
+-- One more target behind the others. A target above the train's speed only says whether it is covered, since no margin
+-- makes its speed lower; and one whose indication limit is not passed says nothing, since that is the first of its
+-- limits.
+use Rattle.std.proofs.Common.{◌≡◌, ℕ, ℤ, pos, ◌+ℤ◌, ◌*ℤ◌, ◌≤ℤ◌, ◌<ℤ◌, Bool, true, false, not, ◌||◌, ◌&&◌, nat_lt, List}
+use Rattle.std.proofs.Common.{[], ◌∷◌, ◌++◌, ◌+◌, ◌≤◌, ◌<◌, Option, Some, None, refl, ap, sym, ◌∙◌, arith}
 use Rattle.std.specs.Prelude.{IsTrue, ◌↔◌}
 use Rattle.std.specs.List.{list_all, list_any}
 use Rattle.std.specs.Option.{option_map_or}
@@ -62,10 +64,12 @@ module _ (v : ℕ) (est max : ℤ) (t : Target) where
   ebi_not_passed slower (Some ebi) = not_passed slower ebi_margin ebi
 
   -- nor is one that the front end is not past
-  not_reached : (margin : ℕ → ℕ) (limit : Fraction) → is_past 0 (front_for est max t.kind) limit ≡ false → passes v est max 0 margin t limit ≡ false
+  not_reached : (margin : ℕ → ℕ) (limit : Fraction) → is_past 0 (front_for est max t.kind) limit ≡ false →
+      passes v est max 0 margin t limit ≡ false
   not_reached margin limit ahead = rw ahead (and-false (nat_lt (with_margin margin t) v))
 
-  ebi_not_reached : (ebi : Option Fraction) → option_map_or (is_past 0 (front_for est max t.kind)) ebi false ≡ false → passes_ebi v est max 0 t ebi ≡ false
+  ebi_not_reached : (ebi : Option Fraction) → option_map_or (is_past 0 (front_for est max t.kind)) ebi false ≡ false →
+      passes_ebi v est max 0 t ebi ≡ false
   ebi_not_reached None ahead = refl
   ebi_not_reached (Some ebi) ahead = not_reached ebi_margin ebi ahead
 
@@ -78,21 +82,25 @@ past_of false at front is =
     (λ (le : front ≤ℤ at). sym (not_lt_is at (pos 1 *ℤ (front +ℤ pos 0)) (omega (arith, ints))))
 
 -- a target that is met by speed is covered
-pub covered_where_met : (max : ℤ) (met : Bool) (ebi : Option Fraction) → met ≡ true → option_map_or (λ e. not (is_past 0 max e) || met) ebi true ≡ true
+pub covered_where_met : (max : ℤ) (met : Bool) (ebi : Option Fraction) → met ≡ true →
+    option_map_or (λ e. not (is_past 0 max e) || met) ebi true ≡ true
 covered_where_met max met None is = refl
 covered_where_met max met (Some e) is = rw is (or-true (not (is_past 0 max e)))
 
 -- a target whose EBI is not passed is covered; the EOA has none
-covered_yet : (d : TrainAndTrack) (e : Estimate) (est max : ℤ) (t : Target) (kind : TargetKind) (met : Bool) → IsPastNone (front_for est max kind) (limits_of_kind computed d e t kind) →
+covered_yet : (d : TrainAndTrack) (e : Estimate) (est max : ℤ) (t : Target) (kind : TargetKind) (met : Bool) →
+    IsPastNone (front_for est max kind) (limits_of_kind computed d e t kind) →
     option_map_or (λ ebi. not (is_past 0 max ebi) || met) (limits_of_kind computed d e t kind).ebi true ≡ true
 covered_yet d e est max t Mrsp met none = rw none.ebi refl
 covered_yet d e est max t Loa met none = rw none.ebi refl
 covered_yet d e est max t Eoa met none = refl
 covered_yet d e est max t Svl met none = rw none.ebi refl
 
-module _ (d : TrainAndTrack) (e : Estimate) (est max : ℤ) (ts : List Target) (t : Target) (p : Verdict) (near : Option Nearest) (is : ArePassed d e est max ts p) where
+module _ (d : TrainAndTrack) (e : Estimate) (est max : ℤ) (ts : List Target) (t : Target) (p : Verdict)
+    (near : Option Nearest) (is : ArePassed d e est max ts p) where
   -- a target above the train's speed only says whether it is covered
-  pub slower_said : e.speed < target_speed t → (covered : Bool) → covered ≡ (p.covered && is_covered_for d max e t) → ArePassed d e est max (ts ++ t ∷ []) (record p { covered = covered; nearest = near })
+  pub slower_said : e.speed < target_speed t → (covered : Bool) → covered ≡ (p.covered && is_covered_for d max e t) →
+      ArePassed d e est max (ts ++ t ∷ []) (record p { covered = covered; nearest = near })
   slower_said slower covered covered_is = record {
     over = any_unless _ ts t p.over is.over (not_passed e.speed est max t slower no_margin _);
     warn = any_unless _ ts t p.warn is.warn (not_passed e.speed est max t slower warning_margin _);
@@ -103,7 +111,8 @@ module _ (d : TrainAndTrack) (e : Estimate) (est max : ℤ) (ts : List Target) (
   }
 
   -- up to its indication limit a target says nothing
-  pub nothing_said : is_past 0 (front_for est max t.kind) (limits_of computed d e t).indication ≡ false → ArePassed d e est max (ts ++ t ∷ []) (record p { nearest = near })
+  pub nothing_said : is_past 0 (front_for est max t.kind) (limits_of computed d e t).indication ≡ false →
+      ArePassed d e est max (ts ++ t ∷ []) (record p { nearest = near })
   unfolding limits_of
   nothing_said ahead =
       let none = past_none d e t (front_for est max t.kind) ahead in
@@ -113,9 +122,18 @@ module _ (d : TrainAndTrack) (e : Estimate) (est max : ℤ) (ts : List Target) (
         serv = any_unless _ ts t p.serv is.serv (not_reached e.speed est max t sbi_margin _ none.sbi);
         emer = any_unless _ ts t p.emer is.emer (ebi_not_reached e.speed est max t _ none.ebi);
         indicated = any_unless _ ts t p.indicated is.indicated (not_reached e.speed est max t no_margin _ ahead);
-        covered = all_where (is_covered_for d max e) ts t p.covered is.covered (covered_yet d e est max t t.kind (is_met_by_speed t.kind (v_bec_for d e t) (foot_speed_of t)) none);
+        covered = all_where (is_covered_for d max e) ts t p.covered is.covered
+            (covered_yet d e est max t t.kind (is_met_by_speed t.kind (v_bec_for d e t) (foot_speed_of t)) none);
       }
 
 -- where the nearest limits lie has no part in it
-pub same_passed : (d : TrainAndTrack) (e : Estimate) (est max : ℤ) (ts : List Target) (p : Verdict) (near : Option Nearest) → ArePassed d e est max ts p → ArePassed d e est max ts (record p { nearest = near })
-same_passed d e est max ts p near is = record { over = is.over; warn = is.warn; serv = is.serv; emer = is.emer; indicated = is.indicated; covered = is.covered }
+pub same_passed : (d : TrainAndTrack) (e : Estimate) (est max : ℤ) (ts : List Target) (p : Verdict)
+    (near : Option Nearest) → ArePassed d e est max ts p → ArePassed d e est max ts (record p { nearest = near })
+same_passed d e est max ts p near is = record {
+  over = is.over;
+  warn = is.warn;
+  serv = is.serv;
+  emer = is.emer;
+  indicated = is.indicated;
+  covered = is.covered;
+}

@@ -24,8 +24,8 @@ pub record IsProfileOf (d : TrainAndTrack) (p : ProfileData) : Type 0 where
   pub track_cm : d.track.length_cm ≡ p.track_cm
   pub speeds : d.track.speeds ≡ p.speeds
 
--- what every supervisor keeps beside its state: its profile is that of its data, its authority is accepted, and the targets that it keeps
--- are those of its profile and its authority
+-- what every supervisor keeps beside its state: its profile is that of its data, its authority is accepted, and the
+-- targets that it keeps are those of its profile and its authority
 pub record IsSupervisorOf (d : TrainAndTrack) (p : ProfileData) (a : Authority) (k : Kept) : Type 0 where
   pub profile : IsProfileOf d p
   pub authority : authority_fault d.track.length_cm a ≡ None
@@ -34,7 +34,8 @@ pub record IsSupervisorOf (d : TrainAndTrack) (p : ProfileData) (a : Authority) 
 -- the curve is the EBD of the fall of the MRSP at the start of a cell (SUBSET-026-3 3.13.8.3)
 pub record IsFallCurve (s : Supervision) (at : ℤ) (curve : BrakeCurve) : Type 0 where
   pub falls : is_fall (profile_of s) at ≡ true
-  pub ebd : IsCurveOn (slopes_of Safe s.train_and_track) (place_of_cell at) (foot_speed_of (fall_at (profile_of s) at)) curve
+  pub ebd : IsCurveOn (slopes_of Safe s.train_and_track) (place_of_cell at)
+      (foot_speed_of (fall_at (profile_of s) at)) curve
 
 -- the target by which an authority is kept by the emergency brake: the SvL, or the LOA (SUBSET-026-3 3.13.8.2)
 abbrev pub last_of : Authority → Target

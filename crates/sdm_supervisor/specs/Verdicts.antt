@@ -24,14 +24,15 @@ nearer None y = y
 nearer (Some x) None = Some x
 nearer (Some x) (Some y) = Some (int_min x y)
 
--- which limits of targets are passed, by an estimate with the estimated and the max safe front end, and whether each target is
--- covered (SUBSET-026-3 3.13.10.4; own)
+-- which limits of targets are passed, by an estimate with the estimated and the max safe front end, and whether each
+-- target is covered (SUBSET-026-3 3.13.10.4; own)
 pub record ArePassed (d : TrainAndTrack) (e : Estimate) (est max : ℤ) (ts : List Target) (v : Verdict) : Type 0 where
   pub over : v.over ≡ list_any (λ t. passes e.speed est max 0 no_margin t (limits_of computed d e t).permitted) ts
   pub warn : v.warn ≡ list_any (λ t. passes e.speed est max 0 warning_margin t (limits_of computed d e t).warning) ts
   pub serv : v.serv ≡ list_any (λ t. passes e.speed est max 0 sbi_margin t (limits_of computed d e t).sbi) ts
   pub emer : v.emer ≡ list_any (λ t. passes_ebi e.speed est max 0 t (limits_of computed d e t).ebi) ts
-  pub indicated : v.indicated ≡ list_any (λ t. passes e.speed est max 0 no_margin t (limits_of computed d e t).indication) ts
+  pub indicated : v.indicated
+      ≡ list_any (λ t. passes e.speed est max 0 no_margin t (limits_of computed d e t).indication) ts
   pub covered : v.covered ≡ list_all (is_covered_for d max e) ts
 
 -- the nearest limit of a name, where there is one (own)
@@ -54,14 +55,18 @@ pub record IsNearer (near : Option Nearest) (l : Limits) (new : Nearest) : Type 
 abbrev pub mm_before : ℕ → ℤ → ℤ
 mm_before k z = mm_below (z +ℤ neg_ℤ (pos k))
 
--- the nearest limits at a speed in notches, in whole millimetres, are those that are printed of targets: the warning limit lies
--- V_est * T_warning before the SBI, and the indication limit V_est * T_indication before the permitted limit (SUBSET-026-3 3.13.9.3; own)
-pub record AreNearest (times : Times) (v : ℕ) (limits : Target → SupervisionLimits) (ts : List Target) (near : Option Nearest) : Type 0 where
+-- the nearest limits at a speed in notches, in whole millimetres, are those that are printed of targets: the warning
+-- limit lies V_est * T_warning before the SBI, and the indication limit V_est * T_indication before the permitted
+-- limit (SUBSET-026-3 3.13.9.3; own)
+pub record AreNearest (times : Times) (v : ℕ) (limits : Target → SupervisionLimits) (ts : List Target)
+    (near : Option Nearest) : Type 0 where
   pub ebi : option_map mm_below (ebi_in near) ≡ shown_limit v ts (λ t. (limits t).ebi)
   pub sbi : option_map mm_below (sbi_in near) ≡ shown_limit v ts (λ t. Some (limits t).sbi)
-  pub warning : option_map (mm_before (distance_at v warning_time)) (sbi_in near) ≡ shown_limit v ts (λ t. Some (limits t).warning)
+  pub warning : option_map (mm_before (distance_at v warning_time)) (sbi_in near)
+      ≡ shown_limit v ts (λ t. Some (limits t).warning)
   pub permitted : option_map mm_below (permitted_in near) ≡ shown_limit v ts (λ t. Some (limits t).permitted)
-  pub indication : option_map (mm_before (distance_at v times.indication)) (permitted_in near) ≡ shown_limit v ts (λ t. Some (limits t).indication)
+  pub indication : option_map (mm_before (distance_at v times.indication)) (permitted_in near)
+      ≡ shown_limit v ts (λ t. Some (limits t).indication)
 
 -- what targets say together (SUBSET-026-3 3.13.10; own)
 pub record IsVerdictOf (d : TrainAndTrack) (e : Estimate) (est max : ℤ) (ts : List Target) (v : Verdict) : Type 0 where

@@ -1,4 +1,5 @@
-//! What a reading is judged by, once everything is found: the triggers, the type of speed and distance monitoring, and the row.
+//! What a reading is judged by, once everything is found: the triggers, the type of speed and distance monitoring, and
+//! the row.
 
 ghost use Rattle.std.specs.Prelude.{◌≡◌, ◌≤◌, ◌+◌, false, IfSome, nat_lt};
 ghost use Rattle.std.specs.Option.{option_map_or};
@@ -93,7 +94,8 @@ impl Findings {
         }
     }
 
-    /// The type of speed and distance monitoring; release speed monitoring is decided first. (SUBSET-026-3 3.13.10.6; own)
+    /// The type of speed and distance monitoring; release speed monitoring is decided first. (SUBSET-026-3 3.13.10.6;
+    /// own)
     pub fn state(&self) -> State
         ensures { (s : Supervision) (r : OdometerReading) → IsFoundAt s r self.now →
             result ≡ state_in s.train_and_track r (situation_of s r) }

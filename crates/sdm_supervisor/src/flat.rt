@@ -84,14 +84,15 @@ impl Flat {
         })
     }
 
-    /// Takes a line: time in ds, front end and speed. TimeBack comes exactly where the time is before the last accepted
-    /// one, and changes nothing. From a covered row every motion that brakes at least at the deceleration stops by the
-    /// end. (own)
+    /// Takes a line: time in ds, front end and speed. TimeBack comes exactly where the time is before the last
+    /// accepted one, and changes nothing. From a covered row every motion that brakes at least at the deceleration
+    /// stops by the end. (own)
     pub fn cycle(&mut self, time: u32, front: Place, speed: Speed) -> Result<FlatRow, CycleFault>
         requires { IsFlatLine (line_at time front speed) }
         ensures row { IfOk result (λ row. row ≡ flat_row self.old (line_at time front speed)) }
         ensures after { IfOk result (λ _. self.new ≡ after_flat_line self.old (line_at time front speed)) }
-        ensures ebi { IfOk result (λ row. (v : ℕ) → speed ≡ notches_of_mm_s v → row.ebi ≡ ebi_mm self.old.decel self.old.end v) }
+        ensures ebi { IfOk result
+            (λ row. (v : ℕ) → speed ≡ notches_of_mm_s v → row.ebi ≡ ebi_mm self.old.decel self.old.end v) }
         ensures order { IfOk result (λ row. KeepsFlatOrder self.old (line_at time front speed) row.eb) }
         ensures stop { IfOk result (λ row. IsTrue row.covered → StopsByFlatEnd self.old (line_at time front speed)) }
 

@@ -1,5 +1,6 @@
-//! The supervisor: from the data of a journey and its first authority on, every record changes the supervision state as the definitions say,
-//! and every reading gives its row. Nothing above this crate knows of brake curves; nothing in it knows of text.
+//! The supervisor: from the data of a journey and its first authority on, every record changes the supervision state
+//! as the definitions say, and every reading gives its row. Nothing above this crate knows of brake curves; nothing in
+//! it knows of text.
 #![tactic(auto)]
 
 mod findings;

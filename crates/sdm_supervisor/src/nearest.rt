@@ -8,9 +8,9 @@ ghost use Rattle.sdm_limits.specs.Sides.{AreNear};
 use sdm_limits::Limits;
 use sdm_num::Place;
 
-/// The nearest EBI, SBI and permitted limit over targets whose speed is at most the train's; no EBI where they are EOAs alone. At one speed
-/// each warning limit lies as far before its SBI as any other, and each indication limit before its permitted limit: so the nearest of
-/// these follow. (SUBSET-026-3 3.13.9.3; own)
+/// The nearest EBI, SBI and permitted limit over targets whose speed is at most the train's; no EBI where they are
+/// EOAs alone. At one speed each warning limit lies as far before its SBI as any other, and each indication limit
+/// before its permitted limit: so the nearest of these follow. (SUBSET-026-3 3.13.9.3; own)
 #[derive(Clone, Copy, Debug, PartialEq, Eq)]
 pub struct Nearest {
     pub ebi: Option<Place>,

@@ -1,15 +1,18 @@
-//! The supervisor of a journey. All its memory is taken when it begins; a record takes none. What it is worth is said by the clauses of
-//! `cycle`: its emergency command lies between that of a machine with exact limits of targets and that of the same machine with each
-//! a millimetre earlier, and from every covered row every motion within the reading's bounds stops at or before the SvL, if there is one.
+//! The supervisor of a journey. All its memory is taken when it begins; a record takes none. What it is worth is said
+//! by the clauses of `cycle`: its emergency command lies between that of a machine with exact limits of targets and
+//! that of the same machine with each a millimetre earlier, and from every covered row every motion within the
+//! reading's bounds stops at or before the SvL, if there is one.
 
-ghost use Rattle.std.specs.Prelude.{◌≡◌, ◌≤◌, ◌≤ℤ◌, pos, MatchOption, IsTrue, false, None, Some, IfOk, IfErr, OnOk, OnErr};
+ghost use Rattle.std.specs.Prelude.{◌≡◌, ◌≤◌, ◌≤ℤ◌, pos, MatchOption, IsTrue, false, None, Some, IfOk, IfErr, OnOk};
+ghost use Rattle.std.specs.Prelude.{OnErr};
 ghost use Rattle.sdm_num.specs.Readings.{IsReading};
 ghost use Rattle.sdm_rules.specs.Machines.{KeepsOrder};
 ghost use Rattle.sdm_rules.specs.Opening.{IsAccepted, IsOpen};
 ghost use Rattle.sdm_rules.specs.Promises.{BeginsReleaseMonitoring, HasOnlyGaps, IsWithinCeiling};
 ghost use Rattle.sdm_rules.specs.Records.{authority_fault, restrict_fault, revoke_fault, time_fault};
 ghost use Rattle.sdm_rules.specs.Stop.{IsSafe};
-ghost use Rattle.sdm_rules.specs.Supervision.{after_authority, after_reading, after_restriction, after_revocation, opening, profile_of, row_of};
+ghost use Rattle.sdm_rules.specs.Supervision.{after_authority, after_reading, after_restriction, after_revocation};
+ghost use Rattle.sdm_rules.specs.Supervision.{opening, profile_of, row_of};
 ghost use Rattle.sdm_rules.specs.Targets.{is_fall};
 ghost use Rattle.sdm_rules.specs.Ranges.{top_kmh};
 ghost use Rattle.sdm_decel.specs.Slopes.{train_and_track_from};
@@ -32,8 +35,9 @@ use sdm_train::Train;
 use std::alloc::Global;
 use std::marker::Model;
 
-/// The supervisor of a journey: its value is the supervision state of the definitions, that is the data, the authority, the temporary
-/// restrictions in force, the time of the last reading, and the commands that are held. (SUBSET-026-3 3.13.10; own)
+/// The supervisor of a journey: its value is the supervision state of the definitions, that is the data, the
+/// authority, the temporary restrictions in force, the time of the last reading, and the commands that are held.
+/// (SUBSET-026-3 3.13.10; own)
 #[derive(Drop)]
 pub struct Supervisor {
     braking: Braking,
@@ -55,7 +59,14 @@ impl Model for Supervisor {
 
     ghost coded = { Prim.hlevel (codes, coded_restrictions) };
 
-    ghost view = { λ s. record { train_and_track = s.braking; authority = s.authority; restrictions = s.profile.restrictions; last_time = s.last_time; commands = s.held } };
+    ghost view = { λ s. record {
+      train_and_track = s.braking;
+      authority = s.authority;
+      restrictions =
+          s.profile.restrictions;
+      last_time = s.last_time;
+      commands = s.held;
+    } };
 
     ghost invariant = { λ s. IsSupervisorOf s.braking s.profile s.authority s.kept };
 }
@@ -69,10 +80,10 @@ const NOTHING_HELD: Held = Held {
 };
 
 impl Supervisor {
-    /// The supervisor of a journey with its first authority: no restriction is in force, no reading was taken, and no command is held. It is
-    /// refused by the first of these: slopes that are too weak or too varied, of the safe, then of the expected, then of the normal
-    /// kind (TooWeak before TooVaried); an authority that `check_authority` refuses for the track. Memory may come in place of
-    /// each. (SUBSET-026-3 3.13.2; refusals own)
+    /// The supervisor of a journey with its first authority: no restriction is in force, no reading was taken, and no
+    /// command is held. It is refused by the first of these: slopes that are too weak or too varied, of the safe, then
+    /// of the expected, then of the normal kind (TooWeak before TooVaried); an authority that `check_authority`
+    /// refuses for the track. Memory may come in place of each. (SUBSET-026-3 3.13.2; refusals own)
     pub fn begin(
         alloc: Global,
         train: Train,
@@ -120,8 +131,8 @@ impl Supervisor {
         })
     }
 
-    /// Takes a new authority in place of the old one; no command changes. Refused where `check_authority` refuses it for the track; nothing
-    /// is then changed. (SUBSET-026-3 3.8; refusals own)
+    /// Takes a new authority in place of the old one; no command changes. Refused where `check_authority` refuses it
+    /// for the track; nothing is then changed. (SUBSET-026-3 3.8; refusals own)
     pub fn authority(&mut self, a: Authority) -> Result<(), AuthorityFault>
         ensures accepted { OnOk result (authority_fault self.old.train_and_track.track.length_cm a ≡ None) }
         ensures taken { OnOk result (self.new ≡ after_authority self.old a) }
@@ -134,12 +145,14 @@ impl Supervisor {
         Ok(())
     }
 
-    /// Puts a temporary restriction of 1 to 500 km/h into force. Refused where 32 are held, where one with its identity is held, and where it
-    /// ends at or before its start or past the track's end; nothing is then changed. (SUBSET-026-3 3.11.5; refusals own)
+    /// Puts a temporary restriction of 1 to 500 km/h into force. Refused where 32 are held, where one with its
+    /// identity is held, and where it ends at or before its start or past the track's end; nothing is then changed.
+    /// (SUBSET-026-3 3.11.5; refusals own)
     pub fn restrict(&mut self, r: Restriction) -> Result<(), RestrictFault>
         requires slowest { 1 ≤ r.speed }
         requires fastest { r.speed ≤ top_kmh }
-        ensures accepted { OnOk result (restrict_fault self.old.train_and_track.track.length_cm self.old.restrictions r ≡ None) }
+        ensures accepted { OnOk result
+            (restrict_fault self.old.train_and_track.track.length_cm self.old.restrictions r ≡ None) }
         ensures taken { OnOk result (self.new ≡ after_restriction self.old r) }
         ensures refused { IfErr result
             (λ fault. restrict_fault self.old.train_and_track.track.length_cm self.old.restrictions r ≡ Some fault) }
@@ -151,7 +164,8 @@ impl Supervisor {
         Ok(())
     }
 
-    /// Takes a temporary restriction out of force. Refused where none with this identity is held; nothing is then changed. (own)
+    /// Takes a temporary restriction out of force. Refused where none with this identity is held; nothing is then
+    /// changed. (own)
     pub fn revoke(&mut self, id: u16) -> Result<(), RevokeFault>
         ensures accepted { OnOk result (revoke_fault self.old.restrictions id ≡ None) }
         ensures taken { OnOk result (self.new ≡ after_revocation self.old id) }
@@ -218,13 +232,14 @@ impl Supervisor {
         }
     }
 
-    /// Judges a reading, and takes its time and the commands after it. TimeBack comes exactly where its time is before that of the last
-    /// reading, and changes nothing. (SUBSET-026-3 3.13.10; own)
+    /// Judges a reading, and takes its time and the commands after it. TimeBack comes exactly where its time is before
+    /// that of the last reading, and changes nothing. (SUBSET-026-3 3.13.10; own)
     ///
-    /// The row is that of the definitions. Its emergency command keeps the order of the three machines: that with exact limits of targets,
-    /// this one, and that with every limit one millimetre earlier. From a covered row every motion within the bounds of the reading stops
-    /// by the SvL, where there is one, and meets each speed target; a row without emergency command that isn't covered has a gap, which is
-    /// a speed target. Without emergency command the estimated speed is at most the ceiling with its EBI margin.
+    /// The row is that of the definitions. Its emergency command keeps the order of the three machines: that with
+    /// exact limits of targets, this one, and that with every limit one millimetre earlier. From a covered row every
+    /// motion within the bounds of the reading stops by the SvL, where there is one, and meets each speed target; a
+    /// row without emergency command that isn't covered has a gap, which is a speed target. Without emergency command
+    /// the estimated speed is at most the ceiling with its EBI margin.
     pub fn cycle(&mut self, reading: &Reading) -> Result<Row, CycleFault>
         ensures in_time { OnOk result (time_fault self.old.last_time reading.now.time ≡ None) }
         ensures row { IfOk result (λ row. row ≡ row_of self.old reading.now) }

@@ -1,4 +1,5 @@
-//! What the targets of a reading say together. Each target is looked at once, and what it says is added to what the others said.
+//! What the targets of a reading say together. Each target is looked at once, and what it says is added to what the
+//! others said.
 
 ghost use Rattle.std.specs.Prelude.{◌≡◌, ◌++◌, ◌∷◌, ◌&&◌, All, List, [], map, nat_lt};
 ghost use Rattle.sdm_rules.specs.Data.{TrainAndTrack};
@@ -25,9 +26,9 @@ pub struct Fronts {
     pub max: Place,
 }
 
-/// What targets say at a reading: whether the train is above the speed of one of them and past its permitted, warning, service brake
-/// intervention, emergency brake intervention or indication limit; whether each of them is covered; and the nearest limits.
-/// (SUBSET-026-3 3.13.10; own)
+/// What targets say at a reading: whether the train is above the speed of one of them and past its permitted, warning,
+/// service brake intervention, emergency brake intervention or indication limit; whether each of them is covered; and
+/// the nearest limits. (SUBSET-026-3 3.13.10; own)
 #[derive(Clone, Copy, Debug, PartialEq, Eq)]
 pub struct Verdict {
     pub over: bool,
@@ -50,7 +51,8 @@ const NOTHING_SAID: Verdict = Verdict {
     nearest: None,
 };
 
-/// The front end that a target compares: the estimated one for the EOA, else the max safe one. (SUBSET-026-3 3.13.10.4)
+/// The front end that a target compares: the estimated one for the EOA, else the max safe one. (SUBSET-026-3
+/// 3.13.10.4)
 fn front_for(fronts: &Fronts, kind: TargetKind) -> Place
     ensures { result ≡ front_for fronts.now.est fronts.now.max kind }
 {
@@ -60,16 +62,16 @@ fn front_for(fronts: &Fronts, kind: TargetKind) -> Place
     }
 }
 
-/// Whether a limit of a target is passed: the estimated speed is above the target's with a margin, and the front end that the target
-/// compares is past the limit. (SUBSET-026-3 3.13.10.4; own)
+/// Whether a limit of a target is passed: the estimated speed is above the target's with a margin, and the front end
+/// that the target compares is past the limit. (SUBSET-026-3 3.13.10.4; own)
 fn passes(v_est: Speed, front: Place, above: Speed, limit: Early) -> bool
     ensures { result ≡ (nat_lt above v_est && is_past 0 front (place_of limit)) }
 {
     above < v_est && limit.is_passed_by(front)
 }
 
-/// Whether a target with this EBI is covered: the max safe front end is at or before the EBI, if there is one, or the target is met by
-/// speed. (own)
+/// Whether a target with this EBI is covered: the max safe front end is at or before the EBI, if there is one, or the
+/// target is met by speed. (own)
 fn is_covered(asked: &AskedEstimate, max: Place, kept: &KeptTarget, ebi: Option<Early>) -> bool
     requires target { IsTarget kept.now.target }
     requires speeds { AreSpeedsOf kept.now.target kept.now.speeds }
@@ -90,11 +92,13 @@ impl Verdict {
         requires kept { IsKeptTarget braking.now kept.now }
         ensures { (ts : List Target) →
             IsVerdictOf braking.now asked.now.estimate fronts.now.est fronts.now.max ts self.old →
-            IsVerdictOf braking.now asked.now.estimate fronts.now.est fronts.now.max (ts ++ kept.now.target ∷ []) self.new }
+            IsVerdictOf braking.now asked.now.estimate fronts.now.est fronts.now.max
+            (ts ++ kept.now.target ∷ []) self.new }
     {
         let v_est = asked.estimate.speed();
         let speeds = &kept.speeds;
-        // A target above the train's speed is not passed, and none of its limits counts. Most such targets are met by speed.
+        // A target above the train's speed is not passed, and none of its limits counts. Most such targets are met by
+        // speed.
         if v_est < speeds.permitted {
             self.covered = self.covered
                 && (asked.is_met_by_speed(kept)
@@ -119,8 +123,8 @@ impl Verdict {
         self.covered &= is_covered(asked, fronts.max, kept, limits.ebi);
     }
 
-    /// What falls and the targets at the end of the authority say together at a reading; in release speed monitoring the EOA and the
-    /// SvL are none. (SUBSET-026-3 3.13.10; own)
+    /// What falls and the targets at the end of the authority say together at a reading; in release speed monitoring
+    /// the EOA and the SvL are none. (SUBSET-026-3 3.13.10; own)
     pub fn of(
         braking: &Braking,
         asked: &AskedEstimate,

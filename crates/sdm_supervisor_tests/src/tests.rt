@@ -1,10 +1,11 @@
-//! Journeys of which each record is answered as it was worked out outside of this program: by hand, or by a model in exact fractions.
+//! Journeys of which each record is answered as it was worked out outside of this program: by hand, or by a model in
+//! exact fractions.
 //!
-//! A table is text. An empty line parts its journeys. A journey begins with what it shows, after `#`, and with what its data have
-//! otherwise than the base data: sections with their keys, or with the numbers of their entries. Its records follow in the form of the
-//! product's input, each with its answer: the row as the product prints it, a fault, or `taken`. `up to` with an identity stands for
-//! as many restrictions alike as bring the identities up to that one, `come and go` with a number for so many restrictions alike, each
-//! revoked before the next.
+//! A table is text. An empty line parts its journeys. A journey begins with what it shows, after `#`, and with what
+//! its data have otherwise than the base data: sections with their keys, or with the numbers of their entries. Its
+//! records follow in the form of the product's input, each with its answer: the row as the product prints it, a fault,
+//! or `taken`. `up to` with an identity stands for as many restrictions alike as bring the identities up to that one,
+//! `come and go` with a number for so many restrictions alike, each revoked before the next.
 
 mod curves;
 mod data;

@@ -1,5 +1,8 @@
--- A profile has no more falls than entries and restrictions: each lies where a zone begins that none of the earlier ones has.
-use Rattle.std.proofs.Common.{◌≡◌, ℕ, zero, suc, ℤ, List, [], ◌∷◌, length, get_or, map, Option, Some, None, Bool, true, false, ◌||◌, if◌then◌else◌, int_le, ◌+◌, ◌<◌, ◌≤◌, ◌≤ℤ◌, ◌<ℤ◌, refl, ap, arith, length-append}
+-- A profile has no more falls than entries and restrictions: each lies where a zone begins that none of the earlier
+-- ones has.
+use Rattle.std.proofs.Common.{◌≡◌, ℕ, zero, suc, ℤ, List, [], ◌∷◌, length, get_or, map, Option, Some, None, Bool, true}
+use Rattle.std.proofs.Common.{false, ◌||◌, if◌then◌else◌, int_le, ◌+◌, ◌<◌, ◌≤◌, ◌≤ℤ◌, ◌<ℤ◌, refl, ap, arith}
+use Rattle.std.proofs.Common.{length-append}
 use Rattle.std.specs.Option.{option_map_or}
 use Rattle.std.specs.Ordering.{int_eq}
 use Rattle.std.specs.FinMap as finite
@@ -30,7 +33,8 @@ passed (z ∷ zs) at = begun z.first at + passed zs at
 
 begun_most : (first : Option ℤ) (at : ℤ) → begun first at ≤ 1
 begun_most None at = omega arith
-begun_most (Some f) at = by_lt_z at f (λ (l : at <ℤ f). rw (not_le_is f at l) (omega arith)) (λ (g : f ≤ℤ at). rw (le_is f at g) (omega arith))
+begun_most (Some f) at = by_lt_z at f (λ (l : at <ℤ f). rw (not_le_is f at l) (omega arith))
+    (λ (g : f ≤ℤ at). rw (le_is f at g) (omega arith))
 
 begun_rises : (first : Option ℤ) (at c : ℤ) → at ≤ℤ c → begun first at ≤ begun first c
 begun_rises None at c le = omega arith
@@ -39,7 +43,8 @@ begun_rises (Some f) at c le =
     (λ (l : at <ℤ f). rw (not_le_is f at l) (omega arith))
     (λ (g : f ≤ℤ at). rw (le_is f at g, le_is f c (omega (arith, ints))) (omega arith))
 
-begun_here : (first : Option ℤ) (at c : ℤ) → at <ℤ c → option_map_or (int_eq c) first false ≡ true → begun first at + 1 ≤ begun first c
+begun_here : (first : Option ℤ) (at c : ℤ) → at <ℤ c → option_map_or (int_eq c) first false ≡ true →
+    begun first at + 1 ≤ begun first c
 begun_here None at c lt here = absurd cc
 begun_here (Some f) at c lt here =
     let same : c ≡ f = (Decides-int_eq c f).0 here in
@@ -55,7 +60,8 @@ unfolding passed
 passed_rises [] at c le = omega arith
 passed_rises (z ∷ zs) at c le = omega (arith, begun_rises z.first at c le, passed_rises zs at c le)
 
-one_of : (a b : Bool) (k l m n : ℕ) → (a ≡ true → k + 1 ≤ l) → k ≤ l → (b ≡ true → m + 1 ≤ n) → m ≤ n → (a || b) ≡ true → (k + m) + 1 ≤ l + n
+one_of : (a b : Bool) (k l m n : ℕ) → (a ≡ true → k + 1 ≤ l) → k ≤ l → (b ≡ true → m + 1 ≤ n) → m ≤ n →
+    (a || b) ≡ true → (k + m) + 1 ≤ l + n
 one_of true b k l m n first le rest rises here = omega (arith, first refl)
 one_of false true k l m n first le rest rises here = omega (arith, rest refl)
 one_of false false k l m n first le rest rises here = absurd cc
@@ -65,11 +71,13 @@ unfolding passed
 passed_more [] at c lt here = absurd cc
 passed_more (z ∷ zs) at c lt here =
     let le : at ≤ℤ c = omega (arith, ints) in
-    one_of (starts_at c z) (has_start zs c) _ _ _ _ (begun_here z.first at c lt) (begun_rises z.first at c le) (passed_more zs at c lt) (passed_rises zs at c le) here
+    one_of (starts_at c z) (has_start zs c) _ _ _ _ (begun_here z.first at c lt) (begun_rises z.first at c le)
+    (passed_more zs at c lt) (passed_rises zs at c le) here
 
 -- ---- the zones of a profile
 
-static_count : (length_cm : ℤ) (first : Option ℤ) (e : SpeedStep) (es : List SpeedStep) → length (static_zones length_cm first e es) ≡ length (e ∷ es)
+static_count : (length_cm : ℤ) (first : Option ℤ) (e : SpeedStep) (es : List SpeedStep) →
+    length (static_zones length_cm first e es) ≡ length (e ∷ es)
 static_count length_cm first e [] = refl
 static_count length_cm first e (next ∷ es) = ap suc (static_count length_cm (Some next.start) next es)
 
@@ -79,26 +87,38 @@ track_count length_cm (e ∷ es) = static_count length_cm None e es
 
 pub zones_few : (p : ProfileData) → IsProfile p → length (zones_of p) ≤ length p.speeds + most_restrictions
 zones_few p h =
-    rw (length-append (zones_of_track p.length_cm p.speeds) (map (zone_of p.length_cm) (finite.values p.restrictions)), track_count p.length_cm p.speeds, length-map (finite.values p.restrictions) (zone_of p.length_cm), length-map (finite.entries p.restrictions) (λ e. e.1), ← finite.len-entries p.restrictions)
+    rw (
+      length-append (zones_of_track p.length_cm p.speeds) (map (zone_of p.length_cm) (finite.values p.restrictions)),
+      track_count p.length_cm p.speeds,
+      length-map (finite.values p.restrictions) (zone_of p.length_cm),
+      length-map (finite.entries p.restrictions) (λ e. e.1),
+      ← finite.len-entries p.restrictions,
+    )
     (omega (arith, h.few))
 
 pub falls_few : (p : ProfileData) (at : ℤ) (n : ℕ) → IsProfile p → n ≤ passed (zones_of p) at → n ≤ most_falls
 falls_few p at n h le = omega (arith, passed_most (zones_of p) at, zones_few p h, h.speeds.few)
 
 -- one fall more
-pub fall_counts : (p : ProfileData) (at : ℤ) (fall : Fall) → IsNextFall (mrsp_of p) at fall → passed (zones_of p) at + 1 ≤ passed (zones_of p) fall.cell
-fall_counts p at fall next = passed_more (zones_of p) at fall.cell next.beyond (starts_at_fall p.max_speed (zones_of p) fall.cell next.falls)
+pub fall_counts : (p : ProfileData) (at : ℤ) (fall : Fall) → IsNextFall (mrsp_of p) at fall →
+    passed (zones_of p) at + 1 ≤ passed (zones_of p) fall.cell
+fall_counts p at fall next =
+    passed_more (zones_of p) at fall.cell next.beyond (starts_at_fall p.max_speed (zones_of p) fall.cell next.falls)
 
-module _ {A : Type 0} (fall : A → Fall) (p : ℤ → ℕ) (zs : List Zone) (starts : (c : ℤ) → is_fall p c ≡ true → has_start zs c ≡ true) where
+module _ {A : Type 0} (fall : A → Fall) (p : ℤ → ℕ) (zs : List Zone)
+    (starts : (c : ℤ) → is_fall p c ≡ true → has_start zs c ≡ true) where
   step : (at : ℤ) (x : A) → IsNextFall p at (fall x) → passed zs at + 1 ≤ passed zs (fall x).cell
   step at x next = passed_more zs at (fall x).cell next.beyond (starts (fall x).cell next.falls)
 
   -- what stands at falls up to a cell is no more than the zones that have begun there
-  pub falls_up_to_few : (after at : ℤ) (xs : List A) (i : ℕ) → after ≤ℤ at → i ≤ length xs → ((k : ℕ) (d : A) → k < i → k < length xs → (fall (get_or xs k d)).cell ≤ℤ at) → AreAtFalls fall p after xs → i + passed zs after ≤ passed zs at
+  pub falls_up_to_few : (after at : ℤ) (xs : List A) (i : ℕ) → after ≤ℤ at → i ≤ length xs →
+      ((k : ℕ) (d : A) → k < i → k < length xs → (fall (get_or xs k d)).cell ≤ℤ at) → AreAtFalls fall p after xs →
+      i + passed zs after ≤ passed zs at
   falls_up_to_few after at xs zero le known reached h = omega (arith, passed_rises zs after at le)
   falls_up_to_few after at [] (suc i) le known reached h = absurd (omega arith)
   falls_up_to_few after at (x ∷ xs) (suc i) le known reached h =
-      let rest = falls_up_to_few (fall x).cell at xs i (reached 0 x (omega arith) (omega arith)) (omega arith) (λ k d l m. reached (suc k) d (omega arith) (omega arith)) h.1 in
+      let rest = falls_up_to_few (fall x).cell at xs i (reached 0 x (omega arith) (omega arith)) (omega arith)
+      (λ k d l m. reached (suc k) d (omega arith) (omega arith)) h.1 in
       omega (arith, step after x h.0, rest)
 
   -- and what stands at those past it no more than the others

@@ -18,7 +18,8 @@ cell_not_before_0 c h = omega (arith, ints)
 cell_on_track : (c : ℤ) → c ≤ℤ pos longest_track → place_of_cell c ≤ℤ place_of_cell (pos longest_track)
 cell_on_track c h = omega (arith, ints)
 
-pub one_more_on_track : (ts : List Target) (fall : Fall) → All IsTarget ts → IsFallInRange fall → All IsTarget (ts ++ record { kind = Mrsp; place = place_of_cell fall.cell; speed = fall.speed } ∷ [])
+pub one_more_on_track : (ts : List Target) (fall : Fall) → All IsTarget ts → IsFallInRange fall →
+    All IsTarget (ts ++ record { kind = Mrsp; place = place_of_cell fall.cell; speed = fall.speed } ∷ [])
 one_more_on_track ts fall each on =
     All-append IsTarget ts _ each (All-cons IsTarget _ [] (record {
       not_before = cell_not_before_0 fall.cell on.not_before;

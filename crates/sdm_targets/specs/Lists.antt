@@ -25,10 +25,11 @@ room = 170
 abbrev pub most_falls : ℕ
 most_falls = most_speeds + most_restrictions
 
--- the targets at the falls past the start of a cell, up to and with that of the cell `end`, in order (SUBSET-026-3 3.13.8.2; own
--- cell form)
+-- the targets at the falls past the start of a cell, up to and with that of the cell `end`, in order (SUBSET-026-3
+-- 3.13.8.2; own cell form)
 abbrev pub falls_past : (ℤ → ℕ) → ℤ → ℤ → List Target
-falls_past profile after end = map (fall_at profile) (filter (is_fall profile) (cells (after +ℤ pos 1) (int_gap after end)))
+falls_past profile after end =
+    map (fall_at profile) (filter (is_fall profile) (cells (after +ℤ pos 1) (int_gap after end)))
 
 -- the ends of the authority lie on the longest track, and a limit's speed is at most 500 km/h
 abbrev pub IsOnTrack : Authority → Type 0

@@ -38,9 +38,9 @@ fn check_limit(loa: u32, speed: u16, track_cm: u32) -> Result<(), AuthorityFault
     Ok(())
 }
 
-/// Accepts an authority for a track of this length in cm. Refused, by the first of these: where the SvL lies before the EOA;
-/// where the SvL or the LOA lies past the track's end; where a limit's speed is 0 or above 500 km/h, or a release speed is above
-/// 500 km/h. (SUBSET-026-3 3.8; refusals own)
+/// Accepts an authority for a track of this length in cm. Refused, by the first of these: where the SvL lies before
+/// the EOA; where the SvL or the LOA lies past the track's end; where a limit's speed is 0 or above 500 km/h, or a
+/// release speed is above 500 km/h. (SUBSET-026-3 3.8; refusals own)
 pub fn check_authority(a: &Authority, track_cm: u32) -> Result<(), AuthorityFault>
     ensures accepted { OnOk result (authority_fault (pos track_cm) a.now ≡ None) }
     ensures refused { IfErr result (λ fault. authority_fault (pos track_cm) a.now ≡ Some fault) }

@@ -8,8 +8,8 @@ use sdm_ceiling::dv_ebi;
 use sdm_num::Speed;
 use sdm_rules::{Target, TargetKind};
 
-/// The foot speed of a target's EBD: the target speed, at most 500 km/h, with its EBI margin; 0 at the EOA and the SvL.
-/// (SUBSET-026-3 3.13.8.3)
+/// The foot speed of a target's EBD: the target speed, at most 500 km/h, with its EBI margin; 0 at the EOA and the
+/// SvL. (SUBSET-026-3 3.13.8.3)
 pub fn foot_speed(t: &Target) -> Speed
     requires { t.now.speed ≤ top_kmh }
     ensures { result ≡ foot_speed_of t.now }

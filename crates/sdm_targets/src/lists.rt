@@ -1,5 +1,5 @@
-//! The list of the targets. The falls come first, each found from the one before it; the end of the authority lies at or past them
-//! all, so the list is in the order of places.
+//! The list of the targets. The falls come first, each found from the one before it; the end of the authority lies at
+//! or past them all, so the list is in the order of places.
 
 ghost use Rattle.std.specs.Prelude.{◌≡◌, All, List, [], ◌∷◌, ◌++◌, ◌<◌, ◌≤◌, pos, None, IfOk, length, vec_capacity};
 ghost use Rattle.sdm_rules.specs.Records.{authority_fault};
@@ -13,8 +13,8 @@ use sdm_speed::Profile;
 use std::alloc::Global;
 use std::marker::Model;
 
-/// The room of a list: a profile has at most 128 entries and 32 restrictions, each of which makes one fall at most, and an
-/// authority has at most two targets. (own)
+/// The room of a list: a profile has at most 128 entries and 32 restrictions, each of which makes one fall at most,
+/// and an authority has at most two targets. (own)
 const ROOM: usize = 170;
 
 /// Targets by place, then by kind, with room for 170. (own)
@@ -129,9 +129,10 @@ fn push_ends(authority: &Authority, in_release_monitoring: bool, into: &mut Targ
     }
 }
 
-/// Replaces the contents of the list by the targets of a max safe front end: the falls of the MRSP strictly ahead of it and at or
-/// before the EOA or the LOA, then the LOA, or the EOA and the SvL, also once they are passed. In release speed monitoring the EOA
-/// and the SvL are none. The authority is one that `check_authority` accepts for the profile's track. (SUBSET-026-3 3.13.8.2)
+/// Replaces the contents of the list by the targets of a max safe front end: the falls of the MRSP strictly ahead of
+/// it and at or before the EOA or the LOA, then the LOA, or the EOA and the SvL, also once they are passed. In release
+/// speed monitoring the EOA and the SvL are none. The authority is one that `check_authority` accepts for the
+/// profile's track. (SUBSET-026-3 3.13.8.2)
 #[tactic(auto, unfolding(sdm_rules::specs::Targets::targets_of))]
 pub fn targets_of(
     profile: &Profile,

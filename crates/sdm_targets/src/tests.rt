@@ -15,7 +15,7 @@ fn speed(word: Option<&str>) -> Result<u16, Fail> {
     Ok(word.ok_or("a speed is wanting")?.parse::<u16>()?)
 }
 
-// `stop`, EOA, SvL and release speed; or `limit`, LOA and speed.
+/// `stop`, EOA, SvL and release speed; or `limit`, LOA and speed.
 fn authority(text: &str) -> Result<Authority, Fail> {
     let mut words = text.split_whitespace();
     match words.next() {
@@ -102,8 +102,8 @@ fn the_foot_lies_a_margin_above_the_target_speed(rt: HostRuntime) -> Result<(), 
     Ok(())
 }
 
-/// Restrictions (start, end, speed, whether the end is delayed) on a track of 2 km at 160 km/h; the authority; the front end in
-/// mm; whether the release speed is supervised; and the targets, their places in mm.
+/// Restrictions (start, end, speed, whether the end is delayed) on a track of 2 km at 160 km/h; the authority; the
+/// front end in mm; whether the release speed is supervised; and the targets, their places in mm.
 const LISTS: &str = "\
 50000 60000 80 1; stop 200000 200000 0; 460000; 0 = Mrsp 500000 80, Eoa 2000000 0, Svl 2000000 0
 50000 60000 80 1; stop 200000 200000 0; 500000; 0 = Eoa 2000000 0, Svl 2000000 0
@@ -121,7 +121,7 @@ const LISTS: &str = "\
 0 60000 80 0; stop 200000 200000 0; 0; 0 = Eoa 2000000 0, Svl 2000000 0
 1000 3000 100 0, 2000 4000 60 0, 5000 6000 40 0; limit 4500 20; -50000; 0 = Mrsp 10000 100, Mrsp 20000 60, Loa 45000 20";
 
-// A profile with these restrictions.
+/// A profile with these restrictions.
 fn profile(alloc: Global, text: &str) -> Result<Profile, Fail> {
     let mut speeds = Vec::new(alloc);
     speeds.push(SpeedStep {
@@ -151,7 +151,7 @@ fn profile(alloc: Global, text: &str) -> Result<Profile, Fail> {
     Ok(profile)
 }
 
-// Fills the list with the targets of a line.
+/// Fills the list with the targets of a line.
 fn fill(alloc: Global, text: &str, into: &mut TargetList) -> Result<(), Fail> {
     let mut columns = text.split(';');
     let profile = profile(alloc, columns.next().ok_or("no restrictions")?)?;
@@ -171,7 +171,7 @@ fn fill(alloc: Global, text: &str, into: &mut TargetList) -> Result<(), Fail> {
     Ok(())
 }
 
-// The targets as text.
+/// The targets as text.
 fn told(alloc: Global, targets: &[Target]) -> Result<String, Fail> {
     let mut text = String::new(alloc);
     for target in targets {

@@ -1,5 +1,6 @@
 -- The number of digits in a row, digit by digit; and the first field of a line that begins with some and then a comma.
-use Rattle.std.proofs.Common.{◌≡◌, ℕ, zero, suc, ◌+◌, ◌-◌, ◌*◌, ◌<◌, ◌≤◌, ◌^◌, pos, true, false, eqb, List, [], ◌∷◌, Some, length, length-take, take, drop, get_or, refl, ap, lit<, add-one, arith}
+use Rattle.std.proofs.Common.{◌≡◌, ℕ, zero, suc, ◌+◌, ◌-◌, ◌*◌, ◌<◌, ◌≤◌, ◌^◌, pos, true, false, eqb, List, [], ◌∷◌}
+use Rattle.std.proofs.Common.{Some, length, length-take, take, drop, get_or, refl, ap, lit<, add-one, arith}
 use Rattle.std.proofs.Math.Nat.{pow-le-pow_right, pow-suc}
 use Rattle.std.proofs.lemmas.Bool.{and_from, and_parts, false≢true, le-leb, ne_eqb}
 use Rattle.std.proofs.lemmas.Bool.Decides.{nat_tests}
@@ -30,7 +31,8 @@ pub none_read : (ds : List ℕ) → IsRead ds 0 0
 none_read ds = record { digits = refl; writes = refl; small = omega arith }
 
 -- one more digit
-module _ (ds : List ℕ) (i n c d : ℕ) (within : i < length ds) (read : c ≡ get_or ds i 0) (digit : (is_ascii_digit c ≡ true) × (d ≡ c - 48)) where
+module _ (ds : List ℕ) (i n c d : ℕ) (within : i < length ds) (read : c ≡ get_or ds i 0)
+    (digit : (is_ascii_digit c ≡ true) × (d ≡ c - 48)) where
   here : digit_value (get_or ds i 0) ≡ d
   here = let is = digit.0 in let value = digit.1 in rw (← read, value) (grind (arith, nat_tests))
 
@@ -56,11 +58,14 @@ take_of_take (suc i) (suc m) (x ∷ xs) le = ap (λ (t : List ℕ). x ∷ t) (ta
 writes_digits : (ds : List ℕ) → is_digits ds ≡ true → number_of ds ≡ Some (pos (digits_value 10 ds))
 writes_digits [] is = absurd (false≢true is)
 writes_digits (c ∷ ds) is =
-    let first : is_ascii_digit c ≡ true = (and_parts (is_ascii_digit c) (list_all is_ascii_digit ds) (and_parts _ _ is).1).0 in
-    let plain : eqb c 45 ≡ false = ne_eqb c 45 (λ same. let digit : is_ascii_digit 45 ≡ true = rw same at first in false≢true digit) in
+    let first : is_ascii_digit c
+    ≡ true = (and_parts (is_ascii_digit c) (list_all is_ascii_digit ds) (and_parts _ _ is).1).0 in
+    let plain : eqb c 45
+    ≡ false = ne_eqb c 45 (λ same. let digit : is_ascii_digit 45 ≡ true = rw same at first in false≢true digit) in
     rw (plain, is) refl
 
-module _ (line : List ℕ) (m count n : ℕ) (within : count < length (take m line)) (few : m ≤ most_digits + 1) (each : list_all is_ascii_digit (take count (take m line)) ≡ true) where
+module _ (line : List ℕ) (m count n : ℕ) (within : count < length (take m line)) (few : m ≤ most_digits + 1)
+    (each : list_all is_ascii_digit (take count (take m line)) ≡ true) where
   short : (count < m) × (count < length line)
   short = (omega (arith, length-take m line), omega (arith, length-take m line))
 
@@ -71,14 +76,18 @@ module _ (line : List ℕ) (m count n : ℕ) (within : count < length (take m li
   long = omega (arith, length-take count line, short.1)
 
   before : (k : ℕ) → k < count → eqb (get_or line k 0) 44 ≡ false
-  before k lt = no_comma (get_or line k 0) (rw (get_or-take count line k 0 lt) at (AllPass-from_list_all is_ascii_digit (take count line) digits k 0 (omega (arith, long))))
+  before k lt = no_comma (get_or line k 0) (rw (get_or-take count line k 0 lt) at
+      (AllPass-from_list_all is_ascii_digit (take count line) digits k 0 (omega (arith, long))))
 
-  pub begins_with_digits : 0 < count → get_or (take m line) count 0 ≡ 44 → n ≡ digits_value 10 (take count (take m line)) → BeginsWithNumber line (pos n) (drop (count + 1) line)
+  pub begins_with_digits : 0 < count → get_or (take m line) count 0 ≡ 44 →
+      n ≡ digits_value 10 (take count (take m line)) → BeginsWithNumber line (pos n) (drop (count + 1) line)
   begins_with_digits some comma writes =
       let least : 1 ≤ length (take count line) = omega (arith, long) in
       let most : length (take count line) ≤ most_digits = omega (arith, long, short.0) in
       record {
         field = take count line;
         fields = found_field line count short.1 (rw (get_or-take m line count 0 short.0) at comma) before;
-        writes = rw (writes, take_of_take count m line (omega (arith, short.0))) (writes_digits (take count line) (and_from _ _ (and_from _ _ (le-leb 1 _ least) (le-leb _ most_digits most)) digits));
+        writes = rw (writes, take_of_take count m line (omega (arith, short.0)))
+            (writes_digits (take count line)
+            (and_from _ _ (and_from _ _ (le-leb 1 _ least) (le-leb _ most_digits most)) digits));
       }

@@ -1,5 +1,6 @@
 -- A number has no comma in it, so a field that writes one is a line of one field.
-use Rattle.std.proofs.Common.{◌≡◌, ℕ, ℤ, pos, neg_ℤ, Bool, true, false, cond, eqb, eqb-true, List, [], ◌∷◌, Some, None, refl}
+use Rattle.std.proofs.Common.{◌≡◌, ℕ, ℤ, pos, neg_ℤ, Bool, true, false, cond, eqb, eqb-true, List, [], ◌∷◌, Some, None}
+use Rattle.std.proofs.Common.{refl}
 use Rattle.std.proofs.lemmas.Bool.{and_parts, ne_eqb, false≢true}
 use Rattle.std.proofs.lemmas.Option.{cond_some}
 use Rattle.std.specs.Char.{is_ascii_digit}
@@ -24,6 +25,8 @@ pub number_in_one : (field : List ℕ) (n : ℤ) → number_of field ≡ Some n 
 number_in_one [] n is = refl
 number_in_one (c ∷ ds) n is = by_sign (eqb c 45) refl is
   where
-    by_sign : (b : Bool) → eqb c 45 ≡ b → cond b (cond (is_digits ds) (Some (neg_ℤ (pos (digits_value 10 ds)))) None) (cond (is_digits (c ∷ ds)) (Some (pos (digits_value 10 (c ∷ ds)))) None) ≡ Some n → comma_fields (c ∷ ds) ≡ (c ∷ ds) ∷ []
+    by_sign : (b : Bool) → eqb c 45 ≡ b → cond b (cond (is_digits ds) (Some (neg_ℤ (pos (digits_value 10 ds)))) None)
+        (cond (is_digits (c ∷ ds)) (Some (pos (digits_value 10 (c ∷ ds)))) None) ≡ Some n →
+        comma_fields (c ∷ ds) ≡ (c ∷ ds) ∷ []
     by_sign true minus is = rw (eqb-true c 45 minus, digits_in_one ds (all_digits ds (cond_some _ _ _ is).0)) refl
     by_sign false plain is = digits_in_one (c ∷ ds) (all_digits (c ∷ ds) (cond_some _ _ _ is).0)

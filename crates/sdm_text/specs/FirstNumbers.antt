@@ -11,9 +11,11 @@ pub record BeginsWithNumber (line : List ℕ) (number : ℤ) (after : List ℕ) 
 
 -- no comma ends the line's first field, or it writes no number
 abbrev pub BeginsWithNoNumber : List ℕ → Type 0
-BeginsWithNoNumber line = (field next : List ℕ) (more : List (List ℕ)) → comma_fields line ≡ field ∷ next ∷ more → number_of field ≡ None
+BeginsWithNoNumber line =
+    (field next : List ℕ) (more : List (List ℕ)) → comma_fields line ≡ field ∷ next ∷ more → number_of field ≡ None
 
--- a comma ends the line's first field, which is read as this number from `least` to `greatest`; `after` is the line after the comma
+-- a comma ends the line's first field, which is read as this number from `least` to `greatest`; `after` is the line
+-- after the comma
 pub record BeginsWithNumberIn (line : List ℕ) (least greatest number : ℤ) (after : List ℕ) : Type 0 where
   pub field : List ℕ
   pub fields : comma_fields line ≡ field ∷ comma_fields after
@@ -21,4 +23,5 @@ pub record BeginsWithNumberIn (line : List ℕ) (least greatest number : ℤ) (a
 
 -- no comma ends the line's first field, or it is read as no number from `least` to `greatest`
 abbrev pub BeginsWithNoNumberIn : List ℕ → ℤ → ℤ → Type 0
-BeginsWithNoNumberIn line least greatest = (field next : List ℕ) (more : List (List ℕ)) (number : ℤ) → comma_fields line ≡ field ∷ next ∷ more → read_int field least greatest ≢ Ok number
+BeginsWithNoNumberIn line least greatest = (field next : List ℕ) (more : List (List ℕ)) (number : ℤ) →
+    comma_fields line ≡ field ∷ next ∷ more → read_int field least greatest ≢ Ok number

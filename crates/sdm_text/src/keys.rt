@@ -1,5 +1,5 @@
-//! The names of the keys of the data part by section and number: the reader of the data looks them up, and a fault line tells
-//! them.
+//! The names of the keys of the data part by section and number: the reader of the data looks them up, and a fault
+//! line tells them.
 
 ghost use Rattle.std.specs.Prelude.{◌≡◌, map, option_map};
 ghost use Rattle.sdm_rules.specs.FaultLines.{key_name, key_names};

@@ -1,5 +1,6 @@
-//! Lines, fields, numbers, keys and rows as text: the lines of a text and their fields, what the fields of records and the words of
-//! commands say, the names of the keys of the data part, and a buffer in which a row is put together. Nothing here takes memory.
+//! Lines, fields, numbers, keys and rows as text: the lines of a text and their fields, what the fields of records and
+//! the words of commands say, the names of the keys of the data part, and a buffer in which a row is put together.
+//! Nothing here takes memory.
 #![tactic(auto)]
 
 pub mod keys;

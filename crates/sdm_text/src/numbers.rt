@@ -1,10 +1,12 @@
 //! Numbers as they stand in fields and words: an optional minus sign and 1 to 18 decimal digits. So many digits fit an
 //! i64 whatever they are, so that a number too large for its field and a field that is no number are told apart.
 
-ghost use Rattle.std.specs.Prelude.{◌≡◌, ◌^◌, ◌-◌, ◌<◌, ◌≤◌, ◌≤ℤ◌, pos, false, true, IfOk, IfErr, IfSome, IfNone, Some, None, if◌then◌else◌};
+ghost use Rattle.std.specs.Prelude.{◌≡◌, ◌^◌, ◌-◌, ◌<◌, ◌≤◌, ◌≤ℤ◌, pos, false, true, IfOk, IfErr, IfSome, IfNone};
+ghost use Rattle.std.specs.Prelude.{Some, None, if◌then◌else◌};
 ghost use Rattle.std.specs.Char.{is_ascii_digit};
 ghost use Rattle.std.specs.Str.Parse.{digits_value};
-ghost use Rattle.sdm_text.specs.FirstNumbers.{BeginsWithNoNumber, BeginsWithNoNumberIn, BeginsWithNumber, BeginsWithNumberIn};
+ghost use Rattle.sdm_text.specs.FirstNumbers.{BeginsWithNoNumber, BeginsWithNoNumberIn, BeginsWithNumber};
+ghost use Rattle.sdm_text.specs.FirstNumbers.{BeginsWithNumberIn};
 ghost use Rattle.sdm_rules.specs.Numbers.{in_range, is_digits, most_digits, number_of, read_int};
 
 use crate::lines::split_field;
@@ -13,8 +15,9 @@ use sdm_rules::FieldFault;
 /// The most digits of a number. (own)
 const MOST_DIGITS: usize = 18;
 
-/// The number of a field, from `lo` to `hi`. Leading zeros are accepted, and `-0` is 0. The field is NotNumber where it
-/// isn't an optional minus sign and 1 to 18 digits, and OutOfRange where its number is below `lo` or above `hi`. (own)
+/// The number of a field, from `lo` to `hi`. Leading zeros are accepted, and `-0` is 0. The field is NotNumber where
+/// it isn't an optional minus sign and 1 to 18 digits, and OutOfRange where its number is below `lo` or above `hi`.
+/// (own)
 // In line, with what it calls, the loop over records reads its seven numbers a reading with no call.
 #[inline(always)]
 #[tactic(auto, unfolding(sdm_rules::specs::Numbers::read_int))]
@@ -62,7 +65,8 @@ fn number_of(field: &[u8]) -> Option<i64>
     }
 }
 
-/// The number that 1 to 18 digits write; none for other bytes. Digits are read in pairs, after the first of an odd count.
+/// The number that 1 to 18 digits write; none for other bytes. Digits are read in pairs, after the first of an odd
+/// count.
 #[inline(always)]
 fn magnitude(digits: &[u8]) -> Option<u64>
     ensures value { result ≡ if is_digits digits.now then Some (digits_value 10 digits.now) else None }
@@ -88,7 +92,8 @@ fn magnitude(digits: &[u8]) -> Option<u64>
     Some(number)
 }
 
-/// The digit that a byte writes, and more than 9 where it writes none: a byte below `0` wraps, so that a caller needs one test.
+/// The digit that a byte writes, and more than 9 where it writes none: a byte below `0` wraps, so that a caller needs
+/// one test.
 #[inline]
 fn digit_of(byte: u8) -> u64
     ensures digit { result ≤ 9 → (is_ascii_digit byte ≡ true) × (result ≡ byte - 48) }
@@ -97,8 +102,8 @@ fn digit_of(byte: u8) -> u64
     u64::from(byte).wrapping_sub(u64::from(b'0'))
 }
 
-/// The number of the first field of a line, from `least` to `greatest`, and the line after the comma that ends the field; none where
-/// no comma does, or the field is refused. Digits are read as they are passed over. (own)
+/// The number of the first field of a line, from `least` to `greatest`, and the line after the comma that ends the
+/// field; none where no comma does, or the field is refused. Digits are read as they are passed over. (own)
 #[inline(always)]
 #[tactic(auto, unfolding(sdm_rules::specs::Numbers::read_int))]
 pub fn split_number(line: &[u8], least: i64, greatest: i64) -> Option<(i64, &[u8])>
@@ -115,8 +120,8 @@ pub fn split_number(line: &[u8], least: i64, greatest: i64) -> Option<(i64, &[u8
     Some((number, after))
 }
 
-/// The number of the first field of a line, and the line after the comma that ends the field; none where no comma does, or the field is
-/// no number.
+/// The number of the first field of a line, and the line after the comma that ends the field; none where no comma
+/// does, or the field is no number.
 fn split_any_number(line: &[u8]) -> Option<(i64, &[u8])>
     ensures some { IfSome result (λ cut. BeginsWithNumber line.now cut.0 cut.1.now) }
     ensures none { IfNone result (BeginsWithNoNumber line.now) }
@@ -133,7 +138,8 @@ fn split_any_number(line: &[u8]) -> Option<(i64, &[u8])>
     Some((number, after))
 }
 
-/// The number of a first field of 1 to 18 digits, and the line after its comma; where it answers none, the field may yet be a number.
+/// The number of a first field of 1 to 18 digits, and the line after its comma; where it answers none, the field may
+/// yet be a number.
 #[inline(always)]
 fn split_digits(line: &[u8]) -> Option<(u64, &[u8])>
     ensures number { IfSome result (λ cut. BeginsWithNumber line.now (pos cut.0) cut.1.now) }

@@ -1,4 +1,5 @@
-//! Lines and fields, numbers at the ends of their forms and ranges, the keys of each section, and rows up to the last byte that they hold.
+//! Lines and fields, numbers at the ends of their forms and ranges, the keys of each section, and rows up to the last
+//! byte that they hold.
 
 use crate::{
     FieldFault, ROW_BYTES, RowBuf, Section, key_name, key_names, natural_in, read_int, split_field,

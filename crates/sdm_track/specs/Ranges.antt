@@ -46,7 +46,8 @@ pub record AreSpeeds (length_cm : ℤ) (entries : List SpeedStep) : Type 0 where
 pub record AreAreas (length_cm : ℤ) (areas : List Area) : Type 0 where
   pub few : length areas ≤ most_areas
   pub each : All (IsArea length_cm) areas
-  pub apart : (i j : ℕ) (d : Area) → i < j → j < length areas → (slice_index_or areas i d).end ≤ℤ (slice_index_or areas j d).start
+  pub apart : (i j : ℕ) (d : Area) → i < j → j < length areas →
+      (slice_index_or areas i d).end ≤ℤ (slice_index_or areas j d).start
 
 -- a track within its ranges (own)
 pub record IsTrack (t : TrackData) : Type 0 where
@@ -58,4 +59,9 @@ pub record IsTrack (t : TrackData) : Type 0 where
 
 -- the data of a track as they are handed in, with its length in cm (own)
 abbrev pub track_data : ℕ → List Gradient → List SpeedStep → List Area → TrackData
-track_data length_cm gradients speeds areas = record { length_cm = pos length_cm; gradients = gradients; speeds = speeds; areas = areas }
+track_data length_cm gradients speeds areas = record {
+  length_cm = pos length_cm;
+  gradients = gradients;
+  speeds = speeds;
+  areas = areas;
+}

@@ -1,5 +1,5 @@
--- Values that change at the starts of steps, as gradients, segments and speeds do: the step in which a cell lies. Its value is
--- the value in the cell (own form of the cells of the profile).
+-- Values that change at the starts of steps, as gradients, segments and speeds do: the step in which a cell lies. Its
+-- value is the value in the cell (own form of the cells of the profile).
 use Rattle.std.specs.Prelude.{◌≡◌, ℕ, ℤ, pos, List, length, slice_index_or, ◌+◌, ◌<◌, ◌≤ℤ◌, ◌<ℤ◌}
 
 -- the first step, if there is one, starts at 0
@@ -8,7 +8,8 @@ pub record IsFromZero {E : Type 0} (start : E → ℤ) (steps : List E) : Type 0
 
 -- the starts rise
 pub record IsRising {E : Type 0} (start : E → ℤ) (steps : List E) : Type 0 where
-  pub rises : (i j : ℕ) (d : E) → i < j → j < length steps → start (slice_index_or steps i d) <ℤ start (slice_index_or steps j d)
+  pub rises : (i j : ℕ) (d : E) → i < j → j < length steps →
+      start (slice_index_or steps i d) <ℤ start (slice_index_or steps j d)
 
 -- the cell lies before the step after the step `i`
 pub record IsBeforeNext {E : Type 0} (start : E → ℤ) (steps : List E) (i : ℕ) (cell : ℤ) : Type 0 where

@@ -1,5 +1,7 @@
--- The entries of a list of gradients that lie under a train, as the front end moves from cell to cell where an entry comes or goes (own).
-use Rattle.std.specs.Prelude.{◌≡◌, ℕ, ℤ, pos, List, [], ◌∷◌, length, slice_get, slice_index_or, Bool, true, int_lt, ◌+◌, ◌-◌, ◌<◌, ◌≤◌, ◌+ℤ◌, ◌-ℤ◌, ◌≤ℤ◌, ◌<ℤ◌}
+-- The entries of a list of gradients that lie under a train, as the front end moves from cell to cell where an entry
+-- comes or goes (own).
+use Rattle.std.specs.Prelude.{◌≡◌, ℕ, ℤ, pos, List, [], ◌∷◌, length, slice_get, slice_index_or, Bool, true, int_lt}
+use Rattle.std.specs.Prelude.{◌+◌, ◌-◌, ◌<◌, ◌≤◌, ◌+ℤ◌, ◌-ℤ◌, ◌≤ℤ◌, ◌<ℤ◌}
 use Rattle.std.specs.Option.{option_map_or}
 use Rattle.sdm_rules.specs.declared.data.Gradient.{Gradient}
 use Rattle.sdm_rules.specs.Ranges.{longest_track}
@@ -45,7 +47,8 @@ level = record { start = pos 0; grad = pos 0 }
 pub record IsLowestAt (entries : List Gradient) (i j index : ℕ) : Type 0 where
   pub from_rear : i ≤ index
   pub to_front : index < j
-  pub none_below : (k : ℕ) → i ≤ k → k < j → (slice_index_or entries index level).grad ≤ℤ (slice_index_or entries k level).grad
+  pub none_below : (k : ℕ) → i ≤ k → k < j →
+      (slice_index_or entries index level).grad ≤ℤ (slice_index_or entries k level).grad
 
 -- the lowest gradient of the entries from `i` up to, but not including, `j`
 pub record IsLowestEntry (entries : List Gradient) (i j : ℕ) (grad : ℤ) : Type 0 where
@@ -53,8 +56,8 @@ pub record IsLowestEntry (entries : List Gradient) (i j : ℕ) (grad : ℤ) : Ty
   pub lowest : IsLowestAt entries i j index
   pub reached : (slice_index_or entries index level).grad ≡ grad
 
--- the indices of the lows of the entries from `i` up to, but not including, `j`: that of the lowest, and then those of the lows of
--- the entries after it
+-- the indices of the lows of the entries from `i` up to, but not including, `j`: that of the lowest, and then those of
+-- the lows of the entries after it
 abbrev pub AreLows : List Gradient → ℕ → ℕ → List ℕ → Type 0
 AreLows entries i j [] = j ≤ i
 AreLows entries i j (index ∷ more) = IsLowestAt entries i j index × AreLows entries (index + 1) j more
@@ -62,4 +65,5 @@ AreLows entries i j (index ∷ more) = IsLowestAt entries i j index × AreLows e
 -- whether the last of the indices, if there is one, is that of an entry below the one at `index`
 abbrev pub ends_below : List Gradient → List ℕ → ℕ → Bool
 ends_below entries indices index =
-    option_map_or (λ last. int_lt (slice_index_or entries last level).grad (slice_index_or entries index level).grad) (slice_get indices (length indices - 1)) true
+    option_map_or (λ last. int_lt (slice_index_or entries last level).grad (slice_index_or entries index level).grad)
+    (slice_get indices (length indices - 1)) true

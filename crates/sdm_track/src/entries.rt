@@ -1,7 +1,8 @@
-//! The rules that the lists of a track keep. They are tested list by list, each rule over the whole list before the next:
-//! count, values, start of the first entry, order; the first that is broken is answered.
+//! The rules that the lists of a track keep. They are tested list by list, each rule over the whole list before the
+//! next: count, values, start of the first entry, order; the first that is broken is answered.
 
-ghost use Rattle.std.specs.Prelude.{◌≡◌, ℕ, ℤ, pos, neg_ℤ, ◌+◌, ◌^◌, ◌+ℤ◌, ◌-ℤ◌, ◌<◌, ◌≤◌, Option, Bool, int_lt, length};
+ghost use Rattle.std.specs.Prelude.{◌≡◌, ℕ, ℤ, pos, neg_ℤ, ◌+◌, ◌^◌, ◌+ℤ◌, ◌-ℤ◌, ◌<◌, ◌≤◌, Option, Bool, int_lt};
+ghost use Rattle.std.specs.Prelude.{length};
 ghost use Rattle.std.specs.Result.{result_err};
 ghost use Rattle.sdm_rules.specs.Ranges.{gradient_refused, speed_refused, area_refused, or_else};
 ghost use Rattle.sdm_rules.specs.Ranges.{count_fault, value_fault, gap_fault, order_fault};

@@ -1,5 +1,5 @@
-//! The lowest gradient under a train, in time about linear in the entries: of the entries under it only the lows are kept, each
-//! of which is below every later one. The first of them is the lowest, and each entry comes and goes once.
+//! The lowest gradient under a train, in time about linear in the entries: of the entries under it only the lows are
+//! kept, each of which is below every later one. The first of them is the lowest, and each entry comes and goes once.
 
 ghost use Rattle.std.specs.Prelude.{◌≡◌, ℕ, [], ◌∷◌, ◌+◌, ◌<◌, ◌≤◌, All, length, IfOk, OnOk};
 ghost use Rattle.sdm_track.specs.Windows.{IsWindowStep, IsLowestEntry, AreLows, ends_below};

@@ -4,7 +4,7 @@ use crate::{Area, Gradient, Segments, SpeedStep, Track, TrackFault};
 use std::alloc::Global;
 use std::test::Fail;
 
-// Pairs of numbers, as `0 5, 100 -3`.
+/// Pairs of numbers, as `0 5, 100 -3`.
 fn pairs(alloc: Global, text: &str) -> Result<Vec<(i64, i64)>, Fail> {
     let mut found = Vec::new(alloc);
     for pair in text.split(',') {
@@ -17,7 +17,7 @@ fn pairs(alloc: Global, text: &str) -> Result<Vec<(i64, i64)>, Fail> {
     Ok(found)
 }
 
-// Pairs whose first numbers rise from 0 by `step` and whose second ones rise from `second` by `rise`.
+/// Pairs whose first numbers rise from 0 by `step` and whose second ones rise from `second` by `rise`.
 fn rising(
     alloc: Global,
     count: usize,
@@ -81,7 +81,7 @@ fn track(
     Ok(Track::new(length_cm, gradient_list, speed_list, area_list))
 }
 
-// The text of the fault, or `accepted`.
+/// The text of the fault, or `accepted`.
 fn answer(alloc: Global, made: Result<Track, TrackFault>) -> Result<String, Fail> {
     match made {
         Ok(_) => Ok(String::from_str(alloc, "accepted")?),
@@ -89,7 +89,7 @@ fn answer(alloc: Global, made: Result<Track, TrackFault>) -> Result<String, Fail
     }
 }
 
-// The answer to a line of the table of tracks.
+/// The answer to a line of the table of tracks.
 fn answer_to(alloc: Global, line: &str) -> Result<String, Fail> {
     let mut columns = line.split('|');
     let length = columns.next().ok_or("length")?.trim().parse::<u32>()?;
@@ -102,7 +102,7 @@ fn answer_to(alloc: Global, line: &str) -> Result<String, Fail> {
     )
 }
 
-// Length in cm | gradients | speeds | areas | the text of the fault, or `accepted`.
+/// Length in cm | gradients | speeds | areas | the text of the fault, or `accepted`.
 const TRACKS: &str = "\
 1 | | 0 160 | | accepted
 10000000 | 0 80, 9999999 -80 | 0 1, 9999999 500 | 9999999 10000000 | accepted
@@ -145,7 +145,7 @@ fn the_first_rule_that_a_track_breaks_is_named(rt: HostRuntime) -> Result<(), Fa
     Ok(())
 }
 
-// The answer to a track with lists of so many entries.
+/// The answer to a track with lists of so many entries.
 fn answer_to_counts(
     alloc: Global,
     gradient_count: usize,
@@ -194,7 +194,7 @@ fn a_track_keeps_what_was_handed_in(rt: HostRuntime) -> Result<(), Fail> {
     Ok(())
 }
 
-// The gradients under a train of so many cm on a track of 10 km.
+/// The gradients under a train of so many cm on a track of 10 km.
 fn segments_of(
     alloc: Global,
     gradient_pairs: &[(i64, i64)],
@@ -207,7 +207,7 @@ fn segments_of(
     Ok(made.compensated(alloc, length_cm)?)
 }
 
-// Train length in cm | gradients | the segments by start and value | some cells and their gradients
+/// Train length in cm | gradients | the segments by start and value | some cells and their gradients
 const GRADIENTS: &str = "\
 150 | | 0 0 | -1 0, 0 0, 10149999 0
 20000 | 0 -10, 50000 0 | 0 -10, 70000 0 | -2147483648 -10, 69999 -10, 70000 0, 2147483647 0
@@ -219,7 +219,7 @@ const GRADIENTS: &str = "\
 100 | 0 -5, 100 0, 200 7 | 0 -5, 200 0, 300 7 | 199 -5, 200 0, 299 0, 300 7
 ";
 
-// The segments as starts and values.
+/// The segments as starts and values.
 fn written(alloc: Global, segments: &Segments) -> Result<Vec<(i64, i64)>, Fail> {
     let mut found = Vec::new(alloc);
     for i in 0..segments.count() {
@@ -228,7 +228,7 @@ fn written(alloc: Global, segments: &Segments) -> Result<Vec<(i64, i64)>, Fail> 
     Ok(found)
 }
 
-// The gradients at the cells of these pairs, with the cells.
+/// The gradients at the cells of these pairs, with the cells.
 fn values_at(
     alloc: Global,
     segments: &Segments,
@@ -257,7 +257,7 @@ fn the_gradient_is_the_lowest_under_the_train(rt: HostRuntime) -> Result<(), Fai
     Ok(())
 }
 
-// 30 entries, each 10 m long and 1 per mille above the one before, under a train of 150 m.
+/// 30 entries, each 10 m long and 1 per mille above the one before, under a train of 150 m.
 #[test]
 fn a_rising_gradient_counts_from_its_foot(rt: HostRuntime) -> Result<(), Fail> {
     let segments = segments_of(rt.alloc(), &rising(rt.alloc(), 30, 1000, 0, 1)?, 15_000)?;
@@ -273,7 +273,8 @@ fn a_rising_gradient_counts_from_its_foot(rt: HostRuntime) -> Result<(), Fail> {
     Ok(())
 }
 
-// 512 entries of 1 m, level and downhill by turns, under a train of 10 cm: each downhill one counts for 10 cells more.
+/// 512 entries of 1 m, level and downhill by turns, under a train of 10 cm: each downhill one counts for 10 cells
+/// more.
 #[test]
 fn the_most_gradients_make_segments(rt: HostRuntime) -> Result<(), Fail> {
     let mut turns = rising(rt.alloc(), 512, 100, 0, 0)?;

@@ -14,9 +14,9 @@ use sdm_rules::{Area, Gradient, LONGEST_TRACK_CM, Section, SpeedStep, TrackFault
 use std::alloc::Global;
 use std::marker::Model;
 
-/// A track from 0 to its length, 1 to 10,000,000 cm: its gradients (SUBSET-026-3 3.13.4), its static speed profile (3.11.3) and
-/// its areas of reduced adhesion (3.12), each list in the order of its starts. Before the track the first gradient and the first
-/// speed go on, past the track the last ones. (ranges own)
+/// A track from 0 to its length, 1 to 10,000,000 cm: its gradients (SUBSET-026-3 3.13.4), its static speed profile
+/// (3.11.3) and its areas of reduced adhesion (3.12), each list in the order of its starts. Before the track the first
+/// gradient and the first speed go on, past the track the last ones. (ranges own)
 #[derive(Debug, Drop)]
 pub struct Track {
     length_cm: u32,
@@ -75,8 +75,8 @@ fn any_in_force(areas: &[Area], cell: i32, length_cm: u32) -> bool
 }
 
 impl Track {
-    /// The track of these data; else the first rule that they break: of the length, then list by list in the order of the
-    /// parameters.
+    /// The track of these data; else the first rule that they break: of the length, then list by list in the order of
+    /// the parameters.
     pub fn new(
         length_cm: u32,
         gradients: Vec<Gradient>,
@@ -164,8 +164,8 @@ impl Track {
         &self.areas[i]
     }
 
-    /// The gradients under a train of a length of 1 to 150,000 cm: for each cell of the front end the lowest gradient of the cells
-    /// from the rear end to the front end. (SUBSET-026-3 3.13.4.2; own cell form)
+    /// The gradients under a train of a length of 1 to 150,000 cm: for each cell of the front end the lowest gradient
+    /// of the cells from the rear end to the front end. (SUBSET-026-3 3.13.4.2; own cell form)
     pub fn compensated(&self, alloc: Global, length_cm: u32) -> Result<Segments, NoMemory>
         requires shortest { 1 ≤ length_cm }
         requires longest { length_cm ≤ longest_train }
@@ -176,8 +176,8 @@ impl Track {
         under_train::compensated(alloc, &self.gradients, length_cm)
     }
 
-    /// Whether reduced adhesion is in force for a front end in the cell, with a train of this length in cm: from the start of
-    /// an area until the rear end has left it, past the track's end too. (SUBSET-026-3 3.13.6.2; areas own)
+    /// Whether reduced adhesion is in force for a front end in the cell, with a train of this length in cm: from the
+    /// start of an area until the rear end has left it, past the track's end too. (SUBSET-026-3 3.13.6.2; areas own)
     pub fn reduced(&self, cell: i32, length_cm: u32) -> bool
         ensures { result ≡ (under_train self.now (pos length_cm) cell).reduced }
     {

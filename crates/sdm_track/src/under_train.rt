@@ -1,7 +1,8 @@
-//! The gradients under a train. The cells of the front end in which the lowest gradient from the rear end to the front end stays
-//! the same make a segment, so that a curve meets few changes.
+//! The gradients under a train. The cells of the front end in which the lowest gradient from the rear end to the front
+//! end stays the same make a segment, so that a curve meets few changes.
 
-ghost use Rattle.std.specs.Prelude.{◌≡◌, ℕ, ℤ, pos, neg_ℤ, ◌+◌, ◌-◌, ◌*◌, ◌<◌, ◌≤◌, ◌+ℤ◌, ◌-ℤ◌, ◌≤ℤ◌, ◌<ℤ◌, length, slice_get, slice_index_or, Some, IfOk};
+ghost use Rattle.std.specs.Prelude.{◌≡◌, ℕ, ℤ, pos, neg_ℤ, ◌+◌, ◌-◌, ◌*◌, ◌<◌, ◌≤◌, ◌+ℤ◌, ◌-ℤ◌, ◌≤ℤ◌, ◌<ℤ◌, length};
+ghost use Rattle.std.specs.Prelude.{slice_get, slice_index_or, Some, IfOk};
 ghost use Rattle.std.specs.Int.{int_min};
 ghost use Rattle.std.specs.Option.{option_map};
 ghost use Rattle.sdm_rules.specs.Cells.{lowest};
@@ -41,8 +42,8 @@ impl Segment {
     }
 }
 
-/// The gradients under a train of one length, by the cell of its front end: 1 to 1,023 segments whose starts rise from 0, each
-/// with another gradient than the one before. (own)
+/// The gradients under a train of one length, by the cell of its front end: 1 to 1,023 segments whose starts rise from
+/// 0, each with another gradient than the one before. (own)
 #[derive(Debug, Drop)]
 pub struct Segments {
     list: Vec<Segment>,

@@ -1,5 +1,5 @@
-//! The gradients that lie under a train. As the front end moves on, the entries of its front and its rear end only rise, so that
-//! one way along the list meets every cell where the lowest gradient may change.
+//! The gradients that lie under a train. As the front end moves on, the entries of its front and its rear end only
+//! rise, so that one way along the list meets every cell where the lowest gradient may change.
 
 ghost use Rattle.std.specs.Prelude.{ℕ, pos, ◌+◌, ◌<◌, ◌≤◌, length};
 ghost use Rattle.sdm_rules.specs.Ranges.{longest_track};

@@ -1,6 +1,7 @@
--- What follows where no rule is broken: every test of the list of tests holds. So each number is in its range, and each
--- band in its order.
-use Rattle.std.proofs.Common.{◌≡◌, ℕ, ℤ, suc, pos, true, ◌≤ℤ◌, ◌<ℤ◌, ◌<◌, ◌≤◌, List, [], ◌∷◌, Option, Some, None, IfSome, All, length, take, refl, ap, ◌∙◌, arith}
+-- What follows where no rule is broken: every test of the list of tests holds. So each number is in its range, and
+-- each band in its order.
+use Rattle.std.proofs.Common.{◌≡◌, ℕ, ℤ, suc, pos, true, ◌≤ℤ◌, ◌<ℤ◌, ◌<◌, ◌≤◌, List, [], ◌∷◌, Option, Some, None}
+use Rattle.std.proofs.Common.{IfSome, All, length, take, refl, ap, ◌∙◌, arith}
 use Rattle.std.proofs.lemmas.Int.{ints}
 use Rattle.std.proofs.lemmas.List.{length-take-le}
 use Rattle.std.proofs.lemmas.List.Elements.{All-nil, All-cons}
@@ -9,14 +10,17 @@ use Rattle.sdm_rules.specs.declared.faults.TrainFault.{TrainFault}
 use Rattle.sdm_rules.specs.declared.faults.TrainFault.TheVariants.{Value}
 use Rattle.sdm_rules.specs.Slopes.{most_bands}
 use Rattle.sdm_rules.specs.Data.{TrainData, AreBands}
-use Rattle.sdm_rules.specs.Ranges.{or_else, is_within_if_any, fault_at, band_refused, train_refused, band_count_fault, band_value_fault, band_order_fault, order_of_last, order_of_next, train_fault, top_kmh}
+use Rattle.sdm_rules.specs.Ranges.{or_else, is_within_if_any, fault_at, band_refused, train_refused, band_count_fault}
+use Rattle.sdm_rules.specs.Ranges.{band_value_fault, band_order_fault, order_of_last, order_of_next, train_fault}
+use Rattle.sdm_rules.specs.Ranges.{top_kmh}
 use Rattle.sdm_rules.proofs.FaultLaws.{neither, not_refused}
 use Rattle.sdm_train.specs.Trains.{IsBand, IsTrain}
 
 -- ---- numbers
 
 -- the test of a number that may be wanting, as a fact
-within_if_any : (least greatest : ℤ) (n : Option ℤ) → is_within_if_any least greatest n ≡ true → IfSome n (λ x. (least ≤ℤ x) × (x ≤ℤ greatest))
+within_if_any : (least greatest : ℤ) (n : Option ℤ) → is_within_if_any least greatest n ≡ true →
+    IfSome n (λ x. (least ≤ℤ x) × (x ≤ℤ greatest))
 within_if_any least greatest None h = tt
 within_if_any least greatest (Some n) h = (grind (arith, ints), grind (arith, ints))
 
@@ -52,13 +56,15 @@ last_has_none i None h = refl
 last_has_none i (Some upper) h = absurd (cc)
 
 -- what is known of an upper speed that is in order: it is above `above`, and what comes after it is in order
-next_has_one : (i : ℕ) (above : ℤ) (upper : Option ℤ) (later : ℤ → Option TrainFault) → order_of_next i above upper later ≡ None
+next_has_one : (i : ℕ) (above : ℤ) (upper : Option ℤ) (later : ℤ → Option TrainFault) →
+    order_of_next i above upper later ≡ None
     → (u : ℤ) × (upper ≡ Some u) × (above <ℤ u) × (later u ≡ None)
 next_has_one i above None later h = absurd (cc)
 next_has_one i above (Some u) later h = (u, refl, grind (arith, ints), grind arith)
 
 -- the bands are in order, where none is out of it
-in_order : (i : ℕ) (above : ℤ) (bands : List Band) → 0 < length bands → band_order_fault i above bands ≡ None → AreBands above bands
+in_order : (i : ℕ) (above : ℤ) (bands : List Band) → 0 < length bands → band_order_fault i above bands ≡ None →
+    AreBands above bands
 in_order i above [] some h = absurd (omega arith)
 in_order i above (b ∷ []) some h = last_has_none i b.upper h
 in_order i above (b ∷ next ∷ more) some h =
@@ -80,10 +86,17 @@ unfolding train_fault
 no_rule_broken count t h =
     let order = band_order_fault 1 (pos 0) t.bands in
     let values = band_value_fault 1 t.bands in
-    let own = neither (fault_at (λ key. Value 0 key) (train_refused t)) (or_else (band_count_fault count) (or_else values order)) h in
+    let own = neither (fault_at (λ key. Value 0 key) (train_refused t))
+    (or_else (band_count_fault count) (or_else values order)) h in
     let few = neither (band_count_fault count) (or_else values order) own.1 in
     let bands = neither values order few.1 in
-    record { own_numbers = not_refused _ (train_refused t) own.0; few = few_of count few.0; band_numbers = bands.0; band_order = bands.1 }
+    record {
+      own_numbers = not_refused _ (train_refused t) own.0;
+      few = few_of count few.0;
+      band_numbers =
+          bands.0;
+      band_order = bands.1;
+    }
 
 -- what callers may rely on follows from what was tested
 pub IsTrain_of : (t : TrainData) → train_fault (length t.bands) t ≡ None → IsTrain t
@@ -105,7 +118,8 @@ IsTrain_of t h =
     }
 
 -- where no rule is broken, as many bands are kept as were given
-pub length-bands : (count : ℕ) (t : TrainData) (given : List Band) → t.bands ≡ take count given → length given ≡ most_bands → train_fault count t ≡ None → length t.bands ≡ count
+pub length-bands : (count : ℕ) (t : TrainData) (given : List Band) → t.bands ≡ take count given →
+    length given ≡ most_bands → train_fault count t ≡ None → length t.bands ≡ count
 length-bands count t given kept full h =
     let few = (no_rule_broken count t h).few in
     ap length kept ∙ length-take-le count given (omega arith)

@@ -1,4 +1,5 @@
--- What callers may rely on of every accepted train: no rule is broken, and what follows for its numbers and bands (own).
+-- What callers may rely on of every accepted train: no rule is broken, and what follows for its numbers and bands
+-- (own).
 use Rattle.std.specs.Prelude.{◌≡◌, pos, ◌≤ℤ◌, ◌<◌, ◌%◌, None, IfSome, All, length, unsigned_abs}
 use Rattle.sdm_rules.specs.declared.data.Band.{Band}
 use Rattle.sdm_rules.specs.Data.{TrainData, HasBands}

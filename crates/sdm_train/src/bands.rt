@@ -1,5 +1,5 @@
-//! The rules of a train's speed bands: each number in its range, and upper speeds that rise from band to band, with none
-//! for the last.
+//! The rules of a train's speed bands: each number in its range, and upper speeds that rise from band to band, with
+//! none for the last.
 
 ghost use Rattle.std.specs.Prelude.{◌≡◌, ◌≤◌, length, pos};
 ghost use Rattle.std.specs.Result.{result_err};

@@ -1,5 +1,5 @@
-//! The clauses say of all trains which are accepted and what is kept. Here the ranges and the order of the rules stand as
-//! rows worked by hand, so that the definitions are tested too.
+//! The clauses say of all trains which are accepted and what is kept. Here the ranges and the order of the rules stand
+//! as rows worked by hand, so that the definitions are tested too.
 
 use crate::{Band, Train, TrainFields};
 use sdm_rules::{BASE_BAND, BASE_TRAIN, MOST_BANDS};
@@ -45,7 +45,7 @@ fn each_reader_answers_its_own_field(rt: HostRuntime) {
     assert_eq!(rt; *two.band(1), BASE_BAND);
 }
 
-// The bands of these upper speeds, `-` for none.
+/// The bands of these upper speeds, `-` for none.
 fn set_uppers(fields: &mut TrainFields, uppers: &str) -> Result<(), &'static str> {
     fields.band_count = 0;
     for (i, word) in uppers.split_whitespace().enumerate() {
@@ -61,7 +61,7 @@ fn set_uppers(fields: &mut TrainFields, uppers: &str) -> Result<(), &'static str
     Ok(())
 }
 
-// The fields of a row: the upper speeds, a semicolon, and each number that differs, after its key.
+/// The fields of a row: the upper speeds, a semicolon, and each number that differs, after its key.
 fn fields_of(row: &str) -> Result<TrainFields, &'static str> {
     let (uppers, numbers) = row.split_once(';').ok_or("no semicolon")?;
     let mut fields = BASE_TRAIN;
@@ -81,7 +81,7 @@ fn set_numbers(fields: &mut TrainFields, numbers: &str) -> Result<(), &'static s
     Ok(())
 }
 
-// What comes of the fields, as text.
+/// What comes of the fields, as text.
 fn outcome(alloc: Global, fields: TrainFields) -> Result<String, AllocError> {
     match Train::new(fields) {
         Ok(_) => String::from_str(alloc, "accepted"),

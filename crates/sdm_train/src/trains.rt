@@ -31,9 +31,9 @@ impl Model for Train {
 
 impl Train {
     /// The train of these fields, of whose bands the first `band_count` count. The first rule that is broken is named,
-    /// in this order: Value of the train's own numbers, by key; BandCount exactly where there are no bands or more than
-    /// MOST_BANDS; Value of the bands' numbers, band by band; BandOrder where a band but the last has no upper speed or
-    /// one that isn't above that of the band before, or the last has one. (own)
+    /// in this order: Value of the train's own numbers, by key; BandCount exactly where there are no bands or more
+    /// than MOST_BANDS; Value of the bands' numbers, band by band; BandOrder where a band but the last has no upper
+    /// speed or one that isn't above that of the band before, or the last has one. (own)
     pub fn new(fields: TrainFields) -> Result<Train, TrainFault>
         ensures fault { result_err result ≡ train_fault fields.band_count (train_of fields) }
         ensures kept { IfOk result (λ train. train ≡ train_of fields) }

@@ -1,6 +1,8 @@
--- The trial's data are accepted: the track falls by at most 5 per mille and never rises, so each slope is what the brakes give
--- less what 5 per mille or less take. All slopes lie between two numbers, of which the greater is 2.3 times the lesser.
-use Rattle.std.proofs.Common.{◌≡◌, ℕ, zero, suc, ℤ, pos, negsuc, Bool, true, false, None, if◌then◌else◌, ◌<◌, ◌≤◌, ◌+ℤ◌, ◌*ℤ◌, ◌≤ℤ◌, int_le, unsigned_abs, slice_get, refl, arith}
+-- The trial's data are accepted: the track falls by at most 5 per mille and never rises, so each slope is what the
+-- brakes give less what 5 per mille or less take. All slopes lie between two numbers, of which the greater is 2.3
+-- times the lesser.
+use Rattle.std.proofs.Common.{◌≡◌, ℕ, zero, suc, ℤ, pos, negsuc, Bool, true, false, None, if◌then◌else◌, ◌<◌, ◌≤◌}
+use Rattle.std.proofs.Common.{◌+ℤ◌, ◌*ℤ◌, ◌≤ℤ◌, int_le, unsigned_abs, slice_get, refl, arith}
 use Rattle.std.specs.Int.{int_min, is_negative}
 use Rattle.std.specs.Option.{option_map_or}
 use Rattle.std.proofs.lemmas.Int.{ints, clamps}
@@ -38,7 +40,8 @@ track_gentle : (cell : ℤ) → IsGentle (track_gradient trial_track.gradients c
 track_gentle cell =
     let level : IsGentle (pos 0) = record { low = omega (arith, ints); high = omega (arith, ints) } in
     let falling : IsGentle (negsuc 4) = record { low = omega (arith, ints); high = omega (arith, ints) } in
-    pick_gentle (int_le (pos 400_000) cell) (pos 0) _ level (pick_gentle (int_le (pos 200_000) cell) (negsuc 4) (pos 0) falling level)
+    pick_gentle (int_le (pos 400_000) cell) (pos 0) _ level
+    (pick_gentle (int_le (pos 200_000) cell) (negsuc 4) (pos 0) falling level)
 
 -- ---- the slopes
 
@@ -63,7 +66,8 @@ abbrev line_with : ℤ → TrainAndTrack
 line_with length_cm = record trial_train_and_track { train = record trial_train { length_cm = length_cm } }
 
 -- so much from the brakes, with what a gentle gradient adds, is a moderate slope
-moderate : (brakes : ℕ) (a : ℤ) → 11_200_000_000_000 ≤ brakes → brakes ≤ 23_000_000_000_000 → IsSlight a → IsModerate (pos brakes +ℤ a)
+moderate : (brakes : ℕ) (a : ℤ) → 11_200_000_000_000 ≤ brakes → brakes ≤ 23_000_000_000_000 → IsSlight a →
+    IsModerate (pos brakes +ℤ a)
 moderate brakes a low high h = record { low = omega (arith, ints); high = omega (arith, ints) }
 
 -- a Kn of 0 adds nothing
@@ -75,32 +79,40 @@ no_kn false grad = omega (arith, ints)
 abbrev slope_over : SlopeKind → ℤ → ℕ → ℤ → ℤ
 slope_over kind length_cm band grad =
     let d = line_with length_cm in
-    option_map_or (slope_under kind d.train d.national (record { grad = grad; reduced = false })) (slice_get d.train.bands band) (pos 0)
+    option_map_or (slope_under kind d.train d.national (record { grad = grad; reduced = false }))
+    (slice_get d.train.bands band) (pos 0)
 
 -- over a gentle gradient each slope is moderate
-moderate_over : (kind : SlopeKind) (length_cm : ℤ) (band : ℕ) (grad : ℤ) → band < 2 → IsGentle grad → IsModerate (slope_over kind length_cm band grad)
+moderate_over : (kind : SlopeKind) (length_cm : ℤ) (band : ℕ) (grad : ℤ) → band < 2 → IsGentle grad →
+    IsModerate (slope_over kind length_cm band grad)
 moderate_over Safe length_cm zero grad lt h = moderate _ _ (omega arith) (omega arith) (gentle_slight grad h)
 moderate_over Safe length_cm (suc zero) grad lt h = moderate _ _ (omega arith) (omega arith) (gentle_slight grad h)
 moderate_over Expected length_cm zero grad lt h = moderate _ _ (omega arith) (omega arith) (gentle_slight grad h)
 moderate_over Expected length_cm (suc zero) grad lt h = moderate _ _ (omega arith) (omega arith) (gentle_slight grad h)
-moderate_over Normal length_cm zero grad lt h = rw (no_kn (is_negative grad) grad) (moderate _ _ (omega arith) (omega arith) (gentle_slight grad h))
-moderate_over Normal length_cm (suc zero) grad lt h = rw (no_kn (is_negative grad) grad) (moderate _ _ (omega arith) (omega arith) (gentle_slight grad h))
+moderate_over Normal length_cm zero grad lt h =
+    rw (no_kn (is_negative grad) grad) (moderate _ _ (omega arith) (omega arith) (gentle_slight grad h))
+moderate_over Normal length_cm (suc zero) grad lt h =
+    rw (no_kn (is_negative grad) grad) (moderate _ _ (omega arith) (omega arith) (gentle_slight grad h))
 moderate_over kind length_cm (suc (suc n)) grad lt h = absurd (omega arith)
 
 -- so each slope is moderate in every cell
-slope_moderate : (kind : SlopeKind) (length_cm : ℤ) (band : ℕ) (cell : ℤ) → band < 2 → IsModerate (slope_at kind (line_with length_cm) band cell)
+slope_moderate : (kind : SlopeKind) (length_cm : ℤ) (band : ℕ) (cell : ℤ) → band < 2 →
+    IsModerate (slope_at kind (line_with length_cm) band cell)
 unfolding slope_at
-slope_moderate kind length_cm band cell lt = moderate_over kind length_cm band _ lt (lowest_gentle _ track_gentle (unsigned_abs length_cm) _)
+slope_moderate kind length_cm band cell lt =
+    moderate_over kind length_cm band _ lt (lowest_gentle _ track_gentle (unsigned_abs length_cm) _)
 
 -- so it is with the trial's own train
-line_moderate : (kind : SlopeKind) (band cell : ℕ) → band < 2 → IsModerate (slope_at kind trial_train_and_track band (pos cell))
+line_moderate : (kind : SlopeKind) (band cell : ℕ) → band < 2 →
+    IsModerate (slope_at kind trial_train_and_track band (pos cell))
 line_moderate kind band cell lt = slope_moderate kind (pos 20_000) band (pos cell) lt
 
 -- the slopes of each kind are accepted
 kind_accepted : (kind : SlopeKind) → IsAcceptedKind kind trial_train_and_track
 kind_accepted kind = record {
   strong = λ band cell lt. let h = line_moderate kind band cell lt in omega (arith, ints, h.low);
-  even = λ band lt cell cell'. let h = line_moderate kind band cell lt in let k = line_moderate kind band cell' lt in omega (arith, ints, h.high, k.low);
+  even = λ band lt cell cell'. let h = line_moderate kind band cell lt in let k =
+      line_moderate kind band cell' lt in omega (arith, ints, h.high, k.low);
 }
 
 -- the data of every trial are accepted at the opening

@@ -1,6 +1,7 @@
--- The counts of rows and one more row follow from those of the rows before: each count is a sum, and a sum modulo a number may be
--- reduced at each step.
-use Rattle.std.proofs.Common.{◌≡◌, ℕ, suc, ℤ, pos, negsuc, ◌+◌, ◌-◌, ◌*◌, ◌%◌, ◌<◌, ◌≤◌, ◌+ℤ◌, ◌∙◌, refl, List, [], ◌∷◌, ◌++◌, cond, arith, ap, sym, rules}
+-- The counts of rows and one more row follow from those of the rows before: each count is a sum, and a sum modulo a
+-- number may be reduced at each step.
+use Rattle.std.proofs.Common.{◌≡◌, ℕ, suc, ℤ, pos, negsuc, ◌+◌, ◌-◌, ◌*◌, ◌%◌, ◌<◌, ◌≤◌, ◌+ℤ◌, ◌∙◌, refl, List, []}
+use Rattle.std.proofs.Common.{◌∷◌, ◌++◌, cond, arith, ap, sym, rules}
 use Rattle.std.proofs.Math.Nat.{mod-add-mod, mul-le-mul_left}
 use Rattle.std.proofs.lemmas.Int.{ints, int_rem_euclid_is}
 use Rattle.std.proofs.lemmas.List.{length-append}
@@ -19,12 +20,14 @@ raised n some (negsuc a) =
     (suc a * n - suc a, omega (arith, ints, enough))
 
 -- a sum modulo a number may be reduced before the last item is added
-pub sum_reduced : (n : ℕ) → 0 < n → (x y : ℤ) → int_rem_euclid (int_rem_euclid x (pos n) +ℤ y) (pos n) ≡ int_rem_euclid (x +ℤ y) (pos n)
+pub sum_reduced : (n : ℕ) → 0 < n → (x y : ℤ) →
+    int_rem_euclid (int_rem_euclid x (pos n) +ℤ y) (pos n) ≡ int_rem_euclid (x +ℤ y) (pos n)
 sum_reduced n some x y =
     let (m, m_is) = raised n some x in
     let (k, k_is) = raised n some y in
     let x_rem = int_rem_euclid_is x (pos n) n (unsigned_abs x) m some refl m_is in
-    let whole : (x +ℤ y) +ℤ pos ((unsigned_abs x + unsigned_abs y) * n) ≡ pos (m + k) = omega (arith, ints, m_is, k_is) in
+    let whole : (x +ℤ y) +ℤ pos ((unsigned_abs x + unsigned_abs y) * n) ≡ pos (m + k) = omega (arith, ints, m_is, k_is)
+    in
     let part : (pos (m % n) +ℤ y) +ℤ pos (unsigned_abs y * n) ≡ pos (m % n + k) = omega (arith, ints, k_is) in
     let sum_rem = int_rem_euclid_is (x +ℤ y) (pos n) n (unsigned_abs x + unsigned_abs y) (m + k) some refl whole in
     let part_rem = int_rem_euclid_is (pos (m % n) +ℤ y) (pos n) n (unsigned_abs y) (m % n + k) some refl part in

@@ -8,7 +8,8 @@ use Rattle.sdm_rules.specs.Supervision.{Supervision, after_reading, opening}
 use Rattle.sdm_rules.specs.Trial.{reading_in_cycle}
 
 -- after the reading of a cycle that of the next is not too early
-pub next_in_time : (s : Supervision) (seed i : ℕ) → time_fault (after_reading s (reading_in_cycle seed i)).last_time (reading_in_cycle seed (suc i)).time ≡ None
+pub next_in_time : (s : Supervision) (seed i : ℕ) →
+    time_fault (after_reading s (reading_in_cycle seed i)).last_time (reading_in_cycle seed (suc i)).time ≡ None
 unfolding after_reading
 next_in_time s seed i = rw (le-ltb (5 * suc i) (5 * i) (omega arith)) refl
 

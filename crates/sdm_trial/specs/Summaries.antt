@@ -4,7 +4,8 @@ use Rattle.std.specs.Int.{int_rem_euclid}
 use Rattle.sdm_rules.specs.declared.rows.Row.{Row}
 use Rattle.sdm_rules.specs.Trial.{ebi_sum}
 
--- how many rows there are, how many of them are covered or have a brake commanded, and the sum of the EBI places in mm, modulo 10^9
+-- how many rows there are, how many of them are covered or have a brake commanded, and the sum of the EBI places in
+-- mm, modulo 10^9
 pub record Counts : Type 0 where
   pub rows : ℕ
   pub covered : ℕ

@@ -3,7 +3,8 @@
 
 ghost use Rattle.std.specs.Prelude.{◌≡◌, ◌≤◌, ℕ, None, IfOk, length};
 ghost use Rattle.sdm_rules.specs.Opening.{IsAccepted};
-ghost use Rattle.sdm_rules.specs.Trial.{trial_authority, trial_journey, trial_train_and_track, trial_national, trial_track, trial_train};
+ghost use Rattle.sdm_rules.specs.Trial.{trial_authority, trial_journey, trial_train_and_track, trial_national};
+ghost use Rattle.sdm_rules.specs.Trial.{trial_track, trial_train};
 ghost use Rattle.sdm_rules.specs.Records.{most_records, rows_of};
 ghost use Rattle.sdm_data.specs.Given.{train_and_track_of};
 

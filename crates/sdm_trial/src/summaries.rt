@@ -33,9 +33,17 @@ impl Model for Summary {
 
     ghost Value = { Counts };
 
-    ghost view = { λ s. record { rows = s.rows; covered = s.covered; emergency = s.emergency; service = s.service; ebi = pos s.ebi_mm } };
+    ghost view = { λ s. record {
+      rows = s.rows;
+      covered = s.covered;
+      emergency = s.emergency;
+      service =
+          s.service;
+      ebi = pos s.ebi_mm;
+    } };
 
-    ghost invariant = { λ s. (s.rows ≤ most_records) × (s.covered ≤ s.rows) × (s.emergency ≤ s.rows) × (s.service ≤ s.rows) × (s.ebi_mm < 1_000_000_000) };
+    ghost invariant = { λ s. (s.rows ≤ most_records) × (s.covered ≤ s.rows) × (s.emergency ≤ s.rows)
+        × (s.service ≤ s.rows) × (s.ebi_mm < 1_000_000_000) };
 }
 
 /// A sum of places, from one that is below the modulus.

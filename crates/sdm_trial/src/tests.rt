@@ -6,8 +6,8 @@ use sdm_rules::{Authority, Gradient, Held, Row, State, Status};
 use sdm_text::RowBuf;
 use std::test::Fail;
 
-/// What the first readings after the number 7 hold: time in ds, est, min and max in mm, speed in mm/s, acceleration in cm/s².
-/// Their numbers are 58,988, 4,085 and 19,570.
+/// What the first readings after the number 7 hold: time in ds, est, min and max in mm, speed in mm/s, acceleration in
+/// cm/s². Their numbers are 58,988, 4,085 and 19,570.
 const READINGS_AFTER_7: [(u32, i32, i32, i32, u32, i16); 3] = [
     (5, 4_179_760, 4_174_760, 4_184_760, 14_987, -46),
     (10, 3_081_700, 3_076_700, 3_086_700, 4_085, -5),

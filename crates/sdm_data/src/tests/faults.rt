@@ -10,8 +10,8 @@ authority = {kind = "end", eoa = 100000, svl = 100000, release = 0}"#;
 pub const BAND: &str =
     "{emergency = 100, service = 100, normal = 100, kdry = 1000, kwet = 1000, kn_up = 0, kn_down = 0}";
 
-/// The first fault, told by section, index and key; then the changes that `SHORT` has, each `old ~ new`. After `text:` there
-/// stands a whole text in its place. `;` is a line feed.
+/// The first fault, told by section, index and key; then the changes that `SHORT` has, each `old ~ new`. After `text:`
+/// there stands a whole text in its place. `;` is a line feed.
 pub const FAULTS: &str = r#"
 not TOML | text:version
 not TOML | text:version = 1;version = 1
@@ -97,7 +97,8 @@ Value Authority 0 6 | "end", eoa = 100000, svl = 100000, release = 0 ~ "limit", 
 Train Value { band: 0, key: 1 } | length = 10000 ~ length = 0 & avadh = 20 ~ avadh = 21
 Train BandCount | [@] ~ [@, @, @, @, @, @, @, @, @]
 Train BandCount | [@] ~ [] & avadh = 20 ~ avadh = 21
-Train Value { band: 2, key: 6 } | [@] ~ [@, {emergency = 1, service = 1, normal = 1, kdry = 1, kwet = 0, kn_up = 0, kn_down = 0}]
+Train Value { band: 2, key: 6 } | [@] ~ [@,
+    {emergency = 1, service = 1, normal = 1, kdry = 1, kwet = 0, kn_up = 0, kn_down = 0}]
 Train BandOrder { band: 1 } | [@] ~ [@, @] & length = 200000 ~ length = 0
 National Value { key: 1 } | avadh = 20 ~ avadh = 21 & length = 200000 ~ length = 0
 Track Value { list: Track, index: 0, key: 1 } | length = 200000 ~ length = 4294967296

@@ -5,7 +5,7 @@ use crate::{FixedSource, MemSource, Unread, read_to_end};
 use std::alloc::Global;
 use std::test::Fail;
 
-// bytes | step | failing | limit | answer | what the next read gives
+/// bytes | step | failing | limit | answer | what the next read gives
 const INPUTS: &str = "\
     abc | 9 | - | 3 | ok | .
     abc | 1 | - | 3 | ok | .
@@ -49,7 +49,7 @@ fn an_input_is_read_to_its_end_or_to_one_byte_above_the_limit(rt: HostRuntime) -
     Ok(())
 }
 
-// So many bytes, of which neighbours differ.
+/// So many bytes, of which neighbours differ.
 fn bytes_in_turn(alloc: Global, count: u32) -> Result<Vec<u8>, Fail> {
     let mut bytes = Vec::new(alloc);
     for i in 0..count {
@@ -71,7 +71,7 @@ fn an_input_of_several_blocks_is_read_whole(rt: HostRuntime) -> Result<(), Fail>
     Ok(())
 }
 
-// bytes | step | the call that tells the end. The first block has 8,192 bytes, and the next one 65,536.
+/// bytes | step | the call that tells the end. The first block has 8,192 bytes, and the next one 65,536.
 const CALLS: &str = "\
     8191 | 99999 | 2
     8192 | 99999 | 2
@@ -83,7 +83,7 @@ const CALLS: &str = "\
     73729 | 8191 | 11
     73729 | 4096 | 20";
 
-// What is read of an input, one of whose calls fails.
+/// What is read of an input, one of whose calls fails.
 fn read_failing(
     alloc: Global,
     bytes: &[u8],

@@ -1,5 +1,5 @@
--- The start is the lesser of two places, each so many grains before one of a curve, and stands for the lesser of both exact
--- ones.
+-- The start is the lesser of two places, each so many grains before one of a curve, and stands for the lesser of both
+-- exact ones.
 use Rattle.std.proofs.Common.{◌+◌, ◌∙◌, ap, rules}
 use Rattle.sdm_num.specs.Fractions.{less}
 use Rattle.sdm_num.specs.Units.{distance_at}
@@ -28,6 +28,9 @@ returns-clause-stands c =
     let sbd = exact (meaning_of a.expected.now) a.sbd.now.place a.sbd.now.speed a.release in
     let ebd = exact (meaning_of a.safe.now) a.ebd.now.place a.ebd.now.speed a.release in
     let emergency_time = a.times.now.traction + a.times.now.berem + a.times.now.bs in
-    let eoa = early_before c.less-before_eoa.result sbd c.distance_at-service.result a.release a.times.now.bs c.distance_at-service.ensures.value (c.less-before_eoa.ensures.stands sbd c.place.ensures.stands) in
-    let svl = early_before c.less-before_svl.result ebd c.distance_at-emergency.result a.release emergency_time c.distance_at-emergency.ensures.value (c.less-before_svl.ensures.stands ebd c.place-2.ensures.stands) in
-    c.earlier.ensures.stands (less sbd (distance_at a.release a.times.now.bs)) (less ebd (distance_at a.release emergency_time)) eoa svl
+    let eoa = early_before c.less-before_eoa.result sbd c.distance_at-service.result a.release a.times.now.bs
+    c.distance_at-service.ensures.value (c.less-before_eoa.ensures.stands sbd c.place.ensures.stands) in
+    let svl = early_before c.less-before_svl.result ebd c.distance_at-emergency.result a.release emergency_time
+    c.distance_at-emergency.ensures.value (c.less-before_svl.ensures.stands ebd c.place-2.ensures.stands) in
+    c.earlier.ensures.stands (less sbd (distance_at a.release a.times.now.bs))
+    (less ebd (distance_at a.release emergency_time)) eoa svl

@@ -1,11 +1,11 @@
 //! Journeys of `flat`, worked by hand, and faults at chosen calls.
 
 use super::{STEADY, Streams, answer_of, bytes_of, fields_of};
-use sdm_supervisor::{CycleFault, Flat, FlatRow};
 use sdm_num::{Place, Speed};
+use sdm_supervisor::{CycleFault, Flat, FlatRow};
 use std::test::Fail;
 
-// words | input | rows | code | line
+/// words | input | rows | code | line
 const JOURNEYS: &str = "\
     flat 100 100000 | 0,799990,20000/ | 0,800000,1,0/ | 0 | -
     flat 100 100000 | 0,799990,20000 | 0,800000,1,0/ | 0 | -
@@ -51,7 +51,7 @@ fn each_journey_has_its_rows_and_its_end(rt: HostRuntime) -> Result<(), Fail> {
     Ok(())
 }
 
-// step | failing reads | failing calls of out | failing writes of the line | rows | code | line
+/// step | failing reads | failing calls of out | failing writes of the line | rows | code | line
 const FAULTS: &str = "\
     1000 | - | - | - | 0,800000,1,0/5,800000,0,1/ | 0 | -
     1 | - | - | - | 0,800000,1,0/5,800000,0,1/ | 0 | -

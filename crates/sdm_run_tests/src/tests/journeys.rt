@@ -76,8 +76,8 @@ pub const PARTS: &str = r#"- | 5 | sdm: bad data: no %% line/
 a = /%%/ | 5 | sdm: bad data: not TOML/
 a = 1/%%~/ | 5 | sdm: bad data: unknown key in root/"#;
 
-/// step | failing reads | failing calls of out | records | rows | code | line; the rows before a refused record are written, and out is
-/// flushed after the last, where there is one
+/// step | failing reads | failing calls of out | records | rows | code | line; the rows before a refused record are
+/// written, and out is flushed after the last, where there is one
 pub const RUN_FAULTS: &str =
     r#"1 | - | - | read,0,799990,799990,799990,20000,0,0/ | 0,T,W,1,0,0,1,160,800000,800000,760000,720000,540000/ | 0 | -
 1000 | 2 | - | read,0,799990,799990,799990,20000,0,0/ | - | 2 | sdm: read fault/

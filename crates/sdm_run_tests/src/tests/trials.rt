@@ -1,11 +1,11 @@
-//! Trials, and a journey over the same data. The sums of three and of 100,000 cycles were found apart from this program, by hand and
-//! by a model in exact fractions.
+//! Trials, and a journey over the same data. The sums of three and of 100,000 cycles were found apart from this
+//! program, by hand and by a model in exact fractions.
 
 use super::{STEADY, Streams, answer_of, answer_to, bytes_of, fields_of};
 use sdm_data::REALISTIC_PART;
 use std::test::Fail;
 
-// words | failing reads | failing calls of out | out | code | line
+/// words | failing reads | failing calls of out | out | code | line
 const TRIALS: &str = "\
     trial 7 3 | - | - | rows 3/covered 3/emergency 0/service 0/ebi 14668789/ | 0 | -
     trial 007 0003 | - | - | rows 3/covered 3/emergency 0/service 0/ebi 14668789/ | 0 | -
@@ -40,7 +40,7 @@ fn each_trial_has_its_summary(rt: HostRuntime) -> Result<(), Fail> {
     Ok(())
 }
 
-// At 40 m/s the EBI lies at 3987.04818 m, and the train comes past the indication limit at 3307.048 m.
+/// At 40 m/s the EBI lies at 3987.04818 m, and the train comes past the indication limit at 3307.048 m.
 const READINGS: &[u8] =
     b"%%\nread,0,3300000,3295000,3305000,40000,0,500\nread,25,3400000,3395000,3405000,40000,0,500\n";
 

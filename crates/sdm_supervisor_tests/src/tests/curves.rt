@@ -1,18 +1,18 @@
-//! The curves that a supervisor lends, asked for places that were worked by hand. A train that brakes at 1 m/s² needs half the difference of
-//! the squares of two speeds in m/s, as metres, from one to the other.
+//! The curves that a supervisor lends, asked for places that were worked by hand. A train that brakes at 1 m/s² needs
+//! half the difference of the squares of two speeds in m/s, as metres, from one to the other.
 
 ghost use Rattle.std.specs.Prelude.{◌≡◌, ◌≤ℤ◌, IfOk, pos};
 ghost use Rattle.sdm_rules.specs.declared.data.SlopeKind.TheVariants.{Safe};
 ghost use Rattle.sdm_rules.specs.Decelerations.{slopes_of};
 ghost use Rattle.sdm_rules.specs.Slopes.{meaning_of};
 
-use sdm_supervisor::Supervisor;
 use crate::tests::data::{base, set_line};
 use sdm_curve::BandMap;
 use sdm_decel::safe;
 use sdm_national::National;
 use sdm_num::Speed;
 use sdm_speed::Restriction;
+use sdm_supervisor::Supervisor;
 use sdm_targets::Authority;
 use sdm_track::{SpeedStep, Track};
 use sdm_train::Train;
@@ -54,7 +54,8 @@ fn is_at_2_km(supervisor: &Supervisor, map: &BandMap) -> bool
         && on_end(supervisor, map, Speed::of_mm_s(20_000)) == 1_800_000
 }
 
-/// With the restriction in force: 80 km/h has 7.5 km/h of EBI margin, and from 30 m/s it is (900 − 24.3055…²) / 2 = 154.62 m to there.
+/// With the restriction in force: 80 km/h has 7.5 km/h of EBI margin, and from 30 m/s it is (900 − 24.3055…²) / 2 =
+/// 154.62 m to there.
 fn is_restricted(supervisor: &Supervisor, map: &BandMap) -> bool
     requires { meaning_of map.now ≡ slopes_of Safe supervisor.now.train_and_track }
 {

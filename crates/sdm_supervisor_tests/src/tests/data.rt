@@ -22,7 +22,8 @@ pub struct Data {
     pub authority: Authority,
 }
 
-/// A train of 100 m that brakes with 1 m/s² at once, at 160 km/h on a level track of 2 km, with its EOA and SvL at 1000 m.
+/// A train of 100 m that brakes with 1 m/s² at once, at 160 km/h on a level track of 2 km, with its EOA and SvL at
+/// 1000 m.
 pub fn base(alloc: Global) -> Data {
     Data {
         train: BASE_TRAIN,
@@ -66,7 +67,7 @@ fn known(set: bool) -> Result<(), Fail> {
     Ok(())
 }
 
-// The place in the array of a band's number, which counts from 1.
+/// The place in the array of a band's number, which counts from 1.
 fn band_index(word: Option<&str>) -> Result<usize, Fail>
     ensures { IfOk result (λ i. i < 8) }
 {
@@ -163,7 +164,7 @@ fn set_authority(data: &mut Data, kind: &str, text: &str) -> Result<(), Fail> {
     Ok(())
 }
 
-// Sets what a section says.
+/// Sets what a section says.
 fn set_section(alloc: Global, data: &mut Data, text: &str) -> Result<(), Fail> {
     let (section, text) = text.trim().split_once(' ').ok_or("an empty section")?;
     match section {

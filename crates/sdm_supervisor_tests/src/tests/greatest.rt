@@ -1,10 +1,11 @@
-//! The greatest data: 512 gradients, 128 speeds and 64 areas on 100 km of track, a train of 8 speed bands, and 32 restrictions. All but
-//! the first speed lie from 2 km to 99 km, and every band brakes with 1 m/s² on level track: so before an EOA at 1 km, and before one at
-//! 100 km, the limits are those that 20 m/s have on the track of the base data.
+//! The greatest data: 512 gradients, 128 speeds and 64 areas on 100 km of track, a train of 8 speed bands, and 32
+//! restrictions. All but the first speed lie from 2 km to 99 km, and every band brakes with 1 m/s² on level track: so
+//! before an EOA at 1 km, and before one at 100 km, the limits are those that 20 m/s have on the track of the base
+//! data.
 
-use sdm_supervisor::Supervisor;
 use crate::tests::data::{Data, base, set_line};
 use crate::tests::records::answer;
+use sdm_supervisor::Supervisor;
 use sdm_track::{Area, Gradient, SpeedStep};
 use std::alloc::Global;
 use std::process::Abort;
@@ -15,7 +16,7 @@ const BANDS: &str = "\
 train max_speed 500; track length 10000000
 band 1 upper 18; band 2 upper 36; band 3 upper 54; band 4 upper 72; band 5 upper 90; band 6 upper 108; band 7 upper 126; band 8 normal 100";
 
-// 511 more gradients: by turns 5 per mille down and up, and level from 98,900 m on.
+/// 511 more gradients: by turns 5 per mille down and up, and level from 98,900 m on.
 fn add_gradients(data: &mut Data) -> Result<(), Fail> {
     data.gradients.push(Gradient { start: 0, grad: 0 })?;
     for i in 0..511u32 {
@@ -34,7 +35,7 @@ fn add_gradients(data: &mut Data) -> Result<(), Fail> {
     Ok(())
 }
 
-// 300 km/h, then 127 falls of 1 km/h.
+/// 300 km/h, then 127 falls of 1 km/h.
 fn add_speeds(data: &mut Data) -> Result<(), Fail> {
     data.speeds.push(SpeedStep {
         start: 0,

@@ -1,5 +1,5 @@
-//! Journeys worked by hand. Where the data say nothing else, a train of 100 m that brakes at 1 m/s² runs on a level track of 2 km at
-//! 160 km/h, with its EOA and its SvL at 1000 m.
+//! Journeys worked by hand. Where the data say nothing else, a train of 100 m that brakes at 1 m/s² runs on a level
+//! track of 2 km at 160 km/h, with its EOA and its SvL at 1000 m.
 
 /// Where the limits lie. From 20 m/s it takes 200 m to brake at 1 m/s²; W lies 2 s and P 4 s before the SBI, I 9 s
 /// before P.
@@ -88,7 +88,8 @@ national avadh 0; track length 600000; gradient 0 0 200000 -5 400000 0; end 5000
 read,0,3300000,3295000,3305000,40000,0,500 = 0,C,N,0,0,0,1,160,3987048,3827048,3747048,3667048,3307048
 read,25,3400000,3395000,3405000,40000,0,500 = 25,T,I,0,0,0,1,160,3987048,3827048,3747048,3667048,3307048";
 
-/// Which front end a target compares, and which speed. Front ends are the estimated, the min safe and the max safe one.
+/// Which front end a target compares, and which speed. Front ends are the estimated, the min safe and the max safe
+/// one.
 pub const FRONTS: &str = "\
 # EOA and SvL at one place: the max safe front end is past P, whatever the estimated one is
 read,0,715000,700000,720000,20000,0,0 = 0,T,I,0,0,0,1,160,800000,800000,760000,720000,540000

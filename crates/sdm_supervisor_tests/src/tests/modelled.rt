@@ -1,5 +1,5 @@
-//! Journeys with the rows of a model in exact fractions that knows nothing of this program. They are made to lie at limits, borders and
-//! margins, and no train runs so.
+//! Journeys with the rows of a model in exact fractions that knows nothing of this program. They are made to lie at
+//! limits, borders and margins, and no train runs so.
 
 /// What each journey has, its data, its records and their answers.
 pub const MODELLED: &str = "\

@@ -3,10 +3,10 @@
 ghost use Rattle.std.specs.Prelude.{◌≤◌, IfOk};
 
 use crate::tests::data::{Data, authority, natural, small};
-use sdm_supervisor::{CycleFault, OpenFault, Row, Supervisor};
 use sdm_national::National;
 use sdm_num::Reading;
 use sdm_speed::Restriction;
+use sdm_supervisor::{CycleFault, OpenFault, Row, Supervisor};
 use sdm_track::{SpeedStep, Track};
 use sdm_train::Train;
 use std::alloc::Global;
@@ -39,7 +39,7 @@ fn reading(fields: &str) -> Result<Reading, Fail> {
     Ok(Reading::new(time, est, min, max, speed, accel, under).ok_or("no reading")?)
 }
 
-// Fields of a restriction from its identity on.
+/// Fields of a restriction from its identity on.
 fn restriction(fields: &str) -> Result<Restriction, Fail>
     ensures slowest { IfOk result (λ r. 1 ≤ r.speed) }
     ensures fastest { IfOk result (λ r. r.speed ≤ 500) }
@@ -102,7 +102,7 @@ fn restrict(alloc: Global, supervisor: &mut Supervisor, fields: &str) -> Result<
     }
 }
 
-// Restrictions that are alike, with each identity from that of the first to that of the last one.
+/// Restrictions that are alike, with each identity from that of the first to that of the last one.
 fn restrict_all(alloc: Global, supervisor: &mut Supervisor, fields: &str) -> Result<String, Fail> {
     let (last, fields) = fields.split_once(',').ok_or("no last identity")?;
     let last = last.parse::<u16>()?;
@@ -113,7 +113,7 @@ fn restrict_all(alloc: Global, supervisor: &mut Supervisor, fields: &str) -> Res
     Ok(format!(in alloc; "taken")?)
 }
 
-// A restriction that comes and goes so many times.
+/// A restriction that comes and goes so many times.
 fn restrict_and_revoke(
     alloc: Global,
     supervisor: &mut Supervisor,

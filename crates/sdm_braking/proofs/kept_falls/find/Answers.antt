@@ -13,7 +13,8 @@ returns-then-list-i-clause-falls c p h past =
     let wide : to_z w64 (of_z w64 c.from.result) ≡ c.args.cell = omega (arith, ints, c.from.ensures, cell_is) in
     let before : to_z w64 (of_z w64 (c.args.cell -ℤ pos 1)) ≡ c.args.cell -ℤ pos 1 = omega (arith, ints) in
     let parts = (rw (wide, before) at c.reached-i.ensures.parted) p first_cell h in
-    missing p c.args.list.now c.reached-i.result c.args.cell h past parts (λ k known is here. omega (arith, known, c.if-list-i.true))
+    missing p c.args.list.now c.reached-i.result c.args.cell h past parts
+    (λ k known is here. omega (arith, known, c.if-list-i.true))
 
 pub returns-then-kept-cell-clause-falls : goal.returns-then-kept-cell-clause-falls
 returns-then-kept-cell-clause-falls c p h past =
@@ -23,7 +24,8 @@ returns-then-kept-cell-clause-falls c p h past =
     let parts = (rw (wide, before) at c.reached-i.ensures.parted) p first_cell h in
     missing p c.args.list.now c.reached-i.result c.args.cell h past parts
     (λ k known is here.
-    let same : c.index-list-i.result ≡ k = c.index-list-i.is ∙ get_or_default c.args.list.now c.reached-i.result c.index-list-i.result k known ∙ sym is in
+    let same : c.index-list-i.result ≡ k = c.index-list-i.is
+    ∙ get_or_default c.args.list.now c.reached-i.result c.index-list-i.result k known ∙ sym is in
     c.if-kept-cell.true (ap (λ (x : KeptFall). of_z w32 x.fall.cell) same ∙ ap (of_z w32) here))
 
 pub returns-clause-falls : goal.returns-clause-falls
@@ -31,4 +33,5 @@ returns-clause-falls c p h past =
     let k = c.index-list-i.result in
     let fits : to_z w32 (of_z w32 k.fall.cell) ≡ k.fall.cell = to_z-of_z w32 k.fall.cell (search rules) in
     let cell_is : to_z w32 (of_z w32 c.args.cell) ≡ c.args.cell = to_z-of_z w32 c.args.cell c.ranges.cell in
-    found p c.args.list.now c.reached-i.result c.args.cell h k c.if-list-i.false c.index-list-i.is (sym fits ∙ ap (to_z w32) c.if-kept-cell.false ∙ cell_is)
+    found p c.args.list.now c.reached-i.result c.args.cell h k c.if-list-i.false c.index-list-i.is
+    (sym fits ∙ ap (to_z w32) c.if-kept-cell.false ∙ cell_is)

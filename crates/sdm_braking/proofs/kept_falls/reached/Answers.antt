@@ -12,7 +12,9 @@ returns-clause-parted c p after h =
     let ks = c.args.list.now in
     let last = c.args.last in
     let i = c.partition_point.result in
-    let parts = IsPartitionPoint-from_clause (λ (k : KeptFall). int_le k.fall.cell last) ks i c.partition_point.ensures.partitioned (falls_parted fall_of p (λ a. int_le a last) (not_past last) after ks h) (λ a r f called. search rules) in
+    let parts = IsPartitionPoint-from_clause (λ (k : KeptFall).
+    int_le k.fall.cell last) ks i c.partition_point.ensures.partitioned
+    (falls_parted fall_of p (λ a. int_le a last) (not_past last) after ks h) (λ a r f called. search rules) in
     record {
       reached = λ k d l m. le_of _ _ (parts.0 k d (omega arith) l);
       past = λ k d l m. not_le_of _ _ (parts.1 k d l m);

@@ -21,5 +21,6 @@ end_is a length_cm h =
 pub loop-area-preserved : goal.loop-area-preserved
 loop-area-preserved c =
     let here = λ (d : Area). c.requires.areas c.loop-area.area-index d c.loop-area-test.true in
-    areas_more c.args.length_cm c.args.areas.now c.loop-area.area-index _ _ _ _ _ _ _ c.loop-area-test.true c.loop-area.invariant c.in_ok-push.ensures.items c.in_ok-push-2.ensures.items
+    areas_more c.args.length_cm c.args.areas.now c.loop-area.area-index _ _ _ _ _ _ _ c.loop-area-test.true
+    c.loop-area.invariant c.in_ok-push.ensures.items c.in_ok-push-2.ensures.items
     (start_is _ (here _)) (end_is _ _ (here _))

@@ -17,7 +17,8 @@ returns c =
     let scaled_is =
     rw (to_z-of_z w64 c.brake-brake.result (search rules)) at c.scaled-scaled.ensures.value in
     let grad_is =
-    rw (to_z-of_z w64 c.grad.result (search rules), c.grad.ensures.value, c.rotating_mass.ensures.value) at c.a_gradient.ensures.value in
+    rw (to_z-of_z w64 c.grad.result (search rules), c.grad.ensures.value, c.rotating_mass.ensures.value) at
+    c.a_gradient.ensures.value in
     rw (to_z-of_z w64 s (search rules), to_z-of_z w64 g (search rules), all_is) (record {
       value = slope_is c.args.kind c.args.train.now c.args.national.now c.args.under c.args.band.now _ _ s g
           c.q_of.ensures.value c.brake-brake.ensures.value scaled_is grad_is;

@@ -20,12 +20,16 @@ returns c =
     let track = c.args.track.now in
     let starts = c.in_ok-starts.starts.items in
     let length_cm : ℤ = pos (unsigned_abs (to_z w64 (of_z w64 c.length-length_cm.result))) in
-    let long = long_is c.length-length_cm.result train.length_cm c.length-length_cm.ensures.range c.length-length_cm.ensures.value in
-    let unders_are = c.deref-2.ensures.value ∙ c.in_ok-unders.ensures ∙ ap (λ (cells : List ℤ). map (under_train track length_cm) cells) c.deref.ensures.value ∙ ap (λ (z : ℤ). map (under_train track z) starts) long in
+    let long = long_is c.length-length_cm.result train.length_cm c.length-length_cm.ensures.range
+    c.length-length_cm.ensures.value in
+    let unders_are = c.deref-2.ensures.value ∙ c.in_ok-unders.ensures
+    ∙ ap (λ (cells : List ℤ). map (under_train track length_cm) cells) c.deref.ensures.value
+    ∙ ap (λ (z : ℤ). map (under_train track z) starts) long in
     record {
       train = c.in_ok-uppers.ensures.accepted;
       uppers_are = c.in_ok-uppers.ensures.value;
       stretches = subst (λ (z : ℤ). AreStretches track z starts) long c.in_ok-starts.ensures;
-      slopes_are = c.in_ok-slopes.ensures.value ∙ ap (λ (us : List UnderTrain). slopes_of_bands c.args.kind train c.args.national.now us train.bands) unders_are;
+      slopes_are = c.in_ok-slopes.ensures.value ∙ ap
+          (λ (us : List UnderTrain). slopes_of_bands c.args.kind train c.args.national.now us train.bands) unders_are;
       small = c.in_ok-slopes.ensures.small;
     }

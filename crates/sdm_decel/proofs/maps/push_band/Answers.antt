@@ -11,9 +11,15 @@ pub loop-under-preserved : goal.loop-under-preserved
 loop-under-preserved c =
     let slope_is = to_z-of_z w64 c.slope.result (search rules) in
     record {
-      added = row_more (λ (u : UnderTrain). slope_under c.args.kind c.args.train.now c.args.national.now u c.args.band.now) c.args.unders.now c.loop-under.under-index c.under-item.result _ _ _ _ c.loop-under-test.true c.under-item.is c.loop-under.invariant.added c.in_ok-push.ensures.items (slope_is ∙ c.slope.ensures.value);
-      small = λ all. All-same (λ (z : ℤ). unsigned_abs z ≤ 10 ^ 15) _ _ c.in_ok-push.ensures.items (All-push (λ (z : ℤ). unsigned_abs z ≤ 10 ^ 15) _ _ (c.loop-under.invariant.small all) (rw slope_is c.slope.ensures.size));
+      added = row_more (λ (u : UnderTrain). slope_under c.args.kind c.args.train.now c.args.national.now u
+          c.args.band.now) c.args.unders.now c.loop-under.under-index c.under-item.result _ _ _ _
+          c.loop-under-test.true c.under-item.is c.loop-under.invariant.added c.in_ok-push.ensures.items
+          (slope_is ∙ c.slope.ensures.value);
+      small = λ all. All-same (λ (z : ℤ). unsigned_abs z ≤ 10 ^ 15) _ _ c.in_ok-push.ensures.items
+          (All-push (λ (z : ℤ). unsigned_abs z ≤ 10 ^ 15) _ _ (c.loop-under.invariant.small all)
+          (rw slope_is c.slope.ensures.size));
     }
 
 pub returns-clause-added : goal.returns-clause-added
-returns-clause-added c = rw (take_all c.loop-under.under-index c.args.unders.now c.loop-under-test.false) at c.loop-under.invariant.added
+returns-clause-added c =
+    rw (take_all c.loop-under.under-index c.args.unders.now c.loop-under-test.false) at c.loop-under.invariant.added

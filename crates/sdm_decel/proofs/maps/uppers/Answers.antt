@@ -12,6 +12,8 @@ loop-i-preserved c = elim c.match-band.branch [
       let range = rw w.in-Some.is at c.band.ensures.range.upper in
       let kept : to_z w64 (of_z w64 kmh) ≡ kmh = omega (arith, ints, range.0, range.1) in
       let speed_is = rw kept at w.of_kmh.ensures in
-      rw w.uppers-is (uppers_more c.args.train.now.bands c.loop-i.i c.band.result.now kmh _ _ _ c.band.ensures.value w.in-Some.is c.loop-i.invariant w.in_ok-push.ensures.items speed_is))
-  | in_default w ↦ rw w.uppers-is (c.loop-i.invariant ∙ sym (uppers_same c.args.train.now.bands c.loop-i.i c.band.result.now c.band.ensures.value w.in_default.not-Some))
+      rw w.uppers-is (uppers_more c.args.train.now.bands c.loop-i.i c.band.result.now kmh _ _ _ c.band.ensures.value
+      w.in-Some.is c.loop-i.invariant w.in_ok-push.ensures.items speed_is))
+  | in_default w ↦ rw w.uppers-is (c.loop-i.invariant ∙ sym
+      (uppers_same c.args.train.now.bands c.loop-i.i c.band.result.now c.band.ensures.value w.in_default.not-Some))
 ]

@@ -8,28 +8,55 @@ use Rattle.sdm_events.proofs.events.event_of.Goals as goal
 
 pub returns-in_default : goal.returns-in_default
 unfolding event_of
-returns-in_default c = record { value = rw (no_fields (fields_of c.args.fields.now) _ c.get.ensures.value c.in_default.is) refl; form = tt }
+returns-in_default c = record {
+  value = rw (no_fields (fields_of c.args.fields.now) _ c.get.ensures.value c.in_default.is) refl;
+  form = tt;
+}
 
 pub returns-then-is_kind : goal.returns-then-is_kind
 unfolding event_of
-returns-then-is_kind c = record { value = rw (first_field (fields_of c.args.fields.now) _ _ c.get.ensures.value c.in-Some.is) (grind (arith, common_steps)); form = c.read_event.ensures.form }
+returns-then-is_kind c = record {
+  value = rw (first_field (fields_of c.args.fields.now) _ _ c.get.ensures.value c.in-Some.is)
+      (grind (arith, common_steps));
+  form = c.read_event.ensures.form;
+}
 
 pub returns-then-is_kind-2 : goal.returns-then-is_kind-2
 unfolding event_of
-returns-then-is_kind-2 c = record { value = rw (first_field (fields_of c.args.fields.now) _ _ c.get.ensures.value c.in-Some.is) (grind (arith, common_steps)); form = c.end_event.ensures.form }
+returns-then-is_kind-2 c = record {
+  value = rw (first_field (fields_of c.args.fields.now) _ _ c.get.ensures.value c.in-Some.is)
+      (grind (arith, common_steps));
+  form = c.end_event.ensures.form;
+}
 
 pub returns-then-is_kind-3 : goal.returns-then-is_kind-3
 unfolding event_of
-returns-then-is_kind-3 c = record { value = rw (first_field (fields_of c.args.fields.now) _ _ c.get.ensures.value c.in-Some.is) (grind (arith, common_steps)); form = c.limit_event.ensures.form }
+returns-then-is_kind-3 c = record {
+  value = rw (first_field (fields_of c.args.fields.now) _ _ c.get.ensures.value c.in-Some.is)
+      (grind (arith, common_steps));
+  form = c.limit_event.ensures.form;
+}
 
 pub returns-then-is_kind-4 : goal.returns-then-is_kind-4
 unfolding event_of
-returns-then-is_kind-4 c = record { value = rw (first_field (fields_of c.args.fields.now) _ _ c.get.ensures.value c.in-Some.is) (grind (arith, common_steps)); form = c.restrict_event.ensures.form }
+returns-then-is_kind-4 c = record {
+  value = rw (first_field (fields_of c.args.fields.now) _ _ c.get.ensures.value c.in-Some.is)
+      (grind (arith, common_steps));
+  form = c.restrict_event.ensures.form;
+}
 
 pub returns-then-is_kind-5 : goal.returns-then-is_kind-5
 unfolding event_of
-returns-then-is_kind-5 c = record { value = rw (first_field (fields_of c.args.fields.now) _ _ c.get.ensures.value c.in-Some.is) (grind (arith, common_steps)); form = c.revoke_event.ensures.form }
+returns-then-is_kind-5 c = record {
+  value = rw (first_field (fields_of c.args.fields.now) _ _ c.get.ensures.value c.in-Some.is)
+      (grind (arith, common_steps));
+  form = c.revoke_event.ensures.form;
+}
 
 pub returns-else-is_kind-5 : goal.returns-else-is_kind-5
 unfolding event_of
-returns-else-is_kind-5 c = record { value = rw (first_field (fields_of c.args.fields.now) _ _ c.get.ensures.value c.in-Some.is) (grind (arith, common_steps)); form = tt }
+returns-else-is_kind-5 c = record {
+  value = rw (first_field (fields_of c.args.fields.now) _ _ c.get.ensures.value c.in-Some.is)
+      (grind (arith, common_steps));
+  form = tt;
+}

@@ -12,10 +12,12 @@ unwrap-field-requires c = field_found (fields_of c.args.fields.now) _ _ c.get.en
 
 module _ (c : goal.In-Ok) where
   least : to_z w64 (of_z w64 c.from.result) ≡ c.args.least
-  least = to_z-of_z w64 c.from.result (search (rules, ints)) ∙ (c.from.ensures ∙ to_z-of_z w32 c.args.least c.ranges.least)
+  least = to_z-of_z w64 c.from.result (search (rules, ints))
+      ∙ (c.from.ensures ∙ to_z-of_z w32 c.args.least c.ranges.least)
 
   greatest : to_z w64 (of_z w64 c.from-2.result) ≡ c.args.greatest
-  greatest = to_z-of_z w64 c.from-2.result (search (rules, ints)) ∙ (c.from-2.ensures ∙ to_z-of_z w32 c.args.greatest c.ranges.greatest)
+  greatest = to_z-of_z w64 c.from-2.result (search (rules, ints))
+      ∙ (c.from-2.ensures ∙ to_z-of_z w32 c.args.greatest c.ranges.greatest)
 
   number : to_z w64 (of_z w64 c.in-Ok.number) ≡ c.in-Ok.number
   number = to_z-of_z w64 c.in-Ok.number (search (rules, ints))
@@ -30,17 +32,22 @@ module _ (c : goal.In-Ok) where
   field = field_is (fields_of c.args.fields.now) _ _ _ c.get.ensures.value c.unwrap-field.ensures
 
 pub overflow_cast-result : goal.overflow_cast-result
-overflow_cast-result c = rw (number c) (between_fits w32 _ _ _ c.ranges.least c.ranges.greatest (bounds c).0 (bounds c).1)
+overflow_cast-result c =
+    rw (number c) (between_fits w32 _ _ _ c.ranges.least c.ranges.greatest (bounds c).0 (bounds c).1)
 
 pub returns-in-Ok-clause-value : goal.returns-in-Ok-clause-value
-returns-in-Ok-clause-value c = rw (same c, ← least c, ← greatest c, ← field c) (sym c.read_int.ensures.value ∙ c.in-Ok.is)
+returns-in-Ok-clause-value c =
+    rw (same c, ← least c, ← greatest c, ← field c) (sym c.read_int.ensures.value ∙ c.in-Ok.is)
 
 pub returns-in-Ok-clause-range : goal.returns-in-Ok-clause-range
 returns-in-Ok-clause-range c = rw (same c) (bounds c)
 
 pub returns-in-Err-clause-fault : goal.returns-in-Err-clause-fault
 returns-in-Err-clause-fault c =
-    let least : to_z w64 (of_z w64 c.from.result) ≡ c.args.least = to_z-of_z w64 c.from.result (search (rules, ints)) ∙ (c.from.ensures ∙ to_z-of_z w32 c.args.least c.ranges.least) in
-    let greatest : to_z w64 (of_z w64 c.from-2.result) ≡ c.args.greatest = to_z-of_z w64 c.from-2.result (search (rules, ints)) ∙ (c.from-2.ensures ∙ to_z-of_z w32 c.args.greatest c.ranges.greatest) in
-    let field : c.unwrap-field.result.now ≡ column_of (fields_of c.args.fields.now) c.args.column = field_is (fields_of c.args.fields.now) _ _ _ c.get.ensures.value c.unwrap-field.ensures in
+    let least : to_z w64 (of_z w64 c.from.result) ≡ c.args.least = to_z-of_z w64 c.from.result (search (rules, ints))
+    ∙ (c.from.ensures ∙ to_z-of_z w32 c.args.least c.ranges.least) in
+    let greatest : to_z w64 (of_z w64 c.from-2.result) ≡ c.args.greatest = to_z-of_z w64 c.from-2.result
+    (search (rules, ints)) ∙ (c.from-2.ensures ∙ to_z-of_z w32 c.args.greatest c.ranges.greatest) in
+    let field : c.unwrap-field.result.now ≡ column_of (fields_of c.args.fields.now) c.args.column = field_is
+    (fields_of c.args.fields.now) _ _ _ c.get.ensures.value c.unwrap-field.ensures in
     (c.in-Err.fault, rw (← least, ← greatest, ← field) (sym c.read_int.ensures.value ∙ c.in-Err.is), refl)

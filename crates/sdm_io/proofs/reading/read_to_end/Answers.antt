@@ -9,7 +9,8 @@ returns-in-Err-read_blocks-clause-within g c =
 
 pub returns-in-Err-read_blocks-clause-not_above : goal.returns-in-Err-read_blocks-clause-not_above
 returns-in-Err-read_blocks-clause-not_above g c other =
-    within_after _ _ _ _ _ c.large.invariant.read _ _ (omega arith) (c.in-Err-read_blocks.ensures.not_above (λ is. other cc))
+    within_after _ _ _ _ _ c.large.invariant.read _ _ (omega arith)
+    (c.in-Err-read_blocks.ensures.not_above (λ is. other cc))
 
 pub returns-in-Err-read_blocks-clause-one_above : goal.returns-in-Err-read_blocks-clause-one_above
 returns-in-Err-read_blocks-clause-one_above g c is =

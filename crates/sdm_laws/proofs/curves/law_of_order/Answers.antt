@@ -1,4 +1,4 @@
-use Rattle.sdm_laws.proofs.CurveOrder.{exact_before}
+use Rattle.sdm_laws.proofs.BrakeCurves.CurveOrder.{exact_before}
 use Rattle.sdm_laws.proofs.curves.law_of_order.Goals as goal
 
 pub returns : goal.returns

@@ -1,4 +1,4 @@
-use Rattle.sdm_laws.proofs.FlatFacts.{flat_stop}
+use Rattle.sdm_laws.proofs.Rows.FlatFacts.{flat_stop}
 use Rattle.sdm_laws.proofs.flat.law_of_flat_stop.Goals as goal
 
 pub returns : goal.returns

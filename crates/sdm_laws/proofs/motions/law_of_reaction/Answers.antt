@@ -1,4 +1,4 @@
-use Rattle.sdm_laws.proofs.Reaction.{reaction}
+use Rattle.sdm_laws.proofs.Moving.Reaction.{reaction}
 use Rattle.sdm_laws.proofs.motions.law_of_reaction.Goals as goal
 
 pub returns : goal.returns

@@ -1,4 +1,4 @@
-use Rattle.sdm_laws.proofs.OneRun.{one_run}
+use Rattle.sdm_laws.proofs.Openings.OneRun.{one_run}
 use Rattle.sdm_laws.proofs.runs.law_of_one_run.Goals as goal
 
 pub returns : goal.returns

@@ -8,12 +8,16 @@ use Rattle.sdm_limits.proofs.limits.ebd_limits_at.Goals as goal
 
 pub returns-clause-at : goal.returns-clause-at
 returns-clause-at c =
-    ebd_places c.limits_from_sbi.result c.args.times.now c.args.v (place_where c.args.guide) c.less-ebi.result c.less-sbi.result c.args.d_bec c.distance_at.result c.args.place.at
+    ebd_places c.limits_from_sbi.result c.args.times.now c.args.v
+    (place_where c.args.guide) c.less-ebi.result c.less-sbi.result c.args.d_bec c.distance_at.result
+    c.args.place.at
     c.limits_from_sbi.ensures.at (search rules) (search rules) (search rules)
 
 pub returns-clause-stands : goal.returns-clause-stands
 returns-clause-stands c = λ g x guided early.
     let ebi = less x c.args.d_bec in
     let at_ebi = c.less-ebi.ensures.stands x early in
-    let at_sbi = early_before c.less-sbi.result ebi c.distance_at.result c.args.v c.args.times.now.bs (search rules) (c.less-sbi.ensures.stands ebi at_ebi) in
-    c.limits_from_sbi.ensures.stands g (Some ebi) (less ebi (distance_at c.args.v c.args.times.now.bs)) guided at_ebi at_sbi
+    let at_sbi = early_before c.less-sbi.result ebi c.distance_at.result c.args.v c.args.times.now.bs (search rules)
+    (c.less-sbi.ensures.stands ebi at_ebi) in
+    c.limits_from_sbi.ensures.stands g (Some ebi)
+    (less ebi (distance_at c.args.v c.args.times.now.bs)) guided at_ebi at_sbi

@@ -10,5 +10,6 @@ use Rattle.sdm_limits.proofs.limits.sbd_limits.Goals as goal
 pub returns-clause-stands : goal.returns-clause-stands
 returns-clause-stands c = λ g guided.
     let x = exact (meaning_of c.args.expected.now) c.args.sbd.now.place c.args.sbd.now.speed c.args.v in
-    let at_sbi = early_before c.less-sbi.result x c.distance_at.result c.args.v c.args.times.now.bs (search rules) (c.less-sbi.ensures.stands x c.place.ensures.stands) in
+    let at_sbi = early_before c.less-sbi.result x c.distance_at.result c.args.v c.args.times.now.bs (search rules)
+    (c.less-sbi.ensures.stands x c.place.ensures.stands) in
     c.limits_from_sbi.ensures.stands g None (less x (distance_at c.args.v c.args.times.now.bs)) guided tt at_sbi

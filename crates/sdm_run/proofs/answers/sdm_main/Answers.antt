@@ -1,5 +1,5 @@
--- The promises of a command's rows and of an input that is too long, at the command that the words ask for; and what the bytes that
--- were read are to the input.
+-- The promises of a command's rows and of an input that is too long, at the command that the words ask for; and what
+-- the bytes that were read are to the input.
 use Rattle.std.proofs.Common.{◌∙◌, Err, ap, sym}
 use Rattle.sdm_report.specs.declared.outcome.Outcome.TheVariants.{Memory}
 use Rattle.sdm_run.specs.Answers.{IsAnswer}
@@ -10,7 +10,8 @@ use Rattle.sdm_run.proofs.answers.sdm_main.Goals as goal
 
 pub returns-in-Ok-clause-answer : goal.returns-in-Ok-clause-answer
 returns-in-Ok-clause-answer g c =
-    rw c.told-in-Ok.ensures.same (answer_told _ _ _ _ _ _ (sym c.in-Some.ensures.value) c.in-Ok.ensures.whole c.deref.ensures.value c.outcome_to.ensures.answer)
+    rw c.told-in-Ok.ensures.same (answer_told _ _ _ _ _ _
+    (sym c.in-Some.ensures.value) c.in-Ok.ensures.whole c.deref.ensures.value c.outcome_to.ensures.answer)
 
 pub returns-in-Ok-clause-complete : goal.returns-in-Ok-clause-complete
 returns-in-Ok-clause-complete g c =
@@ -22,11 +23,14 @@ returns-in-Ok-clause-complete g c =
 
 pub returns-in-Err-Memory-clause-answer : goal.returns-in-Err-Memory-clause-answer
 returns-in-Err-Memory-clause-answer g c =
-    rw c.told-in-Err-Memory.ensures.same (told_of_all (λ output. IsAnswer output (g.O.Sink.taken c.args.out.now) (g.O.Sink.taken c.args.out.now) Memory) (memory_first _) _ _)
+    rw c.told-in-Err-Memory.ensures.same (told_of_all (λ output.
+    IsAnswer output (g.O.Sink.taken c.args.out.now) (g.O.Sink.taken c.args.out.now) Memory) (memory_first _) _ _)
 
 pub returns-in-Err-TooLong-clause-answer : goal.returns-in-Err-TooLong-clause-answer
 returns-in-Err-TooLong-clause-answer g c =
-    rw c.told-in-Err-TooLong.ensures.same (too_long_told _ _ _ _ (sym c.in-Some.ensures.value) c.in-Err-TooLong.ensures.reads (c.in-Err-TooLong.ensures.too_long (ap Err c.in-Err-TooLong.field-0-is)))
+    rw c.told-in-Err-TooLong.ensures.same (too_long_told _ _ _ _
+    (sym c.in-Some.ensures.value) c.in-Err-TooLong.ensures.reads
+    (c.in-Err-TooLong.ensures.too_long (ap Err c.in-Err-TooLong.field-0-is)))
 
 pub returns-in-Err-Fault-clause-rows : goal.returns-in-Err-Fault-clause-rows
 returns-in-Err-Fault-clause-rows g c = rows_told _ _ _ (sym c.in-Some.ensures.value) c.in-Some.ensures.range

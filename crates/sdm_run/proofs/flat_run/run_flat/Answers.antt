@@ -11,17 +11,24 @@ use Rattle.sdm_run.proofs.flat_run.run_flat.Goals as goal
 
 pub lines-init : goal.lines-init
 unfolding flat_output
-lines-init g c = record { left = rw c.in-Ok.ensures (all_left _ _); few = omega arith; later = omega arith; due = λ _. refl }
+lines-init g c = record {
+  left = rw c.in-Ok.ensures (all_left _ _);
+  few = omega arith;
+  later = omega arith;
+  due = λ _. refl;
+}
 
 pub lines-preserved : goal.lines-preserved
 lines-preserved g c =
     let first : lines_of c.lines.rest.now ≡ c.without_lf.result.now ∷ lines_of c.in-Some.after.now =
     rw c.without_lf.ensures (ap (map (strip_last 10)) c.in-Some.ensures.line) in
     let piece : c.bytes.result.now ≡ flat_text c.in-Some-take_line.row = c.bytes.ensures.value ∙ c.put_row.ensures in
-    let row = subst (Appends (g.O.Sink.taken c.lines.out) (g.O.Sink.taken c.write_piece.new.sink)) piece c.in-Ok-write_piece.ensures.ok in
+    let row = subst (Appends (g.O.Sink.taken c.lines.out)
+    (g.O.Sink.taken c.write_piece.new.sink)) piece c.in-Ok-write_piece.ensures.ok in
     record {
       left = rw add-one (wrote _ _ _ _ _ c.lines.invariant.left _ _
-          (accepted_output _ _ _ _ _ _ _ first c.in-Some-take_line.ensures.accepted) (row_is_line c.in-Some-take_line.row) row);
+          (accepted_output _ _ _ _ _ _ _ first c.in-Some-take_line.ensures.accepted)
+          (row_is_line c.in-Some-take_line.row) row);
       few = omega (arith, c.lines.invariant.few, c.in-Some.ensures.some, c.in-Some.ensures.whole);
       later = omega (arith, c.lines.invariant.later, c.write_piece.ensures.cause.later);
       due = λ is. cc;
@@ -32,6 +39,7 @@ returns-in_default-write_piece-clause-answer g c =
     let first : lines_of c.lines.rest.now ≡ c.without_lf.result.now ∷ lines_of c.in-Some.after.now =
     rw c.without_lf.ensures (ap (map (strip_last 10)) c.in-Some.ensures.line) in
     let piece : c.bytes.result.now ≡ flat_text c.in-Some-take_line.row = c.bytes.ensures.value ∙ c.put_row.ensures in
-    let part = subst (AppendsPart (g.O.Sink.taken c.lines.out) (g.O.Sink.taken c.write_piece.new.sink)) piece c.in_default-write_piece.ensures.err in
+    let part = subst (AppendsPart (g.O.Sink.taken c.lines.out)
+    (g.O.Sink.taken c.write_piece.new.sink)) piece c.in_default-write_piece.ensures.err in
     wrote_part _ _ _ _ _ c.lines.invariant.left _ _
     (accepted_output _ _ _ _ _ _ _ first c.in-Some-take_line.ensures.accepted) part

@@ -22,10 +22,12 @@ records-preserved g c =
       from_1 = omega arith;
       counted = omega (arith, step.counted);
       later = omega (arith, c.records.invariant.later, c.turn.ensures.later);
-      due = λ is. left_alone _ _ _ _ _ c.records.invariant.due (λ failed. cc (c.in-Continue.is, failed)) (c.turn.ensures.due is);
+      due = λ is. left_alone _ _ _ _ _ c.records.invariant.due (λ failed. cc (c.in-Continue.is, failed))
+          (c.turn.ensures.due is);
     }
 
 pub returns-in-Break-clause-answer : goal.returns-in-Break-clause-answer
 returns-in-Break-clause-answer g c =
     let outcome = c.in-Break.outcome in
-    cut_off _ _ _ _ _ c.records.invariant.left outcome (records_not_before outcome c.in-Break.ensures.possible) c.in-Break.ensures.turn
+    cut_off _ _ _ _ _ c.records.invariant.left outcome
+    (records_not_before outcome c.in-Break.ensures.possible) c.in-Break.ensures.turn

@@ -9,8 +9,10 @@ pub returns-in-Ok-clause-answer : goal.returns-in-Ok-clause-answer
 returns-in-Ok-clause-answer g c =
     let bytes = c.args.bytes.now in
     let start = c.in-Some.records_start in
-    let rest : take (length bytes - start) (drop start bytes) ≡ drop start bytes = take_all _ _ (omega (arith, length-drop start bytes)) in
-    recorded bytes c.in-Some.data_end start c.in-Ok.supervisor _ _ _ c.requires.short (sym c.in-Some.ensures.value) c.in-Ok.ensures.opened (rw rest at c.run_records.ensures.answer)
+    let rest : take (length bytes - start) (drop start bytes)
+    ≡ drop start bytes = take_all _ _ (omega (arith, length-drop start bytes)) in
+    recorded bytes c.in-Some.data_end start c.in-Ok.supervisor _ _ _ c.requires.short
+    (sym c.in-Some.ensures.value) c.in-Ok.ensures.opened (rw rest at c.run_records.ensures.answer)
 
 pub returns-in-Ok-clause-not_before : goal.returns-in-Ok-clause-not_before
 returns-in-Ok-clause-not_before g c = records_not_before c.run_records.result.outcome c.run_records.ensures.possible
@@ -19,10 +21,12 @@ pub returns-in-Ok-clause-possible : goal.returns-in-Ok-clause-possible
 returns-in-Ok-clause-possible g c = records_possible c.run_records.result.outcome c.run_records.ensures.possible
 
 pub returns-in-Ok-clause-first : goal.returns-in-Ok-clause-first
-returns-in-Ok-clause-first g c first = absurd (not_first c.run_records.result.outcome c.run_records.ensures.possible first)
+returns-in-Ok-clause-first g c first =
+    absurd (not_first c.run_records.result.outcome c.run_records.ensures.possible first)
 
 pub returns-in-Err-clause-answer : goal.returns-in-Err-clause-answer
-returns-in-Err-clause-answer g c = refused c.args.bytes.now c.in-Some.data_end c.in-Some.records_start _ c.in-Err.outcome c.requires.short (sym c.in-Some.ensures.value) c.in-Err.ensures.refused
+returns-in-Err-clause-answer g c = refused c.args.bytes.now c.in-Some.data_end c.in-Some.records_start _
+    c.in-Err.outcome c.requires.short (sym c.in-Some.ensures.value) c.in-Err.ensures.refused
 
 pub returns-in-Err-clause-not_before : goal.returns-in-Err-clause-not_before
 returns-in-Err-clause-not_before g c = refused_not_before _ c.in-Err.outcome c.in-Err.ensures.refused

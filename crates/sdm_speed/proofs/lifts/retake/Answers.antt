@@ -10,40 +10,48 @@ use Rattle.sdm_speed.proofs.lifts.retake.Goals as goal
 
 pub loop-i-init : goal.loop-i-init
 loop-i-init c =
-    let speed = speed_under (pos c.args.length_cm) c.args.statics.now.before c.args.statics.now.list.items c.args.held.now in
+    let speed = speed_under
+    (pos c.args.length_cm) c.args.statics.now.before c.args.statics.now.list.items c.args.held.now in
     let steps = c.args.steps.now.list.items in
     record {
       before = refl;
       list = sym (prefix_stays (retaken speed) steps c.covered-covered.result.from
-          (λ k d l m. retaken_same speed c.zone_of.result c.args.steps.now.before steps k d c.args.steps.now.rises (rw c.zone_of.ensures c.requires.speeds) m (c.covered-covered.ensures.before k d l m)));
+          (λ k d l m. retaken_same speed c.zone_of.result c.args.steps.now.before steps k d c.args.steps.now.rises
+          (rw c.zone_of.ensures c.requires.speeds) m (c.covered-covered.ensures.before k d l m)));
       len = refl;
       room = refl;
     }
 
 pub loop-i-preserved : goal.loop-i-preserved
 loop-i-preserved c =
-    let speed = speed_under (pos c.args.length_cm) c.args.statics.now.before c.args.statics.now.list.items c.args.held.now in
+    let speed = speed_under
+    (pos c.args.length_cm) c.args.statics.now.before c.args.statics.now.list.items c.args.held.now in
     let steps = c.args.steps.now.list.items in
     let i = c.loop-i.i in
     let inv = c.loop-i.invariant in
     let covered = c.covered-covered.ensures in
     let known : i < length steps = omega (arith, covered.bound) in
     let step = get_or steps i none in
-    let read : get_or c.loop-i.steps.list.items i none ≡ step = rw inv.list (not_yet (retaken speed) steps i none known) in
+    let read : get_or c.loop-i.steps.list.items i none
+    ≡ step = rw inv.list (not_yet (retaken speed) steps i none known) in
     let start_is = c.start.ensures none ∙ ap (λ (s : Step). s.start) read in
     let fits : to_z w32 (of_z w32 c.start.result) ≡ c.start.result = to_z-of_z w32 c.start.result (search rules) in
     let speed_is = rw (fits, start_is) at c.speed_under-speed.ensures in
     record {
       before = c.set_speed.ensures.before ∙ inv.before;
-      list = rw (c.set_speed.ensures.list none, read, speed_is, inv.list, add-one) (one_more (retaken speed) steps i none known);
+      list = rw (c.set_speed.ensures.list none, read, speed_is, inv.list, add-one)
+          (one_more (retaken speed) steps i none known);
       len = c.set_speed.ensures.len ∙ inv.len;
       room = c.set_speed.ensures.room ∙ inv.room;
     }
 
 pub returns-clause-list : goal.returns-clause-list
 returns-clause-list c =
-    let speed = speed_under (pos c.args.length_cm) c.args.statics.now.before c.args.statics.now.list.items c.args.held.now in
+    let speed = speed_under
+    (pos c.args.length_cm) c.args.statics.now.before c.args.statics.now.list.items c.args.held.now in
     let steps = c.args.steps.now.list.items in
     c.loop-i.invariant.list
     ∙ rest_stays (retaken speed) steps c.loop-i.i
-    (λ k d l m. retaken_same speed c.zone_of.result c.args.steps.now.before steps k d c.args.steps.now.rises (rw c.zone_of.ensures c.requires.speeds) m (c.covered-covered.ensures.past k d (omega (arith, c.loop-i-test.false)) m))
+    (λ k d l m. retaken_same speed c.zone_of.result c.args.steps.now.before steps k d c.args.steps.now.rises
+    (rw c.zone_of.ensures c.requires.speeds) m
+    (c.covered-covered.ensures.past k d (omega (arith, c.loop-i-test.false)) m))

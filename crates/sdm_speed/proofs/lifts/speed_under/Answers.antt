@@ -12,4 +12,9 @@ loop-r-preserved c =
     let cell = to_z w32 (of_z w32 c.args.cell) in
     let zone = zone_of (pos c.args.length_cm) in
     c.capped-speed.ensures ∙ ap (capped cell c.zone_of.result) c.loop-r.invariant
-    ∙ (rw (c.zone_of.ensures, take_more held c.loop-r.r-index none c.loop-r-test.true, map-append zone _ (get_or held c.loop-r.r-index none ∷ [])) (sym (lowest_limit-push _ cell _ (zone (get_or held c.loop-r.r-index none)))))
+    ∙ (rw (
+      c.zone_of.ensures,
+      take_more held c.loop-r.r-index none c.loop-r-test.true,
+      map-append zone _ (get_or held c.loop-r.r-index none ∷ []),
+    )
+    (sym (lowest_limit-push _ cell _ (zone (get_or held c.loop-r.r-index none)))))

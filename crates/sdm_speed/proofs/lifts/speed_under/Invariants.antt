@@ -4,4 +4,5 @@ use Rattle.sdm_speed.specs.ZoneEnds.{speed_under}
 use Rattle.sdm_speed.proofs.lifts.speed_under.Given as goal
 
 abbrev pub invariant-loop-r : goal.invariant-loop-r
-invariant-loop-r l = l.speed ≡ speed_under (pos l.length_cm) l.statics.before l.statics.list.items (take l.r-index l.held) l.cell
+invariant-loop-r l =
+    l.speed ≡ speed_under (pos l.length_cm) l.statics.before l.statics.list.items (take l.r-index l.held) l.cell

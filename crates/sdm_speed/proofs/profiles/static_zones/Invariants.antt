@@ -7,7 +7,8 @@ use Rattle.sdm_speed.proofs.profiles.static_zones.Given as goal
 
 abbrev pub invariant-loop-i : goal.invariant-loop-i
 invariant-loop-i l = record {
-  zones : l.zones.items ++ zones_from (pos l.length_cm) l.first l.speeds l.i ≡ zones_of_track (pos l.length_cm) l.speeds;
+  zones : l.zones.items ++ zones_from (pos l.length_cm) l.first l.speeds l.i
+      ≡ zones_of_track (pos l.length_cm) l.speeds;
   opened : (f : ℤ) → l.first ≡ Some f → f ≡ (get_or l.speeds (l.i - 1) none).start;
   in_range : All IsZone l.zones.items;
   count : vec_len l.zones + 1 ≡ l.i;

@@ -13,7 +13,8 @@ loop-zone-preserved c =
     record {
       speeds = λ cell.
           c.lower.ensures.speeds cell ∙ ap (capped cell zone) (inv.speeds cell)
-          ∙ (rw (take_more zones c.loop-zone.zone-index zone c.loop-zone-test.true, ← c.zone-item.is) (sym (lowest_limit-push c.args.top cell _ zone)));
+          ∙ (rw (take_more zones c.loop-zone.zone-index zone c.loop-zone-test.true, ← c.zone-item.is)
+          (sym (lowest_limit-push c.args.top cell _ zone)));
       few = omega (arith, c.lower.ensures.few, inv.few);
       room = c.lower.ensures.room ∙ inv.room;
     }

@@ -21,11 +21,15 @@ returns-then-step-before c after later =
     let i = c.loop-step.step-index in
     let step = get_or steps i none in
     let start_is : to_z w32 (of_z w32 step.start) ≡ step.start = to_z-of_z w32 step.start (search rules) in
-    let found = sym (rw (drop_more steps i none c.loop-step-test.true) at c.loop-step.invariant) ∙ falls_first c.loop-step.before step (drop (i + 1) steps) c.if-step-before.true in
-    rw start_is (subst (λ (next : Option Fall). IsFallAfter (speeds_of c.args.speed steps) after next) found (first_fall_is c.args.speed steps after later))
+    let found = sym (rw (drop_more steps i none c.loop-step-test.true) at c.loop-step.invariant)
+    ∙ falls_first c.loop-step.before step (drop (i + 1) steps) c.if-step-before.true in
+    rw start_is (subst (λ (next : Option Fall). IsFallAfter (speeds_of c.args.speed steps) after next) found
+    (first_fall_is c.args.speed steps after later))
 
 pub returns : goal.returns
 returns c after later =
     let steps = c.args.steps.now in
-    let found : first_fall c.args.speed steps ≡ None = sym (rw (drop_all c.loop-step.step-index steps c.loop-step-test.false) at c.loop-step.invariant) in
-    subst (λ (next : Option Fall). IsFallAfter (speeds_of c.args.speed steps) after next) found (first_fall_is c.args.speed steps after later)
+    let found : first_fall c.args.speed steps
+    ≡ None = sym (rw (drop_all c.loop-step.step-index steps c.loop-step-test.false) at c.loop-step.invariant) in
+    subst (λ (next : Option Fall). IsFallAfter (speeds_of c.args.speed steps) after next) found
+    (first_fall_is c.args.speed steps after later)

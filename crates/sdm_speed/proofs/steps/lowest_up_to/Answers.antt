@@ -15,7 +15,8 @@ loop-step-preserved c =
     let to_is : to_z w32 (of_z w32 c.args.to) ≡ c.args.to = to_z-of_z w32 c.args.to c.ranges.to in
     let start_is : to_z w32 (of_z w32 step.start) ≡ step.start = to_z-of_z w32 step.start (search rules) in
     let on : step.start ≤ℤ c.args.to = not_lt_of _ _ (rw (to_is, start_is) at c.if-to-step.false) in
-    rw (to_is, c.min-lowest.ensures) (sym (lowest_on c.loop-step.lowest step (drop (i + 1) steps) c.args.to on) ∙ (rw (to_is, drop_more steps i none c.loop-step-test.true) at c.loop-step.invariant))
+    rw (to_is, c.min-lowest.ensures) (sym (lowest_on c.loop-step.lowest step (drop (i + 1) steps) c.args.to on)
+    ∙ (rw (to_is, drop_more steps i none c.loop-step-test.true) at c.loop-step.invariant))
 
 pub returns-then-to-step : goal.returns-then-to-step
 returns-then-to-step c from n is later =
@@ -33,4 +34,5 @@ pub returns : goal.returns
 returns c from n is later =
     let steps = c.args.steps.now in
     let to_is : to_z w32 (of_z w32 c.args.to) ≡ c.args.to = to_z-of_z w32 c.args.to c.ranges.to in
-    (rw (to_is, drop_all c.loop-step.step-index steps c.loop-step-test.false) at c.loop-step.invariant) ∙ sym (lowest_of_steps c.args.speed steps from n c.args.to is later)
+    (rw (to_is, drop_all c.loop-step.step-index steps c.loop-step-test.false) at c.loop-step.invariant)
+    ∙ sym (lowest_of_steps c.args.speed steps from n c.args.to is later)

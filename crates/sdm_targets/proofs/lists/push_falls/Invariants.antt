@@ -8,7 +8,8 @@ use Rattle.sdm_targets.proofs.lists.push_falls.Given as goal
 
 abbrev pub invariant-loop-fall : goal.invariant-loop-fall
 invariant-loop-fall l = record {
-  falls : l.into ++ falls_past (mrsp_of l.profile) l.at (pos l.end) ≡ falls_past (mrsp_of l.profile) l.after (pos l.end);
+  falls : l.into ++ falls_past (mrsp_of l.profile) l.at (pos l.end)
+      ≡ falls_past (mrsp_of l.profile) l.after (pos l.end);
   count : length l.into ≤ passed (zones_of l.profile) l.at;
   each : All IsTarget l.into;
 }

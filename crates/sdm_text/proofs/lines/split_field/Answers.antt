@@ -8,7 +8,8 @@ pub returns-then-byte-eq44-clause-field : goal.returns-then-byte-eq44-clause-fie
 returns-then-byte-eq44-clause-field c =
     let line = c.args.line.now in
     let next = c.loop-at.at + 1 in
-    let rest : take (length line - next) (drop next line) ≡ drop next line = take_all _ _ (omega (arith, length-drop next line)) in
+    let rest : take (length line - next) (drop next line)
+    ≡ drop next line = take_all _ _ (omega (arith, length-drop next line)) in
     rw rest (found_field line c.loop-at.at c.loop-at-test.true c.if-byte-eq44.true c.loop-at.invariant)
 
 pub returns-clause-none : goal.returns-clause-none

@@ -1,5 +1,6 @@
 -- The number that was read lies between two that are not below 0.
-use Rattle.std.proofs.Common.{ℤ, pos, negsuc, refl, ap, ◌≤ℤ◌, ◌≡◌, Ok, to_z, of_z, w64, unsigned_abs, ◌∙◌, sym, arith, rules}
+use Rattle.std.proofs.Common.{ℤ, pos, negsuc, refl, ap, ◌≤ℤ◌, ◌≡◌, Ok, to_z, of_z, w64, unsigned_abs, ◌∙◌, sym, arith}
+use Rattle.std.proofs.Common.{rules}
 use Rattle.std.proofs.lemmas.Int.{ints, to_z-of_z}
 use Rattle.sdm_rules.specs.Numbers.{read_int}
 use Rattle.sdm_text.proofs.numbers.natural_in.Goals as goal

@@ -18,4 +18,5 @@ returns-in-Mrsp c =
     let safe : brake_kind t.kind ≡ Safe = search rules in
     let ebd = ebd_of d c.args.kept.now safe c.requires.kept in
     ebi_of computed d e t _ safe
-    (λ guide. ap Some (whole_less c.less.result.at (stepped (slopes_of Safe d) t.place (foot_speed_of t) (v_bec_for d e t)) (d_bec_for d e t) (search rules)))
+    (λ guide. ap Some (whole_less c.less.result.at
+    (stepped (slopes_of Safe d) t.place (foot_speed_of t) (v_bec_for d e t)) (d_bec_for d e t) (search rules)))

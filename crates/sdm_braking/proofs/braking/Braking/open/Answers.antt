@@ -1,7 +1,7 @@
 -- The train and the track are within their ranges, and the slopes of each kind were accepted in turn.
 use Rattle.sdm_decel.specs.Slopes.{train_and_track_from}
 use Rattle.sdm_braking.specs.Braking.{IsSupervisable}
-use Rattle.sdm_laws.proofs.Decided.{all_kinds}
+use Rattle.sdm_laws.proofs.Openings.Decided.{all_kinds}
 use Rattle.sdm_braking.proofs.braking.Braking.open.Goals as goal
 
 module _ (c : goal.Else-prove-2) where
@@ -9,7 +9,8 @@ module _ (c : goal.Else-prove-2) where
   accepted = record {
     train = c.band_count.ensures.accepted;
     track = c.length_cm.ensures.in_range;
-    usable = all_kinds _ c.in_ok-safe.ensures.accepted c.in_ok-expected.ensures.accepted c.in_ok-normal.ensures.accepted;
+    usable =
+        all_kinds _ c.in_ok-safe.ensures.accepted c.in_ok-expected.ensures.accepted c.in_ok-normal.ensures.accepted;
   }
 
 pub invariant_of-result : goal.invariant_of-result

@@ -21,9 +21,11 @@ returns-clause-falls c p h =
     let to : to_z w64 (of_z w64 c.from-2.result) ≡ pos c.args.end = omega (arith, ints, c.from-2.ensures) in
     let ended = (rw (c.deref-2.ensures.value, take_rest, to) at c.reached-ended.ensures.parted) p c.args.after rest in
     rw (c.deref-2.ensures.value, take_rest)
-    (falls_up_to fall_of p c.args.after (pos c.args.end) (drop c.reached-begun.result ks) c.reached-ended.result ended.reached ended.past rest)
+    (falls_up_to fall_of p c.args.after (pos c.args.end)
+    (drop c.reached-begun.result ks) c.reached-ended.result ended.reached ended.past rest)
 
 pub returns-clause-each : goal.returns-clause-each
 returns-clause-each c d each =
     rw (c.deref-2.ensures.value, take_rest)
-    (All-take (IsKeptFall d) c.reached-ended.result _ (All-drop (IsKeptFall d) c.reached-begun.result _ (rw (← c.self.view_is) at each)))
+    (All-take (IsKeptFall d) c.reached-ended.result _
+    (All-drop (IsKeptFall d) c.reached-begun.result _ (rw (← c.self.view_is) at each)))

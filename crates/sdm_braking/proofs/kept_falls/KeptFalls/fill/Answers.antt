@@ -12,10 +12,20 @@ insert-requires-clause-room c =
     let p = c.args.profile.now in
     let inv = c.loop-fall.invariant in
     let more = fall_counts p _ c.in-Some.fall c.in-Some.ensures.value in
-    omega (arith, inv.whole, inv.few, more, passed_most (zones_of p) c.in-Some.fall.cell, zones_few p c.in-Some.ensures.profile_in_range, inv.room, c.requires.room)
+    omega (
+      arith,
+      inv.whole,
+      inv.few,
+      more,
+      passed_most (zones_of p) c.in-Some.fall.cell,
+      zones_few p c.in-Some.ensures.profile_in_range,
+      inv.room,
+      c.requires.room,
+    )
 
 pub overflow_add-count : goal.overflow_add-count
-overflow_add-count c = omega (arith, falls_few c.args.profile.now _ _ c.in-Some.ensures.profile_in_range c.loop-fall.invariant.few)
+overflow_add-count c =
+    omega (arith, falls_few c.args.profile.now _ _ c.in-Some.ensures.profile_in_range c.loop-fall.invariant.few)
 
 pub loop-fall-preserved : goal.loop-fall-preserved
 loop-fall-preserved c =
@@ -43,7 +53,8 @@ returns c =
     let ks = c.loop-fall.self.list in
     let whole = drop_all c.loop-fall.count ks (omega (arith, inv.whole)) in
     record {
-      falls = begun_all (mrsp_of c.args.profile.now) _ ks c.loop-fall.count inv.falls (rw whole c.in_default.ensures.value);
+      falls = begun_all (mrsp_of c.args.profile.now) _ ks c.loop-fall.count inv.falls
+          (rw whole c.in_default.ensures.value);
       each = inv.each;
       room = omega (arith, inv.room, c.requires.room);
     }

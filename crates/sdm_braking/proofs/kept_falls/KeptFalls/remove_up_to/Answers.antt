@@ -23,11 +23,13 @@ loop-self-preserved c =
     let known : i < length ks = rw (← list_is) (omega (arith, c.loop-self-test.true, c.len.ensures)) in
     let here : k ≡ get_or ks i k = rw list_is at c.index.ensures in
     let on : k.fall.cell ≤ℤ c.args.last = le_of _ _ (rw (cell_is, last_is) at c.if-index-last.true) in
-    let reached : (get_or ks i k).fall.cell ≤ℤ c.args.last = subst (λ (x : KeptFall). x.fall.cell ≤ℤ c.args.last) here on in
+    let reached : (get_or ks i k).fall.cell
+    ≤ℤ c.args.last = subst (λ (x : KeptFall). x.fall.cell ≤ℤ c.args.last) here on in
     rw last_is (record {
       place = rw c.remove.ensures.list (omega (arith, length-remove ks i known));
       before = rw c.remove.ensures.list (take_remove ks i ∙ inv.before);
-      past = λ p h. rw c.remove.ensures.list (one_less p c.args.last ks i k known reached ((rw last_is at inv.past) p h));
+      past = λ p h.
+          rw c.remove.ensures.list (one_less p c.args.last ks i k known reached ((rw last_is at inv.past) p h));
       each = λ d each. rw c.remove.ensures.list (All-remove (IsKeptFall d) ks i (inv.each d each));
       room = c.remove.ensures.room ∙ inv.room;
     })
@@ -41,7 +43,8 @@ returns-else-index-last-clause-past c p at le h =
     let cell_is : to_z w32 (of_z w32 k.fall.cell) ≡ k.fall.cell = to_z-of_z w32 k.fall.cell (search rules) in
     let here : k ≡ get_or ks c.args.i k = rw list_is at c.index.ensures in
     let past : c.args.last <ℤ k.fall.cell = not_le_of _ _ (rw (cell_is, last_is) at c.if-index-last.false) in
-    none_less p c.args.last ks c.args.i (λ d known. subst (λ (x : KeptFall). c.args.last <ℤ x.fall.cell) (here ∙ get_or_default ks c.args.i k d known) past)
+    none_less p c.args.last ks c.args.i (λ d known.
+    subst (λ (x : KeptFall). c.args.last <ℤ x.fall.cell) (here ∙ get_or_default ks c.args.i k d known) past)
     ((rw last_is at c.loop-self.invariant.past) p (record { at = at; on = le; falls = h }))
 
 pub returns-after-loop-self-clause-past : goal.returns-after-loop-self-clause-past
@@ -50,5 +53,6 @@ returns-after-loop-self-clause-past c p at le h =
     let ok = c.self.inside.list.ok.0 in
     let list_is = ap (λ (v : KeptFallsData). v.list) c.self.view_is in
     let last_is : to_z w32 (of_z w32 c.args.last) ≡ c.args.last = to_z-of_z w32 c.args.last c.ranges.last in
-    none_less p c.args.last ks c.args.i (λ d known. absurd (let inside = rw (← list_is) at known in omega (arith, inside, c.loop-self-test.false, c.len.ensures)))
+    none_less p c.args.last ks c.args.i (λ d known.
+    absurd (let inside = rw (← list_is) at known in omega (arith, inside, c.loop-self-test.false, c.len.ensures)))
     ((rw last_is at c.loop-self.invariant.past) p (record { at = at; on = le; falls = h }))

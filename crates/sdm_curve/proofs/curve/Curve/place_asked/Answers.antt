@@ -1,7 +1,7 @@
 use Rattle.std.proofs.Common.{ap, arith}
 use Rattle.std.proofs.lemmas.Int.{ints}
 use Rattle.std.proofs.lemmas.List.{get_or_default}
-use Rattle.sdm_laws.proofs.Slack.{rounding}
+use Rattle.sdm_laws.proofs.BrakeCurves.Slack.{rounding}
 use Rattle.sdm_curve.specs.Asked.{Asked}
 use Rattle.sdm_curve.specs.Made.{BrakeCurve, no_knot}
 use Rattle.sdm_curve.proofs.Meanings.{usable_of}

@@ -9,12 +9,14 @@ pub returns-then-has_unknown : goal.returns-then-has_unknown
 unfolding known
 returns-then-has_unknown c =
     let some : has_unknown (map (λ name. name.now) c.args.names.now) (table_view c.args.self.now.table.now) ≡ true =
-    sym (unknown_keys c.args.names.now c.args.self.now.table.now.entries) ∙ sym c.has_unknown.ensures ∙ c.if-has_unknown.true in
+    sym (unknown_keys c.args.names.now c.args.self.now.table.now.entries) ∙ sym c.has_unknown.ensures
+    ∙ c.if-has_unknown.true in
     rw some
 
 pub returns : goal.returns
 unfolding known
 returns c =
     let none : has_unknown (map (λ name. name.now) c.args.names.now) (table_view c.args.self.now.table.now) ≡ false =
-    sym (unknown_keys c.args.names.now c.args.self.now.table.now.entries) ∙ sym c.has_unknown.ensures ∙ c.if-has_unknown.false in
+    sym (unknown_keys c.args.names.now c.args.self.now.table.now.entries) ∙ sym c.has_unknown.ensures
+    ∙ c.if-has_unknown.false in
     rw none

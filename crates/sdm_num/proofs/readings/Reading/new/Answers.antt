@@ -5,7 +5,8 @@ use Rattle.sdm_num.specs.Units.{place_of_mm}
 use Rattle.sdm_num.specs.Readings.{IsReading, reading_of}
 use Rattle.sdm_num.proofs.readings.Reading.new.Goals as goal
 
-in_range : (c : goal.After-of_mm_s-2) → IsReading (reading_of c.args.time c.args.est_mm c.args.min_mm c.args.max_mm c.args.speed_mm_s c.args.accel c.args.under_mm_s)
+in_range : (c : goal.After-of_mm_s-2) → IsReading
+    (reading_of c.args.time c.args.est_mm c.args.min_mm c.args.max_mm c.args.speed_mm_s c.args.accel c.args.under_mm_s)
 in_range c =
     let fronts = c.if-not-are_front_ends.ensures.0 refl in
     let gains = c.if-not-is_acceleration.ensures.0 refl in
@@ -22,7 +23,16 @@ in_range c =
     }
 
 kept : (c : goal.After-of_mm_s-2) →
-    record { time = c.args.time; est = c.of_mm.result; min = c.of_mm-2.result; max = c.of_mm-3.result; speed = c.of_mm_s.result; accel = to_z w16 (of_z w16 c.args.accel); under = c.of_mm_s-2.result }
+    record {
+      time = c.args.time;
+      est = c.of_mm.result;
+      min = c.of_mm-2.result;
+      max = c.of_mm-3.result;
+      speed =
+          c.of_mm_s.result;
+      accel = to_z w16 (of_z w16 c.args.accel);
+      under = c.of_mm_s-2.result;
+    }
     ≡ reading_of c.args.time c.args.est_mm c.args.min_mm c.args.max_mm c.args.speed_mm_s c.args.accel c.args.under_mm_s
 kept c =
     let est = c.of_mm.ensures ∙ ap place_of_mm (to_z-of_z w32 c.args.est_mm c.ranges.est_mm) in

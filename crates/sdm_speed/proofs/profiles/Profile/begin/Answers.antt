@@ -38,7 +38,14 @@ invariant_of-result c =
       steps_before = c.reset.ensures.before;
       zone_ends = rw (c.reset.ensures.list, held_is) (zone_ends_none _ _);
       held_room = omega (arith, c.in_ok-held.ensures.exact);
-      steps_room = omega (arith, c.reset.ensures.room, c.in_ok-steps.ensures.room, c.in_ok-statics.ensures.few, c.deref-2.ensures.len, c.len.ensures);
+      steps_room = omega (
+        arith,
+        c.reset.ensures.room,
+        c.in_ok-steps.ensures.room,
+        c.in_ok-statics.ensures.few,
+        c.deref-2.ensures.len,
+        c.len.ensures,
+      );
     }
 
 pub reset-requires : goal.reset-requires

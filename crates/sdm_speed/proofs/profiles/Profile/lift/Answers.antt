@@ -26,12 +26,15 @@ raise-requires c =
     let known = (get_at held c.args.id c.in-Some.index none (sym index)).0 in
     rw (c.deref-2.ensures.value, c.remove-lifted.ensures.items) (record {
       speeds = λ cell.
-          kept.steps cell ∙ lowest_limit-after c.self.inside.max_speed cell (static_zones_of c.self.inside) (map (zone_of length_cm) held)
+          kept.steps cell ∙ lowest_limit-after c.self.inside.max_speed cell (static_zones_of c.self.inside)
+          (map (zone_of length_cm) held)
           ∙ ap (λ n. lowest_limit n cell (map (zone_of length_cm) held)) (sym (kept.statics cell))
-          ∙ rw c.remove-lifted.ensures.value (limit_less _ cell length_cm held c.in-Some.index c.remove-lifted.result known);
+          ∙ rw c.remove-lifted.ensures.value
+          (limit_less _ cell length_cm held c.in-Some.index c.remove-lifted.result known);
       before = kept.steps_before;
       each = λ cell. each_left length_cm _ held c.in-Some.index _ kept.zone_ends cell;
-      no_other = λ cell start. rw c.remove-lifted.ensures.value (no_other_left length_cm _ held c.in-Some.index _ kept.zone_ends cell c.remove-lifted.result start);
+      no_other = λ cell start. rw c.remove-lifted.ensures.value
+          (no_other_left length_cm _ held c.in-Some.index _ kept.zone_ends cell c.remove-lifted.result start);
       held = All-remove IsHeldRestriction _ _ kept.each_held;
       lifted = rw c.remove-lifted.ensures.value (kept.each_held c.in-Some.index c.remove-lifted.result known);
       train = omega (arith, ints);
@@ -44,12 +47,14 @@ invariant_of-self c =
     let length_cm = pos c.self.inside.length_cm in
     let top = c.self.inside.max_speed in
     let left = c.remove-lifted.new.self in
-    let distinct : AreDistinct left.items = rw c.remove-lifted.ensures.items (distinct_less held c.in-Some.index kept.distinct) in
+    let distinct : AreDistinct left.items = rw c.remove-lifted.ensures.items
+    (distinct_less held c.in-Some.index kept.distinct) in
     let ok_held = c.self.inside.held.ok.0 in
     let ok_left = left.ok.0 in
     let raised = rw c.deref-2.ensures.value at c.raise.ensures in
     record {
-      in_range = with_held _ _ kept.in_range (rw (len_is left.items distinct) (omega (arith, c.remove-lifted.ensures.len, held_count _ kept _ refl, kept.in_range.few)));
+      in_range = with_held _ _ kept.in_range (rw (len_is left.items distinct)
+          (omega (arith, c.remove-lifted.ensures.len, held_count _ kept _ refl, kept.in_range.few)));
       distinct = distinct;
       each_static = kept.each_static;
       each_held = rw c.remove-lifted.ensures.items (All-remove IsHeldRestriction _ _ kept.each_held);
@@ -71,19 +76,26 @@ returns-clause-accepted c =
 pub returns-clause-removed : goal.returns-clause-removed
 returns-clause-removed c =
     let index = rw c.deref.ensures.value at c.in-Some.ensures in
-    rw (← c.self.view_is, c.remove-lifted.ensures.items, removed c.self.inside.held.items c.args.id c.in-Some.index c.self.invariant.distinct (sym index)) refl
+    rw (
+      ← c.self.view_is,
+      c.remove-lifted.ensures.items,
+      removed c.self.inside.held.items c.args.id c.in-Some.index c.self.invariant.distinct (sym index),
+    ) refl
 
 pub returns-clause-outside : goal.returns-clause-outside
 returns-clause-outside c =
     let index = rw c.deref.ensures.value at c.in-Some.ensures in
     let here = get_at c.self.inside.held.items c.args.id c.in-Some.index c.remove-lifted.result (sym index) in
     rw (returns-clause-removed c, c.cells_of.ensures, ← c.self.view_is)
-    (lifted_outside (profile_data_of c.self.inside) c.args.id c.remove-lifted.result (here.1 ∙ ap Some (sym c.remove-lifted.ensures.value)))
+    (lifted_outside (profile_data_of c.self.inside) c.args.id c.remove-lifted.result
+    (here.1 ∙ ap Some (sym c.remove-lifted.ensures.value)))
 
 pub returns-clause-in_range : goal.returns-clause-in_range
 returns-clause-in_range c =
     let kept = c.self.invariant in
     let index = rw c.deref.ensures.value at c.in-Some.ensures in
     let here = get_at c.self.inside.held.items c.args.id c.in-Some.index c.remove-lifted.result (sym index) in
-    let held = subst IsHeldRestriction (sym c.remove-lifted.ensures.value) (kept.each_held c.in-Some.index c.remove-lifted.result here.0) in
-    rw c.cells_of.ensures (cells_in_range (pos c.self.inside.length_cm) c.remove-lifted.result (omega (arith, ints)) kept.in_range.longest_train held)
+    let held = subst IsHeldRestriction (sym c.remove-lifted.ensures.value)
+    (kept.each_held c.in-Some.index c.remove-lifted.result here.0) in
+    rw c.cells_of.ensures (cells_in_range (pos c.self.inside.length_cm) c.remove-lifted.result
+    (omega (arith, ints)) kept.in_range.longest_train held)

@@ -10,7 +10,8 @@ use Rattle.sdm_speed.proofs.steps.Steps.cap.Goals as goal
 pub loop-i-init : goal.loop-i-init
 loop-i-init c = record {
   before = refl;
-  list = sym (prefix_stays (capped_step c.args.zone) c.args.self.now.list.items c.args.covered.from (λ k d l m. stays c.args.zone _ (c.requires.before k d l m)));
+  list = sym (prefix_stays (capped_step c.args.zone) c.args.self.now.list.items c.args.covered.from
+      (λ k d l m. stays c.args.zone _ (c.requires.before k d l m)));
   len = refl;
   room = refl;
 }
@@ -18,7 +19,10 @@ loop-i-init c = record {
 pub invariant_of-self-in-loop-i : goal.invariant_of-self-in-loop-i
 invariant_of-self-in-loop-i c =
     let start_is = ap (λ (s : Step). s.start) (c.lowered.ensures) ∙ ap (λ (s : Step). s.start) c.index.ensures in
-    record { rises = set_rising c.loop-i.self.list.items c.loop-i.i c.lowered.result c.index.result.now start_is c.loop-i.self.rises }
+    record {
+      rises = set_rising c.loop-i.self.list.items c.loop-i.i c.lowered.result c.index.result.now start_is
+          c.loop-i.self.rises;
+    }
 
 pub loop-i-preserved : goal.loop-i-preserved
 loop-i-preserved c =
@@ -29,10 +33,12 @@ loop-i-preserved c =
     let inv = c.loop-i.invariant in
     let covered = c.requires in
     let known : i < length steps = omega (arith, covered.bound) in
-    let read : step ≡ get_or steps i step = (rw inv.list at c.index.ensures) ∙ not_yet (capped_step zone) steps i step known in
+    let read : step ≡ get_or steps i step = (rw inv.list at c.index.ensures)
+    ∙ not_yet (capped_step zone) steps i step known in
     let limit_is = ap (λ (z : Zone). z.limit) c.zone.view_is in
     let on = rw (← read) at (covered.within i step c.loop-i.auto.i c.loop-i-test.true) in
-    let capped : c.lowered.result ≡ capped_step zone (get_or steps i step) = (rw limit_is at c.lowered.ensures) ∙ lowered_is zone step on ∙ ap (capped_step zone) read in
+    let capped : c.lowered.result ≡ capped_step zone (get_or steps i step) = (rw limit_is at c.lowered.ensures)
+    ∙ lowered_is zone step on ∙ ap (capped_step zone) read in
     record {
       before = inv.before;
       list = rw (inv.list, capped, add-one) (one_more (capped_step zone) steps i step known);
@@ -42,4 +48,5 @@ loop-i-preserved c =
 
 pub returns-clause-list : goal.returns-clause-list
 returns-clause-list c =
-    c.loop-i.invariant.list ∙ rest_stays (capped_step c.args.zone) c.args.self.now.list.items c.loop-i.i (λ k d l m. stays c.args.zone _ (c.requires.past k d (omega (arith, c.loop-i-test.false)) m))
+    c.loop-i.invariant.list ∙ rest_stays (capped_step c.args.zone) c.args.self.now.list.items c.loop-i.i
+    (λ k d l m. stays c.args.zone _ (c.requires.past k d (omega (arith, c.loop-i-test.false)) m))

@@ -13,7 +13,9 @@ returns-clause-same c cell on =
     let wide : to_z w64 (of_z w64 c.from.result) ≡ c.args.cell = omega (arith, ints, c.from.ensures, cell_is) in
     let next : to_z w64 (of_z w64 (c.args.cell +ℤ pos 1)) ≡ c.args.cell +ℤ pos 1 = omega (arith, ints) in
     let parted = rw (wide, next) at c.started_before-begun.ensures in
-    rw (c.speed_to.ensures, c.deref.ensures.value, take_rest) (rest_begun c.args.self.now.before list begun cell (λ k d l m. let b = parted.before k d l in omega (arith, ints)))
+    rw (c.speed_to.ensures, c.deref.ensures.value, take_rest)
+    (rest_begun c.args.self.now.before list begun cell
+    (λ k d l m. let b = parted.before k d l in omega (arith, ints)))
 
 pub returns-clause-later : goal.returns-clause-later
 returns-clause-later c =
@@ -22,4 +24,5 @@ returns-clause-later c =
     let wide : to_z w64 (of_z w64 c.from.result) ≡ c.args.cell = omega (arith, ints, c.from.ensures, cell_is) in
     let next : to_z w64 (of_z w64 (c.args.cell +ℤ pos 1)) ≡ c.args.cell +ℤ pos 1 = omega (arith, ints) in
     let parted = rw (wide, next) at c.started_before-begun.ensures in
-    rw (c.deref.ensures.value, take_rest) (rest_after list c.started_before-begun.result c.args.cell c.args.self.now.rises (λ k d l m. let f = parted.from k d l m in omega (arith, ints)))
+    rw (c.deref.ensures.value, take_rest) (rest_after list c.started_before-begun.result c.args.cell
+    c.args.self.now.rises (λ k d l m. let f = parted.from k d l m in omega (arith, ints)))

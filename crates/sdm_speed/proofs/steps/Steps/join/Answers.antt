@@ -6,18 +6,22 @@ use Rattle.sdm_speed.specs.declared.steps.Step.{Step}
 use Rattle.sdm_speed.proofs.JoinLaws.{remove_fewer, remove_gone, remove_others, remove_rising, remove_speeds}
 use Rattle.sdm_speed.proofs.StepLaws.{none, start_here}
 use Rattle.sdm_speed.proofs.steps.Steps.join.Goals as goal
-use Rattle.sdm_speed.proofs.steps.Steps.join.Goals.{else-i-len-via-then-i-len+else-index-cell, else-i-len-via-else-i-len}
+use Rattle.sdm_speed.proofs.steps.Steps.join.Goals.{else-i-len-via-then-i-len+else-index-cell}
+use Rattle.sdm_speed.proofs.steps.Steps.join.Goals.{else-i-len-via-else-i-len}
 
 pub invariant_of-self : goal.invariant_of-self
 invariant_of-self c = record {
-  rises = rw c.remove.ensures.items (remove_rising c.args.self.now.list.items c.started_before-i.result c.args.self.now.rises);
+  rises = rw c.remove.ensures.items
+      (remove_rising c.args.self.now.list.items c.started_before-i.result c.args.self.now.rises);
 }
 
 pub returns-then-index-cell-clause-speeds : goal.returns-then-index-cell-clause-speeds
-returns-then-index-cell-clause-speeds c speed each = rw c.remove.ensures.items (remove_speeds speed c.args.self.now.list.items c.started_before-i.result each)
+returns-then-index-cell-clause-speeds c speed each =
+    rw c.remove.ensures.items (remove_speeds speed c.args.self.now.list.items c.started_before-i.result each)
 
 pub returns-then-index-cell-clause-fewer : goal.returns-then-index-cell-clause-fewer
-returns-then-index-cell-clause-fewer c x start = remove_fewer x c.args.self.now.list.items c.started_before-i.result (rw c.remove.ensures.items at start)
+returns-then-index-cell-clause-fewer c x start =
+    remove_fewer x c.args.self.now.list.items c.started_before-i.result (rw c.remove.ensures.items at start)
 
 pub returns-then-index-cell-clause-gone : goal.returns-then-index-cell-clause-gone
 returns-then-index-cell-clause-gone c start =
@@ -28,7 +32,9 @@ returns-then-index-cell-clause-gone c start =
     let start_is : to_z w32 (of_z w32 step.start) ≡ step.start = to_z-of_z w32 step.start (search rules) in
     let whole = c.args.self.now.list.ok.0 in
     let known : i < length list = omega (arith, c.if-i-len.true, c.len.ensures) in
-    let here : (get_or list i none).start ≡ c.args.cell = ap (λ (s : Step). s.start) (sym (c.index.ensures ∙ get_or_default list i step none known)) ∙ sym start_is ∙ ap (to_z w32) c.if-index-cell.true ∙ cell_is in
+    let here : (get_or list i none).start ≡ c.args.cell = ap (λ (s : Step). s.start)
+    (sym (c.index.ensures ∙ get_or_default list i step none known)) ∙ sym start_is
+    ∙ ap (to_z w32) c.if-index-cell.true ∙ cell_is in
     remove_gone list i none c.args.self.now.rises known (rw here (rw c.remove.ensures.items at start))
 
 pub returns-then-index-cell-clause-others : goal.returns-then-index-cell-clause-others
@@ -40,7 +46,9 @@ returns-then-index-cell-clause-others c x start =
     let start_is : to_z w32 (of_z w32 step.start) ≡ step.start = to_z-of_z w32 step.start (search rules) in
     let whole = c.args.self.now.list.ok.0 in
     let known : i < length list = omega (arith, c.if-i-len.true, c.len.ensures) in
-    let here : (get_or list i none).start ≡ c.args.cell = ap (λ (s : Step). s.start) (sym (c.index.ensures ∙ get_or_default list i step none known)) ∙ sym start_is ∙ ap (to_z w32) c.if-index-cell.true ∙ cell_is in
+    let here : (get_or list i none).start ≡ c.args.cell = ap (λ (s : Step). s.start)
+    (sym (c.index.ensures ∙ get_or_default list i step none known)) ∙ sym start_is
+    ∙ ap (to_z w32) c.if-index-cell.true ∙ cell_is in
     elim (remove_others x list i none start) [
       | inl e ↦ inl (e ∙ here)
       | inr rest ↦ inr (rw c.remove.ensures.items rest)

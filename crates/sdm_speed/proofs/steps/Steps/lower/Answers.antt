@@ -16,7 +16,8 @@ cap-requires c =
     let whole = one.ok.0 in
     let all_is : c.len-all.result ≡ length one.items = omega (arith, c.len-all.ensures) in
     subst (λ (z : Zone). AreCovered z both.items from to) c.zone.view_is
-    (split_covered zone.limit zone.first zone.past c.args.self.now.list.items one.items both.items from to c.split_at-from.ensures.split (rw all_is at c.split_at-to.ensures.split))
+    (split_covered zone.limit zone.first zone.past c.args.self.now.list.items one.items both.items from to
+    c.split_at-from.ensures.split (rw all_is at c.split_at-to.ensures.split))
 
 pub returns-clause-speeds : goal.returns-clause-speeds
 returns-clause-speeds c cell =
@@ -26,7 +27,8 @@ returns-clause-speeds c cell =
     let split = c.split_at-to.new.self in
     let first_is = ap (λ (z : Zone). z.first) c.zone.view_is in
     let past_is = ap (λ (z : Zone). z.past) c.zone.view_is in
-    rw (c.cap.ensures.before, c.cap.ensures.list) (capped_speeds zone split.before split.list.items cell split.rises (λ b is. both.starts b (one.start b (first_is ∙ is))) (λ b is. both.start b (past_is ∙ is)))
+    rw (c.cap.ensures.before, c.cap.ensures.list) (capped_speeds zone split.before split.list.items cell split.rises
+    (λ b is. both.starts b (one.start b (first_is ∙ is))) (λ b is. both.start b (past_is ∙ is)))
     ∙ ap (capped cell zone) (both.speeds cell ∙ one.speeds cell)
 
 pub returns-clause-starts : goal.returns-clause-starts

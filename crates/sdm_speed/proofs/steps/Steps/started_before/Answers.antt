@@ -11,7 +11,9 @@ returns c =
     let slice = c.deref.result.now in
     let i = c.partition_point.result in
     let cell = c.args.cell in
-    let parts = IsPartitionPoint-from_clause (λ (s : Step). int_lt s.start cell) slice i c.partition_point.ensures.partitioned (starts_parted slice cell (rw c.deref.ensures.value c.args.self.now.rises)) (λ a r f called. search rules) in
+    let parts = IsPartitionPoint-from_clause (λ (s : Step). int_lt s.start cell) slice i
+    c.partition_point.ensures.partitioned
+    (starts_parted slice cell (rw c.deref.ensures.value c.args.self.now.rises)) (λ a r f called. search rules) in
     rw (← c.deref.ensures.value) (record {
       bound = c.partition_point.ensures.bound;
       before = λ k d l. lt_of _ _ (parts.0 k d (omega arith) l);

@@ -16,7 +16,8 @@ returns-then-i-len-clause-yes c on =
     let start_is : to_z w32 (of_z w32 step.start) ≡ step.start = to_z-of_z w32 step.start (search rules) in
     let here : step.start ≡ c.args.cell = sym start_is ∙ ap (to_z w32) (eqb-true _ _ on) ∙ cell_is in
     let whole = c.args.self.now.list.ok.0 in
-    rw (← here, c.index.ensures) (index_is_start list c.started_before-i.result step (omega (arith, c.if-i-len.true, c.len.ensures)))
+    rw (← here, c.index.ensures)
+    (index_is_start list c.started_before-i.result step (omega (arith, c.if-i-len.true, c.len.ensures)))
 
 pub returns-then-i-len-clause-no : goal.returns-then-i-len-clause-no
 returns-then-i-len-clause-no c start =

@@ -19,11 +19,15 @@ returns-in-Some c s r is time times held =
     let indication_distance = distance_at r.speed (reaction_times s.train_and_track).indication in
     let ebi : c.map-row.result ≡ option_map mm_below c.in-Some.nearest.ebi = search rules in
     let sbi = to_z-of_z w64 c.mm_below.result (search (rules, ints)) ∙ c.mm_below.ensures in
-    let warning = to_z-of_z w64 c.mm_below-in-Some.result (search (rules, ints)) ∙ c.mm_below-in-Some.ensures ∙ ap mm_below c.less-warning.ensures
-    ∙ ap (λ k. mm_before k c.in-Some.nearest.sbi) (c.distance_at.ensures.value ∙ (λ k. distance_at (is.speed k) warning_time)) in
+    let warning = to_z-of_z w64 c.mm_below-in-Some.result (search (rules, ints)) ∙ c.mm_below-in-Some.ensures
+    ∙ ap mm_below c.less-warning.ensures
+    ∙ ap (λ k. mm_before k c.in-Some.nearest.sbi)
+    (c.distance_at.ensures.value ∙ (λ k. distance_at (is.speed k) warning_time)) in
     let permitted = to_z-of_z w64 c.mm_below-in-Some-2.result (search (rules, ints)) ∙ c.mm_below-in-Some-2.ensures in
-    let indication = to_z-of_z w64 c.mm_below-in-Some-3.result (search (rules, ints)) ∙ c.mm_below-in-Some-3.ensures ∙ ap mm_below c.less-indication.ensures
-    ∙ ap (λ k. mm_before k c.in-Some.nearest.permitted) (c.distance_at-in-Some.ensures.value ∙ (λ k. distance_at (is.speed k) (times k).indication)) in
+    let indication = to_z-of_z w64 c.mm_below-in-Some-3.result (search (rules, ints)) ∙ c.mm_below-in-Some-3.ensures
+    ∙ ap mm_below c.less-indication.ensures
+    ∙ ap (λ k. mm_before k c.in-Some.nearest.permitted)
+    (c.distance_at-in-Some.ensures.value ∙ (λ k. distance_at (is.speed k) (times k).indication)) in
     λ k. record {
       time = time k;
       state = c.state.ensures s r is k;
@@ -34,7 +38,8 @@ returns-in-Some c s r is time times held =
       sbi = (ap Some sbi ∙ (λ i. option_map mm_below (sbi_in (near i))) ∙ shown.sbi) k;
       warning = (ap Some warning ∙ (λ i. option_map (mm_before warning_distance) (sbi_in (near i))) ∙ shown.warning) k;
       permitted = (ap Some permitted ∙ (λ i. option_map mm_below (permitted_in (near i))) ∙ shown.permitted) k;
-      indication = (ap Some indication ∙ (λ i. option_map (mm_before indication_distance) (permitted_in (near i))) ∙ shown.indication) k;
+      indication = (ap Some indication ∙ (λ i. option_map (mm_before indication_distance) (permitted_in (near i)))
+          ∙ shown.indication) k;
     }
 
 pub returns-in_default : goal.returns-in_default

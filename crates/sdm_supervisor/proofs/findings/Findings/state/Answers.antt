@@ -10,20 +10,26 @@ use Rattle.sdm_supervisor.proofs.findings.Findings.state.Goals as goal
 pub returns-then-is_some : goal.returns-then-is_some
 unfolding state_in
 returns-then-is_some c s r is =
-    let release : is_some (situation_of s r).release ≡ true = sym (ap is_some is.release) ∙ sym c.is_some.ensures ∙ c.if-is_some.true in
-    sym (λ k. if release k then R else if is_indicated (limits_of computed s.train_and_track (estimate_of r)) (situation_of s r) then T else C)
+    let release : is_some (situation_of s r).release ≡ true = sym (ap is_some is.release) ∙ sym c.is_some.ensures
+    ∙ c.if-is_some.true in
+    sym (λ k. if release k then R
+    else if is_indicated (limits_of computed s.train_and_track (estimate_of r)) (situation_of s r) then T else C)
 
 module _ (s : Supervision) (r : OdometerReading) (indicated : Bool) where
-  decided : is_some (situation_of s r).release ≡ false → is_indicated (limits_of computed s.train_and_track (estimate_of r)) (situation_of s r) ≡ indicated → (if indicated then T else C) ≡ state_in s.train_and_track r (situation_of s r)
+  decided : is_some (situation_of s r).release ≡ false → is_indicated
+      (limits_of computed s.train_and_track (estimate_of r)) (situation_of s r) ≡ indicated →
+      (if indicated then T else C) ≡ state_in s.train_and_track r (situation_of s r)
   unfolding state_in
   decided release is = sym (λ k. if release k then R else if is k then T else C)
 
 pub returns-then-self : goal.returns-then-self
 unfolding situation_of
 returns-then-self c s r is =
-    decided s r true (sym (ap is_some is.release) ∙ sym c.is_some.ensures ∙ c.if-is_some.false) (sym is.verdict.passed.indicated ∙ c.if-self.true)
+    decided s r true (sym (ap is_some is.release) ∙ sym c.is_some.ensures ∙ c.if-is_some.false)
+    (sym is.verdict.passed.indicated ∙ c.if-self.true)
 
 pub returns-else-self : goal.returns-else-self
 unfolding situation_of
 returns-else-self c s r is =
-    decided s r false (sym (ap is_some is.release) ∙ sym c.is_some.ensures ∙ c.if-is_some.false) (sym is.verdict.passed.indicated ∙ c.if-self.false)
+    decided s r false (sym (ap is_some is.release) ∙ sym c.is_some.ensures ∙ c.if-is_some.false)
+    (sym is.verdict.passed.indicated ∙ c.if-self.false)

@@ -15,15 +15,19 @@ returns-in-Some c =
     let k = c.in-Some.kept.now in
     let cell_is : to_z w32 (of_z w32 c.args.cell) ≡ c.args.cell = to_z-of_z w32 c.args.cell c.ranges.cell in
     let past : first_cell <ℤ c.args.cell = omega (arith, ints, c.requires) in
-    let fall = (rw cell_is at c.in-Some.ensures.falls) (mrsp_of inside.profile) c.self.invariant.kept.falls.falls past in
+    let fall = (rw cell_is at c.in-Some.ensures.falls) (mrsp_of inside.profile) c.self.invariant.kept.falls.falls past
+    in
     rw c.deref.ensures (subst (λ (s : Supervision). IsFallCurve s c.args.cell k.kept.value.brake) c.self.view_is
-    (fall_curve_is inside.braking inside.authority inside.profile inside.last_time inside.held c.self.invariant.profile c.args.cell k fall (c.in-Some.ensures.each inside.braking c.self.invariant.kept.falls.each)))
+    (fall_curve_is inside.braking inside.authority inside.profile inside.last_time inside.held c.self.invariant.profile
+    c.args.cell k fall (c.in-Some.ensures.each inside.braking c.self.invariant.kept.falls.each)))
 
 pub returns-in-None : goal.returns-in-None
 returns-in-None c =
     let inside = c.self.inside in
     let cell_is : to_z w32 (of_z w32 c.args.cell) ≡ c.args.cell = to_z-of_z w32 c.args.cell c.ranges.cell in
     let past : first_cell <ℤ c.args.cell = omega (arith, ints, c.requires) in
-    let none = (rw cell_is at c.in-None.ensures.falls) (mrsp_of inside.profile) c.self.invariant.kept.falls.falls past in
+    let none = (rw cell_is at c.in-None.ensures.falls) (mrsp_of inside.profile) c.self.invariant.kept.falls.falls past
+    in
     subst (λ (s : Supervision). is_fall (profile_of s) c.args.cell ≡ false) c.self.view_is
-    (no_fall_is inside.braking inside.authority inside.profile inside.last_time inside.held c.self.invariant.profile c.args.cell none)
+    (no_fall_is inside.braking inside.authority inside.profile inside.last_time inside.held c.self.invariant.profile
+    c.args.cell none)

@@ -34,15 +34,19 @@ module _ (c : goal.After-of) where
   back = to_z-of_z w32 c.cell.result (search (rules, ints)) ∙ c.cell.ensures ∙ ap cell_of c.min_mm.ensures
 
   front : to_z w32 (of_z w32 c.cell-cell.result) ≡ cell_of c.args.reading.now.max
-  front = to_z-of_z w32 c.cell-cell.result (search (rules, ints)) ∙ c.cell-cell.ensures ∙ ap cell_of c.max_mm-front.ensures
+  front = to_z-of_z w32 c.cell-cell.result (search (rules, ints)) ∙ c.cell-cell.ensures
+      ∙ ap cell_of c.max_mm-front.ensures
 
-  ceiling : c.lowest.result ≡ lowest min (mrsp_of c.self.inside.profile) (cell_of c.args.reading.now.min) (int_gap (cell_of c.args.reading.now.min) (cell_of c.args.reading.now.max))
-  ceiling = c.lowest.ensures.value ∙ (λ k. lowest min (mrsp_of c.self.inside.profile) (back k) (int_gap (back k) (front k)))
+  ceiling : c.lowest.result ≡ lowest min (mrsp_of c.self.inside.profile) (cell_of c.args.reading.now.min)
+      (int_gap (cell_of c.args.reading.now.min) (cell_of c.args.reading.now.max))
+  ceiling =
+      c.lowest.ensures.value ∙ (λ k. lowest min (mrsp_of c.self.inside.profile) (back k) (int_gap (back k) (front k)))
 
   in_release_monitoring : c.release_kmh_at-release_kmh.result ≡
       release_of c.self.inside.braking c.self.inside.authority c.args.reading.now.max
   in_release_monitoring =
-      c.release_kmh_at-release_kmh.ensures ∙ release_speed_at_is c.self.inside.braking c.self.inside.authority c.self.inside.kept.release c.max_mm-front.result c.self.invariant.kept.release
+      c.release_kmh_at-release_kmh.ensures ∙ release_speed_at_is c.self.inside.braking c.self.inside.authority
+      c.self.inside.kept.release c.max_mm-front.result c.self.invariant.kept.release
       ∙ ap (release_of c.self.inside.braking c.self.inside.authority) c.max_mm-front.ensures
 
   after : to_z w32 (of_z w32 c.cell-cell.result) ≡ cell_of c.max_mm-front.result
@@ -55,33 +59,54 @@ module _ (c : goal.After-of) where
   end_judged : IsKeptEnd c.self.inside.braking c.self.inside.authority c.deref-2.result.now
   end_judged = rw c.deref-2.ensures c.self.invariant.kept.end
 
-  targets : map target_of c.ahead-falls.result.now ++ targets_in c.deref-2.result.now c.is_some-in_release_monitoring.result ≡ targets_of (mrsp_of c.self.inside.profile) c.self.inside.authority c.args.reading.now.max (is_some (release_of c.self.inside.braking c.self.inside.authority c.args.reading.now.max))
+  targets : map target_of c.ahead-falls.result.now ++ targets_in c.deref-2.result.now
+      c.is_some-in_release_monitoring.result ≡ targets_of (mrsp_of
+      c.self.inside.profile) c.self.inside.authority c.args.reading.now.max
+      (is_some (release_of c.self.inside.braking c.self.inside.authority c.args.reading.now.max))
   targets =
-      targets_are c.self.inside.braking (mrsp_of c.self.inside.profile) c.self.inside.authority c.ahead-falls.result.now c.deref-2.result.now _ c.max_mm-front.result c.end_of.result c.is_some-in_release_monitoring.result (after) c.end_of.ensures
-      (c.ahead-falls.ensures.each c.self.inside.braking c.self.invariant.kept.falls.each) (c.ahead-falls.ensures.falls (mrsp_of c.self.inside.profile) c.self.invariant.kept.falls.falls) end_judged
-      ∙ (λ k. targets_of (mrsp_of c.self.inside.profile) c.self.inside.authority (c.max_mm-front.ensures k) ((c.is_some-in_release_monitoring.ensures ∙ ap is_some in_release_monitoring) k))
+      targets_are c.self.inside.braking (mrsp_of c.self.inside.profile) c.self.inside.authority
+      c.ahead-falls.result.now c.deref-2.result.now _ c.max_mm-front.result c.end_of.result
+      c.is_some-in_release_monitoring.result (after) c.end_of.ensures
+      (c.ahead-falls.ensures.each c.self.inside.braking c.self.invariant.kept.falls.each)
+      (c.ahead-falls.ensures.falls (mrsp_of c.self.inside.profile) c.self.invariant.kept.falls.falls) end_judged
+      ∙ (λ k. targets_of (mrsp_of c.self.inside.profile) c.self.inside.authority (c.max_mm-front.ensures k)
+      ((c.is_some-in_release_monitoring.ensures ∙ ap is_some in_release_monitoring) k))
 
   -- the estimate and the front ends are those of the reading
-  verdict : IsVerdictOf c.self.inside.braking (estimate_of c.args.reading.now) c.args.reading.now.est c.args.reading.now.max (targets_of (mrsp_of c.self.inside.profile) c.self.inside.authority c.args.reading.now.max (is_some (release_of c.self.inside.braking c.self.inside.authority c.args.reading.now.max))) c.of.result
+  verdict : IsVerdictOf c.self.inside.braking (estimate_of c.args.reading.now) c.args.reading.now.est
+      c.args.reading.now.max (targets_of (mrsp_of c.self.inside.profile) c.self.inside.authority c.args.reading.now.max
+      (is_some (release_of c.self.inside.braking c.self.inside.authority c.args.reading.now.max))) c.of.result
   verdict =
       let d = c.self.inside.braking in
       let r = c.args.reading.now in
-      let said = subst (λ (e : Estimate). IsVerdictOf d e c.est_mm.result c.max_mm-front.result (map target_of c.ahead-falls.result.now ++ targets_in c.deref-2.result.now c.is_some-in_release_monitoring.result) c.of.result) (c.asked-asked.ensures.estimate ∙ c.estimate.ensures) c.of.ensures in
-      let behind = subst (λ (ts : List Target). IsVerdictOf d (estimate_of r) c.est_mm.result c.max_mm-front.result ts c.of.result) targets said in
-      let est = subst (λ (z : ℤ). IsVerdictOf d (estimate_of r) z c.max_mm-front.result (targets_of (mrsp_of c.self.inside.profile) c.self.inside.authority r.max (is_some (release_of d c.self.inside.authority r.max))) c.of.result) c.est_mm.ensures behind in
-      subst (λ (z : ℤ). IsVerdictOf d (estimate_of r) r.est z (targets_of (mrsp_of c.self.inside.profile) c.self.inside.authority r.max (is_some (release_of d c.self.inside.authority r.max))) c.of.result) c.max_mm-front.ensures est
+      let said = subst (λ (e : Estimate). IsVerdictOf d e c.est_mm.result c.max_mm-front.result
+      (map target_of c.ahead-falls.result.now ++ targets_in c.deref-2.result.now
+      c.is_some-in_release_monitoring.result) c.of.result)
+      (c.asked-asked.ensures.estimate ∙ c.estimate.ensures) c.of.ensures in
+      let behind = subst (λ (ts : List Target).
+      IsVerdictOf d (estimate_of r) c.est_mm.result c.max_mm-front.result ts c.of.result) targets said in
+      let est = subst (λ (z : ℤ). IsVerdictOf d (estimate_of r) z c.max_mm-front.result
+      (targets_of (mrsp_of c.self.inside.profile) c.self.inside.authority r.max
+      (is_some (release_of d c.self.inside.authority r.max))) c.of.result) c.est_mm.ensures behind in
+      subst (λ (z : ℤ). IsVerdictOf d (estimate_of r) r.est z
+      (targets_of (mrsp_of c.self.inside.profile) c.self.inside.authority r.max
+      (is_some (release_of d c.self.inside.authority r.max))) c.of.result) c.max_mm-front.ensures est
 
 pub of-requires-clause-falls : goal.of-requires-clause-falls
 of-requires-clause-falls c = c.ahead-falls.ensures.each c.self.inside.braking c.self.invariant.kept.falls.each
 
 pub of-requires-clause-end : goal.of-requires-clause-end
-of-requires-clause-end c = rw c.deref-2.ensures (ends_kept c.self.inside.braking c.self.inside.authority c.self.inside.kept.end.value c.self.invariant.kept.end)
+of-requires-clause-end c = rw c.deref-2.ensures
+    (ends_kept c.self.inside.braking c.self.inside.authority c.self.inside.kept.end.value c.self.invariant.kept.end)
 
 pub returns-clause-found : goal.returns-clause-found
 returns-clause-found c =
     subst (λ (s : Supervision). IsFoundAt s c.args.reading.now (found c)) c.self.view_is
-    (found_is c.self.inside.braking c.self.inside.authority c.self.inside.profile c.self.inside.last_time c.self.inside.held c.args.reading.now (found c) c.self.invariant.profile
-    c.speed_mm_s.ensures (ceiling c) (c.is_passed_by.ensures c.self.inside.braking c.self.inside.authority (end_passed c) ∙ ap (is_past_end c.self.inside.authority) c.min_mm-2.ensures) (in_release_monitoring c) c.is_service_in_use.ensures.value
+    (found_is c.self.inside.braking c.self.inside.authority c.self.inside.profile c.self.inside.last_time
+    c.self.inside.held c.args.reading.now (found c) c.self.invariant.profile
+    c.speed_mm_s.ensures (ceiling c) (c.is_passed_by.ensures c.self.inside.braking c.self.inside.authority
+    (end_passed c) ∙ ap (is_past_end c.self.inside.authority) c.min_mm-2.ensures)
+    (in_release_monitoring c) c.is_service_in_use.ensures.value
     (verdict c))
 
 pub returns-clause-accepted : goal.returns-clause-accepted
@@ -93,5 +118,6 @@ returns-clause-range c = record {
   ceiling = search rules;
   release =
       rw c.release_kmh_at-release_kmh.ensures
-      (release_speed_in_range c.self.inside.braking c.self.inside.authority c.self.inside.kept.release c.max_mm-front.result c.self.invariant.kept.release);
+      (release_speed_in_range c.self.inside.braking c.self.inside.authority c.self.inside.kept.release
+      c.max_mm-front.result c.self.invariant.kept.release);
 }

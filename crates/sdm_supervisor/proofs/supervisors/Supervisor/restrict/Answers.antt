@@ -8,7 +8,8 @@ take_profile-requires-clause-before c =
     let profile = c.self.inside.profile in
     let falls = c.self.inside.kept.falls in
     let said = c.in_ok-changed.ensures in
-    after_imposed c.self.inside.braking profile c.impose.new.self c.in_ok-changed.changed falls c.self.invariant.kept.falls said.profile_in_range said.outside c.args.r said.accepted said.added
+    after_imposed c.self.inside.braking profile c.impose.new.self c.in_ok-changed.changed falls
+    c.self.invariant.kept.falls said.profile_in_range said.outside c.args.r said.accepted said.added
 
 pub invariant_of-self-2 : goal.invariant_of-self-2
 invariant_of-self-2 c = record {

@@ -13,8 +13,10 @@ loop-fall-preserved c =
     let ks = c.args.falls.now in
     let i = c.loop-fall.fall-index in
     let k = c.fall-item.result in
-    let more = ap (λ (x : KeptFall). map target_of (take i ks ++ x ∷ [])) c.fall-item.is ∙ sym (ap (map target_of) (take_more ks i k c.loop-fall-test.true)) in
-    subst (λ (ts : List Target). IsVerdictOf c.args.braking.now c.args.asked.now.estimate c.args.fronts.now.est c.args.fronts.now.max ts c.add.new.self) (sym (map-append target_of (take i ks) (k ∷ [])) ∙ more)
+    let more = ap (λ (x : KeptFall). map target_of (take i ks ++ x ∷ [])) c.fall-item.is
+    ∙ sym (ap (map target_of) (take_more ks i k c.loop-fall-test.true)) in
+    subst (λ (ts : List Target). IsVerdictOf c.args.braking.now c.args.asked.now.estimate c.args.fronts.now.est
+    c.args.fronts.now.max ts c.add.new.self) (sym (map-append target_of (take i ks) (k ∷ [])) ∙ more)
     ((rw c.deref.ensures at c.add.ensures) (map target_of (take i ks)) c.loop-fall.invariant)
 
 pub returns-then-not-in_release_monitoring : goal.returns-then-not-in_release_monitoring
@@ -23,15 +25,20 @@ returns-then-not-in_release_monitoring c =
     let eoa = c.in-Stop.eoa.target in
     let svl = c.in-Stop.svl.target in
     let last = c.add-then-not-in_release_monitoring-2 in
-    let falls = subst (λ (us : List Target). IsVerdictOf c.args.braking.now c.args.asked.now.estimate c.args.fronts.now.est c.args.fronts.now.max us c.loop-fall.said)
-    (ap (map target_of) (take_all c.loop-fall.fall-index c.args.falls.now c.loop-fall-test.false)) c.loop-fall.invariant in
+    let falls = subst (λ (us : List Target). IsVerdictOf c.args.braking.now c.args.asked.now.estimate
+    c.args.fronts.now.est c.args.fronts.now.max us c.loop-fall.said)
+    (ap (map target_of) (take_all c.loop-fall.fall-index c.args.falls.now c.loop-fall-test.false))
+    c.loop-fall.invariant in
     rw (c.in-Stop.is, c.if-not-in_release_monitoring.true)
-    (subst (λ (us : List Target). IsVerdictOf c.args.braking.now c.args.asked.now.estimate c.args.fronts.now.est c.args.fronts.now.max us last.new.self) (append_assoc ts (eoa ∷ []) (svl ∷ []))
+    (subst (λ (us : List Target). IsVerdictOf c.args.braking.now c.args.asked.now.estimate c.args.fronts.now.est
+    c.args.fronts.now.max us last.new.self) (append_assoc ts (eoa ∷ []) (svl ∷ []))
     (last.ensures _ (c.add-then-not-in_release_monitoring.ensures ts falls)))
 
 pub returns-in-Limit : goal.returns-in-Limit
 returns-in-Limit c =
     rw c.in-Limit.is
     (c.add-in-Limit.ensures (map target_of c.args.falls.now)
-    (subst (λ (us : List Target). IsVerdictOf c.args.braking.now c.args.asked.now.estimate c.args.fronts.now.est c.args.fronts.now.max us c.loop-fall.said)
-    (ap (map target_of) (take_all c.loop-fall.fall-index c.args.falls.now c.loop-fall-test.false)) c.loop-fall.invariant))
+    (subst (λ (us : List Target). IsVerdictOf c.args.braking.now c.args.asked.now.estimate c.args.fronts.now.est
+    c.args.fronts.now.max us c.loop-fall.said)
+    (ap (map target_of) (take_all c.loop-fall.fall-index c.args.falls.now c.loop-fall-test.false))
+    c.loop-fall.invariant))

@@ -5,4 +5,5 @@ use Rattle.sdm_supervisor.specs.Verdicts.{IsVerdictOf}
 use Rattle.sdm_supervisor.proofs.verdicts.Verdict.of.Given as goal
 
 abbrev pub invariant-loop-fall : goal.invariant-loop-fall
-invariant-loop-fall l = IsVerdictOf l.braking l.asked.estimate l.fronts.est l.fronts.max (map target_of (take l.fall-index l.falls)) l.said
+invariant-loop-fall l =
+    IsVerdictOf l.braking l.asked.estimate l.fronts.est l.fronts.max (map target_of (take l.fall-index l.falls)) l.said

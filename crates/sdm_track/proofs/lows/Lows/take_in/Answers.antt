@@ -10,10 +10,12 @@ pub ends_below-requires-clause-lows : goal.ends_below-requires-clause-lows
 ends_below-requires-clause-lows c = kept_known _ _ _ _ _ _ (omega arith) c.loop-self.invariant
 
 pub loop-self-preserved : goal.loop-self-preserved
-loop-self-preserved c = goes c.args.entries.now c.args.window.rear (c.args.window.front + 1) _ _ _ c.pop_back.ensures.items (sym c.loop-self-test.ensures) c.loop-self.invariant
+loop-self-preserved c = goes c.args.entries.now c.args.window.rear
+    (c.args.window.front + 1) _ _ _ c.pop_back.ensures.items (sym c.loop-self-test.ensures) c.loop-self.invariant
 
 pub returns : goal.returns
 returns c =
     let index = c.args.window.front + 1 in
     let end : c.args.window.front + 2 ≡ c.args.window.front + 1 + 1 = omega arith in
-    rw (end, c.in_ok-push_back.ensures.items) (comes_in c.args.entries.now c.args.window.rear index _ (omega arith) (sym c.loop-self-test.ensures) c.loop-self.invariant)
+    rw (end, c.in_ok-push_back.ensures.items) (comes_in c.args.entries.now c.args.window.rear index _ (omega arith)
+    (sym c.loop-self-test.ensures) c.loop-self.invariant)

@@ -15,7 +15,12 @@ returns-clause-value c =
     let begun = c.partition_point-begun.result in
     let rise : IsRising start slice = rw c.deref.ensures.value c.self.invariant.rise in
     let some : 0 < length slice = rw c.deref.ensures.value c.self.invariant.some in
-    let parts = IsPartitionPoint-from_clause (λ (s : Segment). int_le s.start c.args.cell) slice begun c.partition_point-begun.ensures.partitioned (starts_parted start slice c.args.cell rise) (λ a r f called. search rules) in
+    let parts = IsPartitionPoint-from_clause (λ (s : Segment).
+    int_le s.start c.args.cell) slice begun c.partition_point-begun.ensures.partitioned
+    (starts_parted start slice c.args.cell rise) (λ a r f called. search rules) in
     let lies : LiesIn start c.self.inside.list.items c.saturating_sub.result c.args.cell =
-    rw c.deref.ensures.value at (lies_in_last start slice c.args.cell begun c.saturating_sub.result some c.partition_point-begun.ensures.bound (omega arith) parts) in
-    to_z-of_z w16 c.index.result.now.value (search rules) ∙ rw c.self.view_is at (read_is c.self.inside.list.items c.saturating_sub.result c.args.cell c.index.result.now c.self.invariant.rise lies c.index.ensures)
+    rw c.deref.ensures.value at (lies_in_last start slice c.args.cell begun c.saturating_sub.result some
+    c.partition_point-begun.ensures.bound (omega arith) parts) in
+    to_z-of_z w16 c.index.result.now.value (search rules) ∙ rw c.self.view_is at
+    (read_is c.self.inside.list.items c.saturating_sub.result c.args.cell c.index.result.now c.self.invariant.rise
+    lies c.index.ensures)

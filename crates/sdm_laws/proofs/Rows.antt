@@ -1,0 +1,13 @@
+-- What is said of a reading and its row: the order of the machines, the stop, and the other promises.
+pub mod TriggerOrder
+pub mod Nearness
+pub mod MachineOrder
+pub mod Ceiling
+pub mod Gaps
+pub mod ReleaseStart
+pub mod PrintedLimits
+pub mod StopFacts
+pub mod Stops
+pub mod FlatFacts
+pub mod Headline
+pub mod Journeys
