@@ -17,6 +17,8 @@ SCOPE = re.compile(r"\b(impl|trait)\b(?:\s*<[^{;]*?>)?\s+([^{;]*?)\s*\{")
 CLAUSE = re.compile(r"\s*(requires|ensures|decreases)\b\s*(\w+)?\s*\{")
 GHOSTS = {"Value": "the value", "view": "the value", "inverse": "the value", "coded": "the value", "invariant": "the invariant"}
 GHOST = re.compile(r"\bghost\s+(\w+)\s*=\s*\{")
+STRUCT = re.compile(r"\bstruct\s+(\w+)[^{;]*\{")
+GHOST_FIELD = re.compile(r"\bghost\s+\w+\s*:\s*\{")
 
 
 class Contract:
@@ -158,6 +160,12 @@ def contracts(path):
         end = closing(text, match.end() - 1)
         clauses = [("ghost", text[match.end() : end - 1])]
         yield Contract(path, text, owner_at(match.start()), match.group(1), True, clauses, (match.start(), end))
+    for struct in STRUCT.finditer(text):
+        fields = (struct.end() - 1, closing(text, struct.end() - 1))
+        for match in GHOST_FIELD.finditer(text, *fields):
+            # a field that is kept for a fact of the others: the fact, and that it is shown in one way at most
+            end = text.index("\n", match.start())
+            yield Contract(path, text, struct.group(1), "invariant", True, [("ghost", text[match.end() : end])], (match.start(), end))
 
 
 def sources(crate):

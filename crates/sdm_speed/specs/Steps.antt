@@ -23,11 +23,12 @@ abbrev pub AreRising : List Step → Type 0
 AreRising [] = Unit {0}
 AreRising (s ∷ ss) = AreAfter s.start ss
 
--- that they rise is shown in one way at most
+-- that steps start past a cell, each past the one before it, is shown in one way at most (own)
 AreAfter-prop : (cell : ℤ) (steps : List Step) → IsProp (AreAfter cell steps)
 AreAfter-prop cell [] = Unit-prop
 AreAfter-prop cell (s ∷ ss) = ×_prop (Prim.hlevel logic.props) (AreAfter-prop s.start ss)
 
+-- that each step starts past the one before it is shown in one way at most (own)
 pub AreRising-prop : (steps : List Step) → IsProp (AreRising steps)
 AreRising-prop [] = Unit-prop
 AreRising-prop (s ∷ ss) = AreAfter-prop s.start ss

@@ -35,13 +35,15 @@ pub record ArePassed (d : TrainAndTrack) (e : Estimate) (est max : ℤ) (ts : Li
       ≡ list_any (λ t. passes e.speed est max 0 no_margin t (limits_of computed d e t).indication) ts
   pub covered : v.covered ≡ list_all (is_covered_for d max e) ts
 
--- the nearest limit of a name, where there is one (own)
+-- the nearest EBI, where there is one (own)
 abbrev pub ebi_in : Option Nearest → Option ℤ
 ebi_in near = option_map_or (λ n. n.ebi) near None
 
+-- the nearest SBI, where there is one (own)
 abbrev pub sbi_in : Option Nearest → Option ℤ
 sbi_in near = option_map (λ n. n.sbi) near
 
+-- the nearest permitted limit, where there is one (own)
 abbrev pub permitted_in : Option Nearest → Option ℤ
 permitted_in near = option_map (λ n. n.permitted) near
 
