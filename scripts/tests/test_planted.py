@@ -33,7 +33,7 @@ PLANTED = [
     ("definitions", [
         Fault(DEFINITIONS, r"^\| `is_released` .*\n", "", "no line for is_released"),
         Fault(COMMANDS, r"^-- the last status was .*\n", "", "is_alarm has no comment"),
-        Fault(COMMANDS, r"^(-- the traction cut-off: .*) \(SUBSET.*\)$", r"\1", "cut_off_after has no source"),
+        Fault(COMMANDS, r"^(-- the traction cut-off: .*) \(SUBSET[^)]*\)$", r"\1", "cut_off_after has no source"),
         Fault("scripts/own-reasons.txt", r"^\S+/Commands\.antt: .*\n", "", "no reason for what is own in"),
         Fault("scripts/shown-by.txt", " train_fault: sdm_train::", " train_fault: sdm_track::", "is no test of a function"),
     ]),
