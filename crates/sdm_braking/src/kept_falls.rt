@@ -226,7 +226,8 @@ impl KeptFalls {
 
     /// What is kept of the fall at a cell, if there is one.
     pub fn at(&self, cell: i32) -> Option<&KeptFall>
-        ensures each { (d : TrainAndTrack) → All (IsKeptFall d) self.now.list → IfSome result (λ k. IsKeptFall d k.now) }
+        ensures each { (d : TrainAndTrack) → All (IsKeptFall d) self.now.list →
+            IfSome result (λ k. IsKeptFall d k.now) }
         ensures falls { (p : ℤ → ℕ) → AreAtFalls fall_of p first_cell self.now.list → first_cell <ℤ cell →
             MatchOption result (is_fall p cell ≡ false) (λ k. IsFallAt p cell k.now.fall) }
     {

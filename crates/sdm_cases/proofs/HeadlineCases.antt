@@ -163,7 +163,7 @@ in_order_after_two : InOrder (must_after after_one at_4_m (must_after short at_2
 unfolding short two_readings after_one after_reading step at_2_m at_4_m reading_at
 in_order_after_two = supervised.1.0.order
 
--- ---- commands that are out of order: the exact machine holds one while the train moves, where the supervisor holds none
+-- ---- commands that are out of order: the exact machine holds one while the train moves, the supervisor none
 
 held_stays : (triggered : Bool) → (triggered || true) ≡ true
 held_stays true = refl

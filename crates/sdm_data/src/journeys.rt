@@ -30,10 +30,10 @@ pub struct JourneyData {
 /// The data that a document holds. Else the first rule that it breaks, unless memory was refused first; the rules are
 /// tested in this order (own):
 ///
-/// - section by section: root, train, each band, national values, track, each gradient, each speed, each area of reduced
-///   adhesion, authority. In a section UnknownKey comes first, and then key by key Missing and WrongKind. In the authority
-///   `kind` comes first, since the other keys depend on it. Value comes after WrongKind of `version`, of `kind` and of the
-///   authority's numbers.
+/// - section by section: root, train, each band, national values, track, each gradient, each speed, each area of
+///   reduced adhesion, authority. In a section UnknownKey comes first, and then key by key Missing and WrongKind. In
+///   the authority `kind` comes first, since the other keys depend on it. Value comes after WrongKind of `version`, of
+///   `kind` and of the authority's numbers.
 /// - Train, and then National, and then Track: what `Train::new`, `National::new` and `Track::new` refuse.
 #[tactic(auto, unfolding(crate::specs::Journey::data_of))]
 pub fn data_of(alloc: Global, table: &Table) -> Result<JourneyData, DataFault>

@@ -62,7 +62,8 @@ fn number(fields: &ByteRecord, column: u32, least: i32, greatest: i32) -> Result
     requires last { column ≤ length (fields_of fields.now) }
     ensures value { IfOk result (λ n. read_int (column_of (fields_of fields.now) column) least greatest ≡ Ok n) }
     ensures range { IfOk result (λ n. (least ≤ℤ n) × (n ≤ℤ greatest)) }
-    ensures fault { IfErr result (IsColumnFault column (read_int (column_of (fields_of fields.now) column) least greatest)) }
+    ensures fault { IfErr result
+        (IsColumnFault column (read_int (column_of (fields_of fields.now) column) least greatest)) }
 {
     let field = fields.get(column as usize - 1).unwrap();
     match read_int(field, i64::from(least), i64::from(greatest)) {

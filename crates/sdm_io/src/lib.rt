@@ -3,15 +3,15 @@
 //! stand over these traits alone: one writes a whole piece, the other reads to the end within a limit.
 #![tactic(auto)]
 
-pub mod faults;
-pub mod fixed;
-pub mod memory;
+mod faults;
+mod fixed;
+mod memory;
 mod plans;
-pub mod reading;
-pub mod sinks;
-pub mod sources;
-pub mod standard;
-pub mod writing;
+mod reading;
+mod sinks;
+mod sources;
+mod standard;
+mod writing;
 
 pub use faults::Failed;
 pub use fixed::{FixedSource, NullSink};

@@ -104,7 +104,8 @@ fn read_blocks<I: Source>(
     ensures more { result ≡ Ok Reached.FullBlock → length bytes.old.items < length bytes.new.items }
 
     ensures within { OnErr result (ReadsWithin (I.left input.old) (I.left input.new) (free + 1)) }
-    ensures not_above { OnErr result (result ≢ Err Unread.TooLong → ReadsWithin (I.left input.old) (I.left input.new) free) }
+    ensures not_above { OnErr result
+        (result ≢ Err Unread.TooLong → ReadsWithin (I.left input.old) (I.left input.new) free) }
     ensures one_above { result ≡ Err Unread.TooLong → ReadsExactly (I.left input.old) (I.left input.new) (free + 1) }
 
     ensures later { I.faults input.old ≤ I.faults input.new }

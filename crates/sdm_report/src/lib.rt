@@ -6,10 +6,10 @@
 mod data_lines;
 pub mod fields;
 pub mod outcome;
-pub mod outcome_lines;
+mod outcome_lines;
 mod paths;
 mod refusal_lines;
-pub mod row_lines;
+mod row_lines;
 
 pub use outcome::{InputFault, Outcome};
 pub use outcome_lines::outcome_bytes;

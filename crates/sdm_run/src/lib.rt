@@ -2,7 +2,7 @@
 //! write, and the outcome that it ends with.
 #![tactic(auto)]
 
-pub mod answers;
+mod answers;
 mod endings;
 mod flat_lines;
 mod flat_run;
@@ -10,7 +10,7 @@ mod journey_openings;
 mod journey_records;
 mod journey_run;
 mod trial_run;
-pub mod words;
+mod words;
 
 pub use answers::{law_of_outputs, outcome_of, sdm_main, told};
 pub use sdm_report::{EventCause, InputFault, Outcome};

@@ -136,7 +136,8 @@ impl Supervisor {
     pub fn authority(&mut self, a: Authority) -> Result<(), AuthorityFault>
         ensures accepted { OnOk result (authority_fault self.old.train_and_track.track.length_cm a ≡ None) }
         ensures taken { OnOk result (self.new ≡ after_authority self.old a) }
-        ensures refused { IfErr result (λ fault. authority_fault self.old.train_and_track.track.length_cm a ≡ Some fault) }
+        ensures refused { IfErr result
+            (λ fault. authority_fault self.old.train_and_track.track.length_cm a ≡ Some fault) }
         ensures unchanged { OnErr result (self.new ≡ self.old) }
     {
         check_authority(&a, self.braking.track_cm())?;

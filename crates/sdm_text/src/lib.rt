@@ -3,10 +3,10 @@
 //! Nothing here takes memory.
 #![tactic(auto)]
 
-pub mod keys;
-pub mod lines;
-pub mod numbers;
-pub mod rows;
+mod keys;
+mod lines;
+mod numbers;
+mod rows;
 
 pub use keys::{key_name, key_names};
 pub use lines::{split_field, split_line, without_lf};
