@@ -39,11 +39,13 @@ def times(program, words, path, runs, folder):
 
 
 def instructions(program, words, path, profile):
-    """The instructions of one run; the profile stays, for callgrind_annotate."""
-    tool = ["valgrind", "--tool=callgrind", f"--callgrind-out-file={profile}"]
+    """The instructions of one run with an empty environment, of which the loader would read each byte before `main`; the profile
+    stays, for callgrind_annotate."""
+    tool = [shutil.which("valgrind"), "--tool=callgrind", f"--callgrind-out-file={profile}"]
     with open(path, "rb") as source:
         subprocess.run(
-            [*tool, program, *words], stdin=source, stdout=subprocess.DEVNULL, stderr=subprocess.DEVNULL, check=True
+            [*tool, program, *words],
+            stdin=source, stdout=subprocess.DEVNULL, stderr=subprocess.DEVNULL, check=True, env={},
         )
     return int(re.search(r"^(?:summary|totals): (\d+)", profile.read_text(), re.MULTILINE).group(1))
 
