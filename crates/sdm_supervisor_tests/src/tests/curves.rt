@@ -1,7 +1,7 @@
 //! The curves that a supervisor lends, asked for places that were worked by hand. A train that brakes at 1 m/s² needs
 //! half the difference of the squares of two speeds in m/s, as metres, from one to the other.
 
-ghost use Rattle.std.specs.Prelude.{◌≡◌, ◌≤ℤ◌, IfOk, pos};
+ghost use Rattle.std.specs.Prelude.{◌≡◌, ◌≤ℤ◌, IfOk, OnOk, pos};
 ghost use Rattle.sdm_rules.specs.declared.data.SlopeKind.TheVariants.{Safe};
 ghost use Rattle.sdm_rules.specs.Decelerations.{slopes_of};
 ghost use Rattle.sdm_rules.specs.Slopes.{meaning_of};
@@ -18,15 +18,6 @@ use sdm_track::{SpeedStep, Track};
 use sdm_train::Train;
 use std::alloc::Global;
 use std::test::Fail;
-
-/// 80 km/h from 500 m to 600 m, until the train's end has left it at 700 m.
-const SLOW: Restriction = Restriction {
-    id: 1,
-    start: 50_000,
-    end: 60_000,
-    speed: 80,
-    delayed: true,
-};
 
 /// Where the fall at a place in cm has a speed on its EBD, in mm; none where there is no fall.
 fn on_fall(supervisor: &Supervisor, map: &BandMap, cell: i32, v: Speed) -> Option<i64>
@@ -99,25 +90,56 @@ fn begun(alloc: Global) -> Result<(Supervisor, BandMap), Fail>
     Ok((supervisor, map))
 }
 
-#[test]
-fn lent_curves_are_those_of_the_present_falls_and_authority(rt: HostRuntime) -> Result<(), Fail> {
-    let (mut supervisor, map) = begun(rt.alloc())?;
-    assert!(rt; is_at_2_km(&supervisor, &map));
-    supervisor.restrict(SLOW)?;
-    assert!(rt; is_restricted(&supervisor, &map));
-    assert!(rt; falls_once(&supervisor));
+/// Takes a restriction to 80 km/h from 500 m to 600 m, until the train's end has left it at 700 m; whether the curves are
+/// then its own.
+fn restricted(supervisor: &mut Supervisor, map: &BandMap) -> Result<bool, Fail>
+    requires { meaning_of map.now ≡ slopes_of Safe supervisor.old.train_and_track }
+    ensures { OnOk result (meaning_of map.now ≡ slopes_of Safe supervisor.new.train_and_track) }
+{
+    supervisor.restrict(Restriction {
+        id: 1,
+        start: 50_000,
+        end: 60_000,
+        speed: 80,
+        delayed: true,
+    })?;
+    Ok(is_restricted(supervisor, map) && falls_once(supervisor))
+}
+
+/// Takes an authority to the LOA; whether the curves are then those of the restriction and of the LOA.
+fn limited(supervisor: &mut Supervisor, map: &BandMap) -> Result<bool, Fail>
+    requires { meaning_of map.now ≡ slopes_of Safe supervisor.old.train_and_track }
+    ensures { OnOk result (meaning_of map.now ≡ slopes_of Safe supervisor.new.train_and_track) }
+{
     supervisor.authority(Authority::Limit {
         loa: 150_000,
         speed: 60,
     })?;
-    assert!(rt; is_restricted(&supervisor, &map));
-    assert!(rt; is_limited(&supervisor, &map));
+    Ok(is_restricted(supervisor, map) && is_limited(supervisor, map))
+}
+
+/// Takes the first authority again and revokes the restriction; whether the curves are those of the beginning.
+fn as_it_began(supervisor: &mut Supervisor, map: &BandMap) -> Result<bool, Fail>
+    requires { meaning_of map.now ≡ slopes_of Safe supervisor.old.train_and_track }
+{
     supervisor.authority(Authority::Stop {
         eoa: 200_000,
         svl: 200_000,
         release: 0,
     })?;
     supervisor.revoke(1)?;
+    Ok(is_at_2_km(supervisor, map))
+}
+
+#[test]
+fn lent_curves_are_those_of_the_present_falls_and_authority(rt: HostRuntime) -> Result<(), Fail> {
+    let (mut supervisor, map) = begun(rt.alloc())?;
     assert!(rt; is_at_2_km(&supervisor, &map));
+    let restricted = restricted(&mut supervisor, &map)?;
+    assert!(rt; restricted);
+    let limited = limited(&mut supervisor, &map)?;
+    assert!(rt; limited);
+    let as_it_began = as_it_began(&mut supervisor, &map)?;
+    assert!(rt; as_it_began);
     Ok(())
 }
