@@ -97,8 +97,7 @@ Value Authority 0 6 | "end", eoa = 100000, svl = 100000, release = 0 ~ "limit", 
 Train Value { band: 0, key: 1 } | length = 10000 ~ length = 0 & avadh = 20 ~ avadh = 21
 Train BandCount | [@] ~ [@, @, @, @, @, @, @, @, @]
 Train BandCount | [@] ~ [] & avadh = 20 ~ avadh = 21
-Train Value { band: 2, key: 6 } | [@] ~ [@,
-    {emergency = 1, service = 1, normal = 1, kdry = 1, kwet = 0, kn_up = 0, kn_down = 0}]
+Train Value { band: 2, key: 6 } | [@] ~ [@, {emergency = 1, service = 1, normal = 1, kdry = 1, kwet = 0, kn_up = 0, kn_down = 0}]
 Train BandOrder { band: 1 } | [@] ~ [@, @] & length = 200000 ~ length = 0
 National Value { key: 1 } | avadh = 20 ~ avadh = 21 & length = 200000 ~ length = 0
 Track Value { list: Track, index: 0, key: 1 } | length = 200000 ~ length = 4294967296
