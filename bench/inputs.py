@@ -126,12 +126,12 @@ def table(name, **values):
     return f"[[{name}]]\n" + "".join(f"{key} = {value}\n" for key, value in values.items())
 
 
-def greatest_train():
-    """A train of 100 m with eight speed bands, whose brakes grow weaker with the speed."""
+def greatest_train(bands=8, width_kmh=60):
+    """A train of 100 m with so many speed bands, each of this width but the last, whose brakes grow weaker with the speed."""
     text = "[train]\nlength = 10000\nmax_speed = 500\ntraction_cutoff_time = 100\ntraction_cutoff_interface = true\n"
     text += "emergency_time = 60\nservice_time = 50\nservice_brake = true\n"
-    for band in range(8):
-        upper = {"upper": 60 * (band + 1)} if band < 7 else {}
+    for band in range(bands):
+        upper = {"upper": width_kmh * (band + 1)} if band < bands - 1 else {}
         brakes = {"emergency": 120 - 5 * band, "service": 100 - 5 * band, "normal": 70 - 3 * band}
         text += table("train.band", **upper, **brakes, kdry=900, kwet=950, kn_up=20, kn_down=20)
     return text
@@ -159,18 +159,18 @@ def greatest_restrictions():
         yield f"restrict,{entry},{start},{start + 20_000},{100 - entry},1\n"
 
 
-def greatest_data(numbers, guidance="false"):
+def greatest_data(numbers, guidance="false", train=greatest_train()):
     """The data part of the greatest data, with the dividing line."""
-    text = "version = 1\n" + greatest_train()
+    text = "version = 1\n" + train
     text += f"[national]\navadh = 10\nadhesion_max = 60\nguidance = {guidance}\nservice_in_target = true\n"
     text += "early_release = false\ninhibit_under_reading = false\n" + greatest_track(numbers)
     return text + f'[authority]\nkind = "end"\neoa = {TRACK_CM - 10_000}\nsvl = {TRACK_CM}\nrelease = 40\n%%\n'
 
 
-def greatest_of(name, seed, guidance):
+def greatest_of(name, seed, *data):
     """The greatest data, with readings at random over their track, up to 500 km/h."""
     numbers = Numbers(seed)
-    head = greatest_data(numbers, guidance) + "".join(greatest_restrictions())
+    head = greatest_data(numbers, *data) + "".join(greatest_restrictions())
     lines = list(islice(scattered_readings(numbers, 100_000_000, 138_888), GREATEST_READINGS))
     return Input(name, ["run"], ["run"], head, lines, len(lines))
 
@@ -183,6 +183,11 @@ def greatest(seed):
 def greatest_guided(seed):
     """The greatest data with guidance curves."""
     return greatest_of("greatest-guided", seed, "true")
+
+
+def greatest_ten(seed):
+    """The greatest data without guidance curves, for a train of ten bands, as many as there may be."""
+    return greatest_of("greatest-ten", seed, "false", greatest_train(bands=10, width_kmh=50))
 
 
 def greatest_restrict(seed):
@@ -259,6 +264,7 @@ MAKERS = {
     "scattered": scattered,
     "greatest": greatest,
     "greatest-guided": greatest_guided,
+    "greatest-ten": greatest_ten,
     "greatest-restrict": greatest_restrict,
     "greatest-revoke": greatest_revoke,
     "greatest-end": greatest_end,

@@ -46,9 +46,9 @@ def made(first, count):
 def differences(program, case):
     """Where model, program and, for a stored journey, its files differ: all that differs from the model, in lines."""
     model = Result(*collect(case.words, case.data))
-    lines = difference(("model", "program"), model, run(program, case.words, case.data))
+    lines = difference(("model", "program"), model, run(program, case.words, case.data), case.words)
     if case.due:
-        lines += difference(("model", "stored"), model, case.due)
+        lines += difference(("model", "stored"), model, case.due, case.words)
     return lines, model.code
 
 

@@ -21,7 +21,7 @@ from model.flat import numbers_of
 from model.speeds import restriction_zone, static_zones
 from model.units import GRAINS_PER_CM, GRAINS_PER_MM, NOTCHES_PER_KM_H
 
-CM_PER_M, GRAINS_PER_M = 100, 1000 * GRAINS_PER_MM
+CM_PER_M, GRAINS_PER_M, TENTHS = 100, 1000 * GRAINS_PER_MM, 10  # TENTHS of a per mille, the model's unit of gradients
 FIELDS = dict(zip(LIMITS, "d_EBI d_SBI d_W d_P d_I".split()))  # the model's names
 FLAT_ROW = re.compile(r"\d+,-?\d+,[01],[01]", re.ASCII)
 
@@ -68,7 +68,8 @@ class Journey:
     restrictions: list = field(default_factory=list)  # of Held, each a Zone
     profile: list = field(default_factory=list)  # of Zone: the static profile and the maximum train speed
     gradients: list = field(default_factory=list)  # of (from m, to m, per mille)
-    areas: list = field(default_factory=list)  # of (from m, to m)
+    adhesion: list = field(default_factory=list)  # of (from m, to m), as the next one
+    no_special: list = field(default_factory=list)
     curves: dict = field(default_factory=dict)
     note: str = ""
 
@@ -158,8 +159,10 @@ def with_track(journey, data, curves):
     train = type(static_zones(data)[0])(data.train.max_speed, -math.inf, math.inf)
     journey.profile, journey.curves = [train, *static_zones(data)], curves
     starts = [entry.start / CM_PER_M for entry in data.track.gradient]
-    journey.gradients = list(zip([-math.inf, *starts[1:]], [*starts[1:], math.inf], [entry.grad for entry in data.track.gradient]))
-    journey.areas = [(area.start / CM_PER_M, area.end / CM_PER_M) for area in data.track.adhesion]
+    per_mille = [entry.grad / TENTHS for entry in data.track.gradient]
+    journey.gradients = list(zip([-math.inf, *starts[1:]], [*starts[1:], math.inf], per_mille))
+    in_metres = lambda areas: [(area.start / CM_PER_M, area.end / CM_PER_M) for area in areas]
+    journey.adhesion, journey.no_special = in_metres(data.track.adhesion), in_metres(data.track.no_special)
     return journey
 
 

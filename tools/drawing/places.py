@@ -21,7 +21,8 @@ LEAST_WIDTH = 100
 # At most so many levels of labels stand above the plot; names that lie nearer than so many pixels share a label.
 LEVELS, NEAR = 5, 12
 
-GRADES = {-1: "#F3C9B1", 0: "#EEEEEE", 1: "#CFE6D2", "adhesion": "#A9D3EE"}  # downhill, level, uphill
+GRADES = {-1: "#F3C9B1", 0: "#EEEEEE", 1: "#CFE6D2"}  # downhill, level, uphill
+AREAS = {"adhesion": ("reduced", "#A9D3EE"), "special brake": ("not used", "#D8C6E6")}  # row: text, colour
 
 LIMITS = {
     # limit: name, colour, dash, mark
@@ -66,23 +67,31 @@ def place_panel(journey, low_edge, places=None, speeds=None):
 
 def track_rows(journey, low, high):
     """The rows of the strip: what the track tells within these places."""
-    areas = any(start < high and end > low for start, end in journey.areas)
-    return ["gradient"] * any(grad for _, _, grad in journey.gradients) + ["adhesion"] * areas
+    is_within = lambda area: area[0] < high and area[1] > low
+    within = [name for name, areas in areas_of(journey).items() if any(map(is_within, areas))]
+    return ["gradient"] * any(grad for _, _, grad in journey.gradients) + within
+
+
+def areas_of(journey):
+    """The areas of each row, as pairs of m."""
+    return dict(zip(AREAS, (journey.adhesion, journey.no_special)))
 
 
 def track_strip(journey, low, high, edge):
-    """The strip's part of the script: gradients in per mille, and areas of reduced adhesion, over the same places."""
+    """The strip's part of the script, over the same places: gradients in per mille, areas of reduced adhesion, those
+    without the special brake."""
     rows = track_rows(journey, low, high)
     if not rows:
         return []
     boxes, letters, scale = [], [], (RIGHT - LEFT) / (high - low)
-    parts = [("gradient", start, end, f"{grad}" if grad else "0", GRADES[(grad > 0) - (grad < 0)]) for start, end, grad in journey.gradients]
-    parts += [("adhesion", start, end, "reduced", GRADES["adhesion"]) for start, end in journey.areas]
-    for row, start, end, text, colour in parts:
+    colour = lambda grad: GRADES[(grad > 0) - (grad < 0)]
+    parts = [("gradient", start, end, f"{grad:g}", colour(grad)) for start, end, grad in journey.gradients]
+    parts += [(name, start, end, *AREAS[name]) for name, areas in areas_of(journey).items() for start, end in areas]
+    for row, start, end, text, shade in parts:
         start, end = max(start, low), min(end, high)
         if row in rows and start < end:
             y = len(rows) - rows.index(row) - 0.5
-            boxes.append(f"{start:.3f} {y} {start:.3f} {end:.3f} {y - 0.42:.2f} {y + 0.42:.2f} {rgb(colour)}")
+            boxes.append(f"{start:.3f} {y} {start:.3f} {end:.3f} {y - 0.42:.2f} {y + 0.42:.2f} {rgb(shade)}")
             if (end - start) * scale > LETTER * len(text) + 4:
                 letters.append(f'{(start + end) / 2:.3f} {y} "{text}"')
     names = ", ".join(f'"{"gradient (‰)" if row == "gradient" else row}" {len(rows) - k - 0.5}' for k, row in enumerate(rows))

@@ -1,8 +1,10 @@
 """Journeys as files, as in examples/ and vectors/: a folder with `input`, and beside it what the input leads to.
 
-`args` are the words, one a line (`run` where the file is absent), `rows` is what goes to standard output, `err` what goes to
-standard error, `code` the exit status. Where none of these three is there, nothing is due.
+`args` are the words, one a line (`run` where the file is absent), `rows` is what goes to standard output, `err` what
+goes to standard error, `code` the exit status. Where none of these three is there, nothing is due. Of the text that
+`upgrade` writes the table is due, and not its bytes.
 """
+import tomllib
 from collections import namedtuple
 
 from .program import Fault, Result
@@ -42,10 +44,35 @@ def cases_under(top):
     return [case_of(folder, str(folder.relative_to(top.parent))) for folder in folders]
 
 
-def difference(names, one, other):
-    """Where two results differ first, in lines that show both texts under their names; none where they are the same."""
+def values_of(value, path=""):
+    """A line for each value in a table, by its path, in the order of the names."""
+    if isinstance(value, dict) and value:
+        for name in sorted(value):
+            yield from values_of(value[name], f"{path}.{name}" if path else name)
+    elif isinstance(value, list) and value:
+        for number, each in enumerate(value, 1):
+            yield from values_of(each, f"{path}[{number}]")
+    else:
+        yield f"{path} = {value!r}"
+
+
+def compared(words, rows):
+    """The lines by which a text is compared: of what `upgrade` writes those of its table, so that it may be laid out
+    in any way; the text itself where it has no table, or a dividing line stands in it."""
+    lines = rows.split("\n")
+    if words == ["upgrade"] and rows and not any(line.rstrip("\r") == "%%" for line in lines):
+        try:
+            return [*values_of(tomllib.loads(rows)), ""]
+        except ValueError:
+            pass
+    return lines
+
+
+def difference(names, one, other, words=("run",)):
+    """Where two results of some words differ first, in lines that show both texts under their names; none where they
+    are the same."""
     shown = lambda texts: [f"    {name:9}{text}" for name, text in zip(names, texts)]
-    lines = one.rows.split("\n"), other.rows.split("\n")
+    lines = compared(list(words), one.rows), compared(list(words), other.rows)
     for number, pair in enumerate(zip(*lines), 1):
         if pair[0] != pair[1]:
             return [f"  row {number} differs", *shown(text or "(no such row)" for text in pair)]

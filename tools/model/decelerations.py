@@ -5,20 +5,30 @@ from fractions import Fraction
 from .outcome import Refused
 from .units import GRAINS_PER_CM, NOTCHES_PER_KM_H, Steps, steps_of
 
+def in_force(areas, L, x):
+    """PROFILE "The track under the train": an area is in force in the cells `start` to `end` + L − 1."""
+    return any(area.start <= x < area.end + L for area in areas)
+
 def under_the_train(data):
     """PROFILE "The track under the train", by the front end's cell x, from 0 on: the lowest gradient of the cells x − L
-    to x in per mille, and whether adhesion is reduced, as in the cells `start` to `end` + L − 1 of an area."""
-    L, entries, areas = data.train.length, data.track.gradient, data.track.adhesion
+    to x in tenths of a per mille, whether adhesion is reduced, and whether the special brake isn't used."""
+    L, entries = data.train.length, data.track.gradient
+    adhesion, no_special = data.track.adhesion, data.track.no_special
     gradient = Steps([entry.start for entry in entries] or [0], [entry.grad for entry in entries] or [0])
     def under(x):
-        return gradient.lowest(x - L, x), any(area.start <= x < area.end + L for area in areas)
+        return gradient.lowest(x - L, x), in_force(adhesion, L, x), in_force(no_special, L, x)
+    areas = adhesion + no_special
     starts, ends = [each.start for each in entries + areas], [area.end for area in areas]
     return steps_of({0, *starts} | {cell + L for cell in starts + ends}, under)
 
-def A_brake_safe(data, band, reduced):
+def A_em(band, unaided):
+    """PROFILE "Decelerations", in m/s²: where the special brake isn't used what the band says is left, else all."""
+    return Fraction(band.emergency_reduced if unaided and band.emergency_reduced is not None else band.emergency, 100)
+
+def A_brake_safe(data, band, reduced, unaided):
     """PROFILE "Decelerations", in m/s², exact."""
     Kdry, Kwet, M_NVAVADH = Fraction(band.kdry, 1000), Fraction(band.kwet, 1000), Fraction(data.national.avadh, 20)
-    A = Kdry * (Kwet + M_NVAVADH * (1 - Kwet)) * Fraction(band.emergency, 100)
+    A = Kdry * (Kwet + M_NVAVADH * (1 - Kwet)) * A_em(band, unaided)
     return min(A, Fraction(data.national.adhesion_max, 100)) if reduced else A
 
 def A_gradient(data, grad):
@@ -26,18 +36,18 @@ def A_gradient(data, grad):
     M = data.train.rotating_mass
     if M is None:
         M = 15 if grad >= 0 else 2
-    return Fraction(981, 100) * grad / (1000 + 10 * M)
+    return Fraction(981, 100) * grad / (10_000 + 100 * M)
 
-def A_safe(data, band, grad, reduced):
+def A_safe(data, band, grad, reduced, unaided):
     """PROFILE "Decelerations", in m/s², as the two below."""
-    return A_brake_safe(data, band, reduced) + A_gradient(data, grad)
+    return A_brake_safe(data, band, reduced, unaided) + A_gradient(data, grad)
 
-def A_expected(data, band, grad, reduced):
+def A_expected(data, band, grad, reduced, unaided):
     return Fraction(band.service, 100) + A_gradient(data, grad)
 
-def A_normal(data, band, grad, reduced):
+def A_normal(data, band, grad, reduced, unaided):
     Kn = Fraction(band.kn_up if grad >= 0 else band.kn_down, 100)
-    return Fraction(band.normal, 100) + A_gradient(data, grad) - Kn * Fraction(grad, 1000)
+    return Fraction(band.normal, 100) + A_gradient(data, grad) - Kn * Fraction(grad, 10_000)
 
 FORMULAS = {"safe": A_safe, "expected": A_expected, "normal": A_normal}
 
@@ -65,12 +75,14 @@ def brakes_of(data):
     return brakes
 
 def refuse_slopes(brake):
-    """PROFILE "Slopes that are refused": too weak (below 0.05 m/s²), then too varied (more than sixteenfold)."""
+    """PROFILE "Slopes that are refused": too weak (below 0.05 m/s²), then too varied (more than sixteenfold, with nine
+    and ten bands more than eightfold)."""
     Q, bands = 2 * 10**9 * brake.q, list(enumerate(zip(*brake.slopes), 1))
+    variation = 16 if len(bands) <= 8 else 8
     for number, slopes in bands:
         for slope, start in zip(slopes, (0,) + brake.borders):
             if 20 * slope < Q:
                 raise Refused(f"too weak: {brake.kind} band {number} cell {start // GRAINS_PER_CM}")
     for number, slopes in bands:
-        if max(slopes) > 16 * min(slopes):
+        if max(slopes) > variation * min(slopes):
             raise Refused(f"too varied: {brake.kind} band {number}")

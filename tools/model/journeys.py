@@ -1,5 +1,8 @@
 """A maker of journeys that tell, from a seed: same seed, same bytes. What they must lead to is said by the model.
 
+Even seeds make data parts of version 1, odd ones of version 2, and a part of these `upgrade`. Trains of nine and ten bands are of odd
+seeds alone, so that the journeys of the even ones stay what they were.
+
     python3 tools/model/journeys.py folder DIR FIRST COUNT   a folder for each seed, as in examples/
     python3 tools/model/journeys.py lines FIRST COUNT        a line of JSON for each seed, to standard output
     python3 tools/model/journeys.py input SEED               the input of one seed
@@ -32,8 +35,8 @@ SPEEDS = [5, 6, 9, 14, 15, 18, 24, 30, 36, 40, 50, 51, 59, 60, 62, 72, 80, 90, 1
 UPPERS = [5, 10, 18, 30, 36, 54, 60, 72, 90, 100, 110, 120, 130, 139, 160, 182, 200, 225, 250, 300, 315, 500]
 
 
-def a_train(rng, fast):
-    uppers = sorted(rng.sample(UPPERS, rng.choice([0, 0, 0, 1, 1, 1, 2, 2, 3, 5, 7])))
+def a_train(rng, fast, version):
+    uppers = sorted(rng.sample(UPPERS, rng.choice([0, 0, 0, 1, 1, 1, 2, 2, 3, 5, 7] + [8, 9] * (version - 1))))
     plain, bands = rng.random() < .4, []
     base = rng.choice([50, 70, 100, 100, 150, 250])
     for upper in uppers + [None]:
@@ -42,6 +45,9 @@ def a_train(rng, fast):
         band |= {"emergency": less(), "service": less(), "normal": less(),
                  "kdry": 1000 if plain else rng.randint(600, 1000), "kwet": 1000 if plain else rng.randint(600, 1000),
                  "kn_up": rng.choice([0, rng.randint(0, 1000)]), "kn_down": rng.choice([0, rng.randint(0, 1000)])}
+        if version == 2 and rng.random() < .6:
+            less = max(1, band["emergency"] * rng.randint(60, 100) // 100)
+            band["emergency_reduced"] = rng.choice([less, band["emergency"]])
         bands.append(band)
     times = [0, 5, 10, 15, 20, 25, 30, 40, 45, 60, 65, 100]
     train = {"length": rng.choice([1, 10, 2_000, 10_000, 20_000, 40_000, rng.randint(1, 150_000)]),
@@ -63,35 +69,49 @@ def some_starts(rng, count, length, train_length):
     return sorted(start for start in starts if 0 <= start < length)
 
 
-def a_track(rng, train, fast):
+def a_grad(rng, steep, version):
+    """A gradient up to so many per mille to either side, in the unit of the version."""
+    return rng.randint(-steep, steep) if version == 1 else rng.randint(-10 * steep, 10 * steep)
+
+
+def some_areas(rng, length, train_length):
+    cuts = some_starts(rng, rng.choice([0, 0, 1, 2, 4, 6]), length, train_length) + [length]
+    return [{"start": a, "end": b} for a, b in zip(cuts, cuts[1:]) if a < b and rng.random() < .5]
+
+
+def a_track(rng, train, fast, version):
     length = rng.choice([rng.randint(1, 3000), 200_000, 200_000, 600_000, rng.randint(50_000, 1_500_000), 10_000_000])
     L, steep = train["length"], rng.choice([2, 5, 10, 25])
-    gradient = [{"start": start, "grad": rng.choice([0, rng.randint(-steep, steep)])}
+    gradient = [{"start": start, "grad": rng.choice([0, a_grad(rng, steep, version)])}
                 for start in some_starts(rng, rng.choice([0, 1, 2, 3, 6, 12]), length, L)]
     speed = []
     for start in some_starts(rng, rng.choice([0, 1, 2, 3, 5, 9]), length, L):
         speed.append({"start": start, "speed": rng.choice(SPEEDS[25:] if fast else SPEEDS)})
         if rng.random() < .5:
             speed[-1]["delayed"] = rng.random() < .4
-    cuts = some_starts(rng, rng.choice([0, 0, 1, 2, 4, 6]), length, L) + [length]
-    adhesion = [{"start": a, "end": b} for a, b in zip(cuts, cuts[1:]) if a < b and rng.random() < .5]
+    adhesion = some_areas(rng, length, L)
     track = {"length": length, "speed": speed}
     if rng.random() < .7:
         track["gradient"] = gradient if rng.random() < .9 else []
     if rng.random() < .5:
         track["adhesion"] = adhesion
+    if version == 2 and rng.random() < .8:
+        track["no_special"] = some_areas(rng, length, L)
     return track
 
 
-def a_full_track(rng, train):
+def a_full_track(rng, version):
     """As many entries as may be."""
     length = rng.choice([2_000_000, 10_000_000])
     cells = lambda count: sorted(rng.sample(range(1, length), count))
+    areas = lambda ends: [{"start": a, "end": b} for a, b in zip(ends[::2], ends[1::2])]
     ends = cells(128)
-    return {"length": length,
-            "gradient": [{"start": start, "grad": rng.randint(-8, 8)} for start in [0] + cells(511)],
-            "speed": [{"start": start, "speed": rng.choice(SPEEDS), "delayed": rng.random() < .5} for start in [0] + cells(127)],
-            "adhesion": [{"start": a, "end": b} for a, b in zip(ends[::2], ends[1::2])]}
+    track = {"length": length,
+             "gradient": [{"start": start, "grad": a_grad(rng, 8, version)} for start in [0] + cells(511)],
+             "speed": [{"start": start, "speed": rng.choice(SPEEDS), "delayed": rng.random() < .5}
+                       for start in [0] + cells(127)],
+             "adhesion": areas(ends)}
+    return track if version == 1 else track | {"no_special": areas(cells(128))}
 
 
 def an_authority(rng, track):
@@ -107,21 +127,22 @@ def an_authority(rng, track):
     return authority
 
 
-def a_document(rng):
+def a_document(rng, version=1):
     """A data part as a table, whose sections and values are in range."""
     fast = rng.random() < .3                       # so that the margins over 140 and over 210 km/h count
-    train = a_train(rng, fast)
-    track = a_track(rng, train, fast) if rng.random() < .985 else a_full_track(rng, train)
+    train = a_train(rng, fast, version)
+    track = a_track(rng, train, fast, version) if rng.random() < .985 else a_full_track(rng, version)
     national = {"avadh": rng.choice([0, 20, rng.randint(0, 20)]), "adhesion_max": rng.choice([40, 55, 70, 100]),
                 "guidance": rng.random() < .4, "service_in_target": rng.random() < .8,
                 "early_release": rng.random() < .4, "inhibit_under_reading": rng.random() < .3}
-    return {"version": 1, "train": train, "national": national, "track": track, "authority": an_authority(rng, track)}
+    return {"version": version, "train": train, "national": national, "track": track,
+            "authority": an_authority(rng, track)}
 
 
-def an_open_document(rng):
+def an_open_document(rng, version):
     """A data part with its supervisor: one that isn't refused."""
     while True:
-        document = a_document(rng)
+        document = a_document(rng, version)
         try:
             return document, Supervisor(data_of(document))
         except Refused:
@@ -339,8 +360,8 @@ def input_of(rng, document, records):
     return (text + "%%\n" + "".join(line + "\n" for line in lines)).encode()
 
 
-def a_journey(rng):
-    document, supervisor = an_open_document(rng)
+def a_journey(rng, version):
+    document, supervisor = an_open_document(rng, version)
     maker = Maker(rng, supervisor)
     records = [record(event) for event in maker.make(rng.randint(10, 22))]
     name = "journey"
@@ -350,12 +371,12 @@ def a_journey(rng):
     return name, input_of(rng, document, records)
 
 
-def a_grain_journey(rng):
+def a_grain_journey(rng, version):
     """Level track and bands of one deceleration, so that many exact limits are whole millimetres (PROFILE "Curves")."""
-    document = a_document(rng)
+    document = a_document(rng, version)
     a, train = rng.choice([50, 70, 70, 100, 100, 90, 60]), document["train"]
     slow = rng.choice([15, 24, 33, 60, 78])        # a target, with an upper speed between it and its foot speed
-    uppers = sorted({*rng.sample(UPPERS[:12], rng.randint(0, 3)), slow + rng.randint(1, 7)}) + [None]
+    uppers = sorted({*rng.sample(UPPERS[:12], rng.choice([0, 1, 2, 3] + [8] * (version - 1))), slow + rng.randint(1, 7)}) + [None]
     train |= {"max_speed": 300, "rotating_mass": rng.choice([0, 9]), "traction_cutoff_time": rng.choice([0, 0, 20]),
               "emergency_time": rng.choice([0, 0, 20]), "service_time": rng.choice([0, 0, 40])}
     train["band"] = [({} if upper is None else {"upper": upper}) | {
@@ -382,9 +403,9 @@ def a_grain_journey(rng):
     return "grain", input_of(rng, document, [record(event) for event in maker.events])
 
 
-def a_full_journey(rng):
+def a_full_journey(rng, version):
     """As many restrictions as may be held, and one more, or one in place of another."""
-    document, supervisor = an_open_document(rng)
+    document, supervisor = an_open_document(rng, version)
     maker, length = Maker(rng, supervisor), supervisor.data.track.length
     for identity in rng.sample(range(100), 32):
         a = rng.randrange(length)
@@ -399,9 +420,9 @@ def a_full_journey(rng):
     return "too many restrictions", input_of(rng, document, records + [record(last)])
 
 
-def refused_data(rng):
+def refused_data(rng, version):
     """One or two rules of the data part broken, or its text."""
-    document, supervisor = an_open_document(rng)
+    document, supervisor = an_open_document(rng, version)
     names = []
     for _ in range(rng.choice([1, 1, 2])):
         names.append(spoil_data(rng, document))
@@ -412,25 +433,38 @@ def refused_data(rng):
     return "data: " + " and ".join(names), data
 
 
-def refused_opening(rng):
+def steep_gradients(rng, length, version):
+    """A gradient that isn't steep downhill, and then some of any steepness."""
+    unit = 1 if version == 1 else 10
+    first = {"start": 0, "grad": rng.randint(-10 * unit, 80 * unit)}
+    return [first] + [{"start": start, "grad": a_grad(rng, 80, version)}
+                      for start in some_starts(rng, 3, length, 100)[1:]]
+
+
+def refused_opening(rng, version):
     """Slopes or authority at the border of what is refused, on both sides of it."""
-    document, supervisor = an_open_document(rng)
+    document, supervisor = an_open_document(rng, version)
     train, track, national = document["train"], document["track"], document["national"]
-    name = rng.choice(["adhesion", "steep", "weak band", "varied", "authority", "authority"])
+    more = ["special brake"] * (version == 2)
+    name = rng.choice(["adhesion", "steep", "weak band", "varied", "authority", "authority"] + more)
     if name == "adhesion":
         start = rng.randrange(track["length"])
         track["adhesion"] = [{"start": start, "end": track["length"]}]
         national["adhesion_max"] = rng.choice([1, 4, 5, 6, 8, 12])
     elif name == "steep":
-        track["gradient"] = [{"start": 0, "grad": rng.randint(-10, 80)}] + [
-            {"start": start, "grad": rng.randint(-80, 80)} for start in some_starts(rng, 3, track["length"], 100)[1:]]
+        track["gradient"] = steep_gradients(rng, track["length"], version)
+    elif name == "special brake":
+        start = rng.randrange(track["length"])
+        track["no_special"] = [{"start": start, "end": track["length"]}]
+        band = rng.choice(train["band"])
+        band["emergency_reduced"] = min(band["emergency"], rng.choice([1, 4, 5, 6, 8, 12]))
     elif name == "weak band":
         rng.choice(train["band"])[rng.choice(["emergency", "service", "normal"])] = rng.choice([1, 4, 5, 6, 8])
     elif name == "varied":
         track["gradient"], track["adhesion"] = [], [{"start": 0, "end": 1}]
         train["length"], national["adhesion_max"] = 1, rng.choice([5, 6, 10])
-        band = rng.choice(train["band"])
-        band |= {"kdry": 1000, "kwet": 1000, "emergency": 16 * national["adhesion_max"] + rng.choice([-1, 0, 1])}
+        band, variation = rng.choice(train["band"]), 16 if len(train["band"]) <= 8 else 8
+        band |= {"kdry": 1000, "kwet": 1000, "emergency": variation * national["adhesion_max"] + rng.choice([-1, 0, 1])}
     else:
         length = track["length"]
         eoa = rng.choice([0, length, length - 1])
@@ -464,27 +498,41 @@ def flat(rng):
     return words, "flat", ("\n".join(lines) + rng.choice(["", "\n"] if lines else [""])).encode()
 
 
+def upgraded(rng):
+    """A data part of either version alone, at times with a rule broken or with a dividing line."""
+    document, _ = an_open_document(rng, rng.choice([1, 1, 2]))
+    if rng.random() < .3:
+        spoil_data(rng, document)
+    data = input_of(rng, document, [["read", "0"]])
+    if rng.random() < .95:
+        data = data[:data.index(b"%%")]
+    return ["upgrade"], "upgrade", data
+
+
 def make(seed):
     """The journey of a seed: words, what it is about, input."""
-    rng = random.Random(seed)
+    rng, version = random.Random(seed), 1 + seed % 2
     how = rng.random()
+    if version == 2 and how < .06:
+        return upgraded(rng)
     if how < .72:
-        return ["run"], *a_journey(rng)
+        return ["run"], *a_journey(rng, version)
     if how < .76:
-        return ["run"], *a_grain_journey(rng)
+        return ["run"], *a_grain_journey(rng, version)
     if how < .79:
-        return ["run"], *a_full_journey(rng)
+        return ["run"], *a_full_journey(rng, version)
     if how < .90:
-        return ["run"], *refused_data(rng)
+        return ["run"], *refused_data(rng, version)
     if how < .96:
-        return ["run"], *refused_opening(rng)
+        return ["run"], *refused_opening(rng, version)
     if how < .99:
         return flat(rng)
     if how < .995:
         return ["trial", str(rng.randint(0, 65_535)), str(rng.randint(1, 40))], "trial", b""
-    return rng.choice([["run", ""], ["flat", "4", "5"], ["flat", "401", "5"], ["flat", "5"], ["trial", "65536", "1"],
-                       ["trial", "1", "0"], ["trial", "1", "100001"], ["-h"], [], ["flat", "5", "10000001"],
-                       ["flat", "5", "-1"], ["Run"], ["trial", "+1", "1"]]), "words", b"%%\n"
+    others = [["run", ""], ["flat", "4", "5"], ["flat", "401", "5"], ["flat", "5"], ["trial", "65536", "1"],
+              ["trial", "1", "0"], ["trial", "1", "100001"], ["-h"], [], ["flat", "5", "10000001"],
+              ["flat", "5", "-1"], ["Run"], ["trial", "+1", "1"]]
+    return rng.choice(others + [["upgrade", "1"], ["Upgrade"]] * (version == 2)), "words", b"%%\n"
 
 
 def specials():

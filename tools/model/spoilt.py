@@ -1,24 +1,32 @@
 """Breaks rules of the data part, of its text and of records, for journeys.py."""
-from .data import KIND, Area, Band, Gradient, Limit, National, Root, StaticSpeed, Stop, Track, Train
+from .data import KIND, Area, Band, Gradient, Limit, National, Root, StaticSpeed, Stop, Track, Train, keys_of
 from .toml_text import Raw
 
 OTHER_KINDS = [Raw("1.0"), Raw('"1"'), Raw("true"), Raw("1"), Raw("[]"), Raw("[1]"), Raw("{}"), Raw("[{}, 1]"), Raw("inf"),
                Raw("1979-05-27"), Raw("07:32:00"), Raw("1979-05-27T07:32:00Z"), Raw("'''end'''"), Raw("[[]]")]
 EXTREMES = [-1, 0, 2**63 - 1, -2**63, Raw("9223372036854775808"), Raw("-9223372036854775809"), Raw("0x8000000000000000")]
+LISTS = [("gradient", Gradient), ("speed", StaticSpeed), ("adhesion", Area), ("no_special", Area)]
+
+
+def version_of(document):
+    """The version of a document, 1 where it has none that is known."""
+    return 2 if document.get("version") == 2 else 1
 
 
 def sections_of(document):
     """All sections that are tables, with the rows of their keys."""
     found, tables = [(document, Root.keys)], lambda value: value if isinstance(value, list) else []
+    known = lambda made: keys_of(made, version_of(document))
     train, national, track, authority = (document.get(name) for name in ("train", "national", "track", "authority"))
     if isinstance(train, dict):
-        found += [(train, Train.keys)] + [(each, Band.keys) for each in tables(train.get("band")) if isinstance(each, dict)]
+        found.append((train, Train.keys))
+        found += [(each, known(Band)) for each in tables(train.get("band")) if isinstance(each, dict)]
     if isinstance(national, dict):
         found.append((national, National.keys))
     if isinstance(track, dict):
-        found.append((track, Track.keys))
-        for name, keys in (("gradient", Gradient.keys), ("speed", StaticSpeed.keys), ("adhesion", Area.keys)):
-            found += [(each, keys) for each in tables(track.get(name)) if isinstance(each, dict)]
+        found.append((track, known(Track)))
+        for name, made in LISTS:
+            found += [(each, known(made)) for each in tables(track.get(name)) if isinstance(each, dict)]
     if isinstance(authority, dict):
         found.append((authority, [KIND, *(Stop if authority.get("kind") == "end" else Limit).keys]))
     return found
@@ -27,8 +35,12 @@ def sections_of(document):
 def spoil_data(rng, document):
     """One rule broken (or, seldom, none): its name."""
     table, keys = rng.choice(sections_of(document))
-    key, how = rng.choice(keys), rng.choice(["missing", "unknown", "kind", "value", "value", "value", "list", "list"])
-    if how == "missing":
+    version, key = version_of(document), rng.choice(keys)
+    more = ["version"] * (version == 2)
+    how = rng.choice(["missing", "unknown", "kind", "value", "value", "value", "list", "list"] + more)
+    if how == "version":                           # the keys of version 2 aren't known then
+        document["version"] = 1
+    elif how == "missing":
         table.pop(key.name, None)
     elif how == "unknown":
         table[rng.choice(["more", "loa", "eoa", "Length", "name", "upper", "start"])] = 1
@@ -43,43 +55,54 @@ def spoil_data(rng, document):
         elif key.name == "service_time":
             table[key.name] = rng.choice([1, 4, 299, 300, 305, -5])
         else:
-            table[key.name] = rng.choice([key.least - 1, key.least, key.most, key.most + 1, rng.choice(EXTREMES)])
+            unit, most = key.old_unit if version == 1 else 1, key.most
+            if key.name == "emergency_reduced" and isinstance(table.get("emergency"), int):
+                most = table["emergency"]
+            least, most = key.least // unit, most // unit
+            table[key.name] = rng.choice([least - 1, least, most, most + 1, rng.choice(EXTREMES)])
     elif how == "list":
-        return spoil_list(rng, document)
+        return spoil_list(rng, document, version)
     return f"{how} {key.name}"
 
 
-def spoil_list(rng, document):
+def spoil_bands(rng, train, what, version):
+    """The count of the bands, or an upper speed."""
+    bands = train["band"]
+    if what == "upper":
+        rng.choice([each for each in bands if isinstance(each, dict)])["upper"] = rng.choice([1, 100, 500])
+        return
+    count = rng.choice([0, 2, 3, 5, 8, *([8, 9] if version == 1 else [10, 11]), 12])
+    same = rng.choice([0, rng.randint(1, max(count, 2) - 1)])      # one band not above the one before
+    train["band"] = [dict(bands[0], upper=i + 1 - (i == same > 0)) for i in range(count)]
+    if count and rng.random() < .7:
+        del train["band"][-1]["upper"]
+
+
+def spoil_list(rng, document, version):
     """Counts, orders and gaps of the lists, and of the bands."""
-    train, track = document.get("train"), document.get("track")
+    train, track, later = document.get("train"), document.get("track"), ["no_special"] * (version == 2)
     what = rng.choice(["bands", "upper", "counts", "gap", "equal", "overlap", "kind", "swap"])
     if not (isinstance(train, dict) and isinstance(track, dict) and isinstance(track.get("length"), int)):
         return "list none"
     bands, length = train.get("band"), track["length"]
     if what in ("bands", "upper") and isinstance(bands, list) and bands and isinstance(bands[0], dict):
-        if what == "bands":
-            count = rng.choice([0, 2, 3, 5, 8, 8, 9, 12])
-            same = rng.choice([0, rng.randint(1, max(count, 2) - 1)])      # one band not above the one before
-            train["band"] = [dict(bands[0], upper=i + 1 - (i == same > 0)) for i in range(count)]
-            if count and rng.random() < .7:
-                del train["band"][-1]["upper"]
-        else:
-            rng.choice([each for each in bands if isinstance(each, dict)])["upper"] = rng.choice([1, 100, 500])
+        spoil_bands(rng, train, what, version)
     elif what == "counts":
-        name, most = rng.choice([("gradient", 512), ("speed", 128), ("adhesion", 64)])
+        name, most = rng.choice([("gradient", 512), ("speed", 128), ("adhesion", 64)] + [(each, 64) for each in later])
         count = most + rng.choice([0, 1])
-        more = {"gradient": {"grad": 0}, "speed": {"speed": 50}, "adhesion": {}}[name]
+        more = {"gradient": {"grad": 0}, "speed": {"speed": 50}}.get(name, {})
         track["length"] = length = max(length, 4 * count)
-        track[name] = [dict(more, start=2 * i, **({"end": 2 * i + rng.choice([1, 2])} if name == "adhesion" else {}))
+        track[name] = [dict(more, start=2 * i, **({} if more else {"end": 2 * i + rng.choice([1, 2])}))
                        for i in range(count)]
         if rng.random() < .2:
             track[name] = []
     elif what == "kind":
-        track[rng.choice(["gradient", "speed", "adhesion"])] = rng.choice(OTHER_KINDS)
+        track[rng.choice(["gradient", "speed", "adhesion", *later])] = rng.choice(OTHER_KINDS)
     elif what == "overlap":
         a = rng.randrange(length)
-        track["adhesion"] = [{"start": a, "end": rng.choice([a, a + 1, length])},
-                             {"start": min(length - 1, a + rng.choice([0, 1])), "end": rng.choice([length, length + 1])}]
+        areas = [{"start": a, "end": rng.choice([a, a + 1, length])},
+                 {"start": min(length - 1, a + rng.choice([0, 1])), "end": rng.choice([length, length + 1])}]
+        track[rng.choice(["adhesion", *later]) if later else "adhesion"] = areas
     else:
         entries = track.get(rng.choice(["gradient", "speed"]))
         if isinstance(entries, list) and entries and all(isinstance(each, dict) for each in entries):

@@ -78,3 +78,15 @@ def toml(document, rng=None):
     for key, value in headed:
         section(key, value, rng, lines)
     return "\n".join(lines) + "\n"
+
+
+def laid_out(table, path=""):
+    """The text of a table as the toolchain's `toml` lays it out: the keys in the order of their letters, the values
+    first, and then each table behind an empty line and a header of its own."""
+    headed = [name for name in sorted(table) if type(table[name]) is dict or is_tables(table[name])]
+    parts = [f"{name} = {value_text(table[name], None)}\n" for name in sorted(table) if name not in headed]
+    for name in headed:
+        is_one, inner = type(table[name]) is dict, f"{path}{name}"
+        header = f"\n[{inner}]\n" if is_one else f"\n[[{inner}]]\n"
+        parts += [header + laid_out(each, f"{inner}.") for each in ([table[name]] if is_one else table[name])]
+    return "".join(parts)

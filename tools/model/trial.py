@@ -5,9 +5,10 @@ from .records import Reading
 
 REALISTIC = Data(
     Train(20_000, 160, None, 20, True, 30, 40, True,
-          (Band(100, 120, 90, 60, 850, 950, 0, 0), Band(None, 100, 80, 50, 850, 950, 0, 0))),
+          (Band(100, 120, 90, 60, 850, 950, 0, 0, None), Band(None, 100, 80, 50, 850, 950, 0, 0, None))),
     National(0, 70, False, True, False, False),
-    Track(600_000, (Gradient(0, 0), Gradient(200_000, -5), Gradient(400_000, 0)), (StaticSpeed(0, 160, True),), ()),
+    Track(600_000, (Gradient(0, 0), Gradient(200_000, -50), Gradient(400_000, 0)), (StaticSpeed(0, 160, True),),
+          (), ()),
     Stop(500_000, 505_000, 0))
 
 def trial_lines(number, cycles):

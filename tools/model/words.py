@@ -1,11 +1,12 @@
 """Words, outcomes, input and output (FORMATS "Commands", "How a run ends")."""
 import os
 
-from .data import data_of, read_document, split
+from .data import data_of, read_document, split, table_of
 from .flat import flat_rows
 from .journey import Supervisor, cycles
 from .outcome import Outcome, Refused
 from .records import read_int
+from .toml_text import laid_out
 from .trial import trial_lines
 
 MOST_BYTES = 16_777_216
@@ -31,12 +32,15 @@ def not_too_long(data):
     return data
 
 def rows_of(words, read):
-    """FORMATS "Commands": the lines that these words write, one after the other."""
+    """FORMATS "Commands": the lines that these words write, one after the other. Of `upgrade` it is a whole text, of
+    which the table alone is due."""
     match words:
         case ["run"]:
             return (cycle.row.text() for cycle in cycles(*open_run(not_too_long(read()))))
         case ["flat", A, END]:
             return flat_rows(number_word(A, 5, 400), number_word(END, 0, 10_000_000), not_too_long(read()))
+        case ["upgrade"]:
+            return [laid_out(table_of(data_of(read_document(not_too_long(read())))))]
         case ["trial", number, count]:
             return trial_lines(number_word(number, 0, 65_535), number_word(count, 1, 100_000))
     raise Outcome(1, "bad words")

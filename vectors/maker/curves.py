@@ -8,9 +8,10 @@ AREAS = {"adhesion": [{"start": 1_000, "end": 30_000}, {"start": 30_000, "end": 
 KN = {"service": 90, "normal": 80, "kn_up": 700, "kn_down": 300}
 
 
-def journey_over(train=(), bands=None, national=(), track=(), authority=None, speeds=(8_000, 20_000, 40_000)):
+def journey_over(train=(), bands=None, national=(), track=(), authority=None, speeds=(8_000, 20_000, 40_000),
+                 version=1):
     """Limits of the authority's targets at some speeds, at each of their limits and a millimetre past it."""
-    journey = Journey(plain(train, bands, national, track, authority))
+    journey = Journey(plain(train, bands, national, track, authority, version))
     kinds = ("Loa",) if authority and authority["kind"] == "limit" else ("Eoa", "Svl")
     for v in speeds:
         journey.rest().read(v)
@@ -33,7 +34,9 @@ def decelerations():
     yield "unknown-mass", "the same with no mass given: 15 percent uphill and on the level, 2 downhill", journey
     yield "uphill", "uphill all the way, short train", journey_over(
         mass | {"length": 1}, track={"gradient": [{"start": 0, "grad": 25}]})
-    yield "before-the-track", "the first gradient and an area at 0 count before cell 0", before_the_track()
+    yield "before-the-track", "the first gradient and an area at 0 count before cell 0", before_the_track(
+        {"gradient": [{"start": 0, "grad": 18}, {"start": 20_000, "grad": -9}],
+         "adhesion": [{"start": 0, "end": 1_000}, {"start": 15_000, "end": 20_000}]})
     yield "past-the-track", "the last gradient counts past the track's end", journey_over(
         {"length": 30_000}, track={"length": 5 * KM, "gradient": [{"start": 0, "grad": -5}, {"start": 5 * KM - 1, "grad": 60}]})
     yield "adhesion", "areas of reduced adhesion, which count until the rear end has left; the SBD is as it was", \
@@ -50,11 +53,9 @@ def decelerations():
     yield "kn-on-the-level", "Kn counts nothing on the level", journey_over(bands=[KN], national={"guidance": True})
 
 
-def before_the_track():
+def before_the_track(track, bands=None, version=1):
     """Curves towards 50 m and 300 m reach before cell 0."""
-    track = {"gradient": [{"start": 0, "grad": 18}, {"start": 20_000, "grad": -9}],
-             "adhesion": [{"start": 0, "end": 1_000}, {"start": 15_000, "end": 20_000}]}
-    journey = Journey(plain(track=track, authority=stop(5_000)), home_mm=-2_000_000)
+    journey = Journey(plain(bands=bands, track=track, authority=stop(5_000), version=version), home_mm=-2_000_000)
     for eoa in (5_000, 30_000):
         journey.record("end", eoa, eoa + 100, 0)
         for v in (5_000, 20_000, 33_000):
@@ -66,8 +67,8 @@ BANDS = [{"upper": 18, "emergency": 70, "service": 70, "normal": 70}, {"upper": 
          {"upper": 100, "emergency": 60, "service": 55, "normal": 50}, {"emergency": 110, "service": 70, "normal": 70}]
 
 
-def through_bands(authority, speeds, national=(), track=()):
-    journey = Journey(plain({"max_speed": 250}, BANDS, national, track, authority))
+def through_bands(authority, speeds, national=(), track=(), bands=BANDS, version=1):
+    journey = Journey(plain({"max_speed": 250}, bands, national, track, authority, version))
     kind = "Svl" if authority["kind"] == "end" else "Loa"
     for v in speeds:
         for by in (0, 1):

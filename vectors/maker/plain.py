@@ -15,13 +15,13 @@ BAND = {"emergency": 100, "service": 100, "normal": 100, "kdry": 1000, "kwet": 1
 KM = 100_000  # cm
 
 
-def plain(train=(), bands=None, national=(), track=(), authority=None):
+def plain(train=(), bands=None, national=(), track=(), authority=None, version=1):
     """The data part of the plain train as a table: 100 m long, 1 m/s², no times, level, 10 km, an EOA at 5 km.
 
     Each part is what differs; `bands` are what differs from the plain band, from the lowest on.
     """
     document = {
-        "version": 1,
+        "version": version,
         "train": {"length": 10_000, "max_speed": 160, "rotating_mass": 0, "traction_cutoff_time": 0,
                   "traction_cutoff_interface": False, "emergency_time": 0, "service_time": 0, "service_brake": True}
         | dict(train),

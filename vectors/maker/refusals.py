@@ -1,7 +1,8 @@
 """data/, openings/, records/, texts/ and words/: each refusal, what is just accepted, and other spellings."""
 import copy
 
-from model.data import KIND, REFUSED, Area, Band, Gradient, Limit, National, Root, StaticSpeed, Stop, Track, Train
+from model.data import (KIND, REFUSED, Area, Band, Gradient, Limit, National, Root, StaticSpeed, Stop, Track, Train,
+                        keys_of)
 from model.toml_text import Raw, toml
 
 from .plain import KM, Journey, limit, plain, stop
@@ -21,23 +22,28 @@ def text(document, records=(READ,)):
     return (toml(document) + "%%\n" + "".join(line + "\n" for line in records)).encode()
 
 
+def changed(document, changes):
+    """A data part with values changed by their paths, or taken out where they are REFUSED."""
+    for (*way, last), value in changes:
+        table = document
+        for step in way:
+            table = table[step]
+        if value is REFUSED:
+            del table[last]
+        else:
+            table[last] = value
+    return document
+
+
 def spoilt(path, value, authority=None):
     """The full data part with one value changed, or taken out where it is REFUSED."""
-    document = full(authority)
-    *way, last = path
-    table = document
-    for step in way:
-        table = table[step]
-    if value is REFUSED:
-        del table[last]
-    else:
-        table[last] = value
-    return text(document)
+    return text(changed(full(authority), [(path, value)]))
 
 
-PLACES = [((), Root.keys), (("train",), Train.keys), (("train", "band", 1), Band.keys), (("national",), National.keys), (("track",), Track.keys),
-          (("track", "gradient", 1), Gradient.keys), (("track", "speed", 1), StaticSpeed.keys), (("track", "adhesion", 0), Area.keys),
-          (("authority",), [KIND, *Stop.keys]), (("authority",), Limit.keys)]
+PLACES = [((), Root.keys), (("train",), Train.keys), (("train", "band", 1), keys_of(Band, 1)),
+          (("national",), National.keys), (("track",), keys_of(Track, 1)),
+          (("track", "gradient", 1), Gradient.keys), (("track", "speed", 1), StaticSpeed.keys),
+          (("track", "adhesion", 0), Area.keys), (("authority",), [KIND, *Stop.keys]), (("authority",), Limit.keys)]
 OTHER = {int: [Raw("1.0"), Raw('"1"'), True], bool: [1, Raw('"true"')], str: [5], dict: [1, Raw("[]")], list: [1, Raw("{}"), Raw("[1]")]}
 
 
@@ -46,8 +52,8 @@ def keys():
     for turn, (way, key) in enumerate((way, key) for way, keys in PLACES for key in keys):
         authority = limit(5 * KM, 60) if key in Limit.keys else None
         name = "-".join([str(step) for step in way if not isinstance(step, int)] + [key.name])
-        most = 10 * KM if key.name in ("start", "end") else key.most
-        least = 4 if key.name == "end" else key.least
+        most = 10 * KM if key.name in ("start", "end") else key.most // key.old_unit
+        least = 4 if key.name == "end" else key.least // key.old_unit
         if key.kind is int and key.name != "version":
             value, shows = (least - 1, "below its range") if turn % 2 else (most + (key.name == "end" or key.name != "start"), "above its range")
         elif turn % 3 or key.absent is not REFUSED:
@@ -84,7 +90,7 @@ def lists():
     ]:
         yield name, shows, text(plain(track=change))
     for name, shows, uppers in [
-        ("bands-none", "no band", []), ("bands-too-many", "nine bands", [10, 20, 30, 40, 50, 60, 70, 80, None]),
+        ("bands-none", "no band", []),
         ("band-order", "a band whose upper speed is that of the one before", [50, 50, None]),
         ("band-without-upper", "a band that isn't the last has no upper speed", [50, None, None]),
         ("last-band-with-upper", "the last band has an upper speed", [50, 90]),
@@ -100,8 +106,8 @@ def lists():
 def orders():
     """Two rules broken at once: which of them is named."""
     for name, shows, changes in [
-        ("version-before-train", "the range of `version` comes before a missing `train`", [(("version",), 2), (("train",), REFUSED)]),
-        ("unknown-before-version", "an unknown key comes before the range of `version`", [(("more",), 1), (("version",), 2)]),
+        ("version-before-train", "the range of `version` comes before a missing `train`", [(("version",), 3), (("train",), REFUSED)]),
+        ("unknown-before-version", "an unknown key comes before the range of `version`", [(("more",), 1), (("version",), 3)]),
         ("kinds-before-ranges", "a wrong kind in the track comes before a range of the train",
          [(("train", "length"), 0), (("track", "length"), True)]),
         ("authority-before-train", "a range of the authority comes before one of the train",
@@ -116,22 +122,8 @@ def orders():
          [(("track", "speed"), []), (("track", "gradient", 1, "start"), 0)]),
         ("values-before-gap", "all values of a list come before its gap", [(("track", "gradient", 0, "start"), 1), (("track", "gradient", 1, "grad"), 81)]),
         ("kind-first", "`kind` comes before an unknown key", [(("authority", "more"), 1), (("authority", "kind"), 3)]),
-        ("ninth-band", "a rule broken in the ninth band comes before the count", [
-            (("train", "band"), [BANDS_OF_NINE[0] | {"upper": i} for i in range(1, 9)] + [{"emergency": 5}])]),
     ]:
-        document = full()
-        for path, value in changes:
-            table = document
-            for step in path[:-1]:
-                table = table[step]
-            if value is REFUSED:
-                del table[path[-1]]
-            else:
-                table[path[-1]] = value
-        yield name, shows, text(document)
-
-
-BANDS_OF_NINE = plain()["train"]["band"]
+        yield name, shows, text(changed(full(), changes))
 
 
 def accepted():
@@ -141,7 +133,7 @@ def accepted():
         "gradient": [{"start": 0, "grad": 0}], "adhesion": [{"start": 0, "end": 1}]}, stop(0, 0, 0))
     yield "all-least", "every number is the least that is accepted", Journey(least, home_mm=-1_000).read(0).read(100).spoilt(
         "read,10,-10000000,-10000000,-10000000,0,-300,0").spoilt("restrict,0,0,1,1,0").spoilt("revoke,0").spoilt("end,0,0,0").spoilt("limit,0,1").spoilt("read,10,0,0,0,1,-300,0")
-    bands = [{"upper": upper} for upper in (10, 20, 30, 40, 50, 60, 499)] + [{}]
+    bands = [{"upper": upper} for upper in (10, 20, 30, 40, 50, 60, 70, 80, 499)] + [{}]
     strong = [band | {"emergency": 400, "service": 400, "normal": 400, "kn_up": 1000, "kn_down": 1000} for band in bands]
     most = plain({"length": 150_000, "max_speed": 500, "rotating_mass": 50, "traction_cutoff_time": 300, "emergency_time": 300,
                   "service_time": 300}, strong, {"avadh": 20, "adhesion_max": 400, "guidance": True},

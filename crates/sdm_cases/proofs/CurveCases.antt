@@ -2,10 +2,11 @@
 -- 0.5 m/s². A change of the square by c needs at 1 m/s² the distance of 5 * 10^14 * c / (27 * 200,000,000,000) =
 -- 92.592.. * c grains, and of 185.185.. * c at 0.5 m/s². Feet lie at 1 m, 540,000,000,000 grains, but where it is
 -- said.
-use Rattle.std.proofs.Common.{◌≡◌, ℕ, pos, [], ◌∷◌, refl}
+use Rattle.std.proofs.Common.{◌≡◌, ℕ, pos, [], ◌∷◌, map, refl}
 use Rattle.sdm_num.specs.Fractions.{IsSame, whole}
 use Rattle.sdm_rules.specs.Slopes.{Slopes, meaning_of}
 use Rattle.sdm_rules.specs.Curves.{back, forward, arc_back, arc_forward, place_at, stepped, exact, exact_at}
+use Rattle.sdm_laws.specs.CurveLaws.{slack_of}
 
 -- ---- one band
 
@@ -115,3 +116,7 @@ seven_borders_back_cost_three_grains = refl
 seven_borders_forward_cost_four_grains : stepped eight_bands (pos 540_000_000_000) 10_000 0 ≡ pos 549_259_259_255
 unfolding stepped place_at arc_forward forward
 seven_borders_forward_cost_four_grains = refl
+
+-- the most grains that rounding may cost with eight, nine and ten bands: (16^8 - 1) / 15, (8^9 - 1) / 7, (8^10 - 1) / 7
+most_slack_by_bands : map slack_of (8 ∷ 9 ∷ 10 ∷ []) ≡ 286_331_153 ∷ 19_173_961 ∷ 153_391_689 ∷ []
+most_slack_by_bands = refl

@@ -19,6 +19,7 @@ plain_band = record {
   kn_up =
       pos 0;
   kn_down = pos 0;
+  emergency_reduced = None;
 }
 
 unfoldable pub plain_national : NationalFields
@@ -32,8 +33,8 @@ plain_national = record {
   inhibit_under_reading = false;
 }
 
--- a train of a length in cm, with a rotating mass, one band, gradients and areas of reduced adhesion; 160 km/h, no
--- times
+-- a train of a length in cm, with a rotating mass, one band, gradients in tenths of a per mille and areas of
+-- reduced adhesion; 160 km/h, no times, the special brake is used everywhere
 unfoldable pub plain_train_and_track : ℤ → Option ℤ → Band → List Gradient → List Area → TrainAndTrack
 plain_train_and_track length_cm mass band gradients areas = record {
   train = record {
@@ -58,6 +59,7 @@ plain_train_and_track length_cm mass band gradients areas = record {
       delayed = true;
     } ∷ [];
     areas = areas;
+    no_special = [];
   };
 }
 

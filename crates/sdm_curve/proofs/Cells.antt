@@ -46,6 +46,12 @@ pub start_cell : (d : MapData) (i : ℕ) → AreStarts d.starts → i < length d
     start_in d i ≡ pos (unsigned_abs (start_in d i))
 start_cell d i h known = let least = start_least d.starts i h known in omega (arith, ints)
 
+-- so the slope in that cell is the segment's
+slope_of_start : (d : MapData) (band i : ℕ) → AreStarts d.starts → i < length d.starts →
+    slope_on d band (pos (unsigned_abs (start_in d i))) ≡ slope_in d band i
+slope_of_start d band i h known =
+    ap (slope_on d band) (sym (start_cell d i h known)) ∙ slope_on_start d band i h known
+
 -- ---- strong and even bands
 
 pub strong_cells : (d : MapData) (band : ℕ) → AreStarts d.starts → IsStrongBand d band → (c : ℤ) →
@@ -55,13 +61,7 @@ strong_cells d band h strong c = strong (segment_of d.starts c) (segment_known d
 pub strong_segments : (d : MapData) (band : ℕ) → AreStarts d.starts →
     ((c : ℕ) → IsStrongSlope d.q (slope_on d band (pos c))) → IsStrongBand d band
 strong_segments d band h strong i known =
-    omega (
-      arith,
-      ints,
-      strong (unsigned_abs (start_in d i)),
-      slope_on_start d band i h known,
-      ap (slope_on d band) (start_cell d i h known),
-    )
+    rw (slope_of_start d band i h known) at (strong (unsigned_abs (start_in d i)))
 
 pub even_cells : (d : MapData) (band : ℕ) → AreStarts d.starts → IsEvenBand d band → (c c' : ℤ) →
     slope_on d band c ≤ℤ (pos (variation (bands_of d.uppers)) *ℤ slope_on d band c')
@@ -72,15 +72,8 @@ pub even_segments : (d : MapData) (band : ℕ) → AreStarts d.starts →
     ((c c' : ℕ) → slope_on d band (pos c) ≤ℤ (pos (variation (bands_of d.uppers)) *ℤ slope_on d band (pos c'))) →
     IsEvenBand d band
 even_segments d band h even i j known known' =
-    omega (
-      arith,
-      ints,
-      even (unsigned_abs (start_in d i)) (unsigned_abs (start_in d j)),
-      slope_on_start d band i h known,
-      ap (slope_on d band) (start_cell d i h known),
-      slope_on_start d band j h known',
-      ap (slope_on d band) (start_cell d j h known'),
-    )
+    rw (slope_of_start d band i h known, slope_of_start d band j h known') at
+    (even (unsigned_abs (start_in d i)) (unsigned_abs (start_in d j)))
 
 -- ---- the faults
 

@@ -1,14 +1,15 @@
 -- What a kept map stands for, cell by cell: the slope of the segment that holds the cell.
 use Rattle.std.proofs.Common.{◌^◌, ◌≡◌, ℕ, ℤ, pos, List, ◌+◌, ◌*◌, ◌<◌, ◌≤◌, ◌*ℤ◌, ◌≤ℤ◌, length, get_or, ap, arith}
-use Rattle.std.proofs.Common.{inl, inr, ◌∙◌}
+use Rattle.std.proofs.Common.{inl, inr, ◌∙◌, sym}
 use Rattle.std.proofs.lemmas.Int.{ints}
 use Rattle.std.proofs.lemmas.Bool.{cases_lt}
 use Rattle.std.proofs.lemmas.List.{get_or_default}
 use Rattle.std.proofs.Math.ListN.{get_or-map, length-map}
 use Rattle.sdm_num.specs.Units.{centimetre}
-use Rattle.sdm_num.proofs.Ints.{scale-scale}
+use Rattle.sdm_num.proofs.Ints.{scale-pos, scale-scale}
 use Rattle.sdm_rules.specs.Curves.{cell_start}
-use Rattle.sdm_rules.specs.Slopes.{SlopeMap, meaning_of, segment_of, bands_of, least_slope, IsUsable}
+use Rattle.sdm_rules.specs.Slopes.{SlopeMap, meaning_of, segment_of, bands_of, variation, least_slope}
+use Rattle.sdm_rules.specs.Slopes.{IsUsable}
 use Rattle.sdm_laws.proofs.OneBand.Segments.{IsRising, in_segment}
 use Rattle.sdm_curve.specs.Maps.{handed_in, slope_in, AreStarts, IsKeptMap}
 use Rattle.sdm_curve.proofs.Rows.{row_known}
@@ -40,6 +41,10 @@ slope_least m band c h le =
     (segment_known m.starts c h.well_formed.starts) in
     omega (arith, ints, slope_at_cell m band c)
 
+-- what is even in integers is so in naturals
+even_kept : (k a b : ℕ) (x y : ℤ) → pos a ≡ x → pos b ≡ y → x ≤ℤ (pos k *ℤ y) → a ≤ k * b
+even_kept k a b x y is_a is_b le = omega (arith, ints, rw (sym is_a, sym is_b, scale-pos k b) at le)
+
 -- kept slopes are usable
 pub usable_of : (m : SlopeMap) → IsKeptMap (handed_in m) → IsUsable (meaning_of m)
 usable_of m h = record {
@@ -52,9 +57,9 @@ usable_of m h = record {
   ];
   positive = λ band le c. omega (arith, h.well_formed.low_q, slope_least m band c h le);
   even = λ band le c c'.
-      let even = h.accepted.even band (omega arith) (segment_of m.starts c) (segment_of m.starts c')
-      (segment_known m.starts c h.well_formed.starts) (segment_known m.starts c' h.well_formed.starts) in
-      omega (arith, ints, slope_at_cell m band c, slope_at_cell m band c');
+      even_kept (variation (bands_of m.uppers)) _ _ _ _ (slope_at_cell m band c) (slope_at_cell m band c')
+      (h.accepted.even band (omega arith) (segment_of m.starts c) (segment_of m.starts c')
+      (segment_known m.starts c h.well_formed.starts) (segment_known m.starts c' h.well_formed.starts));
 }
 
 -- no segment begins before cell 0

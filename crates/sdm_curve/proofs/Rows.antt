@@ -7,10 +7,11 @@ use Rattle.std.proofs.lemmas.List.{get_or-take, get_or-drop, length-take}
 use Rattle.std.proofs.lemmas.Nat.{div-add-mod'}
 use Rattle.std.proofs.lemmas.Bool.{cases_lt}
 use Rattle.std.proofs.Math.Nat.{mul-le-mul_right}
+use Rattle.sdm_num.proofs.Ints.{scale-≤}
 use Rattle.sdm_rules.specs.Slopes.{bands_of, variation}
 use Rattle.sdm_curve.specs.Maps.{MapData, IsMapData, slope_in, IsEvenBand}
 use Rattle.sdm_curve.specs.Checks.{IsWeakIndex, IsRangeOf}
-use Rattle.sdm_curve.specs.Faults.{IsFirstWeakSlope, IsBandRange}
+use Rattle.sdm_curve.specs.Faults.{IsFirstWeakSlope, IsBandRange, IsFirstVariedBand}
 
 -- the row of a band ends within the list, and its places come after those of the lower bands
 pub row_fits : (bands n band : ℕ) → band < bands → (band + 1) * n ≤ bands * n
@@ -53,7 +54,19 @@ range_row d band least greatest given known h =
 -- a band whose range is narrow is even
 pub even_range : (d : MapData) (band : ℕ) (least greatest : ℤ) → IsBandRange d band least greatest →
     greatest ≤ℤ (pos (variation (bands_of d.uppers)) *ℤ least) → IsEvenBand d band
-even_range d band least greatest h le i j l m = omega (arith, ints, h.below i l, h.above j m)
+even_range d band least greatest h le i j l m =
+    omega (arith, ints, h.below i l, scale-≤ (variation (bands_of d.uppers)) _ _ (h.above j m))
+
+-- the greatest slope that may stand beside the least one, where the bands are as many as the map has
+pub most_beside : (d : MapData) (bands : ℕ) (least most : ℤ) → bands ≡ bands_of d.uppers →
+    most ≡ (pos (variation bands) *ℤ least) → most ≡ (pos (variation (bands_of d.uppers)) *ℤ least)
+most_beside d bands least most all is = is ∙ ap (λ (n : ℕ). pos (variation n) *ℤ least) all
+
+-- a range is told by equal numbers
+pub varied_told : (d : MapData) (band : ℕ) (least greatest told_least told_greatest : ℤ) → told_least ≡ least →
+    told_greatest ≡ greatest → IsFirstVariedBand d band least greatest →
+    IsFirstVariedBand d band told_least told_greatest
+varied_told d band least greatest told_least told_greatest least_is greatest_is h = rw (least_is, greatest_is) h
 
 -- a slope of the list, by band and segment
 pub slope_at_index : (d : MapData) (k : ℕ) →

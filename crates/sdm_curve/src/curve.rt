@@ -131,6 +131,8 @@ impl Curve {
 
     /// The place where the curve has the asked speed, on the safe side of the exact one. The map has the contents that
     /// the curve was made from, and that the speed was asked of.
+    // In line, at each of its callers: one function for all places costs some 15 instructions more at each call.
+    #[inline(always)]
     pub fn place_asked(&self, map: &BandMap, asked: &AskedSpeed) -> Early
         requires made { IsMadeFrom (meaning_of map.now) self.now }
         requires asked { IsAskedOf (meaning_of map.now) asked.now }
@@ -148,6 +150,7 @@ impl Curve {
 
     /// The place where the curve has the speed `v`, on the safe side of the exact one. The map has the contents that
     /// the curve was made from.
+    #[inline(always)]
     pub fn place(&self, map: &BandMap, v: Speed) -> Early
         requires { IsMadeFrom (meaning_of map.now) self.now }
         ensures at { result.at ≡ stepped (meaning_of map.now) self.now.place self.now.speed v }

@@ -51,6 +51,59 @@ fn sixteen_times_the_least_slope_is_the_most(rt: HostRuntime) {
     assert_eq!(rt; made.err(), Some(fault));
 }
 
+/// Upper speeds of 1 m/s, 2 m/s and so on: the first of them are those of a map of one band more.
+fn rising_uppers() -> [Speed; 10] {
+    let mut uppers = [Speed::of_mm_s(1_000); 10];
+    for i in 1..10 {
+        uppers[i] = Speed::of_mm_s(1_000 * (i as u32 + 1));
+    }
+    uppers
+}
+
+/// The slopes of ten bands in two segments: 0.05 m/s² at q = 100, and in the second segment so many in the last band.
+fn with_last(bands: usize, greatest: i64) -> [i64; 20] {
+    let mut slopes = [10_000_000_000; 20];
+    if 0 < bands && bands <= 10 {
+        slopes[2 * bands - 1] = greatest;
+    }
+    slopes
+}
+
+/// A map of so many bands accepts the greatest slope in its last band, and no greater one.
+fn assert_most(rt: &impl Abort, alloc: Global, bands: usize, greatest: i64) {
+    assert!(rt; 0 < bands && bands <= 10);
+    assert!(rt; greatest < 1_000_000_000_000);
+    let rising = rising_uppers();
+    let uppers = &rising[..bands - 1];
+    let slopes = with_last(bands, greatest);
+    let made = map_of(rt, alloc, 100, uppers, &[0, 10], &slopes[..2 * bands]);
+    assert!(rt; made.is_ok());
+    let slopes = with_last(bands, greatest + 1);
+    let made = map_of(rt, alloc, 100, uppers, &[0, 10], &slopes[..2 * bands]);
+    let fault = CurveFault::TooVaried {
+        band: bands as u32,
+        least: 10_000_000_000,
+        greatest: greatest + 1,
+    };
+    assert_eq!(rt; made.err(), Some(fault));
+}
+
+#[test]
+fn up_to_eight_bands_differ_sixteenfold_nine_and_ten_eightfold(rt: HostRuntime) {
+    assert_most(&rt, rt.alloc(), 7, 160_000_000_000);
+    assert_most(&rt, rt.alloc(), 8, 160_000_000_000);
+    assert_most(&rt, rt.alloc(), 9, 80_000_000_000);
+    assert_most(&rt, rt.alloc(), 10, 80_000_000_000);
+}
+
+#[test]
+fn a_map_has_ten_bands_at_most(rt: HostRuntime) {
+    let uppers = rising_uppers();
+    let slopes = [10_000_000_000; 11];
+    assert!(rt; is_map_data(100, &uppers[..9], &[0], &slopes[..10]));
+    assert!(rt; !is_map_data(100, &uppers, &[0], &slopes));
+}
+
 #[test]
 fn a_weak_slope_is_told_before_a_varied_band(rt: HostRuntime) {
     let slopes = [10_000_000_000, 170_000_000_000, 200_000_000_000, -7];

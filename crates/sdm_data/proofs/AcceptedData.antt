@@ -69,7 +69,8 @@ length_refused : (t : TrackData) (fault : TrackFault) → length_fault t.length_
     track_fault t ≡ Some fault
 unfolding track_fault
 length_refused t fault is = ap (λ first. or_else first (or_else (gradients_fault t.length_cm t.gradients)
-    (or_else (speeds_fault t.length_cm t.speeds) (areas_fault sections.Adhesion t.length_cm t.areas)))) is
+    (or_else (speeds_fault t.length_cm t.speeds) (or_else (areas_fault sections.Adhesion t.length_cm t.areas)
+    (areas_fault sections.NoSpecial t.length_cm t.no_special))))) is
 
 -- the fault is that of the length as it was given
 pub same_track_fault : (t : TrackData) (n : ℕ) → length_fault (pos n) ≡ length_fault t.length_cm →

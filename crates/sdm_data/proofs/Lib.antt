@@ -4,5 +4,10 @@ pub mod TableLaws
 pub mod EntriesLeft
 pub mod KeyLaws
 pub mod AcceptedData
+pub mod ReadData
+pub mod TablesBack
+pub mod Puts
+pub mod EntryTables
+pub mod PlainTables
 mod DivisionCases
 mod DataCases

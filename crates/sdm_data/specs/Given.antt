@@ -34,6 +34,7 @@ given_track t = record {
   gradients = t.gradients.items;
   speeds = t.speeds.items;
   areas = t.areas.items;
+  no_special = t.no_special.items;
 }
 
 -- the data of a journey but for its authority

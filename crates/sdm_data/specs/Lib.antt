@@ -4,5 +4,7 @@ pub mod Versions
 pub mod Members
 pub mod Sections
 pub mod Journey
+pub mod Tables
+pub mod Texts
 pub mod Views
 pub mod Given

@@ -10,6 +10,7 @@ use Rattle.sdm_rules.specs.declared.data.NationalFields.{NationalFields}
 use Rattle.sdm_rules.specs.declared.data.Gradient.{Gradient}
 use Rattle.sdm_rules.specs.declared.data.SpeedStep.{SpeedStep}
 use Rattle.sdm_rules.specs.declared.data.Area.{Area}
+use Rattle.sdm_rules.specs.declared.faults.Section.{Section}
 use Rattle.sdm_rules.specs.declared.faults.Section.TheVariants as sections
 use Rattle.sdm_rules.specs.declared.faults.DataFault.{DataFault}
 use Rattle.sdm_rules.specs.declared.faults.DataFault.TheVariants.{Value}
@@ -18,7 +19,7 @@ use Rattle.sdm_rules.specs.Data.{TrainData, TrackData}
 use Rattle.sdm_rules.specs.FaultLines.{key_names}
 use Rattle.sdm_rules.specs.Ranges.{longest_track, top_kmh}
 use Rattle.sdm_data.specs.declared.versions.Version.{Version}
-use Rattle.sdm_data.specs.Versions.{version_of, known_keys, end_keys, limit_keys}
+use Rattle.sdm_data.specs.Versions.{version_of, known_keys, in_tenths, end_keys, limit_keys}
 use Rattle.sdm_data.specs.Members.{◌>>=◌, SectionMembers, section_of, at, or_fault, known, required, optional, within}
 use Rattle.sdm_data.specs.Members.{number, as_tables, entries_from}
 
@@ -47,7 +48,7 @@ root_in members = do
 
 -- ---- the train
 
--- a speed band; in the last there is no upper speed
+-- a speed band; in the last there is no upper speed, and a reduced emergency deceleration may be absent
 unfoldable pub band_in : Version → ℕ → Members → Result Band DataFault
 band_in version index members = do
   let band = section_of sections.Band index members
@@ -60,6 +61,7 @@ band_in version index members = do
   kwet ← required as_integer band keys.BAND_KWET
   kn_up ← required as_integer band keys.BAND_KN_UP
   kn_down ← required as_integer band keys.BAND_KN_DOWN
+  emergency_reduced ← optional as_integer band keys.BAND_EMERGENCY_REDUCED
   Ok (record {
     upper = upper;
     emergency = emergency;
@@ -70,6 +72,7 @@ band_in version index members = do
         kwet;
     kn_up = kn_up;
     kn_down = kn_down;
+    emergency_reduced = emergency_reduced;
   })
 
 -- the train with all the bands that are given
@@ -130,7 +133,7 @@ gradient_in version index members = do
   _ ← known gradient (known_keys version sections.Gradient)
   start ← required as_integer gradient keys.GRADIENT_START
   grad ← required as_integer gradient keys.GRADIENT_GRAD
-  Ok (record { start = start; grad = grad })
+  Ok (record { start = start; grad = in_tenths version grad })
 
 -- an entry of the static speed profile; `delayed` may be absent and is true then
 unfoldable pub speed_in : Version → ℕ → Members → Result SpeedStep DataFault
@@ -142,11 +145,11 @@ speed_in version index members = do
   delayed ← optional as_bool speed keys.SPEED_DELAYED
   Ok (record { start = start; speed = kmh; delayed = unwrap_or delayed true })
 
--- an area of reduced adhesion
-unfoldable pub adhesion_in : Version → ℕ → Members → Result Area DataFault
-adhesion_in version index members = do
-  let area = section_of sections.Adhesion index members
-  _ ← known area (known_keys version sections.Adhesion)
+-- an area of one of the lists of areas
+unfoldable pub area_in : Section → Version → ℕ → Members → Result Area DataFault
+area_in list version index members = do
+  let area = section_of list index members
+  _ ← known area (known_keys version list)
   start ← required as_integer area keys.AREA_START
   end ← required as_integer area keys.AREA_END
   Ok (record { start = start; end = end })
@@ -155,7 +158,7 @@ adhesion_in version index members = do
 abbrev pub or_no_tables : Option (List Members) → List Members
 or_no_tables tables = unwrap_or tables []
 
--- the track; the gradients and the areas of reduced adhesion may be absent
+-- the track; the gradients and the lists of areas may be absent
 unfoldable pub track_in : Version → Members → Result TrackData DataFault
 track_in version members = do
   let track = section_of sections.Track 0 members
@@ -164,10 +167,12 @@ track_in version members = do
   gradient_tables ← optional as_tables track keys.TRACK_GRADIENT
   speed_tables ← required as_tables track keys.TRACK_SPEED
   area_tables ← optional as_tables track keys.TRACK_ADHESION
+  no_special_tables ← optional as_tables track keys.TRACK_NO_SPECIAL
   gradients ← entries_from (gradient_in version) 1 (or_no_tables gradient_tables)
   speeds ← entries_from (speed_in version) 1 speed_tables
-  areas ← entries_from (adhesion_in version) 1 (or_no_tables area_tables)
-  Ok (record { length_cm = length; gradients = gradients; speeds = speeds; areas = areas })
+  areas ← entries_from (area_in sections.Adhesion version) 1 (or_no_tables area_tables)
+  no_special ← entries_from (area_in sections.NoSpecial version) 1 (or_no_tables no_special_tables)
+  Ok (record { length_cm = length; gradients = gradients; speeds = speeds; areas = areas; no_special = no_special })
 
 -- ---- the authority
 

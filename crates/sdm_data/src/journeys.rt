@@ -31,9 +31,9 @@ pub struct JourneyData {
 /// tested in this order (own):
 ///
 /// - section by section: root, train, each band, national values, track, each gradient, each speed, each area of
-///   reduced adhesion, authority. In a section UnknownKey comes first, and then key by key Missing and WrongKind. In
-///   the authority `kind` comes first, since the other keys depend on it. Value comes after WrongKind of `version`, of
-///   `kind` and of the authority's numbers.
+///   reduced adhesion, each area in which the special brake is not used, authority. In a section UnknownKey comes
+///   first, and then key by key Missing and WrongKind. In the authority `kind` comes first, since the other keys depend
+///   on it. Value comes after WrongKind of `version`, of `kind` and of the authority's numbers.
 /// - Train, and then National, and then Track: what `Train::new`, `National::new` and `Track::new` refuse.
 #[tactic(auto, unfolding(crate::specs::Journey::data_of))]
 pub fn data_of(alloc: Global, table: &Table) -> Result<JourneyData, DataFault>

@@ -4,9 +4,13 @@
 
 mod data_parts;
 mod faults;
+mod versions;
 
-use self::data_parts::{DISTINCT, DISTINCT_DATA, PLAIN_DATA, REALISTIC_DATA};
-use self::faults::{BAND, FAULTS, SHORT};
+use self::data_parts::{
+    DISTINCT, DISTINCT_DATA, DISTINCT_DATA_OF_TWO, DISTINCT_OF_TWO, PLAIN_DATA, REALISTIC_DATA,
+};
+use self::faults::{AREA, BAND, FAULTS, SHORT};
+use self::versions::{SAME_DATA, SHORT_DATA, VERSION_ONE, VERSION_TWO};
 use crate::{
     At, BASE_PART, DataFault, DocumentFault, JourneyData, REALISTIC_PART, data_of, read_document,
     split,
@@ -136,6 +140,10 @@ fn told_track(alloc: Global, data: &JourneyData, text: &mut String) -> Result<()
         let area = track.area(i);
         text.push_str(&format!(in alloc; "{area:?}\n")?)?;
     }
+    for i in 0..track.no_special_count() {
+        let area = track.no_special(i);
+        text.push_str(&format!(in alloc; "no_special {area:?}\n")?)?;
+    }
     Ok(())
 }
 
@@ -168,16 +176,28 @@ fn data_parts_are_read_to_their_values(rt: HostRuntime) -> Result<(), Fail> {
     assert_eq!(rt; realistic.as_str(), REALISTIC_DATA);
     let distinct = outcome(rt.alloc(), DISTINCT)?;
     assert_eq!(rt; distinct.as_str(), DISTINCT_DATA);
+    let distinct = outcome(rt.alloc(), DISTINCT_OF_TWO)?;
+    assert_eq!(rt; distinct.as_str(), DISTINCT_DATA_OF_TWO);
     Ok(())
 }
 
-/// The text of a row: line feeds and bands in their places.
+/// 65 areas, one more than a list may have.
+fn put_areas(text: &mut String) -> Result<(), AllocError> {
+    for _ in 0..65 {
+        text.push_str(AREA)?;
+    }
+    Ok(())
+}
+
+/// The text of a row: line feeds, bands and areas in their places.
 fn written_out(alloc: Global, short: &str) -> Result<String, AllocError> {
     let mut text = String::new(alloc);
     for c in short.chars() {
         match c {
             ';' => text.push('\n')?,
-            '@' => text.push_str(BAND)?,
+            '$' => text.push_str(BAND)?,
+            '@' => text.push_str(&format!(in alloc; "{{{BAND}}}")?)?,
+            '#' => put_areas(&mut text)?,
             other => text.push(other)?,
         }
     }
@@ -192,12 +212,12 @@ fn changed(alloc: Global, text: &str, change: &str) -> Result<String, &'static s
     format!(in alloc; "{before}{new}{after}").map_err(|_| "memory")
 }
 
-/// The text that a row tells of.
-fn text_of(alloc: Global, changes: &str) -> Result<String, &'static str> {
+/// The text that a row tells of: changes to this one, or a text of its own.
+fn text_of(alloc: Global, base: &str, changes: &str) -> Result<String, &'static str> {
     if let Some(text) = changes.trim().strip_prefix("text:") {
         return written_out(alloc, text).map_err(|_| "memory");
     }
-    let mut text = String::from_str(alloc, SHORT).map_err(|_| "memory")?;
+    let mut text = String::from_str(alloc, base).map_err(|_| "memory")?;
     for change in changes.split('&') {
         text = changed(alloc, &text, change)?;
     }
@@ -210,9 +230,61 @@ fn the_first_rule_that_is_broken_is_named(rt: HostRuntime) -> Result<(), Fail> {
         let Some((fault, changes)) = row.split_once('|') else {
             continue;
         };
-        let text = text_of(rt.alloc(), changes)?;
+        let text = text_of(rt.alloc(), SHORT, changes)?;
         let found = outcome(rt.alloc(), &text)?;
         assert_eq!(rt; found.as_str(), fault.trim(), "{row}");
+    }
+    Ok(())
+}
+
+/// The first row of a table whose text does not come to the line that the row begins with.
+fn first_missed<'a>(
+    alloc: Global,
+    base: &str,
+    rows: &'a str,
+) -> Result<Option<&'a str>, &'static str> {
+    for row in rows.lines() {
+        let Some((line, changes)) = row.split_once('|') else {
+            continue;
+        };
+        let text = text_of(alloc, base, changes)?;
+        let found = outcome(alloc, &text).map_err(|_| "memory")?;
+        if !found.lines().any(|other| other == line.trim()) {
+            return Ok(Some(row));
+        }
+    }
+    Ok(None)
+}
+
+#[test]
+fn version_1_writes_gradients_in_per_mille_and_lacks_two_keys(rt: HostRuntime) -> Result<(), Fail> {
+    assert_eq!(rt; first_missed(rt.alloc(), SHORT, VERSION_ONE)?, None);
+    Ok(())
+}
+
+/// `SHORT` in version 2.
+fn short_in_two(alloc: Global) -> Result<String, &'static str> {
+    changed(alloc, SHORT, "version = 1 ~ version = 2")
+}
+
+#[test]
+fn version_2_writes_gradients_in_tenths_and_has_all_keys(rt: HostRuntime) -> Result<(), Fail> {
+    let short = short_in_two(rt.alloc())?;
+    assert_eq!(rt; first_missed(rt.alloc(), &short, VERSION_TWO)?, None);
+    Ok(())
+}
+
+#[test]
+fn both_versions_write_the_same_data(rt: HostRuntime) -> Result<(), Fail> {
+    let realistic = changed(rt.alloc(), REALISTIC_PART, "version = 1 ~ version = 2")?;
+    let realistic = changed(rt.alloc(), &realistic, "grad = -5 ~ grad = -50")?;
+    let found = outcome(rt.alloc(), &realistic)?;
+    assert_eq!(rt; found.as_str(), REALISTIC_DATA);
+    let short = short_in_two(rt.alloc())?;
+    for change in SAME_DATA.lines().filter(|line| !line.is_empty()) {
+        let text = text_of(rt.alloc(), &short, change)?;
+        let found = outcome(rt.alloc(), &text)?;
+        assert_eq!(rt; found.as_str(), SHORT_DATA, "{change}");
     }
     Ok(())
 }

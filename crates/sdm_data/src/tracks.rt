@@ -1,16 +1,16 @@
-//! The section `track` with its lists: gradients (SUBSET-026-3 3.13.4), the static speed profile (3.11.3) and areas of
-//! reduced adhesion (3.12).
+//! The section `track` with its lists: gradients (SUBSET-026-3 3.13.4), the static speed profile (3.11.3), areas of
+//! reduced adhesion (3.12), and areas in which the special brake is not used (own form).
 
 ghost use Rattle.std.specs.Prelude.{◌≡◌, ◌≢◌, IfErr, IfOk, Ok, Err, None, option_map, pos};
 ghost use Rattle.std.specs.Result.{result_err};
 ghost use Rattle.toml.specs.View.{table_view};
 ghost use Rattle.sdm_rules.specs.Ranges.{length_fault, track_fault};
-ghost use Rattle.sdm_data.specs.Sections.{adhesion_in, gradient_in, speed_in, track_in};
+ghost use Rattle.sdm_data.specs.Sections.{area_in, gradient_in, speed_in, track_in};
 ghost use Rattle.sdm_data.specs.Given.{given_track};
 
 use crate::lists::{ReadEntry, entries};
 use crate::section_tables::SectionTable;
-use crate::versions::Version;
+use crate::versions::{Version, in_tenths};
 use sdm_rules::{Area, DataFault, Gradient, Section, SpeedStep, keys};
 use sdm_track::Track;
 use std::alloc::Global;
@@ -23,27 +23,38 @@ pub struct GivenTrack {
     pub gradients: Vec<Gradient>,
     pub speeds: Vec<SpeedStep>,
     pub areas: Vec<Area>,
+    pub no_special: Vec<Area>,
 }
 
 impl ReadEntry for Gradient {
-    ghost entry_in = { gradient_in };
+    ghost entry_in = { λ list. gradient_in };
 
     #[tactic(auto, unfolding(crate::specs::Sections::gradient_in))]
-    fn read(version: Version, index: u32, table: &Table) -> Result<Gradient, DataFault> {
+    fn read(
+        _list: Section,
+        version: Version,
+        index: u32,
+        table: &Table,
+    ) -> Result<Gradient, DataFault> {
         let gradient = SectionTable::new(table, Section::Gradient, index);
         gradient.known_in(version)?;
         Ok(Gradient {
             start: gradient.integer(keys::GRADIENT_START)?,
-            grad: gradient.integer(keys::GRADIENT_GRAD)?,
+            grad: in_tenths(version, gradient.integer(keys::GRADIENT_GRAD)?),
         })
     }
 }
 
 impl ReadEntry for SpeedStep {
-    ghost entry_in = { speed_in };
+    ghost entry_in = { λ list. speed_in };
 
     #[tactic(auto, unfolding(crate::specs::Sections::speed_in))]
-    fn read(version: Version, index: u32, table: &Table) -> Result<SpeedStep, DataFault> {
+    fn read(
+        _list: Section,
+        version: Version,
+        index: u32,
+        table: &Table,
+    ) -> Result<SpeedStep, DataFault> {
         let speed = SectionTable::new(table, Section::Speed, index);
         speed.known_in(version)?;
         Ok(SpeedStep {
@@ -55,11 +66,11 @@ impl ReadEntry for SpeedStep {
 }
 
 impl ReadEntry for Area {
-    ghost entry_in = { adhesion_in };
+    ghost entry_in = { area_in };
 
-    #[tactic(auto, unfolding(crate::specs::Sections::adhesion_in))]
-    fn read(version: Version, index: u32, table: &Table) -> Result<Area, DataFault> {
-        let area = SectionTable::new(table, Section::Adhesion, index);
+    #[tactic(auto, unfolding(crate::specs::Sections::area_in))]
+    fn read(list: Section, version: Version, index: u32, table: &Table) -> Result<Area, DataFault> {
+        let area = SectionTable::new(table, list, index);
         area.known_in(version)?;
         Ok(Area {
             start: area.integer(keys::AREA_START)?,
@@ -81,11 +92,13 @@ pub fn track_in(alloc: Global, version: Version, table: &Table) -> Result<GivenT
     let gradients = track.tables_if_any(keys::TRACK_GRADIENT)?.unwrap_or(&[]);
     let speeds = track.tables(keys::TRACK_SPEED)?;
     let areas = track.tables_if_any(keys::TRACK_ADHESION)?.unwrap_or(&[]);
+    let no_special = track.tables_if_any(keys::TRACK_NO_SPECIAL)?.unwrap_or(&[]);
     Ok(GivenTrack {
         length,
-        gradients: entries(alloc, version, gradients)?,
-        speeds: entries(alloc, version, speeds)?,
-        areas: entries(alloc, version, areas)?,
+        gradients: entries(alloc, Section::Gradient, version, gradients)?,
+        speeds: entries(alloc, Section::Speed, version, speeds)?,
+        areas: entries(alloc, Section::Adhesion, version, areas)?,
+        no_special: entries(alloc, Section::NoSpecial, version, no_special)?,
     })
 }
 
@@ -96,7 +109,13 @@ impl GivenTrack {
         ensures kept { IfOk result (λ track. track ≡ given_track self) }
     {
         let length_cm = self.length_cm();
-        match Track::new(length_cm, self.gradients, self.speeds, self.areas) {
+        match Track::new(
+            length_cm,
+            self.gradients,
+            self.speeds,
+            self.areas,
+            self.no_special,
+        ) {
             Ok(track) => Ok(track),
             Err(fault) => Err(DataFault::Track(fault)),
         }

@@ -26,10 +26,15 @@ pub struct GivenTrain {
 }
 
 impl ReadEntry for Band {
-    ghost entry_in = { band_in };
+    ghost entry_in = { λ list. band_in };
 
     #[tactic(auto, unfolding(crate::specs::Sections::band_in))]
-    fn read(version: Version, index: u32, table: &Table) -> Result<Band, DataFault> {
+    fn read(
+        _list: Section,
+        version: Version,
+        index: u32,
+        table: &Table,
+    ) -> Result<Band, DataFault> {
         let band = SectionTable::new(table, Section::Band, index);
         band.known_in(version)?;
         Ok(Band {
@@ -41,6 +46,7 @@ impl ReadEntry for Band {
             kwet: band.integer(keys::BAND_KWET)?,
             kn_up: band.integer(keys::BAND_KN_UP)?,
             kn_down: band.integer(keys::BAND_KN_DOWN)?,
+            emergency_reduced: band.integer_if_any(keys::BAND_EMERGENCY_REDUCED)?,
         })
     }
 }
@@ -66,7 +72,8 @@ pub fn train_in(alloc: Global, version: Version, table: &Table) -> Result<GivenT
         bands: [BASE_BAND; MOST_BANDS],
         band_count: 0,
     };
-    let bands = entries(alloc, version, train.tables(keys::TRAIN_BAND)?)?;
+    let bands = train.tables(keys::TRAIN_BAND)?;
+    let bands = entries(alloc, Section::Band, version, bands)?;
     Ok(GivenTrain { own, bands })
 }
 

@@ -1,7 +1,7 @@
 -- The same lies under the train with its front end in two cells, where nothing changes past the first up to the
 -- second: each gradient has begun for both or for neither, and each area is in force for both or for neither.
 use Rattle.std.proofs.Common.{◌≡◌, ℕ, suc, ℤ, pos, List, [], ◌∷◌, length, get_or, Bool, int_le, int_lt, ◌<◌, ◌+ℤ◌}
-use Rattle.std.proofs.Common.{◌≤ℤ◌, ◌<ℤ◌, refl, sym, ◌∙◌, ap₂, arith}
+use Rattle.std.proofs.Common.{◌≤ℤ◌, ◌<ℤ◌, refl, sym, ◌∙◌, ap, ap₂, arith}
 use Rattle.std.proofs.lemmas.Int.{ints, by_lt_z}
 use Rattle.sdm_num.proofs.Comparisons.{le_is, not_le_is, lt_is, not_lt_is}
 use Rattle.sdm_rules.specs.declared.data.Area.{Area}
@@ -14,6 +14,11 @@ use Rattle.sdm_decel.specs.StretchCells.{AreGradientsUnder}
 -- nothing changes past the cell `s` up to the cell `c`
 pub record IsBegun (s c cell : ℤ) : Type 0 where
   pub begun : cell ≤ℤ c → cell ≤ℤ s
+
+-- so where areas of a list come into force, and where the rear end has left them
+pub record AreBegun (s c : ℤ) (length_cm : ℕ) (areas : List Area) : Type 0 where
+  pub starts : (k : ℕ) (d : Area) → k < length areas → IsBegun s c (get_or areas k d).start
+  pub ends : (k : ℕ) (d : Area) → k < length areas → IsBegun s c ((get_or areas k d).end +ℤ pos length_cm)
 
 module _ (s c : ℤ) (le : s ≤ℤ c) where
   le_same : (b : ℤ) → IsBegun s c b → int_le b c ≡ int_le b s
@@ -45,16 +50,16 @@ module _ (s c : ℤ) (le : s ≤ℤ c) where
 
   -- ---- areas
 
-  any_same : (length_cm : ℤ) (areas : List Area) → ((k : ℕ) (d : Area) → k < length areas →
-      IsBegun s c (get_or areas k d).start) →
-      ((k : ℕ) (d : Area) → k < length areas → IsBegun s c ((get_or areas k d).end +ℤ length_cm)) →
-      any_in_force areas length_cm c ≡ any_in_force areas length_cm s
-  any_same length_cm [] starts ends = refl
-  any_same length_cm (a ∷ more) starts ends =
-      let front = le_same a.start (starts 0 a (omega arith)) in
-      let rear = lt_same (a.end +ℤ length_cm) (ends 0 a (omega arith)) in
-      let rest = any_same length_cm more (λ k d l. starts (suc k) d (omega arith))
-      (λ k d l. ends (suc k) d (omega arith)) in
+  any_same : (length_cm : ℕ) (areas : List Area) → AreBegun s c length_cm areas →
+      any_in_force areas (pos length_cm) c ≡ any_in_force areas (pos length_cm) s
+  any_same length_cm [] h = refl
+  any_same length_cm (a ∷ more) h =
+      let front = le_same a.start (h.starts 0 a (omega arith)) in
+      let rear = lt_same (a.end +ℤ pos length_cm) (h.ends 0 a (omega arith)) in
+      let rest = any_same length_cm more (record {
+        starts = λ k d l. h.starts (suc k) d (omega arith);
+        ends = λ k d l. h.ends (suc k) d (omega arith);
+      }) in
       cc
 
   -- ---- the track under the train
@@ -62,11 +67,13 @@ module _ (s c : ℤ) (le : s ≤ℤ c) where
   pub under_same : (track : TrackData) (length_cm : ℕ) (segments : List Segment) →
       AreGradientsUnder track length_cm segments →
       ((k : ℕ) (d : Segment) → k < length segments → IsBegun s c (get_or segments k d).start) →
-      ((k : ℕ) (d : Area) → k < length track.areas → IsBegun s c (get_or track.areas k d).start) →
-      ((k : ℕ) (d : Area) → k < length track.areas → IsBegun s c ((get_or track.areas k d).end +ℤ pos length_cm)) →
+      AreBegun s c length_cm track.areas → AreBegun s c length_cm track.no_special →
       under_train track (pos length_cm) c ≡ under_train track (pos length_cm) s
-  under_same track length_cm segments given gradients starts ends =
+  under_same track length_cm segments given gradients adhesion no_special =
       let grad = sym (given.at c) ∙ value_same (λ x. x.start) (λ x. x.value) (pos 0) segments gradients ∙ given.at s in
-      let reduced = any_same (pos length_cm) track.areas starts ends in
-      let under : ℤ → Bool → UnderTrain = λ g r. record { grad = g; reduced = r } in
-      ap₂ under grad reduced
+      let reduced = any_same length_cm track.areas adhesion in
+      let unaided = any_same length_cm track.no_special no_special in
+      let under : ℤ → Bool → Bool → UnderTrain = λ g r u. record { grad = g; reduced = r; unaided = u } in
+      ap₂ (λ (g : ℤ) (r : Bool). under g r (any_in_force track.no_special (pos length_cm) c)) grad reduced
+      ∙ ap (λ (u : Bool). under (under_train track (pos length_cm) s).grad
+      (any_in_force track.areas (pos length_cm) s) u) unaided

@@ -43,13 +43,11 @@ rest m (pos n) low high = omega (arith, ints)
 rest m (negsuc n) low high = absurd (omega (arith, ints))
 
 -- the emergency brake's deceleration, in naturals
-pub brake_safe_is : (avadh : ℕ) (b : Band) → IsBand b →
-    pos (unsigned_abs b.kdry * (20 * unsigned_abs b.kwet + avadh * (1000 - unsigned_abs b.kwet))
-    * unsigned_abs b.emergency)
-    ≡ brake_safe (pos avadh) b b.emergency
-brake_safe_is avadh b h =
+pub brake_safe_is : (avadh emergency : ℕ) (b : Band) → IsBand b →
+    pos (unsigned_abs b.kdry * (20 * unsigned_abs b.kwet + avadh * (1000 - unsigned_abs b.kwet)) * emergency)
+    ≡ brake_safe (pos avadh) b (pos emergency)
+brake_safe_is avadh emergency b h =
     let kdry = nat_is b.kdry (omega (arith, ints, h.kdry.0)) in
     let kwet = nat_is b.kwet (omega (arith, ints, h.kwet.0)) in
     let dry = rest 1000 b.kwet (omega (arith, ints, h.kwet.0)) h.kwet.1 in
-    let emergency = nat_is b.emergency (omega (arith, ints, h.emergency.0)) in
-    rw (← kdry, ← emergency, ← dry, ← kwet) refl
+    rw (← kdry, ← dry, ← kwet) refl

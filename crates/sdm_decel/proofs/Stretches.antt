@@ -19,13 +19,13 @@ use Rattle.sdm_rules.specs.Slopes.{segment_of}
 use Rattle.sdm_rules.specs.Ranges.{longest_track, longest_train, most_areas, most_gradients}
 use Rattle.sdm_laws.proofs.OneBand.Segments.{in_segment, IsInSegment}
 use Rattle.sdm_track.specs.declared.under_train.Segment.{Segment}
-use Rattle.sdm_track.specs.Ranges.{IsTrack, IsArea}
+use Rattle.sdm_track.specs.Ranges.{IsTrack, IsArea, AreAreas}
 use Rattle.sdm_track.specs.Segments.{AreSegments}
 use Rattle.sdm_curve.specs.Maps.{AreStarts}
 use Rattle.sdm_curve.proofs.Meanings.{rising_of, start_least}
 use Rattle.sdm_decel.specs.StretchCells.{AreGradientsUnder, gradient_starts, area_ends, AreStretches}
 use Rattle.sdm_decel.proofs.Sizes.{nat_is}
-use Rattle.sdm_decel.proofs.Sides.{IsBegun, under_same}
+use Rattle.sdm_decel.proofs.Sides.{IsBegun, AreBegun, under_same}
 
 -- ---- the cells of one kind
 
@@ -122,53 +122,72 @@ begun_is starts c i x b h here has is = record {
 -- ---- the stretches
 
 -- all cells, as they are gathered
-pub gathered : (none first gradients all : List ℕ) (segments : List Segment) (length_cm : ℕ) (areas : List Area) →
+pub gathered : (none first gradients adhesion all : List ℕ) (segments : List Segment) (length_cm : ℕ)
+    (areas no_special : List Area) →
     none ≡ [] → first ≡ none ++ 0 ∷ [] → gradients ≡ first ++ gradient_starts segments →
-    all ≡ gradients ++ area_ends length_cm areas →
-    all ≡ (0 ∷ []) ++ gradient_starts segments ++ area_ends length_cm areas
-gathered none first gradients all segments length_cm areas none_is first_is gradients_is all_is =
-    rw (all_is, gradients_is, first_is, none_is) refl
+    adhesion ≡ gradients ++ area_ends length_cm areas → all ≡ adhesion ++ area_ends length_cm no_special →
+    all ≡ (0 ∷ []) ++ gradient_starts segments ++ area_ends length_cm areas ++ area_ends length_cm no_special
+gathered none first gradients adhesion all segments length_cm areas no_special none_is first_is gradients_is
+    adhesion_is all_is = rw (all_is, adhesion_is, gradients_is, first_is, none_is) refl
 
 -- areas of a track lie on the longest one
-pub on_longest : (track : TrackData) (areas : List Area) → IsTrack track → areas ≡ track.areas →
-    All (IsArea (pos longest_track)) areas
-on_longest track areas in_range is =
-    rw is (λ k d l. let a = in_range.areas.each k d l in record {
+pub on_longest : (track_cm : ℤ) (listed areas : List Area) → track_cm ≤ℤ pos longest_track → AreAreas track_cm listed →
+    areas ≡ listed → All (IsArea (pos longest_track)) areas
+on_longest track_cm listed areas long in_range is =
+    rw is (λ k d l. let a = in_range.each k d l in record {
       not_before = a.not_before;
       some_cell =
           a.some_cell;
-      on_track = omega (arith, ints, a.on_track, in_range.longest);
+      on_track = omega (arith, ints, a.on_track, long);
     })
 
 module _ (track : TrackData) (length_cm : ℕ) (segments : List Segment) (all cells : List ℕ)
     (given : AreGradientsUnder track length_cm segments) (in_range : IsTrack track) (short : length_cm ≤ longest_train)
-    (all_is : all ≡ (0 ∷ []) ++ gradient_starts segments ++ area_ends length_cm track.areas) where
+    (all_is : all ≡ (0 ∷ []) ++ gradient_starts segments ++ area_ends length_cm track.areas
+    ++ area_ends length_cm track.no_special) where
+  -- the cells but for those of the areas
+  abbrev level : List ℕ
+  level = (0 ∷ []) ++ gradient_starts segments
+
   near_all : All IsNear all
-  near_all = rw all_is (All-append IsNear ((0 ∷ []) ++ gradient_starts segments) _
+  near_all = rw all_is (All-append IsNear (level ++ area_ends length_cm track.areas) _
+      (All-append IsNear level _
       (All-append IsNear (0 ∷ []) _ (All-cons IsNear 0 [] (omega arith) (All-nil IsNear))
       (near_gradients segments given.in_range))
       (near_areas track.length_cm length_cm track.areas in_range.longest short in_range.areas.each))
+      (near_areas track.length_cm length_cm track.no_special in_range.longest short in_range.no_special.each))
 
-  few_all : length all ≤ 2 * most_gradients + 2 * most_areas
+  few_all : length all ≤ 2 * most_gradients + 4 * most_areas
   few_all = rw all_is (omega (
     arith,
     given.in_range.few,
     in_range.areas.few,
+    in_range.no_special.few,
     length_areas length_cm track.areas,
-    length-append ((0 ∷ []) ++ gradient_starts segments) (area_ends length_cm track.areas),
+    length_areas length_cm track.no_special,
+    length-append (level ++ area_ends length_cm track.areas) (area_ends length_cm track.no_special),
+    length-append level (area_ends length_cm track.areas),
     length-map segments (λ (s : Segment). unsigned_abs s.start),
   ))
 
+  -- what is among the cells but for those of the areas is among all
+  has_level : (x : ℕ) → Contains level x → Contains all x
+  has_level x h = rw all_is (Contains-append_left (level ++ area_ends length_cm track.areas) _ x
+      (Contains-append_left level (area_ends length_cm track.areas) x h))
+
   has_zero : Contains all 0
-  has_zero = rw all_is (Contains-append_left ((0 ∷ []) ++ gradient_starts segments) _ 0
-      (Contains-append_left (0 ∷ []) (gradient_starts segments) 0 (0, omega arith, refl)))
+  has_zero = has_level 0 (Contains-append_left (0 ∷ []) (gradient_starts segments) 0 (0, omega arith, refl))
 
   has_segment : (k : ℕ) (d : Segment) → k < length segments → Contains all (unsigned_abs (get_or segments k d).start)
-  has_segment k d lt = rw all_is (Contains-append_left ((0 ∷ []) ++ gradient_starts segments) _ _
-      (Contains-append_right (0 ∷ []) (gradient_starts segments) _ (has_gradient segments k d lt)))
+  has_segment k d lt =
+      has_level _ (Contains-append_right (0 ∷ []) (gradient_starts segments) _ (has_gradient segments k d lt))
 
-  has_area : (x : ℕ) → Contains (area_ends length_cm track.areas) x → Contains all x
-  has_area x h = rw all_is (Contains-append_right ((0 ∷ []) ++ gradient_starts segments) _ x h)
+  has_adhesion : (x : ℕ) → Contains (area_ends length_cm track.areas) x → Contains all x
+  has_adhesion x h = rw all_is (Contains-append_left (level ++ area_ends length_cm track.areas) _ x
+      (Contains-append_right level (area_ends length_cm track.areas) x h))
+
+  has_no_special : (x : ℕ) → Contains (area_ends length_cm track.no_special) x → Contains all x
+  has_no_special x h = rw all_is (Contains-append_right (level ++ area_ends length_cm track.areas) _ x h)
 
   -- what holds of all cells holds of them in order
   pub near_cells : ((x : ℕ) → Contains cells x → Contains all x) → All IsNear cells
@@ -182,19 +201,31 @@ module _ (track : TrackData) (length_cm : ℕ) (segments : List Segment) (all ce
     here : (c : ℤ) → IsInSegment (map pos cells) c (segment_of (map pos cells) c)
     here c = in_segment (map pos cells) c (rising_of _ starts) starts.some
 
-    same_from : (c : ℤ) → get_or (map pos cells) (segment_of (map pos cells) c) (pos 0) ≤ℤ c →
-        under_train track (pos length_cm) c
-        ≡ under_train track (pos length_cm) (get_or (map pos cells) (segment_of (map pos cells) c) (pos 0))
+    -- the first cell of the stretch of a cell
+    abbrev first_of : ℤ → ℤ
+    first_of c = get_or (map pos cells) (segment_of (map pos cells) c) (pos 0)
+
+    begun_at : (c : ℤ) (x : ℕ) (b : ℤ) → Contains all x → pos x ≡ b → IsBegun (first_of c) c b
+    begun_at c x b h is = begun_is (map pos cells) c (segment_of (map pos cells) c) (pos x) b starts (here c)
+        (has_nat cells x (keeps x h)) is
+
+    areas_begun : (c : ℤ) (areas : List Area) → AreAreas track.length_cm areas →
+        ((x : ℕ) → Contains (area_ends length_cm areas) x → Contains all x) → AreBegun (first_of c) c length_cm areas
+    areas_begun c areas listed has = record {
+      starts = λ k d l. begun_at c _ _ (has _ (has_start length_cm areas k d l))
+          (nat_is _ (listed.each k d l).not_before);
+      ends = λ k d l. begun_at c _ _ (has _ (has_end length_cm areas k d l))
+          (nat_is _ (let a = listed.each k d l in let before = a.not_before in let some =
+          a.some_cell in omega (arith, ints)));
+    }
+
+    same_from : (c : ℤ) → first_of c ≤ℤ c →
+        under_train track (pos length_cm) c ≡ under_train track (pos length_cm) (first_of c)
     same_from c le =
-        let begun = λ (x : ℕ) (b : ℤ) (h : Contains all x) (is : pos x ≡ b). begun_is (map pos cells) c
-        (segment_of (map pos cells) c) (pos x) b starts (here c) (has_nat cells x (keeps x h)) is in
-        under_same (get_or (map pos cells) (segment_of (map pos cells) c) (pos 0)) c le track length_cm segments given
-        (λ k d l. begun _ _ (has_segment k d l) (nat_is _ (given.in_range.each k d l).not_before))
-        (λ k d l. begun _ _ (has_area _ (has_start length_cm track.areas k d l))
-        (nat_is _ (in_range.areas.each k d l).not_before))
-        (λ k d l. begun _ _ (has_area _ (has_end length_cm track.areas k d l))
-        (nat_is _ (let a = in_range.areas.each k d l in let before = a.not_before in let some =
-        a.some_cell in omega (arith, ints))))
+        under_same (first_of c) c le track length_cm segments given
+        (λ k d l. begun_at c _ _ (has_segment k d l) (nat_is _ (given.in_range.each k d l).not_before))
+        (areas_begun c track.areas in_range.areas has_adhesion)
+        (areas_begun c track.no_special in_range.no_special has_no_special)
 
     -- a cell from 0 on lies at the first cell of its segment or past it
     from_start : (c : ℤ) (i : ℕ) → pos 0 ≤ℤ c → IsInSegment (map pos cells) c i → get_or (map pos cells) i (pos 0) ≤ℤ c

@@ -74,6 +74,7 @@ pub fn stretches(
     cells.push(0)?;
     push_gradients(&mut cells, segments)?;
     push_areas(&mut cells, track.areas(), length_cm)?;
+    push_areas(&mut cells, track.no_special_areas(), length_cm)?;
     put_in_order(&mut cells);
     starts_of(alloc, &cells)
 }

@@ -2,30 +2,31 @@
 //! exact.
 
 ghost use Rattle.std.specs.Prelude.{◌≡◌, ℤ, pos, neg_ℤ, unsigned_abs, ◌^◌, ◌+◌, ◌-◌, ◌*◌, ◌*ℤ◌, ◌<◌, ◌≤◌, ◌≤ℤ◌};
-ghost use Rattle.sdm_rules.specs.Decelerations.{q_of, brake_safe, brake_under, mass_factor, a_gradient, kn_of};
-ghost use Rattle.sdm_rules.specs.Decelerations.{kn_term, slope_under};
+ghost use Rattle.sdm_rules.specs.Decelerations.{q_of, emergency_in, brake_safe, brake_under, mass_factor, a_gradient};
+ghost use Rattle.sdm_rules.specs.Decelerations.{kn_of, kn_term, slope_under};
 ghost use Rattle.sdm_rules.specs.Ranges.{steepest};
 ghost use Rattle.sdm_decel.specs.Slopes.{brake_of};
 ghost use Rattle.sdm_train.specs.Trains.{IsBand};
 
 use crate::under::Under;
 use sdm_national::National;
-use sdm_rules::{GRADIENT_UNIT, SlopeKind};
+use sdm_rules::SlopeKind;
 use sdm_train::{Band, Train};
 
 /// 1 cm/s² in 1/(2·10⁹) m/s². (own unit)
 const CM_S2: i64 = 20_000_000;
 
-/// 9.81 m/s² for a gradient of 1 of a train without rotating mass, in 1/Q m/s². (SUBSET-026-3 3.13.4.3)
-const GRAVITY: i64 = 196_200_000 * GRADIENT_UNIT;
+/// 9.81 m/s² for a gradient of a tenth of a per mille of a train without rotating mass, in 1/Q m/s².
+/// (SUBSET-026-3 3.13.4.3)
+const GRAVITY: i64 = 196_200_000;
 
-/// Kn · grad / 1000 for 1 cm/s² and a gradient of 1, in 1/(2·10⁹) m/s². (SUBSET-026-3 3.13.6.4; own form)
-const KN_UNIT: u32 = 2_000 * GRADIENT_UNIT as u32;
+/// Kn · grad / 10,000 for 1 cm/s² and a tenth of a per mille, in 1/(2·10⁹) m/s². (SUBSET-026-3 3.13.6.4; own form)
+const KN_UNIT: u32 = 2_000;
 
-/// Kn · grad / 1000 for the greatest Kn, 1,000 cm/s², and a gradient of 1, in 1/(2·10⁹) m/s². (ranges own)
+/// Kn · grad / 10,000 for the greatest Kn, 1,000 cm/s², and a tenth of a per mille, in 1/(2·10⁹) m/s². (ranges own)
 const GREATEST_KN: u32 = 1_000 * KN_UNIT;
 
-/// How far a gradient may lie from the level, in the unit of gradients.
+/// How far a gradient may lie from the level, in tenths of a per mille.
 const STEEPEST: u64 = sdm_rules::STEEPEST as u64;
 
 /// The product of two numbers that are at most `M` and `N`.
@@ -76,7 +77,8 @@ fn mass_factor(rotating_mass: Option<i64>, grad: i64) -> i64
     }
 }
 
-/// A_gradient = 9.81 · grad / (1000 + 10 · M_rotating), in 1/Q m/s². (SUBSET-026-3 3.13.4.3)
+/// A_gradient = 9.81 · grad / (10,000 + 100 · M_rotating) with the gradient in tenths of a per mille, in 1/Q m/s².
+/// (SUBSET-026-3 3.13.4.3)
 fn a_gradient(rotating_mass: Option<i64>, grad: i64) -> i64
     requires { (neg_ℤ steepest ≤ℤ grad) × (grad ≤ℤ steepest) }
     ensures value { result ≡ a_gradient rotating_mass grad }
@@ -96,18 +98,34 @@ fn weighted_kwet(avadh: u64, kwet: u64) -> u64
     20 * kwet + product::<20, 1000>(avadh, 1000 - kwet)
 }
 
+/// A_brake_emergency of a band, in cm/s²: where the special brake is not used the band's reduced one, if it gives one.
+/// (SUBSET-026-3 3.13.6.2.1; own: two decelerations a band)
+fn emergency_in(under: Under, band: &Band) -> u64
+    requires { IsBand band.now }
+    ensures value { pos result ≡ emergency_in under band.now }
+    ensures most { result ≤ 400 }
+{
+    let emergency = if under.unaided() {
+        band.emergency_reduced.unwrap_or(band.emergency)
+    } else {
+        band.emergency
+    };
+    emergency as u64
+}
+
 /// Kdry_rst · (Kwet_rst + M_NVAVADH · (1 − Kwet_rst)) · A_brake_emergency, in 1/(2·10⁹) m/s². (SUBSET-026-3
 /// 3.13.6.2.1)
 #[tactic(auto, using(crate::proofs::Sizes::brake_safe_is))]
-fn brake_safe(avadh: u64, band: &Band) -> u64
+fn brake_safe(avadh: u64, band: &Band, emergency: u64) -> u64
     requires avadh { avadh ≤ 20 }
     requires band { IsBand band.now }
-    ensures value { pos result ≡ brake_safe (pos avadh) band.now band.now.emergency }
+    requires emergency { emergency ≤ 400 }
+    ensures value { pos result ≡ brake_safe (pos avadh) band.now (pos emergency) }
     ensures most { result ≤ 16_000_000_000 }
 {
     let kwet = weighted_kwet(avadh, band.kwet as u64);
     let dry = product::<1000, 40_000>(band.kdry as u64, kwet);
-    product::<40_000_000, 400>(dry, band.emergency as u64)
+    product::<40_000_000, 400>(dry, emergency)
 }
 
 /// A_brake_safe: on reduced adhesion at most the national maximum A_NVMAXREDADH. (SUBSET-026-3 3.13.6.2.1)
@@ -116,7 +134,7 @@ fn brake_under(national: &National, under: Under, band: &Band) -> u64
     ensures value { pos result ≡ brake_under national.now under band.now }
     ensures most { result ≤ 16_000_000_000 }
 {
-    let dry = brake_safe(national.avadh() as u64, band);
+    let dry = brake_safe(national.avadh() as u64, band, emergency_in(under, band));
     if under.reduced() {
         dry.min((CM_S2 * national.adhesion_max()) as u64)
     } else {
@@ -134,7 +152,8 @@ fn kn_of(band: &Band, grad: i64) -> u32
     kn as u32
 }
 
-/// Kn · grad / 1000, in 1/(2·10⁹) m/s². (SUBSET-026-3 3.13.6.4; own form)
+/// Kn · grad / 10,000 with the gradient in tenths of a per mille, in 1/(2·10⁹) m/s².
+/// (SUBSET-026-3 3.13.6.4; own form)
 fn kn_term(band: &Band, grad: i64) -> i64
     requires band { IsBand band.now }
     requires grad { (neg_ℤ steepest ≤ℤ grad) × (grad ≤ℤ steepest) }
@@ -145,7 +164,8 @@ fn kn_term(band: &Band, grad: i64) -> i64
 }
 
 /// What the brakes give, in 1/(2·10⁹) m/s²: A_brake_safe, A_brake_service, or A_brake_normal_service less Kn · grad /
-/// 1000. Reduced adhesion counts for the emergency brake alone. (SUBSET-026-3 3.13.6.2, 3.13.6.3, 3.13.6.4)
+/// 10,000. Reduced adhesion and want of the special brake count for the emergency brake alone. (SUBSET-026-3 3.13.6.2,
+/// 3.13.6.3, 3.13.6.4)
 fn brake(kind: SlopeKind, national: &National, under: Under, band: &Band) -> i64
     requires { IsBand band.now }
     ensures value { result ≡ brake_of kind national.now under band.now }

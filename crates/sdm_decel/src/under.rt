@@ -11,12 +11,14 @@ use sdm_track::{Segments, Track};
 use std::alloc::Global;
 use std::marker::Model;
 
-/// The track under the train: the lowest gradient from its rear end to its front end, in the unit of gradients
-/// (SUBSET-026-3 3.13.4.2), and whether reduced adhesion is in force (3.13.6.2).
+/// The track under the train: the lowest gradient from its rear end to its front end, in tenths of a per mille
+/// (SUBSET-026-3 3.13.4.2), whether reduced adhesion is in force, and whether the special brake is not used
+/// (3.13.6.2).
 #[derive(Clone, Copy)]
 pub struct Under {
     grad: i64,
     reduced: bool,
+    unaided: bool,
 }
 
 impl Model for Under {
@@ -26,11 +28,11 @@ impl Model for Under {
 
     ghost Value = { UnderTrain };
 
-    ghost view = { λ u. record { grad = u.grad; reduced = u.reduced } };
+    ghost view = { λ u. record { grad = u.grad; reduced = u.reduced; unaided = u.unaided } };
 
     ghost invariant = { λ u. (neg_ℤ steepest ≤ℤ u.grad) × (u.grad ≤ℤ steepest) };
 
-    ghost inverse = { λ u. record { grad = u.grad; reduced = u.reduced } };
+    ghost inverse = { λ u. record { grad = u.grad; reduced = u.reduced; unaided = u.unaided } };
 }
 
 impl Under {
@@ -42,6 +44,7 @@ impl Under {
         Under {
             grad: i64::from(segments.at(cell)),
             reduced: track.reduced(cell, length_cm),
+            unaided: track.unaided(cell, length_cm),
         }
     }
 
@@ -63,7 +66,7 @@ impl Under {
         Ok(unders)
     }
 
-    /// The gradient in the unit of gradients, uphill positive.
+    /// The gradient in tenths of a per mille, uphill positive.
     pub fn grad(self) -> i64
         ensures value { result ≡ self.grad }
         ensures range { (neg_ℤ steepest ≤ℤ result) × (result ≤ℤ steepest) }
@@ -76,5 +79,12 @@ impl Under {
         ensures { result ≡ self.reduced }
     {
         self.reduced
+    }
+
+    /// Whether the special brake is not used.
+    pub fn unaided(self) -> bool
+        ensures { result ≡ self.unaided }
+    {
+        self.unaided
     }
 }

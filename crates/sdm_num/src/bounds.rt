@@ -85,7 +85,8 @@ impl Early {
     pub fn earlier(self, other: Early) -> Early
         ensures value { result ≡ earlier_of self other }
         ensures stands { (x y : Fraction) → IsEarlyFor self x → IsEarlyFor other y → IsEarlyFor result (lesser x y) }
-        ensures only { (z : Fraction) → IsEarlyFor result z → IsResultOfTwo (IsEarlyFor self) (IsEarlyFor other) lesser z }
+        ensures only { (z : Fraction) → IsEarlyFor result z →
+            IsResultOfTwo (IsEarlyFor self) (IsEarlyFor other) lesser z }
     {
         if other.at.grains() < self.at.grains() {
             Early {
@@ -181,7 +182,8 @@ impl Late {
     pub fn later(self, other: Late) -> Late
         ensures value { result ≡ later_of self other }
         ensures stands { (x y : Fraction) → IsLateFor self x → IsLateFor other y → IsLateFor result (greater x y) }
-        ensures only { (z : Fraction) → IsLateFor result z → IsResultOfTwo (IsLateFor self) (IsLateFor other) greater z }
+        ensures only { (z : Fraction) → IsLateFor result z →
+            IsResultOfTwo (IsLateFor self) (IsLateFor other) greater z }
     {
         if self.at.grains() < other.at.grains() {
             Late {

@@ -44,6 +44,7 @@ const BAND: Band = Band {
     kwet: 1000,
     kn_up: 0,
     kn_down: 0,
+    emergency_reduced: None,
 };
 
 const TRAIN: TrainFields = TrainFields {
@@ -87,10 +88,16 @@ pub fn open(alloc: Global) -> Result<Onboard, OpeningFault> {
     Ok(Onboard::over(supervisor.map_err(OpeningFault::Open)?))
 }
 
-/// Without gradients and without areas of reduced adhesion.
+/// Without gradients and without areas.
 fn level_track(alloc: Global) -> Result<Track, OpeningFault> {
     let mut speeds = Vec::new(alloc);
     speeds.push(SPEED).map_err(|_| OpeningFault::Memory)?;
-    let track = Track::new(TRACK_CM, Vec::new(alloc), speeds, Vec::new(alloc));
+    let track = Track::new(
+        TRACK_CM,
+        Vec::new(alloc),
+        speeds,
+        Vec::new(alloc),
+        Vec::new(alloc),
+    );
     track.map_err(OpeningFault::Track)
 }

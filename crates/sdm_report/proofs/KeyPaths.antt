@@ -19,6 +19,7 @@ key_path_without_name sections.Track index key is = rw is refl
 key_path_without_name sections.Gradient index key is = rw is refl
 key_path_without_name sections.Speed index key is = rw is refl
 key_path_without_name sections.Adhesion index key is = rw is refl
+key_path_without_name sections.NoSpecial index key is = rw is refl
 key_path_without_name sections.Authority index key is = rw is refl
 
 -- a key of root is its name alone
@@ -33,6 +34,7 @@ key_path_of_root sections.Track index key name root is = cc
 key_path_of_root sections.Gradient index key name root is = cc
 key_path_of_root sections.Speed index key name root is = cc
 key_path_of_root sections.Adhesion index key name root is = cc
+key_path_of_root sections.NoSpecial index key name root is = cc
 key_path_of_root sections.Authority index key name root is = cc
 
 -- any other key stands below its section
@@ -47,6 +49,7 @@ key_path_below sections.Track index key name below is = rw is refl
 key_path_below sections.Gradient index key name below is = rw is refl
 key_path_below sections.Speed index key name below is = rw is refl
 key_path_below sections.Adhesion index key name below is = rw is refl
+key_path_below sections.NoSpecial index key name below is = rw is refl
 key_path_below sections.Authority index key name below is = rw is refl
 
 -- ---- lengths
@@ -64,6 +67,7 @@ all_short sections.Track = refl
 all_short sections.Gradient = refl
 all_short sections.Speed = refl
 all_short sections.Adhesion = refl
+all_short sections.NoSpecial = refl
 all_short sections.Authority = refl
 
 one_of_short : (names : List (List ℕ)) (i : ℕ) (name : List ℕ) → list_all is_short names ≡ true →

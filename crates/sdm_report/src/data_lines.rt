@@ -81,9 +81,9 @@ fn put_train_fault(fault: TrainFault, into: &mut RowBuf)
 
 /// A key of a band, or one of the train's own where the band is 0.
 fn put_train_path(band: u32, key: u8, into: &mut RowBuf)
-    requires room { length into.old + 52 ≤ ROW_BYTES }
+    requires room { length into.old + 54 ≤ ROW_BYTES }
     ensures text { into.new ≡ into.old ++ train_path band key }
-    ensures short { length into.new ≤ length into.old + 52 }
+    ensures short { length into.new ≤ length into.old + 54 }
 {
     match band {
         0 => put_key_path(Section::Train, 0, key, into),

@@ -7,12 +7,12 @@ use crate::fields::put_count;
 use sdm_rules::Section;
 use sdm_text::{ROW_BYTES, RowBuf, key_name};
 
-/// Puts the path of a list, or of a section that has no index: at most 14 bytes. (own)
+/// Puts the path of a list, or of a section that has no index: at most 16 bytes. (own)
 #[tactic(auto, unfolding(sdm_rules::specs::FaultLines::list_path))]
 pub fn put_list_path(list: Section, into: &mut RowBuf)
-    requires room { length into.old + 14 ≤ ROW_BYTES }
+    requires room { length into.old + 16 ≤ ROW_BYTES }
     ensures text { into.new ≡ into.old ++ list_path list }
-    ensures short { length into.new ≤ length into.old + 14 }
+    ensures short { length into.new ≤ length into.old + 16 }
 {
     into.text(match list {
         Section::Root => b"root".as_slice(),
@@ -23,15 +23,16 @@ pub fn put_list_path(list: Section, into: &mut RowBuf)
         Section::Gradient => b"track.gradient",
         Section::Speed => b"track.speed",
         Section::Adhesion => b"track.adhesion",
+        Section::NoSpecial => b"track.no_special",
         Section::Authority => b"authority",
     });
 }
 
-/// Puts the path of an entry of a list, by its index from 1: at most 26 bytes. (own)
+/// Puts the path of an entry of a list, by its index from 1: at most 28 bytes. (own)
 pub fn put_entry_path(list: Section, index: u32, into: &mut RowBuf)
-    requires room { length into.old + 26 ≤ ROW_BYTES }
+    requires room { length into.old + 28 ≤ ROW_BYTES }
     ensures text { into.new ≡ into.old ++ entry_path list index }
-    ensures short { length into.new ≤ length into.old + 26 }
+    ensures short { length into.new ≤ length into.old + 28 }
 {
     put_list_path(list, into);
     into.byte(b'[');
@@ -39,29 +40,31 @@ pub fn put_entry_path(list: Section, index: u32, into: &mut RowBuf)
     into.byte(b']');
 }
 
-/// Puts the path of a section; in a list it has an index: at most 26 bytes. (own)
+/// Puts the path of a section; in a list it has an index: at most 28 bytes. (own)
 #[tactic(auto, unfolding(sdm_rules::specs::FaultLines::section_path))]
 pub fn put_section_path(section: Section, index: u32, into: &mut RowBuf)
-    requires room { length into.old + 26 ≤ ROW_BYTES }
+    requires room { length into.old + 28 ≤ ROW_BYTES }
     ensures text { into.new ≡ into.old ++ section_path section index }
-    ensures short { length into.new ≤ length into.old + 26 }
+    ensures short { length into.new ≤ length into.old + 28 }
 {
     match section {
-        Section::Band | Section::Gradient | Section::Speed | Section::Adhesion => {
-            put_entry_path(section, index, into)
-        }
+        Section::Band
+        | Section::Gradient
+        | Section::Speed
+        | Section::Adhesion
+        | Section::NoSpecial => put_entry_path(section, index, into),
         Section::Root | Section::Train | Section::National | Section::Track | Section::Authority =>
             put_list_path(section, into),
     }
 }
 
 /// Puts the path of a key: of one of root its name alone, and the section's path alone where the number names no key.
-/// At most 52 bytes. (own)
+/// At most 54 bytes. (own)
 #[tactic(auto, using(crate::proofs::KeyPaths::key_path_without_name, crate::proofs::KeyPaths::key_path_of_root, crate::proofs::KeyPaths::key_path_below, crate::proofs::KeyPaths::name_is_short))]
 pub fn put_key_path(section: Section, index: u32, key: u8, into: &mut RowBuf)
-    requires room { length into.old + 52 ≤ ROW_BYTES }
+    requires room { length into.old + 54 ≤ ROW_BYTES }
     ensures text { into.new ≡ into.old ++ key_path section index key }
-    ensures short { length into.new ≤ length into.old + 52 }
+    ensures short { length into.new ≤ length into.old + 54 }
 {
     match key_name(section, key) {
         None => put_section_path(section, index, into),
@@ -73,9 +76,9 @@ pub fn put_key_path(section: Section, index: u32, key: u8, into: &mut RowBuf)
 /// Puts a name below the path of a section.
 fn put_below(section: Section, index: u32, name: &str, into: &mut RowBuf)
     requires few { length name.now ≤ 25 }
-    requires room { length into.old + 52 ≤ ROW_BYTES }
+    requires room { length into.old + 54 ≤ ROW_BYTES }
     ensures text { into.new ≡ into.old ++ (section_path section index ++ codes "." ++ name.now) }
-    ensures short { length into.new ≤ length into.old + 52 }
+    ensures short { length into.new ≤ length into.old + 54 }
 {
     put_section_path(section, index, into);
     into.byte(b'.');

@@ -123,6 +123,7 @@ fn section_of(word: &str) -> Option<Section> {
         "gradient" => Section::Gradient,
         "speed" => Section::Speed,
         "adhesion" => Section::Adhesion,
+        "no_special" => Section::NoSpecial,
         "authority" => Section::Authority,
         _ => return None,
     })
@@ -168,6 +169,7 @@ const DATA_FAULTS: &str = "\
     missing | train | 0 | 9 | bad data: missing train.band
     missing | band | 2 | 8 | bad data: missing train.band[2].kn_down
     missing | national | 0 | 6 | bad data: missing national.inhibit_under_reading
+    missing | no_special | 2 | 1 | bad data: missing track.no_special[2].start
     missing | authority | 0 | 6 | bad data: missing authority.speed
     unknown key | root | 0 | 0 | bad data: unknown key in root
     unknown key | train | 0 | 0 | bad data: unknown key in train
@@ -177,26 +179,33 @@ const DATA_FAULTS: &str = "\
     unknown key | gradient | 512 | 0 | bad data: unknown key in track.gradient[512]
     unknown key | speed | 10 | 0 | bad data: unknown key in track.speed[10]
     unknown key | adhesion | 4294967295 | 0 | bad data: unknown key in track.adhesion[4294967295]
+    unknown key | no_special | 4294967295 | 0 | bad data: unknown key in track.no_special[4294967295]
     unknown key | authority | 0 | 0 | bad data: unknown key in authority
     wrong kind | train | 0 | 5 | bad data: wrong kind train.traction_cutoff_interface
     wrong kind | track | 0 | 2 | bad data: wrong kind track.gradient
+    wrong kind | track | 0 | 5 | bad data: wrong kind track.no_special
+    wrong kind | band | 4294967295 | 9 | bad data: wrong kind train.band[4294967295].emergency_reduced
     wrong kind | speed | 3 | 3 | bad data: wrong kind track.speed[3].delayed
     value | root | 0 | 1 | bad data: value version
     value | authority | 0 | 2 | bad data: value authority.eoa
     train value | train | 0 | 7 | bad data: value train.service_time
     train value | train | 2 | 1 | bad data: value train.band[2].upper
+    train value | train | 1 | 9 | bad data: value train.band[1].emergency_reduced
     band order | train | 2 | 0 | bad data: band order train.band[2]
     band count | train | 0 | 0 | bad data: band count
     national value | national | 0 | 1 | bad data: value national.avadh
     track value | track | 0 | 1 | bad data: value track.length
     track value | gradient | 1 | 2 | bad data: value track.gradient[1].grad
     track value | adhesion | 64 | 2 | bad data: value track.adhesion[64].end
+    track value | no_special | 64 | 2 | bad data: value track.no_special[64].end
     count | gradient | 0 | 0 | bad data: count track.gradient
     count | speed | 0 | 0 | bad data: count track.speed
     count | adhesion | 0 | 0 | bad data: count track.adhesion
+    count | no_special | 0 | 0 | bad data: count track.no_special
     order | gradient | 2 | 0 | bad data: order track.gradient[2]
     order | speed | 128 | 0 | bad data: order track.speed[128]
     order | adhesion | 3 | 0 | bad data: order track.adhesion[3]
+    order | no_special | 2 | 0 | bad data: order track.no_special[2]
     gap | gradient | 0 | 0 | bad data: gap track.gradient
     gap | speed | 0 | 0 | bad data: gap track.speed
     missing | train | 0 | 77 | bad data: missing train

@@ -47,16 +47,13 @@ pub record HasBands (bands : List Band) : Type 0 where
   pub few : length bands ≤ most_bands
   pub in_order : AreBands (pos 0) bands
 
--- the unit of gradients, in tenths of a per mille: a per mille (own)
-abbrev pub gradient_unit : ℕ
-gradient_unit = 10
-
--- the track: its length, and lists by place (SUBSET-026-3 3.13.4, 3.11.3, 3.12)
+-- the track: its length, and lists by place (SUBSET-026-3 3.13.4, 3.11.3, 3.12; own: areas without the special brake)
 pub record TrackData : Type 0 where
   pub length_cm : ℤ
   pub gradients : List Gradient
   pub speeds : List SpeedStep
-  pub areas : List Area
+  pub areas : List Area  -- of reduced adhesion
+  pub no_special : List Area  -- in which the special brake is not used
 
 -- the train, the national values and the track of a journey (SUBSET-026-3 3.13.2)
 pub record TrainAndTrack : Type 0 where

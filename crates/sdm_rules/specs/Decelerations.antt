@@ -4,7 +4,7 @@ use Rattle.std.specs.Prelude.{ℕ, ℤ, pos, Bool, ◌&&◌, List, Option, Some,
 use Rattle.std.specs.Prelude.{int_lt, unsigned_abs, slice_get, filter_map, option_map, if◌then◌else◌}
 use Rattle.std.specs.Int.{int_min, int_max, is_negative}
 use Rattle.std.specs.List.{list_any}
-use Rattle.std.specs.Option.{option_map_or}
+use Rattle.std.specs.Option.{option_map_or, unwrap_or}
 use Rattle.sdm_num.specs.Units.{notches}
 use Rattle.sdm_rules.specs.declared.data.Band.{Band}
 use Rattle.sdm_rules.specs.declared.data.Gradient.{Gradient}
@@ -14,11 +14,11 @@ use Rattle.sdm_rules.specs.declared.data.SlopeKind.{SlopeKind}
 use Rattle.sdm_rules.specs.declared.data.SlopeKind.TheVariants.{Safe, Expected, Normal}
 use Rattle.sdm_rules.specs.Cells.{lowest, value_at}
 use Rattle.sdm_rules.specs.Slopes.{Slopes}
-use Rattle.sdm_rules.specs.Data.{TrainData, TrackData, TrainAndTrack, gradient_unit}
+use Rattle.sdm_rules.specs.Data.{TrainData, TrackData, TrainAndTrack}
 
 -- ---- the track under the train
 
--- the gradient of a cell, in the unit of gradients, uphill positive: of the last entry whose start is at most the
+-- the gradient of a cell, in tenths of a per mille, uphill positive: of the last entry whose start is at most the
 -- cell, of the first entry before the track; level without entries (SUBSET-026-3 3.13.4; own cell form)
 abbrev pub track_gradient : List Gradient → ℤ → ℤ
 track_gradient entries cell = value_at (λ e. e.start) (λ e. e.grad) (pos 0) entries cell
@@ -33,14 +33,18 @@ any_in_force areas length_cm cell = list_any (is_in_force length_cm cell) areas
 
 -- what the decelerations of a front end rest on, beside its speed band (own)
 pub record UnderTrain : Type 0 where
-  pub grad : ℤ  -- the least gradient of the cells from the rear end to the front end, in the unit of gradients (SUBSET-026-3 3.13.4.2; own cell form)
+  -- the least gradient of the cells from the rear end to the front end, in tenths of a per mille
+  -- (SUBSET-026-3 3.13.4.2; own cell form)
+  pub grad : ℤ
   pub reduced : Bool  -- reduced adhesion is in force (SUBSET-026-3 3.13.6.2; own areas)
+  pub unaided : Bool  -- the special brake is not used (SUBSET-026-3 3.13.6.2; own areas)
 
 -- the track under a train of a length in cm with its front end in a cell (SUBSET-026-3 3.13.4.2; own cell form)
 abbrev pub under_train : TrackData → ℤ → ℤ → UnderTrain
 under_train track length_cm cell = record {
   grad = lowest int_min (track_gradient track.gradients) (cell -ℤ length_cm) (unsigned_abs length_cm);
   reduced = any_in_force track.areas length_cm cell;
+  unaided = any_in_force track.no_special length_cm cell;
 }
 
 -- ---- the decelerations
@@ -58,12 +62,12 @@ cm_s2 = pos 20_000_000
 -- 9.81 m/s² for a gradient of 1 of a train without rotating mass, in 1/Q m/s²: 9.81 / 100 * 2 * 10^9 for a tenth of a
 -- per mille (SUBSET-026-3 3.13.4.3)
 abbrev pub gravity : ℤ
-gravity = pos (196_200_000 * gradient_unit)
+gravity = pos 196_200_000
 
--- A_brake_emergency of a band in a cell, in cm/s²; the same in all cells (SUBSET-026-3 3.13.6.2.1; own: one
--- deceleration a band)
+-- A_brake_emergency of a band in a cell, in cm/s²: where the special brake is not used the band's reduced one, if it
+-- gives one (SUBSET-026-3 3.13.6.2.1; own: two decelerations a band)
 abbrev pub emergency_in : UnderTrain → Band → ℤ
-emergency_in u b = b.emergency
+emergency_in u b = if u.unaided then unwrap_or b.emergency_reduced b.emergency else b.emergency
 
 -- Kdry_rst * (Kwet_rst + M_NVAVADH * (1 - Kwet_rst)) * A_brake_emergency, in 1/(2 * 10^9) m/s²
 -- (SUBSET-026-3 3.13.6.2.1; own: one Kdry)
@@ -83,7 +87,8 @@ abbrev pub mass_factor : Option ℤ → ℤ → ℤ
 mass_factor (Some mass) grad = pos 1
 mass_factor None grad = if is_negative grad then pos 115 else pos 102
 
--- A_gradient = 9.81 * grad / (1000 + 10 * M_rotating), in 1/Q m/s² (SUBSET-026-3 3.13.4.3)
+-- A_gradient = 9.81 * grad / (1000 + 10 * M_rotating) with the gradient in per mille, in 1/Q m/s²
+-- (SUBSET-026-3 3.13.4.3)
 abbrev pub a_gradient : Option ℤ → ℤ → ℤ
 a_gradient mass grad = gravity *ℤ mass_factor mass grad *ℤ grad
 
@@ -91,9 +96,9 @@ a_gradient mass grad = gravity *ℤ mass_factor mass grad *ℤ grad
 abbrev pub kn_of : Band → ℤ → ℤ
 kn_of b grad = if is_negative grad then b.kn_down else b.kn_up
 
--- Kn * grad / 1000, in 1/(2 * 10^9) m/s² (SUBSET-026-3 3.13.6.4; own form)
+-- Kn * grad / 1000 with the gradient in per mille, in 1/(2 * 10^9) m/s² (SUBSET-026-3 3.13.6.4; own form)
 abbrev pub kn_term : Band → ℤ → ℤ
-kn_term b grad = pos (2_000 * gradient_unit) *ℤ kn_of b grad *ℤ grad
+kn_term b grad = pos 2_000 *ℤ kn_of b grad *ℤ grad
 
 -- A_safe = A_brake_safe + A_gradient, A_expected = A_brake_service + A_gradient and
 -- A_normal_service = A_brake_normal_service + A_gradient - Kn * grad / 1000, in 1/Q m/s²

@@ -47,6 +47,7 @@ key_names sections.Track = bytes_of_each keys.TRACK
 key_names sections.Gradient = bytes_of_each keys.GRADIENT
 key_names sections.Speed = bytes_of_each keys.SPEED
 key_names sections.Adhesion = bytes_of_each keys.AREA
+key_names sections.NoSpecial = bytes_of_each keys.AREA
 key_names sections.Authority = bytes_of_each keys.AUTHORITY
 
 -- the name of a key of a section, if it has one
@@ -64,6 +65,7 @@ list_path sections.Track = codes "track"
 list_path sections.Gradient = codes "track.gradient"
 list_path sections.Speed = codes "track.speed"
 list_path sections.Adhesion = codes "track.adhesion"
+list_path sections.NoSpecial = codes "track.no_special"
 list_path sections.Authority = codes "authority"
 
 -- the path of an entry of a list, by its index from 1
@@ -80,6 +82,7 @@ section_path sections.Track index = list_path sections.Track
 section_path sections.Gradient index = entry_path sections.Gradient index
 section_path sections.Speed index = entry_path sections.Speed index
 section_path sections.Adhesion index = entry_path sections.Adhesion index
+section_path sections.NoSpecial index = entry_path sections.NoSpecial index
 section_path sections.Authority index = list_path sections.Authority
 
 -- the path of a key below its section's; where the number names no key, the section's path alone
@@ -102,6 +105,7 @@ key_path sections.Track index key = below (section_path sections.Track index) (k
 key_path sections.Gradient index key = below (section_path sections.Gradient index) (key_name sections.Gradient key)
 key_path sections.Speed index key = below (section_path sections.Speed index) (key_name sections.Speed key)
 key_path sections.Adhesion index key = below (section_path sections.Adhesion index) (key_name sections.Adhesion key)
+key_path sections.NoSpecial index key = below (section_path sections.NoSpecial index) (key_name sections.NoSpecial key)
 key_path sections.Authority index key = below (section_path sections.Authority index) (key_name sections.Authority key)
 
 -- the path of a key that a fault names

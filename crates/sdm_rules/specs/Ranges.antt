@@ -18,7 +18,7 @@ use Rattle.sdm_rules.specs.declared.faults.Section.{Section}
 use Rattle.sdm_rules.specs.declared.faults.Section.TheVariants as sections
 use Rattle.sdm_rules.specs.declared.keys.TheConstants as keys
 use Rattle.sdm_rules.specs.Slopes.{most_bands}
-use Rattle.sdm_rules.specs.Data.{TrainData, TrackData, gradient_unit}
+use Rattle.sdm_rules.specs.Data.{TrainData, TrackData}
 
 -- ---- the greatest numbers
 
@@ -30,9 +30,9 @@ longest_track = 10_000_000
 abbrev pub longest_train : ℕ
 longest_train = 150_000
 
--- the steepest gradient, 80 per mille, in the unit of gradients (own)
+-- the steepest gradient, 80 per mille, in tenths of a per mille (own)
 abbrev pub steepest : ℤ
-steepest = pos (800 / gradient_unit)
+steepest = pos 800
 
 -- the most gradients of a track (own)
 abbrev pub most_gradients : ℕ
@@ -101,6 +101,7 @@ band_refused b = first_refused
     ∷ refused keys.BAND_KWET (is_within (pos 1) (pos 1000) b.kwet)
     ∷ refused keys.BAND_KN_UP (is_within (pos 0) (pos 1000) b.kn_up)
     ∷ refused keys.BAND_KN_DOWN (is_within (pos 0) (pos 1000) b.kn_down)
+    ∷ refused keys.BAND_EMERGENCY_REDUCED (is_within_if_any (pos 1) b.emergency b.emergency_reduced)
     ∷ [])
 
 -- the first value of the bands that is refused, from the band `i` on (own)
@@ -228,4 +229,6 @@ unfoldable pub track_fault : TrackData → Option TrackFault
 track_fault t =
     or_else (length_fault t.length_cm)
     (or_else (gradients_fault t.length_cm t.gradients)
-    (or_else (speeds_fault t.length_cm t.speeds) (areas_fault sections.Adhesion t.length_cm t.areas)))
+    (or_else (speeds_fault t.length_cm t.speeds)
+    (or_else (areas_fault sections.Adhesion t.length_cm t.areas)
+    (areas_fault sections.NoSpecial t.length_cm t.no_special))))

@@ -1,7 +1,7 @@
 -- What brake curves stand on: a deceleration for each speed band and each cell of the track (SUBSET-026-3 3.13.6; own
 -- form).
-use Rattle.std.specs.Prelude.{ℕ, suc, ℤ, pos, int_le, List, ◌+◌, ◌-◌, ◌*◌, ◌<◌, ◌≤◌, ◌≤ℤ◌, length, slice_index}
-use Rattle.std.specs.Prelude.{count_by}
+use Rattle.std.specs.Prelude.{ℕ, suc, ℤ, pos, int_le, nat_le, if◌then◌else◌, List, ◌+◌, ◌-◌, ◌*◌, ◌<◌, ◌≤◌, ◌≤ℤ◌}
+use Rattle.std.specs.Prelude.{length, slice_index, count_by}
 
 -- A slope is a deceleration, not the track's gradient: a number of 1/Q m/s², with Q = 2 * 10^9 * q (own unit).
 -- `uppers` are the upper speeds in notches of all bands but the last, which has none. Bands count from 0.
@@ -41,11 +41,12 @@ meaning_of m = record {
 
 -- the most speed bands of a train (own)
 abbrev pub most_bands : ℕ
-most_bands = 8
+most_bands = 10
 
--- in one band no slope may be more than so many times another, where there are so many bands (own)
+-- in one band no slope may be more than so many times another, where there are so many bands: sixteen times with up to
+-- eight bands, eight times with nine or ten (own)
 abbrev pub variation : ℕ → ℕ
-variation bands = 16
+variation bands = if nat_le bands 8 then 16 else 8
 
 -- how many bands there are: one more than there are upper speeds (own)
 abbrev pub bands_of : List ℕ → ℕ

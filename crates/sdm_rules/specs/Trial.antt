@@ -65,6 +65,7 @@ trial_train = record {
             pos 950;
         kn_up = pos 0;
         kn_down = pos 0;
+        emergency_reduced = None;
       }
       ∷ record {
         upper = None;
@@ -76,6 +77,7 @@ trial_train = record {
         kn_up =
             pos 0;
         kn_down = pos 0;
+        emergency_reduced = None;
       }
       ∷ [];
 }
@@ -96,10 +98,11 @@ trial_national = record {
 abbrev pub trial_track : TrackData
 trial_track = record {
   length_cm = pos 600_000;
-  gradients = record { start = pos 0; grad = pos 0 } ∷ record { start = pos 200_000; grad = negsuc 4 }
+  gradients = record { start = pos 0; grad = pos 0 } ∷ record { start = pos 200_000; grad = negsuc 49 }
       ∷ record { start = pos 400_000; grad = pos 0 } ∷ [];
   speeds = record { start = pos 0; speed = pos 160; delayed = true } ∷ [];
   areas = [];
+  no_special = [];
 }
 
 -- the data of every trial

@@ -15,6 +15,7 @@ pub const BASE_BAND: Band = Band {
     kwet: 1000,
     kn_up: 0,
     kn_down: 0,
+    emergency_reduced: None,
 };
 
 /// A train of 100 m with one band, which brakes at once, for 160 km/h.
@@ -61,6 +62,7 @@ impl Band {
             Some(keys::BAND_KWET) => self.kwet = number,
             Some(keys::BAND_KN_UP) => self.kn_up = number,
             Some(keys::BAND_KN_DOWN) => self.kn_down = number,
+            Some(keys::BAND_EMERGENCY_REDUCED) => self.emergency_reduced = Some(number),
             _ => return false,
         }
         true

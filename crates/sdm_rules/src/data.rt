@@ -1,7 +1,7 @@
 //! The data of a journey as they are handed in, before any range is tested: train, national values and track.
 
 /// The most speed bands that a train may have. (own)
-pub const MOST_BANDS: usize = 8;
+pub const MOST_BANDS: usize = 10;
 
 /// A speed band of the train: it begins at the upper speed of the band before it, the first at 0.
 /// (SUBSET-026-3 3.13.2.2; number of bands own)
@@ -23,6 +23,8 @@ pub struct Band {
     pub kn_up: i64,
     /// Kn- in cm/s², for guidance downhill.
     pub kn_down: i64,
+    /// Emergency brake deceleration in cm/s² where the special brake is not used; none where that takes nothing away.
+    pub emergency_reduced: Option<i64>,
 }
 
 /// Train data. (SUBSET-026-3 3.13.2.2)
@@ -73,7 +75,7 @@ pub struct NationalFields {
 pub struct Gradient {
     /// Start in cm.
     pub start: i64,
-    /// Gradient in per mille, uphill positive.
+    /// Gradient in tenths of a per mille, uphill positive.
     pub grad: i64,
 }
 
@@ -88,7 +90,7 @@ pub struct SpeedStep {
     pub delayed: bool,
 }
 
-/// An area of reduced adhesion. (SUBSET-026-3 3.12; own form)
+/// An area of reduced adhesion, or one in which the special brake is not used. (SUBSET-026-3 3.12; own form)
 #[derive(Clone, Copy, Debug, PartialEq, Eq)]
 pub struct Area {
     /// Start in cm.

@@ -14,6 +14,7 @@ pub enum Section {
     Gradient,
     Speed,
     Adhesion,
+    NoSpecial,
     Authority,
 }
 

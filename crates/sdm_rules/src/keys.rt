@@ -46,7 +46,7 @@ pub const TRAIN_SERVICE_BRAKE: u8 = 8;
 pub const TRAIN_BAND: u8 = 9;
 
 /// A speed band.
-pub const BAND: [&str; 8] = [
+pub const BAND: [&str; 9] = [
     "upper",
     "emergency",
     "service",
@@ -55,6 +55,7 @@ pub const BAND: [&str; 8] = [
     "kwet",
     "kn_up",
     "kn_down",
+    "emergency_reduced",
 ];
 
 pub const BAND_UPPER: u8 = 1;
@@ -72,6 +73,8 @@ pub const BAND_KWET: u8 = 6;
 pub const BAND_KN_UP: u8 = 7;
 
 pub const BAND_KN_DOWN: u8 = 8;
+
+pub const BAND_EMERGENCY_REDUCED: u8 = 9;
 
 /// The national values.
 pub const NATIONAL: [&str; 6] = [
@@ -96,7 +99,7 @@ pub const NATIONAL_EARLY_RELEASE: u8 = 5;
 pub const NATIONAL_INHIBIT_UNDER_READING: u8 = 6;
 
 /// The track, but for the entries of its lists.
-pub const TRACK: [&str; 4] = ["length", "gradient", "speed", "adhesion"];
+pub const TRACK: [&str; 5] = ["length", "gradient", "speed", "adhesion", "no_special"];
 
 pub const TRACK_LENGTH: u8 = 1;
 
@@ -105,6 +108,8 @@ pub const TRACK_GRADIENT: u8 = 2;
 pub const TRACK_SPEED: u8 = 3;
 
 pub const TRACK_ADHESION: u8 = 4;
+
+pub const TRACK_NO_SPECIAL: u8 = 5;
 
 /// A gradient.
 pub const GRADIENT: [&str; 2] = ["start", "grad"];

@@ -29,8 +29,8 @@ pub use faults::{
 };
 pub use motions::{Phase, Point, Slice, Start};
 pub use ranges::{
-    GRADIENT_UNIT, LONGEST_TRACK_CM, LONGEST_TRAIN_CM, MOST_RECORDS, STEEPEST, TOP_KMH,
-    first_refused, is_within, outside, outside_if_any, refused,
+    LONGEST_TRACK_CM, LONGEST_TRAIN_CM, MOST_RECORDS, STEEPEST, TOP_KMH, first_refused, is_within,
+    outside, outside_if_any, refused,
 };
 pub use records::Event;
 pub use restrictions::Restriction;

@@ -12,11 +12,8 @@ pub const LONGEST_TRACK_CM: u32 = 10_000_000;
 /// The longest train, in cm.
 pub const LONGEST_TRAIN_CM: u32 = 150_000;
 
-/// The unit of gradients, in tenths of a per mille: a per mille.
-pub const GRADIENT_UNIT: i64 = 10;
-
-/// The steepest gradient, 80 per mille, in the unit of gradients.
-pub const STEEPEST: i64 = 800 / GRADIENT_UNIT;
+/// The steepest gradient, 80 per mille, in tenths of a per mille.
+pub const STEEPEST: i64 = 800;
 
 /// The most records of a journey.
 pub const MOST_RECORDS: u32 = 100_000;

@@ -9,13 +9,14 @@ use Rattle.sdm_rules.specs.Input.{most_bytes}
 use Rattle.sdm_rules.specs.Input as ends
 use Rattle.sdm_rules.specs.Flat.{Output, flat_output}
 use Rattle.sdm_run.specs.declared.words.Command.{Command}
-use Rattle.sdm_run.specs.declared.words.Command.TheVariants.{Flat, Run, Trial}
+use Rattle.sdm_run.specs.declared.words.Command.TheVariants.{Flat, Run, Trial, Upgrade}
 use Rattle.sdm_report.specs.declared.outcome.Outcome.{Outcome}
 use Rattle.sdm_report.specs.declared.outcome.Outcome.TheVariants.{TooLong}
 use Rattle.sdm_run.specs.Words.{IsCommandInRange}
 use Rattle.sdm_run.specs.Answers.{IsAnswer}
 use Rattle.sdm_run.specs.Commands.{AreRowsSafe, IsOutputOf, within_limit}
 use Rattle.sdm_run.specs.Shapes.{OfInput, Shape, shape_of}
+use Rattle.sdm_run.specs.Upgrades.{upgrade_output}
 use Rattle.sdm_run.proofs.FlatOrder.{flat_rows_safe}
 use Rattle.sdm_run.proofs.RunAnswers.{run_rows_safe, run_too_long}
 use Rattle.sdm_run.proofs.TrialRuns.{trial_rows_safe}
@@ -26,6 +27,7 @@ pub rows_safe : (command : Command) (bytes : List ℕ) → IsCommandInRange comm
 rows_safe (Flat decel end) bytes h = flat_rows_safe decel end bytes (omega (arith, h.0))
 rows_safe Run bytes h = run_rows_safe bytes
 rows_safe (Trial seed cycles) bytes h = trial_rows_safe seed cycles
+rows_safe Upgrade bytes h = tt
 
 -- what holds of all bytes holds of those that a command answers
 pub of_input : (shape : Shape) (left : Option (List ℕ)) (P : List ℕ → Type 0) → ((bytes : List ℕ) → P bytes) →
@@ -64,6 +66,7 @@ outputs_alike : (command : Command) (A : Output → Type 0) (bytes : List ℕ) �
 outputs_alike (Flat decel end) A bytes h none other = absurd cc
 outputs_alike Run A bytes h none other = absurd cc
 outputs_alike (Trial seed cycles) A bytes h none other = h
+outputs_alike Upgrade A bytes h none other = absurd cc
 
 -- what answers the bytes that were read answers those of the input, at the command that the words ask for
 pub answer_told :
@@ -93,11 +96,11 @@ above : (bytes : List ℕ) (output : Output) → most_bytes < length bytes → w
 above bytes output long =
     let yes : nat_lt most_bytes (length bytes) ≡ true = grind (arith, nat_tests) in rw yes
 
--- an input within the limit is answered by what `flat` makes of it
-pub within_answer : (bytes : List ℕ) (flat : Output) (old new : Option (List ℕ)) (outcome : Outcome) →
-    length bytes ≤ most_bytes → IsAnswer flat old new outcome →
-    (output : Output) → output ≡ within_limit bytes flat → IsAnswer output old new outcome
-within_answer bytes flat old new outcome short h output is = rw (is, within bytes flat short) h
+-- an input within the limit is answered by what a command makes of it
+pub within_answer : (bytes : List ℕ) (made : Output) (old new : Option (List ℕ)) (outcome : Outcome) →
+    length bytes ≤ most_bytes → IsAnswer made old new outcome →
+    (output : Output) → output ≡ within_limit bytes made → IsAnswer output old new outcome
+within_answer bytes made old new outcome short h output is = rw (is, within bytes made short) h
 
 too_long : (command : Command) (bytes : List ℕ) (old : Option (List ℕ)) → IsTrue (shape_of command).reads_input →
     most_bytes < length bytes → (output : Output) → IsOutputOf command bytes output → IsAnswer output old old TooLong
@@ -105,6 +108,8 @@ too_long (Flat decel end) bytes old reads long output is =
     rw (is, above bytes (flat_output decel end bytes) long) (record { ended = inl refl; taken = Appends-nil old })
 too_long Run bytes old reads long output is = run_too_long bytes old long output is
 too_long (Trial seed cycles) bytes old reads long output is = absurd cc
+too_long Upgrade bytes old reads long output is =
+    rw (is, above bytes (upgrade_output bytes) long) (record { ended = inl refl; taken = Appends-nil old })
 
 too_long_of : (reads : Bool) (left : Option (List ℕ)) (P : List ℕ → Type 0) → IsTrue reads →
     Told left (λ bytes. most_bytes < length bytes) →

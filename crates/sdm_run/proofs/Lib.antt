@@ -7,6 +7,8 @@ pub mod CommandFacts
 pub mod RunData
 pub mod RunTexts
 pub mod RunAnswers
+pub mod Refusals
+pub mod UpgradeTexts
 pub mod OutputLaws
 pub mod Flushes
 mod AnswerCases

@@ -8,8 +8,9 @@ use Rattle.sdm_rules.specs.Trial.{summary_text, trial_journey, trial_output}
 use Rattle.sdm_run.specs.FlatRun.{AreFlatRowsSafe}
 use Rattle.sdm_run.specs.Journeys.{IsRunOutput}
 use Rattle.sdm_run.specs.Shapes.{shape_of}
+use Rattle.sdm_run.specs.Upgrades.{upgrade_output}
 use Rattle.sdm_run.specs.declared.words.Command.{Command}
-use Rattle.sdm_run.specs.declared.words.Command.TheVariants.{Flat, Run, Trial}
+use Rattle.sdm_run.specs.declared.words.Command.TheVariants.{Flat, Run, Trial, Upgrade}
 
 -- an input that is too long has no text; else the output that is given
 abbrev pub within_limit : List ℕ → Output → Output
@@ -20,6 +21,7 @@ abbrev pub IsOutputOf : Command → List ℕ → Output → Type 0
 IsOutputOf (Flat decel end) bytes output = output ≡ within_limit bytes (flat_output decel end bytes)
 IsOutputOf Run bytes output = IsRunOutput bytes output
 IsOutputOf (Trial seed cycles) bytes output = output ≡ trial_output seed cycles
+IsOutputOf Upgrade bytes output = output ≡ within_limit bytes (upgrade_output bytes)
 
 -- there is an output of the command for the bytes, and no other
 pub record HasOneOutput (command : Command) (bytes : List ℕ) : Type 0 where
@@ -37,11 +39,12 @@ pub record AreTrialRowsSafe (seed cycles : ℕ) : Type 0 where
   pub text : (trial_output seed cycles).text ≡ summary_text (rows_of (trial_journey seed cycles).turns)
   pub safe : AreTurnsSafe false false (trial_journey seed cycles).turns
 
--- what is promised of the rows of a command
+-- what is promised of the rows of a command; `upgrade` has none
 abbrev pub AreRowsSafe : Command → List ℕ → Type 0
 AreRowsSafe (Flat decel end) bytes = AreFlatRowsSafe decel end bytes
 AreRowsSafe Run bytes = AreRunRowsSafe bytes
 AreRowsSafe (Trial seed cycles) bytes = AreTrialRowsSafe seed cycles
+AreRowsSafe Upgrade bytes = ⊤
 
 -- the words ask for nothing that reads the input
 abbrev pub ReadsNothing : Option Command → Type 0

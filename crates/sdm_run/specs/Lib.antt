@@ -5,4 +5,5 @@ pub mod TakenLines
 pub mod FlatRun
 pub mod Journeys
 pub mod RunParts
+pub mod Upgrades
 pub mod Commands

@@ -37,22 +37,27 @@ pub record IsOpeningOf (bytes : List ℕ) (s : Supervision) : Type 0 where
   pub accepted : IsAccepted train_and_track authority
   pub state : s ≡ opening train_and_track authority
 
--- the outcome of a data part that opens none: no document, the first rule that is broken, or the first fault of the
--- opening; want of memory may come at any time
-abbrev pub IsRefusedBy : List ℕ → Outcome → Type 0
-IsRefusedBy bytes Done = ⊥
-IsRefusedBy bytes Usage = ⊥
-IsRefusedBy bytes ReadFault = ⊥
-IsRefusedBy bytes WriteFault = ⊥
-IsRefusedBy bytes TooLong = ⊥
-IsRefusedBy bytes (BadData NoSplit) = ⊥
-IsRefusedBy bytes (BadData Toml) = document_of bytes ≡ None
-IsRefusedBy bytes (BadData (Data fault)) = (fault ≢ data_faults.Memory) × (members : Members)
+-- the outcome of a data part that holds no data: no document, or the first rule that is broken; want of memory may
+-- come at any time
+abbrev pub IsRefusedByData : List ℕ → Outcome → Type 0
+IsRefusedByData bytes Done = ⊥
+IsRefusedByData bytes Usage = ⊥
+IsRefusedByData bytes ReadFault = ⊥
+IsRefusedByData bytes WriteFault = ⊥
+IsRefusedByData bytes TooLong = ⊥
+IsRefusedByData bytes (BadData NoSplit) = ⊥
+IsRefusedByData bytes (BadData Toml) = document_of bytes ≡ None
+IsRefusedByData bytes (BadData (Data fault)) = (fault ≢ data_faults.Memory) × (members : Members)
     × (document_of bytes ≡ Some members) × (data_of members ≡ Err fault)
+IsRefusedByData bytes (Refused fault) = ⊥
+IsRefusedByData bytes (BadEvent number cause) = ⊥
+IsRefusedByData bytes Memory = ⊤
+
+-- the outcome of a data part that opens no supervision state: it holds no data, or the first fault of the opening
+abbrev pub IsRefusedBy : List ℕ → Outcome → Type 0
 IsRefusedBy bytes (Refused fault) = (fault ≢ open_faults.Memory) × (train_and_track : TrainAndTrack) × (a : Authority)
     × IsDataOf bytes train_and_track a × IsOpenFault train_and_track a fault
-IsRefusedBy bytes (BadEvent number cause) = ⊥
-IsRefusedBy bytes Memory = ⊤
+IsRefusedBy bytes outcome = IsRefusedByData bytes outcome
 
 -- ---- the records
 

@@ -10,7 +10,7 @@ use Rattle.sdm_report.specs.declared.outcome.Outcome.{Outcome}
 use Rattle.sdm_report.specs.declared.outcome.Outcome.TheVariants.{Done, Usage, ReadFault, WriteFault, TooLong, BadData}
 use Rattle.sdm_report.specs.declared.outcome.Outcome.TheVariants.{Refused, BadEvent, Memory}
 use Rattle.sdm_run.specs.declared.words.Command.{Command}
-use Rattle.sdm_run.specs.declared.words.Command.TheVariants.{Flat, Run, Trial}
+use Rattle.sdm_run.specs.declared.words.Command.TheVariants.{Flat, Run, Trial, Upgrade}
 
 -- what a command needs, and what it may refuse
 pub record Shape : Type 0 where
@@ -70,11 +70,24 @@ trial_shape = record {
       λ cause. false;
 }
 
+-- `upgrade`: an input that is a data part alone, which opens nothing
+abbrev pub upgrade_shape : Shape
+upgrade_shape = record {
+  reads_input = true;
+  has_division = false;
+  has_data = true;
+  opens = false;
+  takes_memory_first = true;
+  refuses =
+      λ cause. false;
+}
+
 -- the shape of a command
 abbrev pub shape_of : Command → Shape
 shape_of (Flat decel end) = flat_shape
 shape_of Run = run_shape
 shape_of (Trial seed cycles) = trial_shape
+shape_of Upgrade = upgrade_shape
 
 -- an outcome that a command of a shape may have; want of memory is never told inside another fault
 abbrev pub IsOutcomeIn : Shape → Outcome → Type 0

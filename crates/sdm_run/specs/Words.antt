@@ -8,7 +8,7 @@ use Rattle.sdm_rules.specs.Numbers.{read_int}
 use Rattle.sdm_rules.specs.Ranges.{longest_track}
 use Rattle.sdm_rules.specs.Records.{most_records}
 use Rattle.sdm_run.specs.declared.words.Command.{Command}
-use Rattle.sdm_run.specs.declared.words.Command.TheVariants.{Flat, Run, Trial}
+use Rattle.sdm_run.specs.declared.words.Command.TheVariants.{Flat, Run, Trial, Upgrade}
 
 -- `flat` with its two numbers, if both are read
 abbrev pub flat_of : Result ℤ FieldFault → Result ℤ FieldFault → Option Command
@@ -38,13 +38,19 @@ trial_command (seed ∷ cycles ∷ []) =
     trial_of (read_int seed (pos 0) (pos 65_535)) (read_int cycles (pos 1) (pos most_records))
 trial_command _ = None
 
--- the shapes of the words, each with its command: `run`, `flat A END`, and `trial NUMBER CYCLES`
+-- `upgrade` has no words after it
+abbrev pub upgrade_command : List (List ℕ) → Option Command
+upgrade_command [] = Some Upgrade
+upgrade_command _ = None
+
+-- the shapes of the words, each with its command: `run`, `flat A END`, `trial NUMBER CYCLES`, and `upgrade`
 unfoldable pub command_of : List (List ℕ) → Option Command
 command_of [] = None
 command_of (name ∷ more) =
     if bytes_eq name (codes "run") then run_command more
     else if bytes_eq name (codes "flat") then flat_command more
     else if bytes_eq name (codes "trial") then trial_command more
+    else if bytes_eq name (codes "upgrade") then upgrade_command more
     else None
 
 -- the command that the words ask for, if they ask for one
@@ -56,3 +62,4 @@ abbrev pub IsCommandInRange : Command → Type 0
 IsCommandInRange (Flat decel end) = (5 ≤ decel) × (decel ≤ 400) × (end ≤ longest_track)
 IsCommandInRange Run = Unit {0}
 IsCommandInRange (Trial seed cycles) = (seed ≤ 65_535) × (1 ≤ cycles) × (cycles ≤ most_records)
+IsCommandInRange Upgrade = Unit {0}

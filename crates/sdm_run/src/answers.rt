@@ -13,12 +13,14 @@ ghost use Rattle.sdm_run.specs.Answers.{ComesOfReadingAlone, LeavesOutUntouched,
 ghost use Rattle.sdm_run.specs.Answers.{IsComplete, told_end};
 ghost use Rattle.sdm_run.specs.Commands.{AreRowsSafe, HasOneOutput, IsOutputOf, ReadsNothing};
 ghost use Rattle.sdm_run.specs.Shapes.{IsOutcomeIn, OfInput, shape_of};
+ghost use Rattle.sdm_run.specs.Upgrades.{IsReadBack};
 ghost use Rattle.sdm_run.specs.Words.{IsCommandInRange, asked_by};
 
 use crate::endings::Ended;
 use crate::flat_run::run_flat;
 use crate::journey_run::run_journey;
 use crate::trial_run::run_trial;
+use crate::upgrade_run::run_upgrade;
 use crate::words::{Command, command_of};
 use sdm_io::{FixedSource, NullSink, Sink, Source, Unread, read_to_end, write_piece};
 use sdm_report::{Outcome, outcome_bytes};
@@ -51,6 +53,10 @@ pub fn sdm_main<I: Source, O: Sink, E: Sink>(
         (output : Output) → IsOutputOf command bytes output
         → (Rose (I.faults input.old) (I.faults input.new) → ⊥) → (Rose (O.faults out.old) (O.faults out.new) → ⊥)
         → IsComplete output (O.taken out.old) (O.taken out.new) result)) }
+
+    // the text of `upgrade` is the table of the data
+    ensures read_back { asked_by words.now ≡ Some Command.Upgrade → NeedsTheWholeInput result
+        → Told (I.left input.old) IsReadBack }
 
     // what comes before any row leaves out as it is; else out gave on all that it took, unless it failed
     ensures first { LeavesOutUntouched result → out.new ≡ out.old }
@@ -114,6 +120,7 @@ fn run_command<O: Sink>(alloc: Global, command: Command, bytes: &[u8], out: &mut
     ensures answer { (output : Output) → IsOutputOf command bytes.now output
         → IsAnswer output (O.taken out.old) (O.taken out.new) result.outcome }
     ensures rows { AreRowsSafe command bytes.now }
+    ensures read_back { command ≡ Command.Upgrade → NeedsTheWholeInput result.outcome → IsReadBack bytes.now }
     ensures possible { IsOutcomeIn (shape_of command) result.outcome }
     ensures not_before { ComesOfReadingAlone result.outcome → ⊥ }
     ensures first { LeavesOutUntouched result.outcome → (result.is_flush_due ≡ false) × (out.new ≡ out.old) }
@@ -127,6 +134,7 @@ fn run_command<O: Sink>(alloc: Global, command: Command, bytes: &[u8], out: &mut
         Command::Flat { decel, end_cm } => run_flat(alloc, decel, end_cm, bytes, out),
         Command::Run => run_journey(alloc, bytes, out),
         Command::Trial { seed, cycles } => run_trial(alloc, seed, cycles, out),
+        Command::Upgrade => run_upgrade(alloc, bytes, out),
     }
 }
 
@@ -137,6 +145,7 @@ fn outcome_to<O: Sink>(alloc: Global, command: Command, bytes: &[u8], out: &mut 
     ensures answer { (output : Output) → IsOutputOf command bytes.now output
         → IsAnswer output (O.taken out.old) (O.taken out.new) result }
     ensures rows { AreRowsSafe command bytes.now }
+    ensures read_back { command ≡ Command.Upgrade → NeedsTheWholeInput result → IsReadBack bytes.now }
     ensures possible { IsOutcomeIn (shape_of command) result }
     ensures not_before { ComesOfReadingAlone result → ⊥ }
     ensures first { LeavesOutUntouched result → out.new ≡ out.old }

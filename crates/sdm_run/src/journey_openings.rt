@@ -1,4 +1,5 @@
-//! The data part of `run`: from its bytes to an opened supervisor, or the outcome that says why there is none.
+//! The data part: from its bytes to the data, and for `run` to an opened supervisor, or the outcome that says why
+//! there is none.
 
 ghost use Rattle.std.specs.Prelude.{◌≡◌, ℕ, List, Some, Ok, IfOk, IfErr};
 ghost use Rattle.toml.specs.Data.{Members};
@@ -8,7 +9,7 @@ ghost use Rattle.sdm_rules.specs.Supervision.{opening};
 ghost use Rattle.sdm_data.specs.Document.{document_of};
 ghost use Rattle.sdm_data.specs.Given.{train_and_track_of};
 ghost use Rattle.sdm_data.specs.Journey.{data_of};
-ghost use Rattle.sdm_run.specs.RunParts.{IsDataOf, IsOpeningOf, IsRefusedBy};
+ghost use Rattle.sdm_run.specs.RunParts.{IsDataOf, IsOpeningOf, IsRefusedBy, IsRefusedByData};
 
 use sdm_data::{DocumentFault, JourneyData, data_of, read_document};
 use sdm_report::{InputFault, Outcome};
@@ -17,10 +18,10 @@ use sdm_supervisor::Supervisor;
 use std::alloc::Global;
 use toml::Table;
 
-/// The TOML document of the data part.
-fn document_in(alloc: Global, data: &[u8]) -> Result<Table, Outcome>
+/// The TOML document of the data part. (own)
+pub fn document_in(alloc: Global, data: &[u8]) -> Result<Table, Outcome>
     ensures document { IfOk result (λ table. document_of data.now ≡ Some (table_view table)) }
-    ensures refused { IfErr result (IsRefusedBy data.now) }
+    ensures refused { IfErr result (IsRefusedByData data.now) }
 {
     match read_document(alloc, data) {
         Ok(table) => Ok(table),
@@ -29,11 +30,12 @@ fn document_in(alloc: Global, data: &[u8]) -> Result<Table, Outcome>
     }
 }
 
-/// The data of the document.
-fn journey_in(alloc: Global, table: &Table) -> Result<JourneyData, Outcome>
+/// The data of the document. (own)
+pub fn journey_in(alloc: Global, table: &Table) -> Result<JourneyData, Outcome>
     ensures data { IfOk result (λ j. data_of (table_view table.now) ≡ Ok (train_and_track_of j, j.authority)) }
     ensures refused { IfErr result
-        (λ outcome. (bytes : List ℕ) → document_of bytes ≡ Some (table_view table.now) → IsRefusedBy bytes outcome) }
+        (λ outcome. (bytes : List ℕ) → document_of bytes ≡ Some (table_view table.now)
+        → IsRefusedByData bytes outcome) }
 {
     match data_of(alloc, table) {
         Ok(journey) => Ok(journey),
@@ -65,6 +67,7 @@ fn begin(alloc: Global, journey: JourneyData) -> Result<Supervisor, Outcome>
 
 /// The supervisor that a data part opens; else the outcome, which is that of the first rule that the data break, or of
 /// the first fault of the opening, unless memory was refused first. (own)
+#[tactic(auto, using(crate::proofs::Refusals::of_data_part))]
 pub fn opened(alloc: Global, data: &[u8]) -> Result<Supervisor, Outcome>
     ensures opened { IfOk result (IsOpeningOf data.now) }
     ensures refused { IfErr result (IsRefusedBy data.now) }

@@ -10,6 +10,7 @@ mod journey_openings;
 mod journey_records;
 mod journey_run;
 mod trial_run;
+mod upgrade_run;
 mod words;
 
 pub use answers::{law_of_outputs, outcome_of, sdm_main, told};

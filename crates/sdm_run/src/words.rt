@@ -3,6 +3,7 @@
 ghost use Rattle.std.specs.Prelude.{◌≡◌, map, string_bytes, IfSome};
 ghost use Rattle.sdm_run.specs.Shapes.{shape_of};
 ghost use Rattle.sdm_run.specs.Words.{IsCommandInRange, asked_by, flat_command, run_command, trial_command};
+ghost use Rattle.sdm_run.specs.Words.{upgrade_command};
 
 use sdm_rules::{LONGEST_TRACK_CM, MOST_RECORDS};
 use sdm_text::natural_in;
@@ -16,6 +17,8 @@ pub enum Command {
     Run,
     /// `trial NUMBER CYCLES`: a journey from a number, from 0 to 65,535, of so many readings, from 1 to 100,000.
     Trial { seed: u16, cycles: u32 },
+    /// `upgrade`: the data of the input as a text of version 2.
+    Upgrade,
 }
 
 impl Command {
@@ -24,7 +27,7 @@ impl Command {
         ensures { result ≡ (shape_of self).reads_input }
     {
         match self {
-            Command::Flat { .. } | Command::Run => true,
+            Command::Flat { .. } | Command::Run | Command::Upgrade => true,
             Command::Trial { .. } => false,
         }
     }
@@ -41,6 +44,7 @@ pub fn command_of(words: &[String]) -> Option<Command>
         "run" => run_command(more),
         "flat" => flat_command(more),
         "trial" => trial_command(more),
+        "upgrade" => upgrade_command(more),
         _ => None,
     }
 }
@@ -82,4 +86,15 @@ fn trial_command(words: &[String]) -> Option<Command>
         seed: seed as u16,
         cycles,
     })
+}
+
+/// `upgrade` has no words after it.
+fn upgrade_command(words: &[String]) -> Option<Command>
+    ensures { result ≡ upgrade_command (map string_bytes words.now) }
+{
+    if words.is_empty() {
+        Some(Command::Upgrade)
+    } else {
+        None
+    }
 }

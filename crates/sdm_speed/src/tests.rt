@@ -193,7 +193,14 @@ fn begun(alloc: Global, text: &str) -> Result<Profile, Fail> {
     let length_cm = length(words.next())?;
     let max_speed = identity(words.next())?;
     let speeds = steps(alloc, words.next().ok_or("no static profile")?)?;
-    let Ok(track) = Track::new(track_cm, Vec::new(alloc), speeds, Vec::new(alloc)) else {
+    let made = Track::new(
+        track_cm,
+        Vec::new(alloc),
+        speeds,
+        Vec::new(alloc),
+        Vec::new(alloc),
+    );
+    let Ok(track) = made else {
         return Err("no track")?;
     };
     if length_cm < 1 || 150_000 < length_cm || max_speed < 1 || 500 < max_speed {

@@ -2,10 +2,11 @@
 //! exact fractions.
 //!
 //! A table is text. An empty line parts its journeys. A journey begins with what it shows, after `#`, and with what
-//! its data have otherwise than the base data: sections with their keys, or with the numbers of their entries. Its
-//! records follow in the form of the product's input, each with its answer: the row as the product prints it, a fault,
-//! or `taken`. `up to` with an identity stands for as many restrictions alike as bring the identities up to that one,
-//! `come and go` with a number for so many restrictions alike, each revoked before the next.
+//! its data have otherwise than the base data: sections with their keys, or with the numbers of their entries.
+//! `uppers` has the upper speeds of all bands but the last, `bands` what each band has. Its records follow in the form
+//! of the product's input, each with its answer: the row as the product prints it, a fault, or `taken`. `up to` with
+//! an identity stands for as many restrictions alike as bring the identities up to that one, `come and go` with a
+//! number for so many restrictions alike, each revoked before the next.
 
 mod curves;
 mod data;
@@ -85,11 +86,13 @@ const OPENINGS: &str = "\
 end 200000 200000 500 = taken
 limit 0 500 = taken
 adhesion 90000 100000; national adhesion_max 4 = Safe slope 8000000000 too weak in band 1, cell 90000
+no_special 90000 100000; band 1 emergency_reduced 4 = Safe slope 8000000000 too weak in band 1, cell 90000
 adhesion 90000 100000; national adhesion_max 5; band 1 emergency 81 service 80 normal 80 = Safe slopes from 10000000000 to 162000000000 too varied in band 1
+adhesion 90000 100000; national adhesion_max 5; uppers 18 36 54 72 90 108 126 144; bands emergency 80 service 80 normal 80 = Safe slopes from 10000000000 to 160000000000 too varied in band 1
 band 1 service 4; train service_brake 0 = Expected slope 8000000000 too weak in band 1, cell 0
 band 1 upper 36; band 2 normal 4 = Normal slope 8000000000 too weak in band 2, cell 0
-band 1 normal 50 kn_down 200; gradient 0 0 50000 -80 = Normal slope -24960000000 too weak in band 1, cell 50000
-band 1 normal 5; gradient 0 0 50000 80 = Normal slopes from 10000000000 to 166960000000 too varied in band 1
+band 1 normal 50 kn_down 200; gradient 0 0 50000 -800 = Normal slope -24960000000 too weak in band 1, cell 50000
+band 1 normal 5; gradient 0 0 50000 800 = Normal slopes from 10000000000 to 166960000000 too varied in band 1
 band 1 service 4 emergency 81; adhesion 90000 100000; national adhesion_max 5 = Safe slopes from 10000000000 to 162000000000 too varied in band 1
 band 1 service 4 normal 4 = Expected slope 8000000000 too weak in band 1, cell 0
 band 1 normal 4; end 100000 99999 0 = Normal slope 8000000000 too weak in band 1, cell 0
@@ -99,7 +102,7 @@ end 100000 100000 501 = bad speed
 limit 200001 0 = beyond track
 limit 100000 0 = bad speed
 limit 200000 501 = bad speed
-band 1 upper 36; band 2 upper 72 emergency 80 service 80 normal 80; band 3 emergency 50 service 50 normal 50; gradient 0 80 199999 -50; end 100000 100000 0 = Safe slope 1900000000 too weak in band 3, cell 199999";
+band 1 upper 36; band 2 upper 72 emergency 80 service 80 normal 80; band 3 emergency 50 service 50 normal 50; gradient 0 800 199999 -500; end 100000 100000 0 = Safe slope 1900000000 too weak in band 3, cell 199999";
 
 #[test]
 fn the_first_fault_of_an_opening_is_named(rt: HostRuntime) -> Result<(), Fail> {

@@ -129,7 +129,14 @@ fn profile(alloc: Global, text: &str) -> Result<Profile, Fail> {
         speed: 160,
         delayed: false,
     })?;
-    let Ok(track) = Track::new(200_000, Vec::new(alloc), speeds, Vec::new(alloc)) else {
+    let made = Track::new(
+        200_000,
+        Vec::new(alloc),
+        speeds,
+        Vec::new(alloc),
+        Vec::new(alloc),
+    );
+    let Ok(track) = made else {
         return Err("no track")?;
     };
     let mut profile = Profile::begin(alloc, &track, 160, 10_000)?;

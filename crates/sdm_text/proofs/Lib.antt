@@ -3,3 +3,4 @@ pub mod Between
 pub mod FirstPieces
 pub mod NumberFields
 pub mod NumberDigits
+pub mod PairDigits

@@ -20,6 +20,7 @@ pub fn key_names(section: Section) -> &'static [&'static str]
         Section::Gradient => &keys::GRADIENT,
         Section::Speed => &keys::SPEED,
         Section::Adhesion => &keys::AREA,
+        Section::NoSpecial => &keys::AREA,
         Section::Authority => &keys::AUTHORITY,
     }
 }

@@ -3,6 +3,7 @@
 //! Nothing here takes memory.
 #![tactic(auto)]
 
+mod digits;
 mod keys;
 mod lines;
 mod numbers;

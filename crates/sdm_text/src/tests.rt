@@ -156,12 +156,13 @@ fn a_first_field_out_of_its_range_is_none(rt: HostRuntime) {
 const KEYS: &str = "\
 root|version train national track authority
 train|length max_speed rotating_mass traction_cutoff_time traction_cutoff_interface emergency_time service_time service_brake band
-band|upper emergency service normal kdry kwet kn_up kn_down
+band|upper emergency service normal kdry kwet kn_up kn_down emergency_reduced
 national|avadh adhesion_max guidance service_in_target early_release inhibit_under_reading
-track|length gradient speed adhesion
+track|length gradient speed adhesion no_special
 gradient|start grad
 speed|start speed delayed
 adhesion|start end
+no_special|start end
 authority|kind eoa svl release loa speed";
 
 fn section(word: &str) -> Result<Section, &'static str> {
@@ -174,6 +175,7 @@ fn section(word: &str) -> Result<Section, &'static str> {
         "gradient" => Ok(Section::Gradient),
         "speed" => Ok(Section::Speed),
         "adhesion" => Ok(Section::Adhesion),
+        "no_special" => Ok(Section::NoSpecial),
         "authority" => Ok(Section::Authority),
         _ => Err("no section"),
     }
@@ -213,7 +215,18 @@ const ROWS: &str = "\
 9223372036854775807|at 9223372036854775807,
 0|at 0,
 -7|at -7,
-100|at 100,";
+9|at 9,
+10|at 10,
+99|at 99,
+100|at 100,
+1005|at 1005,
+9999|at 9999,
+10000|at 10000,
+-4512345|at -4512345,
+10203040|at 10203040,
+99999999|at 99999999,
+100000000|at 100000000,
+-200000001|at -200000001,";
 
 #[test]
 #[tactic(auto, using(crate::proofs::Lengths::signed_decimal_is_short))]

@@ -182,13 +182,15 @@ unfolding track_fault
 track_accepted t e =
     let long = neither (length_fault t.length_cm) _ e in
     let gradients = neither (gradients_fault t.length_cm t.gradients) _ long.1 in
-    let speeds = neither (speeds_fault t.length_cm t.speeds)
-    (areas_fault sections.Adhesion t.length_cm t.areas) gradients.1 in
+    let speeds = neither (speeds_fault t.length_cm t.speeds) _ gradients.1 in
+    let areas = neither (areas_fault sections.Adhesion t.length_cm t.areas)
+    (areas_fault sections.NoSpecial t.length_cm t.no_special) speeds.1 in
     let in_range : length_fault t.length_cm ≡ None = long.0 in
     record {
       shortest = grind (arith, ints);
       longest = grind (arith, ints);
       gradients = are_gradients t.length_cm t.gradients gradients.0;
       speeds = are_speeds t.length_cm t.speeds speeds.0;
-      areas = are_areas sections.Adhesion t.length_cm t.areas speeds.1;
+      areas = are_areas sections.Adhesion t.length_cm t.areas areas.0;
+      no_special = are_areas sections.NoSpecial t.length_cm t.no_special areas.1;
     }

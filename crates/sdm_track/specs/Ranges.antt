@@ -7,7 +7,7 @@ use Rattle.sdm_rules.specs.Data.{TrackData}
 use Rattle.sdm_rules.specs.Ranges.{longest_track, most_areas, most_gradients, most_speeds, steepest, top_kmh}
 use Rattle.sdm_track.specs.Steps.{IsFromZero, IsRising}
 
--- an entry of the gradients starts on a track of this length, in cm; the gradient is in per mille (own)
+-- an entry of the gradients starts on a track of this length, in cm; the gradient is in tenths of a per mille (own)
 pub record IsGradient (length_cm : ℤ) (e : Gradient) : Type 0 where
   pub not_before : pos 0 ≤ℤ e.start
   pub on_track : e.start <ℤ length_cm
@@ -42,7 +42,7 @@ pub record AreSpeeds (length_cm : ℤ) (entries : List SpeedStep) : Type 0 where
   pub from_zero : IsFromZero (λ e. e.start) entries
   pub rise : IsRising (λ e. e.start) entries
 
--- the areas of reduced adhesion of a track: each ends before a later one starts, or where it starts (own)
+-- a list of areas of a track: each ends before a later one starts, or where it starts (own)
 pub record AreAreas (length_cm : ℤ) (areas : List Area) : Type 0 where
   pub few : length areas ≤ most_areas
   pub each : All (IsArea length_cm) areas
@@ -56,12 +56,14 @@ pub record IsTrack (t : TrackData) : Type 0 where
   pub gradients : AreGradients t.length_cm t.gradients
   pub speeds : AreSpeeds t.length_cm t.speeds
   pub areas : AreAreas t.length_cm t.areas
+  pub no_special : AreAreas t.length_cm t.no_special
 
 -- the data of a track as they are handed in, with its length in cm (own)
-abbrev pub track_data : ℕ → List Gradient → List SpeedStep → List Area → TrackData
-track_data length_cm gradients speeds areas = record {
+abbrev pub track_data : ℕ → List Gradient → List SpeedStep → List Area → List Area → TrackData
+track_data length_cm gradients speeds areas no_special = record {
   length_cm = pos length_cm;
   gradients = gradients;
   speeds = speeds;
   areas = areas;
+  no_special = no_special;
 }

@@ -7,13 +7,13 @@ use Rattle.sdm_rules.specs.Ranges.{steepest, most_gradients, longest_track, long
 use Rattle.sdm_track.specs.declared.under_train.Segment.{Segment}
 use Rattle.sdm_track.specs.Steps.{IsFromZero, IsRising}
 
--- the gradient of a front end in the cell, in per mille: of the last segment whose start is at most the cell, before
--- all of them of the first one (own)
+-- the gradient of a front end in the cell, in tenths of a per mille: of the last segment whose start is at most the
+-- cell, before all of them of the first one (own)
 abbrev pub segment_gradient : List Segment → ℤ → ℤ
 segment_gradient segments cell = value_at (λ s. s.start) (λ s. s.value) (pos 0) segments cell
 
--- a segment starts at cell 0 or later, before the longest train has left the longest track; the gradient is in per
--- mille (own)
+-- a segment starts at cell 0 or later, before the longest train has left the longest track; the gradient is in tenths
+-- of a per mille (own)
 pub record IsSegment (s : Segment) : Type 0 where
   pub not_before : pos 0 ≤ℤ s.start
   pub not_past : s.start <ℤ (pos longest_track +ℤ pos longest_train)

@@ -1,5 +1,5 @@
-//! The track of a journey: its length, its gradients, its static speed profile and its areas of reduced adhesion, kept
-//! within their ranges; and what of them lies under a train.
+//! The track of a journey: its length, its gradients, its static speed profile, its areas of reduced adhesion and
+//! those in which the special brake is not used, kept within their ranges; and what of them lies under a train.
 #![tactic(auto)]
 
 mod entries;

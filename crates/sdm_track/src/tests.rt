@@ -73,12 +73,14 @@ fn track(
     length_cm: u32,
     gradient_pairs: &[(i64, i64)],
     speed_pairs: &[(i64, i64)],
-    area_pairs: &[(i64, i64)],
+    adhesion_pairs: &[(i64, i64)],
+    no_special_pairs: &[(i64, i64)],
 ) -> Result<Result<Track, TrackFault>, Fail> {
     let gradient_list = gradients(alloc, gradient_pairs)?;
     let speed_list = speeds(alloc, speed_pairs)?;
-    let area_list = areas(alloc, area_pairs)?;
-    Ok(Track::new(length_cm, gradient_list, speed_list, area_list))
+    let adhesion = areas(alloc, adhesion_pairs)?;
+    let no_special = areas(alloc, no_special_pairs)?;
+    Ok(Track::new(length_cm, gradient_list, speed_list, adhesion, no_special))
 }
 
 /// The text of the fault, or `accepted`.
@@ -95,44 +97,60 @@ fn answer_to(alloc: Global, line: &str) -> Result<String, Fail> {
     let length = columns.next().ok_or("length")?.trim().parse::<u32>()?;
     let gradient_pairs = pairs(alloc, columns.next().ok_or("gradients")?)?;
     let speed_pairs = pairs(alloc, columns.next().ok_or("speeds")?)?;
-    let area_pairs = pairs(alloc, columns.next().ok_or("areas")?)?;
-    answer(
+    let adhesion = pairs(alloc, columns.next().ok_or("areas of adhesion")?)?;
+    let no_special = pairs(alloc, columns.next().ok_or("areas of no_special")?)?;
+    let made = track(
         alloc,
-        track(alloc, length, &gradient_pairs, &speed_pairs, &area_pairs)?,
-    )
+        length,
+        &gradient_pairs,
+        &speed_pairs,
+        &adhesion,
+        &no_special,
+    )?;
+    answer(alloc, made)
 }
 
-/// Length in cm | gradients | speeds | areas | the text of the fault, or `accepted`.
+/// Length in cm | gradients | speeds | areas of reduced adhesion | areas without the special brake | the text of the
+/// fault, or `accepted`.
 const TRACKS: &str = "\
-1 | | 0 160 | | accepted
-10000000 | 0 80, 9999999 -80 | 0 1, 9999999 500 | 9999999 10000000 | accepted
-1000 | | 0 160 | 1 20, 20 30, 30 1000 | accepted
-0 | | 0 160 | | value of key 1 in Track 0
-10000001 | | 0 160 | | value of key 1 in Track 0
-1000 | 0 0, -1 0 | 0 160 | | value of key 1 in Gradient 2
-1000 | 0 0, 1000 0 | 0 160 | | value of key 1 in Gradient 2
-1000 | 0 0, 500 81 | 0 160 | | value of key 2 in Gradient 2
-1000 | 0 -81 | 0 160 | | value of key 2 in Gradient 1
-1000 | 1 0 | 0 160 | | gap before Gradient
-1000 | 0 0, 500 1, 500 2 | 0 160 | | order of Gradient 3
-1000 | 0 0, 500 1, 499 2 | 0 160 | | order of Gradient 3
-1000 | | | | count of Speed
-1000 | | 0 160, 1000 160 | | value of key 1 in Speed 2
-1000 | | 0 0 | | value of key 2 in Speed 1
-1000 | | 0 501 | | value of key 2 in Speed 1
-1000 | | 1 160 | | gap before Speed
-1000 | | 0 160, 5 160, 5 100 | | order of Speed 3
-1000 | | 0 160 | -1 20 | value of key 1 in Adhesion 1
-1000 | | 0 160 | 1000 1001 | value of key 1 in Adhesion 1
-1000 | | 0 160 | 20 20 | value of key 2 in Adhesion 1
-1000 | | 0 160 | 20 1001 | value of key 2 in Adhesion 1
-1000 | | 0 160 | 0 20, 19 30 | order of Adhesion 2
-0 | 0 81 | 0 160 | | value of key 1 in Track 0
-1000 | 1 0, 1 81 | 0 160 | | value of key 2 in Gradient 2
-1000 | 1 0, 1 0 | 0 160 | | gap before Gradient
-1000 | 0 0, 0 0 | | | order of Gradient 2
-1000 | | 1 160, 1 160 | 0 0 | gap before Speed
-1000 | | 0 160 | 0 20, 10 5 | value of key 2 in Adhesion 2
+1 | | 0 160 | | | accepted
+10000000 | 0 800, 9999999 -800 | 0 1, 9999999 500 | 9999999 10000000 | 9999999 10000000 | accepted
+1000 | | 0 160 | 1 20, 20 30, 30 1000 | 1 20, 20 30, 30 1000 | accepted
+0 | | 0 160 | | | value of key 1 in Track 0
+10000001 | | 0 160 | | | value of key 1 in Track 0
+1000 | 0 0, -1 0 | 0 160 | | | value of key 1 in Gradient 2
+1000 | 0 0, 1000 0 | 0 160 | | | value of key 1 in Gradient 2
+1000 | 0 0, 500 801 | 0 160 | | | value of key 2 in Gradient 2
+1000 | 0 -801 | 0 160 | | | value of key 2 in Gradient 1
+1000 | 1 0 | 0 160 | | | gap before Gradient
+1000 | 0 0, 500 10, 500 20 | 0 160 | | | order of Gradient 3
+1000 | 0 0, 500 10, 499 20 | 0 160 | | | order of Gradient 3
+1000 | | | | | count of Speed
+1000 | | 0 160, 1000 160 | | | value of key 1 in Speed 2
+1000 | | 0 0 | | | value of key 2 in Speed 1
+1000 | | 0 501 | | | value of key 2 in Speed 1
+1000 | | 1 160 | | | gap before Speed
+1000 | | 0 160, 5 160, 5 100 | | | order of Speed 3
+1000 | | 0 160 | -1 20 | | value of key 1 in Adhesion 1
+1000 | | 0 160 | 1000 1001 | | value of key 1 in Adhesion 1
+1000 | | 0 160 | 20 20 | | value of key 2 in Adhesion 1
+1000 | | 0 160 | 20 1001 | | value of key 2 in Adhesion 1
+1000 | | 0 160 | 0 20, 19 30 | | order of Adhesion 2
+1000 | | 0 160 | | -1 20 | value of key 1 in NoSpecial 1
+1000 | | 0 160 | | 1000 1001 | value of key 1 in NoSpecial 1
+1000 | | 0 160 | | 20 20 | value of key 2 in NoSpecial 1
+1000 | | 0 160 | | 20 1001 | value of key 2 in NoSpecial 1
+1000 | | 0 160 | | 0 20, 19 30 | order of NoSpecial 2
+0 | 0 801 | 0 160 | | | value of key 1 in Track 0
+1000 | 1 0, 1 801 | 0 160 | | | value of key 2 in Gradient 2
+1000 | 1 0, 1 0 | 0 160 | | | gap before Gradient
+1000 | 0 0, 0 0 | | | | order of Gradient 2
+1000 | | 1 160, 1 160 | 0 0 | | gap before Speed
+1000 | | 0 160 | 0 20, 10 5 | | value of key 2 in Adhesion 2
+1000 | | 0 160 | 0 20, 10 30 | 0 0 | order of Adhesion 2
+1000 | | 0 160, 0 160 | | 0 0 | order of Speed 2
+1000 | | 0 160 | 0 20 | 0 20, 10 5 | value of key 2 in NoSpecial 2
+1000 | | 0 160 | 0 500 | 100 200, 300 1000 | accepted
 ";
 
 #[test]
@@ -150,26 +168,40 @@ fn answer_to_counts(
     alloc: Global,
     gradient_count: usize,
     speed_count: usize,
-    area_count: usize,
+    adhesion_count: usize,
+    no_special_count: usize,
 ) -> Result<String, Fail> {
-    let gradient_pairs = rising(alloc, gradient_count, 10, 80, 0)?;
+    let gradient_pairs = rising(alloc, gradient_count, 10, 800, 0)?;
     let speed_pairs = rising(alloc, speed_count, 10, 500, 0)?;
-    let area_pairs = rising(alloc, area_count, 10, 10, 10)?;
-    answer(
+    let adhesion = rising(alloc, adhesion_count, 10, 10, 10)?;
+    let no_special = rising(alloc, no_special_count, 10, 10, 10)?;
+    let made = track(
         alloc,
-        track(alloc, 10_000, &gradient_pairs, &speed_pairs, &area_pairs)?,
-    )
+        10_000,
+        &gradient_pairs,
+        &speed_pairs,
+        &adhesion,
+        &no_special,
+    )?;
+    answer(alloc, made)
 }
 
 #[test]
 fn a_list_of_too_many_entries_is_refused(rt: HostRuntime) -> Result<(), Fail> {
-    for (gradient_count, speed_count, area_count, wanted) in [
-        (512, 128, 64, "accepted"),
-        (513, 129, 65, "count of Gradient"),
-        (512, 129, 65, "count of Speed"),
-        (512, 128, 65, "count of Adhesion"),
+    for (gradient_count, speed_count, adhesion_count, no_special_count, wanted) in [
+        (512, 128, 64, 64, "accepted"),
+        (513, 129, 65, 65, "count of Gradient"),
+        (512, 129, 65, 65, "count of Speed"),
+        (512, 128, 65, 65, "count of Adhesion"),
+        (512, 128, 64, 65, "count of NoSpecial"),
     ] {
-        let found = answer_to_counts(rt.alloc(), gradient_count, speed_count, area_count)?;
+        let found = answer_to_counts(
+            rt.alloc(),
+            gradient_count,
+            speed_count,
+            adhesion_count,
+            no_special_count,
+        )?;
         assert_eq!(rt; found.as_str(), wanted);
     }
     Ok(())
@@ -183,6 +215,7 @@ fn a_track_keeps_what_was_handed_in(rt: HostRuntime) -> Result<(), Fail> {
         &[(0, 5), (300, -5)],
         &[(0, 160), (400, 120), (600, 80)],
         &[(10, 20)],
+        &[(30, 40), (50, 60)],
     )??;
     assert_eq!(rt; track.length_cm(), 1000);
     assert_eq!(rt; track.gradient_count(), 2);
@@ -191,6 +224,10 @@ fn a_track_keeps_what_was_handed_in(rt: HostRuntime) -> Result<(), Fail> {
     assert_eq!(rt; track.gradient(1).grad, -5);
     assert_eq!(rt; track.speed(2).start, 600);
     assert_eq!(rt; track.area(0).end, 20);
+    assert_eq!(rt; track.no_special_count(), 2);
+    assert_eq!(rt; track.no_special(1).start, 50);
+    assert_eq!(rt; track.areas().len(), 1);
+    assert_eq!(rt; track.no_special_areas().len(), 2);
     Ok(())
 }
 
@@ -200,7 +237,7 @@ fn segments_of(
     gradient_pairs: &[(i64, i64)],
     length_cm: u32,
 ) -> Result<Segments, Fail> {
-    let made = track(alloc, 1_000_000, gradient_pairs, &[(0, 160)], &[])??;
+    let made = track(alloc, 1_000_000, gradient_pairs, &[(0, 160)], &[], &[])??;
     if length_cm < 1 || 150_000 < length_cm {
         return Err("train length")?;
     }
@@ -210,7 +247,7 @@ fn segments_of(
 /// Train length in cm | gradients | the segments by start and value | some cells and their gradients
 const GRADIENTS: &str = "\
 150 | | 0 0 | -1 0, 0 0, 10149999 0
-20000 | 0 -10, 50000 0 | 0 -10, 70000 0 | -2147483648 -10, 69999 -10, 70000 0, 2147483647 0
+20000 | 0 -100, 50000 0 | 0 -100, 70000 0 | -2147483648 -100, 69999 -100, 70000 0, 2147483647 0
 1000 | 0 5, 100 -3, 200 7, 300 2 | 0 5, 100 -3, 1200 2 | 99 5, 100 -3, 1199 -3, 1200 2
 10 | 0 4, 100 -6, 101 4 | 0 4, 100 -6, 111 4 | 99 4, 100 -6, 110 -6, 111 4
 100 | 0 3, 200 1, 300 2 | 0 3, 200 1, 400 2 | 199 3, 200 1, 399 1, 400 2
@@ -257,16 +294,16 @@ fn the_gradient_is_the_lowest_under_the_train(rt: HostRuntime) -> Result<(), Fai
     Ok(())
 }
 
-/// 30 entries, each 10 m long and 1 per mille above the one before, under a train of 150 m.
+/// 30 entries, each 10 m long and a per mille above the one before, under a train of 150 m.
 #[test]
 fn a_rising_gradient_counts_from_its_foot(rt: HostRuntime) -> Result<(), Fail> {
-    let segments = segments_of(rt.alloc(), &rising(rt.alloc(), 30, 1000, 0, 1)?, 15_000)?;
+    let segments = segments_of(rt.alloc(), &rising(rt.alloc(), 30, 1000, 0, 10)?, 15_000)?;
     for (cell, grad) in [
         (100, 0),
         (15_999, 0),
-        (16_000, 1),
-        (40_000, 25),
-        (50_000, 29),
+        (16_000, 10),
+        (40_000, 250),
+        (50_000, 290),
     ] {
         assert_eq!(rt; segments.at(cell), grad, "at {cell}");
     }
@@ -299,8 +336,9 @@ fn the_most_gradients_make_segments(rt: HostRuntime) -> Result<(), Fail> {
 #[test]
 fn an_area_is_in_force_until_the_rear_end_has_left_it(rt: HostRuntime) -> Result<(), Fail> {
     let pairs = [(0, 10), (100, 200), (200, 300), (999_900, 1_000_000)];
-    let track = track(rt.alloc(), 1_000_000, &[], &[(0, 160)], &pairs)??;
-    for (cell, length, reduced) in [
+    let adhesion = track(rt.alloc(), 1_000_000, &[], &[(0, 160)], &pairs, &[])??;
+    let no_special = track(rt.alloc(), 1_000_000, &[], &[(0, 160)], &[], &pairs)??;
+    for (cell, length, in_force) in [
         (-1, 50, false),
         (0, 50, true),
         (59, 50, true),
@@ -315,7 +353,10 @@ fn an_area_is_in_force_until_the_rear_end_has_left_it(rt: HostRuntime) -> Result
         (1_149_999, 150_000, true),
         (1_150_000, 150_000, false),
     ] {
-        assert_eq!(rt; track.reduced(cell, length), reduced, "at {cell}");
+        assert_eq!(rt; adhesion.reduced(cell, length), in_force, "at {cell}");
+        assert!(rt; !adhesion.unaided(cell, length), "at {cell}");
+        assert_eq!(rt; no_special.unaided(cell, length), in_force, "at {cell}");
+        assert!(rt; !no_special.reduced(cell, length), "at {cell}");
     }
     Ok(())
 }

@@ -15,14 +15,16 @@ use std::alloc::Global;
 use std::marker::Model;
 
 /// A track from 0 to its length, 1 to 10,000,000 cm: its gradients (SUBSET-026-3 3.13.4), its static speed profile
-/// (3.11.3) and its areas of reduced adhesion (3.12), each list in the order of its starts. Before the track the first
-/// gradient and the first speed go on, past the track the last ones. (ranges own)
+/// (3.11.3), its areas of reduced adhesion (3.12) and those in which the special brake is not used (own form), each
+/// list in the order of its starts. Before the track the first gradient and the first speed go on, past the track the
+/// last ones. (ranges own)
 #[derive(Debug, Drop)]
 pub struct Track {
     length_cm: u32,
     gradients: Vec<Gradient>,
     speeds: Vec<SpeedStep>,
     areas: Vec<Area>,
+    no_special: Vec<Area>,
 }
 
 impl Model for Track {
@@ -31,9 +33,10 @@ impl Model for Track {
 
     ghost Value = { TrackData };
 
-    ghost view = { λ t. track_data t.length_cm t.gradients.items t.speeds.items t.areas.items };
+    ghost view = { λ t. track_data t.length_cm t.gradients.items t.speeds.items t.areas.items t.no_special.items };
 
-    ghost invariant = { λ t. IsTrack (track_data t.length_cm t.gradients.items t.speeds.items t.areas.items) };
+    ghost invariant = { λ t.
+        IsTrack (track_data t.length_cm t.gradients.items t.speeds.items t.areas.items t.no_special.items) };
 }
 
 /// Refuses the first rule that a track of these data breaks.
@@ -43,8 +46,10 @@ fn check(
     gradients: &[Gradient],
     speeds: &[SpeedStep],
     areas: &[Area],
+    no_special: &[Area],
 ) -> Result<(), TrackFault>
-    ensures { result_err result ≡ track_fault (track_data length_cm gradients.now speeds.now areas.now) }
+    ensures { result_err result
+        ≡ track_fault (track_data length_cm gradients.now speeds.now areas.now no_special.now) }
 {
     if length_cm < 1 || LONGEST_TRACK_CM < length_cm {
         return Err(TrackFault::Value {
@@ -55,7 +60,8 @@ fn check(
     }
     check_gradients(length_cm, gradients)?;
     check_speeds(length_cm, speeds)?;
-    check_areas(Section::Adhesion, length_cm, areas)
+    check_areas(Section::Adhesion, length_cm, areas)?;
+    check_areas(Section::NoSpecial, length_cm, no_special)
 }
 
 /// Whether the area is in force for a front end in the cell.
@@ -82,18 +88,22 @@ impl Track {
         gradients: Vec<Gradient>,
         speeds: Vec<SpeedStep>,
         areas: Vec<Area>,
+        no_special: Vec<Area>,
     ) -> Result<Track, TrackFault>
         ensures accepted { IfOk result (λ track. track_fault track ≡ None) }
-        ensures kept { IfOk result (λ track. track ≡ track_data length_cm gradients.items speeds.items areas.items) }
+        ensures kept { IfOk result
+            (λ track. track ≡ track_data length_cm gradients.items speeds.items areas.items no_special.items) }
         ensures refused { IfErr result
-            (λ fault. track_fault (track_data length_cm gradients.items speeds.items areas.items) ≡ Some fault) }
+            (λ fault. track_fault
+            (track_data length_cm gradients.items speeds.items areas.items no_special.items) ≡ Some fault) }
     {
-        check(length_cm, &gradients, &speeds, &areas)?;
+        check(length_cm, &gradients, &speeds, &areas, &no_special)?;
         Ok(Track {
             length_cm,
             gradients,
             speeds,
             areas,
+            no_special,
         })
     }
 
@@ -105,12 +115,28 @@ impl Track {
         self.length_cm
     }
 
+    /// The gradients: at most 512; with none the track is level.
+    pub fn gradients(&self) -> &[Gradient]
+        ensures value { result.now ≡ self.now.gradients }
+        ensures in_range { IsTrack self.now }
+    {
+        &self.gradients
+    }
+
     /// How many gradients there are: at most 512; with none the track is level.
     pub fn gradient_count(&self) -> usize
         ensures value { result ≡ length self.now.gradients }
         ensures in_range { IsTrack self.now }
     {
         self.gradients.len()
+    }
+
+    /// The entries of the static speed profile: 1 to 128.
+    pub fn speeds(&self) -> &[SpeedStep]
+        ensures value { result.now ≡ self.now.speeds }
+        ensures in_range { IsTrack self.now }
+    {
+        &self.speeds
     }
 
     /// How many entries the static speed profile has: 1 to 128.
@@ -137,6 +163,22 @@ impl Track {
         self.areas.len()
     }
 
+    /// The areas in which the special brake is not used: at most 64.
+    pub fn no_special_areas(&self) -> &[Area]
+        ensures value { result.now ≡ self.now.no_special }
+        ensures in_range { IsTrack self.now }
+    {
+        &self.no_special
+    }
+
+    /// How many areas there are in which the special brake is not used: at most 64.
+    pub fn no_special_count(&self) -> usize
+        ensures value { result ≡ length self.now.no_special }
+        ensures in_range { IsTrack self.now }
+    {
+        self.no_special.len()
+    }
+
     /// The gradient at an index of the list, counted from 0.
     pub fn gradient(&self, i: usize) -> &Gradient
         requires { i < length self.now.gradients }
@@ -155,13 +197,22 @@ impl Track {
         &self.speeds[i]
     }
 
-    /// The area at an index of the list, counted from 0.
+    /// The area of reduced adhesion at an index of the list, counted from 0.
     pub fn area(&self, i: usize) -> &Area
         requires { i < length self.now.areas }
         ensures value { slice_get self.now.areas i ≡ Some result.now }
         ensures in_range { IsArea self.now.length_cm result.now }
     {
         &self.areas[i]
+    }
+
+    /// The area in which the special brake is not used, at an index of the list, counted from 0.
+    pub fn no_special(&self, i: usize) -> &Area
+        requires { i < length self.now.no_special }
+        ensures value { slice_get self.now.no_special i ≡ Some result.now }
+        ensures in_range { IsArea self.now.length_cm result.now }
+    {
+        &self.no_special[i]
     }
 
     /// The gradients under a train of a length of 1 to 150,000 cm: for each cell of the front end the lowest gradient
@@ -182,5 +233,13 @@ impl Track {
         ensures { result ≡ (under_train self.now (pos length_cm) cell).reduced }
     {
         any_in_force(&self.areas, cell, length_cm)
+    }
+
+    /// Whether the special brake is not used for a front end in the cell, with a train of this length in cm: from the
+    /// start of an area until the rear end has left it, past the track's end too. (SUBSET-026-3 3.13.6.2; areas own)
+    pub fn unaided(&self, cell: i32, length_cm: u32) -> bool
+        ensures { result ≡ (under_train self.now (pos length_cm) cell).unaided }
+    {
+        any_in_force(&self.no_special, cell, length_cm)
     }
 }

@@ -25,7 +25,7 @@ use std::marker::Model;
 pub struct Segment {
     /// The first cell of the front end.
     pub start: i32,
-    /// The gradient in per mille, uphill positive.
+    /// The gradient in tenths of a per mille, uphill positive.
     pub value: i16,
 }
 

@@ -35,6 +35,7 @@ IsBand_of b h = record {
   kwet = grind (arith, ints);
   kn_up = grind (arith, ints);
   kn_down = grind (arith, ints);
+  emergency_reduced = within_if_any (pos 1) b.emergency b.emergency_reduced (grind arith);
 }
 
 -- ---- bands

@@ -15,6 +15,7 @@ pub record IsBand (b : Band) : Type 0 where
   pub kwet : (pos 1 ≤ℤ b.kwet) × (b.kwet ≤ℤ pos 1000)  -- thousandths
   pub kn_up : (pos 0 ≤ℤ b.kn_up) × (b.kn_up ≤ℤ pos 1000)  -- cm/s²
   pub kn_down : (pos 0 ≤ℤ b.kn_down) × (b.kn_down ≤ℤ pos 1000)  -- cm/s²
+  pub emergency_reduced : IfSome b.emergency_reduced (λ cm_s2. (pos 1 ≤ℤ cm_s2) × (cm_s2 ≤ℤ b.emergency))
 
 -- an accepted train: the ranges of its numbers, and its bands
 pub record IsTrain (t : TrainData) : Type 0 where

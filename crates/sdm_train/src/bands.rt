@@ -36,6 +36,12 @@ fn band_refused(band: &Band) -> Option<u8>
         outside(keys::BAND_KWET, band.kwet, 1, 1000),
         outside(keys::BAND_KN_UP, band.kn_up, 0, 1000),
         outside(keys::BAND_KN_DOWN, band.kn_down, 0, 1000),
+        outside_if_any(
+            keys::BAND_EMERGENCY_REDUCED,
+            band.emergency_reduced,
+            1,
+            band.emergency,
+        ),
     ])
 }
 

@@ -125,10 +125,18 @@ value of key 7 in band 1: -; kn_up -1
 value of key 7 in band 1: -; kn_up 1001
 value of key 8 in band 1: -; kn_down -1
 value of key 8 in band 1: -; kn_down 1001
+accepted: -; emergency_reduced 1
+accepted: -; emergency_reduced 100
+accepted: -; emergency 400 emergency_reduced 400
+value of key 9 in band 1: -; emergency_reduced 0
+value of key 9 in band 1: -; emergency_reduced -1
+value of key 9 in band 1: -; emergency_reduced 101
+value of key 9 in band 1: -; emergency 99 emergency_reduced 100
 band count: ;
-band count: 10 20 30 40 50 60 70 80 -;
+band count: 10 20 30 40 50 60 70 80 90 100 -;
+accepted: 10 20 30 40 50 60 70 80 90 -;
 accepted: 10 20 30 40 50 60 70 -;
-order of band 8: 10 20 30 40 50 60 70 80;
+order of band 10: 10 20 30 40 50 60 70 80 90 100;
 order of band 1: 100;
 order of band 1: - -;
 order of band 2: 100 - 120 -;
@@ -140,9 +148,13 @@ value of key 1 in band 0: -; max_speed 0 length 0
 value of key 7 in band 0: ; service_time 7
 value of key 2 in band 0: -; max_speed 0 kdry 0
 band count: ; kdry 0
-band count: 10 20 30 40 50 60 70 - -; kdry 0
+band count: 10 20 30 40 50 60 70 80 90 - -; kdry 0
+value of key 5 in band 1: 10 20 30 40 50 60 70 80 - -; kdry 0
 value of key 5 in band 1: -; kn_up 1001 kdry 0
 value of key 5 in band 1: 100 0 -; kdry 0
+value of key 8 in band 1: -; emergency_reduced 0 kn_down 1001
+value of key 2 in band 1: -; emergency_reduced 500 emergency 500
+value of key 9 in band 1: 100 0 -; emergency_reduced 0
 value of key 1 in band 3: 100 100 501 -;
 order of band 2: 100 100 90;";
 

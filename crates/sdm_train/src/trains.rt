@@ -122,8 +122,8 @@ impl Train {
         &self.bands()[i]
     }
 
-    /// The bands that count.
-    fn bands(&self) -> &[Band]
+    /// The speed bands: 1 to MOST_BANDS.
+    pub fn bands(&self) -> &[Band]
         ensures value { result.now ≡ self.now.bands }
         ensures ranges { All IsBand result.now }
     {

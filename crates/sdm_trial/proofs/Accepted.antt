@@ -18,7 +18,7 @@ use Rattle.sdm_rules.specs.Trial.{trial_authority, trial_train_and_track, trial_
 
 -- a gradient from 5 per mille downhill to level
 record IsGentle (grad : ℤ) : Type 0 where
-  low : negsuc 4 ≤ℤ grad
+  low : negsuc 49 ≤ℤ grad
   high : grad ≤ℤ pos 0
 
 -- one of two gentle gradients is gentle
@@ -39,13 +39,13 @@ lowest_gentle f each (suc n) cell = min_gentle _ _ (each cell) (lowest_gentle f 
 track_gentle : (cell : ℤ) → IsGentle (track_gradient trial_track.gradients cell)
 track_gentle cell =
     let level : IsGentle (pos 0) = record { low = omega (arith, ints); high = omega (arith, ints) } in
-    let falling : IsGentle (negsuc 4) = record { low = omega (arith, ints); high = omega (arith, ints) } in
+    let falling : IsGentle (negsuc 49) = record { low = omega (arith, ints); high = omega (arith, ints) } in
     pick_gentle (int_le (pos 400_000) cell) (pos 0) _ level
-    (pick_gentle (int_le (pos 200_000) cell) (negsuc 4) (pos 0) falling level)
+    (pick_gentle (int_le (pos 200_000) cell) (negsuc 49) (pos 0) falling level)
 
 -- ---- the slopes
 
--- what a gradient adds to a slope: from -1_962_000_000 * 115 * 5, for 5 per mille downhill, to 0
+-- what a gradient adds to a slope: from -196_200_000 * 115 * 50, for 5 per mille downhill, to 0
 record IsSlight (a : ℤ) : Type 0 where
   low : negsuc 1_128_149_999_999 ≤ℤ a
   high : a ≤ℤ pos 0
@@ -71,15 +71,15 @@ moderate : (brakes : ℕ) (a : ℤ) → 11_200_000_000_000 ≤ brakes → brakes
 moderate brakes a low high h = record { low = omega (arith, ints); high = omega (arith, ints) }
 
 -- a Kn of 0 adds nothing
-no_kn : (b : Bool) (grad : ℤ) → pos 20_000 *ℤ (if b then pos 0 else pos 0) *ℤ grad ≡ pos 0
+no_kn : (b : Bool) (grad : ℤ) → pos 2_000 *ℤ (if b then pos 0 else pos 0) *ℤ grad ≡ pos 0
 no_kn true grad = omega (arith, ints)
 no_kn false grad = omega (arith, ints)
 
--- the slope of a kind in a band over a gradient, on full adhesion
+-- the slope of a kind in a band over a gradient, on full adhesion and with the special brake
 abbrev slope_over : SlopeKind → ℤ → ℕ → ℤ → ℤ
 slope_over kind length_cm band grad =
     let d = line_with length_cm in
-    option_map_or (slope_under kind d.train d.national (record { grad = grad; reduced = false }))
+    option_map_or (slope_under kind d.train d.national (record { grad = grad; reduced = false; unaided = false }))
     (slice_get d.train.bands band) (pos 0)
 
 -- over a gentle gradient each slope is moderate

@@ -91,7 +91,7 @@ fn track(alloc: Global) -> Result<Track, NoMemory>
         Gradient { start: 0, grad: 0 },
         Gradient {
             start: 200_000,
-            grad: -5
+            grad: -50
         },
         Gradient {
             start: 400_000,
@@ -107,7 +107,7 @@ fn track(alloc: Global) -> Result<Track, NoMemory>
         },
     ]
     .map_err(|_| NoMemory)?;
-    match Track::new(600_000, gradients, speeds, Vec::new(alloc)) {
+    match Track::new(600_000, gradients, speeds, Vec::new(alloc), Vec::new(alloc)) {
         Ok(track) => Ok(track),
         Err(_) => unreachable!(),
     }

@@ -44,7 +44,7 @@ fn data_with_ample_memory(rt: HostRuntime) -> Result<(), Fail> {
         *journey.track.gradient(1),
         Gradient {
             start: 200_000,
-            grad: -5
+            grad: -50
         }
     );
     assert_eq!(rt;

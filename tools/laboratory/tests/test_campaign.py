@@ -65,6 +65,21 @@ class Campaign(unittest.TestCase):
         self.assertIn("group/c differs\n  the fault line differs\n    due      (none)\n    made     sdm: bad event 2: line\n", told)
         self.assertIn("2 as due, 1 differ", told)
 
+    def test_of_upgrade_the_table_is_due_and_not_its_layout(self):
+        folder = self.folder / "group/a"
+        (folder / "args").write_text("upgrade\n")
+        (folder / "rows").write_text("a = 1\n[b]\nc = [{d = true}]\n")
+        both = lambda due, made: f"    due      {due}\n    made     {made}\n"
+        for text, due in (("b = {c = [{d = true}]} # here\na = 0x1\n", ""),
+                          ("a = 1\n[b]\nc = [{d = false}]\n", both("b.c[1].d = True", "b.c[1].d = False")),
+                          ("a = 1\n", both("b.c[1].d = True", "(no such row)")),
+                          ("a = 1.0\n[b]\nc = [{d = true}]\n", both("a = 1", "a = 1.0")),
+                          ("a = 1\n[b]\nc = [{d = true}]\n#\n%%\n", "group/a differs\n")):
+            (folder / "input").write_text(text)
+            told = self.campaign("--again")[1]
+            self.assertIn(due, told)
+            self.assertIn("2 as due, 1 differ" if due else "3 as due, 0 differ", told)
+
     def test_what_can_t_be_run(self):
         self.assertIn("There is no program at", tool("campaign", self.folder, "--program", self.room / "none")[2])
         self.assertIn("a part is K/N", tool("campaign", self.folder, "--part", "3/2")[2])

@@ -21,16 +21,18 @@ def small_data(rng):
     """A track of some metres, so that it can be walked by cells."""
     length, starts = 600, lambda n: sorted(rng.sample(range(1, 599), n))
     bands = [Band(None, *(rng.randint(80, 400) for _ in range(3)), rng.randint(500, 1000), rng.randint(500, 1000),
-                  rng.randint(0, 30), rng.randint(0, 30)) for _ in range(rng.randint(1, 4))]
+                  rng.randint(0, 30), rng.randint(0, 30), rng.choice([None, 80, rng.randint(60, 80)]))
+             for _ in range(rng.randint(1, 4))]
     uppers = sorted(rng.sample(range(1, 20), len(bands) - 1)) + [None]
     bands = tuple(band._replace(upper=upper) for band, upper in zip(bands, uppers))
-    grads = tuple(Gradient(start, rng.randint(-20, 20)) for start in [0] + starts(rng.randint(0, 5)))
-    cuts = starts(4)
-    areas = tuple(Area(a, b) for a, b in [cuts[:2], cuts[2:]][:rng.randint(0, 2)])
+    grads = tuple(Gradient(start, rng.randint(-200, 200)) for start in [0] + starts(rng.randint(0, 5)))
+    def some_areas():
+        cuts = [rng.choice([0, 1, 2])] + starts(4)[1:]
+        return tuple(Area(a, b) for a, b in [cuts[:2], cuts[2:]][:rng.randint(0, 2)] if a < b)
     speeds = tuple(StaticSpeed(start, rng.randint(1, 20), rng.random() < .5) for start in [0] + starts(rng.randint(0, 4)))
     train = Train(rng.randint(1, 300), rng.randint(10, 20), rng.choice([None, 0, 9, 50]), 0, False, 0, 0, True, bands)
     return Data(train, National(rng.randint(0, 20), rng.randint(20, 200), False, True, False, False),
-                Track(length, rng.choice([grads, ()]), speeds, areas), Stop(300, 300, 0))
+                Track(length, rng.choice([grads, ()]), speeds, some_areas(), some_areas()), Stop(300, 300, 0))
 
 
 def slope(data, kind, band, x):
@@ -41,14 +43,16 @@ def slope(data, kind, band, x):
         return [each.grad for each in entries if each.start <= c][-1] if c >= 0 else entries[0].grad
     grad = min(grad_of(c) for c in range(x - L, x + 1)) if entries else 0
     reduced = any(area.start <= x <= area.end + L - 1 for area in data.track.adhesion)
+    unaided = any(area.start <= x <= area.end + L - 1 for area in data.track.no_special)
     q = 11_730 if M is None else 100 + M
-    G = 1_962_000_000 * grad * ((102 if grad >= 0 else 115) if M is None else 1)
-    E = band.kdry * (20 * band.kwet + data.national.avadh * (1000 - band.kwet)) * band.emergency
+    G = 196_200_000 * grad * ((102 if grad >= 0 else 115) if M is None else 1)
+    em = band.emergency_reduced if unaided and band.emergency_reduced else band.emergency
+    E = band.kdry * (20 * band.kwet + data.national.avadh * (1000 - band.kwet)) * em
     if reduced:
         E = min(E, 20_000_000 * data.national.adhesion_max)
     Kn = band.kn_up if grad >= 0 else band.kn_down
     return {"safe": q * E + G, "expected": 20_000_000 * q * band.service + G,
-            "normal": 20_000_000 * q * band.normal + G - 20_000 * q * Kn * grad}[kind], q
+            "normal": 20_000_000 * q * band.normal + G - 2_000 * q * Kn * grad}[kind], q
 
 
 def walk(data, kind, f, w, v, rounded):

@@ -5,6 +5,8 @@ from pathlib import Path
 
 sys.path.insert(0, str(Path(__file__).parent))
 from context import EXAMPLES
+from laboratory.cases import difference
+from laboratory.program import Result
 from model.records import read_int, records
 from model.words import collect
 
@@ -18,7 +20,8 @@ class Examples(unittest.TestCase):
             read = lambda name, absent: (folder / name).read_text() if (folder / name).exists() else absent
             due = read("rows", ""), read("err", ""), int(read("code", "0"))
             with self.subTest(folder.name):
-                self.assertEqual(collect(words, (folder / "input").read_bytes()), due)
+                made = Result(*collect(words, (folder / "input").read_bytes()))
+                self.assertEqual(difference(("stored", "model"), Result(*due), made, words), [])
 
     def test_trial_of_the_page(self):
         self.assertEqual(collect(["trial", "7", "3"])[0].split(), "rows 3 covered 3 emergency 0 service 0 ebi 14668789".split())
@@ -53,7 +56,8 @@ class Text(unittest.TestCase):
 
     def test_data(self):
         for old, new, due in [
-                ("version = 1", "version = 2", "bad data: value version"),
+                ("version = 1", "version = 3", "bad data: value version"),
+                ("version = 1", "version = 0", "bad data: value version"),
                 ("version = 1", "version = 1.0", "bad data: wrong kind version"),
                 ("version = 1", "version = 1\nmore = 1", "bad data: unknown key in root"),
                 ("version = 1", "version = 9223372036854775808", "bad data: not TOML"),

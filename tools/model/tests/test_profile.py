@@ -75,6 +75,21 @@ class Decelerations(unittest.TestCase):
         self.assertEqual(end(161, 4), "sdm: refused: too varied: safe band 1\n")
         self.assertEqual(end(160, 4), "sdm: refused: too weak: expected band 1 cell 0\n")
 
+    def test_up_to_eight_bands_differ_sixteenfold_nine_and_ten_eightfold(self):
+        def end(bands, emergency):
+            text = (EXAMPLES / "approach" / "input").read_text()
+            head, rest = text.replace("emergency = 100", f"emergency = {emergency}").split("[[train.band]]\n")
+            band, rest = rest.split("\n[national]")
+            lower = "".join(f"[[train.band]]\nupper = {10 * i}\n{band}\n" for i in range(1, bands))
+            rest = rest.replace("adhesion_max = 70", "adhesion_max = 10")
+            rest = rest.replace("[authority]", "[[track.adhesion]]\nstart = 5\nend = 6\n\n[authority]")
+            return collect(["run"], f"{head}{lower}[[train.band]]\n{band}\n[national]{rest}".encode())[1]
+        self.assertEqual([end(bands, 160) for bands in (1, 7, 8)], [""] * 3)
+        self.assertEqual([end(bands, 161) for bands in (1, 7, 8)], ["sdm: refused: too varied: safe band 1\n"] * 3)
+        self.assertEqual([end(bands, 80) for bands in (9, 10)], [""] * 2)
+        self.assertEqual([end(bands, 81) for bands in (9, 10)], ["sdm: refused: too varied: safe band 1\n"] * 2)
+        self.assertEqual(end(11, 81), "sdm: bad data: band count\n")
+
 
 class Speeds(unittest.TestCase):
     def test_margins(self):
@@ -108,6 +123,15 @@ class Curves(unittest.TestCase):
         self.assertEqual(stepped.place(5 * M_S), int(exact.place(5 * M_S)))
         self.assertEqual(exact.place(14 * M_S), 860 * M)
         self.assertEqual(stepped.place(14 * M_S), 860 * M - 1)
+
+    def test_ten_bands_are_rounded_ten_times(self):
+        brake = self.bands(*((18 * i, 70) for i in range(1, 10)), (None, 70))
+        stepped, exact = BrakeCurve(brake, 2000 * M, 0), BrakeCurve(brake, 2000 * M, 0, exact=True)
+        # what is lost at 18 km/h, 36 km/h and so on, in sevenths of a grain: 6, 4, 2, 0, 5, 3, 1, 6, 4, and 4 at the end
+        lost = [(exact.place(5 * i * M_S) - stepped.place(5 * i * M_S)) * 7 for i in range(1, 10)]
+        self.assertEqual(lost, [6, 10, 12, 12, 17, 20, 21, 27, 31])
+        self.assertEqual(exact.place(49 * M_S), 285 * M)
+        self.assertEqual(stepped.place(49 * M_S), 285 * M - 5)
 
     def test_two_bands(self):
         curve = BrakeCurve(self.bands((36, 100), (None, 50)), 1000 * M, 0)

@@ -60,20 +60,26 @@ none_in_force length_cm (a ∷ more) c h =
 
 -- ---- slopes
 
+-- from this cell on nothing changes under a train of a length in cm
+abbrev past_lists : TrackData → ℤ → ℕ
+past_lists track length_cm =
+    past_starts track.gradients + past_areas length_cm track.areas + past_areas length_cm track.no_special
+    + 2 * unsigned_abs length_cm
+
 -- from this cell on nothing changes
 abbrev pub settled_from : TrainAndTrack → ℕ
-settled_from d =
-    past_starts d.track.gradients + past_areas d.train.length_cm d.track.areas + 2 * unsigned_abs d.train.length_cm
+settled_from d = past_lists d.track d.train.length_cm
 
 under_settled : (track : TrackData) (length_cm : ℤ) (c c' : ℤ) →
-    pos (past_starts track.gradients + past_areas length_cm track.areas + 2 * unsigned_abs length_cm) ≤ℤ c →
-    pos (past_starts track.gradients + past_areas length_cm track.areas + 2 * unsigned_abs length_cm) ≤ℤ c' →
+    pos (past_lists track length_cm) ≤ℤ c → pos (past_lists track length_cm) ≤ℤ c' →
     under_train track length_cm c ≡ under_train track length_cm c'
 under_settled track length_cm c c' h h' =
     let grad = lowest_settled track.gradients (unsigned_abs length_cm) (c -ℤ length_cm) (c' -ℤ length_cm)
     (omega (arith, ints)) (omega (arith, ints)) in
     let here = none_in_force length_cm track.areas c (omega (arith, ints)) in
     let there = none_in_force length_cm track.areas c' (omega (arith, ints)) in
+    let unaided_here = none_in_force length_cm track.no_special c (omega (arith, ints)) in
+    let unaided_there = none_in_force length_cm track.no_special c' (omega (arith, ints)) in
     cc
 
 from_0 : (c : ℕ) → int_max (pos c) (pos 0) ≡ pos c

@@ -84,7 +84,13 @@ fn begun(alloc: Global) -> Result<(Supervisor, BandMap), Fail>
     })?;
     let train = Train::new(data.train)?;
     let national = National::new(data.national)?;
-    let track = Track::new(data.track_cm, data.gradients, data.speeds, data.areas)?;
+    let track = Track::new(
+        data.track_cm,
+        data.gradients,
+        data.speeds,
+        data.adhesion,
+        data.no_special,
+    )?;
     let map = safe(alloc, &train, &national, &track)?;
     let supervisor = Supervisor::begin(alloc, train, national, track, data.authority)?;
     Ok((supervisor, map))

@@ -1,9 +1,10 @@
 //! The data of a journey, from what a table says of them.
 
 ghost use Rattle.std.specs.Prelude.{◌<◌, IfOk};
+ghost use Rattle.sdm_rules.specs.Slopes.{most_bands};
 
 use sdm_national::NationalFields;
-use sdm_rules::{BASE_NATIONAL, BASE_TRAIN};
+use sdm_rules::{BASE_NATIONAL, BASE_TRAIN, MOST_BANDS};
 use sdm_targets::Authority;
 use sdm_track::{Area, Gradient, SpeedStep};
 use sdm_train::TrainFields;
@@ -18,7 +19,8 @@ pub struct Data {
     pub track_cm: u32,
     pub gradients: Vec<Gradient>,
     pub speeds: Vec<SpeedStep>,
-    pub areas: Vec<Area>,
+    pub adhesion: Vec<Area>,
+    pub no_special: Vec<Area>,
     pub authority: Authority,
 }
 
@@ -31,7 +33,8 @@ pub fn base(alloc: Global) -> Data {
         track_cm: 200_000,
         gradients: Vec::new(alloc),
         speeds: Vec::new(alloc),
-        areas: Vec::new(alloc),
+        adhesion: Vec::new(alloc),
+        no_special: Vec::new(alloc),
         authority: Authority::Stop {
             eoa: 100_000,
             svl: 100_000,
@@ -69,12 +72,13 @@ fn known(set: bool) -> Result<(), Fail> {
 
 /// The place in the array of a band's number, which counts from 1.
 fn band_index(word: Option<&str>) -> Result<usize, Fail>
-    ensures { IfOk result (λ i. i < 8) }
+    ensures { IfOk result (λ i. i < most_bands) }
 {
-    match natural(word)? {
-        n @ 1..=8 => Ok(n as usize - 1),
-        _ => Err("no such band")?,
+    let number = natural(word)? as usize;
+    if number == 0 || number > MOST_BANDS {
+        return Err("no such band")?;
     }
+    Ok(number - 1)
 }
 
 fn set_band(train: &mut TrainFields, text: &str) -> Result<(), Fail> {
@@ -83,6 +87,34 @@ fn set_band(train: &mut TrainFields, text: &str) -> Result<(), Fail> {
     train.band_count = train.band_count.max(i as u32 + 1);
     while let Some(key) = words.next() {
         known(train.bands[i].set(key, number(words.next())?))?;
+    }
+    Ok(())
+}
+
+/// Gives the first bands these upper speeds; the band after them is the last, and has none.
+fn set_uppers(train: &mut TrainFields, text: &str) -> Result<(), Fail> {
+    let mut words = text.split_whitespace();
+    for i in 0..MOST_BANDS {
+        let Some(upper) = words.next() else {
+            return Ok(());
+        };
+        known(train.bands[i].set("upper", number(Some(upper))?))?;
+        train.band_count = i as u32 + 2;
+    }
+    Ok(())
+}
+
+fn set_each_band(train: &mut TrainFields, key: &str, value: i64) -> Result<(), Fail> {
+    for i in 0..MOST_BANDS {
+        known(train.bands[i].set(key, value))?;
+    }
+    Ok(())
+}
+
+fn set_bands(train: &mut TrainFields, text: &str) -> Result<(), Fail> {
+    let mut words = text.split_whitespace();
+    while let Some(key) = words.next() {
+        set_each_band(train, key, number(words.next())?)?;
     }
     Ok(())
 }
@@ -170,9 +202,12 @@ fn set_section(alloc: Global, data: &mut Data, text: &str) -> Result<(), Fail> {
     match section {
         "train" | "national" | "track" => set_numbers(data, section, text)?,
         "band" => set_band(&mut data.train, text)?,
+        "bands" => set_bands(&mut data.train, text)?,
+        "uppers" => set_uppers(&mut data.train, text)?,
         "gradient" => data.gradients = gradients(alloc, text)?,
         "speed" => data.speeds = speeds(alloc, text)?,
-        "adhesion" => data.areas = areas(alloc, text)?,
+        "adhesion" => data.adhesion = areas(alloc, text)?,
+        "no_special" => data.no_special = areas(alloc, text)?,
         "end" | "limit" => set_authority(data, section, text)?,
         _ => return Err("no such section")?,
     }

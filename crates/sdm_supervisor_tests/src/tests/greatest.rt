@@ -1,7 +1,7 @@
-//! The greatest data: 512 gradients, 128 speeds and 64 areas on 100 km of track, a train of 8 speed bands, and 32
-//! restrictions. All but the first speed lie from 2 km to 99 km, and every band brakes with 1 m/s² on level track: so
-//! before an EOA at 1 km, and before one at 100 km, the limits are those that 20 m/s have on the track of the base
-//! data.
+//! The greatest data: 512 gradients, 128 speeds and twice 64 areas on 100 km of track, a train of ten speed bands, each
+//! with a reduced emergency deceleration, and 32 restrictions. All but the first speed lie from 2 km to 99 km, and every
+//! band brakes with 1 m/s² on level track with its special brake: so before an EOA at 1 km, and before one at 100 km,
+//! the limits are those that 20 m/s have on the track of the base data.
 
 use crate::tests::data::{Data, base, set_line};
 use crate::tests::records::answer;
@@ -11,10 +11,12 @@ use std::alloc::Global;
 use std::process::Abort;
 use std::test::Fail;
 
-/// The eight bands: at 1 m/s² each of their borders is passed a whole number of millimetres before the foot.
+/// The ten bands: at 1 m/s² each of their borders is passed a whole number of millimetres before the foot.
 const BANDS: &str = "\
-train max_speed 500; track length 10000000
-band 1 upper 18; band 2 upper 36; band 3 upper 54; band 4 upper 72; band 5 upper 90; band 6 upper 108; band 7 upper 126; band 8 normal 100";
+train max_speed 500; track length 10000000; uppers 18 36 54 72 90 108 126 144 162
+band 1 emergency_reduced 90; band 2 emergency_reduced 85; band 3 emergency_reduced 80; band 4 emergency_reduced 75
+band 5 emergency_reduced 70; band 6 emergency_reduced 65; band 7 emergency_reduced 60; band 8 emergency_reduced 55
+band 9 emergency_reduced 50; band 10 emergency_reduced 45";
 
 /// 511 more gradients: by turns 5 per mille down and up, and level from 98,900 m on.
 fn add_gradients(data: &mut Data) -> Result<(), Fail> {
@@ -23,9 +25,9 @@ fn add_gradients(data: &mut Data) -> Result<(), Fail> {
         let grad = if i == 510 {
             0
         } else if i % 2 == 0 {
-            -5
+            -50
         } else {
-            5
+            50
         };
         data.gradients.push(Gradient {
             start: i64::from(200_000 + 19_000 * i),
@@ -55,9 +57,13 @@ fn add_speeds(data: &mut Data) -> Result<(), Fail> {
 fn add_areas(data: &mut Data) -> Result<(), Fail> {
     for i in 0..64u32 {
         let start = 200_000 + 140_000 * i;
-        data.areas.push(Area {
+        data.adhesion.push(Area {
             start: i64::from(start),
             end: i64::from(start + 70_000),
+        })?;
+        data.no_special.push(Area {
+            start: i64::from(start + 35_000),
+            end: i64::from(start + 105_000),
         })?;
     }
     Ok(())

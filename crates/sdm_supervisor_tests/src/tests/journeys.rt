@@ -38,21 +38,49 @@ band 1 upper 18 emergency 70 service 70 normal 70; band 2 emergency 70 service 7
 read,0,859999,859999,859999,14000,0,0 = 0,T,W,1,0,0,1,160,859999,859999,831999,803999,677999
 read,5,860000,860000,860000,14000,0,0 = 5,T,X,1,1,1,0,160,859999,859999,831999,803999,677999
 
+# nine bands alike are as one
+uppers 18 36 54 72 90 108 126 144
+read,0,799990,799990,799990,20000,0,0 = 0,T,W,1,0,0,1,160,800000,800000,760000,720000,540000
+
+# ten bands alike are as one but for rounding: where the curve passes 18 km/h, 36 km/h and so on is rounded down by
+# 6, 4, 2, 0, 5, 3, 1, 6 and 4 sevenths of a grain, and the EBI by 4, so it lies 5 grains before 285 m
+uppers 18 36 54 72 90 108 126 144 162; bands emergency 70 service 70 normal 70
+train max_speed 200; speed 0 200 1; end 200000 200000 0
+read,0,284999,284999,284999,49000,0,0 = 0,T,W,1,0,0,1,200,284999,284999,186999,88999,-352001
+read,5,285000,285000,285000,49000,0,0 = 5,T,X,1,1,1,0,200,284999,284999,186999,88999,-352001
+
 # 10 per mille down, 9 percent of rotating mass: 0.91 m/s²
-train rotating_mass 9; gradient 0 -10
+train rotating_mass 9; gradient 0 -100
 read,0,500000,500000,500000,20000,0,0 = 0,C,N,0,0,0,1,160,780219,780219,740219,700219,520219
 
 # the slope ends at 500 m and counts for the front end to 700 m
-train length 20000 rotating_mass 9; gradient 0 -10 50000 0
+train length 20000 rotating_mass 9; gradient 0 -100 50000 0
 read,0,400000,400000,400000,30000,0,0 = 0,T,I,0,0,0,1,160,535164,535164,475164,415164,145164
+
+# a tenth of a per mille counts: 9.5 per mille down leave 0.9145 m/s²
+train rotating_mass 9; gradient 0 -95
+read,0,500000,500000,500000,20000,0,0 = 0,C,N,0,0,0,1,160,781301,781301,741301,701301,521301
 
 # 0.7 m/s² from 900 m on
 adhesion 90000 100000
 read,0,690000,690000,690000,20000,0,0 = 0,T,I,0,0,0,1,160,770000,770000,730000,690000,510000
 
+# 0.8 m/s² from 900 m on, where the special brake is not used
+band 1 emergency_reduced 80; no_special 90000 100000
+read,0,690000,690000,690000,20000,0,0 = 0,T,I,0,0,0,1,160,780000,780000,740000,700000,520000
+
+# a band that gives no other deceleration brakes there as elsewhere
+no_special 90000 100000
+read,0,690000,690000,690000,20000,0,0 = 0,T,I,0,0,0,1,160,800000,800000,760000,720000,540000
+
 # 0.05 m/s² from 900 m on and 0.8 m/s² before: as varied as may be
 adhesion 90000 100000; national adhesion_max 5; band 1 emergency 80 service 80 normal 80
 read,0,300000,300000,300000,20000,0,0 = 0,C,N,0,0,0,1,160,656250,656250,616250,576250,396250
+
+# 0.1 m/s² from 900 m on and 0.8 m/s² before: as varied as may be with nine bands
+adhesion 90000 100000; national adhesion_max 10
+uppers 18 36 54 72 90 108 126 144; bands emergency 80 service 80 normal 80
+read,0,300000,300000,300000,20000,0,0 = 0,C,N,0,0,0,1,160,662500,662500,622500,582500,402500
 
 # the service brake takes 3 s: the SvL's SBI is nearer than the EOA's, which lies at 740 m
 train emergency_time 20 service_time 30
@@ -84,7 +112,7 @@ read,1,100000,100000,100000,22223,0,0 = 1,C,N,0,0,0,1,160,548449,548449,504003,4
 # two bands, a traction cut-off, build-up times, 5 per mille down from 2 km to 4 km; the safe front ends 5 m to both sides
 train length 20000 rotating_mass - traction_cutoff_time 20 traction_cutoff_interface 1 emergency_time 30 service_time 40
 band 1 upper 100 emergency 120 service 90 normal 60 kdry 850 kwet 950; band 2 service 80 normal 50 kdry 850 kwet 950
-national avadh 0; track length 600000; gradient 0 0 200000 -5 400000 0; end 500000 505000 0
+national avadh 0; track length 600000; gradient 0 0 200000 -50 400000 0; end 500000 505000 0
 read,0,3300000,3295000,3305000,40000,0,500 = 0,C,N,0,0,0,1,160,3987048,3827048,3747048,3667048,3307048
 read,25,3400000,3395000,3405000,40000,0,500 = 25,T,I,0,0,0,1,160,3987048,3827048,3747048,3667048,3307048";
 

@@ -6,7 +6,7 @@ pub const MODELLED: &str = "\
 # a release speed, then a limit, then a release speed again; early release, no compensation of under-reading
 train length 20000 max_speed 126 rotating_mass 47 traction_cutoff_time 300 traction_cutoff_interface 1 service_time 5
 band 1 emergency 80 service 80 normal 50 kn_down 100; national adhesion_max 67 early_release 1 inhibit_under_reading 1
-track length 400000; gradient 0 30; speed 0 144 1; end 50803 102780 39
+track length 400000; gradient 0 300; speed 0 144 1; end 50803 102780 39
 end,310248,310248,5 = taken
 read,529890,-6053610,-6058610,-6053610,35000,300,0 = 529890,T,O,0,0,0,1,126,-5896112,-5913612,-5983612,-6053612,-6368612
 limit,180697,60 = taken
@@ -42,7 +42,7 @@ band 2 upper 58 emergency 133 service 110 normal 113 kdry 990 kwet 999 kn_down 1
 band 3 upper 59 emergency 74 service 84 normal 76 kdry 850 kwet 999 kn_down 100
 band 4 upper 127 emergency 76 service 234 normal 90 kdry 850 kwet 853 kn_down 100
 band 5 emergency 99 service 61 normal 123 kdry 900 kwet 900 kn_up 48 kn_down 677
-national adhesion_max 41 guidance 1 early_release 1; track length 2373706; gradient 0 -1 2240260 -10
+national adhesion_max 41 guidance 1 early_release 1; track length 2373706; gradient 0 -10 2240260 -100
 speed 0 160 1 1871395 160 1 2158673 72 1; adhesion 62305 665706 945718 1637257; limit 2057552 18
 read,341957,20575520,20575510,20575530,34538,50,0 = 341957,T,X,1,1,1,0,120,17968115,17950846,17881770,17812694,17501852
 read,341957,0,0,0,0,0,0 = 341957,C,N,0,0,0,1,120,-,-,-,-,-

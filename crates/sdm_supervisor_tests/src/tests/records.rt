@@ -23,7 +23,13 @@ pub fn begin(alloc: Global, mut data: Data) -> Result<Result<Supervisor, OpenFau
     }
     let train = Train::new(data.train)?;
     let national = National::new(data.national)?;
-    let track = Track::new(data.track_cm, data.gradients, data.speeds, data.areas)?;
+    let track = Track::new(
+        data.track_cm,
+        data.gradients,
+        data.speeds,
+        data.adhesion,
+        data.no_special,
+    )?;
     Ok(Supervisor::begin(alloc, train, national, track, data.authority))
 }
 

@@ -25,7 +25,13 @@ fn base_braking(alloc: Global) -> Result<Braking, Fail> {
     })?;
     let train = Train::new(data.train)?;
     let national = National::new(data.national)?;
-    let track = Track::new(data.track_cm, data.gradients, data.speeds, data.areas)?;
+    let track = Track::new(
+        data.track_cm,
+        data.gradients,
+        data.speeds,
+        data.adhesion,
+        data.no_special,
+    )?;
     Ok(Braking::open(alloc, train, national, track)?)
 }
 

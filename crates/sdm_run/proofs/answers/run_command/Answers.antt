@@ -1,4 +1,4 @@
--- The output of `flat`, within the limit of an input.
+-- The outputs of `flat` and `upgrade`, within the limit of an input.
 use Rattle.sdm_run.proofs.CommandFacts.{within_answer}
 use Rattle.sdm_run.proofs.RunAnswers.{flat_not_before}
 use Rattle.sdm_run.proofs.answers.run_command.Goals as goal
@@ -8,3 +8,7 @@ returns-in-Flat-clause-answer g c = rw c.in-Flat.is (within_answer _ _ _ _ _ c.r
 
 pub returns-in-Flat-clause-not_before : goal.returns-in-Flat-clause-not_before
 returns-in-Flat-clause-not_before g c = flat_not_before c.run_flat.result.outcome c.run_flat.ensures.not_first
+
+pub returns-in-Upgrade-clause-answer : goal.returns-in-Upgrade-clause-answer
+returns-in-Upgrade-clause-answer g c =
+    rw c.in-Upgrade.is (within_answer _ _ _ _ _ c.requires.short c.run_upgrade.ensures.answer)

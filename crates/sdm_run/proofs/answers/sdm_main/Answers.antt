@@ -1,17 +1,23 @@
 -- The promises of a command's rows and of an input that is too long, at the command that the words ask for; and what
 -- the bytes that were read are to the input.
-use Rattle.std.proofs.Common.{◌∙◌, Err, ap, sym}
+use Rattle.std.proofs.Common.{◌∙◌, Err, ap, sym, subst}
 use Rattle.sdm_report.specs.declared.outcome.Outcome.TheVariants.{Memory}
-use Rattle.sdm_run.specs.Answers.{IsAnswer}
+use Rattle.sdm_run.specs.Answers.{IsAnswer, NeedsTheWholeInput}
 use Rattle.sdm_run.proofs.CommandFacts.{answer_told, rows_told, too_long_told}
 use Rattle.sdm_run.proofs.Flushes.{complete_told, told_of_all}
 use Rattle.sdm_run.proofs.RunAnswers.{memory_first}
+use Rattle.sdm_run.proofs.UpgradeTexts.{read_back_told}
 use Rattle.sdm_run.proofs.answers.sdm_main.Goals as goal
 
 pub returns-in-Ok-clause-answer : goal.returns-in-Ok-clause-answer
 returns-in-Ok-clause-answer g c =
     rw c.told-in-Ok.ensures.same (answer_told _ _ _ _ _ _
     (sym c.in-Some.ensures.value) c.in-Ok.ensures.whole c.deref.ensures.value c.outcome_to.ensures.answer)
+
+pub returns-in-Ok-clause-read_back : goal.returns-in-Ok-clause-read_back
+returns-in-Ok-clause-read_back g c asked whole =
+    read_back_told _ _ _ _ _ (sym c.in-Some.ensures.value) c.in-Ok.ensures.whole c.deref.ensures.value
+    (λ upgrade. c.outcome_to.ensures.read_back upgrade (subst NeedsTheWholeInput c.told-in-Ok.ensures.same whole)) asked
 
 pub returns-in-Ok-clause-complete : goal.returns-in-Ok-clause-complete
 returns-in-Ok-clause-complete g c =

@@ -7,6 +7,6 @@ use Rattle.sdm_track.proofs.tracks.Track.new.Goals as goal
 
 pub invariant_of-result : goal.invariant_of-result
 invariant_of-result c =
-    let none : track_fault (track_data c.args.length_cm c.args.gradients.items c.args.speeds.items c.args.areas.items)
-    ≡ None = search rules in
+    let none : track_fault (track_data c.args.length_cm c.args.gradients.items c.args.speeds.items c.args.areas.items
+    c.args.no_special.items) ≡ None = search rules in
     track_accepted _ none

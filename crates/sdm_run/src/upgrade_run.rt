@@ -1,0 +1,67 @@
+//! The command `upgrade`: the data part that the input is, as a text of version 2 of the same data.
+
+ghost use Rattle.std.specs.Prelude.{◌≡◌, ◌⊎◌, ◌≤◌, false, IfErr, IfOk, Some, string_bytes};
+ghost use Rattle.sdm_io.specs.Causes.{Rose};
+ghost use Rattle.sdm_data.specs.Document.{document_of};
+ghost use Rattle.sdm_data.specs.Tables.{table_of};
+ghost use Rattle.sdm_run.specs.Answers.{ComesOfReadingAlone, IsAnswer, LeavesOutUntouched, NeedsTheWholeInput};
+ghost use Rattle.sdm_run.specs.RunParts.{IsDataOf, IsRefusedByData};
+ghost use Rattle.sdm_run.specs.Shapes.{IsOutcomeIn, upgrade_shape};
+ghost use Rattle.sdm_run.specs.Upgrades.{IsReadBack, IsUpgradedTo, upgrade_output};
+
+use crate::endings::Ended;
+use crate::journey_openings::{document_in, journey_in};
+use sdm_data::text_of;
+use sdm_io::{Sink, write_piece};
+use sdm_report::Outcome;
+use std::alloc::Global;
+
+/// Answers a data part: the text of version 2 of its data, which is printed whole before out is called. Memory comes
+/// only before that; WriteFault only where out failed. (own)
+#[tactic(auto, using(crate::proofs::UpgradeTexts::refusal, crate::proofs::UpgradeTexts::text_done, crate::proofs::UpgradeTexts::text_cut))]
+pub fn run_upgrade<O: Sink>(alloc: Global, bytes: &[u8], out: &mut O) -> Ended
+    ensures answer { IsAnswer (upgrade_output bytes.now) (O.taken out.old) (O.taken out.new) result.outcome }
+    ensures read_back { NeedsTheWholeInput result.outcome → IsReadBack bytes.now }
+    ensures possible { IsOutcomeIn upgrade_shape result.outcome }
+    ensures not_before { ComesOfReadingAlone result.outcome → ⊥ }
+    ensures first { LeavesOutUntouched result.outcome → (result.is_flush_due ≡ false) × (out.new ≡ out.old) }
+    ensures memory { result.outcome ≡ Outcome.Memory → (result.is_flush_due ≡ false) × (out.new ≡ out.old) }
+    ensures due { result.is_flush_due ≡ false → (out.new ≡ out.old) ⊎ (result.outcome ≡ Outcome.WriteFault) }
+    ensures later { O.faults out.old ≤ O.faults out.new }
+    ensures write { result.outcome ≡ Outcome.WriteFault → Rose (O.faults out.old) (O.faults out.new) }
+{
+    let text = match upgraded(alloc, bytes) {
+        Ok(text) => text,
+        Err(outcome) => {
+            return Ended {
+                outcome,
+                is_flush_due: false,
+            };
+        }
+    };
+    match write_piece(out, text.as_str().as_bytes()) {
+        Ok(()) => Ended {
+            outcome: Outcome::Done,
+            is_flush_due: true,
+        },
+        Err(_) => Ended {
+            outcome: Outcome::WriteFault,
+            is_flush_due: false,
+        },
+    }
+}
+
+/// The text of version 2 of the data; else the outcome, which is that of the first rule that they break, unless memory
+/// was refused first.
+#[tactic(auto, using(crate::proofs::UpgradeTexts::upgraded_to))]
+fn upgraded(alloc: Global, bytes: &[u8]) -> Result<String, Outcome>
+    ensures text { IfOk result (λ text. IsUpgradedTo bytes.now (string_bytes text)) }
+    ensures refused { IfErr result (IsRefusedByData bytes.now) }
+{
+    let table = document_in(alloc, bytes)?;
+    let journey = journey_in(alloc, &table)?;
+    match text_of(alloc, &journey) {
+        Ok(text) => Ok(text),
+        Err(_) => Err(Outcome::Memory),
+    }
+}

@@ -1,0 +1,66 @@
+"""Holds `upgrade` against `run`: over the data part of each journey of `run` in examples/ and vectors/.
+
+    scripts/check-upgrade                   what the gate runs
+    scripts/check-upgrade --program PATH    another program than crates/sdm/out/sdm
+
+Where `run` accepts the data, `upgrade` must write a text whose table is that of the model for these data; `upgrade` over
+that text must write the same bytes; and `run` over it, with the records of the journey, must end as over the journey.
+Where `run` refuses the data, `upgrade` must write nothing and tell the same line. An input without a dividing line is
+left out.
+"""
+import argparse
+import sys
+import tomllib
+from pathlib import Path
+
+TOP = Path(__file__).resolve().parents[1]
+sys.path.insert(0, str(TOP / "tools"))
+
+from laboratory.cases import cases_under  # noqa: E402
+from laboratory.program import Fault, Result, add_program, built, run  # noqa: E402
+from model.data import DIVIDING_LINE, data_of, read_document, table_of  # noqa: E402
+
+BAD_DATA = 5
+
+
+def fault_of(program, data, line):
+    """What is wrong with `upgrade` over the data part that stands before the dividing line of an input, if anything is."""
+    part, whole = data[:line.start()], run(program, ["run"], data)
+    upgraded = run(program, ["upgrade"], part)
+    if whole.code == BAD_DATA:
+        return None if upgraded == Result("", whole.err, BAD_DATA) else "data that `run` refuses aren't refused alike"
+    if (upgraded.err, upgraded.code) != ("", 0):
+        return f"data that `run` accepts end with {upgraded.code}"
+    text = upgraded.rows.encode()
+    if tomllib.loads(upgraded.rows) != table_of(data_of(read_document(part))):
+        return "what is written is another table"
+    if run(program, ["upgrade"], text) != upgraded:
+        return "what is written isn't written again"
+    if run(program, ["run"], text + data[line.start():]) != whole:
+        return "what is written gives other rows"
+    return None
+
+
+def main(args):
+    parser = argparse.ArgumentParser(prog="scripts/check-upgrade", description=__doc__.split("\n\n")[0])
+    add_program(parser)
+    passed = failed = 0
+    try:
+        program = built(parser.parse_args(args).program)
+        for case in [case for folder in ("examples", "vectors") for case in cases_under(TOP / folder)]:
+            line = DIVIDING_LINE.search(case.data)
+            if case.words != ["run"] or line is None:
+                continue
+            fault = fault_of(program, case.data, line)
+            passed, failed = passed + (fault is None), failed + (fault is not None)
+            if fault:
+                print(f"{case.name}: {fault}", flush=True)
+    except Fault as why:
+        print(f"check-upgrade: {why}", file=sys.stderr)
+        return 1
+    print(f"upgrade: {passed} passed, {failed} failed")
+    return int(failed > 0 or passed == 0)
+
+
+if __name__ == "__main__":
+    sys.exit(main(sys.argv[1:]))
