@@ -68,7 +68,9 @@ def is_result(definition, clause):
 
 
 class Tests:
-    """The tests of all crates, by the functions that they call themselves; and those that scripts/shown-by.txt names."""
+    """The tests of all crates, by the functions that they call themselves; and those that scripts/shown-by.txt names.
+
+    A crate's tests stand in it, or in the crate of tests over it."""
 
     def __init__(self, graph):
         self.functions, self.tests = defaultdict(list), defaultdict(set)
@@ -77,10 +79,11 @@ class Tests:
                 self.functions[contract.crate()].append(contract)
         for crate in specs.crates():
             alone = Counter(contract.name for contract in self.functions[crate])
-            for name, text in tests_of(crate):
-                for contract in self.functions[crate]:
-                    if is_called(contract, text, alone[contract.name] == 1):
-                        self.tests[contract].add(f"{crate}::{name}")
+            for tester in (crate, f"{crate}_tests"):
+                for name, text in tests_of(tester):
+                    for contract in self.functions[crate]:
+                        if is_called(contract, text, alone[contract.name] == 1):
+                            self.tests[contract].add(f"{tester}::{name}")
         self.named = specs.noted(SHOWN_BY)
 
     def of(self, key):
@@ -110,6 +113,13 @@ def results(graph, key):
             yield contract
 
 
+def body(text, at):
+    """Where the body of a function begins, of which the signature is read up to a place: past its clauses."""
+    begins = text.index("{", at)
+    clause = text[at:begins].rsplit("\n", 1)[-1].split()
+    return body(text, closing(text, begins)) if clause[:1] in (["requires"], ["ensures"]) else begins
+
+
 def tests_of(crate):
     """(name, text with that of its helpers) of each test of a crate."""
     source, bodies, tests = CRATES / crate / "src", {}, []
@@ -117,7 +127,7 @@ def tests_of(crate):
         if path.exists():
             text = blanked(path.read_text(), "//")
             for match in TEST.finditer(text):
-                bodies[match.group(2)] = text[match.start() : closing(text, text.index("{", match.end()))]
+                bodies[match.group(2)] = text[match.start() : closing(text, body(text, match.end()))]
                 tests += [match.group(2)] if match.group(1) else []
     for name in tests:
         yield name, " ".join(bodies[helper] for helper in sorted(closure({name}, bodies)))

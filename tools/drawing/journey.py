@@ -120,9 +120,9 @@ class Course:
         now = len(self.readings)
         if cycle is not None:
             self.readings.append((event, cycle))
-        elif self.supervisor.authority is event:
+        elif self.supervisor.authority is not self.authorities[-1].what:
             self.authorities[-1].until = now
-            self.authorities.append(Held(event, now))
+            self.authorities.append(Held(self.supervisor.authority, now))
         elif event.identity in self.supervisor.restrictions:
             self.in_force[event.identity] = Held(restriction_zone(self.supervisor.data, event), now)
             self.restrictions.append(self.in_force[event.identity])

@@ -4,9 +4,10 @@ from collections import namedtuple
 from .curves import Curves
 from .data import Stop
 from .decelerations import brakes_of, refuse_slopes
-from .limits import Situation, limits_of, release_start, targets_of, times_of
+from .limits import Situation, limits_of, targets_of, times_of
 from .outcome import Outcome, Refused
-from .records import Reading, Restriction, Revocation, event_of, records
+from .records import Calculated, Reading, Restriction, Revocation, event_of, records
+from .release import calculated, release_start
 from .rows import row_of
 from .speeds import ceiling, mrsp
 from .triggers import NOTHING, decide, triggers_of
@@ -42,11 +43,22 @@ class Supervisor:
         elif isinstance(event, Revocation):
             if self.restrictions.pop(event.identity, None) is None:
                 raise Refused("identity unknown")
+        elif isinstance(event, Calculated):
+            self.authority = self.authority_of(event)
         else:
             refuse_authority(self.data, event)
             self.authority = event
         self.profile = mrsp(self.data, self.restrictions.values())
         return None
+
+    def authority_of(self, event):
+        """PROFILE "What a record does", `endcalc`: the authority to an end that it sets. It changes nothing."""
+        authority = Stop(event.eoa, event.svl, 0)
+        refuse_authority(self.data, authority)
+        if event.trip < event.eoa or event.trip > event.svl:
+            raise Refused("bad trip place")
+        T_be = self.data.train.emergency_time
+        return authority._replace(release=calculated(self.curves, T_be, event.svl, event.trip))
 
     def restrict(self, event):
         """PROFILE "What a record does", `restrict`."""
@@ -82,7 +94,7 @@ class Supervisor:
         return Cycle(situation, triggers, decision, row_of(situation, decision))
 
 def walk(supervisor, data):
-    """Each event behind the dividing line with its cycle, None of no reading, up to the first record that is refused."""
+    """Each event behind the dividing line with its cycle, None of no reading, up to the first that is refused."""
     for number, fields in enumerate(records(data), 1):
         try:
             if number > MOST_RECORDS:

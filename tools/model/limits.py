@@ -1,7 +1,7 @@
-"""Limits (PROFILE "Targets", "Times", "Until the emergency brake works", "Limits of a target", "Release speed ...")."""
+"""Limits (PROFILE "Targets", "Times", "Until the emergency brake works", "Limits of a target")."""
 from collections import namedtuple
 
-from .data import Limit, Stop
+from .data import Limit
 from .speeds import dV_ebi, falls
 from .units import GRAINS_PER_CM, NOTCHES_PER_CM_S2_DS, NOTCHES_PER_KM_H, NOTCHES_PER_MM_S, distance_at
 
@@ -39,7 +39,8 @@ def times_of(data):
     T_traction = train.traction_cutoff_time
     if train.traction_cutoff_interface:
         T_traction = max(T_traction - (T_warning + T_bs), 0)
-    return Times(in_use, T_bs, T_traction, max(train.emergency_time - T_traction, 0), max(4 * T_bs // 5, 50) + T_driver)
+    T_berem = max(train.emergency_time - T_traction, 0)
+    return Times(in_use, T_bs, T_traction, T_berem, max(4 * T_bs // 5, 50) + T_driver)
 
 def until_the_emergency_brake_works(data, times, reading, V_target):
     """PROFILE "Until the emergency brake works": V_bec in notches, D_bec in grains."""
@@ -76,16 +77,8 @@ def limits_of(data, times, curves, reading, target, exact=False):
         guide = curves.d_guide(f, target.V_target * NOTCHES_PER_KM_H, V_est, exact)
         d_P = min(d_P, guide)
     return TargetLimits(target, reading.front_end(target.compared), V_bec, D_bec, curve, guide,
-                        d_EBI, d_SBI, d_SBI - distance_at(V_est, T_warning), d_P, d_P - distance_at(V_est, times.T_indication))
-
-def release_start(times, curves, authority, exact=False):
-    """PROFILE "Release speed monitoring": the start of it, None where there is no release speed."""
-    if not (isinstance(authority, Stop) and authority.release > 0):
-        return None
-    V_rel = authority.release * NOTCHES_PER_KM_H
-    d_SBD = curves.d_SBD(authority.eoa * GRAINS_PER_CM, 0, V_rel, exact)
-    d_EBD = curves.d_EBD(authority.svl * GRAINS_PER_CM, 0, V_rel, exact)
-    return min(d_SBD - distance_at(V_rel, times.T_bs), d_EBD - distance_at(V_rel, times.T_traction + times.T_berem + times.T_bs))
+                        d_EBI, d_SBI, d_SBI - distance_at(V_est, T_warning), d_P,
+                        d_P - distance_at(V_est, times.T_indication))
 
 def targets_of(profile, authority, reading, in_release):
     """PROFILE "Targets", at a reading: the falls by their places, then the ends of the authority."""

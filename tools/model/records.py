@@ -25,6 +25,7 @@ class Reading(namedtuple("Reading", "time est min max speed accel under")):
         """PROFILE "Units": the cell of a front end, rounded down, below 0 too."""
         return getattr(self, which) // 10
 
+Calculated = namedtuple("Calculated", "eoa svl trip")              # cm; an authority whose release speed is calculated
 Restriction = namedtuple("Restriction", "identity start end speed delayed")
 Revocation = namedtuple("Revocation", "identity")
 EST, LOW, HIGH = "est", -10_000_000, 110_000_000                   # EST stands for the record's own est
@@ -32,6 +33,7 @@ TIME, PLACE, SPEED, END = (0, 100_000_000), (LOW, HIGH), (0, 138_888), (0, MOST_
 EVENTS = {                                     # FORMATS "What a record writes": the ranges of the columns from 2 on
     b"read": (Reading, TIME, PLACE, (LOW, EST), (EST, HIGH), SPEED, (-300, 300), (0, 10_000)),
     b"end": (Stop, END, END, (0, 500)),
+    b"endcalc": (Calculated, END, END, END),
     b"limit": (Limit, END, (1, 500)),
     b"restrict": (Restriction, (0, 65_535), END, END, (1, 500), (0, 1)),
     b"revoke": (Revocation, (0, 65_535)),

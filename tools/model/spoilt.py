@@ -2,9 +2,11 @@
 from .data import KIND, Area, Band, Gradient, Limit, National, Root, StaticSpeed, Stop, Track, Train, keys_of
 from .toml_text import Raw
 
-OTHER_KINDS = [Raw("1.0"), Raw('"1"'), Raw("true"), Raw("1"), Raw("[]"), Raw("[1]"), Raw("{}"), Raw("[{}, 1]"), Raw("inf"),
-               Raw("1979-05-27"), Raw("07:32:00"), Raw("1979-05-27T07:32:00Z"), Raw("'''end'''"), Raw("[[]]")]
-EXTREMES = [-1, 0, 2**63 - 1, -2**63, Raw("9223372036854775808"), Raw("-9223372036854775809"), Raw("0x8000000000000000")]
+OTHER_KINDS = [Raw("1.0"), Raw('"1"'), Raw("true"), Raw("1"), Raw("[]"), Raw("[1]"), Raw("{}"), Raw("[{}, 1]"),
+               Raw("inf"), Raw("1979-05-27"), Raw("07:32:00"), Raw("1979-05-27T07:32:00Z"), Raw("'''end'''"),
+               Raw("[[]]")]
+EXTREMES = [-1, 0, 2**63 - 1, -2**63, Raw("9223372036854775808"), Raw("-9223372036854775809"),
+            Raw("0x8000000000000000")]
 LISTS = [("gradient", Gradient), ("speed", StaticSpeed), ("adhesion", Area), ("no_special", Area)]
 
 
@@ -141,34 +143,51 @@ def spoil_text(rng, data):
     return what, data
 
 
-def spoilt_record(rng, supervisor, time):
-    """A record that is refused, of a cause that is named."""
-    length, held = supervisor.data.track.length, sorted(supervisor.restrictions)
-    free = next(identity for identity in range(40) if identity not in held)
-    end, some = min(10_000_000, length + 1), ["read", str(time), "0", "0", "0", "0", "0", "0"]
-    found = {
-        "unknown kind": rng.choice([[""], ["Read"], ["read "], ["x", "1"], ['"\nread', "1"], ["\ufeffrevoke", "1"]]),
-        "field count": rng.choice([["read"], some[:-1], some + ["0"], ["end", "1", "1"], ["revoke"], ["limit", "1", "1", ""]]),
-        "not a number": ["read"] + rng.choice([["", "0"], ["1.0", "0"], ["+1", "0"], [" 1", "0"], ["0", "--1"],
-                                               ["0", "1" * 19], ["0", "0x1"]]) + ["0"] * 5,
-        "out of range": rng.choice([
+def spoilt_forms(some):
+    """Records whose form is refused, by the fault's name; `some` is a reading that is accepted."""
+    return {
+        "unknown kind": [[""], ["Read"], ["read "], ["x", "1"], ['"\nread', "1"], ["\ufeffrevoke", "1"],
+                         ["Endcalc", "0", "0", "0"], ["endcal", "0", "0", "0"]],
+        "field count": [["read"], some[:-1], some + ["0"], ["end", "1", "1"], ["revoke"], ["limit", "1", "1", ""],
+                        ["endcalc", "1", "1"], ["endcalc", "1", "1", "x", "0"]],
+        "not a number": [["read", *first, *["0"] * 5] for first in (
+            ["", "0"], ["1.0", "0"], ["+1", "0"], [" 1", "0"], ["0", "--1"], ["0", "1" * 19], ["0", "0x1"])]
+        + [["endcalc", "0", "0", ""], ["endcalc", "0", "x", "-1"]],
+        "out of range": [
             ["read", "100000001"] + some[2:], ["read", "-1"] + some[2:], some[:2] + ["110000001"] + some[3:],
-            some[:2] + ["5", "6", "5"] + some[5:], some[:2] + ["5", "5", "4"] + some[5:], some[:5] + ["138889", "0", "0"],
-            some[:6] + ["301", "0"], some[:7] + ["10001"], some[:7] + ["-1"], some[:6] + ["-301", "x"],
-            ["end", "10000001", "0", "0"], ["end", "0", "0", "501"], ["limit", "0", "0"], ["limit", "0", "501"],
-            ["restrict", "65536", "0", "1", "5", "0"], ["restrict", "0", "0", "1", "0", "0"],
-            ["restrict", "0", "0", "1", "5", "2"], ["revoke", "-1"], ["end", "9" * 18, "0", "0"]]),
-        "time back": ["read", str(max(time - 1, 0))] + some[2:],
-        "before end": rng.choice([["end", "1", "0", "0"], ["end", str(length), str(length - 1), "5"], ["end", "10000000", "0", "0"]]),
-        "beyond track": rng.choice([["end", "0", str(end), "0"], ["limit", str(end), "5"], ["end", str(end), str(end), "0"]]),
-        "restriction value": rng.choice([["restrict", str(free), "5", "5", "5", "0"], ["restrict", str(free), "6", "5", "5", "1"],
-                                         ["restrict", str(free), "0", str(end), "5", "0"]]),
-        "identity unknown": ["revoke", str(free)],
-        "identity in use": ["restrict", str(rng.choice(held)), "0", rng.choice(["0", "1"]), "5", "0"] if held else ["revoke", "9"],
+            some[:2] + ["5", "6", "5"] + some[5:], some[:2] + ["5", "5", "4"] + some[5:],
+            some[:5] + ["138889", "0", "0"], some[:6] + ["301", "0"], some[:7] + ["10001"], some[:7] + ["-1"],
+            some[:6] + ["-301", "x"], ["end", "10000001", "0", "0"], ["end", "0", "0", "501"], ["limit", "0", "0"],
+            ["limit", "0", "501"], ["restrict", "65536", "0", "1", "5", "0"], ["restrict", "0", "0", "1", "0", "0"],
+            ["restrict", "0", "0", "1", "5", "2"], ["revoke", "-1"], ["end", "9" * 18, "0", "0"],
+            ["endcalc", "0", "0", "10000001"], ["endcalc", "1", "0", "-1"], ["endcalc", "10000001", "0", "0"]],
     }
+
+
+def refused_events(rng, supervisor, time):
+    """Records that the supervisor refuses now, by the fault's name."""
+    length, held = supervisor.data.track.length, sorted(supervisor.restrictions)
+    free = str(next(identity for identity in range(40) if identity not in held))
+    last, end = str(length), str(min(10_000_000, length + 1))
+    in_use = ["restrict", str(rng.choice(held)), "0", rng.choice(["0", "1"]), "5", "0"] if held else ["revoke", "9"]
+    return {
+        "time back": [["read", str(max(time - 1, 0)), "0", "0", "0", "0", "0", "0"]],
+        "before end": [["end", "1", "0", "0"], ["end", last, str(length - 1), "5"], ["end", "10000000", "0", "0"],
+                       ["endcalc", "1", "0", "1"], ["endcalc", end, last, "0"]],
+        "beyond track": [["end", "0", end, "0"], ["limit", end, "5"], ["end", end, end, "0"],
+                         ["endcalc", "1", end, "0"], ["endcalc", end, end, end]],
+        "bad trip place": [["endcalc", "1", "1", "0"], ["endcalc", "0", "0", "1"], ["endcalc", "0", last, end],
+                           ["endcalc", last, last, str(length - 1)], ["endcalc", "0", last, "10000000"]],
+        "restriction value": [["restrict", free, "5", "5", "5", "0"], ["restrict", free, "6", "5", "5", "1"],
+                              ["restrict", free, "0", end, "5", "0"]],
+        "identity unknown": [["revoke", free]],
+        "identity in use": [in_use],
+    }
+
+
+def spoilt_record(rng, supervisor, time):
+    """A record that is refused, of a cause that is named. On a track of 100 km one past its end may be accepted."""
+    some = ["read", str(time), "0", "0", "0", "0", "0", "0"]
+    found = spoilt_forms(some) | refused_events(rng, supervisor, time)
     name = rng.choice(list(found))
-    return name, found[name]
-
-
-RECORD_FAULTS = ("unknown kind", "field count", "not a number", "out of range", "time back", "before end", "beyond track",
-                 "restriction value", "identity unknown", "identity in use")
+    return name, rng.choice(found[name])

@@ -36,6 +36,7 @@ ebi_of_kind P d e t ebi Loa safe is = is (guidance_place P d e t)
 ebi_of_kind P d e t ebi Eoa safe is = absurd (subst IsOther safe tt)
 ebi_of_kind P d e t ebi Svl safe is = is None
 
+-- so it is of the target's own kind
 pub ebi_of : (P : CurvePlaces) (d : TrainAndTrack) (e : Estimate) (t : Target) (ebi : Option Fraction) →
     brake_kind t.kind ≡ Safe →
     ((guide : Option Fraction) → ebi ≡ (ebd_limits_of P d e t guide).ebi) → ebi ≡ (limits_of P d e t).ebi

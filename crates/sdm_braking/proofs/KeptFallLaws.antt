@@ -28,25 +28,24 @@ use Rattle.sdm_speed.proofs.ZoneLaws.{int_gap_is}
 use Rattle.sdm_targets.proofs.CountLaws.{zones_few}
 use Rattle.sdm_speed.specs.Falls.{AreAtFalls}
 use Rattle.sdm_speed.proofs.FallLists.{each_falls, each_lower, falls_joined, from_later, none_between}
-use Rattle.sdm_braking.specs.declared.kept_falls.KeptFall.{KeptFall}
 use Rattle.sdm_braking.specs.KeptFalls.{AreKeptFalls, AreOfProfileBefore, ArePartedPast, IsFallAt, IsKeptFall}
-use Rattle.sdm_braking.specs.KeptFalls.{KeptFallsData, fall_of, first_cell}
+use Rattle.sdm_braking.specs.KeptFalls.{KeptFallData, KeptFallsData, fall_of, first_cell}
 
-module _ (p : ℤ → ℕ) (ks : List KeptFall) (i : ℕ) (cell : ℤ) (h : AreAtFalls fall_of p first_cell ks) where
+module _ (p : ℤ → ℕ) (ks : List KeptFallData) (i : ℕ) (cell : ℤ) (h : AreAtFalls fall_of p first_cell ks) where
   -- the profile falls at the cell of what is found
-  pub found : (k : KeptFall) → i < length ks → k ≡ get_or ks i k → k.fall.cell ≡ cell → IsFallAt p cell k.fall
+  pub found : (k : KeptFallData) → i < length ks → k ≡ get_or ks i k → k.fall.cell ≡ cell → IsFallAt p cell k.fall
   found k known is here =
       let falls = each_falls fall_of p first_cell ks i k h known in
       let speed = each_lower fall_of p first_cell ks i k h known in
       rw (← here) (record {
         cell = refl;
-        falls = subst (λ (x : KeptFall). is_fall p x.fall.cell ≡ true) (sym is) falls;
-        speed = subst (λ (x : KeptFall). x.fall.speed ≡ p x.fall.cell) (sym is) speed;
+        falls = subst (λ (x : KeptFallData). is_fall p x.fall.cell ≡ true) (sym is) falls;
+        speed = subst (λ (x : KeptFallData). x.fall.speed ≡ p x.fall.cell) (sym is) speed;
       })
 
   -- where the first that is not before the cell is not at it, the profile does not fall there
-  pub missing : first_cell <ℤ cell → ArePartedPast (cell -ℤ pos 1) ks i →
-      ((k : KeptFall) → i < length ks → k ≡ get_or ks i k → k.fall.cell ≡ cell → ⊥) → is_fall p cell ≡ false
+  pub missing : first_cell <ℤ cell → ArePartedPast fall_of (cell -ℤ pos 1) ks i →
+      ((k : KeptFallData) → i < length ks → k ≡ get_or ks i k → k.fall.cell ≡ cell → ⊥) → is_fall p cell ≡ false
   missing past parts other =
       none_between fall_of p first_cell cell ks i past
       (λ k d l m. let on = parts.reached k d l m in omega (arith, ints))
@@ -75,7 +74,7 @@ less_before a b top lt le =
 -- ---- what is left of a list where its first ones are taken out
 
 -- it stands at the falls past a cell that is not past the last one reached
-pub record IsLeft (p : ℤ → ℕ) (last : ℤ) (ks : List KeptFall) : Type 0 where
+pub record IsLeft (p : ℤ → ℕ) (last : ℤ) (ks : List KeptFallData) : Type 0 where
   pub at : ℤ
   pub on : at ≤ℤ last
   pub falls : AreAtFalls fall_of p at ks
@@ -96,18 +95,19 @@ take_remove (x ∷ xs) zero = refl
 take_remove (x ∷ xs) (suc i) = ap (λ ys. x ∷ ys) (take_remove xs i)
 
 -- the first is taken out
-left_less : (p : ℤ → ℕ) (last : ℤ) (k : KeptFall) (ks : List KeptFall) → k.fall.cell ≤ℤ last → IsLeft p last (k ∷ ks) →
+left_less : (p : ℤ → ℕ) (last : ℤ) (k : KeptFallData) (ks : List KeptFallData) → k.fall.cell ≤ℤ last →
+    IsLeft p last (k ∷ ks) →
     IsLeft p last ks
 left_less p last k ks reached h = record { at = k.fall.cell; on = reached; falls = h.falls.1 }
 
-pub one_less : (p : ℤ → ℕ) (last : ℤ) (ks : List KeptFall) (i : ℕ) (d : KeptFall) → i < length ks →
+pub one_less : (p : ℤ → ℕ) (last : ℤ) (ks : List KeptFallData) (i : ℕ) (d : KeptFallData) → i < length ks →
     (get_or ks i d).fall.cell ≤ℤ last → IsLeft p last (drop i ks) → IsLeft p last (drop i (remove ks i))
 one_less p last ks i d known reached h = rw (drop_remove ks i)
     (left_less p last (get_or ks i d) (drop (i + 1) ks) reached (rw (drop_more ks i d known) at h))
 
 -- the first that is left lies past the last cell
-pub none_less : (p : ℤ → ℕ) (last : ℤ) (ks : List KeptFall) (i : ℕ) →
-    ((d : KeptFall) → i < length ks → last <ℤ (get_or ks i d).fall.cell) → IsLeft p last (drop i ks) →
+pub none_less : (p : ℤ → ℕ) (last : ℤ) (ks : List KeptFallData) (i : ℕ) →
+    ((d : KeptFallData) → i < length ks → last <ℤ (get_or ks i d).fall.cell) → IsLeft p last (drop i ks) →
     AreAtFalls fall_of p last (drop i ks)
 none_less p last ks i past h =
     from_later fall_of p h.at last (drop i ks) h.on
@@ -125,11 +125,17 @@ drop_inserted [] (suc i) y le = absurd (omega arith)
 drop_inserted (x ∷ xs) zero y le = refl
 drop_inserted (x ∷ xs) (suc i) y le = drop_inserted xs i y (omega arith)
 
+pub take_insert : {A : Type 0} (xs : List A) (i : ℕ) (y : A) → i ≤ length xs → take i (insert xs i y) ≡ take i xs
+take_insert [] zero y le = refl
+take_insert [] (suc i) y le = absurd (omega arith)
+take_insert (x ∷ xs) zero y le = refl
+take_insert (x ∷ xs) (suc i) y le = ap (λ ys. x ∷ ys) (take_insert xs i y (omega arith))
+
 pub drop_insert : {A : Type 0} (xs : List A) (i : ℕ) (y : A) → i ≤ length xs → drop (i + 1) (insert xs i y) ≡ drop i xs
 drop_insert xs i y le = let same : i + 1 ≡ suc i = omega arith in rw same (drop_inserted xs i y le)
 
 -- some entry of a list that has one
-some : (ks : List KeptFall) (i : ℕ) → i < length ks → KeptFall
+pub some : (ks : List KeptFallData) (i : ℕ) → i < length ks → KeptFallData
 some [] i known = absurd (omega arith)
 some (k ∷ ks) i known = k
 
@@ -137,25 +143,25 @@ some (k ∷ ks) i known = k
 pub record IsPlaced (d : TrainAndTrack) (at : ℤ) (i : ℕ) (fall : Fall) (was now : KeptFallsData) : Type 0 where
   pub known : i < length now.list
   pub before : take i now.list ≡ take i was.list
-  pub here : (k : KeptFall) → (get_or now.list i k).fall ≡ fall
+  pub here : (k : KeptFallData) → (get_or now.list i k).fall ≡ fall
   pub past : (p : ℤ → ℕ) → AreAtFalls fall_of p at (drop i was.list) →
       AreAtFalls fall_of p fall.cell (drop (i + 1) now.list)
   pub each : All (IsKeptFall d) now.list
   pub room : now.room ≡ was.room
 
-pub each_placed : (d : TrainAndTrack) (old new : List KeptFall) (i : ℕ) → i < length new → take i new ≡ take i old →
-    drop (i + 1) new ≡ drop i old → ((k : KeptFall) → IsKeptFall d (get_or new i k)) → All (IsKeptFall d) old →
+pub each_placed : (d : TrainAndTrack) (old new : List KeptFallData) (i : ℕ) → i < length new → take i new ≡ take i old →
+    drop (i + 1) new ≡ drop i old → ((k : KeptFallData) → IsKeptFall d (get_or new i k)) → All (IsKeptFall d) old →
     All (IsKeptFall d) new
 each_placed d old new i known before past here each =
     let k = some new i known in
     let parts = drop_more new i k known in
-    subst (λ (ks : List KeptFall). All (IsKeptFall d) ks) (take-append-drop i new)
+    subst (λ (ks : List KeptFallData). All (IsKeptFall d) ks) (take-append-drop i new)
     (rw (parts, before, past) (All-append (IsKeptFall d) (take i old) _ (All-take (IsKeptFall d) i old each)
     (All-cons (IsKeptFall d) (get_or new i k) (drop i old) (here k) (All-drop (IsKeptFall d) i old each))))
 
 -- the entry at the place is the fall's already
-pub kept_past : (p : ℤ → ℕ) (at : ℤ) (fall : Fall) (ks : List KeptFall) (i : ℕ) → i < length ks →
-    ((k : KeptFall) → (get_or ks i k).fall ≡ fall) → AreAtFalls fall_of p at (drop i ks) →
+pub kept_past : (p : ℤ → ℕ) (at : ℤ) (fall : Fall) (ks : List KeptFallData) (i : ℕ) → i < length ks →
+    ((k : KeptFallData) → (get_or ks i k).fall ≡ fall) → AreAtFalls fall_of p at (drop i ks) →
     AreAtFalls fall_of p fall.cell (drop (i + 1) ks)
 kept_past p at fall ks i known here h =
     let k = some ks i known in
@@ -164,34 +170,34 @@ kept_past p at fall ks i known here h =
 -- ---- a list that is made from the first fall to the last
 
 -- what stands at the falls past a cell completes what was made
-abbrev pub IsBegun : (ℤ → ℕ) → ℤ → List KeptFall → Type 0
+abbrev pub IsBegun : (ℤ → ℕ) → ℤ → List KeptFallData → Type 0
 IsBegun p at made =
-    (rest : List KeptFall) → AreAtFalls fall_of p at rest → AreAtFalls fall_of p first_cell (made ++ rest)
+    (rest : List KeptFallData) → AreAtFalls fall_of p at rest → AreAtFalls fall_of p first_cell (made ++ rest)
 
 pub begun_none : (p : ℤ → ℕ) → IsBegun p first_cell []
 begun_none p rest h = h
 
 -- one more
-begun_more : (p : ℤ → ℕ) (at : ℤ) (made : List KeptFall) (k : KeptFall) (fall : Fall) → k.fall ≡ fall →
+begun_more : (p : ℤ → ℕ) (at : ℤ) (made : List KeptFallData) (k : KeptFallData) (fall : Fall) → k.fall ≡ fall →
     IsNextFall p at fall → IsBegun p at made → IsBegun p fall.cell (made ++ k ∷ [])
 begun_more p at made k fall is next h rest left = rw append_assoc (h (k ∷ rest) (rw is (next, left)))
 
-pub begun_next : (p : ℤ → ℕ) (at : ℤ) (old new : List KeptFall) (i : ℕ) (fall : Fall) → i < length new →
-    take i new ≡ take i old → ((k : KeptFall) → (get_or new i k).fall ≡ fall) → IsNextFall p at fall →
+pub begun_next : (p : ℤ → ℕ) (at : ℤ) (old new : List KeptFallData) (i : ℕ) (fall : Fall) → i < length new →
+    take i new ≡ take i old → ((k : KeptFallData) → (get_or new i k).fall ≡ fall) → IsNextFall p at fall →
     IsBegun p at (take i old) → IsBegun p fall.cell (take (i + 1) new)
 begun_next p at old new i fall known before here next h =
     let k = some new i known in
     rw (take_more new i k known, before) (begun_more p at (take i old) (get_or new i k) fall (here k) next h)
 
 -- those before the cells that change stay
-pub begun_before : (p q : ℤ → ℕ) (at : ℤ) (ks : List KeptFall) (i : ℕ) → first_cell ≤ℤ at →
-    ((c : ℤ) → c ≤ℤ at → q c ≡ p c) → ArePartedPast at ks i → AreAtFalls fall_of p first_cell ks →
+pub begun_before : (p q : ℤ → ℕ) (at : ℤ) (ks : List KeptFallData) (i : ℕ) → first_cell ≤ℤ at →
+    ((c : ℤ) → c ≤ℤ at → q c ≡ p c) → ArePartedPast fall_of at ks i → AreAtFalls fall_of p first_cell ks →
     IsBegun q at (take i ks)
 begun_before p q at ks i le same parts h rest left =
     falls_joined fall_of q p first_cell at ks rest i le same parts.reached parts.past h left
 
 -- with what is left it is whole
-pub begun_all : (p : ℤ → ℕ) (at : ℤ) (ks : List KeptFall) (i : ℕ) → IsBegun p at (take i ks) →
+pub begun_all : (p : ℤ → ℕ) (at : ℤ) (ks : List KeptFallData) (i : ℕ) → IsBegun p at (take i ks) →
     AreAtFalls fall_of p at (drop i ks) → AreAtFalls fall_of p first_cell ks
 begun_all p at ks i h left = subst (AreAtFalls fall_of p first_cell) (take-append-drop i ks) (h (drop i ks) left)
 

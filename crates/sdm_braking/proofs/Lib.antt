@@ -1,4 +1,5 @@
 pub mod EbdLaws
 pub mod KeptFallLaws
+pub mod PlaceLaws
 pub mod ReleaseLaws
 pub mod WalkLaws

@@ -9,12 +9,11 @@ use Rattle.sdm_rules.specs.Targets.{end_of, ends_of, targets_of}
 use Rattle.sdm_targets.specs.Lists.{falls_past}
 use Rattle.sdm_braking.specs.declared.kept_ends.KeptEnd.{KeptEnd}
 use Rattle.sdm_braking.specs.declared.kept_ends.KeptEnd.TheVariants.{Stop as KeptStop, Limit as KeptLimit}
-use Rattle.sdm_braking.specs.declared.kept_falls.KeptFall.{KeptFall}
 use Rattle.sdm_braking.specs.KeptCurves.{AreKept, IsKeptEnd, targets_in}
-use Rattle.sdm_braking.specs.KeptFalls.{IsKeptFall, at_fall, target_of}
+use Rattle.sdm_braking.specs.KeptFalls.{IsKeptFall, KeptFallData, at_fall, target_of}
 
 -- each target is that of its fall
-at_falls : (d : TrainAndTrack) (ks : List KeptFall) → All (IsKeptFall d) ks → map target_of ks ≡ map at_fall ks
+at_falls : (d : TrainAndTrack) (ks : List KeptFallData) → All (IsKeptFall d) ks → map target_of ks ≡ map at_fall ks
 at_falls d [] each = refl
 at_falls d (k ∷ ks) each = λ i. (each 0 k (omega arith)).at i ∷ at_falls d ks (λ j e l. each (suc j) e (omega arith)) i
 
@@ -34,8 +33,10 @@ ends_kept d (Stop eoa svl release) (KeptLimit l) h = absurd h
 ends_kept d (Limit loa speed) (KeptStop e s) h = absurd h
 ends_kept d (Limit loa speed) (KeptLimit l) h = h.kept
 
-pub targets_are : (d : TrainAndTrack) (p : ℤ → ℕ) (a : Authority) (ks : List KeptFall) (e : KeptEnd) (after front : ℤ)
-    (end : ℕ) (in_release_monitoring : Bool) → after ≡ cell_of front → end ≡ end_of a → All (IsKeptFall d) ks →
+-- the kept falls ahead and the kept end make the targets of the definitions
+pub targets_are : (d : TrainAndTrack) (p : ℤ → ℕ) (a : Authority) (ks : List KeptFallData) (e : KeptEnd)
+    (after front : ℤ) (end : ℕ) (in_release_monitoring : Bool) → after ≡ cell_of front → end ≡ end_of a →
+    All (IsKeptFall d) ks →
     falls_past p after (pos end) ≡ map at_fall ks → IsKeptEnd d a e →
     map target_of ks ++ targets_in e in_release_monitoring ≡ targets_of p a front in_release_monitoring
 unfolding targets_of

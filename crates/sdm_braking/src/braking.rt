@@ -8,6 +8,7 @@ ghost use Rattle.sdm_rules.specs.Opening.{IsAcceptedKind, AreBefore};
 ghost use Rattle.sdm_rules.specs.Data.{TrainAndTrack};
 ghost use Rattle.sdm_rules.specs.Decelerations.{slopes_of};
 ghost use Rattle.sdm_rules.specs.Reaction.{reaction_times, service_in_use, v_delta0};
+ghost use Rattle.sdm_rules.specs.Release.{t_be};
 ghost use Rattle.sdm_rules.specs.Slopes.{meaning_of};
 ghost use Rattle.sdm_rules.specs.Ranges.{longest_train, top_kmh};
 ghost use Rattle.sdm_decel.specs.Slopes.{train_and_track_from, IsFaultOfKind};
@@ -205,6 +206,14 @@ impl Braking {
         ensures range { AreTimes result.now }
     {
         &self.times
+    }
+
+    /// T_be, the emergency brake's build-up time, in ds: 0 to 300.
+    pub fn t_be(&self) -> u32
+        ensures value { result ≡ t_be self.now }
+        ensures greatest { result ≤ 300 }
+    {
+        self.train.emergency_time() as u32
     }
 
     /// Whether the service brake is in use: the train has one, and the national values permit it. (SUBSET-026-3

@@ -1,10 +1,11 @@
 //! The falls of the speed profile with their curves, as a supervisor keeps them between records. A fall's curves
 //! follow from its cell and the speed beyond it alone, so where a record changes the profile only the starts of the
-//! changed cells are looked at, and a fall that stays keeps its curves. Those stand in boxes, so that the list moves
-//! no curve; all boxes are taken at the beginning, and those without a fall are spare.
+//! changed cells are looked at, and a fall that stays keeps its curves. The list of falls names the places of their
+//! targets, so that it moves no curve; all places are taken at the beginning, and those without a fall are spare.
 
-ghost use Rattle.std.specs.Prelude.{◌≡◌, ◌+◌, ◌<◌, ◌≤◌, ◌≤ℤ◌, ◌<ℤ◌, ℕ, ℤ, pos, List, map, take, drop, All, [], IfOk};
-ghost use Rattle.std.specs.Prelude.{IfSome, MatchOption, true, false, length, slice_index_or, vec_len, vec_capacity};
+ghost use Rattle.std.specs.Prelude.{◌≡◌, ◌+◌, ◌^◌, ◌<◌, ◌≤◌, ◌≤ℤ◌, ◌<ℤ◌, ℕ, ℤ, pos, List, map, take, drop, All, []};
+ghost use Rattle.std.specs.Prelude.{IfOk, IfSome, MatchOption, true, false, length, slice_index_or, vec_len};
+ghost use Rattle.std.specs.Prelude.{vec_capacity};
 ghost use Rattle.std.specs.List.{remove};
 ghost use Rattle.sdm_rules.specs.Data.{TrainAndTrack};
 ghost use Rattle.sdm_rules.specs.Records.{most_restrictions};
@@ -14,10 +15,12 @@ ghost use Rattle.sdm_speed.specs.Falls.{AreAtFalls};
 ghost use Rattle.sdm_speed.specs.Profiles.{mrsp_of, IsProfile};
 ghost use Rattle.sdm_speed.specs.Zones.{IsFallInRange};
 ghost use Rattle.sdm_targets.specs.Lists.{falls_past, target_at, IsTarget};
-ghost use Rattle.sdm_braking.specs.KeptFalls.{at_fall, AreKeptFalls, AreOfProfileBefore, ArePartedPast, IsFallAt};
-ghost use Rattle.sdm_braking.specs.KeptFalls.{IsKeptFall, IsNextUpTo, KeptFallsData, fall_of, first_cell};
+ghost use Rattle.sdm_braking.specs.KeptFalls.{at_fall, AreKeptFalls, AreOfProfileBefore, ArePartedPast, AreSpare};
+ghost use Rattle.sdm_braking.specs.KeptFalls.{IsFallAt, IsKeptFall, IsNextUpTo, KeptFallData, KeptFallsData, data_of};
+ghost use Rattle.sdm_braking.specs.KeptFalls.{fall_of, first_cell};
 
 use crate::braking::Braking;
+use crate::falls_ahead::{FallsAhead, KeptFall, PlacedFall, reached};
 use crate::kept_targets::KeptTarget;
 use sdm_num::{NoMemory, Place};
 use sdm_rules::Fall;
@@ -26,31 +29,26 @@ use sdm_targets::{Target, TargetKind};
 use std::alloc::Global;
 use std::marker::Model;
 
-/// A fall of the profile, and the target at it with its curves. (SUBSET-026-3 3.13.8.2; own)
-#[derive(Debug, Drop)]
-pub struct KeptFall {
-    pub fall: Fall,
-    pub kept: Box<KeptTarget>,
-}
-
 /// The falls of a profile with their curves, in order. (own)
 #[derive(Drop)]
 pub struct KeptFalls {
-    list: Vec<KeptFall>,
-    /// Boxes for falls that come.
-    spare: Vec<Box<KeptTarget>>,
+    list: Vec<PlacedFall>,
+    /// The targets, each at its place.
+    targets: Vec<KeptTarget>,
+    /// Places for falls that come.
+    spare: Vec<usize>,
 }
 
 impl Model for KeptFalls {
-    ghost use Rattle.std.specs.Prelude.{vec_len, vec_capacity, ◌+◌, ◌≤◌};
-    ghost use Rattle.sdm_braking.specs.KeptFalls.{KeptFallsData};
+    ghost use Rattle.std.specs.Prelude.{vec_len, vec_capacity, ◌≤◌};
+    ghost use Rattle.sdm_braking.specs.KeptFalls.{KeptFallsData, kept_in, HasPlaces};
 
     ghost Value = { KeptFallsData };
 
-    ghost view = { λ k. record { list = k.list.items; room = vec_len k.list + vec_len k.spare } };
+    ghost view = { λ k. record { list = kept_in k.targets.items k.list.items; room = vec_len k.targets } };
 
-    ghost invariant = { λ k. (vec_len k.list + vec_len k.spare ≤ vec_capacity k.list)
-        × (vec_len k.list + vec_len k.spare ≤ vec_capacity k.spare) };
+    ghost invariant = { λ k. HasPlaces k.targets.items k.list.items k.spare.items
+        × (vec_len k.targets ≤ vec_capacity k.list) × (vec_len k.targets ≤ vec_capacity k.spare) };
 }
 
 /// The target at a fall.
@@ -66,21 +64,34 @@ fn target_at(fall: Fall) -> Target
     }
 }
 
-/// So many boxes. What they hold until a fall wants them is never asked for.
-fn boxes(alloc: Global, braking: &Braking, count: usize) -> Result<Vec<Box<KeptTarget>>, NoMemory>
-    ensures count { IfOk result (λ boxes. vec_len boxes ≡ count) }
-    ensures room { IfOk result (λ boxes. count ≤ vec_capacity boxes) }
+/// So many targets. What they are is never asked for until a fall wants their place.
+fn blank_targets(
+    alloc: Global,
+    braking: &Braking,
+    count: usize,
+) -> Result<Vec<KeptTarget>, NoMemory>
+    ensures { IfOk result (λ targets. vec_len targets ≡ count) }
 {
-    let kept = braking.keep(Target {
+    let blank = braking.keep(Target {
         kind: TargetKind::Svl,
         place: Place::of_cm(0),
         speed: 0,
     });
-    let mut boxes = Vec::with_capacity(alloc, count)?;
-    for _ in 0..count {
-        boxes.push_reserved(Box::new(alloc, kept)?);
+    // The check of moves reads the type of this field from here.
+    let _guide = blank.guide;
+    Ok(vec![in alloc; blank; count]?)
+}
+
+/// The places of so many targets, none of which a fall has yet.
+fn spare_places(alloc: Global, count: usize) -> Result<Vec<usize>, NoMemory>
+    ensures spare { IfOk result (λ spare. AreSpare count spare.items) }
+    ensures room { IfOk result (λ spare. count ≤ vec_capacity spare) }
+{
+    let mut spare = Vec::with_capacity(alloc, count)?;
+    for place in 0..count {
+        spare.push_reserved(place);
     }
-    Ok(boxes)
+    Ok(spare)
 }
 
 /// The next fall of a profile past the start of the cell `after`, if it is at the start of the cell `last` or before
@@ -95,41 +106,17 @@ fn next_up_to(profile: &Profile, after: i32, last: i32) -> Option<Fall>
     }
 }
 
-/// How many of a list in order lie at the start of the cell `last` or before it.
-fn reached(list: &[KeptFall], last: i64) -> usize
-    ensures bound { result ≤ length list.now }
-    ensures parted { (p : ℤ → ℕ) (after : ℤ) → AreAtFalls fall_of p after list.now →
-        ArePartedPast last list.now result }
-{
-    list.partition_point(|kept| i64::from(kept.fall.cell) <= last)
-}
-
-/// What is kept of the fall at a cell, if there is one.
-fn find(list: &[KeptFall], cell: i32) -> Option<&KeptFall>
-    ensures each { (d : TrainAndTrack) → All (IsKeptFall d) list.now → IfSome result (λ k. IsKeptFall d k.now) }
-    ensures falls { (p : ℤ → ℕ) → AreAtFalls fall_of p first_cell list.now → first_cell <ℤ cell →
-        MatchOption result (is_fall p cell ≡ false) (λ k. IsFallAt p cell k.now.fall) }
-{
-    let i = reached(list, i64::from(cell) - 1);
-    if list.len() <= i {
-        return None;
-    }
-    let kept = &list[i];
-    if kept.fall.cell != cell {
-        return None;
-    }
-    Some(kept)
-}
-
 impl KeptFalls {
-    /// What is kept of the falls of a profile. Takes the boxes for as many as there may be on its track.
+    /// What is kept of the falls of a profile. Takes the places for as many as there may be on its track.
     pub fn begin(alloc: Global, braking: &Braking, profile: &Profile) -> Result<KeptFalls, NoMemory>
         ensures { IfOk result (AreKeptFalls braking.now profile.now) }
     {
         let room = profile.speed_count() + MOST_RESTRICTIONS;
-        let list = Vec::with_capacity(alloc, room)?;
-        let spare = boxes(alloc, braking, room)?;
-        let mut falls = KeptFalls { list, spare };
+        let mut falls = KeptFalls {
+            list: Vec::with_capacity(alloc, room)?,
+            targets: blank_targets(alloc, braking, room)?,
+            spare: spare_places(alloc, room)?,
+        };
         falls.fill(braking, profile);
         Ok(falls)
     }
@@ -149,38 +136,38 @@ impl KeptFalls {
         }
     }
 
-    /// What is kept of a fall, in a box that was spare, comes to an index of the list.
+    /// A fall comes to an index of the list, and its target to a place that was spare.
     fn insert(&mut self, i: usize, braking: &Braking, fall: Fall)
         requires place { i ≤ length self.old.list }
         requires room { length self.old.list < self.old.room }
         requires fall { IsFallInRange fall }
         ensures before { take i self.new.list ≡ take i self.old.list }
-        ensures fall { (d : KeptFall) → (slice_index_or self.new.list i d).fall ≡ fall }
-        ensures kept { (d : KeptFall) → IsKeptFall braking.now (slice_index_or self.new.list i d) }
+        ensures fall { (d : KeptFallData) → (slice_index_or self.new.list i d).fall ≡ fall }
+        ensures kept { (d : KeptFallData) → IsKeptFall braking.now (slice_index_or self.new.list i d) }
         ensures past { drop (i + 1) self.new.list ≡ drop i self.old.list }
         ensures len { length self.new.list ≡ length self.old.list + 1 }
         ensures room { self.new.room ≡ self.old.room }
     {
-        let Some(mut kept) = self.spare.pop() else {
+        let Some(place) = self.spare.pop() else {
             unreachable!()
         };
-        braking.keep_in_place(&mut kept, target_at(fall));
-        let Ok(()) = self.list.insert(i, KeptFall { fall, kept }) else {
+        braking.keep_in_place(&mut self.targets[place], target_at(fall));
+        let Ok(()) = self.list.insert(i, PlacedFall { fall, place }) else {
             unreachable!()
         };
     }
 
-    /// Takes out what is kept at a place; its box is spare.
+    /// Takes out what is kept at an index; its place is spare.
     fn remove(&mut self, i: usize)
         requires { i < length self.old.list }
         ensures list { self.new.list ≡ remove self.old.list i }
         ensures room { self.new.room ≡ self.old.room }
     {
-        let KeptFall { kept, .. } = self.list.remove(i);
-        self.spare.push_reserved(kept);
+        let PlacedFall { place, .. } = self.list.remove(i);
+        self.spare.push_reserved(place);
     }
 
-    /// Takes out what is kept from a place on up to and with the cell `last`.
+    /// Takes out what is kept from an index on up to and with the cell `last`.
     fn remove_up_to(&mut self, i: usize, last: i32)
         requires { i ≤ length self.old.list }
         ensures before { take i self.new.list ≡ take i self.old.list }
@@ -190,17 +177,42 @@ impl KeptFalls {
         ensures place { i ≤ length self.new.list }
         ensures room { self.new.room ≡ self.old.room }
     {
-        while i < self.list.len() && self.list[i].fall.cell <= last {
+        while i < self.len() && self.fall(i).cell <= last {
             self.remove(i);
         }
     }
 
-    /// Whether what is kept at a place is that of this fall.
+    /// How many falls are kept.
+    fn len(&self) -> usize
+        ensures { result ≡ length self.now.list }
+    {
+        self.list.len()
+    }
+
+    /// The fall at an index.
+    fn fall(&self, i: usize) -> Fall
+        requires { i < length self.now.list }
+        ensures { (d : KeptFallData) → result ≡ (slice_index_or self.now.list i d).fall }
+    {
+        self.list[i].fall
+    }
+
+    /// How many lie at the start of the cell `last` or before it.
+    fn reached(&self, last: i64) -> usize
+        ensures bound { result ≤ length self.now.list }
+        ensures small { self.now.room < 2 ^ 63 }
+        ensures parted { (p : ℤ → ℕ) (after : ℤ) → AreAtFalls fall_of p after self.now.list →
+            ArePartedPast fall_of last self.now.list result }
+    {
+        reached(&self.list, last)
+    }
+
+    /// Whether what is kept at an index is that of this fall.
     fn is_at(&self, i: usize, fall: Fall) -> bool
         ensures { result ≡ true →
-            (i < length self.now.list) × ((d : KeptFall) → (slice_index_or self.now.list i d).fall ≡ fall) }
+            (i < length self.now.list) × ((d : KeptFallData) → (slice_index_or self.now.list i d).fall ≡ fall) }
     {
-        i < self.list.len() && self.list[i].fall == fall
+        i < self.len() && self.fall(i) == fall
     }
 
     /// Keeps the falls of a profile in place of those of the profile before, which was the same outside the cells that
@@ -211,7 +223,7 @@ impl KeptFalls {
         ensures { AreKeptFalls braking.now profile.now self.new }
     {
         let mut at = changed.first - 1;
-        let mut i = reached(&self.list, i64::from(at));
+        let mut i = self.reached(i64::from(at));
         while let Some(fall) = next_up_to(profile, at, changed.past) {
             self.remove_up_to(i, fall.cell - 1);
             if !self.is_at(i, fall) {
@@ -225,24 +237,38 @@ impl KeptFalls {
     }
 
     /// What is kept of the fall at a cell, if there is one.
-    pub fn at(&self, cell: i32) -> Option<&KeptFall>
+    pub fn at(&self, cell: i32) -> Option<KeptFall<'_>>
         ensures each { (d : TrainAndTrack) → All (IsKeptFall d) self.now.list →
-            IfSome result (λ k. IsKeptFall d k.now) }
+            IfSome result (λ k. IsKeptFall d (data_of k)) }
         ensures falls { (p : ℤ → ℕ) → AreAtFalls fall_of p first_cell self.now.list → first_cell <ℤ cell →
-            MatchOption result (is_fall p cell ≡ false) (λ k. IsFallAt p cell k.now.fall) }
+            MatchOption result (is_fall p cell ≡ false) (λ k. IsFallAt p cell k.fall) }
     {
-        find(&self.list, cell)
+        let i = self.reached(i64::from(cell) - 1);
+        if self.len() <= i {
+            return None;
+        }
+        let PlacedFall { fall, place } = self.list[i];
+        if fall.cell != cell {
+            return None;
+        }
+        Some(KeptFall {
+            fall,
+            kept: &self.targets[place],
+        })
     }
 
     /// What is kept of the falls past the start of the cell `after`, up to and with that of a place in cm.
-    pub fn ahead(&self, after: i32, end: u32) -> &[KeptFall]
-        ensures each { (d : TrainAndTrack) → All (IsKeptFall d) self.now.list → All (IsKeptFall d) result.now }
+    pub fn ahead(&self, after: i32, end: u32) -> FallsAhead<'_>
+        ensures each { (d : TrainAndTrack) → All (IsKeptFall d) self.now.list → All (IsKeptFall d) result }
         ensures falls { (p : ℤ → ℕ) → AreAtFalls fall_of p first_cell self.now.list →
-            falls_past p after (pos end) ≡ map at_fall result.now }
+            falls_past p after (pos end) ≡ map at_fall result }
     {
         let begun = reached(&self.list, i64::from(after));
         let ahead = &self.list[begun..];
         let ended = reached(ahead, i64::from(end));
-        &ahead[..ended]
+        FallsAhead {
+            list: &ahead[..ended],
+            targets: &self.targets,
+        }
     }
 }

@@ -5,6 +5,7 @@
 
 mod asked;
 mod braking;
+mod falls_ahead;
 pub mod kept;
 mod kept_ends;
 pub mod kept_falls;
@@ -15,9 +16,10 @@ mod speeds;
 
 pub use asked::AskedEstimate;
 pub use braking::Braking;
+pub use falls_ahead::{FallsAhead, KeptFall};
 pub use kept::Kept;
 pub use kept_ends::KeptEnd;
-pub use kept_falls::{KeptFall, KeptFalls};
+pub use kept_falls::KeptFalls;
 pub use kept_targets::KeptTarget;
 pub use releases::{Release, release_kmh_at};
 pub use speeds::SpeedLimits;

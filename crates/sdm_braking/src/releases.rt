@@ -1,15 +1,18 @@
-//! Release speed monitoring: where it begins for an authority, and whether a front end is past that. The start follows
-//! from the data and the authority alone, so it is found once, when the authority is taken.
+//! Release speed monitoring: where it begins for an authority, whether a front end is past that, and the release speed
+//! that is calculated. The start follows from the data and the authority alone, so it is found once, when the authority
+//! is taken.
 
-ghost use Rattle.std.specs.Prelude.{◌≡◌, ◌≤◌, ℕ, None, pos};
+ghost use Rattle.std.specs.Prelude.{◌≡◌, ◌≤◌, ◌≤ℤ◌, ℕ, None, pos};
 ghost use Rattle.sdm_rules.specs.declared.data.SlopeKind.TheVariants.{Expected, Safe};
 ghost use Rattle.sdm_rules.specs.Cells.{place_of_cell};
 ghost use Rattle.sdm_rules.specs.Decelerations.{slopes_of};
 ghost use Rattle.sdm_rules.specs.Limits.{computed, release_start};
 ghost use Rattle.sdm_rules.specs.Records.{authority_fault};
+ghost use Rattle.sdm_rules.specs.Release.{calculated};
 ghost use Rattle.sdm_rules.specs.Ranges.{top_kmh};
 ghost use Rattle.sdm_curve.specs.Made.{IsMadeFrom};
 ghost use Rattle.sdm_limits.specs.Sides.{place_of};
+ghost use Rattle.sdm_braking.specs.Braking.{IsSupervisable};
 ghost use Rattle.sdm_braking.specs.Releases.{IsReleaseOf, release_speed_at};
 ghost use Rattle.sdm_braking.specs.KeptCurves.{IsCurveOn, IsKeptEnd};
 
@@ -17,7 +20,7 @@ use crate::braking::Braking;
 use crate::kept_ends::KeptEnd;
 use sdm_curve::Curve;
 use sdm_num::{Early, Place, Speed};
-use sdm_release::release_start;
+use sdm_release::{release_speed, release_start};
 use sdm_targets::Authority;
 
 /// The release speed of an authority with the start of its monitoring, as a supervisor keeps it. (SUBSET-026-3
@@ -61,6 +64,22 @@ impl Braking {
             self.times(),
             Speed::of_kmh(release_kmh),
         )
+    }
+
+    /// The calculated release speed in km/h of a stop with its SvL at `svl` cm on the track, for a train that is
+    /// tripped at `trip` cm, at or before the SvL. No memory is taken. (SUBSET-026-3 3.13.9.4.8; form own)
+    // Seldom called, and large, as `release`.
+    #[inline(never)]
+    pub fn calculated_release(&self, svl: u32, trip: u32) -> u16
+        requires svl { pos svl ≤ℤ self.now.track.length_cm }
+        requires trip { trip ≤ svl }
+        ensures value { result ≡ calculated self.now svl trip }
+        ensures range { result ≤ top_kmh }
+        ensures accepted { IsSupervisable self.now }
+    {
+        prove!(svl <= self.track_cm());
+        let ebd = Curve::from_foot(self.safe(), Place::of_cm_from_0(svl), Speed::new(0));
+        release_speed(self.safe(), &ebd, self.t_be(), Place::of_cm_from_0(trip))
     }
 
     /// What is kept of an authority's release speed, by the curves that are kept of its end; none where it has no

@@ -7,6 +7,7 @@ use Rattle.sdm_rules.specs.Data.{TrainAndTrack}
 use Rattle.sdm_rules.specs.Decelerations.{under_train, slope_at}
 use Rattle.sdm_cases.proofs.Journeys.{plain_band, plain_national, plain_train_and_track}
 
+-- 1 m/s² on level track
 level_slope : slope_at Safe (plain_train_and_track (pos 100) (Some (pos 0)) plain_band [] []) 0 (pos 7)
     ≡ pos 200_000_000_000
 unfolding plain_train_and_track plain_national plain_band slope_at
@@ -90,11 +91,18 @@ unaided_on_reduced_adhesion : map (λ reduced. slope_at Safe (without_special_br
 unfolding without_special_brake plain_train_and_track plain_national plain_band slope_at
 unaided_on_reduced_adhesion = refl
 
--- Kdry 0.85, Kwet 0.95 and M_NVAVADH 0: 0.85 * 0.95 * 1.20 = 0.969 m/s²
-wet_rail_slope : slope_at Safe (plain_train_and_track (pos 100) (Some (pos 0))
-    (record plain_band { emergency = pos 120; kdry = pos 850; kwet = pos 950 }) [] []) 0 (pos 7) ≡ pos 204_000_000_000
-unfolding plain_train_and_track plain_national plain_band slope_at
-wet_rail_slope = refl
+-- a brake of 1.20 m/s² with Kdry 0.85 and Kwet 0.95, at an M_NVAVADH in twentieths
+on_wet_rail : ℤ → TrainAndTrack
+on_wet_rail avadh =
+    let band = record plain_band { emergency = pos 120; kdry = pos 850; kwet = pos 950 } in
+    let d = plain_train_and_track (pos 100) (Some (pos 0)) band [] [] in
+    record d { national = record (d.national) { avadh = avadh } }
+
+-- at 0 it is 0.85 * 0.95 * 1.20 = 0.969 m/s², at a half 0.85 * 0.975 * 1.20 = 0.9945, and at 1 Kwet takes nothing away
+wet_rail_slopes : map (λ avadh. slope_at Safe (on_wet_rail avadh) 0 (pos 7)) (pos 0 ∷ pos 10 ∷ pos 20 ∷ [])
+    ≡ pos 193_800_000_000 ∷ pos 198_900_000_000 ∷ pos 204_000_000_000 ∷ []
+unfolding on_wet_rail plain_train_and_track plain_national plain_band slope_at
+wet_rail_slopes = refl
 
 -- A train of 20 cm on 10 per mille down to cell 50, level after it: its rear end leaves the slope at cell 70, where
 -- cell 50 is its last.

@@ -18,6 +18,7 @@ past_the_curve : flat_row (flat_opening 100 1_000) (record {
 unfolding flat_row flat_after exact stepped exact_at place_at arc_back back arc_forward forward
 past_the_curve = refl
 
+-- at the curve itself there is none
 at_the_curve : flat_row (flat_opening 100 1_000) (record {
   time = 5;
   front = pos (80_000 * 54_000_000);
@@ -27,6 +28,7 @@ at_the_curve : flat_row (flat_opening 100 1_000) (record {
 unfolding flat_row flat_after exact stepped exact_at place_at arc_back back arc_forward forward
 at_the_curve = refl
 
+-- the time, the front end in mm and the speed in mm/s
 a_line : flat_line (codes "5,8000,2000")
     ≡ Some (record { time = 5; front = pos (8_000 * 540_000_000); speed = 108_000 })
 unfolding flat_line read_int

@@ -71,6 +71,7 @@ unfolding plain_train_and_track plain_national plain_band release_start reaction
     exact_at place_at arc_back back arc_forward forward
 not_past_a_later_start = refl
 
+-- for this start monitoring would begin too soon
 not_begun_before : BeginsReleaseMonitoringAt with_release (reading_at 0 (pos 3_717_360_000_000) 108_000) 1001 1001 9 → ⊥
 unfolding with_release reading_at
 not_begun_before h = false≢true (sym not_past_a_later_start ∙ h.only in_release)
@@ -87,15 +88,18 @@ unfolding plain_train_and_track plain_national plain_band release_start reaction
     exact_at place_at arc_back back arc_forward forward
 past_an_earlier_start = refl
 
+-- and for this one too late
 not_begun_late : BeginsReleaseMonitoringAt with_release (reading_at 0 (pos 3_707_100_000_001) 108_000) 999 999 9 → ⊥
 unfolding with_release reading_at
 not_begun_late h = let both : T ≡ R = sym not_yet_in_release ∙ h.always past_an_earlier_start in cc
 
 -- ---- the headline
 
+-- readings at 2 m/s, with the front ends at 2 m
 at_2_m : OdometerReading
 at_2_m = reading_at 0 (pos 1_080_000_000_000) 108_000
 
+-- and 1 s later at 4 m
 at_4_m : OdometerReading
 at_4_m = reading_at 10 (pos 2_160_000_000_000) 108_000
 
@@ -120,6 +124,7 @@ one_reading_in_order = (short_supervised at_4_m).order false true (record { need
 two_readings : List Event
 two_readings = record_kinds.Read at_2_m ∷ record_kinds.Read at_4_m ∷ []
 
+-- the headline of both readings: their turns are safe
 supervised : AreTurnsSafe false true (journey_from (λ n e. Ok e) 1 short two_readings).turns
 unfolding short
 supervised = turns_safe (λ n e. Ok e) 1 short false true two_readings short_open
@@ -128,6 +133,7 @@ supervised = turns_safe (λ n e. Ok e) 1 short false true two_readings short_ope
 after_one : Supervision
 after_one = after_reading short at_2_m
 
+-- nothing that the second situation is made of changes in the first reading
 same_situation : situation_of after_one at_4_m ≡ situation_of short at_4_m
 unfolding after_one after_reading situation_of
 same_situation = refl
@@ -165,10 +171,12 @@ in_order_after_two = supervised.1.0.order
 
 -- ---- commands that are out of order: the exact machine holds one while the train moves, the supervisor none
 
+-- a command that is held stays, whatever is triggered
 held_stays : (triggered : Bool) → (triggered || true) ≡ true
 held_stays true = refl
 held_stays false = refl
 
+-- so the exact machine goes on to hold its own
 exact_holds : must_after short at_2_m true ≡ true
 unfolding short at_2_m reading_at machine_after emergency_after plain_train_and_track plain_national
 exact_holds = held_stays _
@@ -179,6 +187,7 @@ unfolding short at_2_m plain_train_and_track plain_national plain_band reading_a
     arc_back back arc_forward forward
 supervisor_holds_none = ap (λ row. row.held.eb) (opening_row short_line (Stop 1000 1000 0) at_2_m) ∙ refl
 
+-- so the row isn't safe
 none_holds_but_the_exact : IsRowSafe true true short at_2_m → ⊥
 none_holds_but_the_exact h = false≢true (sym supervisor_holds_none ∙ h.order.needed exact_holds)
 
@@ -196,6 +205,7 @@ exact_commands =
 abbrev turn_without_commands : OdometerReading → Turn
 turn_without_commands r = record { before = short; event = record_kinds.Read r; after = short }
 
+-- two turns with no command of the supervisor, the first of them past the EBI, aren't safe
 held_over_a_turn : AreTurnsSafe false true (turn_without_commands past_the_ebi ∷ turn_without_commands at_2_m ∷ []) → ⊥
 held_over_a_turn h =
     let holds = ap (λ held. must_after short at_2_m held) exact_commands ∙ exact_holds in

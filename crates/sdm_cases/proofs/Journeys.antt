@@ -22,6 +22,7 @@ plain_band = record {
   emergency_reduced = None;
 }
 
+-- the service brake in use for targets, no guidance curve, and no early release
 unfoldable pub plain_national : NationalFields
 plain_national = record {
   avadh = pos 20;

@@ -12,6 +12,8 @@ mod OpenCases
 mod MachineCases
 mod MotionCases
 mod StopCases
+mod ReleaseCases
+mod DisplayCases
 mod PromiseCases
 mod HeadlineCases
 mod InputCases

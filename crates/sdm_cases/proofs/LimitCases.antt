@@ -6,6 +6,7 @@ use Rattle.sdm_num.specs.Fractions.{whole}
 use Rattle.sdm_rules.specs.Reaction.{times_of, build_up, d_bec}
 use Rattle.sdm_rules.specs.Limits.{SupervisionLimits, sbd_limits_at, ebd_limits_at}
 
+-- a place in grains, from metres
 unfoldable pub metres : ℕ → ℤ
 metres n = pos (n * 540_000_000_000)
 
@@ -26,6 +27,7 @@ svl_limits : ebd_limits_at (times_of 0 false 20 30 true) (notches_of_mm_s 20_000
 unfolding metres limits_at
 svl_limits = refl
 
+-- by the curve of the service brake alone there is no EBI
 eoa_limits : sbd_limits_at (times_of 0 false 20 30 true) (notches_of_mm_s 20_000) None (whole (metres 800))
     ≡ record (limits_at (metres 0) (metres 740) (metres 700) (metres 660) (metres 480)) { ebi = None }
 unfolding metres limits_at

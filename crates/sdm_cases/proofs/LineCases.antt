@@ -9,9 +9,11 @@ lines : map lines_of (codes "ab\n\nc" ∷ codes "ab\n" ∷ codes "ab\n\n" ∷ co
     ∷ [] ∷ []
 lines = refl
 
+-- each line with the LF that ends it
 with_their_ends : ended_lines (codes "ab\n\nc") ≡ codes "ab\n" ∷ codes "\n" ∷ codes "c" ∷ []
 with_their_ends = refl
 
+-- an empty field is a field, also the only one
 fields : map comma_fields (codes "1,,22" ∷ codes "1," ∷ [] ∷ []) ≡ (codes "1" ∷ [] ∷ codes "22" ∷ [])
     ∷ (codes "1" ∷ [] ∷ []) ∷ ([] ∷ []) ∷ []
 fields = refl

@@ -33,11 +33,13 @@ use Rattle.sdm_cases.proofs.Journeys.{plain_band, plain_national, plain_train_an
 band_up_to : Option ℤ → Band
 band_up_to upper = record plain_band { upper = upper; emergency = pos 70; service = pos 70; normal = pos 70 }
 
+-- a level line, for a train with a band up to 18 km/h and another above it
 two_band_line : TrainAndTrack
 two_band_line =
     let line = plain_train_and_track (pos 10_000) (Some (pos 0)) plain_band [] [] in
     record line { train = record (line.train) { bands = band_up_to (Some (pos 18)) ∷ band_up_to None ∷ [] } }
 
+-- its state, with EOA and SvL at 1000 m
 unfoldable two_bands : Supervision
 two_bands = opening two_band_line (Stop 100_000 100_000 0)
 
@@ -52,6 +54,7 @@ commanded P shift place =
     emergency_after false (triggers_of (limits_of P two_bands.train_and_track (estimate_of r)) shift
     (situation_with two_bands.train_and_track two_bands.authority [] r)) false false
 
+-- so a machine commands, over the opening's own situation
 commanded_by : (P : CurvePlaces) (shift : ℕ) (place : ℤ) →
     machine_after P shift two_bands (at_14_m_s place) false ≡ commanded P shift place
 unfolding machine_after two_bands at_14_m_s reading_at two_band_line plain_train_and_track plain_national commanded
@@ -70,6 +73,7 @@ even (suc (suc band)) cell = 0
 even_slopes : Slopes
 even_slopes = record { q = 100; uppers = 270_000 ∷ []; slope = even }
 
+-- the slopes of each kind are these, in each cell
 each_slope : (kind : SlopeKind) (band : ℕ) (cell : ℤ) →
     unsigned_abs (slope_at kind two_bands.train_and_track band cell) ≡ even band cell
 unfolding two_bands two_band_line band_up_to plain_train_and_track plain_national plain_band slope_at even
@@ -159,6 +163,7 @@ triggers_of_two f g shift place e s = rw (e, s) refl
 decided : Fraction → ℕ → ℤ → Bool
 decided x shift place = emergency_after false (triggers_of (limits_with x) shift (seen_at place)) false false
 
+-- and so by the place of its curves
 commanded_at : (P : CurvePlaces) (shift : ℕ) (place : ℤ) (x : Fraction) →
     P even_slopes (pos 540_000_000_000_000) 0 756_000 ≡ x →
     situation_with two_bands.train_and_track two_bands.authority [] (at_14_m_s place) ≡ seen_at place →
@@ -186,6 +191,7 @@ within_a_millimetre = pos 464_399_460_000_001
 a_millimetre_before : ℤ
 a_millimetre_before = pos 464_399_460_000_000
 
+-- at each of these places the triggers look at just that
 seen_past : situation_with two_bands.train_and_track two_bands.authority [] (at_14_m_s past_the_limit)
     ≡ seen_at past_the_limit
 unfolding two_bands two_band_line plain_train_and_track plain_national at_14_m_s reading_at situation_with seen_at eoa
@@ -218,6 +224,7 @@ three_commands place =
     ∷ may_after two_bands (at_14_m_s place) false
     ∷ []
 
+-- the commands of the three machines, by the places of their curves
 three_decided : (place : ℤ) →
     situation_with two_bands.train_and_track two_bands.authority [] (at_14_m_s place) ≡ seen_at place →
     three_commands place ≡ decided exact_860_m 0 place ∷ decided (whole (pos 464_399_999_999_999)) 0 place

@@ -106,6 +106,7 @@ gained = record { phase = Traction; time = 10; to = 54_000; length = 270_000_000
 abbrev gained_more : Slice
 gained_more = record { phase = Build; time = 20; to = 97_200; length = 1_512_000_000_000 }
 
+-- it gains no more than it may, and comes no farther
 these_are_slices : AreSlices gaining 0 (gained ∷ gained_more ∷ [])
 these_are_slices =
     (record { gains = omega arith; moves = omega arith }, (record { gains = omega arith; moves = omega arith }, tt))

@@ -48,6 +48,7 @@ short_supervised r = supervision short r short_open
 weak_line : TrainAndTrack
 weak_line = plain_train_and_track (pos 100) (Some (pos 0)) (record plain_band { emergency = pos 4 }) [] []
 
+-- its slope is too weak from cell 0 on, in the first band
 too_weak : IsOpenFault weak_line (Stop 1000 1000 0) (TooWeak Safe 1 (pos 0) (pos 8_000_000_000))
 unfolding weak_line plain_train_and_track plain_national plain_band slope_at
 too_weak = (

@@ -21,6 +21,7 @@ delayed_restriction : map (mrsp short_train.train short_train.track
 unfolding short_train plain_train_and_track plain_national plain_band mrsp
 delayed_restriction = refl
 
+-- where it isn't delayed, at cell 600
 undelayed_restriction : map (mrsp short_train.train short_train.track
     (record { id = 1; start = 500; end = 600; speed = 80; delayed = false } ∷ []))
     (pos 499 ∷ pos 500 ∷ pos 599 ∷ pos 600 ∷ [])

@@ -117,6 +117,7 @@ reading_with_under v = record {
   under = 27_000;
 }
 
+-- a fall of the profile to a speed in km/h
 abbrev fall_to : ℕ → Target
 fall_to kmh = record { kind = Mrsp; place = pos 0; speed = kmh }
 
@@ -148,6 +149,7 @@ no_gap_at_an_eoa h = h.is_speed.0 refl
 
 -- ---- the ceiling
 
+-- a row with a ceiling of 160 km/h and no limits
 abbrev row_below_160 : Row
 row_below_160 = record {
   time = 0;
@@ -173,6 +175,7 @@ at_the_ceiling : IsWithinCeiling (reading_at 0 (pos 0) 2_568_750) row_below_160
 unfolding reading_at
 at_the_ceiling = omega arith
 
+-- and a notch more is above it
 above_the_ceiling : IsWithinCeiling (reading_at 0 (pos 0) 2_568_751) row_below_160 → ⊥
 unfolding reading_at
 above_the_ceiling h = omega (arith, h)

@@ -54,6 +54,7 @@ distance_to_a_faster_target = refl
 ebi_ceiling : notches 160 + ebi_margin 160 ≡ 171_250 * 15
 ebi_ceiling = refl
 
+-- the margins over 160 km/h are 11.25, 7.75 and 5 km/h
 margins_at_160 : (ebi_margin 160 ∷ sbi_margin 160 ∷ warning_margin 160 ∷ []) ≡ 168_750 ∷ 116_250 ∷ 75_000 ∷ []
 margins_at_160 = refl
 

@@ -21,9 +21,11 @@ use Rattle.sdm_rules.specs.Records.{step}
 use Rattle.sdm_cases.proofs.Journeys.{plain_band, plain_national, plain_train_and_track, reading_at}
 use Rattle.sdm_cases.proofs.Openings.{opening_row, situation_with}
 
+-- the train of 1 m on its level track
 abbrev pub short_line : TrainAndTrack
 short_line = plain_train_and_track (pos 100) (Some (pos 0)) plain_band [] []
 
+-- its state, with EOA and SvL at 10 m
 unfoldable pub short : Supervision
 short = opening short_line (Stop 1000 1000 0)
 

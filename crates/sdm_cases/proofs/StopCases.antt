@@ -86,6 +86,7 @@ start_without_interface = refl
 
 -- ---- a motion from a reading
 
+-- a train of 100 m, with an emergency brake that works after 2 s
 unfoldable pub braked_line : TrainAndTrack
 braked_line =
     let line = plain_train_and_track (pos 10_000) (Some (pos 0)) plain_band [] [] in
@@ -209,6 +210,7 @@ standing = record { phase = Build; time = 40; to = 0; length = 0 }
 unfoldable pub where_it_stands : Point
 where_it_stands = record { place = pos 1_641_599_999_999_999; square = 0 }
 
+-- it is a motion from the reading
 pub stands_before_the_front : IsMotionOn (slopes_of Safe braked_line) (reaction_start braked_line reading_at_760_m) 2
     (pos 1_641_599_999_999_999) 0 (standing ∷ []) where_it_stands []
 unfolding braked_line plain_train_and_track plain_national reading_at_760_m reading_at reaction_times standing
@@ -255,6 +257,7 @@ all_stopping (suc (suc k)) d l = absurd (omega arith)
 unfoldable pub at_780_m : Point
 at_780_m = record { place = pos 421_200_000_000_000; square = 0 }
 
+-- it is a motion from the reading, too
 pub stops_before_braking : IsMotionOn (slopes_of Safe braked_line) (reaction_start braked_line reading_at_760_m) 1
     (pos 410_400_000_000_000) 1_080_000 stopping at_780_m []
 unfolding braked_line plain_train_and_track plain_national reading_at_760_m reading_at reaction_times stopping at_780_m

@@ -67,6 +67,7 @@ eoa_compares_the_estimated_front_end : one_target Eoa (metres 700) (metres 801) 
 unfolding metres limits_at one_target triggers_of
 eoa_compares_the_estimated_front_end = refl
 
+-- there all is commanded
 intervention : commands_after nothing_held (one_target Svl (pos (80_001 * 5_400_000_000))
     (pos (80_001 * 5_400_000_000))) T false false true ≡ record { tco = true; sb = true; eb = true; status = X }
 unfolding metres limits_at one_target triggers_of commands_after emergency_after
@@ -121,6 +122,7 @@ warning_stays_while_over : commands_after (record nothing_held { status = W })
 unfolding commands_after emergency_after no_trigger
 warning_stays_while_over = refl
 
+-- over the permitted speed with no warning before
 overspeed : commands_after nothing_held (record no_trigger { over = true }) T false false true ≡ record {
   tco = false;
   sb = false;
@@ -132,6 +134,7 @@ overspeed = refl
 
 -- ---- other emergencies
 
+-- no target, and nothing else that triggers
 no_target : Situation
 no_target = record {
   speed = 0;
@@ -194,6 +197,7 @@ over_the_ceiling : (λ (v : ℕ). triggers_of (λ t. limits_at (metres 0) (metre
 unfolding metres limits_at triggers_of no_target
 over_the_ceiling = refl
 
+-- and at the ceiling with its EBI margin no emergency
 at_the_ebi_ceiling : (λ (v : ℕ). triggers_of (λ t. limits_at (metres 0) (metres 0) (metres 0) (metres 0) (metres 0)) 0
     (record no_target { speed = v })) 2_568_750 ≡ record { over = true; warn = true; serv = true; emer = false }
 unfolding metres limits_at triggers_of no_target

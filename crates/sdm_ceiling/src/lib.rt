@@ -3,7 +3,7 @@
 //! number of notches, so nothing is rounded.
 #![tactic(auto)]
 
-ghost use Rattle.std.specs.Prelude.{◌≡◌, ◌-◌, ◌≤◌};
+ghost use Rattle.std.specs.Prelude.{◌≡◌, ◌≤◌};
 ghost use Rattle.sdm_rules.specs.Margins.{ebi_margin, sbi_margin, warning_margin};
 ghost use Rattle.sdm_rules.specs.Ranges.{top_kmh};
 
@@ -18,7 +18,7 @@ pub fn dv_ebi(kmh: u16) -> Speed
     requires { kmh ≤ top_kmh }
     ensures { result ≡ ebi_margin kmh }
 {
-    Speed::new((112_500 + 1_125 * kmh_above_v_min(kmh)).min(225_000))
+    Speed::new((112_500 + 1_125 * u32::from(kmh.saturating_sub(V_MIN_KMH))).min(225_000))
 }
 
 /// dV_sbi, above which the service brake is commanded: 5.5 km/h up to 110 km/h, then 0.045 km/h more for each km/h, up
@@ -27,7 +27,7 @@ pub fn dv_sbi(kmh: u16) -> Speed
     requires { kmh ≤ top_kmh }
     ensures { result ≡ sbi_margin kmh }
 {
-    Speed::new((82_500 + 675 * kmh_above_v_min(kmh)).min(150_000))
+    Speed::new((82_500 + 675 * u32::from(kmh.saturating_sub(V_MIN_KMH))).min(150_000))
 }
 
 /// dV_warning, above which the driver is warned: 4 km/h up to 110 km/h, then 1/30 km/h more for each km/h, up to 5
@@ -36,14 +36,7 @@ pub fn dv_warning(kmh: u16) -> Speed
     requires { kmh ≤ top_kmh }
     ensures { result ≡ warning_margin kmh }
 {
-    Speed::new((60_000 + 500 * kmh_above_v_min(kmh)).min(75_000))
-}
-
-/// By how many km/h a limit lies above V_min, and 0 where it doesn't.
-fn kmh_above_v_min(kmh: u16) -> u32
-    ensures { result ≡ kmh - 110 }
-{
-    u32::from(kmh.saturating_sub(V_MIN_KMH))
+    Speed::new((60_000 + 500 * u32::from(kmh.saturating_sub(V_MIN_KMH))).min(75_000))
 }
 
 #[cfg(test)]

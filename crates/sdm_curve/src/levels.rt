@@ -57,32 +57,24 @@ pub fn spot_at(map: &BandMap, place: Place) -> Spot
     }
 }
 
-/// A segment, found by high words alone: the next one begins past every level with this high word.
-fn segment_of_key(map: &BandMap, band: usize, key: u64) -> usize
-    requires known_band { band < bands_of map.now.uppers }
-    ensures known { result < length map.now.starts }
-    ensures next_past { suc result < length map.now.starts → key < sum_of map.now band (suc result) / 2 ^ 64 }
-{
-    let mut low = 0;
-    let mut high = map.segments();
-    while high - low > 1 {
-        let middle = low + (high - low) / 2;
-        if (map.sum(band, middle) >> 64) as u64 <= key {
-            low = middle;
-        } else {
-            high = middle;
-        }
-    }
-    low
-}
-
-/// The segment that holds the last grain at a level of a band.
+/// The segment that holds the last grain at a level of a band. Halving looks at high words alone: the segment that it
+/// leaves is the last one that begins at the level's high word or before it, and the search steps back from there.
 fn segment_of_level(map: &BandMap, band: usize, level: u128) -> usize
     requires known_band { band < bands_of map.now.uppers }
     ensures { IsLevelIn map.now band result level }
 {
-    let mut segment = segment_of_key(map, band, (level >> 64) as u64);
-    while level < map.sum(band, segment) {
+    let key = (level >> 64) as u64;
+    let mut segment = 0;
+    let mut high = map.segments();
+    'halves: while high - segment > 1 {
+        let middle = segment + (high - segment) / 2;
+        if (map.sum(band, middle) >> 64) as u64 <= key {
+            segment = middle;
+        } else {
+            high = middle;
+        }
+    }
+    'back: while level < map.sum(band, segment) {
         segment -= 1;
     }
     segment
@@ -90,6 +82,8 @@ fn segment_of_level(map: &BandMap, band: usize, level: u128) -> usize
 
 /// The last grain where the integral of a band is at most a level. A level below 0 lies before cell 0: the first
 /// segment has no beginning.
+// In line: a place is asked for each target of a reading, and a call costs some 25 instructions more.
+#[inline(always)]
 pub fn last_at_most(map: &BandMap, band: usize, level: i128) -> Spot
     requires known_band { band < bands_of map.now.uppers }
     requires low { neg_ℤ (pos (10 ^ 37)) ≤ℤ level }

@@ -37,6 +37,7 @@ unfolding train_fault
 count_refused t n many = ap (λ fault. or_else (own_fault t)
     (or_else fault (or_else (band_value_fault 1 t.bands) (band_order_fault 1 (pos 0) t.bands)))) (many_refused n many)
 
+-- with too many bands there is some fault
 refused_anyway : (own : Option TrainFault) → or_else own (Some BandCount) ≡ None → ⊥
 refused_anyway None is = cc
 refused_anyway (Some fault) is = cc

@@ -141,6 +141,7 @@ journey emergency_reduced gradients no_special = record {
   };
 }
 
+-- the data of examples/approach
 approach : data_of (document (pos 1) (pos 10_000) [] []) ≡ Ok (journey None [] [], Stop 100_000 100_000 0)
 unfolding document journey tables members data_of root_in band_in train_in national_in gradient_in speed_in area_in
     track_in authority_in end_in known required optional number key_names train_fault national_fault track_fault
@@ -178,6 +179,7 @@ with_no_special = (
   tables (((codes "start", integer (pos 90_000)) ∷ (codes "end", integer (pos 100_000)) ∷ []) ∷ []),
 ) ∷ []
 
+-- version 2 reads both
 special_brake : data_of (document (pos 2) (pos 10_000) with_emergency_reduced with_no_special)
     ≡ Ok (journey (Some (pos 80)) [] (record { start = pos 90_000; end = pos 100_000 } ∷ []), Stop 100_000 100_000 0)
 unfolding document journey with_emergency_reduced with_no_special tables members data_of root_in band_in train_in

@@ -15,6 +15,7 @@ moved : (done : List Value) (value : Value) (more : List Data) →
 moved [] value more = refl
 moved (first ∷ done) value more = ap (λ (values : List Data). view first ∷ values) (moved done value more)
 
+-- with the table of the next entry behind those so far, one entry less is left
 pub one_more : {A : Type 0} (written : A → Members) (done : List Value) (value : Value) (entries : List A) (i : ℕ)
     (d : A) (all : List Data) → map view done ++ tables_of written (drop i entries) ≡ all → i < length entries →
     view value ≡ table (written (get_or entries i d)) →

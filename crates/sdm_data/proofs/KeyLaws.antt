@@ -29,6 +29,7 @@ pub first_keys : (names : List (Bor (List ℕ))) (section : Section) (n : ℕ) �
     ≡ key_names section → map (λ name. name.now) (take n names) ≡ take n (key_names section)
 first_keys names section n are = sym (take-map (λ name. name.now) n names) ∙ ap (take n) are
 
+-- the first four keys of an authority are those of an end
 pub end_keys_are : (names : List (Bor (List ℕ))) → map (λ name. name.now) names ≡ key_names Authority →
     map (λ name. name.now) (take 4 names) ≡ end_keys
 end_keys_are names are = first_keys names Authority 4 are

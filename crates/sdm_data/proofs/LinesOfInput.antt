@@ -29,6 +29,7 @@ module _ (before : List (List ℕ)) (none : NoneDivides before) where
       let test : nat_lt (length before) (length lines) ≡ true = grind (arith, nat_tests) in
       rw here (rw test refl)
 
+  -- where none divides there is no place of one
   position_nowhere : position is_dividing_line before ≡ None
   position_nowhere =
       let end : position_or_len is_dividing_line before ≡ length before = position_or_len_is is_dividing_line before
@@ -43,6 +44,7 @@ pub record IsLeft (input rest : List ℕ) : Type 0 where
   pub none : NoneDivides before
   pub size : length (concat before) + length rest ≡ length input
 
+-- at first all is left
 pub all_left : (input : List ℕ) → IsLeft input input
 all_left input = record { before = []; lines = refl; none = λ k d lt. absurd (omega arith); size = omega arith }
 
@@ -55,6 +57,7 @@ undivided input h =
 
 module _ (input rest line after : List ℕ) (h : IsLeft input rest) (first : ended_lines rest ≡ line ∷ ended_lines after)
     (whole : length line + length after ≡ length rest) where
+  -- the lines of the input: those before, the first that is left, and those after it
   lines_are : ended_lines input ≡ h.before ++ line ∷ ended_lines after
   lines_are = h.lines ∙ ap (λ (more : List (List ℕ)). h.before ++ more) first
 

@@ -81,15 +81,18 @@ mutual
 abbrev HasOneText : Data → Type 0
 HasOneText d = (text : List ℕ) → IsValueText false d text → text ≡ value_text d
 
+-- the value of a line has one text, where it has a value
 abbrev IsOneLine : Definition → Type 0
 IsOneLine (key_value d) = HasOneText d
 IsOneLine std_table = Unit {0}
 IsOneLine array_table = Unit {0}
 
+-- each of the lines has one text
 abbrev AreOneText : List Expression → Type 0
 AreOneText [] = Unit {0}
 AreOneText (line ∷ more) = IsOneLine line.1 × AreOneText more
 
+-- lines behind lines
 append_one : (lines more : List Expression) → AreOneText lines → AreOneText more → AreOneText (lines ++ more)
 append_one [] more a b = b
 append_one (line ∷ lines) more a b = (a.0, append_one lines more a.1 b)
@@ -109,6 +112,7 @@ value_one (suc n) (array (item d ds)) h beside text is =
     absurd (false≢true (sym beside ∙ tables))
 value_one n (table ms) h beside text is = absurd cc
 
+-- the lines of the values that stand beside their keys
 pairs_one : (n : ℕ) (ms : Members) → members_plain n ms ≡ true → AreOneText (pairs ms)
 pairs_one n no_members h = tt
 pairs_one n (member k d ms) h =
@@ -118,11 +122,13 @@ pairs_one n (member k d ms) h =
       | inr beside ↦ rw beside (value_one n d both.0 beside, pairs_one n ms both.1)
     ]
 
+-- a header before lines, or none
 header_one : (b : Bool) (p : List (List ℕ)) (k : List ℕ) (more : List Expression) → AreOneText more →
     AreOneText ((if b then ((p, k), std_table) ∷ [] else []) ++ more)
 header_one true p k more h = (tt, h)
 header_one false p k more h = h
 
+-- the lines of sections, and of one section
 mutual
   sections_one : (n : ℕ) (ms : Members) (p : List (List ℕ)) → members_plain n ms ≡ true → AreOneText (sections p ms)
   sections_one n no_members p h = tt
@@ -162,6 +168,7 @@ mutual
             (elements_one (suc n) ds p k both.1),
       )
 
+-- the text of a line is the one that is defined
 line_is : (started : Bool) (key : List (List ℕ) × List ℕ) (line : Definition) (text : List ℕ) → IsOneLine line →
     IsLineText false started key line text → text ≡ line_text started key line
 line_is started key (key_value d) text one is =
@@ -170,6 +177,7 @@ line_is started key (key_value d) text one is =
 line_is started key std_table text one is = is
 line_is started key array_table text one is = is
 
+-- so is the text of lines
 lines_are : (started : Bool) (lines : List Expression) (text : List ℕ) → AreOneText lines →
     IsLinesText false started lines text → text ≡ lines_text started lines
 lines_are started [] text one is = is
@@ -178,6 +186,7 @@ lines_are started (line ∷ more) text one is =
     whole ∙ ap (λ t. t ++ rest) (line_is started line.0 line.1 this one.0 first)
     ∙ ap (λ t. line_text started line.0 line.1 ++ t) (lines_are true more rest one.1 others)
 
+-- and that of a document
 document_is : (n : ℕ) (ms : Members) (text : List ℕ) → members_plain n ms ≡ true → IsDocumentText false ms text →
     text ≡ document_text ms
 unfolding document_text
@@ -190,19 +199,23 @@ both_true : (a b : Bool) → a ≡ true → b ≡ true → (a && b) ≡ true
 both_true a b is also = rw (is, also) refl
 
 module _ {A : Type 0} (n : ℕ) (write : A → Members) (each : (x : A) → members_plain n (write x) ≡ true) where
+  -- an array of tables holds tables alone
   are_all_tables : (xs : List A) → are_tables (items_of (map table (map write xs))) ≡ true
   are_all_tables [] = refl
   are_all_tables (x ∷ xs) = are_all_tables xs
 
+  -- they are plain where each entry's table is
   all_plain : (xs : List A) → items_plain (suc n) (items_of (map table (map write xs))) ≡ true
   all_plain [] = refl
   all_plain (x ∷ xs) = both_true (members_plain n (write x)) _ (each x) (all_plain xs)
 
+  -- so the array is plain
   array_plain : (xs : List A) → plain (suc (suc n)) (array_of (map write xs)) ≡ true
   array_plain xs = both_true _ _ (are_all_tables xs) (all_plain xs)
 
 -- ---- the sections
 
+-- with or without an upper speed and a reduced deceleration
 band_by : (b : Band) (upper reduced : Option ℤ) →
     members_plain 0 (band_table (record b { upper = upper; emergency_reduced = reduced })) ≡ true
 unfolding band_table key_names
@@ -214,6 +227,7 @@ band_by b (Some upper) (Some reduced) = refl
 band_plain : (b : Band) → members_plain 0 (band_table b) ≡ true
 band_plain b = band_by b b.upper b.emergency_reduced
 
+-- with or without a rotating mass
 train_by : (t : TrainData) (mass : Option ℤ) → members_plain 2 (train_table (record t { rotating_mass = mass })) ≡ true
 unfolding train_table key_names
 train_by t None = rw (array_plain 0 band_table band_plain t.bands) refl
@@ -247,6 +261,7 @@ areas_plain = array_plain 0 area_table area_plain
 speeds_plain : (speeds : List SpeedStep) → plain 2 (array_of (map speed_table speeds)) ≡ true
 speeds_plain = array_plain 0 speed_table speed_plain
 
+-- with or without each of the lists that may be absent
 track_by : (t : TrackData) (gradients : List Gradient) (areas no_special : List Area) → members_plain 2
     (track_table (record t { gradients = gradients; areas = areas; no_special = no_special })) ≡ true
 unfolding track_table key_names

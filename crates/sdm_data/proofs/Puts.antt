@@ -8,12 +8,14 @@ use Rattle.toml.specs.View.{view, members_view}
 use Rattle.toml.specs.declared.value.Value.{Value}
 use Rattle.sdm_data.specs.Tables.{put}
 
+-- of three lists, by an order: the members of the one that it takes
 by_order : (o : Ordering) (a b c : List (String Global × Value)) →
     members_view (match_ordering o a b c) ≡ match_ordering o (members_view a) (members_view b) (members_view c)
 by_order Less a b c = refl
 by_order Equal a b c = refl
 by_order Greater a b c = refl
 
+-- an entry that is inserted is put among the members
 inserted : (entries : List (String Global × Value)) (name : String Global) (value : Value) →
     members_view (insert_entry string_cmp entries name value)
     ≡ put (string_bytes name) (view value) (members_view entries)

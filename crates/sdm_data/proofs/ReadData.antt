@@ -50,12 +50,14 @@ is_range : (least greatest : ℕ) (n : ℤ) → is_within (pos least) (pos great
 is_range least greatest (pos n) is = (grind (arith, nat_tests), grind (arith, nat_tests))
 is_range least greatest (negsuc n) is = absurd cc
 
+-- a number that passes the test of its range is in it
 within_range : (s : SectionMembers) (key least greatest : ℕ) (n : ℤ) (m : ℕ) → within s key least greatest n ≡ Ok m →
     (least ≤ m) × (m ≤ greatest)
 within_range s key least greatest n m e =
     let passed = if_passed (is_within (pos least) (pos greatest) n) (unsigned_abs n) (Value (at s key)) m e in
     subst (λ (k : ℕ). (least ≤ k) × (k ≤ greatest)) passed.1 (is_range least greatest n passed.0)
 
+-- a number that was read at a key is in its range
 number_range : (s : SectionMembers) (key least greatest m : ℕ) → number s key least greatest ≡ Ok m →
     (least ≤ m) × (m ≤ greatest)
 unfolding number
@@ -63,6 +65,7 @@ number_range s key least greatest m e =
     let n = from_first (required as_integer s key) (within s key least greatest) m e in
     within_range s key least greatest n.0 m n.2
 
+-- an end of authority that was read is in its ranges
 end_range : (s : SectionMembers) (a : Authority) → end_in s ≡ Ok a → IsAuthorityInRange a
 unfolding end_in
 end_range s a e =
@@ -77,6 +80,7 @@ end_range s a e =
       (within_range s keys.AUTHORITY_RELEASE 0 top_kmh (unwrap_or kmh.0 (pos 0)) release.0 release.1).1,
     )
 
+-- so is a limit of authority
 limit_range : (s : SectionMembers) (a : Authority) → limit_in s ≡ Ok a → IsAuthorityInRange a
 unfolding limit_in
 limit_range s a e =
@@ -97,6 +101,7 @@ kinds_range true is_limit s fault a e = end_range s a e
 kinds_range false true s fault a e = limit_range s a e
 kinds_range false false s fault a e = cc
 
+-- so is an authority of either kind
 authority_range : (members : Members) (a : Authority) → authority_in members ≡ Ok a → IsAuthorityInRange a
 unfolding authority_in
 authority_range members a e =
@@ -113,6 +118,7 @@ pub record AreAccepted (d : TrainAndTrack) (a : Authority) : Type 0 where
   pub track : track_fault d.track ≡ None
   pub authority : IsAuthorityInRange a
 
+-- data that were read break no rule
 pub accepted : (members : Members) (d : TrainAndTrack) (a : Authority) → data_of members ≡ Ok (d, a) → AreAccepted d a
 unfolding data_of
 accepted members d a e =
@@ -127,7 +133,8 @@ accepted members d a e =
     let of_track = from_rule data_faults.Track (track_fault track.0) track.0 _ (d, a) of_national.1 in
     let read : TrainAndTrack × Authority =
     (record { train = train.0; national = national.0; track = track.0 }, authority.0) in
-    subst (λ (both : TrainAndTrack × Authority). AreAccepted both.0 both.1) (same_Ok read (d, a) _ refl of_track.1) (record {
+    subst (λ (both : TrainAndTrack × Authority). AreAccepted both.0 both.1)
+    (same_Ok read (d, a) _ refl of_track.1) (record {
       train = of_train.0;
       national = of_national.0;
       track = of_track.0;

@@ -18,6 +18,7 @@ list_any-now : (p : List ℕ → Bool) (names : List (Bor (List ℕ))) →
 list_any-now p [] = refl
 list_any-now p (name ∷ names) = ap (λ b. p name.now || b) (list_any-now p names)
 
+-- whether some key is none of the names, told of the entries of a table and of its members
 pub unknown_keys : (names : List (Bor (List ℕ))) (entries : List (String Global × Value)) →
     list_any (λ key. not (list_any (λ name. bytes_eq (string_bytes key) name.now) names)) (keys_of_entries entries)
     ≡ has_unknown (map (λ name. name.now) names) (members_view entries)
@@ -41,6 +42,7 @@ filter_map-view : {A : Type 0} (f : Data → Option A) (values : List Value) →
 filter_map-view f [] = refl
 filter_map-view f (value ∷ values) = rw (filter_map-view f values) refl
 
+-- an array is read as its tables where all its values are tables, else as none
 tables_by : (values : List Value) (b : Bool) → list_all (λ value. is_some (as_table (view value))) values ≡ b →
     all_tables (values_of (items_view values)) ≡ cond b (Some (tables_in values)) None
 tables_by values b is = rw (
@@ -50,10 +52,12 @@ tables_by values b is = rw (
   filter_map-view as_table values,
 ) refl
 
+-- where all are tables
 pub all_are_tables : (d : Data) (values : List Value) → as_array d ≡ Some (items_view values) →
     list_all (λ value. is_some (as_table (view value))) values ≡ true → as_tables d ≡ Some (tables_in values)
 all_are_tables d values array are = rw array (tables_by values true are)
 
+-- where one is none
 pub some_is_no_table : (d : Data) (values : List Value) → as_array d ≡ Some (items_view values) →
     list_all (λ value. is_some (as_table (view value))) values ≡ false → as_tables d ≡ None
 some_is_no_table d values array are = rw array (tables_by values false are)

@@ -35,10 +35,12 @@ values_are : (tables : List Members) → values_of (items_of (map table tables))
 values_are [] = refl
 values_are (first ∷ more) = ap (λ (values : List Data). table first ∷ values) (values_are more)
 
+-- an array of tables holds tables alone
 all_are : (tables : List Members) → list_all (λ value. is_some (as_table value)) (map table tables) ≡ true
 all_are [] = refl
 all_are (first ∷ more) = all_are more
 
+-- and the tables in it are these
 these_are : (tables : List Members) → filter_map as_table (map table tables) ≡ tables
 these_are [] = refl
 these_are (first ∷ more) = ap (λ (tables : List Members). first ∷ tables) (these_are more)
@@ -67,6 +69,7 @@ list_back read write each xs =
 
 -- ---- the train
 
+-- with or without an upper speed and a reduced deceleration
 band_by : (i : ℕ) (b : Band) (upper reduced : Option ℤ) →
     band_in Two i (band_table (record b { upper = upper; emergency_reduced = reduced }))
     ≡ Ok (record b { upper = upper; emergency_reduced = reduced })
@@ -82,6 +85,7 @@ band_back i b = band_by i b b.upper b.emergency_reduced
 bands_back : (t : TrainData) → ListBack (band_in Two) band_table t.bands
 bands_back t = list_back (band_in Two) band_table band_back t.bands
 
+-- with or without a rotating mass
 train_by : (t : TrainData) (mass : Option ℤ) →
     train_in Two (train_table (record t { rotating_mass = mass })) ≡ Ok (record t { rotating_mass = mass })
 unfolding train_in train_table key_names known required optional
@@ -135,6 +139,7 @@ module _ (t : TrackData) where
   no_special_areas_back areas =
       list_back (area_in sections.NoSpecial Two) area_table no_special_back areas
 
+  -- with or without each of these lists
   track_by : (gradients : List Gradient) (areas no_special : List Area) →
       track_in Two (track_table (with_lists gradients areas no_special)) ≡ Ok (with_lists gradients areas no_special)
   unfolding track_in track_table key_names known required optional

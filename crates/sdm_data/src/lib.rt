@@ -26,6 +26,3 @@ pub use journeys::{JourneyData, data_of};
 pub use sdm_rules::{At, DataFault};
 pub use tables::{law_of_tables, table_of};
 pub use texts::text_of;
-
-#[cfg(test)]
-mod tests;

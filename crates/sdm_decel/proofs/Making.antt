@@ -36,13 +36,16 @@ as_many d starts = length-map starts (under_train d.track d.train.length_cm)
 module _ (kind : SlopeKind) (d : TrainAndTrack) (q : ℕ) (uppers : List ℕ) (starts slopes : List ℤ)
     (parts : AreParts kind d uppers starts slopes) (q_is : q ≡ q_of d.train.rotating_mass) (low_q : 100 ≤ q)
     (high_q : q ≤ 11_730) where
+  -- as many bands as the train has
   count : bands_of uppers ≡ length d.train.bands
   count = rw parts.uppers_are (count_uppers d.train.bands parts.train.bands)
 
+  -- a slope for each band and start
   lengths : length slopes ≡ bands_of uppers * length starts
   lengths = ap length parts.slopes_are ∙ length_rows (slope_in_band kind d) (unders d starts) d.train.bands
       ∙ rw (as_many d starts, ← count) refl
 
+  -- the data of the map are well formed
   pub map_data_is : IsMapData (map_data q uppers starts slopes)
   map_data_is = record {
     low_q = low_q;
@@ -60,6 +63,7 @@ module _ (kind : SlopeKind) (d : TrainAndTrack) (q : ℕ) (uppers : List ℕ) (s
   under_is c = get_or-map (under_train d.track d.train.length_cm) starts (segment_of starts c) (pos 0)
       ∙ sym (parts.stretches.same c)
 
+  -- the slope of a band in a cell is that of the cell's segment
   slope_is : (band : ℕ) (c : ℤ) →
       slope_at kind d band c ≡ slope_in (map_data q uppers starts slopes) band (segment_of starts c)
   unfolding slope_at
@@ -77,6 +81,7 @@ module _ (kind : SlopeKind) (d : TrainAndTrack) (q : ℕ) (uppers : List ℕ) (s
       ∙ ap (λ (u : UnderTrain).
       option_map_or (λ (b : Band). slope_in_band kind d b u) (slice_get d.train.bands band) (pos 0)) (under_is c))
 
+  -- so the data give the slopes of the kind
   gives : Gives kind d (map_data q uppers starts slopes)
   gives = record {
     q = q_is;
@@ -89,18 +94,22 @@ module _ (kind : SlopeKind) (d : TrainAndTrack) (q : ℕ) (uppers : List ℕ) (s
 
   -- ---- what comes of them
 
+  -- a map of accepted data stands for the slopes of the kind
   pub stands_for : (m : SlopeMap) → handed_in m ≡ map_data q uppers starts slopes →
       AreAccepted (map_data q uppers starts slopes) → meaning_of m ≡ slopes_of kind d
   stands_for m is accepted = meaning_kind kind d (map_data q uppers starts slopes) gives m
       (rw is (record { well_formed = map_data_is; accepted = accepted })) is
 
+  -- its segments are the stretches
   pub stretches_kept : (m : SlopeMap) → handed_in m ≡ map_data q uppers starts slopes →
       AreStretches d.track d.train.length_cm m.starts
   stretches_kept m is = subst (λ (xs : List ℤ). AreStretches d.track d.train.length_cm xs)
       (sym (ap (λ (x : MapData). x.starts) is)) parts.stretches
 
+  -- where the data are accepted the slopes of the kind are
   pub accepts : AreAccepted (map_data q uppers starts slopes) → IsAcceptedKind kind d
   accepts h = accepted_kind kind d (map_data q uppers starts slopes) gives h
 
+  -- a fault of the data is a fault of the kind
   pub refuses : (f : CurveFault) → IsMapFault (map_data q uppers starts slopes) f → IsFaultOfKind kind d f
   refuses f h = fault_kind kind d (map_data q uppers starts slopes) gives f h

@@ -22,6 +22,7 @@ pub next_is : {X : Type 0} (xs : List X) (i : ℕ) (x : X) → slice_get xs i �
 next_is xs i x h =
     take_more xs i x (slice_get_within xs i x h) ∙ ap (λ y. take i xs ++ y ∷ []) (get_or_from_slice_get xs i x x h)
 
+-- the next element adds what it gives
 pub flat_map_next : {X A : Type 0} (f : X → List A) (xs : List X) (i : ℕ) (x : X) → slice_get xs i ≡ Some x →
     flat_map f (take (i + 1) xs) ≡ flat_map f (take i xs) ++ f x
 flat_map_next f xs i x h = ap (λ ys. flat_map f ys) (next_is xs i x h) ∙ flat_map-append f (take i xs) (x ∷ [])
@@ -29,13 +30,16 @@ flat_map_next f xs i x h = ap (λ ys. flat_map f ys) (next_is xs i x h) ∙ flat
 
 -- ---- cells
 
+-- stands for a segment that there is not
 some_segment : Segment
 some_segment = record { start = pos 0; value = pos 0 }
 
+-- the start that was read is the segment's
 start_is : (segments : List Segment) (i : ℕ) (start : ℤ) → i < length segments → option_map (λ (s : Segment). s.start)
     (slice_get segments i) ≡ Some start → start ≡ (get_or segments i some_segment).start
 start_is segments i start lt h = let there = slice_get-get_or segments i some_segment lt in cc
 
+-- the next segment adds its start
 pub gradients_more : (segments : List Segment) (i : ℕ) (start : ℤ) (before old new : List ℕ) (x : ℕ) →
     i < length segments → option_map (λ (s : Segment). s.start) (slice_get segments i) ≡ Some start →
     old ≡ before ++ gradient_starts (take i segments) → new ≡ old ++ x ∷ [] → x ≡ unsigned_abs start →
@@ -46,6 +50,7 @@ gradients_more segments i start before old new x lt h old_is new_is x_is =
     (λ (z : ℤ). gradient_starts (take i segments) ++ unsigned_abs z ∷ []) (sym (start_is segments i start lt h)) in
     rw (new_is, old_is, x_is, more) (simp append_assoc)
 
+-- the next area adds its two ends
 pub areas_more : (length_cm : ℕ) (areas : List Area) (i : ℕ) (d : Area) (before old middle new : List ℕ) (x y : ℕ) →
     i < length areas → old ≡ before ++ area_ends length_cm (take i areas) →
     middle ≡ old ++ x ∷ [] → new ≡ middle ++ y ∷ [] → x ≡ unsigned_abs (get_or areas i d).start → y ≡ unsigned_abs
@@ -61,12 +66,14 @@ areas_more length_cm areas i d before old middle new x y lt old_is middle_is new
       flat_map_next cells_of areas i (get_or areas i d) (slice_get-get_or areas i d lt),
     ) (simp append_assoc)
 
+-- a sum of naturals is that of whole numbers
 pub nat_plus : (z : ℤ) (n : ℕ) → pos 0 ≤ℤ z → unsigned_abs z + n ≡ unsigned_abs (z +ℤ pos n)
 nat_plus (pos m) n h = refl
 nat_plus (negsuc m) n h = absurd (omega (arith, ints))
 
 -- ---- slopes
 
+-- the next element adds its slope to the row
 pub row_more : {U : Type 0} (f : U → ℤ) (us : List U) (i : ℕ) (u : U) (before old new : List ℤ) (x : ℤ) →
     i < length us → u ≡ get_or us i u → old ≡ before ++ map f (take i us) → new ≡ old ++ x ∷ [] → x ≡ f u →
     new ≡ before ++ map f (take (i + 1) us)
@@ -77,6 +84,7 @@ row_more f us i u before old new x lt here old_is new_is x_is =
 
 -- ---- upper speeds
 
+-- a band with an upper speed adds it
 pub uppers_more : (bands : List Band) (i : ℕ) (b : Band) (kmh : ℤ) (old new : List ℕ) (x : ℕ) →
     slice_get bands i ≡ Some b → b.upper ≡ Some kmh → old ≡ uppers_of (take i bands) → new ≡ old ++ x ∷ [] →
     x ≡ notches (unsigned_abs kmh) →
@@ -91,6 +99,7 @@ none_of : (o : Option ℤ) → ((x : ℤ) → o ≡ Some x → ⊥) → o ≡ No
 none_of None h = refl
 none_of (Some x) h = absurd (h x refl)
 
+-- a band without one adds none
 pub uppers_same : (bands : List Band) (i : ℕ) (b : Band) → slice_get bands i ≡ Some b →
     ((kmh : ℤ) → b.upper ≡ Some kmh → ⊥) → uppers_of (take (i + 1) bands) ≡ uppers_of (take i bands)
 uppers_same bands i b h none = ap (λ (bs : List Band). uppers_of bs) (next_is bands i b h)

@@ -16,11 +16,13 @@ use Rattle.sdm_curve.specs.Maps.{AreUppers}
 -- ---- rows
 
 module _ {B U : Type 0} (f : B → U → ℤ) (us : List U) where
+  -- a row for each band
   pub length_rows : (bs : List B) → length (flat_map (λ b. map (f b) us) bs) ≡ length bs * length us
   length_rows [] = omega arith
   length_rows (b ∷ bs) = length-append (map (f b) us) (flat_map (λ b. map (f b) us) bs)
       ∙ omega (arith, length_rows bs, length-map us (f b))
 
+  -- at the index of a band and an element stands what the band gives for it
   pub get_or-rows : (bs : List B) (band i : ℕ) (d : U) → i < length us → get_or (flat_map (λ b. map (f b) us) bs)
       (band * length us + i) (pos 0) ≡ option_map_or (λ b. f b (get_or us i d)) (slice_get bs band) (pos 0)
   get_or-rows [] band i d lt = refl
@@ -44,6 +46,7 @@ record RiseFrom (above : ℤ) (bands : ℕ) (uppers : List ℕ) : Type 0 where
   past : (i : ℕ) → i < length uppers → (pos (notches 1) *ℤ above) <ℤ pos (get_or uppers i 0)
   rise : (i j : ℕ) → i < j → j < length uppers → get_or uppers i 0 < get_or uppers j 0
 
+-- no upper speed: one band
 rise_none : (above : ℤ) (uppers : List ℕ) → uppers ≡ [] → RiseFrom above 1 uppers
 rise_none above uppers is = record {
   count = ap (λ (xs : List ℕ). bands_of xs) is;
@@ -53,22 +56,27 @@ rise_none above uppers is = record {
 
 module _ (above upper : ℤ) (x bands : ℕ) (uppers : List ℕ) (is : pos x ≡ pos (notches 1) *ℤ upper)
     (higher : above <ℤ upper) (h : RiseFrom upper bands uppers) where
+  -- with one more in front, each lies above the lower speed
   past_more : (i : ℕ) → i < length (x ∷ uppers) → (pos (notches 1) *ℤ above) <ℤ pos (get_or (x ∷ uppers) i 0)
   past_more zero l = omega (arith, ints)
   past_more (suc i) l = omega (arith, ints, h.past i (omega arith))
 
+  -- and they rise
   rise_in : (i j : ℕ) → i < j → j < length (x ∷ uppers) → get_or (x ∷ uppers) i 0 < get_or (x ∷ uppers) j 0
   rise_in i zero l m = absurd (omega arith)
   rise_in zero (suc j) l m = omega (arith, ints, h.past j (omega arith))
   rise_in (suc i) (suc j) l m = h.rise i j (omega arith) (omega arith)
 
+  -- so there is one band more
   rise_more : RiseFrom above (suc bands) (x ∷ uppers)
   rise_more = record { count = (let count = h.count in omega arith); past = past_more; rise = rise_in }
 
+-- an upper speed in notches, as a whole number
 notches_is : (upper : ℤ) → pos 0 ≤ℤ upper → pos (notches (unsigned_abs upper)) ≡ pos (notches 1) *ℤ upper
 notches_is (pos n) h = refl
 notches_is (negsuc n) h = absurd (omega (arith, ints))
 
+-- the upper speeds of bands in order rise
 rise_from : (above : ℤ) (bands : List Band) → pos 0 ≤ℤ above → AreBands above bands →
     RiseFrom above (length bands) (uppers_of bands)
 rise_from above [] low h = absurd h
@@ -81,9 +89,11 @@ rise_from above (b ∷ next ∷ more) low h =
     rw has (rise_more above upper (notches (unsigned_abs upper)) (length (next ∷ more)) (uppers_of (next ∷ more))
     (notches_is upper above_0) higher (rise_from upper (next ∷ more) above_0 h.3))
 
+-- as many bands as the train has
 pub count_uppers : (bands : List Band) → HasBands bands → bands_of (uppers_of bands) ≡ length bands
 count_uppers bands h = (rise_from (pos 0) bands (omega (arith, ints)) h.in_order).count
 
+-- the upper speeds of a train's bands are those of a map
 pub uppers_are : (bands : List Band) → HasBands bands → AreUppers (uppers_of bands)
 uppers_are bands h =
     let rising = rise_from (pos 0) bands (omega (arith, ints)) h.in_order in

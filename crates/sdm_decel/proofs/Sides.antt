@@ -21,12 +21,14 @@ pub record AreBegun (s c : ℤ) (length_cm : ℕ) (areas : List Area) : Type 0 w
   pub ends : (k : ℕ) (d : Area) → k < length areas → IsBegun s c ((get_or areas k d).end +ℤ pos length_cm)
 
 module _ (s c : ℤ) (le : s ≤ℤ c) where
+  -- what begins there has begun at both cells or at neither
   le_same : (b : ℤ) → IsBegun s c b → int_le b c ≡ int_le b s
   le_same b h =
       by_lt_z c b
       (λ (lt : c <ℤ b). not_le_is b c lt ∙ sym (not_le_is b s (omega (arith, ints))))
       (λ (ge : b ≤ℤ c). le_is b c ge ∙ sym (le_is b s (h.begun ge)))
 
+  -- what ends there has ended at both or at neither
   lt_same : (b : ℤ) → IsBegun s c b → int_lt c b ≡ int_lt s b
   lt_same b h =
       by_lt_z c b
@@ -35,6 +37,7 @@ module _ (s c : ℤ) (le : s ≤ℤ c) where
 
   -- ---- gradients
 
+  -- the last entry that has begun is the same
   last_same : {E V : Type 0} (start : E → ℤ) (value : E → V) (es : List E) (before : V) →
       ((k : ℕ) (d : E) → k < length es → IsBegun s c (start (get_or es k d))) →
       last_at start value es c before ≡ last_at start value es s before
@@ -42,6 +45,7 @@ module _ (s c : ℤ) (le : s ≤ℤ c) where
   last_same start value (x ∷ xs) before h =
       rw (le_same (start x) (h 0 x (omega arith))) (last_same start value xs _ (λ k d l. h (suc k) d (omega arith)))
 
+  -- and so is its value
   value_same : {E V : Type 0} (start : E → ℤ) (value : E → V) (none : V) (es : List E) →
       ((k : ℕ) (d : E) → k < length es → IsBegun s c (start (get_or es k d))) →
       value_at start value none es c ≡ value_at start value none es s
@@ -50,6 +54,7 @@ module _ (s c : ℤ) (le : s ≤ℤ c) where
 
   -- ---- areas
 
+  -- some area is in force at both or at neither
   any_same : (length_cm : ℕ) (areas : List Area) → AreBegun s c length_cm areas →
       any_in_force areas (pos length_cm) c ≡ any_in_force areas (pos length_cm) s
   any_same length_cm [] h = refl
@@ -64,6 +69,7 @@ module _ (s c : ℤ) (le : s ≤ℤ c) where
 
   -- ---- the track under the train
 
+  -- so the same lies under the train
   pub under_same : (track : TrackData) (length_cm : ℕ) (segments : List Segment) →
       AreGradientsUnder track length_cm segments →
       ((k : ℕ) (d : Segment) → k < length segments → IsBegun s c (get_or segments k d).start) →

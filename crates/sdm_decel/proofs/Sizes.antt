@@ -21,10 +21,12 @@ pub size_of : (x : ℤ) (m : ℕ) → IsSmall m x → unsigned_abs x ≤ m
 size_of (pos n) m h = omega (arith, ints, h.0, h.1)
 size_of (negsuc n) m h = omega (arith, ints, h.0, h.1)
 
+-- a product is no larger than that of its bounds
 pub product_small : (a : ℕ) (b : ℤ) (m n : ℕ) → a ≤ m → IsSmall n b → IsSmall (m * n) (pos a *ℤ b)
 product_small a b m n le small =
     small_of (pos a *ℤ b) (m * n) (rw (unsigned_abs-mul (pos a) b) (mul-le-mul le (size_of b n small)))
 
+-- a small number fits 64 bits
 pub fits : (x : ℤ) (m : ℕ) → IsSmall m x → m < 2 ^ 63 → FitsSigned w64 x
 fits x m small lt = fits_signed_from_abs w64 x (omega (arith, size_of x m small))
 

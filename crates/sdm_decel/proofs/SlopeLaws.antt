@@ -29,11 +29,13 @@ pub record Gives (kind : SlopeKind) (train_and_track : TrainAndTrack) (d : MapDa
   pub slope : (band : ℕ) → band < bands_of d.uppers → (c : ℤ) → slope_at kind train_and_track band c ≡ slope_on d band c
 
 module _ (kind : SlopeKind) (train_and_track : TrainAndTrack) (d : MapData) (gives : Gives kind train_and_track d) where
+  -- a band of the train is one of the data
   band_known : (band : ℕ) → band < length train_and_track.train.bands → band < bands_of d.uppers
   band_known band lt = omega (arith, gives.bands)
 
   -- ---- weak slopes
 
+  -- a cell that is strong in the data is so in the kind
   strong_at : (band cell : ℕ) → band < bands_of d.uppers → IsStrongSlope d.q (slope_on d band (pos cell)) →
       opening.IsStrongAt kind train_and_track band cell
   strong_at band cell lt h =
@@ -41,10 +43,12 @@ module _ (kind : SlopeKind) (train_and_track : TrainAndTrack) (d : MapData) (giv
       subst (λ (n : ℕ). IsStrongSlope n (slope_at kind train_and_track band (pos cell))) gives.q
       (subst (λ (z : ℤ). IsStrongSlope d.q z) (sym there) h)
 
+  -- where the data are strong the kind is
   strong : AreStrong d → opening.IsStrong kind train_and_track
   strong h = λ band cell lt. let known =
       band_known band lt in strong_at band cell known (strong_cells d band gives.starts (h band known) (pos cell))
 
+  -- the first weak slope of the data begins in the first weak cell of the kind
   first_weak : (band i : ℕ) → IsFirstWeakSlope d band i →
       opening.IsFirstWeak kind train_and_track band (unsigned_abs (start_in d i)) (slope_in d band i)
   first_weak band i h =
@@ -61,6 +65,7 @@ module _ (kind : SlopeKind) (train_and_track : TrainAndTrack) (d : MapData) (giv
 
   -- ---- uneven slopes
 
+  -- a band that is even in the data is so in the kind
   even : (band : ℕ) → band < bands_of d.uppers → IsEvenBand d band → opening.IsEven kind train_and_track band
   even band lt h cell cell' =
       let wide = even_cells d band gives.starts h (pos cell) (pos cell') in
@@ -68,6 +73,7 @@ module _ (kind : SlopeKind) (train_and_track : TrainAndTrack) (d : MapData) (giv
       (subst (λ (n : ℕ). slope_on d band (pos cell) ≤ℤ (pos (variation n) *ℤ slope_on d band (pos cell')))
       gives.bands wide)
 
+  -- the first varied band of the data is that of the kind, with its range
   first_varied : (band : ℕ) (least greatest : ℤ) → AreStrong d → IsFirstVariedBand d band least greatest →
       opening.IsFirstVaried kind train_and_track band least greatest
   first_varied band least greatest are_strong h =
@@ -88,12 +94,14 @@ module _ (kind : SlopeKind) (train_and_track : TrainAndTrack) (d : MapData) (giv
 
   -- ---- accepted, or the first fault
 
+  -- where the data are accepted the kind is
   pub accepted_kind : AreAccepted d → opening.IsAcceptedKind kind train_and_track
   accepted_kind h = record {
     strong = strong h.strong;
     even = λ band lt. even band (band_known band lt) (h.even band (band_known band lt));
   }
 
+  -- a fault of the data is one of the kind
   pub fault_kind : (f : CurveFault) → IsMapFault d f → IsFaultOfKind kind train_and_track f
   fault_kind (TooWeak band cell slope) h =
       let weak = h.2 in (
@@ -111,11 +119,13 @@ module _ (kind : SlopeKind) (train_and_track : TrainAndTrack) (d : MapData) (giv
 
   -- ---- what the map stands for
 
+  -- past the bands of the train there is no slope
   past_bands : (band : ℕ) (c : ℤ) → length train_and_track.train.bands ≤ band →
       slope_at kind train_and_track band c ≡ pos 0
   unfolding slope_at
   past_bands band c ge = rw (slice_get_past train_and_track.train.bands band ge) refl
 
+  -- a kept map of the data stands for the slopes of the kind
   pub meaning_kind : (m : SlopeMap) → IsKeptMap (handed_in m) → handed_in m ≡ d →
       meaning_of m ≡ slopes_of kind train_and_track
   unfolding slopes_of

@@ -15,6 +15,7 @@ slope_of_brake Safe t n u b = refl
 slope_of_brake Expected t n u b = refl
 slope_of_brake Normal t n u b = refl
 
+-- so the sum of both is the slope
 pub slope_is : (kind : SlopeKind) (t : TrainData) (n : NationalFields) (u : UnderTrain) (b : Band) (q : ℕ)
     (brake scaled grad : ℤ) →
     q ≡ q_of t.rotating_mass → brake ≡ brake_of kind n u b → scaled ≡ pos q *ℤ brake →

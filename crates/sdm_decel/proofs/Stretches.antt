@@ -29,10 +29,12 @@ use Rattle.sdm_decel.proofs.Sides.{IsBegun, AreBegun, under_same}
 
 -- ---- the cells of one kind
 
+-- a whole number from 0 up to `m` is a natural up to `m`
 nat_near : (z : ℤ) (m : ℕ) → pos 0 ≤ℤ z → z ≤ℤ pos m → unsigned_abs z ≤ m
 nat_near (pos n) m low high = omega (arith, ints)
 nat_near (negsuc n) m low high = absurd (omega (arith, ints))
 
+-- the start of each gradient is among the starts
 has_gradient : (segments : List Segment) (k : ℕ) (d : Segment) → k < length segments →
     Contains (gradient_starts segments) (unsigned_abs (get_or segments k d).start)
 has_gradient (s ∷ more) zero d lt = (0, omega arith, refl)
@@ -40,6 +42,7 @@ has_gradient (s ∷ more) (suc k) d lt =
     Contains-append_right (unsigned_abs s.start ∷ []) (gradient_starts more) _ (has_gradient more k d (omega arith))
 has_gradient [] k d lt = absurd (omega arith)
 
+-- the start of each area is among the ends of areas
 has_start : (length_cm : ℕ) (areas : List Area) (k : ℕ) (d : Area) → k < length areas →
     Contains (area_ends length_cm areas) (unsigned_abs (get_or areas k d).start)
 has_start length_cm [] k d lt = absurd (omega arith)
@@ -48,6 +51,7 @@ has_start length_cm (a ∷ more) (suc k) d lt = Contains-append_right
     (unsigned_abs a.start ∷ unsigned_abs (a.end +ℤ pos length_cm) ∷ []) (area_ends length_cm more) _
     (has_start length_cm more k d (omega arith))
 
+-- and so is its end, later by the train length
 has_end : (length_cm : ℕ) (areas : List Area) (k : ℕ) (d : Area) → k < length areas →
     Contains (area_ends length_cm areas) (unsigned_abs ((get_or areas k d).end +ℤ pos length_cm))
 has_end length_cm [] k d lt = absurd (omega arith)
@@ -58,18 +62,22 @@ has_end length_cm (a ∷ more) (suc k) d lt = Contains-append_right
 
 -- ---- how many there are, and how far
 
+-- two for each area
 length_areas : (length_cm : ℕ) (areas : List Area) → length (area_ends length_cm areas) ≡ 2 * length areas
 length_areas length_cm [] = refl
 length_areas length_cm (a ∷ more) = omega (arith, length_areas length_cm more)
 
+-- a cell up to the longest train past the longest track
 abbrev IsNear : ℕ → Type 0
 IsNear x = x ≤ longest_track + longest_train
 
+-- the starts of gradients are near
 near_gradients : (segments : List Segment) → AreSegments segments → All IsNear (gradient_starts segments)
 near_gradients segments h = All-map IsNear (λ (s : Segment). unsigned_abs s.start) segments
     (λ k d l. let s = h.each k d l
     in nat_near _ (longest_track + longest_train) s.not_before (let past = s.not_past in omega (arith, ints)))
 
+-- the ends of areas are near
 near_areas : (track_cm : ℤ) (length_cm : ℕ) (areas : List Area) → track_cm ≤ℤ pos longest_track →
     length_cm ≤ longest_train → All (IsArea track_cm) areas → All IsNear (area_ends length_cm areas)
 near_areas track_cm length_cm [] long short each = All-nil IsNear
@@ -86,6 +94,7 @@ near_areas track_cm length_cm (a ∷ more) long short each =
 
 -- ---- the cells in order
 
+-- a cell of the list is one of it as a whole number
 has_nat : (cells : List ℕ) (x : ℕ) → Contains cells x → Contains (map pos cells) (pos x)
 has_nat cells x h =
     let lt = h.1 in
@@ -93,6 +102,7 @@ has_nat cells x h =
     let long : h.0 < length (map pos cells) = rw length-map lt in
     (h.0, long, get_or_default (map pos cells) h.0 (pos x) (pos 0) long ∙ get_or-map pos cells h.0 0 ∙ ap pos there)
 
+-- cells that rise and have 0 among them are starts of segments
 starts_are : (cells : List ℕ) → IsStrictlyIncreasing cells → Contains cells 0 → AreStarts (map pos cells)
 starts_are cells rise zero_in = record {
   some = rw length-map (omega (arith, zero_in.1));
@@ -149,6 +159,7 @@ module _ (track : TrackData) (length_cm : ℕ) (segments : List Segment) (all ce
   abbrev level : List ℕ
   level = (0 ∷ []) ++ gradient_starts segments
 
+  -- all cells are near
   near_all : All IsNear all
   near_all = rw all_is (All-append IsNear (level ++ area_ends length_cm track.areas) _
       (All-append IsNear level _
@@ -157,6 +168,7 @@ module _ (track : TrackData) (length_cm : ℕ) (segments : List Segment) (all ce
       (near_areas track.length_cm length_cm track.areas in_range.longest short in_range.areas.each))
       (near_areas track.length_cm length_cm track.no_special in_range.longest short in_range.no_special.each))
 
+  -- and no more than the lists allow
   few_all : length all ≤ 2 * most_gradients + 4 * most_areas
   few_all = rw all_is (omega (
     arith,
@@ -175,17 +187,21 @@ module _ (track : TrackData) (length_cm : ℕ) (segments : List Segment) (all ce
   has_level x h = rw all_is (Contains-append_left (level ++ area_ends length_cm track.areas) _ x
       (Contains-append_left level (area_ends length_cm track.areas) x h))
 
+  -- cell 0 is among them
   has_zero : Contains all 0
   has_zero = has_level 0 (Contains-append_left (0 ∷ []) (gradient_starts segments) 0 (0, omega arith, refl))
 
+  -- so is the start of each gradient
   has_segment : (k : ℕ) (d : Segment) → k < length segments → Contains all (unsigned_abs (get_or segments k d).start)
   has_segment k d lt =
       has_level _ (Contains-append_right (0 ∷ []) (gradient_starts segments) _ (has_gradient segments k d lt))
 
+  -- each end of an area of reduced adhesion
   has_adhesion : (x : ℕ) → Contains (area_ends length_cm track.areas) x → Contains all x
   has_adhesion x h = rw all_is (Contains-append_left (level ++ area_ends length_cm track.areas) _ x
       (Contains-append_right level (area_ends length_cm track.areas) x h))
 
+  -- and each of one where the special brake isn't used
   has_no_special : (x : ℕ) → Contains (area_ends length_cm track.no_special) x → Contains all x
   has_no_special x h = rw all_is (Contains-append_right (level ++ area_ends length_cm track.areas) _ x h)
 
@@ -195,9 +211,11 @@ module _ (track : TrackData) (length_cm : ℕ) (segments : List Segment) (all ce
 
   module _ (rise : IsStrictlyIncreasing cells) (keeps : (x : ℕ) → Contains all x → Contains cells x)
       (from : (x : ℕ) → Contains cells x → Contains all x) (fewer : length cells ≤ length all) where
+    -- in order they are starts of segments
     starts : AreStarts (map pos cells)
     starts = starts_are cells rise (keeps 0 has_zero)
 
+    -- each cell lies in its segment
     here : (c : ℤ) → IsInSegment (map pos cells) c (segment_of (map pos cells) c)
     here c = in_segment (map pos cells) c (rising_of _ starts) starts.some
 
@@ -205,10 +223,12 @@ module _ (track : TrackData) (length_cm : ℕ) (segments : List Segment) (all ce
     abbrev first_of : ℤ → ℤ
     first_of c = get_or (map pos cells) (segment_of (map pos cells) c) (pos 0)
 
+    -- what changes in one of the cells has begun at a cell only where it has at the first one of its stretch
     begun_at : (c : ℤ) (x : ℕ) (b : ℤ) → Contains all x → pos x ≡ b → IsBegun (first_of c) c b
     begun_at c x b h is = begun_is (map pos cells) c (segment_of (map pos cells) c) (pos x) b starts (here c)
         (has_nat cells x (keeps x h)) is
 
+    -- so have the ends of areas
     areas_begun : (c : ℤ) (areas : List Area) → AreAreas track.length_cm areas →
         ((x : ℕ) → Contains (area_ends length_cm areas) x → Contains all x) → AreBegun (first_of c) c length_cm areas
     areas_begun c areas listed has = record {
@@ -219,6 +239,7 @@ module _ (track : TrackData) (length_cm : ℕ) (segments : List Segment) (all ce
           a.some_cell in omega (arith, ints)));
     }
 
+    -- from the first cell of its stretch up to a cell the same lies under the train
     same_from : (c : ℤ) → first_of c ≤ℤ c →
         under_train track (pos length_cm) c ≡ under_train track (pos length_cm) (first_of c)
     same_from c le =
@@ -239,6 +260,7 @@ module _ (track : TrackData) (length_cm : ℕ) (segments : List Segment) (all ce
     first_start c (suc i) lt h =
         absurd (omega (arith, ints, h.low (omega arith), start_least (map pos cells) (suc i) starts h.known))
 
+    -- of every cell, also of one before 0
     same_at : (c : ℤ) → under_train track (pos length_cm) (int_max c (pos 0))
         ≡ under_train track (pos length_cm) (get_or (map pos cells) (segment_of (map pos cells) c) (pos 0))
     same_at c =
@@ -250,6 +272,7 @@ module _ (track : TrackData) (length_cm : ℕ) (segments : List Segment) (all ce
         let is : int_max c (pos 0) ≡ c = omega (arith, ints, clamps) in
         ap (λ (z : ℤ). under_train track (pos length_cm) z) is ∙ same_from c (from_start c _ ge (here c)))
 
+    -- so the cells in order are the first ones of stretches
     pub stretches_are : AreStretches track (pos length_cm) (map pos cells)
     stretches_are = record {
       starts = starts;

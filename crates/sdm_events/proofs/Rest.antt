@@ -19,30 +19,38 @@ Between s = ends_at_end s ≡ false
 
 -- ---- the byte that ends a record leaves the parser between two records
 
+-- where a step ends a record, the parser then stands between two records
 abbrev EndsBetween : State × Action → Type 0
 EndsBetween x = is_end x.1 ≡ true → Between x.0
 
+-- a step that is one of two
 either_ends : (b : Bool) (x y : State × Action) → EndsBetween x → EndsBetween y → EndsBetween (if b then x else y)
 either_ends true x y p q = p
 either_ends false x y p q = q
 
+-- a step that ends no record
 no_end : {P : Type 0} → false ≡ true → P
 no_end h = absurd (false≢true h)
 
+-- after the end of a line the parser stands between two records
 after_line_end : (b : Bool) → Between (if b then st.AfterCr else st.StartRecord)
 after_line_end true = refl
 after_line_end false = refl
 
+-- a step within a field
 in_field_ends : (c : ℕ) → EndsBetween (in_field default_config c)
 in_field_ends c =
     either_ends (c == 44) _ _ no_end (either_ends (ends_with term.CRLF c) _ _ (λ _. after_line_end (c == 13)) no_end)
 
+-- at the start of a field
 start_field_ends : (c : ℕ) → EndsBetween (start_field default_config c)
 start_field_ends c = either_ends (c == 34) _ _ no_end (in_field_ends c)
 
+-- at the start of a record
 start_record_ends : (c : ℕ) → EndsBetween (start_record default_config c)
 start_record_ends c = either_ends (ends_with term.CRLF c) _ _ no_end (start_field_ends c)
 
+-- in any state
 step_ends : (s : State) (c : ℕ) → EndsBetween (step default_config s c)
 step_ends st.StartRecord c = start_record_ends c
 step_ends st.StartField c = start_field_ends c
@@ -63,14 +71,17 @@ record Leaves (most : ℕ) (p : Read) : Type 0 where
 leaves_same : (most : ℕ) (x p : Read) → Some x ≡ Some p → Leaves most x → Leaves most p
 leaves_same most x p e h = rw (← same_Some x p e) h
 
+-- a bound may be made greater
 leaves_more : (a b : ℕ) (p : Read) → a ≤ b → Leaves a p → Leaves b p
 leaves_more a b p le h = record { shorter = omega (arith, h.shorter, le); between = h.between }
 
+-- at the end of the bytes nothing is left
 leaves_at_end : (b : Bool) (fields : List (List ℕ)) (field : List ℕ) (p : Read) →
     (if b then Some (fields ++ (field ∷ []), st.StartRecord, []) else None) ≡ Some p → Leaves 0 p
 leaves_at_end true fields field p h = leaves_same 0 _ p h (record { shorter = omega arith; between = refl })
 leaves_at_end false fields field p h = cc h
 
+-- a record leaves fewer bytes than there were, if there were any
 leaves : (s : State) (fields : List (List ℕ)) (field : List ℕ) (bytes : List ℕ) (p : Read) →
     next_record default_config s fields field bytes ≡ Some p → Leaves (length bytes - 1) p
 unfolding next_record
@@ -92,6 +103,7 @@ next_takes_a_byte s (c ∷ rest) p b h = let g = leaves s [] [] (c ∷ rest) p h
 
 -- ---- the records of the rest
 
+-- the next record is the same, where those after it are
 same_next : (n m : ℕ) (o : Option Read) →
     ((p : Read) → o ≡ Some p → records_from default_config n p.1 p.2 ≡ records_from default_config m p.1 p.2)
     → records_next (records_from default_config n) o ≡ records_next (records_from default_config m) o
@@ -108,6 +120,7 @@ same_records (suc n) (suc m) s bytes b h k = same_next n m (next_record default_
     (λ p e. let g = next_takes_a_byte s bytes p b e
     in same_records n m p.1 p.2 g.1 (omega (arith, g.0, h)) (omega (arith, g.0, k)))
 
+-- a next record, and those after it
 pub rest_some : (s : State) (bytes : List ℕ) (p : Read) → Between s →
     next_record default_config s [] [] bytes ≡ Some p → rest_records s bytes ≡ p.0 ∷ rest_records p.1 p.2
 unfolding records_from
@@ -116,6 +129,7 @@ rest_some s bytes p b e =
     rw (add-one (length bytes), e)
     (ap (λ more. p.0 ∷ more) (same_records (length bytes) (length p.2 + 1) p.1 p.2 g.1 g.0 (omega arith)))
 
+-- where there is no next record there are none
 pub rest_none : (s : State) (bytes : List ℕ) → next_record default_config s [] [] bytes ≡ None →
     rest_records s bytes ≡ []
 unfolding records_from

@@ -11,13 +11,16 @@ use Rattle.sdm_events.specs.Journey.{Record}
 use Rattle.sdm_events.specs.Left.{IsBetweenRecords, bytes_left, left_after}
 use Rattle.sdm_events.proofs.Rest.{next_takes_a_byte, rest_none, rest_some}
 
+-- the bytes behind a reference
 abbrev now_of : Bor (List ℕ) → Option (List ℕ)
 now_of s = Some s.now
 
+-- a record that was found is the next one
 next_some : (o : Option Read) (f : Record) (t : State) (more : List ℕ) → NextIs o true f t more → o ≡ Some (f, t, more)
 next_some None f t more h = cc h
 next_some (Some p) f t more h = rw (h.1, h.2, h.3) refl
 
+-- where none was found there is no next one
 next_none : (o : Option Read) (f : Record) (t : State) (more : List ℕ) → NextIs o false f t more → o ≡ None
 next_none None f t more h = refl
 next_none (Some p) f t more h = cc h.0
@@ -29,6 +32,7 @@ reads_some : (s : State) (bytes : List ℕ) (after : Option (List ℕ)) (f : Rec
 reads_some s bytes None f t h = absurd h
 reads_some s bytes (Some more) f t h = (more, refl, next_some (next_record default_config s [] [] bytes) f t more h)
 
+-- a read of known bytes that found no record: there was none
 reads_none : (s : State) (bytes : List ℕ) (after : Option (List ℕ)) (f : Record) (t : State) →
     ReadsNext default_config s (Some bytes) after false f t → next_record default_config s [] [] bytes ≡ None
 reads_none s bytes None f t h = absurd h
@@ -40,6 +44,7 @@ reads_none s bytes (Some more) f t h = next_none (next_record default_config s [
 abbrev Reads : Reader (Bor (List ℕ)) → Reader (Bor (List ℕ)) → Bool → Record → Type 0
 Reads a b found f = reader_trim a ≡ trim.None → Ready a → ReadRecord now_of a b found f
 
+-- csv's clause that a reader that doesn't trim has taken its first record
 abbrev Counts : Reader (Bor (List ℕ)) → Reader (Bor (List ℕ)) → Type 0
 Counts a b = reader_trim a ≡ trim.None → took_first b ≡ true
 
@@ -64,6 +69,7 @@ took a b f is r first =
       rw (is.known.1, after) (rest_some a.state is.known.0 (f, b.state, g.0) is.between g.2),
     )
 
+-- a record that was found is the first of those left, and the reader goes on behind it
 pub found_one : (a b : Reader (Bor (List ℕ))) (found : Bool) (f : Record) (left : List Record) → IsBetweenRecords a →
     left_after (Ok true) a ≡ left → Reads a b found f → Counts a b →
     ◌≡◌ {A = Result Bool NoMemory} (Ok found) (Ok true)

@@ -1,7 +1,7 @@
 -- The records of a journey as `csv` reads them from bytes in memory (own).
 use Rattle.std.specs.Prelude.{ℕ, List, ◌≤◌, ⊤}
 use Rattle.sdm_rules.specs.declared.records.Event.{Event}
-use Rattle.sdm_rules.specs.declared.records.Event.TheVariants.{Read, Authority, Restrict, Revoke}
+use Rattle.sdm_rules.specs.declared.records.Event.TheVariants.{Read, Authority, Calculated, Restrict, Revoke}
 use Rattle.sdm_rules.specs.Ranges.{top_kmh}
 use Rattle.csv.specs.Reading.{default_config, records, strip_bom}
 
@@ -18,5 +18,6 @@ records_of bytes = records default_config (strip_bom bytes)
 abbrev pub IsInForm : Event → Type 0
 IsInForm (Read r) = ⊤
 IsInForm (Authority a) = ⊤
+IsInForm (Calculated eoa svl trip) = ⊤
 IsInForm (Restrict r) = (1 ≤ r.speed) × (r.speed ≤ top_kmh)
 IsInForm (Revoke id) = ⊤

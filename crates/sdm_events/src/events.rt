@@ -7,7 +7,8 @@ ghost use Rattle.csv.specs.Records.{fields_of};
 ghost use Rattle.sdm_num.specs.Readings.{reading_of};
 ghost use Rattle.sdm_events.specs.Columns.{IsColumnFault, column_of};
 ghost use Rattle.sdm_events.specs.Journey.{IsInForm};
-ghost use Rattle.sdm_rules.specs.Forms.{end_form, event_of, limit_form, read_form, restrict_form, revoke_form};
+ghost use Rattle.sdm_rules.specs.Forms.{end_form, endcalc_form, event_of, limit_form, read_form, restrict_form};
+ghost use Rattle.sdm_rules.specs.Forms.{revoke_form};
 ghost use Rattle.sdm_rules.specs.Numbers.{read_int};
 
 use csv::ByteRecord;
@@ -30,6 +31,8 @@ pub fn event_of(fields: &ByteRecord) -> Result<Event, EventFault>
         read_event(fields)
     } else if is_kind(kind, b"end") {
         end_event(fields)
+    } else if is_kind(kind, b"endcalc") {
+        endcalc_event(fields)
     } else if is_kind(kind, b"limit") {
         limit_event(fields)
     } else if is_kind(kind, b"restrict") {
@@ -137,6 +140,21 @@ fn end_event(fields: &ByteRecord) -> Result<Event, EventFault>
     let svl = number(fields, 3, 0, LONGEST_TRACK_CM as i32)? as u32;
     let release = number(fields, 4, 0, TOP_KMH as i32)? as u16;
     Ok(Event::Authority(Authority::Stop { eoa, svl, release }))
+}
+
+/// `endcalc`: an authority that ends in a stop, whose release speed is calculated.
+#[tactic(auto, unfolding(sdm_rules::specs::Forms::endcalc_form))]
+fn endcalc_event(fields: &ByteRecord) -> Result<Event, EventFault>
+    ensures value { result ≡ endcalc_form (drop 1 (fields_of fields.now)) }
+    ensures form { IfOk result IsInForm }
+{
+    if fields.len() != 4 {
+        return Err(EventFault::FieldCount);
+    }
+    let eoa = number(fields, 2, 0, LONGEST_TRACK_CM as i32)? as u32;
+    let svl = number(fields, 3, 0, LONGEST_TRACK_CM as i32)? as u32;
+    let trip = number(fields, 4, 0, LONGEST_TRACK_CM as i32)? as u32;
+    Ok(Event::Calculated { eoa, svl, trip })
 }
 
 /// `limit`: an authority that ends at a speed.

@@ -31,6 +31,9 @@ fn shown(alloc: Global, event: Event) -> Result<String, Fail> {
     match event {
         Event::Read(reading) => shown_reading(alloc, reading),
         Event::Authority(authority) => shown_authority(alloc, authority),
+        Event::Calculated { eoa, svl, trip } => {
+            Ok(format!(in alloc; "endcalc {eoa} {svl} {trip}")?)
+        }
         Event::Restrict(r) => {
             let (id, start, end, speed, delayed) = (r.id, r.start, r.end, r.speed, r.delayed);
             Ok(format!(in alloc; "restrict {id} {start} {end} {speed} {delayed}")?)
@@ -94,6 +97,17 @@ end,0,0,-1 = field 4: out of range
 end,0,0,501 = field 4: out of range
 end,80000,80000 = field count
 end,80000,80000,0,0 = field count
+endcalc,0,0,0 = endcalc 0 0 0
+endcalc,10000000,9999999,10000000 = endcalc 10000000 9999999 10000000
+endcalc,-1,0,0 = field 2: out of range
+endcalc,10000001,0,0 = field 2: out of range
+endcalc,0,-1,0 = field 3: out of range
+endcalc,0,10000001,0 = field 3: out of range
+endcalc,0,0,-1 = field 4: out of range
+endcalc,0,0,10000001 = field 4: out of range
+endcalc,0,0,x = field 4: not a number
+endcalc,80000,80000 = field count
+endcalc,80000,80000,80000,0 = field count
 limit,0,1 = limit 0 1
 limit,10000000,500 = limit 10000000 500
 limit,-1,60 = field 2: out of range

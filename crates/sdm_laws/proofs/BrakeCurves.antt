@@ -7,4 +7,5 @@ pub mod CurveScales
 pub mod Chains
 pub mod CurveChains
 pub mod CurveOrder
+pub mod SteppedOrder
 pub mod CurveNearness

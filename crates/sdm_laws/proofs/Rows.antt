@@ -9,5 +9,7 @@ pub mod PrintedLimits
 pub mod StopFacts
 pub mod Stops
 pub mod FlatFacts
+pub mod CalculatedRelease
+pub mod Passing
 pub mod Headline
 pub mod Journeys

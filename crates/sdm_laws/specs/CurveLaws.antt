@@ -1,6 +1,6 @@
 -- The laws of brake curves: what is true of exact and stepped places for any usable slopes, every foot `f` in grains,
 -- every foot speed `w` in notches and every scale `s` (own).
-use Rattle.std.specs.Prelude.{◌≡◌, ℕ, suc, ℤ, pos, neg_ℤ, ◌+◌, ◌-◌, ◌*◌, ◌<◌, ◌≤◌, ◌+ℤ◌, ◌*ℤ◌, length}
+use Rattle.std.specs.Prelude.{◌≡◌, ℕ, suc, ℤ, pos, neg_ℤ, ◌+◌, ◌-◌, ◌*◌, ◌<◌, ◌≤◌, ◌+ℤ◌, ◌*ℤ◌, ◌≤ℤ◌, length}
 use Rattle.sdm_num.specs.Units.{millimetre}
 use Rattle.sdm_num.specs.Fractions.{IsBefore, IsSame, floor, times, whole}
 use Rattle.sdm_num.specs.Bounds.{IsEarlyFor}
@@ -39,6 +39,11 @@ abbrev pub LawOfOrder : Type 0
 LawOfOrder =
     (on : Slopes) (s : ℕ) (f : ℤ) (w u' u : ℕ) → IsUsable on → 0 < s → u' < u →
     IsBefore (exact_at on s f w u) (exact_at on s f w u')
+
+-- On usable slopes the stepped place of a greater speed is at most that of a less one.
+abbrev pub LawOfSteppedOrder : Type 0
+LawOfSteppedOrder =
+    (on : Slopes) (f : ℤ) (w v' v : ℕ) → IsUsable on → v' ≤ v → stepped on f w v ≤ℤ stepped on f w v'
 
 -- On usable slopes, at `k` times the scale, the place of `k` times the square is `k` times the place.
 abbrev pub LawOfScale : Type 0

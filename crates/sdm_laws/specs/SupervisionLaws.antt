@@ -1,11 +1,12 @@
 -- The laws of supervision, as statements over an accepted supervision state alone (own).
-use Rattle.std.specs.Prelude.{◌≡◌, ◌<◌, ℕ, ℤ, Bool, false, IsTrue, IfOk, List, Option, Some, None, Result, ⊤}
+use Rattle.std.specs.Prelude.{◌≡◌, ◌<◌, ◌≤◌, ℕ, ℤ, Bool, false, IsTrue, IfOk, List, Option, Some, None, Result, ⊤}
 use Rattle.sdm_num.specs.Units.{millimetre}
 use Rattle.sdm_num.specs.Fractions.{Fraction, IsAtMost, more}
 use Rattle.sdm_num.specs.Bounds.{IsEarlyFor}
 use Rattle.sdm_num.specs.Readings.{OdometerReading, estimate_of}
 use Rattle.sdm_rules.specs.declared.authorities.Authority.{Authority}
 use Rattle.sdm_rules.specs.declared.data.SlopeKind.{SlopeKind}
+use Rattle.sdm_rules.specs.declared.data.SlopeKind.TheVariants.{Safe}
 use Rattle.sdm_rules.specs.declared.faults.EventFault.{EventFault}
 use Rattle.sdm_rules.specs.declared.records.Event.{Event}
 use Rattle.sdm_rules.specs.Slopes.{IsUsable}
@@ -14,10 +15,13 @@ use Rattle.sdm_rules.specs.Data.{TrainAndTrack, HasBands}
 use Rattle.sdm_rules.specs.Decelerations.{slopes_of}
 use Rattle.sdm_rules.specs.declared.targets.Target.{Target}
 use Rattle.sdm_rules.specs.Limits.{SupervisionLimits, computed, exact_places, limits_of, release_start}
-use Rattle.sdm_rules.specs.Supervision.{Supervision, opening, row_of}
-use Rattle.sdm_rules.specs.Machines.{KeepsOrder, InOrder, held_after}
+use Rattle.sdm_rules.specs.Supervision.{Supervision, opening, row_of, situation_of}
+use Rattle.sdm_rules.specs.Display.{passes_limit}
+use Rattle.sdm_rules.specs.declared.display.LimitName.{LimitName}
+use Rattle.sdm_rules.specs.Machines.{Implies, KeepsOrder, InOrder, held_after}
 use Rattle.sdm_rules.specs.Records.{step, journey_from}
 use Rattle.sdm_rules.specs.Stop.{IsSafe}
+use Rattle.sdm_rules.specs.Release.{IsReleaseSpeed, calculated}
 use Rattle.sdm_rules.specs.Promises.{BeginsReleaseMonitoring, HasOnlyGaps, IsWithinCeiling}
 use Rattle.sdm_rules.specs.Opening.{IsAccepted, IsAcceptedKind, IsOpen}
 use Rattle.sdm_rules.specs.Headline.{IsSupervised, AreTurnsSafe}
@@ -94,6 +98,24 @@ LawOfCeiling = (s : Supervision) (r : OdometerReading) → (row_of s r).held.eb 
 -- release speed monitoring begins at its exact start or less than a millimetre before it
 abbrev pub LawOfReleaseStart : Type 0
 LawOfReleaseStart = (s : Supervision) (r : OdometerReading) → IsOpen s → BeginsReleaseMonitoring s r
+
+-- a train that is tripped at the calculated release speed stops before the SvL, and the next whole speed doesn't fit by
+-- limits one millimetre earlier
+abbrev pub LawOfReleaseSpeed : Type 0
+LawOfReleaseSpeed =
+    (d : TrainAndTrack) (svl trip : ℕ) → HasBands d.train.bands → IsAcceptedKind Safe d → trip ≤ svl →
+    IsReleaseSpeed d svl trip (calculated d svl trip)
+
+-- at speed 0 the limit isn't passed, and once it is passed at a speed, it is at every greater one
+pub record IsPassedUpwards (s : Supervision) (r : OdometerReading) (name : LimitName) : Type 0 where
+  pub standstill : passes_limit s.train_and_track r (situation_of s r) name 0 ≡ false
+  pub upwards : (v v' : ℕ) → v ≤ v' →
+      Implies (passes_limit s.train_and_track r (situation_of s r) name v)
+      (passes_limit s.train_and_track r (situation_of s r) name v')
+
+-- a faster train passes every limit that a slower one would pass where it is, and a standing one none
+abbrev pub LawOfPassing : Type 0
+LawOfPassing = (s : Supervision) (r : OdometerReading) (name : LimitName) → IsOpen s → IsPassedUpwards s r name
 
 -- THE HEADLINE of one reading
 abbrev pub LawOfSupervision : Type 0

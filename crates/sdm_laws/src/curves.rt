@@ -2,7 +2,7 @@
 //! no call and only states its law.
 
 ghost use Rattle.sdm_laws.specs.CurveLaws.{LawOfFoot, LawOfFractions, LawOfKnots, LawOfOrder, LawOfRounding};
-ghost use Rattle.sdm_laws.specs.CurveLaws.{LawOfScale};
+ghost use Rattle.sdm_laws.specs.CurveLaws.{LawOfScale, LawOfSteppedOrder};
 
 /// The stepped place of a speed is never past the exact one, and at most as far before it as the number of bands
 /// allows: less than a millimetre.
@@ -18,6 +18,12 @@ pub fn law_of_fractions()
 /// The greater the square of the speed, the earlier the exact place.
 pub fn law_of_order()
     ensures { LawOfOrder }
+{}
+
+/// The greater the speed, the earlier the stepped place, or it is the same.
+#[tactic(auto, using(crate::proofs::BrakeCurves::SteppedOrder::stepped_falls))]
+pub fn law_of_stepped_order()
+    ensures { LawOfSteppedOrder }
 {}
 
 /// At another scale the exact places are the same.

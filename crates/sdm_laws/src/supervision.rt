@@ -4,7 +4,8 @@
 ghost use Rattle.sdm_laws.specs.PrintedLimits.{LawOfPrintedLimits};
 ghost use Rattle.sdm_laws.specs.SupervisionLaws.{IsKeptOpen, LawOfAcceptedSlopes, LawOfCeiling, LawOfGaps};
 ghost use Rattle.sdm_laws.specs.SupervisionLaws.{LawOfJourneys, LawOfLimits, LawOfMachines, LawOfNearness};
-ghost use Rattle.sdm_laws.specs.SupervisionLaws.{LawOfReleaseStart, LawOfStop, LawOfSupervision};
+ghost use Rattle.sdm_laws.specs.SupervisionLaws.{LawOfPassing, LawOfReleaseSpeed, LawOfReleaseStart, LawOfStop};
+ghost use Rattle.sdm_laws.specs.SupervisionLaws.{LawOfSupervision};
 
 /// The slopes of accepted data are usable: brake curves on them have their laws.
 #[tactic(auto, using(crate::proofs::Openings::AcceptedSlopes::accepted_usable))]
@@ -66,6 +67,18 @@ pub fn law_of_ceiling()
 #[tactic(auto, using(crate::proofs::Rows::Headline::release))]
 pub fn law_of_release_start()
     ensures { LawOfReleaseStart }
+{}
+
+/// What a calculated release speed is worth: tripped at it a train stops before the supervised location, and it is the
+/// greatest such speed but for a millimetre.
+#[tactic(auto, using(crate::proofs::Rows::CalculatedRelease::release_speed_is))]
+pub fn law_of_release_speed()
+    ensures { LawOfReleaseSpeed }
+{}
+
+/// A faster train passes every limit that a slower one would pass where it is, and a standing one none.
+pub fn law_of_passing()
+    ensures { LawOfPassing }
 {}
 
 /// The headline of one reading: the commands stay in order, and a covered row is safe.

@@ -23,6 +23,7 @@ left_read ts bs k lt = grind (arith, common_steps)
 right_read : (ts bs : List Slice) → get_or (ts ++ bs) (length ts) any_slice ≡ get_or bs 0 any_slice
 right_read ts bs = grind (arith, common_steps)
 
+-- slices of traction and then of the build-up are cut where these begin
 cut_is : (ts bs : List Slice) (k : ℕ) → IsIn Traction ts → IsIn Build bs → IsCut (ts ++ bs) k → k ≡ length ts
 cut_is ts bs k in_ts in_bs cut =
     elim (cases_lt k (length ts)) [

@@ -8,6 +8,7 @@ use Rattle.sdm_rules.specs.Slopes.{Slopes}
 use Rattle.sdm_rules.specs.Curves.{grain_energy}
 use Rattle.sdm_rules.specs.Motion.{BrakesAtLeast}
 
+-- where the rate over the distance is at most the energy, the train brakes at least with the slope
 pub enough_of : (on : Slopes) (a rate : ℕ) (p p' : ℤ) (u u' distance energy : ℕ) → rate ≡ 27 * a →
     p' ≡ p +ℤ pos distance → energy ≡ grain_energy on (u - u') → p ≤ℤ p' → u' ≤ u → rate * distance ≤ energy →
     BrakesAtLeast on a p u p' u'
@@ -17,11 +18,13 @@ enough_of on a rate p p' u u' distance energy r e f forward slower h = record {
   enough = rw (e, scale-+ℤ) (let h' = rw (r, f) at h in omega (arith, ints));
 }
 
+-- and back
 pub enough_out : (on : Slopes) (a rate : ℕ) (p p' : ℤ) (u u' distance energy : ℕ) → rate ≡ 27 * a → p' ≡ p
     +ℤ pos distance → energy ≡ grain_energy on (u - u') → BrakesAtLeast on a p u p' u' → rate * distance ≤ energy
 enough_out on a rate p p' u u' distance energy r e f h = let g =
     rw (e, scale-+ℤ) at h.enough in rw (r, f) (omega (arith, ints, g))
 
+-- the rate over the distance is small enough for 128 bits
 pub fits_product : (rate distance : ℕ) → rate ≤ 27 * 10 ^ 15 → distance ≤ 3 * 10 ^ 21 → rate * distance ≤ 81 * 10 ^ 36
 fits_product rate distance p q = omega (arith, mul-le rate distance (27 * 10 ^ 15) (3 * 10 ^ 21) p q)
 

@@ -32,12 +32,14 @@ no_speed v (y ∷ ys) at = let e = slice_get-get_or (y ∷ ys) (length (y ∷ ys
 
 -- ---- the first point
 
+-- a point by its place and its square
 abbrev point : ℤ → ℕ → Point
 point p u = record { place = p; square = u }
 
 same_point : (p p' : ℤ) (u u' : ℕ) → p ≡ p' → u ≡ u' → point p u ≡ point p' u'
 same_point p p' u u' e f = cc
 
+-- slices end past their beginning by all their lengths, with the square of the last speed
 pub first_is : (p : ℤ) (v : ℕ) (xs : List Slice) →
     first_of p v xs ≡ point (p +ℤ pos (length_of xs)) (speed_after v xs * speed_after v xs)
 first_is p v [] = same_point p (p +ℤ pos 0) (v * v) (v * v) (omega (arith, ints)) refl
@@ -55,6 +57,7 @@ pub square_is : (p : ℤ) (v : ℕ) (xs : List Slice) (x : Point) → x ≡ firs
     x.square ≡ speed_after v xs * speed_after v xs
 square_is p v xs x e = ap (λ (y : Point). y.square) (e ∙ first_is p v xs)
 
+-- and a point with both is the first one
 pub is_first_of : (p : ℤ) (v : ℕ) (xs : List Slice) (x : Point) → x.place ≡ p +ℤ pos (length_of xs) →
     x.square ≡ speed_after v xs * speed_after v xs → x ≡ first_of p v xs
 is_first_of p v xs x e f = same_point x.place (p +ℤ pos (length_of xs)) x.square

@@ -10,6 +10,7 @@ use Rattle.sdm_rules.specs.Stop.{IsMotionOn}
 use Rattle.sdm_motion.specs.Motions.{first_of, IsPointInRange, IsKnownMotion, LawOfKnownMotion}
 use Rattle.sdm_motion.specs.Steps.{AreBraking}
 
+-- what the code tests makes a known motion
 pub known_of : (s : ℕ) (start : Start) (on : Slopes) (xs : List Slice) (points : List Point) (x : Point) (p : ℤ)
     (v : ℕ) → p ≡ pos (s * s) *ℤ start.front → v ≡ s * start.speed →
     slice_get points 0 ≡ Some x → All IsPointInRange points → IsReaction s start v xs → x ≡ first_of p v xs →
@@ -34,6 +35,7 @@ known_of s start on xs points x p v p_is v_is at ranges reaction is braking =
       ranges = ranges;
     }
 
+-- the points of a known motion brake step by step
 pub known_braking : (s : ℕ) (start : Start) (on : Slopes) (xs : List Slice) (points : List Point) →
     IsKnownMotion s start on xs points → AreBraking on (s * s) points
 known_braking s start on xs points h = rw h.split h.motion.braking

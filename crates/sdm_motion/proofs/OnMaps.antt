@@ -8,12 +8,15 @@ use Rattle.sdm_laws.proofs.Moving.Reaction.{reaction}
 use Rattle.sdm_curve.proofs.Meanings.{usable_of}
 use Rattle.sdm_motion.specs.MapLaws.{LawOfMapStretch, LawOfMapBraking, LawOfMapReaction, LawOfMapMotion}
 
+-- the law of one stretch
 pub map_stretch : LawOfMapStretch
 map_stretch map m f w a x y kept = stretch (meaning_of map) m f w a x y (usable_of map kept)
 
+-- the law of braking
 pub map_braking : LawOfMapBraking
 map_braking map m f w x ys kept = braking (meaning_of map) m f w x ys (usable_of map kept)
 
+-- the law of the reaction
 pub map_reaction : LawOfMapReaction
 map_reaction map s start target = reaction s start (meaning_of map) target
 
@@ -21,6 +24,7 @@ map_reaction map s start target = reaction s start (meaning_of map) target
 pub square_some : (s : ℕ) → 0 < s → 0 < s * s
 square_some s some = omega (arith, mul-le-mul_left s some)
 
+-- the law of a whole motion
 pub map_motion : LawOfMapMotion
 map_motion map s start f w p v xs first more kept some motion =
     map_braking map (s * s) f w first more kept (square_some s some) motion.braking

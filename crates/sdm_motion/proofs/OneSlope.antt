@@ -22,12 +22,14 @@ cell_met map m p p' cell starts part =
     let g = in_segment map.starts cell (rising_of map.starts starts) starts.some in
     record { known = g.known; meets = meets_of m map.starts p p' cell (segment_of map.starts cell) part g }
 
+-- the one slope of the segments that are met is that of the cells
 pub cells_have : (map : SlopeMap) (m band : ℕ) (p p' : ℤ) (a : ℕ) → AreStarts map.starts →
     HaveSlope map m band p p' a → HasOneSlope map m band p p' a
 cells_have map m band p p' a starts have cell part =
     let met = cell_met map m p p' cell starts part in
     have (segment_of map.starts cell) met.known met.meets
 
+-- and that of the cells is that of the segments
 pub segments_have : (map : SlopeMap) (m band : ℕ) (p p' : ℤ) (a : ℕ) → 0 < m → AreStarts map.starts →
     HasOneSlope map m band p p' a → HaveSlope map m band p p' a
 segments_have map m band p p' a some starts one i known met =
@@ -53,6 +55,7 @@ pub slope_is : (map : SlopeMap) (m band i : ℕ) (x y : Point) → 0 < m → Are
 slope_is map m band i x y some starts met h =
     sym (segments_have map m band x.place y.place h.slope some starts h.one_slope i met.known met.meets)
 
+-- so each segment that is met has the slope of this one
 pub all_have : (map : SlopeMap) (m band i : ℕ) (x y : Point) (a : ℕ) → a ≡ slope_of map band i → 0 < m →
     AreStarts map.starts → IsMet m map.starts i x.place y.place → BrakesIn (meaning_of map) m band x y →
     HaveSlope map m band x.place y.place a
@@ -61,6 +64,7 @@ all_have map m band i x y a e some starts met h =
     subst (λ (b : ℕ). HaveSlope map m band x.place y.place b) (is ∙ sym e)
     (segments_have map m band x.place y.place h.slope some starts h.one_slope)
 
+-- and the train brakes at least with it
 pub brakes_out : (map : SlopeMap) (m band i : ℕ) (x y : Point) → 0 < m → AreStarts map.starts →
     IsMet m map.starts i x.place y.place → BrakesIn (meaning_of map) m band x y →
     BrakesAtLeast (meaning_of map) (slope_of map band i) x.place x.square y.place y.square
@@ -68,6 +72,7 @@ brakes_out map m band i x y some starts met h =
     subst (λ (b : ℕ). BrakesAtLeast (meaning_of map) b x.place x.square y.place y.square)
     (slope_is map m band i x y some starts met h) h.brakes
 
+-- where the segments that are met have one slope and the train brakes at least with it, it brakes in the band
 pub brakes_of : (map : SlopeMap) (m band i : ℕ) (x y : Point) (a : ℕ) → a ≡ slope_of map band i →
     AreStarts map.starts → HaveSlope map m band x.place y.place a →
     BrakesAtLeast (meaning_of map) (slope_of map band i) x.place x.square y.place y.square →

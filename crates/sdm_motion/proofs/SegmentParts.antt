@@ -13,12 +13,15 @@ use Rattle.sdm_laws.proofs.OneBand.Segments.{IsInSegment}
 use Rattle.sdm_curve.specs.Maps.{AreStarts}
 use Rattle.sdm_motion.specs.Steps.{Meets}
 
+-- a later cell begins no earlier
 start_le : (m : ℕ) (a b : ℤ) → a ≤ℤ b → cell_start m a ≤ℤ cell_start m b
 start_le m a b h = scale-≤ (m * centimetre) a b h
 
+-- a cell ends where the next one begins
 start_next : (m : ℕ) (c : ℤ) → cell_start m (c +ℤ pos 1) ≡ cell_start m c +ℤ pos (m * centimetre)
 start_next m c = rw scale-+ℤ (omega (arith, ints))
 
+-- a cell that begins earlier is an earlier one
 start_lt_out : (m : ℕ) (a b : ℤ) → cell_start m a <ℤ cell_start m b → a <ℤ b
 start_lt_out m a b h = scale-<_cancel (m * centimetre) a b h
 
@@ -53,6 +56,7 @@ earlier m starts i p p' rising met c le k lt known =
       | inr ge ↦ (let e : k ≡ i + 1 = omega arith in rw e one)
     ]
 
+-- the cell of the first place, where this isn't before the segment
 found_here : (m : ℕ) (starts : List ℤ) (i : ℕ) (p p' : ℤ) → 0 < m → AreStarts starts → i < length starts →
     (0 < i → get_or starts i (pos 0) ≤ℤ cell_at m p) → Meets m starts i p p' → Found m starts i p p'
 found_here m starts i p p' some rising known low met = record {
@@ -69,6 +73,7 @@ found_here m starts i p p' some rising known low met = record {
   };
 }
 
+-- else the segment's first cell
 found_later : (m : ℕ) (starts : List ℤ) (i : ℕ) (p p' : ℤ) → 0 < m → AreStarts starts → i < length starts → 0 < i →
     cell_at m p <ℤ get_or starts i (pos 0) → Meets m starts i p p' → Found m starts i p p'
 found_later m starts i p p' some rising known later lt met =

@@ -20,12 +20,14 @@ at_most_trans x y z p h k =
     let two = simp scales at (scale-≤ x.m _ _ k.crossed) in
     record { crossed = scale-≤_cancel y.m _ _ p (simp scales (omega (arith, ints, one, two))) }
 
+-- before a place, and so before any at or past it
 pub before_at_most : (x y z : Fraction) → 0 < y.m → 0 < z.m → IsBefore x y → IsAtMost y z → IsBefore x z
 before_at_most x y z p q h k =
     let one = simp scales at (scale-< z.m _ _ q h.crossed) in
     let two = simp scales at (scale-≤ x.m _ _ k.crossed) in
     record { crossed = scale-<_cancel y.m _ _ (simp scales (omega (arith, ints, one, two))) }
 
+-- at or before a place, and so before any past it
 pub at_most_before : (x y z : Fraction) → 0 < x.m → 0 < y.m → IsAtMost x y → IsBefore y z → IsBefore x z
 at_most_before x y z p q h k =
     let one = simp scales at (scale-≤ z.m _ _ h.crossed) in
@@ -40,9 +42,11 @@ not_both x y h k = omega (arith, ints, h.crossed, k.crossed)
 
 -- ---- whole numbers
 
+-- a whole place at or before a fraction, as a comparison of whole numbers
 pub at_most_out : (z : ℤ) (x : Fraction) → IsAtMost (whole z) x → (pos x.m *ℤ z) ≤ℤ x.n
 at_most_out z x h = omega (arith, ints, h.crossed)
 
+-- and back
 pub at_most_in : (z : ℤ) (x : Fraction) → (pos x.m *ℤ z) ≤ℤ x.n → IsAtMost (whole z) x
 at_most_in z x h = record { crossed = omega (arith, ints, h) }
 
@@ -61,10 +65,13 @@ by_order P x y a b p q =
       | false ↦ λ e. q (record { crossed = omega (arith, ints, not_le_of (pos y.m *ℤ x.n) (pos x.m *ℤ y.n) e) })
     ] refl
 
+-- what holds of the one place where it is not past the other, and of the other where it is not past the one, holds
+-- of the lesser
 pub lesser_cases : (P : Fraction → Type 0) (x y : Fraction) → (IsAtMost x y → P x) → (IsAtMost y x → P y) →
     P (lesser x y)
 lesser_cases P x y p q = by_order P x y x y p q
 
+-- and so of the greater
 pub greater_cases : (P : Fraction → Type 0) (x y : Fraction) → (IsAtMost x y → P y) → (IsAtMost y x → P x) →
     P (greater x y)
 greater_cases P x y p q = by_order P x y y x p q

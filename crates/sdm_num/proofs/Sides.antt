@@ -10,6 +10,7 @@ use Rattle.sdm_num.specs.Bounds.{Bound, IsEarlyFor, IsLateFor, IsResultOf, IsRes
 use Rattle.sdm_num.proofs.Ints.{scales, scale-+ℤ}
 use Rattle.sdm_num.proofs.Order.{at_most_refl, at_most_trans, whole_at_most, lesser_cases, greater_cases}
 
+-- an early bound moved back stands early for a place moved back as far
 pub IsEarlyFor_less : (e d : Bound) (g : ℕ) → d.at ≡ e.at +ℤ neg_ℤ (pos g) → d.slack ≡ e.slack → (x : Fraction) →
     IsEarlyFor e x → IsEarlyFor d (less x g)
 IsEarlyFor_less e d g at slack x h = record {
@@ -20,12 +21,14 @@ IsEarlyFor_less e d g at slack x h = record {
   };
 }
 
+-- moved on, a place stays at or past the start of a bound that is moved on as far
 shifted_on : (m : ℕ) (n at : ℤ) (g slack : ℕ) → (pos m *ℤ (at +ℤ neg_ℤ (pos slack))) ≤ℤ (pos 1 *ℤ n) →
     (pos m *ℤ ((at +ℤ pos g) +ℤ neg_ℤ (pos slack))) ≤ℤ (pos 1 *ℤ (n +ℤ pos (g * m)))
 shifted_on m n at g slack h =
     let e : (at +ℤ pos g) +ℤ neg_ℤ (pos slack) ≡ (at +ℤ neg_ℤ (pos slack)) +ℤ pos g = omega (arith, ints) in
     rw e (rw (scale-+ℤ m (at +ℤ neg_ℤ (pos slack)) (pos g)) (omega (arith, ints, h)))
 
+-- a late bound moved on stands late for a place moved on as far
 pub IsLateFor_more : (e d : Bound) (g : ℕ) → d.at ≡ e.at +ℤ pos g → d.slack ≡ e.slack → (x : Fraction) →
     IsLateFor e x → IsLateFor d (more x g)
 IsLateFor_more e d g at slack x h = record {
@@ -54,6 +57,7 @@ early_only_less e d g at slack z h = record {
     back : (n : ℤ) (g m : ℕ) → (n +ℤ pos (g * m)) +ℤ neg_ℤ (pos (g * m)) ≡ n
     back n g m = omega (arith, ints)
 
+-- moved back, it stays at or past the start of a bound that is moved back as far
 shifted_off : (m : ℕ) (n at : ℤ) (g slack : ℕ) → (pos m *ℤ ((at +ℤ pos g) +ℤ neg_ℤ (pos slack))) ≤ℤ (pos 1 *ℤ n) →
     (pos m *ℤ (at +ℤ neg_ℤ (pos slack))) ≤ℤ (pos 1 *ℤ (n +ℤ neg_ℤ (pos (g * m))))
 shifted_off m n at g slack h =
@@ -61,6 +65,7 @@ shifted_off m n at g slack h =
     let p = rw (e, scale-+ℤ m (at +ℤ neg_ℤ (pos slack)) (pos g)) at h in
     omega (arith, ints, p)
 
+-- what is stood for after a shift on is so before it
 pub late_only_more : (e d : Bound) (g : ℕ) → d.at ≡ e.at +ℤ pos g → d.slack ≡ e.slack → (z : Fraction) →
     IsLateFor d z → IsResultOf (IsLateFor e) (λ x. more x g) z
 late_only_more e d g at slack z h = record {
@@ -80,12 +85,14 @@ late_only_more e d g at slack z h = record {
 
 -- ---- of two
 
+-- what holds of both numbers holds of the lesser
 min_cases : (P : ℤ → Type 0) (a b : ℤ) → P a → P b → P (int_min a b)
 min_cases P a b p q = elim (cases_cond (int_lt b a) b a (int_min a b) refl) [
   | inl e ↦ subst P (sym e) q
   | inr e ↦ subst P (sym e) p
 ]
 
+-- and of the greater
 max_cases : (P : ℤ → Type 0) (a b : ℤ) → P a → P b → P (int_max a b)
 max_cases P a b p q = elim (cases_cond (int_lt b a) a b (int_max a b) refl) [
   | inl e ↦ subst P (sym e) p
@@ -97,6 +104,7 @@ earlier_end : (e d : Bound) →
     (earlier_of e d).at +ℤ pos (earlier_of e d).slack ≡ int_min (e.at +ℤ pos e.slack) (d.at +ℤ pos d.slack)
 earlier_end e d = omega (arith, ints, clamps)
 
+-- where a late bound of two places starts
 later_start : (e d : Bound) → (later_of e d).at +ℤ neg_ℤ (pos (later_of e d).slack)
     ≡ int_max (e.at +ℤ neg_ℤ (pos e.slack)) (d.at +ℤ neg_ℤ (pos d.slack))
 later_start e d = omega (arith, ints, clamps)
@@ -119,6 +127,7 @@ IsEarlyFor_lesser e d x y h k = record {
       (λ le. at_most_trans x y _ k.positive le k.near) (λ _. k.near)));
 }
 
+-- the later of two late bounds stands for the greater of the places
 pub IsLateFor_greater : (e d : Bound) (x y : Fraction) → IsLateFor e x → IsLateFor d y →
     IsLateFor (later_of e d) (greater x y)
 IsLateFor_greater e d x y h k = record {
@@ -154,6 +163,7 @@ greater_right : (x z : Fraction) → IsAtMost x z → IsSame (greater x z) z
 greater_right x z le = greater_cases (λ y. IsSame y z) x z (λ _. record { crossed = refl })
     (λ less. record { crossed = omega (arith, ints, le.crossed, less.crossed) })
 
+-- an early bound stands for its own end
 early_at_end : (e : Bound) → IsEarlyFor e (whole (e.at +ℤ pos e.slack))
 early_at_end e = record {
   positive = omega arith;
@@ -161,6 +171,7 @@ early_at_end e = record {
   near = at_most_refl _;
 }
 
+-- a late bound stands for its own start
 late_at_start : (e : Bound) → IsLateFor e (whole (e.at +ℤ neg_ℤ (pos e.slack)))
 late_at_start e = record {
   positive = omega arith;
@@ -245,12 +256,14 @@ late_only_greater e d z h =
 
 -- ---- as the code finds them: one place is `apart` grains before the other
 
+-- a bound by its place and its slack
 abbrev pub bound : ℤ → ℕ → Bound
 bound at slack = record { at = at; slack = slack }
 
 same_bound : (a b : ℤ) (s t : ℕ) → a ≡ b → s ≡ t → bound a s ≡ bound b t
 same_bound a b s t p q = cc
 
+-- of two early bounds, the first `apart` grains before the second, the earlier one lies at the first's place
 pub earlier_is : (e d : Bound) (apart slack : ℕ) → d.at ≡ e.at +ℤ pos apart → slack ≡ min e.slack (apart + d.slack) →
     bound e.at slack ≡ earlier_of e d
 earlier_is e d apart slack distance is = same_bound _ _ _ _ (omega (arith, ints, clamps)) (omega (arith, ints, clamps))
@@ -258,6 +271,7 @@ earlier_is e d apart slack distance is = same_bound _ _ _ _ (omega (arith, ints,
 pub earlier_swap : (e d : Bound) → earlier_of e d ≡ earlier_of d e
 earlier_swap e d = same_bound _ _ _ _ (omega (arith, ints, clamps)) (omega (arith, ints, clamps))
 
+-- of two late bounds, the first `apart` grains past the second, the later one lies at the first's place
 pub later_is : (e d : Bound) (apart slack : ℕ) → e.at ≡ d.at +ℤ pos apart → slack ≡ min e.slack (apart + d.slack) →
     bound e.at slack ≡ later_of e d
 later_is e d apart slack distance is = same_bound _ _ _ _ (omega (arith, ints, clamps)) (omega (arith, ints, clamps))

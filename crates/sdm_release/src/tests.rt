@@ -4,7 +4,7 @@ ghost use Rattle.std.specs.Prelude.{◌≤◌, IfOk};
 ghost use Rattle.sdm_curve.specs.Made.{IsFootPlace};
 ghost use Rattle.sdm_limits.specs.Ranges.{AreTimes};
 
-use crate::release_start;
+use crate::{release_speed, release_start};
 use sdm_curve::{BandMap, Curve};
 use sdm_num::{Early, Place, Speed};
 use sdm_rules::Times;
@@ -92,5 +92,66 @@ fn the_earlier_of_both_curves_decides(rt: HostRuntime) -> Result<(), Fail> {
         // both places may lie as far before the exact ones, so the earlier of them too
         assert_eq!(rt; start.slack(), 286_331_153, "at {line}");
     }
+    Ok(())
+}
+
+/// The calculated release speed on a map, with these places in cm.
+fn speed_from(rt: &impl Abort, safe: &BandMap, svl: u32, t_be: u32, trip: u32) -> u16
+    requires svl { svl ≤ 10_000_000 }
+    requires time { t_be ≤ 300 }
+{
+    assert!(rt; trip <= svl);
+    let ebd = Curve::from_foot(safe, Place::of_cm_from_0(svl), Speed::new(0));
+    release_speed(safe, &ebd, t_be, Place::of_cm_from_0(trip))
+}
+
+/// The calculated release speed of a row, with the SvL at 10 km.
+fn speed_of_row(rt: &impl Abort, alloc: Global, line: &str) -> Result<u16, &'static str> {
+    let safe = level(alloc, natural(rt, line, 0, 400)?)?;
+    let t_be = natural(rt, line, 1, 300)?;
+    let trip = natural(rt, line, 2, 1_000_000)?;
+    Ok(speed_from(rt, &safe, 1_000_000, t_be, trip))
+}
+
+/// Deceleration in cm/s², T_be in ds, the place of the trip in cm, and the greatest speed in km/h. The SvL lies at
+/// 1,000,000 cm. At 20 m/s, which is 72 km/h, a train with 1 m/s² and 2 s comes 40 and 200 m. With 30 s and 240 m left
+/// it is 30 v + v² / 2 = 240 at 7.148 m/s, which is 25.7 km/h. From 138.89 m/s, 500 km/h, it is 9645.0617.. m at once,
+/// and at 4 m/s² 2411.2654.. m.
+const SPEEDS: &str = "\
+100 0 1000000 0
+100 300 1000000 0
+100 20 976000 72
+100 20 976001 71
+100 20 975999 72
+200 20 986000 72
+200 20 986001 71
+100 300 976000 25
+100 0 35493 500
+100 0 35494 499
+100 0 0 500
+400 0 758873 500
+400 0 758874 499
+400 300 0 500";
+
+#[test]
+fn the_greatest_speed_that_stops_is_found(rt: HostRuntime) -> Result<(), Fail> {
+    for line in SPEEDS.lines() {
+        let found = speed_of_row(&rt, rt.alloc(), line)?;
+        assert_eq!(rt; i64::from(found), number(line, 3)?, "at {line}");
+    }
+    Ok(())
+}
+
+/// With 1 m/s² up to 10 m/s and 2 m/s² above, a train comes 50 m from there and 75 m from 20 m/s to there.
+#[test]
+fn each_band_brakes_as_it_does(rt: HostRuntime) -> Result<(), Fail> {
+    let slopes = [200_000_000_000, 400_000_000_000];
+    let Ok(safe) = BandMap::new(rt.alloc(), 100, &[Speed::of_kmh(36)], &[0], &slopes) else {
+        return Err("no map")?;
+    };
+    assert_eq!(rt; speed_from(&rt, &safe, 100_000, 0, 87_500), 72);
+    assert_eq!(rt; speed_from(&rt, &safe, 100_000, 0, 87_501), 71);
+    assert_eq!(rt; speed_from(&rt, &safe, 100_000, 0, 95_000), 36);
+    assert_eq!(rt; speed_from(&rt, &safe, 100_000, 0, 95_001), 35);
     Ok(())
 }

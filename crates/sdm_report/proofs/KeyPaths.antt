@@ -54,9 +54,11 @@ key_path_below sections.Authority index key name below is = rw is refl
 
 -- ---- lengths
 
+-- a name of at most 25 bytes
 abbrev is_short : List ℕ → Bool
 is_short name = nat_le (length name) 25
 
+-- all names of keys are short
 all_short : (section : Section) → list_all is_short (key_names section) ≡ true
 unfolding key_names
 all_short sections.Root = refl
@@ -70,6 +72,7 @@ all_short sections.Adhesion = refl
 all_short sections.NoSpecial = refl
 all_short sections.Authority = refl
 
+-- so each one is
 one_of_short : (names : List (List ℕ)) (i : ℕ) (name : List ℕ) → list_all is_short names ≡ true →
     slice_get names i ≡ Some name → length name ≤ 25
 one_of_short [] i name all is = cc

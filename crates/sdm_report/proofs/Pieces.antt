@@ -1,6 +1,8 @@
 -- Pieces that are put one after the other, and fields with commas between them.
-use Rattle.std.proofs.Common.{◌≡◌, ℕ, List, [], ◌∷◌, ◌++◌, refl, ap, ◌∙◌, append_assoc}
+use Rattle.std.proofs.Common.{◌≡◌, ℕ, ◌+◌, Bool, true, false, List, [], ◌∷◌, ◌++◌, refl, ap, ◌∙◌, append_assoc}
+use Rattle.std.specs.Int.{from_bool}
 use Rattle.std.specs.List.{join_with_byte}
+use Rattle.sdm_rules.specs.Text.{flag_text}
 
 -- three pieces are put
 pub three_pieces : (old one two new a b c : List ℕ) → one ≡ old ++ a → two ≡ one ++ b → new ≡ two ++ c →
@@ -25,3 +27,8 @@ more_fields old comma new x y xs ys h comma_is new_is = record {
   is = new_is ∙ rw (comma_is, h.is)
       (append_assoc (join_with_byte 44 (x ∷ xs)) (44 ∷ []) (join_with_byte 44 (y ∷ ys)) ∙ join-cons x y xs ys);
 }
+
+-- the digit of a flag
+pub flag_digit : (b : Bool) (n : ℕ) → n ≡ from_bool b → (48 + n) ∷ [] ≡ flag_text b
+flag_digit true n is = rw is refl
+flag_digit false n is = rw is refl

@@ -85,6 +85,7 @@ pub fn put_cause(cause: EventCause, into: &mut RowBuf)
     match cause {
         EventCause::Form(fault) => put_form_fault(fault, into),
         EventCause::Authority(fault) => into.text(authority_text(fault)),
+        EventCause::BadTrip => into.text(b"bad trip place"),
         EventCause::Restrict(fault) => into.text(restrict_text(fault)),
         EventCause::Revoke(fault) => into.text(revoke_text(fault)),
         EventCause::TimeBack { .. } => into.text(b"time back"),

@@ -308,6 +308,7 @@ fn cause_of(text: &str) -> Option<EventCause> {
         "supervised location before end" => EventCause::Authority(AuthorityFault::SvlBeforeEoa),
         "beyond track" => EventCause::Authority(AuthorityFault::BeyondTrack),
         "bad speed" => EventCause::Authority(AuthorityFault::BadSpeed),
+        "bad trip place" => EventCause::BadTrip,
         "too many restrictions" => EventCause::Restrict(RestrictFault::Full),
         "identity in use" => EventCause::Restrict(RestrictFault::IdInUse { id: 7 }),
         "restriction value" => EventCause::Restrict(RestrictFault::Value),
@@ -327,6 +328,7 @@ const CAUSES: &str = "\
     supervised location before end
     beyond track
     bad speed
+    bad trip place
     too many restrictions
     identity in use
     restriction value

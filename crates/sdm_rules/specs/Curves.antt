@@ -126,7 +126,7 @@ abbrev pub slack_after : ℕ → ℕ → ℕ → ℕ
 slack_after k zero e = e
 slack_after k (suc n) e = slack_after k n (k * e + 1)
 
--- the most grains that a stepped place lies before the exact one: (16^8 - 1) / 15 with eight bands, which is less than a
--- millimetre; with other counts it is less (own)
+-- the most grains that a stepped place lies before the exact one: (16^8 - 1) / 15 with eight bands, which is less
+-- than a millimetre; with other counts it is less (own)
 abbrev pub most_slack : ℕ
 most_slack = 286_331_153

@@ -1,5 +1,5 @@
 -- The data of a journey: the train, the national values, and the track (SUBSET-026-3 3.13.2).
-use Rattle.std.specs.Prelude.{◌≡◌, ℕ, ℤ, pos, Bool, List, [], ◌∷◌, Option, Some, None, ◌≤◌, ◌<ℤ◌, length, take}
+use Rattle.std.specs.Prelude.{◌≡◌, ℤ, pos, Bool, List, [], ◌∷◌, Option, Some, None, ◌≤◌, ◌<ℤ◌, length, take}
 use Rattle.sdm_rules.specs.declared.data.Band.{Band}
 use Rattle.sdm_rules.specs.declared.data.Gradient.{Gradient}
 use Rattle.sdm_rules.specs.declared.data.SpeedStep.{SpeedStep}

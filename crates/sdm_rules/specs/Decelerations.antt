@@ -1,6 +1,6 @@
 -- The decelerations of a front end in a cell (SUBSET-026-3 3.13.4, 3.13.6), as whole numbers of 1/Q m/s², with
 -- Q = 2 * 10^9 * q: in this unit each is exact (own unit).
-use Rattle.std.specs.Prelude.{ℕ, ℤ, pos, Bool, ◌&&◌, List, Option, Some, None, ◌+◌, ◌*◌, ◌+ℤ◌, ◌-ℤ◌, ◌*ℤ◌, int_le}
+use Rattle.std.specs.Prelude.{ℕ, ℤ, pos, Bool, ◌&&◌, List, Option, Some, None, ◌+◌, ◌+ℤ◌, ◌-ℤ◌, ◌*ℤ◌, int_le}
 use Rattle.std.specs.Prelude.{int_lt, unsigned_abs, slice_get, filter_map, option_map, if◌then◌else◌}
 use Rattle.std.specs.Int.{int_min, int_max, is_negative}
 use Rattle.std.specs.List.{list_any}
@@ -87,8 +87,8 @@ abbrev pub mass_factor : Option ℤ → ℤ → ℤ
 mass_factor (Some mass) grad = pos 1
 mass_factor None grad = if is_negative grad then pos 115 else pos 102
 
--- A_gradient = 9.81 * grad / (1000 + 10 * M_rotating) with the gradient in per mille, in 1/Q m/s²
--- (SUBSET-026-3 3.13.4.3)
+-- A_gradient = 9.81 * grad / (1000 + 10 * M_rotating), where the standard has grad in per mille, in 1/Q m/s²; `gravity`
+-- counts the tenths (SUBSET-026-3 3.13.4.3)
 abbrev pub a_gradient : Option ℤ → ℤ → ℤ
 a_gradient mass grad = gravity *ℤ mass_factor mass grad *ℤ grad
 
@@ -96,7 +96,8 @@ a_gradient mass grad = gravity *ℤ mass_factor mass grad *ℤ grad
 abbrev pub kn_of : Band → ℤ → ℤ
 kn_of b grad = if is_negative grad then b.kn_down else b.kn_up
 
--- Kn * grad / 1000 with the gradient in per mille, in 1/(2 * 10^9) m/s² (SUBSET-026-3 3.13.6.4; own form)
+-- Kn * grad / 1000, where the standard has grad in per mille, in 1/(2 * 10^9) m/s²; the factor counts the tenths
+-- (SUBSET-026-3 3.13.6.4; own form)
 abbrev pub kn_term : Band → ℤ → ℤ
 kn_term b grad = pos 2_000 *ℤ kn_of b grad *ℤ grad
 

@@ -200,6 +200,7 @@ revoke_text (revoke_faults.Unknown id) = codes "identity unknown"
 unfoldable pub cause_text : EventCause → List ℕ
 cause_text (causes.Form fault) = form_text fault
 cause_text (causes.Authority fault) = authority_text fault
+cause_text causes.BadTrip = codes "bad trip place"
 cause_text (causes.Restrict fault) = restrict_text fault
 cause_text (causes.Revoke fault) = revoke_text fault
 cause_text (causes.TimeBack last time) = codes "time back"

@@ -44,6 +44,15 @@ end_form (eoa ∷ svl ∷ release ∷ []) =
     Ok (record_kinds.Authority (Stop (unsigned_abs eoa) (unsigned_abs svl) (unsigned_abs release))))))
 end_form _ = Err FieldCount
 
+-- `endcalc`: EOA, SvL and the place of the trip in cm
+unfoldable pub endcalc_form : List (List ℕ) → Result Event EventFault
+endcalc_form (eoa ∷ svl ∷ trip ∷ []) =
+    column 2 eoa (pos 0) (pos longest_track) (λ eoa.
+    column 3 svl (pos 0) (pos longest_track) (λ svl.
+    column 4 trip (pos 0) (pos longest_track) (λ trip.
+    Ok (record_kinds.Calculated (unsigned_abs eoa) (unsigned_abs svl) (unsigned_abs trip)))))
+endcalc_form _ = Err FieldCount
+
 -- `limit`: LOA in cm, speed in km/h
 unfoldable pub limit_form : List (List ℕ) → Result Event EventFault
 limit_form (loa ∷ speed ∷ []) =
@@ -81,6 +90,7 @@ event_of [] = Err UnknownKind
 event_of (kind ∷ fields) =
     if bytes_eq kind (codes "read") then read_form fields
     else if bytes_eq kind (codes "end") then end_form fields
+    else if bytes_eq kind (codes "endcalc") then endcalc_form fields
     else if bytes_eq kind (codes "limit") then limit_form fields
     else if bytes_eq kind (codes "restrict") then restrict_form fields
     else if bytes_eq kind (codes "revoke") then revoke_form fields

@@ -7,6 +7,7 @@ use Rattle.sdm_rules.specs.declared.records.Event.TheVariants as record_kinds
 use Rattle.sdm_rules.specs.Supervision.{Supervision, row_of}
 use Rattle.sdm_rules.specs.Machines.{InOrder, KeepsOrder, must_after, may_after, held_after}
 use Rattle.sdm_rules.specs.Records.{Turn}
+use Rattle.sdm_rules.specs.Release.{IsReleaseSpeed, calculated}
 use Rattle.sdm_rules.specs.Stop.{IsSafe}
 use Rattle.sdm_rules.specs.Promises.{BeginsReleaseMonitoring, HasOnlyGaps, IsWithinCeiling}
 
@@ -23,10 +24,12 @@ pub record IsRowSafe (must may : Bool) (s : Supervision) (r : OdometerReading) :
   pub ceiling : (row_of s r).held.eb ≡ false → IsWithinCeiling r (row_of s r)
   pub release : BeginsReleaseMonitoring s r
 
--- the row of a reading is safe; of no other record a thing is promised
+-- the row of a reading is safe, and so is a release speed that is calculated; of no other record a thing is promised
 abbrev pub IsRecordSafe : Bool → Bool → Supervision → Event → Type 0
 IsRecordSafe must may s (record_kinds.Read r) = IsRowSafe must may s r
 IsRecordSafe must may s (record_kinds.Authority a) = ⊤
+IsRecordSafe must may s (record_kinds.Calculated eoa svl trip) =
+    IsReleaseSpeed s.train_and_track svl trip (calculated s.train_and_track svl trip)
 IsRecordSafe must may s (record_kinds.Restrict r) = ⊤
 IsRecordSafe must may s (record_kinds.Revoke id) = ⊤
 
@@ -34,6 +37,7 @@ IsRecordSafe must may s (record_kinds.Revoke id) = ⊤
 abbrev pub over_record : (Supervision → OdometerReading → Bool → Bool) → Supervision → Event → Bool → Bool
 over_record machine s (record_kinds.Read r) held = machine s r held
 over_record machine s (record_kinds.Authority a) held = held
+over_record machine s (record_kinds.Calculated eoa svl trip) held = held
 over_record machine s (record_kinds.Restrict r) held = held
 over_record machine s (record_kinds.Revoke id) held = held
 

@@ -14,8 +14,10 @@ pub mod Triggers
 pub mod Commands
 pub mod Supervision
 pub mod Machines
-pub mod Records
 pub mod Stop
+pub mod Release
+pub mod Display
+pub mod Records
 pub mod Promises
 pub mod Opening
 pub mod Headline

@@ -1,7 +1,7 @@
 -- Which data are accepted, and the first rule that others break: a number outside its range, too many or too few
 -- entries, entries out of order (ranges own). Indices count from 1.
 use Rattle.std.specs.Prelude.{ℕ, suc, ℤ, pos, neg_ℤ, Bool, true, ◌&&◌, List, [], ◌∷◌, Option, Some, None, ◌-ℤ◌, ◌+ℤ◌}
-use Rattle.std.specs.Prelude.{◌/◌, ◌%◌, ◌==◌, int_le, int_lt, nat_lt, nat_le, length, unsigned_abs, if◌then◌else◌}
+use Rattle.std.specs.Prelude.{◌%◌, ◌==◌, int_le, int_lt, nat_lt, nat_le, length, unsigned_abs, if◌then◌else◌}
 pub use Rattle.sdm_num.specs.Units.{top_kmh}
 use Rattle.sdm_rules.specs.declared.data.Band.{Band}
 use Rattle.sdm_rules.specs.declared.data.Gradient.{Gradient}

@@ -1,6 +1,6 @@
 -- What each record makes of the supervision state, or why it is refused (own).
 use Rattle.std.specs.Prelude.{ℕ, suc, ℤ, pos, List, [], ◌∷◌, Option, Some, None, Result, Ok, Err, ◌||◌, nat_lt, nat_le}
-use Rattle.std.specs.Prelude.{◌==◌, int_lt, filter_map, if◌then◌else◌}
+use Rattle.std.specs.Prelude.{◌==◌, int_lt, filter_map, option_map, if◌then◌else◌}
 use Rattle.std.specs.Ordering.{nat_cmp}
 use Rattle.std.specs.FinMap as finite
 use Rattle.sdm_rules.specs.declared.authorities.Authority.{Authority}
@@ -12,6 +12,8 @@ use Rattle.sdm_rules.specs.declared.faults.EventFault.{EventFault}
 use Rattle.sdm_rules.specs.declared.faults.EventFault.TheVariants.{TooMany}
 use Rattle.sdm_rules.specs.declared.faults.AuthorityFault.{AuthorityFault}
 use Rattle.sdm_rules.specs.declared.faults.AuthorityFault.TheVariants.{SvlBeforeEoa, BeyondTrack, BadSpeed}
+use Rattle.sdm_rules.specs.declared.faults.TripFault.{TripFault}
+use Rattle.sdm_rules.specs.declared.faults.TripFault.TheVariants as trip_faults
 use Rattle.sdm_rules.specs.declared.faults.RestrictFault.{RestrictFault}
 use Rattle.sdm_rules.specs.declared.faults.RestrictFault.TheVariants.{Full, IdInUse, Value}
 use Rattle.sdm_rules.specs.declared.faults.RevokeFault.{RevokeFault}
@@ -23,7 +25,8 @@ use Rattle.sdm_rules.specs.declared.faults.EventCause.TheVariants as causes
 use Rattle.sdm_rules.specs.declared.rows.Row.{Row}
 use Rattle.sdm_rules.specs.Supervision.{Supervision, row_of, after_reading, after_authority, after_restriction}
 use Rattle.sdm_rules.specs.Supervision.{after_revocation}
-use Rattle.sdm_rules.specs.Ranges.{top_kmh}
+use Rattle.sdm_rules.specs.Ranges.{or_else, top_kmh}
+use Rattle.sdm_rules.specs.Release.{calculated}
 
 -- ---- refusals
 
@@ -38,6 +41,13 @@ authority_fault length_cm (Limit loa speed) =
     if int_lt length_cm (pos loa) then Some BeyondTrack
     else if (speed == 0) || nat_lt top_kmh speed then Some BadSpeed
     else None
+
+-- the first fault of a stop whose release speed is calculated, for a track of a length in cm: that of a stop at these
+-- places, then that of the place of the trip
+abbrev pub trip_fault : ℤ → ℕ → ℕ → ℕ → Option TripFault
+trip_fault length_cm eoa svl trip =
+    or_else (option_map trip_faults.Authority (authority_fault length_cm (Stop eoa svl 0)))
+    (if nat_lt trip eoa || nat_lt svl trip then Some trip_faults.BadTrip else None)
 
 -- the most restrictions that are held
 abbrev pub most_restrictions : ℕ
@@ -60,6 +70,11 @@ abbrev pub time_fault : Option ℕ → ℕ → Option CycleFault
 time_fault None time = None
 time_fault (Some last) time = if nat_lt time last then Some (TimeBack last time) else None
 
+-- the cause by which a record is refused that gives a stop with the place of a trip
+abbrev pub trip_cause : TripFault → EventCause
+trip_cause (trip_faults.Authority fault) = causes.Authority fault
+trip_cause trip_faults.BadTrip = causes.BadTrip
+
 -- the cause by which a record is refused for its time
 abbrev pub time_cause : CycleFault → EventCause
 time_cause (TimeBack last time) = causes.TimeBack last time
@@ -76,6 +91,9 @@ unfoldable pub step : Supervision → Event → Result Supervision EventCause
 step s (record_kinds.Read r) = unless time_cause (time_fault s.last_time r.time) (after_reading s r)
 step s (record_kinds.Authority a) =
     unless causes.Authority (authority_fault s.train_and_track.track.length_cm a) (after_authority s a)
+step s (record_kinds.Calculated eoa svl trip) =
+    unless trip_cause (trip_fault s.train_and_track.track.length_cm eoa svl trip)
+    (after_authority s (Stop eoa svl (calculated s.train_and_track svl trip)))
 step s (record_kinds.Restrict r) =
     unless causes.Restrict (restrict_fault s.train_and_track.track.length_cm s.restrictions r) (after_restriction s r)
 step s (record_kinds.Revoke id) = unless causes.Revoke (revoke_fault s.restrictions id) (after_revocation s id)
@@ -102,6 +120,7 @@ turn_of s (Err fault) = Err (causes.Form fault)
 abbrev pub row_at : Supervision → Event → Option Row
 row_at s (record_kinds.Read r) = Some (row_of s r)
 row_at s (record_kinds.Authority a) = None
+row_at s (record_kinds.Calculated eoa svl trip) = None
 row_at s (record_kinds.Restrict r) = None
 row_at s (record_kinds.Revoke id) = None
 

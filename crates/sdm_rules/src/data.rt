@@ -23,7 +23,8 @@ pub struct Band {
     pub kn_up: i64,
     /// Kn- in cm/s², for guidance downhill.
     pub kn_down: i64,
-    /// Emergency brake deceleration in cm/s² where the special brake is not used; none where that takes nothing away.
+    /// Emergency brake deceleration in cm/s² where the special brake is not used, 1 to `emergency`; none where that
+    /// takes nothing away.
     pub emergency_reduced: Option<i64>,
 }
 

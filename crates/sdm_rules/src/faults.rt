@@ -79,6 +79,17 @@ pub enum AuthorityFault {
     BadSpeed,
 }
 
+/// Why a stop whose release speed is calculated is refused.
+#[derive(Clone, Copy, Debug, PartialEq, Eq, Error)]
+pub enum TripFault {
+    /// A stop at these places is refused.
+    #[error("{0}")]
+    Authority(AuthorityFault),
+    /// The place of the trip lies before the end of authority or past the supervised location.
+    #[error("bad trip place")]
+    BadTrip,
+}
+
 /// Why a temporary speed restriction is refused.
 #[derive(Clone, Copy, Debug, PartialEq, Eq, Error)]
 pub enum RestrictFault {
@@ -190,6 +201,9 @@ pub enum EventCause {
     Form(EventFault),
     #[error("{0}")]
     Authority(AuthorityFault),
+    /// The place of a trip lies before the end of authority or past the supervised location.
+    #[error("bad trip place")]
+    BadTrip,
     #[error("{0}")]
     Restrict(RestrictFault),
     #[error("{0}")]

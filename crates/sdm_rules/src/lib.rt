@@ -8,6 +8,7 @@ pub mod authorities;
 mod base;
 pub mod commands;
 pub mod data;
+pub mod display;
 pub mod faults;
 pub mod keys;
 pub mod motions;
@@ -23,9 +24,10 @@ pub use commands::{Held, State, Status, Triggers};
 pub use data::{
     Area, Band, Gradient, MOST_BANDS, NationalFields, SlopeKind, SpeedStep, Times, TrainFields,
 };
+pub use display::{LimitName, Shown};
 pub use faults::{
     At, AuthorityFault, CycleFault, DataFault, EventCause, EventFault, FieldFault, NationalFault,
-    OpenFault, RestrictFault, RevokeFault, Section, TrackFault, TrainFault,
+    OpenFault, RestrictFault, RevokeFault, Section, TrackFault, TrainFault, TripFault,
 };
 pub use motions::{Phase, Point, Slice, Start};
 pub use ranges::{

@@ -30,6 +30,7 @@ use Rattle.sdm_run.specs.Journeys.{IsRunOutput}
 
 -- ---- answers
 
+-- an output of two lines that ends at a third one, which is refused
 abbrev two_lines : Output
 two_lines = record { text = codes "a\nb\n"; end = ends.BadEvent 3 Line }
 
@@ -37,9 +38,11 @@ two_lines = record { text = codes "a\nb\n"; end = ends.BadEvent 3 Line }
 whole_text : IsAnswer two_lines (Some []) (Some (codes "a\nb\n")) (BadEvent 3 Line)
 whole_text = record { ended = inl refl; taken = refl }
 
+-- and no less of it
 no_less_text : IsAnswer two_lines (Some []) (Some (codes "a\n")) (BadEvent 3 Line) → ⊥
 no_less_text h = let e = ap length h.taken in omega (arith, e)
 
+-- nor is less of it complete
 not_complete : IsComplete two_lines (Some []) (Some (codes "a\n")) (BadEvent 3 Line) → ⊥
 not_complete (inl h) = let e = ap length h.1 in omega (arith, e)
 not_complete (inr h) = cc
@@ -98,6 +101,7 @@ no_part_of_a_line h = not_whole h.taken.prefix h.taken.taken h.taken.whole_lines
 
 -- ---- the rows of `flat`
 
+-- a train with 1 m/s² at 8 m, with 2 m/s, towards an end at 10 m
 abbrev a_turn : FlatTurn
 a_turn = record {
   before = flat_opening 100 1_000;
@@ -118,6 +122,7 @@ not_in_order : IsFlatTurnSafe true true a_turn → ⊥
 unfolding flat_row flat_after exact stepped exact_at place_at arc_back back arc_forward forward
 not_in_order h = false≢true (h.order.needed refl)
 
+-- so turns with this one aren't safe
 not_safe : AreFlatTurnsSafe true true (a_turn ∷ []) → ⊥
 not_safe h = not_in_order h.0
 
@@ -138,10 +143,12 @@ past_turn = record {
   line = record { time = 5; front = pos (80_001 * 54_000_000); speed = 108_000 };
 }
 
+-- the row there isn't covered, so it promises no stop
 nothing_promised_past_it : IsStopCovered past_turn
 unfolding flat_row exact stepped exact_at place_at arc_back back arc_forward forward
 nothing_promised_past_it covered = absurd (false≢true covered)
 
+-- a motion from there that brakes with 1 m/s² and passes the end
 passing : IsMotionOn (flat_slopes 100) (flat_start past_turn.line) 1 (pos 4_320_054_000_000) 108_000 []
     (record { place = pos 4_320_054_000_000; square = 11_664_000_000 })
     (record { place = pos 5_400_054_000_000; square = 0 } ∷ [])
@@ -180,6 +187,7 @@ passing = (
     in_the_band : (u : ℕ) → IsInBand (flat_slopes 100) 1 0 u
     in_the_band u = record { known = omega arith; above = omega arith; below = λ lt. absurd (omega arith) }
 
+-- it doesn't stop by the end
 no_stop_past_it : StopsByFlatEnd past_turn.before past_turn.line → ⊥
 no_stop_past_it h = let k = h 1 (pos 4_320_054_000_000) 108_000 []
     (record { place = pos 4_320_054_000_000; square = 11_664_000_000 })
@@ -188,15 +196,18 @@ no_stop_past_it h = let k = h 1 (pos 4_320_054_000_000) 108_000 []
 
 -- ---- all rows of a command
 
+-- the same train at 7 m
 abbrev a_line : List ℕ
 a_line = codes "5,7000,2000\n"
 
+-- its turn, a metre before the curve
 abbrev early_turn : FlatTurn
 early_turn = record {
   before = flat_opening 100 1_000;
   line = record { time = 5; front = pos (70_000 * 54_000_000); speed = 108_000 };
 }
 
+-- the line's one turn
 one_early_turn : turns_of 100 1_000 a_line ≡ early_turn ∷ []
 unfolding turns_of flat_line read_int
 one_early_turn = refl
@@ -235,6 +246,7 @@ text_of_one_cycle h = h.text ∙ ap summary_text one_row
         ≡ row_of (opening trial_train_and_track trial_authority) (reading_in_cycle 7 1) ∷ []
     one_row = refl
 
+-- and this row is safe
 first_cycle_is_safe : AreTrialRowsSafe 7 1 →
     IsRowSafe false false (opening trial_train_and_track trial_authority) (reading_in_cycle 7 1)
 unfolding step

@@ -23,6 +23,7 @@ use Rattle.sdm_run.proofs.TrialRuns.{trial_rows_safe}
 
 -- ---- rows
 
+-- the promise of each command's rows holds for all bytes
 pub rows_safe : (command : Command) (bytes : List ℕ) → IsCommandInRange command → AreRowsSafe command bytes
 rows_safe (Flat decel end) bytes h = flat_rows_safe decel end bytes (omega (arith, h.0))
 rows_safe Run bytes h = run_rows_safe bytes
@@ -85,10 +86,12 @@ answer_told o command left read bytes A is whole same h =
 
 -- ---- the limit
 
+-- within the limit the output is what a command makes of the input
 within : (bytes : List ℕ) (output : Output) → length bytes ≤ most_bytes → within_limit bytes output ≡ output
 within bytes output short =
     let no : nat_lt most_bytes (length bytes) ≡ false = grind (arith, nat_tests) in rw no
 
+-- above it the output is empty and ends as too long
 above : (bytes : List ℕ) (output : Output) → most_bytes < length bytes → within_limit bytes output ≡ record {
   text = [];
   end = ends.TooLong;
@@ -102,6 +105,7 @@ pub within_answer : (bytes : List ℕ) (made : Output) (old new : Option (List �
     (output : Output) → output ≡ within_limit bytes made → IsAnswer output old new outcome
 within_answer bytes made old new outcome short h output is = rw (is, within bytes made short) h
 
+-- an input above the limit is answered as too long by each command that reads
 too_long : (command : Command) (bytes : List ℕ) (old : Option (List ℕ)) → IsTrue (shape_of command).reads_input →
     most_bytes < length bytes → (output : Output) → IsOutputOf command bytes output → IsAnswer output old old TooLong
 too_long (Flat decel end) bytes old reads long output is =
@@ -111,6 +115,7 @@ too_long (Trial seed cycles) bytes old reads long output is = absurd cc
 too_long Upgrade bytes old reads long output is =
     rw (is, above bytes (upgrade_output bytes) long) (record { ended = inl refl; taken = Appends-nil old })
 
+-- what holds of all bytes above the limit holds of an input that is too long
 too_long_of : (reads : Bool) (left : Option (List ℕ)) (P : List ℕ → Type 0) → IsTrue reads →
     Told left (λ bytes. most_bytes < length bytes) →
     ((bytes : List ℕ) → most_bytes < length bytes → P bytes) →

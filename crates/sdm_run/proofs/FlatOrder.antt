@@ -21,6 +21,7 @@ use Rattle.sdm_run.specs.FlatRun.{AreFlatTurnsSafe, AreFlatRowsSafe}
 
 -- ---- text
 
+-- after a line that is read: its row's text and that of the turns that follow
 turn_text : (n : ℕ) (s : FlatSupervision) (l : FlatLine) (o : Option CycleFault) (rest : FlatSupervision → Output)
     (turns : FlatSupervision → List FlatTurn) →
     ((t : FlatSupervision) → (rest t).text ≡ text_of_turns (turns t)) →
@@ -28,6 +29,7 @@ turn_text : (n : ℕ) (s : FlatSupervision) (l : FlatLine) (o : Option CycleFaul
 turn_text n s l (Some fault) rest turns h = refl
 turn_text n s l None rest turns h = ap (λ (x : List ℕ). flat_text (flat_row s l) ++ x) (h (after_flat_line s l))
 
+-- after a line, read or refused
 line_text : (n : ℕ) (s : FlatSupervision) (o : Option FlatLine) (rest : FlatSupervision → Output)
     (turns : FlatSupervision → List FlatTurn) →
     ((t : FlatSupervision) → (rest t).text ≡ text_of_turns (turns t)) →
@@ -35,6 +37,7 @@ line_text : (n : ℕ) (s : FlatSupervision) (o : Option FlatLine) (rest : FlatSu
 line_text n s None rest turns h = refl
 line_text n s (Some l) rest turns h = turn_text n s l (time_fault s.last_time l.time) rest turns h
 
+-- the text from any state on is that of the turns from it
 text_from : (n : ℕ) (s : FlatSupervision) (lines : List (List ℕ)) →
     (flat_output_from n s lines).text ≡ text_of_turns (flat_turns_from s lines)
 text_from n s [] = refl
@@ -47,11 +50,13 @@ abbrev AreAllSafe : (FlatSupervision → List FlatTurn) → Type 0
 AreAllSafe turns =
     (t : FlatSupervision) (must may : Bool) → 0 < t.decel → InOrder must t.eb may → AreFlatTurnsSafe must may (turns t)
 
+-- the row shows the EBI by the formula over the speed in mm/s
 shown : (s : FlatSupervision) (l : FlatLine) → 0 < s.decel → (v : ℕ) → l.speed ≡ notches_of_mm_s v →
     (flat_row s l).ebi ≡ ebi_mm s.decel s.end v
 shown s l some v is = shown_place s l ∙ (ap (λ (n : ℕ).
     whole_mm (exact (flat_slopes s.decel) (place_of_cell (pos s.end)) 0 n)) is ∙ ebi_is s.decel s.end v some)
 
+-- after a line that is read the turns are safe
 turn_order : (s : FlatSupervision) (l : FlatLine) (o : Option CycleFault) (must may : Bool)
     (turns : FlatSupervision → List FlatTurn) → AreAllSafe turns → 0 < s.decel → InOrder must s.eb may →
     AreFlatTurnsSafe must may (turn_and s l o turns)
@@ -60,6 +65,7 @@ turn_order s l None must may turns h some order =
     let next = flat_machines s l some must may order in
     (record { order = next; stop = flat_stop s l some; ebi = shown s l some }, h (after_flat_line s l) _ _ some next)
 
+-- after a line, read or refused
 line_order : (s : FlatSupervision) (o : Option FlatLine) (must may : Bool) (turns : FlatSupervision → List FlatTurn) →
     AreAllSafe turns → 0 < s.decel → InOrder must s.eb may →
     AreFlatTurnsSafe must may (turns_of_line s o turns)
@@ -67,11 +73,13 @@ line_order s None must may turns h some order = tt
 line_order s (Some l) must may turns h some order =
     turn_order s l (time_fault s.last_time l.time) must may turns h some order
 
+-- from each state on the turns of all lines are safe
 order_from : (lines : List (List ℕ)) → AreAllSafe (λ t. flat_turns_from t lines)
 order_from [] t must may some order = tt
 order_from (bytes ∷ more) t must may some order =
     line_order t (flat_line bytes) must may (λ u. flat_turns_from u more) (order_from more) some order
 
+-- the rows of `flat` are safe: they are those of the turns from the opening
 pub flat_rows_safe : (decel end : ℕ) (bytes : List ℕ) → 0 < decel → AreFlatRowsSafe decel end bytes
 unfolding flat_output turns_of
 flat_rows_safe decel end bytes some = record {

@@ -43,14 +43,17 @@ part_of_prefix old new prefix rest text parts h =
 part_of_all : (old new : Option (List ℕ)) (text : List ℕ) → Appends old new text → AppendsPart old new text
 part_of_all old new text h = part_of_prefix old new text [] text (sym (append-nil text)) h
 
+-- where out kept what it took, it took nothing more
 none_appended : (old new : Option (List ℕ)) → Keeps old new → Appends old new []
 none_appended None new k = tt
 none_appended (Some xs) None k = absurd k
 none_appended (Some xs) (Some ys) k = k ∙ sym (append-nil xs)
 
+-- nothing is a part of each text
 part_of_none : (old new : Option (List ℕ)) (text : List ℕ) → Keeps old new → AppendsPart old new text
 part_of_none old new text k = part_of_prefix old new [] text text refl (none_appended old new k)
 
+-- for each outcome out took a part of the text
 part_of : (outcome : Outcome) (old new : Option (List ℕ)) (text : List ℕ) → TakesFor outcome old new text →
     AppendsPart old new text
 part_of Done old new text h = part_of_all old new text h
@@ -89,6 +92,7 @@ all_taken (Refused fault) end old new text is h = h
 all_taken (BadEvent number cause) end old new text is h = h
 all_taken Memory end old new text is h = absurd cc
 
+-- an outcome of an output with no fault is complete: the whole text and its end, or want of memory
 complete_end : (output : Output) (old new : Option (List ℕ)) (outcome : Outcome) →
     TakesFor outcome old new output.text → (outcome ≡ ReadFault → ⊥) → (outcome ≡ WriteFault → ⊥) →
     IsOutcomeOf output.end outcome →
@@ -99,6 +103,7 @@ complete_end output old new outcome taken read write (inr (inl is)) = absurd (re
 complete_end output old new outcome taken read write (inr (inr (inl is))) = absurd (write is)
 complete_end output old new outcome taken read write (inr (inr (inr is))) = inr is
 
+-- an answer with no fault is complete
 complete : (output : Output) (old new : Option (List ℕ)) (outcome : Outcome) → IsAnswer output old new outcome →
     (outcome ≡ ReadFault → ⊥) → (outcome ≡ WriteFault → ⊥) → IsComplete output old new outcome
 complete output old new outcome h read write = complete_end output old new outcome h.taken read write h.ended
@@ -109,6 +114,7 @@ OfAsked asked left P = IfSome asked (λ command.
     OfInput (shape_of command) left (λ bytes. (output : Output) → IsOutputOf command bytes output → P output))
 
 module _ (A B : Output → Type 0) (so : (output : Output) → A output → B output) where
+  -- of the bytes that the input tells, or of all where the command reads none
   of_bytes : (reads : Bool) (left : Option (List ℕ)) (Is : List ℕ → Output → Type 0) →
       MatchBool reads (Told left (λ bytes. (output : Output) → Is bytes output → A output))
       ((bytes : List ℕ) (output : Output) → Is bytes output → A output) →

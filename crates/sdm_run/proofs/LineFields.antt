@@ -17,12 +17,15 @@ use Rattle.sdm_text.proofs.NumberFields.{number_in_one}
 abbrev time_of : List ℕ → Result ℤ FieldFault
 time_of field = read_int field (pos 0) (pos 100_000_000)
 
+-- the number of the second field
 abbrev front_of : List ℕ → Result ℤ FieldFault
 front_of field = read_int field (negsuc 9_999_999) (pos 110_000_000)
 
+-- the number of the third field
 abbrev speed_of : List ℕ → Result ℤ FieldFault
 speed_of field = read_int field (pos 0) (pos 138_888)
 
+-- a field that is no number is refused as such
 not_number : (field : List ℕ) → number_of field ≡ None → speed_of field ≡ Err NotNumber
 unfolding read_int
 not_number field none = rw none refl
@@ -40,6 +43,7 @@ refused_after : (r : Result ℤ FieldFault) (rest : ℤ → Option FlatLine) →
 refused_after (Err fault) rest none = refl
 refused_after (Ok n) rest none = none n
 
+-- a line whose time is no number in its range
 pub bad_time : (line : List ℕ) → BeginsWithNoNumberIn line (pos 0) (pos 100_000_000) → flat_line line ≡ None
 unfolding flat_line
 bad_time line none = by_fields (comma_fields line) refl
@@ -52,6 +56,7 @@ bad_time line none = by_fields (comma_fields line) refl
     by_fields (a ∷ b ∷ d ∷ e ∷ more) was = refl
 
 module _ (line rest : List ℕ) (t : ℤ) (first : BeginsWithNumberIn line (pos 0) (pos 100_000_000) t rest) where
+  -- a line whose front end is no number in its range
   pub bad_front : BeginsWithNoNumberIn rest (negsuc 9_999_999) (pos 110_000_000) → flat_line line ≡ None
   unfolding flat_line
   bad_front none = ap flat_line_of first.fields ∙ by_fields (comma_fields rest) refl
@@ -65,9 +70,11 @@ module _ (line rest : List ℕ) (t : ℤ) (first : BeginsWithNumberIn line (pos 
 
   module _ (speed : List ℕ) (f : ℤ)
       (second : BeginsWithNumberIn rest (negsuc 9_999_999) (pos 110_000_000) f speed) where
+    -- the first two fields, and what stands after them
     abbrev fields_with : List (List ℕ) → List (List ℕ)
     fields_with third = first.field ∷ second.field ∷ third
 
+    -- a third field that is refused: so is the line
     refused : (fault : FieldFault) → speed_of speed ≡ Err fault → flat_line_of (fields_with (speed ∷ [])) ≡ None
     refused fault is =
         refused_after (time_of first.field) _ (λ n. refused_after (front_of second.field) _ (λ m. rw is refl))
@@ -91,13 +98,16 @@ module _ (line rest : List ℕ) (t : ℤ) (first : BeginsWithNumberIn line (pos 
         by_number None is = by_fields (comma_fields speed) refl is ∙ sym (none_read is)
         by_number (Some n) is = ap (λ (fs : List (List ℕ)). flat_line_of (fields_with fs)) (number_in_one speed n is)
 
+    -- the line is that of its three fields
     line_is : flat_line line ≡ flat_line_of (fields_with (speed ∷ []))
     unfolding flat_line
     line_is = ap flat_line_of (first.fields ∙ ap (λ (fs : List (List ℕ)). first.field ∷ fs) second.fields) ∙ third_field
 
+    -- a line whose speed is refused
     pub bad_speed : (fault : FieldFault) → speed_of speed ≡ Err fault → flat_line line ≡ None
     bad_speed fault is = line_is ∙ refused fault is
 
+    -- a line of three numbers in their ranges
     pub good_line : (n : ℕ) → speed_of speed ≡ Ok (pos n) →
         flat_line line ≡ Some (record { time = unsigned_abs t; front = place_of_mm f; speed = notches_of_mm_s n })
     good_line n is = line_is ∙ rw (first.read, second.read, is) refl

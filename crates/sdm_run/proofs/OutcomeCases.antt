@@ -14,28 +14,34 @@ use Rattle.sdm_run.specs.Shapes.{IsOutcomeIn, flat_shape, run_shape, trial_shape
 
 -- ---- when an outcome comes
 
+-- words, reading, data and an opening are answered before any row
 before_any_row : LeavesOutUntouched Usage × LeavesOutUntouched ReadFault × LeavesOutUntouched TooLong
     × LeavesOutUntouched (BadData NoSplit) × LeavesOutUntouched (Refused (BadAuthority SvlBeforeEoa))
 before_any_row = (tt, tt, tt, tt, tt)
 
+-- the end, a write fault, a record and want of memory aren't
 not_before_rows : (LeavesOutUntouched Done → ⊥) × (LeavesOutUntouched WriteFault → ⊥)
     × (LeavesOutUntouched (BadEvent 3 Line) → ⊥) × (LeavesOutUntouched Memory → ⊥)
 not_before_rows = ((λ h. h), (λ h. h), (λ h. h), (λ h. h))
 
+-- words and reading are answered before the bytes are
 before_the_bytes_are_answered : ComesOfReadingAlone Usage × ComesOfReadingAlone ReadFault × ComesOfReadingAlone TooLong
 before_the_bytes_are_answered = (tt, tt, tt)
 
+-- nothing else is
 not_of_reading_alone :
     (ComesOfReadingAlone Done → ⊥) × (ComesOfReadingAlone WriteFault → ⊥) × (ComesOfReadingAlone (BadData NoSplit) → ⊥)
     × (ComesOfReadingAlone (Refused (BadAuthority SvlBeforeEoa)) → ⊥) × (ComesOfReadingAlone (BadEvent 3 Line) → ⊥)
     × (ComesOfReadingAlone Memory → ⊥)
 not_of_reading_alone = ((λ h. h), (λ h. h), (λ h. h), (λ h. h), (λ h. h), (λ h. h))
 
+-- what answers the bytes needs them all
 after_the_whole_input :
     NeedsTheWholeInput Done × NeedsTheWholeInput WriteFault × NeedsTheWholeInput (BadData NoSplit)
     × NeedsTheWholeInput (Refused (BadAuthority SvlBeforeEoa)) × NeedsTheWholeInput (BadEvent 3 Line)
 after_the_whole_input = (tt, tt, tt, tt, tt)
 
+-- words, reading and want of memory don't
 not_after_the_whole_input :
     (NeedsTheWholeInput Usage → ⊥) × (NeedsTheWholeInput ReadFault → ⊥) × (NeedsTheWholeInput TooLong → ⊥)
     × (NeedsTheWholeInput Memory → ⊥)
@@ -48,6 +54,7 @@ outcomes_of_flat : IsOutcomeIn flat_shape Done × IsOutcomeIn flat_shape ReadFau
     × IsOutcomeIn flat_shape TooLong × IsOutcomeIn flat_shape (BadEvent 1 Line) × IsOutcomeIn flat_shape Memory
 outcomes_of_flat = (tt, refl, tt, refl, (omega arith, refl), tt)
 
+-- it tells no usage, no fault of data, of an opening or of another record, and no line before the first
 not_of_flat :
     (IsOutcomeIn flat_shape Usage → ⊥) × (IsOutcomeIn flat_shape (BadData NoSplit) → ⊥)
     × (IsOutcomeIn flat_shape (BadData Toml) → ⊥)
@@ -75,6 +82,7 @@ outcomes_of_run :
     × IsOutcomeIn run_shape (BadEvent 1 (Authority SvlBeforeEoa)) × IsOutcomeIn run_shape Memory
 outcomes_of_run = (tt, refl, tt, refl, refl, refl, (refl, λ e. cc), (refl, λ e. cc), (omega arith, refl), tt)
 
+-- so it tells no usage, no want of memory in data or an opening, no line, and no record before the first
 not_of_run :
     (IsOutcomeIn run_shape Usage → ⊥) × (IsOutcomeIn run_shape (BadData (Data data_faults.Memory)) → ⊥)
     × (IsOutcomeIn run_shape (Refused open_faults.Memory) → ⊥)
@@ -91,6 +99,7 @@ not_of_run = (
 outcomes_of_trial : IsOutcomeIn trial_shape Done × IsOutcomeIn trial_shape WriteFault × IsOutcomeIn trial_shape Memory
 outcomes_of_trial = (tt, tt, tt)
 
+-- so it has no outcome of reading or refusing
 not_of_trial :
     (IsOutcomeIn trial_shape Usage → ⊥) × (IsOutcomeIn trial_shape ReadFault → ⊥)
     × (IsOutcomeIn trial_shape TooLong → ⊥) × (IsOutcomeIn trial_shape (BadData NoSplit) → ⊥)

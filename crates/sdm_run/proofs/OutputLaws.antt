@@ -1,5 +1,5 @@
--- Each command has one output for all bytes: those of `flat`, `trial` and `upgrade` by their definitions, that of `run` since an
--- input has one run.
+-- Each command has one output for all bytes: those of `flat`, `trial` and `upgrade` by their definitions, that of `run`
+-- since an input has one run.
 use Rattle.std.proofs.Common.{ℕ, List, refl}
 use Rattle.sdm_rules.specs.Flat.{flat_output}
 use Rattle.sdm_rules.specs.Trial.{trial_output}

@@ -28,17 +28,21 @@ pub record IsLeftOf (old new : Option (List ℕ)) (whole left : Output) : Type 0
 pub all_left : (old : Option (List ℕ)) (whole : Output) → IsLeftOf old old whole whole
 all_left old whole = record { done = []; whole_lines = inl refl; taken = Appends-nil old; text = refl; end = refl }
 
+-- whole lines after whole lines are whole lines
 lines_both : (a b : List ℕ) → AreWholeLines a → AreWholeLines b → AreWholeLines (a ++ b)
 lines_both a b h (inl none) = rw (none, append-nil) h
 lines_both a b h (inr (prefix, is)) = inr (a ++ prefix, rw is (sym (append_assoc a prefix (10 ∷ []))))
 
 module _ (old mid new : Option (List ℕ)) (whole left : Output) (so_far : IsLeftOf old mid whole left) where
+  -- what is taken from here on is taken after what was written
   after_done : (text : List ℕ) → Appends mid new text → Appends old new (so_far.done ++ text)
   after_done text h = Appends-trans old mid new so_far.done text so_far.taken h
 
+  -- where all that is left is taken, the whole text is
   all_taken : Appends mid new left.text → Appends old new whole.text
   all_taken h = subst (Appends old new) (sym so_far.text) (after_done left.text h)
 
+  -- what an outcome takes of what is left, it takes of the whole
   takes : (outcome : Outcome) → (ComesOfReadingAlone outcome → ⊥) →
       TakesFor outcome mid new left.text → TakesFor outcome old new whole.text
   takes Done never h = all_taken h

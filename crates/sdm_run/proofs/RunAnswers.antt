@@ -56,6 +56,7 @@ answers_all bytes turns end old new outcome run answer output is =
 
 -- ---- the limit
 
+-- an input above the limit is answered as too long
 pub run_too_long : (bytes : List ℕ) (old : Option (List ℕ)) → most_bytes < length bytes → (output : Output) →
     IsRunOutput bytes output → IsAnswer output old old TooLong
 run_too_long bytes old long =
@@ -136,9 +137,11 @@ recorded bytes data_end start s old new outcome short cut is answer =
 
 -- there are turns only after an accepted opening of data that break no rule, and those are safe
 module _ (records : List Record) (turns : List Turn) (end : End) where
+  -- where there are none
   none_safe : turns ≡ [] → AreTurnsSafe false false turns
   none_safe none = rw none tt
 
+  -- after an opening
   opened_safe : (d : TrainAndTrack) (a : Authority) → HasBands d.train.bands →
       IsOpened run_reader d a records turns end → AreTurnsSafe false false turns
   opened_safe d a bands o =
@@ -146,23 +149,27 @@ module _ (records : List Record) (turns : List Turn) (end : End) where
       (turns_safe _ 1 (opening d a) false false records (record { bands = bands; usable = o.accepted.0 })
       (record { needed = λ h. h; allowed = λ h. h }))
 
+  -- after data, by what they were read as
   after_data_safe : (members : Members) (r : Result (TrainAndTrack × Authority) DataFault) → data_of members ≡ r →
       IsAfterData run_reader turns end records r → AreTurnsSafe false false turns
   after_data_safe members (Err fault) read h = none_safe h.0
   after_data_safe members (Ok x) read (inl o) = opened_safe x.0 x.1 (has_bands members x.0 x.1 read) o
   after_data_safe members (Ok x) read (inr f) = none_safe f.2
 
+  -- after a document, where there is one
   after_document_safe : (document : Option Members) → IsAfterDocument run_reader turns end records document →
       AreTurnsSafe false false turns
   after_document_safe None h = none_safe h.0
   after_document_safe (Some members) h = after_data_safe members (data_of members) refl h
 
+-- after the division of the input, where there is one
 after_division_safe : (bytes : List ℕ) (turns : List Turn) (end : End) (division : Option (ℕ × ℕ)) →
     IsAfterDivision run_reader turns end bytes division → AreTurnsSafe false false turns
 after_division_safe bytes turns end None h = rw h.0 tt
 after_division_safe bytes turns end (Some x) h =
     after_document_safe (records_of (drop x.1 bytes)) turns end (document_of (take x.0 bytes)) h
 
+-- of an input that is too long or not
 within_safe : (bytes : List ℕ) (turns : List Turn) (end : End) (long : Bool) →
     MatchBool long ((turns ≡ []) × (end ≡ ends.TooLong)) (IsAfterDivision run_reader turns end bytes (divide bytes)) →
     AreTurnsSafe false false turns
@@ -175,6 +182,7 @@ run_rows_safe bytes output told = within_safe bytes told.turns output.end (nat_l
 
 -- ---- no outcome of these comes before the bytes are answered
 
+-- no refusal of an input comes of reading alone
 pub refused_not_before : (bytes : List ℕ) (outcome : Outcome) → IsRefusedBy bytes outcome →
     ComesOfReadingAlone outcome → ⊥
 refused_not_before bytes Done h b = b
@@ -187,6 +195,7 @@ refused_not_before bytes (Refused fault) h b = b
 refused_not_before bytes (BadEvent number cause) h b = b
 refused_not_before bytes Memory h b = b
 
+-- nor does an outcome after which out isn't untouched
 pub flat_not_before : (outcome : Outcome) → (LeavesOutUntouched outcome → ⊥) → ComesOfReadingAlone outcome → ⊥
 flat_not_before Done h b = b
 flat_not_before Usage h b = h b

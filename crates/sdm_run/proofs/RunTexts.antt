@@ -1,19 +1,20 @@
 -- The output of records, record by record, and the outcomes that it may end with.
-use Rattle.std.proofs.Common.{◌≡◌, ℕ, suc, ◌≤◌, List, ◌∷◌, ◌++◌, Option, Some, None, inl, inr, refl, ap, ◌∙◌, sym}
-use Rattle.std.proofs.Common.{subst, arith}
-use Rattle.std.specs.Prelude.{Result, Ok, Err, OnOk, ◌⊎◌, Bool, true, false, not, IsTrue}
+use Rattle.std.proofs.Common.{◌≡◌, ℕ, suc, ◌≤◌, List, ◌∷◌, ◌++◌, Option, Some, None, refl, ap, ◌∙◌, sym}
+use Rattle.std.proofs.Common.{subst}
+use Rattle.std.specs.Prelude.{Result, Ok, Err, OnOk, OnErr, is_err, Bool, true, false, not, IsTrue}
 use Rattle.std.proofs.lemmas.Bool.{le-ltb}
-use Rattle.std.specs.Io.KnownBytes.{Appends}
 use Rattle.sdm_rules.specs.declared.faults.EventFault.{EventFault}
 use Rattle.sdm_rules.specs.declared.faults.EventCause.{EventCause}
 use Rattle.sdm_rules.specs.declared.faults.EventCause.TheVariants as causes
+use Rattle.sdm_rules.specs.declared.faults.TripFault.{TripFault}
+use Rattle.sdm_rules.specs.declared.faults.TripFault.TheVariants as trip_faults
 use Rattle.sdm_rules.specs.declared.faults.CycleFault.{CycleFault}
 use Rattle.sdm_rules.specs.declared.faults.CycleFault.TheVariants.{TimeBack}
 use Rattle.sdm_rules.specs.declared.records.Event.{Event}
 use Rattle.sdm_rules.specs.declared.records.Event.TheVariants as record_kinds
 use Rattle.sdm_rules.specs.Forms.{event_of}
 use Rattle.sdm_rules.specs.Records.{Turn, authority_fault, restrict_fault, revoke_fault, time_fault, time_cause}
-use Rattle.sdm_rules.specs.Records.{unless, step, turn_of, turn_to, event_at, most_records}
+use Rattle.sdm_rules.specs.Records.{trip_cause, trip_fault, unless, step, turn_of, turn_to, event_at, most_records}
 use Rattle.sdm_rules.specs.Supervision.{Supervision}
 use Rattle.sdm_report.specs.declared.outcome.InputFault.TheVariants.{NoSplit, Toml, Data}
 use Rattle.sdm_report.specs.declared.outcome.Outcome.{Outcome}
@@ -22,7 +23,7 @@ use Rattle.sdm_report.specs.declared.outcome.Outcome.TheVariants.{Refused, BadEv
 use Rattle.sdm_events.specs.Journey.{Record}
 use Rattle.sdm_run.specs.Answers.{ComesOfReadingAlone, LeavesOutUntouched}
 use Rattle.sdm_run.specs.Journeys.{output_of_records}
-use Rattle.sdm_run.specs.RunParts.{IsToldEvent, IsToldRecord, TakesRecord}
+use Rattle.sdm_run.specs.RunParts.{IsToldEvent, IsToldRecord}
 use Rattle.sdm_run.specs.Shapes.{IsOutcomeIn, is_of_line, records_shape}
 
 -- ---- one record
@@ -38,20 +39,27 @@ output_first : (tell : Turn → List ℕ) (n : ℕ) (s : Supervision) (x : Recor
     }
 output_first tell n s x more turn e = rw e refl
 
--- a record that was told and written is taken
-pub took : (tell : Turn → List ℕ) (old new : Option (List ℕ)) (n : ℕ) (s t : Supervision) (records more : List Record)
-    (x : Record) (text : List ℕ) →
-    records ≡ x ∷ more → IsToldRecord tell s t (event_at event_of n x) text → n ≤ most_records → Appends old new text →
-    TakesRecord tell old new n s t records more
-took tell old new n s t records more x text is told counted h = record {
-  text = text;
-  first = ap (output_of_records tell n s) is
-      ∙ rw (sym told.after, told.text_is) (output_first tell n s x more told.turn told.taken);
-  whole_lines = told.whole_lines;
-  taken = h;
-  counted = counted;
-  fewer = rw is (omega arith);
-}
+-- the output of records of which the first was told
+pub first_told : (tell : Turn → List ℕ) (n : ℕ) (s t : Supervision) (records more : List Record) (x : Record)
+    (text : List ℕ) → records ≡ x ∷ more → IsToldRecord tell s t (event_at event_of n x) text →
+    output_of_records tell n s records ≡
+    record {
+      text = text ++ (output_of_records tell (suc n) t more).text;
+      end =
+          (output_of_records tell (suc n) t more).end;
+    }
+first_told tell n s t records more x text is told = ap (output_of_records tell n s) is
+    ∙ rw (sym told.after, told.text_is) (output_first tell n s x more told.turn told.taken)
+
+-- what is said of an answer that is no failure
+pub where_ok : {A B : Type 0} (answer : Result A B) (P : Type 0) → is_err answer ≡ false → OnOk answer P → P
+where_ok (Ok x) P is h = h
+where_ok (Err fault) P is h = cc is
+
+-- what is said of a failure
+pub where_err : {A B : Type 0} (answer : Result A B) (P : Type 0) → is_err answer ≡ true → OnErr answer P → P
+where_err (Ok x) P is h = cc is
+where_err (Err fault) P is h = h
 
 -- an event that was taken is the turn of its record
 pub told_record : (tell : Turn → List ℕ) (s t : Supervision) (n : ℕ) (x : Record) (e : Event) (text : List ℕ) →
@@ -72,6 +80,7 @@ where_accepted (Err fault) P Q so h = tt
 
 -- ---- no record is refused as a line
 
+-- where no fault of a check is one of a line, what it refuses isn't refused as a line
 turn_no_line : {F : Type 0} (make : F → EventCause) (o : Option F) (s t : Supervision) (e : Event)
     (cause : EventCause) →
     ((f : F) → is_of_line (make f) ≡ false) → turn_to s e (unless make o t) ≡ Err cause → is_of_line cause ≡ false
@@ -79,9 +88,15 @@ turn_no_line make None s t e cause never is = cc
 turn_no_line make (Some f) s t e cause never is =
     let same : make f ≡ cause = cc in subst (λ (c : EventCause). is_of_line c ≡ false) same (never f)
 
+-- a fault of the time isn't one of a line
 time_no_line : (f : CycleFault) → is_of_line (time_cause f) ≡ false
 time_no_line (TimeBack last time) = refl
 
+trip_no_line : (f : TripFault) → is_of_line (trip_cause f) ≡ false
+trip_no_line (trip_faults.Authority fault) = refl
+trip_no_line trip_faults.BadTrip = refl
+
+-- so no record is refused as a line
 no_line : (s : Supervision) (e : Result Event EventFault) (cause : EventCause) → turn_of s e ≡ Err cause →
     is_of_line cause ≡ false
 unfolding step
@@ -91,6 +106,8 @@ no_line s (Ok (record_kinds.Read r)) cause e =
     turn_no_line time_cause (time_fault s.last_time r.time) s _ _ cause time_no_line e
 no_line s (Ok (record_kinds.Authority a)) cause e =
     turn_no_line causes.Authority (authority_fault s.train_and_track.track.length_cm a) s _ _ cause (λ f. refl) e
+no_line s (Ok (record_kinds.Calculated eoa svl trip)) cause e = turn_no_line trip_cause
+    (trip_fault s.train_and_track.track.length_cm eoa svl trip) s _ _ cause trip_no_line e
 no_line s (Ok (record_kinds.Restrict r)) cause e = turn_no_line causes.Restrict
     (restrict_fault s.train_and_track.track.length_cm s.restrictions r) s _ _ cause (λ f. refl) e
 no_line s (Ok (record_kinds.Revoke id)) cause e =
@@ -134,9 +151,3 @@ not_first = of_records (λ outcome. LeavesOutUntouched outcome → ⊥) (λ h. h
 pub records_not_before : (outcome : Outcome) → IsOutcomeIn records_shape outcome → ComesOfReadingAlone outcome → ⊥
 records_not_before = of_records (λ outcome. ComesOfReadingAlone outcome → ⊥) (λ h. h) (λ h. h)
     (λ number cause from_1 possible h. h) (λ h. h)
-
--- what was left alone so far, and by a turn that did not fail, is left alone
-pub left_alone : {S : Type 0} (start old new : S) (Before Failed : Type 0) → (Before → old ≡ start) → (Failed → ⊥) →
-    (Before × (new ≡ old)) ⊎ Failed → new ≡ start
-left_alone start old new Before Failed so_far never (inl (before, same)) = same ∙ so_far before
-left_alone start old new Before Failed so_far never (inr failed) = absurd (never failed)

@@ -36,6 +36,7 @@ same_answer bytes members answer d a document read given =
     let same : members ≡ given.members = cc in
     sym read ∙ ap data_of same ∙ given.read
 
+-- data that are read, with the text of their table, which reads back as this table, make an upgrade of the bytes
 pub upgraded_to : (bytes text : List ℕ) (members : Members) (d : TrainAndTrack) (a : Authority) →
     document_of bytes ≡ Some members → data_of members ≡ Ok (d, a) → text ≡ document_text (table_of d a) →
     document_of text ≡ Some (table_of d a) → IsUpgradedTo bytes text
@@ -67,6 +68,7 @@ refused_back bytes (Refused fault) h whole = absurd h
 refused_back bytes (BadEvent number cause) h whole = absurd h
 refused_back bytes Memory h whole = absurd whole
 
+-- what refuses the data part answers the bytes with nothing written
 refused_answer : (bytes : List ℕ) (old : Option (List ℕ)) (outcome : Outcome) → IsRefusedByData bytes outcome →
     IsAnswer (upgrade_output bytes) old old outcome
 refused_answer bytes old Done h = absurd h
@@ -82,6 +84,7 @@ refused_answer bytes old (Refused fault) h = absurd h
 refused_answer bytes old (BadEvent number cause) h = absurd h
 refused_answer bytes old Memory h = memory_first old (upgrade_output bytes)
 
+-- and is an outcome of `upgrade`
 refused_possible : (bytes : List ℕ) (outcome : Outcome) → IsRefusedByData bytes outcome →
     IsOutcomeIn upgrade_shape outcome
 refused_possible bytes Done h = absurd h
@@ -103,6 +106,7 @@ pub record IsRefusal (bytes : List ℕ) (old : Option (List ℕ)) (outcome : Out
   pub possible : IsOutcomeIn upgrade_shape outcome
   pub not_before : ComesOfReadingAlone outcome → ⊥
 
+-- a data part that is refused has all of this
 pub refusal : (bytes : List ℕ) (old : Option (List ℕ)) (outcome : Outcome) → IsRefusedByData bytes outcome →
     IsRefusal bytes old outcome
 refusal bytes old outcome h = record {

@@ -1,6 +1,5 @@
 -- What the parts of `run` say: of the data part, and of one record after the other (own).
-use Rattle.std.specs.Prelude.{◌≡◌, ◌≢◌, ◌≤◌, ◌<◌, ℕ, suc, List, ◌++◌, Option, Some, None, Result, Ok, Err, length, ⊤}
-use Rattle.std.specs.Io.KnownBytes.{Appends}
+use Rattle.std.specs.Prelude.{◌≡◌, ◌≢◌, ℕ, List, Some, None, Result, Ok, Err, ⊤}
 use Rattle.toml.specs.Data.{Members}
 use Rattle.sdm_rules.specs.declared.authorities.Authority.{Authority}
 use Rattle.sdm_rules.specs.declared.faults.DataFault.TheVariants as data_faults
@@ -9,7 +8,7 @@ use Rattle.sdm_rules.specs.declared.faults.OpenFault.TheVariants as open_faults
 use Rattle.sdm_rules.specs.declared.records.Event.{Event}
 use Rattle.sdm_rules.specs.Data.{TrainAndTrack}
 use Rattle.sdm_rules.specs.Opening.{IsAccepted, IsOpenFault}
-use Rattle.sdm_rules.specs.Records.{Turn, most_records, step, turn_of}
+use Rattle.sdm_rules.specs.Records.{Turn, step, turn_of}
 use Rattle.sdm_rules.specs.Supervision.{Supervision, opening}
 use Rattle.sdm_report.specs.declared.outcome.InputFault.TheVariants.{NoSplit, Toml, Data}
 use Rattle.sdm_report.specs.declared.outcome.Outcome.{Outcome}
@@ -17,9 +16,7 @@ use Rattle.sdm_report.specs.declared.outcome.Outcome.TheVariants.{Done, Usage, R
 use Rattle.sdm_report.specs.declared.outcome.Outcome.TheVariants.{Refused, BadEvent, Memory}
 use Rattle.sdm_data.specs.Document.{document_of}
 use Rattle.sdm_data.specs.Journey.{data_of}
-use Rattle.sdm_events.specs.Journey.{Record}
 use Rattle.sdm_run.specs.Answers.{AreWholeLines}
-use Rattle.sdm_run.specs.Journeys.{output_of_records}
 
 -- ---- the data part
 
@@ -75,19 +72,3 @@ pub record IsToldRecord (tell : Turn → List ℕ) (s t : Supervision) (e : Resu
   pub after : turn.after ≡ t
   pub text_is : text ≡ tell turn
   pub whole_lines : AreWholeLines text
-
--- The record of the number `n` was taken, and what is told of it was written: what it and the records after it define
--- is its text and what these define from the next state on.
-pub record TakesRecord (tell : Turn → List ℕ) (old new : Option (List ℕ)) (n : ℕ) (s t : Supervision)
-    (records more : List Record) : Type 0 where
-  pub text : List ℕ
-  pub first : output_of_records tell n s records ≡
-      record {
-        text = text ++ (output_of_records tell (suc n) t more).text;
-        end =
-            (output_of_records tell (suc n) t more).end;
-      }
-  pub whole_lines : AreWholeLines text
-  pub taken : Appends old new text
-  pub counted : n ≤ most_records
-  pub fewer : length more < length records

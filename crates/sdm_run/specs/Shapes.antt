@@ -2,7 +2,8 @@
 use Rattle.std.specs.Prelude.{◌≢◌, ◌≤◌, Bool, true, false, not, IsTrue, ⊤, List, ℕ, Option, MatchBool}
 use Rattle.sdm_io.specs.Told.{Told}
 use Rattle.sdm_rules.specs.declared.faults.EventCause.{EventCause}
-use Rattle.sdm_rules.specs.declared.faults.EventCause.TheVariants.{Form, Authority, Restrict, Revoke, TimeBack, Line}
+use Rattle.sdm_rules.specs.declared.faults.EventCause.TheVariants.{Form, Authority, BadTrip, Restrict, Revoke}
+use Rattle.sdm_rules.specs.declared.faults.EventCause.TheVariants.{TimeBack, Line}
 use Rattle.sdm_rules.specs.declared.faults.DataFault.TheVariants as data_faults
 use Rattle.sdm_rules.specs.declared.faults.OpenFault.TheVariants as open_faults
 use Rattle.sdm_report.specs.declared.outcome.InputFault.TheVariants.{NoSplit, Toml, Data}
@@ -25,6 +26,7 @@ pub record Shape : Type 0 where
 abbrev pub is_of_line : EventCause → Bool
 is_of_line (Form fault) = false
 is_of_line (Authority fault) = false
+is_of_line BadTrip = false
 is_of_line (Restrict fault) = false
 is_of_line (Revoke fault) = false
 is_of_line (TimeBack last time) = false

@@ -18,6 +18,16 @@ pub struct Ended {
 }
 
 impl Ended {
+    /// An end with this outcome.
+    pub fn new(outcome: Outcome, is_flush_due: bool) -> Ended
+        ensures { result ≡ record { outcome = outcome; is_flush_due = is_flush_due } }
+    {
+        Ended {
+            outcome,
+            is_flush_due,
+        }
+    }
+
     /// The outcome, once out gave on what it was handed. A flush that fails is a write fault in place of it.
     pub fn flushed<O: Sink>(self, out: &mut O) -> Outcome
         ensures answer { (output : Output) (before : Option (List ℕ))

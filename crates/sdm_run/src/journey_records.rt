@@ -2,17 +2,16 @@
 //! written, before the next one is read. `run` tells rows; another command that tells something else of the same turns
 //! is one more `Teller`.
 
-ghost use Rattle.std.specs.Prelude.{◌≡◌, ◌⊎◌, ◌≤◌, ℕ, List, [], false, Some, Ok, Err, IfErr, OnOk, ⊤};
-ghost use Rattle.std.specs.ControlFlow.{MatchControlFlow};
+ghost use Rattle.std.specs.Prelude.{◌≡◌, ◌⊎◌, ◌≤◌, ℕ, List, [], false, Some, Ok, Err, IfErr, OnOk};
 ghost use Rattle.csv.specs.Records.{fields_of};
 ghost use Rattle.sdm_io.specs.Causes.{Rose};
 ghost use Rattle.sdm_rules.specs.Forms.{event_of};
-ghost use Rattle.sdm_rules.specs.Records.{Turn, event_at, most_records, step, turn_of};
+ghost use Rattle.sdm_rules.specs.Records.{Turn, event_at, most_records, step, trip_cause, turn_of};
 ghost use Rattle.sdm_rules.specs.Text.{run_tells};
 ghost use Rattle.sdm_events.specs.Journey.{IsInForm, records_of};
 ghost use Rattle.sdm_run.specs.Answers.{IsAnswer};
 ghost use Rattle.sdm_run.specs.Journeys.{output_of_records};
-ghost use Rattle.sdm_run.specs.RunParts.{IsToldEvent, IsToldRecord, TakesRecord};
+ghost use Rattle.sdm_run.specs.RunParts.{IsToldEvent, IsToldRecord};
 ghost use Rattle.sdm_run.specs.Shapes.{IsOutcomeIn, records_shape};
 
 use crate::endings::Ended;
@@ -20,11 +19,10 @@ use sdm_events::{ByteRecord, Event, EventFault, Records, event_of};
 use sdm_io::{Sink, write_piece};
 use sdm_num::NoMemory;
 use sdm_report::{EventCause, Outcome, row_bytes};
-use sdm_rules::MOST_RECORDS;
+use sdm_rules::{MOST_RECORDS, TripFault};
 use sdm_supervisor::{CycleFault, Supervisor};
 use sdm_text::RowBuf;
 use std::alloc::Global;
-use std::ops::ControlFlow;
 
 /// What is told of each turn of a journey. (own)
 pub trait Teller {
@@ -60,79 +58,28 @@ pub fn run_records<T: Teller, O: Sink>(
     ensures write { result.outcome ≡ Outcome.WriteFault → Rose (O.faults out.old) (O.faults out.new) }
     ensures possible { IsOutcomeIn records_shape result.outcome }
 {
-    let mut walk = Walk {
-        records: Records::begin(alloc, bytes),
-        record: ByteRecord::new(alloc),
-        text: RowBuf::new(),
-        is_flush_due: false,
-    };
+    let mut records = Records::begin(alloc, bytes);
+    let mut record = ByteRecord::new(alloc);
+    let mut text = RowBuf::new();
+    let mut is_flush_due = false;
     let mut number = 1u32;
     'records: loop {
-        match walk.turn(teller, supervisor, number, out) {
-            ControlFlow::Continue(()) => number += 1,
-            ControlFlow::Break(outcome) => {
-                return Ended {
-                    outcome,
-                    is_flush_due: walk.is_flush_due,
-                };
-            }
-        }
-    }
-}
-
-/// A walk over the records of a journey.
-#[derive(Drop)]
-struct Walk<'a> {
-    /// Those that are left.
-    records: Records<'a>,
-    record: ByteRecord,
-    /// What is told of the turn of the record.
-    text: RowBuf,
-    /// Out took a text and did not fail.
-    is_flush_due: bool,
-}
-
-impl<'a> Walk<'a> {
-    /// Takes the next record, which has this number, and writes what is told of its turn. Where none is left, or the
-    /// run ends at it, the outcome.
-    fn turn<T: Teller, O: Sink>(
-        &mut self,
-        teller: &T,
-        supervisor: &mut Supervisor,
-        number: u32,
-        out: &mut O,
-    ) -> ControlFlow<Outcome>
-        requires { 1 ≤ number }
-        ensures turn { MatchControlFlow result
-            (λ _. TakesRecord (T.tell teller.now) (O.taken out.old) (O.taken out.new) number
-            supervisor.old supervisor.new self.old.records.left self.new.records.left)
-            (IsAnswer (output_of_records (T.tell teller.now) number supervisor.old self.old.records.left)
-            (O.taken out.old) (O.taken out.new)) }
-        ensures due { self.new.is_flush_due ≡ false
-            → ((self.old.is_flush_due ≡ false) × (out.new ≡ out.old))
-            ⊎ (result ≡ ControlFlow.Break Outcome.WriteFault) }
-        ensures later { O.faults out.old ≤ O.faults out.new }
-        ensures write { result ≡ ControlFlow.Break Outcome.WriteFault → Rose (O.faults out.old) (O.faults out.new) }
-        ensures possible { MatchControlFlow result (λ _. ⊤) (IsOutcomeIn records_shape) }
-    {
-        match self.records.next(&mut self.record) {
+        match records.next(&mut record) {
             Ok(true) => {}
-            Ok(false) => return ControlFlow::Break(Outcome::Done),
-            Err(NoMemory) => return ControlFlow::Break(Outcome::Memory),
+            Ok(false) => return Ended::new(Outcome::Done, is_flush_due),
+            Err(NoMemory) => return Ended::new(Outcome::Memory, is_flush_due),
         }
-        self.text.clear();
-        if let Err(cause) = take_record(teller, supervisor, number, &self.record, &mut self.text) {
-            return ControlFlow::Break(Outcome::BadEvent { number, cause });
+        text.clear();
+        if let Err(cause) = take_record(teller, supervisor, number, &record, &mut text) {
+            return Ended::new(Outcome::BadEvent { number, cause }, is_flush_due);
         }
-        if self.text.bytes().is_empty() {
-            return ControlFlow::Continue(());
+        if !text.bytes().is_empty() {
+            if write_piece(out, text.bytes()).is_err() {
+                return Ended::new(Outcome::WriteFault, false);
+            }
+            is_flush_due = true;
         }
-        let written = write_piece(out, self.text.bytes());
-        self.is_flush_due = written.is_ok();
-        match written {
-            Ok(()) => ControlFlow::Continue(()),
-            Err(_) => ControlFlow::Break(Outcome::WriteFault),
-        }
+        number += 1;
     }
 }
 
@@ -156,6 +103,16 @@ fn take_record<T: Teller>(
     }
     let event = event_of(record).map_err(EventCause::Form)?;
     teller.take(supervisor, event, text)
+}
+
+/// Why a record is refused that gives a stop with the place of a trip.
+fn cause_of_trip(fault: TripFault) -> EventCause
+    ensures { result ≡ trip_cause fault }
+{
+    match fault {
+        TripFault::Authority(fault) => EventCause::Authority(fault),
+        TripFault::BadTrip => EventCause::BadTrip,
+    }
 }
 
 /// What `run` tells: the row of each reading. (own)
@@ -183,6 +140,9 @@ impl Teller for Rows {
                 }
             },
             Event::Authority(a) => supervisor.authority(a).map_err(EventCause::Authority),
+            Event::Calculated { eoa, svl, trip } => supervisor
+                .calculated_stop(eoa, svl, trip)
+                .map_err(cause_of_trip),
             Event::Restrict(r) => supervisor.restrict(r).map_err(EventCause::Restrict),
             Event::Revoke { id } => supervisor.revoke(id).map_err(EventCause::Revoke),
         }

@@ -72,13 +72,6 @@ struct Streams<'a> {
     failing_lines: &'a str,
 }
 
-const STEADY: Streams<'static> = Streams {
-    step: "1000",
-    failing_reads: "-",
-    failing_writes: "-",
-    failing_lines: "-",
-};
-
 /// What the program answered, and what its sinks took.
 #[derive(Drop)]
 struct Answer {
@@ -87,26 +80,92 @@ struct Answer {
     err: Vec<u8>,
 }
 
-fn answer_of(alloc: Global, words: &str, input: &str, streams: &Streams) -> Result<Answer, Fail> {
-    let bytes = bytes_of(alloc, input)?;
-    answer_to(alloc, words, &bytes, streams)
+/// The same in numbers.
+#[derive(Drop)]
+struct Plan {
+    step: usize,
+    reads: Vec<u32>,
+    writes: Vec<u32>,
+    lines: Vec<u32>,
 }
 
-fn answer_to(alloc: Global, words: &str, bytes: &[u8], streams: &Streams) -> Result<Answer, Fail> {
-    let words = words_of(alloc, words)?;
-    let step = streams.step.parse::<usize>()?.max(1);
-    let reads = numbers_of(alloc, streams.failing_reads)?;
-    let writes = numbers_of(alloc, streams.failing_writes)?;
-    let lines = numbers_of(alloc, streams.failing_lines)?;
-    let mut input = MemSource::new(alloc, bytes, step, &reads)?;
-    let mut out = MemSink::new(alloc, 1_000_000, step, &writes)?;
-    let mut err = MemSink::new(alloc, 1000, step, &lines)?;
-    let outcome = sdm_main(alloc, &words, &mut input, &mut out, &mut err);
+fn plan_of(alloc: Global, streams: &Streams) -> Result<Plan, Fail> {
+    Ok(Plan {
+        step: streams.step.parse::<usize>()?,
+        reads: numbers_of(alloc, streams.failing_reads)?,
+        writes: numbers_of(alloc, streams.failing_writes)?,
+        lines: numbers_of(alloc, streams.failing_lines)?,
+    })
+}
+
+/// What the program answers over a source and two sinks.
+fn answered(
+    alloc: Global,
+    words: &[String],
+    input: &mut MemSource,
+    out: &mut MemSink,
+    err: &mut MemSink,
+) -> Result<Answer, Fail> {
+    let outcome = sdm_main(alloc, words, input, out, err);
     Ok(Answer {
         code: outcome.code(),
         out: out.bytes().to_vec(alloc)?,
         err: err.bytes().to_vec(alloc)?,
     })
+}
+
+fn answer_with(alloc: Global, words: &[String], bytes: &[u8], plan: &Plan) -> Result<Answer, Fail> {
+    let step = plan.step.max(1);
+    let mut input = MemSource::new(alloc, bytes, step, &plan.reads)?;
+    let mut out = MemSink::new(alloc, 1_000_000, step, &plan.writes)?;
+    let mut err = MemSink::new(alloc, 1000, step, &plan.lines)?;
+    answered(alloc, words, &mut input, &mut out, &mut err)
+}
+
+/// The answer to words and an input over such streams.
+fn answer_over(
+    alloc: Global,
+    words: &str,
+    bytes: &[u8],
+    streams: &Streams,
+) -> Result<Answer, Fail> {
+    let words = words_of(alloc, words)?;
+    let plan = plan_of(alloc, streams)?;
+    answer_with(alloc, &words, bytes, &plan)
+}
+
+/// The answer over streams that never fail.
+fn answer_to(alloc: Global, words: &str, bytes: &[u8]) -> Result<Answer, Fail> {
+    let streams = Streams {
+        step: "1000",
+        failing_reads: "-",
+        failing_writes: "-",
+        failing_lines: "-",
+    };
+    answer_over(alloc, words, bytes, &streams)
+}
+
+/// So where the input is a field of a table.
+fn answer_of(alloc: Global, words: &str, input: &str) -> Result<Answer, Fail> {
+    answer_to(alloc, words, &bytes_of(alloc, input)?)
+}
+
+/// An answer is what the fields of a line want: what out took, the code, and what the fault stream took.
+fn expect(
+    rt: &impl Abort,
+    alloc: Global,
+    line: &str,
+    answer: &Answer,
+    rows: &str,
+    code: &str,
+    told: &str,
+) -> Result<(), Fail> {
+    assert_eq!(rt; answer.code, code.parse::<u8>()?, "{line}");
+    let rows = bytes_of(alloc, rows)?;
+    assert!(rt; answer.out == rows, "{line}");
+    let told = bytes_of(alloc, told)?;
+    assert!(rt; answer.err == told, "{line}");
+    Ok(())
 }
 
 /// A line of the base data, as some changes have it: each is a line, `>` and what stands in its place.
@@ -131,12 +190,12 @@ fn part_of(alloc: Global, changes: &str) -> Result<Vec<u8>, Fail> {
     Ok(part)
 }
 
-/// The answer to a journey over the base data with changes.
-fn run_of(alloc: Global, changes: &str, records: &str, streams: &Streams) -> Result<Answer, Fail> {
+/// The input of a journey over the base data with changes.
+fn journey_of(alloc: Global, changes: &str, records: &str) -> Result<Vec<u8>, Fail> {
     let mut input = part_of(alloc, changes)?;
     input.extend_from_slice(b"%%\n")?;
     input.extend_from_slice(&bytes_of(alloc, records)?)?;
-    answer_to(alloc, "run", &input, streams)
+    Ok(input)
 }
 
 /// words | code
@@ -184,6 +243,14 @@ const WORDS: &str = "\
     flat a 0 | 1
     flat 100 b | 1";
 
+/// What the fault stream takes where words have a code of the table.
+fn told_with(code: &str) -> &'static str {
+    match code {
+        "1" => "sdm: bad words/",
+        _ => "-",
+    }
+}
+
 #[test]
 fn words_without_a_shape_are_usage(rt: HostRuntime) -> Result<(), Fail> {
     let alloc = rt.alloc();
@@ -192,15 +259,8 @@ fn words_without_a_shape_are_usage(rt: HostRuntime) -> Result<(), Fail> {
         let [words, code] = fields.as_slice() else {
             return Err("no row".into());
         };
-        let answer = answer_of(alloc, words, "-", &STEADY)?;
-        assert_eq!(rt; answer.code, code.parse::<u8>()?, "{line}");
-        assert!(rt; answer.out.is_empty(), "{line}");
-        let told = if answer.code == 1 {
-            "sdm: bad words/"
-        } else {
-            "-"
-        };
-        assert!(rt; answer.err == bytes_of(alloc, told)?, "{line}");
+        let answer = answer_of(alloc, words, "-")?;
+        expect(&rt, alloc, line, &answer, "-", code, told_with(code))?;
     }
     Ok(())
 }
@@ -211,10 +271,9 @@ fn go_through(rt: &impl Abort, alloc: Global, table: &str) -> Result<(), Fail> {
         let [changes, records, rows, code, told] = fields.as_slice() else {
             return Err("no row".into());
         };
-        let answer = run_of(alloc, changes, records, &STEADY)?;
-        assert_eq!(rt; answer.code, code.parse::<u8>()?, "{line}");
-        assert!(rt; answer.out == bytes_of(alloc, rows)?, "{line}");
-        assert!(rt; answer.err == bytes_of(alloc, told)?, "{line}");
+        let input = journey_of(alloc, changes, records)?;
+        let answer = answer_to(alloc, "run", &input)?;
+        expect(rt, alloc, line, &answer, rows, code, told)?;
     }
     Ok(())
 }
@@ -237,12 +296,17 @@ fn a_journey_without_its_parts_is_refused(rt: HostRuntime) -> Result<(), Fail> {
         let [input, code, told] = fields.as_slice() else {
             return Err("no row".into());
         };
-        let answer = answer_of(alloc, "run", input, &STEADY)?;
-        assert_eq!(rt; answer.code, code.parse::<u8>()?, "{line}");
-        assert!(rt; answer.out.is_empty(), "{line}");
-        assert!(rt; answer.err == bytes_of(alloc, told)?, "{line}");
+        let answer = answer_of(alloc, "run", input)?;
+        expect(&rt, alloc, line, &answer, "-", code, told)?;
     }
     Ok(())
+}
+
+/// The base data with these bytes after them.
+fn base_and(alloc: Global, after: &str) -> Result<Vec<u8>, Fail> {
+    let mut input = BASE_PART.as_bytes().to_vec(alloc)?;
+    input.extend_from_slice(&bytes_of(alloc, after)?)?;
+    Ok(input)
 }
 
 #[test]
@@ -253,12 +317,8 @@ fn a_journey_may_be_cut_off_anywhere(rt: HostRuntime) -> Result<(), Fail> {
         let [after, rows, code, told] = fields.as_slice() else {
             return Err("no row".into());
         };
-        let mut input = BASE_PART.as_bytes().to_vec(alloc)?;
-        input.extend_from_slice(&bytes_of(alloc, after)?)?;
-        let answer = answer_to(alloc, "run", &input, &STEADY)?;
-        assert_eq!(rt; answer.code, code.parse::<u8>()?, "{line}");
-        assert!(rt; answer.out == bytes_of(alloc, rows)?, "{line}");
-        assert!(rt; answer.err == bytes_of(alloc, told)?, "{line}");
+        let answer = answer_to(alloc, "run", &base_and(alloc, after)?)?;
+        expect(&rt, alloc, line, &answer, rows, code, told)?;
     }
     Ok(())
 }
@@ -285,10 +345,8 @@ fn a_fault_of_the_fault_stream_changes_no_outcome(rt: HostRuntime) -> Result<(),
             failing_writes: "-",
             failing_lines: lines,
         };
-        let answer = answer_of(alloc, words, "-", &streams)?;
-        assert_eq!(rt; answer.code, code.parse::<u8>()?, "{line}");
-        assert!(rt; answer.out.is_empty(), "{line}");
-        assert!(rt; answer.err == bytes_of(alloc, told)?, "{line}");
+        let answer = answer_over(alloc, words, b"", &streams)?;
+        expect(&rt, alloc, line, &answer, "-", code, told)?;
     }
     Ok(())
 }
@@ -307,10 +365,9 @@ fn a_fault_ends_a_journey_where_it_comes(rt: HostRuntime) -> Result<(), Fail> {
             failing_writes: writes,
             failing_lines: "-",
         };
-        let answer = run_of(alloc, "-", records, &streams)?;
-        assert_eq!(rt; answer.code, code.parse::<u8>()?, "{line}");
-        assert!(rt; answer.out == bytes_of(alloc, rows)?, "{line}");
-        assert!(rt; answer.err == bytes_of(alloc, told)?, "{line}");
+        let input = journey_of(alloc, "-", records)?;
+        let answer = answer_over(alloc, "run", &input, &streams)?;
+        expect(&rt, alloc, line, &answer, rows, code, told)?;
     }
     Ok(())
 }

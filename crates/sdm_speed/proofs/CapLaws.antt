@@ -24,6 +24,7 @@ abbrev IsMet : Option ℤ → ℤ → List Step → Type 0
 IsMet cell t ss = (b : ℤ) → cell ≡ Some b → (b ≤ℤ t) ⊎ IsStart b ss
 
 module _ (t c : ℤ) (ss : List Step) (le : t ≤ℤ c) (after : AreAfter c ss) where
+  -- the zone has begun at the one cell where it has at the other
   first_same : (first : Option ℤ) → IsMet first t ss →
       option_map_or (λ f. int_le f t) first true ≡ option_map_or (λ f. int_le f c) first true
   first_same None met = refl
@@ -33,6 +34,7 @@ module _ (t c : ℤ) (ss : List Step) (le : t ≤ℤ c) (after : AreAfter c ss) 
         start_after c f ss after start in rw (not_le_is f t (omega (arith, ints)), not_le_is f c past) refl)
   ]
 
+  -- and it has ended at both or neither
   past_same : (past : Option ℤ) → IsMet past t ss →
       option_map_or (λ p. int_lt t p) past true ≡ option_map_or (λ p. int_lt c p) past true
   past_same None met = refl
@@ -42,9 +44,11 @@ module _ (t c : ℤ) (ss : List Step) (le : t ≤ℤ c) (after : AreAfter c ss) 
         (let past = start_after c p ss after start in rw (lt_is t p (omega (arith, ints)), lt_is c p past) refl)
   ]
 
+  -- so it caps a speed alike in both
   capped_same : (z : Zone) (v : ℕ) → IsMet z.first t ss → IsMet z.past t ss → capped t z v ≡ capped c z v
   capped_same z v first past = rw (first_same z.first first, past_same z.past past) refl
 
+-- what is met at a cell is met at the next start
 met_on : (cell : Option ℤ) (t : ℤ) (s : Step) (ss : List Step) → t <ℤ s.start → IsMet cell t (s ∷ ss) →
     IsMet cell s.start ss
 met_on cell t s ss lt met b is = elim (met b is) [
@@ -73,6 +77,7 @@ capped_from z t v (s ∷ ss) c after first past le =
 
 -- before all steps
 module _ (limit v : ℕ) (ss : List Step) (c : ℤ) (after : AreAfter c ss) where
+  -- there a zone whose ends are starts caps the speed as it does in the cell
   before_is : (first past : Option ℤ) → ((b : ℤ) → first ≡ Some b → IsStart b ss) →
       ((b : ℤ) → past ≡ Some b → IsStart b ss) → capped_before (record { first = first; past = past; limit = limit }) v
       ≡ capped c (record { first = first; past = past; limit = limit }) v
@@ -114,6 +119,7 @@ lowered_is z s on = rw on refl
 
 -- what is done to each step, and leaves those as they are that it doesn't mean
 module _ (change : Step → Step) where
+  -- where no step is meant all stay
   unchanged : (ss : List Step) → ((k : ℕ) (d : Step) → k < length ss → change (get_or ss k d) ≡ get_or ss k d) →
       map change ss ≡ ss
   unchanged [] off = refl
@@ -147,6 +153,7 @@ module _ (change : Step → Step) where
   one_more (s ∷ ss) zero d known = refl
   one_more (s ∷ ss) (suc i) d known = ap (λ (rest : List Step). change s ∷ rest) (one_more ss i d (omega arith))
 
+  -- the next step is as it was
   pub not_yet : (ss : List Step) (i : ℕ) (d : Step) → i < length ss →
       get_or (map change (take i ss) ++ drop i ss) i d ≡ get_or ss i d
   not_yet [] i d known = absurd (omega arith)
@@ -155,11 +162,13 @@ module _ (change : Step → Step) where
 
 -- ---- starts
 
+-- the starts stay
 pub cap_starts : (z : Zone) (c : ℤ) (ss : List Step) → IsStart c ss → IsStart c (map (capped_step z) ss)
 cap_starts z c [] start = start
 cap_starts z c (s ∷ ss) (inl e) = inl e
 cap_starts z c (s ∷ ss) (inr later) = inr (cap_starts z c ss later)
 
+-- and no other is there
 pub cap_only : (z : Zone) (c : ℤ) (ss : List Step) → IsStart c (map (capped_step z) ss) → IsStart c ss
 cap_only z c [] start = start
 cap_only z c (s ∷ ss) (inl e) = inl e

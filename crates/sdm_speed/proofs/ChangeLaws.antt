@@ -60,6 +60,7 @@ lifted p k r c here =
 
 -- ---- the starts of the zones
 
+-- where the second of two tests leads to another, either leads to the first or that one
 either : (a b c : Bool) → (b ≡ true → c ≡ true) → (a || b) ≡ true → (a || c) ≡ true
 either true b c rest on = refl
 either false b c rest on = rest on
@@ -73,6 +74,7 @@ module _ (length_cm c : ℤ) where
   abbrev has : List (ℕ × Restriction) → Bool
   has es = has_start (map (zone_of length_cm) (map (λ e. e.1) es)) c
 
+  -- where an entry is put before or behind another, a start among the others stays
   put_at : (o : Ordering) (k : ℕ) (r : Restriction) (e : ℕ × Restriction) (es : List (ℕ × Restriction)) →
       cond (is_eq o) (Some e.1) (finite.find nat_cmp k es) ≡ None →
       (finite.find nat_cmp k es ≡ None → has es ≡ true → has (put nat_cmp k r es) ≡ true) →
@@ -82,11 +84,13 @@ module _ (length_cm c : ℤ) where
   put_at Greater k r e es missing rest on =
       either (starts_at c (zone_of length_cm e.1)) (has es) (has (put nat_cmp k r es)) (rest missing) on
 
+  -- and so where it is put among them
   put_keeps : (k : ℕ) (r : Restriction) (es : List (ℕ × Restriction)) → finite.find nat_cmp k es ≡ None →
       has es ≡ true → has (put nat_cmp k r es) ≡ true
   put_keeps k r [] missing on = absurd cc
   put_keeps k r (e ∷ es) missing on = put_at (nat_cmp k e.0) k r e es missing (put_keeps k r es) on
 
+-- and behind the same zones
 start_among : (c : ℤ) (xs ys zs : List Zone) → (has_start ys c ≡ true → has_start zs c ≡ true) →
     has_start (xs ++ ys) c ≡ true → has_start (xs ++ zs) c ≡ true
 start_among c [] ys zs more on = more on
@@ -103,6 +107,7 @@ imposed_starts p k r c new on =
     rw (finite.entries-insert nat_cmp_total p.restrictions k r)
     (put_keeps p.length_cm c k r (finite.entries p.restrictions) missing h)) on
 
+-- a start of the zones that are left is one of them all
 pub lifted_starts : (p : ProfileData) (k : ℕ) (c : ℤ) → finite.contains_key p.restrictions k ≡ true → has_start
     (zones_of (record p { restrictions = finite.remove p.restrictions k })) c ≡ true → has_start (zones_of p) c ≡ true
 lifted_starts p k c held on = by_value (finite.get p.restrictions k) refl held
@@ -121,9 +126,11 @@ lifted_starts p k c held on = by_value (finite.get p.restrictions k) refl held
 
 -- ---- the cells of its zone
 
+-- before a zone's first cell it covers none
 not_begun : (first c : ℤ) (b : Bool) → c <ℤ first → (int_le first c && b) ≡ false
 not_begun first c b before = rw (not_le_is first c before) refl
 
+-- and none from its end on
 ended : (past c : ℤ) (b : Bool) → past ≤ℤ c → (b && int_lt c past) ≡ false
 ended past c b after = rw (not_lt_is c past after) (off b)
   where
@@ -133,6 +140,7 @@ ended past c b after = rw (not_lt_is c past after) (off b)
 
 module _ (length_cm : ℤ) (r : Restriction) (p q : ℤ → ℕ)
     (caps : (c : ℤ) → q c ≡ capped c (zone_of length_cm r) (p c)) where
+  -- where the speeds of `q` are those of `p`, capped by the zone, they are the same outside its cells
   pub same_outside : AreSameOutside p q (cells_of length_cm r)
   same_outside = record {
     before = λ c before. caps c ∙ not_capped c (zone_of length_cm r) (p c) (not_begun (pos r.start) c _ before);
@@ -140,6 +148,7 @@ module _ (length_cm : ℤ) (r : Restriction) (p q : ℤ → ℕ)
         ∙ not_capped c (zone_of length_cm r) (p c) (ended (end_for length_cm r.delayed (pos r.end)) c _ after);
   }
 
+-- outside some cells two profiles are the same either way
 pub same_both_ways : (p q : ℤ → ℕ) (length_cm : ℤ) (r : Restriction) → AreSameOutside q p (cells_of length_cm r) →
     AreSameOutside p q (cells_of length_cm r)
 same_both_ways p q length_cm r same = record {
@@ -147,11 +156,13 @@ same_both_ways p q length_cm r same = record {
   from = λ c after. sym (same.from c after);
 }
 
+-- one restriction more leaves the MRSP as it was outside its cells
 pub imposed_outside : (p : ProfileData) (k : ℕ) (r : Restriction) → finite.contains_key p.restrictions k ≡ false →
     AreSameOutside (mrsp_of p) (mrsp_of (record p { restrictions = finite.insert p.restrictions k r }))
     (cells_of p.length_cm r)
 imposed_outside p k r new = same_outside p.length_cm r _ _ (λ c. imposed p k r c new)
 
+-- and so does one less
 pub lifted_outside : (p : ProfileData) (k : ℕ) (r : Restriction) → finite.get p.restrictions k ≡ Some r →
     AreSameOutside (mrsp_of p) (mrsp_of (record p { restrictions = finite.remove p.restrictions k }))
     (cells_of p.length_cm r)

@@ -15,10 +15,12 @@ first_fall v [] = None
 first_fall v (s ∷ ss) = let next =
     first_fall s.speed ss in if nat_lt s.speed v then Some (record { cell = s.start; speed = s.speed }) else next
 
+-- a first step that is lower is the first fall
 pub falls_first : (v : ℕ) (s : Step) (ss : List Step) → s.speed < v →
     first_fall v (s ∷ ss) ≡ Some (record { cell = s.start; speed = s.speed })
 falls_first v s ss lt = rw (lt-ltb s.speed v lt) refl
 
+-- else the fall is among the later ones
 pub falls_later : (v : ℕ) (s : Step) (ss : List Step) → v ≤ s.speed → first_fall v (s ∷ ss) ≡ first_fall s.speed ss
 falls_later v s ss le = rw (le-ltb s.speed v le) refl
 
@@ -46,21 +48,27 @@ fall_past f g after at (Some fall) le quiet same h =
     }
 
 module _ (v : ℕ) (s : Step) (ss : List Step) (after : ℤ) (past : after <ℤ s.start) (later : AreAfter s.start ss) where
+  -- the speeds before the first step and from it on
   abbrev profile : ℤ → ℕ
   profile = speeds_of v (s ∷ ss)
 
+  -- up to the first step the speed is that before it
   up_to : (c : ℤ) → c <ℤ s.start → profile c ≡ v
   up_to c lt = none_begun c v (s ∷ ss) c (lt, later) (omega (arith, ints))
 
+  -- from there on it is that of the step and the later ones
   from : (c : ℤ) → s.start ≤ℤ c → profile c ≡ speeds_of s.speed ss c
   from c le = first_begun v s ss c le
 
+  -- where the step starts it is the step's
   at_start : profile s.start ≡ s.speed
   at_start = from s.start (omega (arith, ints)) ∙ none_begun s.start s.speed ss s.start later (omega (arith, ints))
 
+  -- no fall before the step
   quiet_before : (c : ℤ) → c <ℤ s.start → is_fall profile c ≡ false
   quiet_before c lt = rw (up_to c lt, up_to (c -ℤ pos 1) (omega (arith, ints))) (le-ltb v v (omega arith))
 
+  -- a lower step is the next fall
   falls_here : s.speed < v → IsNextFall profile after (record { cell = s.start; speed = s.speed })
   falls_here lt = record {
     beyond = past;
@@ -69,6 +77,7 @@ module _ (v : ℕ) (s : Step) (ss : List Step) (after : ℤ) (past : after <ℤ 
     first = λ c a l. quiet_before c l;
   }
 
+  -- where the step is no lower, no fall up to it
   quiet_up_to : v ≤ s.speed → IsQuiet profile after s.start
   quiet_up_to le c a l =
       by_lt_z c s.start
@@ -76,6 +85,7 @@ module _ (v : ℕ) (s : Step) (ss : List Step) (after : ℤ) (past : after <ℤ 
       (λ (ge : s.start ≤ℤ c). let e : c ≡ s.start = omega (arith, ints)
       in rw (e, at_start, up_to (s.start -ℤ pos 1) (omega (arith, ints))) (le-ltb s.speed v le))
 
+  -- so the next fall is at the step or among the later ones
   by_speed : (b : Bool) → nat_lt s.speed v ≡ b → IsFallAfter (speeds_of s.speed ss) s.start (first_fall s.speed ss) →
       IsFallAfter profile after
       (if b then Some (record { cell = s.start; speed = s.speed }) else first_fall s.speed ss)

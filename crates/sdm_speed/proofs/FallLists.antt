@@ -57,6 +57,7 @@ module _ {A : Type 0} (fall : A → Fall) (p : ℤ → ℕ) where
   past_all after (x ∷ xs) (suc j) d h known = let first = h.0.beyond in let rest =
       past_all (cell x) xs j d h.1 (omega arith) in omega (arith, ints)
 
+  -- the falls come in the order of their cells
   rises : (after : ℤ) (xs : List A) (i j : ℕ) (d : A) → AreAtFalls fall p after xs → i ≤ j → j < length xs →
       cell (get_or xs i d) ≤ℤ cell (get_or xs j d)
   rises after [] i j d h le known = absurd (omega arith)

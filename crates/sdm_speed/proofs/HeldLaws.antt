@@ -29,6 +29,7 @@ tie_is a b = grind (arith, nat_tests)
 tie_both_ways : (a b : ℕ) → eq_by_cmp nat_cmp a b ≡ eq_by_cmp nat_cmp b a
 tie_both_ways a b = grind (arith, nat_tests)
 
+-- keys that tie are the same
 pub tied : (a b : ℕ) → eq_by_cmp nat_cmp a b ≡ true → a ≡ b
 tied a b t = grind (arith, nat_tests)
 
@@ -49,6 +50,7 @@ none = record { id = 0; start = 0; end = 0; speed = 0; delayed = false }
 
 module _ (q : ℕ) (r : Restriction) (rs : List Restriction)
     (missing : finite.find nat_cmp q (map keyed (r ∷ rs)) ≡ None) where
+  -- an identity that isn't found is not the first one's, nor found in the rest
   missed : (b : Bool) → cond b (Some r) (finite.find nat_cmp q (map keyed rs)) ≡ None →
       (b ≡ false) × (finite.find nat_cmp q (map keyed rs) ≡ None)
   missed true e = absurd cc
@@ -60,6 +62,7 @@ module _ (q : ℕ) (r : Restriction) (rs : List Restriction)
   pub missed_rest : finite.find nat_cmp q (map keyed rs) ≡ None
   missed_rest = (missed (eq_by_cmp nat_cmp q r.id) missing).1
 
+-- the map finds what the list does
 pub get_is : (rs : List Restriction) (q : ℕ) → finite.get (by_identity rs) q ≡ finite.find nat_cmp q (map keyed rs)
 get_is rs q = finite.get-from_entries nat_cmp_total (map keyed rs) q
 
@@ -78,6 +81,7 @@ found_from id (x ∷ xs) i =
     ≡ is_some (cond b (Some i) (position_from (has_id id) (i + 1) xs)))
     [ true ↦ refl | false ↦ found_from id xs (i + 1) ])
 
+-- so it is of the map itself
 pub contains_is : (rs : List Restriction) (id : ℕ) →
     finite.contains_key (by_identity rs) id ≡ is_some (position (has_id id) rs)
 contains_is rs id = rw (get_is rs id) (found_from id rs 0 ∙ ap is_some (sym (position_from-zero (has_id id) rs)))
@@ -86,6 +90,7 @@ pub no_value : (o : Option Restriction) → is_some o ≡ false → o ≡ None
 no_value None e = refl
 no_value (Some r) e = absurd cc
 
+-- an identity that isn't in the map isn't found in the list
 pub missing_of : (rs : List Restriction) (id : ℕ) → finite.contains_key (by_identity rs) id ≡ false →
     finite.find nat_cmp id (map keyed rs) ≡ None
 missing_of rs id new = sym (get_is rs id) ∙ no_value (finite.get (by_identity rs) id) new
@@ -97,6 +102,7 @@ missing_more : (q : ℕ) (rs : List Restriction) (r : Restriction) → finite.fi
 missing_more q rs r rest apart missing =
     rw (map-append keyed rs (r ∷ []), find-append nat_cmp nat_cmp_total (map keyed rs) r.id r q rest, apart) missing
 
+-- with a new identity they stay distinct
 pub distinct_more : (rs : List Restriction) (r : Restriction) → AreDistinct rs →
     finite.find nat_cmp r.id (map keyed rs) ≡ None → AreDistinct (rs ++ r ∷ [])
 distinct_more [] r h missing = (refl, tt)
@@ -105,6 +111,7 @@ distinct_more (x ∷ xs) r h missing =
     let rest = missed_rest r.id x xs missing in
     (missing_more x.id xs r rest apart h.0, distinct_more xs r h.1 rest)
 
+-- one more at the end of the list is put into the map
 pub inserted : (rs : List Restriction) (r : Restriction) → finite.find nat_cmp r.id (map keyed rs) ≡ None →
     by_identity (rs ++ r ∷ []) ≡ finite.insert (by_identity rs) r.id r
 inserted rs r missing = rw (map-append keyed rs (r ∷ []))
@@ -124,6 +131,7 @@ found_at (x ∷ xs) id (suc i) d known here before =
     first true apart rest = absurd (apart refl)
     first false apart rest = rest
 
+-- what stands at the index of an identity is what the map has
 pub get_at : (rs : List Restriction) (id i : ℕ) (d : Restriction) → position (has_id id) rs ≡ Some i →
     (i < length rs) × (finite.get (by_identity rs) id ≡ Some (get_or rs i d))
 get_at rs id i d at_index =
@@ -154,6 +162,7 @@ found_less (x ∷ xs) id (suc i) d q h known here before =
     kept true false apart = refl
     kept false b apart = refl
 
+-- one less in the list is taken out of the map
 pub removed : (rs : List Restriction) (id i : ℕ) → AreDistinct rs → position (has_id id) rs ≡ Some i →
     by_identity (remove rs i) ≡ finite.remove (by_identity rs) id
 removed rs id i h at_index =
@@ -163,6 +172,7 @@ removed rs id i h at_index =
     ∙ sym (finite.get-remove nat_cmp_total (by_identity rs) id q
     ∙ ap (λ o. cond (eq_by_cmp nat_cmp q id) None o) (get_is rs q)))
 
+-- an identity that isn't found isn't found in what is left
 none_less : (rs : List Restriction) (q i : ℕ) → finite.find nat_cmp q (map keyed rs) ≡ None →
     finite.find nat_cmp q (map keyed (remove rs i)) ≡ None
 none_less [] q zero missing = missing
@@ -170,6 +180,7 @@ none_less [] q (suc i) missing = missing
 none_less (x ∷ xs) q zero missing = missed_rest q x xs missing
 none_less (x ∷ xs) q (suc i) missing = rw (missed_first q x xs missing) (none_less xs q i (missed_rest q x xs missing))
 
+-- what is left is distinct
 pub distinct_less : (rs : List Restriction) (i : ℕ) → AreDistinct rs → AreDistinct (remove rs i)
 distinct_less [] zero h = tt
 distinct_less [] (suc i) h = tt
@@ -199,6 +210,7 @@ module _ (top : ℕ) (cell length_cm : ℤ) where
   put_at Greater k r e es missing rest = rw (rest missing)
       (capped_in_any_order cell (zone_of length_cm e.1) (zone_of length_cm r) (lowest_of top cell length_cm es))
 
+  -- so one that is put anywhere among the others caps their lowest limit
   pub put_among : (k : ℕ) (r : Restriction) (es : List (ℕ × Restriction)) → finite.find nat_cmp k es ≡ None →
       lowest_of top cell length_cm (put nat_cmp k r es)
       ≡ capped cell (zone_of length_cm r) (lowest_of top cell length_cm es)

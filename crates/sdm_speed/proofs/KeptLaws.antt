@@ -48,9 +48,11 @@ module _ (f : Inside) (kept : IsKeptProfile f) where
   pub held_count : (p : ProfileData) → profile_data_of f ≡ p → finite.len p.restrictions ≡ length f.held.items
   held_count p is = ap (λ (q : ProfileData). finite.len q.restrictions) (sym is) ∙ len_is f.held.items kept.distinct
 
+  -- all zones: the static ones and those of the restrictions that are held
   abbrev zones : List Zone
   zones = static_zones_of f ++ held_zones_of f
 
+  -- each is in its ranges
   each : All IsZone zones
   each = All-append IsZone (static_zones_of f) (held_zones_of f) kept.each_static
       (All-map IsZone (zone_of (pos f.length_cm)) f.held.items
@@ -66,6 +68,7 @@ module _ (f : Inside) (kept : IsKeptProfile f) where
       ∙ sym (lowest_limit-append f.max_speed cell statics
       (map (zone_of (pos f.length_cm)) (finite.values (profile_data_of f).restrictions)))
 
+  -- so in every cell at once
   zones_mrsp : zone_limits f.max_speed zones ≡ mrsp_of (profile_data_of f)
   zones_mrsp = λ k cell. zones_at cell k
 
@@ -73,6 +76,7 @@ module _ (f : Inside) (kept : IsKeptProfile f) where
   pub kept_mrsp : speeds_of f.steps.before f.steps.list.items ≡ mrsp_of (profile_data_of f)
   kept_mrsp = λ k cell. (kept.steps cell ∙ zones_at cell) k
 
+  -- the MRSP of each cell is a limit
   pub mrsp_in_range : (cell : ℤ) → IsLimit (mrsp_of (profile_data_of f) cell)
   mrsp_in_range cell = subst IsLimit (zones_at cell) (limit_in_range f.max_speed cell zones kept.in_range.top each)
 

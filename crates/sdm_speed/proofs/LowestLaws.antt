@@ -1,7 +1,7 @@
 -- The lowest speed of consecutive cells is that of the steps that they lie in: of the first cell's, and of each that
 -- starts at or before the last.
 use Rattle.std.proofs.Common.{◌≡◌, ℕ, zero, suc, ℤ, pos, List, [], ◌∷◌, min, int_le, if◌then◌else◌, ◌≤◌, ◌+ℤ◌, ◌≤ℤ◌}
-use Rattle.std.proofs.Common.{◌<ℤ◌, refl, arith}
+use Rattle.std.proofs.Common.{◌<ℤ◌, refl, arith, sym, ◌∙◌}
 use Rattle.std.proofs.lemmas.Int.{ints, by_lt_z}
 use Rattle.sdm_num.proofs.Comparisons.{le_is, not_le_is}
 use Rattle.sdm_rules.specs.Cells.{lowest}
@@ -10,7 +10,7 @@ use Rattle.sdm_speed.specs.Steps.{AreAfter, speeds_of}
 use Rattle.sdm_speed.proofs.StepLaws.{first_begun, none_begun}
 
 -- speeds that are the same from a cell on have the same lowest
-pub lowest_same : (f g : ℤ → ℕ) (from : ℤ) (n : ℕ) → ((c : ℤ) → from ≤ℤ c → f c ≡ g c) →
+lowest_same : (f g : ℤ → ℕ) (from : ℤ) (n : ℕ) → ((c : ℤ) → from ≤ℤ c → f c ≡ g c) →
     lowest min f from n ≡ lowest min g from n
 lowest_same f g from zero same = same from (omega (arith, ints))
 lowest_same f g from (suc n) same =
@@ -26,13 +26,16 @@ abbrev pub lowest_to : ℕ → List Step → ℤ → ℕ
 lowest_to low [] to = low
 lowest_to low (s ∷ ss) to = let more = lowest_to (min low s.speed) ss to in if int_le s.start to then more else low
 
+-- a step that starts up to the cell counts
 pub lowest_on : (low : ℕ) (s : Step) (ss : List Step) (to : ℤ) → s.start ≤ℤ to →
     lowest_to low (s ∷ ss) to ≡ lowest_to (min low s.speed) ss to
 lowest_on low s ss to le = rw (le_is s.start to le) refl
 
+-- one that starts past it doesn't, nor do those after it
 pub lowest_end : (low : ℕ) (s : Step) (ss : List Step) (to : ℤ) → to <ℤ s.start → lowest_to low (s ∷ ss) to ≡ low
 lowest_end low s ss to lt = rw (not_le_is s.start to lt) refl
 
+-- with a speed of at most that before the steps: the lesser of it and of the cells' lowest speed
 lowest_to_is : (low v : ℕ) (ss : List Step) (from : ℤ) (n : ℕ) (to : ℤ) → to ≡ from +ℤ pos n → AreAfter from ss →
     low ≤ v → min low (lowest min (speeds_of v ss) from n) ≡ lowest_to low ss to
 lowest_to_is low v [] from zero to is after le = omega arith
@@ -59,10 +62,18 @@ lowest_to_is low v (s ∷ ss) from (suc n) to is after le =
     let start_is = none_begun s.start s.speed ss s.start after.1 (omega (arith, ints)) in
     rw (le_is s.start to (omega (arith, ints)), first, here, same, ← rest) (omega arith))
 
-pub lowest_of_steps : (v : ℕ) (ss : List Step) (from : ℤ) (n : ℕ) (to : ℤ) → to ≡ from +ℤ pos n → AreAfter from ss →
+-- the lowest of consecutive cells is that of the first one's speed and of the steps up to the last
+lowest_of_steps : (v : ℕ) (ss : List Step) (from : ℤ) (n : ℕ) (to : ℤ) → to ≡ from +ℤ pos n → AreAfter from ss →
     lowest min (speeds_of v ss) from n ≡ lowest_to v ss to
 lowest_of_steps v ss from n to is after =
     let whole = lowest_to_is v v ss from n to is after (omega arith) in
     let most = lowest_first (speeds_of v ss) from n in
     let first = none_begun from v ss from after (omega (arith, ints)) in
     omega arith
+
+-- so the lowest of speeds is, where from the first cell on they are those of a speed and of steps past that cell
+pub lowest_from : (f : ℤ → ℕ) (v : ℕ) (ss : List Step) (from : ℤ) (n : ℕ) (to : ℤ) → to ≡ from +ℤ pos n →
+    ((c : ℤ) → from ≤ℤ c → f c ≡ speeds_of v ss c) → AreAfter from ss →
+    lowest_to v ss to ≡ lowest min f from n
+lowest_from f v ss from n to is same after =
+    sym (lowest_of_steps v ss from n to is after) ∙ sym (lowest_same f (speeds_of v ss) from n same)

@@ -19,6 +19,7 @@ mrsp_is p train track top length speeds = λ k cell. lowest_limit (top k) cell
 
 -- ---- ranges
 
+-- a limit that is capped by another, or isn't, is a limit
 capped_in_range : (b : Bool) (limit n : ℕ) → IsLimit limit → IsLimit n → IsLimit (if b then min limit n else n)
 capped_in_range true limit n h k = record {
   least = omega (arith, h.least, k.least);
@@ -26,6 +27,7 @@ capped_in_range true limit n h k = record {
 }
 capped_in_range false limit n h k = k
 
+-- the lowest limit of zones in their ranges is a limit
 pub limit_in_range : (top : ℕ) (cell : ℤ) (zs : List Zone) → IsLimit top → All IsZone zs →
     IsLimit (lowest_limit top cell zs)
 limit_in_range top cell [] h each = h
@@ -33,6 +35,7 @@ limit_in_range top cell (z ∷ zs) h each =
     capped_in_range (covers cell z) z.limit (lowest_limit top cell zs) (each 0 z (omega arith)).limited
     (limit_in_range top cell zs h (λ k d l. each (suc k) d (omega arith)))
 
+-- the lowest of limits is a limit
 pub lowest_in_range : (f : ℤ → ℕ) (from : ℤ) (n : ℕ) → ((cell : ℤ) → IsLimit (f cell)) → IsLimit (lowest min f from n)
 lowest_in_range f from zero each = each from
 lowest_in_range f from (suc n) each = capped_in_range true (f from) (lowest min f (from +ℤ pos 1) n) (each from)

@@ -48,6 +48,7 @@ pub record IsAcceptedRestriction (track_cm : ℤ) (held : finite.FinMap nat_cmp 
   pub some : r.start < r.end
   pub on_track : pos r.end ≤ℤ track_cm
 
+-- no fault: each of the four tests fails
 by_tests : (a b c d : Bool) (id : ℕ) → (if a then Some Full else if b then Some (IdInUse id) else if c || d
     then Some Value else None) ≡ None → (a ≡ false) × (b ≡ false) × (c ≡ false) × (d ≡ false)
 by_tests true b c d id e = absurd cc
@@ -56,6 +57,7 @@ by_tests false false true d id e = absurd cc
 by_tests false false false true id e = absurd cc
 by_tests false false false false id e = (refl, refl, refl, refl)
 
+-- a restriction that isn't refused has room, a new identity, and cells on the track
 pub accepted : (track_cm : ℤ) (held : finite.FinMap nat_cmp Restriction) (r : Restriction) →
     restrict_fault track_cm held r ≡ None → IsAcceptedRestriction track_cm held r
 accepted track_cm held r none =

@@ -19,9 +19,11 @@ either : (b : Bool) (v : ℕ) → (if b then v else v) ≡ v
 either true v = refl
 either false v = refl
 
+-- before its start a step says nothing
 not_begun : (x : Step) (v : ℕ) (c : ℤ) → c <ℤ x.start → (if int_le x.start c then x.speed else v) ≡ v
 not_begun x v c lt = rw (not_le_is x.start c lt) refl
 
+-- with the speed that holds there it changes nothing
 same_speed : (x : Step) (v : ℕ) (c : ℤ) → x.speed ≡ v → (if int_le x.start c then x.speed else v) ≡ v
 same_speed x v c is = rw is (either (int_le x.start c) v)
 
@@ -43,6 +45,7 @@ insert_begun x v (s ∷ ss) (suc i) c is begun =
     first_begun v s (insert ss i x) c here ∙ insert_begun x s.speed ss i c is
     (λ k d l m. begun (suc k) d (omega arith) (omega arith)) ∙ sym (first_begun v s ss c here)
 
+-- a step with the speed that holds where it starts changes no speed
 pub insert_same : (x : Step) (v : ℕ) (ss : List Step) (i : ℕ) (c : ℤ) → x.speed ≡ speed_to v ss i →
     ((k : ℕ) (d : Step) → k < i → k < length ss → (get_or ss k d).start <ℤ x.start) →
     speeds_of v (insert ss i x) c ≡ speeds_of v ss c
@@ -53,6 +56,7 @@ insert_same x v ss i c is before =
 
 -- the starts still rise
 module _ (x : Step) where
+  -- a step that is put between an earlier and a later one keeps the starts past a cell
   insert_after : (cell : ℤ) (ss : List Step) (i : ℕ) → AreAfter cell ss → cell <ℤ x.start →
       ((k : ℕ) (d : Step) → k < i → k < length ss → (get_or ss k d).start <ℤ x.start) →
       ((d : Step) → i < length ss → x.start <ℤ (get_or ss i d).start) → AreAfter cell (insert ss i x)
@@ -65,6 +69,7 @@ module _ (x : Step) where
         (λ k d l m. before (suc k) d (omega arith) (omega arith)) (λ d l. later d (omega arith)),
   )
 
+  -- and rising
   pub insert_rising : (ss : List Step) (i : ℕ) → AreRising ss →
       ((k : ℕ) (d : Step) → k < i → k < length ss → (get_or ss k d).start <ℤ x.start) →
       ((d : Step) → i < length ss → x.start <ℤ (get_or ss i d).start) → AreRising (insert ss i x)
@@ -82,6 +87,7 @@ module _ (x : Step) where
   insert_start (s ∷ ss) zero = inl refl
   insert_start (s ∷ ss) (suc i) = inr (insert_start ss i)
 
+  -- the starts of the others stay
   pub insert_keeps : (ss : List Step) (i : ℕ) → KeepsStarts ss (insert ss i x)
   insert_keeps [] zero cell start = absurd start
   insert_keeps [] (suc i) cell start = absurd start
@@ -89,6 +95,7 @@ module _ (x : Step) where
   insert_keeps (s ∷ ss) (suc i) cell (inl e) = inl e
   insert_keeps (s ∷ ss) (suc i) cell (inr later) = inr (insert_keeps ss i cell later)
 
+  -- and no other but its own is there
   pub insert_only : (ss : List Step) (i : ℕ) (c : ℤ) → IsStart c (insert ss i x) → (c ≡ x.start) ⊎ IsStart c ss
   insert_only [] zero c (inl e) = inl (sym e)
   insert_only [] zero c (inr none) = absurd none
@@ -132,9 +139,11 @@ module _ (limit : ℕ) where
   covered_cell : (f p c : ℤ) → f ≤ℤ c → c <ℤ p → covers c (zone (Some f) (Some p)) ≡ true
   covered_cell f p c from before = rw (le_is f c from, lt_is c p before) refl
 
+  -- before its first cell a zone covers none
   cell_before : (f c : ℤ) (past : Option ℤ) → c <ℤ f → covers c (zone (Some f) past) ≡ false
   cell_before f c past before = rw (not_le_is f c before) refl
 
+  -- nor from its end on
   cell_past : (f p c : ℤ) → p ≤ℤ c → covers c (zone (Some f) (Some p)) ≡ false
   cell_past f p c past =
       by_lt_z c f

@@ -23,6 +23,7 @@ eq_of a b t = (Decides-int_eq a b).0 t
 
 -- ---- no fall where no zone begins
 
+-- a zone that has begun at a cell and doesn't begin there has begun at the cell before
 begun_before : (first : Option ℤ) (c : ℤ) → option_map_or (int_eq c) first false ≡ false →
     option_map_or (λ f. int_le f c) first true ≡ true → option_map_or (λ f. int_le f (c -ℤ pos 1)) first true ≡ true
 begun_before None c off on = refl
@@ -32,6 +33,7 @@ begun_before (Some f) c off on =
     (λ (l : f <ℤ c). le_is f (c -ℤ pos 1) (omega (arith, ints)))
     (λ (m : c ≤ℤ f). absurd (true≢false (sym (eq_is c f (omega (arith, ints))) ∙ off)))
 
+-- a zone that goes on at a cell goes on at the cell before
 goes_on_before : (past : Option ℤ) (c : ℤ) → option_map_or (λ p. int_lt c p) past true ≡ true →
     option_map_or (λ p. int_lt (c -ℤ pos 1) p) past true ≡ true
 goes_on_before None c on = refl
@@ -42,6 +44,7 @@ covers_before : (z : Zone) (c : ℤ) → starts_at c z ≡ false → covers c z 
 covers_before z c off on =
     and_from _ _ (begun_before z.first c off (and_parts _ _ on).0) (goes_on_before z.past c (and_parts _ _ on).1)
 
+-- a zone that covers the cell before wherever it covers the cell makes no fall
 capped_no_fall : (a b : Bool) (k m n : ℕ) → (b ≡ true → a ≡ true) → m ≤ n →
     (if a then min k m else m) ≤ (if b then min k n else n)
 capped_no_fall true true k m n both le = omega arith
@@ -49,6 +52,7 @@ capped_no_fall true false k m n both le = omega arith
 capped_no_fall false true k m n both le = absurd (true≢false (sym (both refl)))
 capped_no_fall false false k m n both le = le
 
+-- where no zone begins the lowest limit is no lower than in the cell before
 no_lower : (top : ℕ) (zs : List Zone) (c : ℤ) → has_start zs c ≡ false →
     lowest_limit top (c -ℤ pos 1) zs ≤ lowest_limit top c zs
 no_lower top [] c off = omega arith
@@ -56,6 +60,7 @@ no_lower top (z ∷ zs) c off =
     capped_no_fall (covers (c -ℤ pos 1) z) (covers c z) z.limit _ _ (covers_before z c (or_parts _ _ off).0)
     (no_lower top zs c (or_parts _ _ off).1)
 
+-- so there is no fall
 pub no_fall : (top : ℕ) (zs : List Zone) (c : ℤ) → has_start zs c ≡ false → is_fall (zone_limits top zs) c ≡ false
 no_fall top zs c off = le-ltb _ _ (no_lower top zs c off)
 
@@ -63,10 +68,12 @@ no_fall top zs c off = le-ltb _ _ (no_lower top zs c off)
 pub starts_at_fall : (top : ℕ) (zs : List Zone) (c : ℤ) → is_fall (zone_limits top zs) c ≡ true → has_start zs c ≡ true
 starts_at_fall top zs c falls = true_from_ne_false _ (λ off. true≢false (sym falls ∙ no_fall top zs c off))
 
+-- a zone that begins at the cell has it as its first
 start_is : (first : Option ℤ) (c : ℤ) → option_map_or (int_eq c) first false ≡ true → first ≡ Some c
 start_is None c here = absurd cc
 start_is (Some f) c here = ap Some (sym (eq_of c f here))
 
+-- a start of one of the zones is that of the first, on the track, or of a later one
 on_track_by : (z : Zone) (zs : List Zone) (c : ℤ) (b : Bool) → starts_at c z ≡ b → (b || has_start zs c) ≡ true →
     IsZone z → (has_start zs c ≡ true → (pos 0 ≤ℤ c) × (c <ℤ pos longest_track)) →
     (pos 0 ≤ℤ c) × (c <ℤ pos longest_track)

@@ -33,6 +33,7 @@ zones_from_next length_cm first es i e next known e_is next_is =
 
 -- ---- each zone in its range
 
+-- the speed of an entry is a limit
 step_limit : (length_cm : ℤ) (e : SpeedStep) → IsSpeedStep length_cm e → IsLimit (unsigned_abs e.speed)
 step_limit length_cm e step = record {
   least = (let l = step.least in omega (arith, ints));

@@ -20,6 +20,7 @@ module _ (speed : ℤ → ℕ) where
       same (a +ℤ pos (suc n)) (omega (arith, ints)) (omega (arith, ints)) ∙ ap speed back
       ∙ steady a n (λ c l m. same c l (omega (arith, ints)))
 
+  -- the same up to a later cell
   steady_to : (a c : ℤ) → a ≤ℤ c → ((d : ℤ) → a <ℤ d → d ≤ℤ c → speed d ≡ speed (d -ℤ pos 1)) → speed c ≡ speed a
   steady_to a c le same =
       let is = int_gap_is a c le in
@@ -58,15 +59,18 @@ module _ (speed : ℤ → ℕ) where
 
   -- ---- steps that take the speeds at their starts
 
+  -- they have the speeds at their starts
   pub retaken_speeds : (ss : List Step) → AreSpeedsAt speed (map (retaken speed) ss)
   retaken_speeds [] = tt
   retaken_speeds (s ∷ ss) = (refl, retaken_speeds ss)
 
+  -- the starts stay
   pub retaken_starts : (c : ℤ) (ss : List Step) → IsStart c ss → IsStart c (map (retaken speed) ss)
   retaken_starts c [] start = start
   retaken_starts c (s ∷ ss) (inl e) = inl e
   retaken_starts c (s ∷ ss) (inr later) = inr (retaken_starts c ss later)
 
+  -- and no other is there
   pub retaken_only : (c : ℤ) (ss : List Step) → IsStart c (map (retaken speed) ss) → IsStart c ss
   retaken_only c [] start = start
   retaken_only c (s ∷ ss) (inl e) = inl e

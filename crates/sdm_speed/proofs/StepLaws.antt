@@ -14,6 +14,7 @@ none = record { start = pos 0; speed = 0 }
 
 -- ---- steps that rise
 
+-- steps past a cell rise
 pub rising_of : (cell : ℤ) (ss : List Step) → AreAfter cell ss → AreRising ss
 rising_of cell [] after = tt
 rising_of cell (s ∷ ss) after = after.1
@@ -23,6 +24,7 @@ pub after_earlier : (cell c : ℤ) (ss : List Step) → AreAfter cell ss → c �
 after_earlier cell c [] after le = tt
 after_earlier cell c (s ∷ ss) after le = (let past = after.0 in omega (arith, ints), after.1)
 
+-- each step starts past the cell
 pub after_all : (cell : ℤ) (ss : List Step) (j : ℕ) (d : Step) → AreAfter cell ss → j < length ss →
     cell <ℤ (get_or ss j d).start
 after_all cell [] j d after known = absurd (omega arith)
@@ -37,6 +39,7 @@ start_after cell b (s ∷ ss) after (inl e) = let past = after.0 in rw (← e) p
 start_after cell b (s ∷ ss) after (inr later) = let past = after.0 in let rest =
     start_after s.start b ss after.1 later in omega (arith, ints)
 
+-- a later step starts no earlier
 rises : (ss : List Step) (i j : ℕ) (d : Step) → AreRising ss → i ≤ j → j < length ss →
     (get_or ss i d).start ≤ℤ (get_or ss j d).start
 rises [] i j d rising le known = absurd (omega arith)
@@ -132,6 +135,7 @@ set_after cell [] i s d e h = h
 set_after cell (x ∷ xs) zero s d e h = rw e h
 set_after cell (x ∷ xs) (suc i) s d e h = (h.0, set_after x.start xs i s d e h.1)
 
+-- and rising
 pub set_rising : (ss : List Step) (i : ℕ) (s d : Step) → s.start ≡ (get_or ss i d).start → AreRising ss →
     AreRising (set ss i s)
 set_rising [] i s d e h = h

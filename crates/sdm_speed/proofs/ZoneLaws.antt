@@ -7,6 +7,7 @@ use Rattle.sdm_rules.specs.Profile.{Zone, covers, capped, lowest_limit}
 
 -- ---- one cell
 
+-- two caps may change places
 either_first : (a b : Bool) (k m n : ℕ) → (if a then min k (if b then min m n else n) else if b then min m n else n)
     ≡ (if b then min m (if a then min k n else n) else if a then min k n else n)
 either_first true true k m n = omega arith
@@ -22,6 +23,7 @@ not_capped c z n off = rw off refl
 pub capped_in_any_order : (c : ℤ) (y z : Zone) (n : ℕ) → capped c y (capped c z n) ≡ capped c z (capped c y n)
 capped_in_any_order c y z n = either_first (covers c y) (covers c z) y.limit z.limit n
 
+-- the last zones may be taken first
 pub lowest_limit-append : (top : ℕ) (c : ℤ) (ys zs : List Zone) →
     lowest_limit top c (ys ++ zs) ≡ lowest_limit (lowest_limit top c zs) c ys
 lowest_limit-append top c [] zs = refl
@@ -43,6 +45,7 @@ int_gap_is (negsuc a) (negsuc b) le = omega (arith, ints)
 
 -- ---- zones after zones
 
+-- a cap before all zones is one after them
 pub capped_first : (c : ℤ) (y : Zone) (n : ℕ) (zs : List Zone) →
     lowest_limit (capped c y n) c zs ≡ capped c y (lowest_limit n c zs)
 capped_first c y n [] = refl

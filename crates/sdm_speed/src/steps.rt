@@ -67,21 +67,6 @@ fn capped_before(before: u16, zone: Zone) -> u16
     }
 }
 
-/// The lowest speed from a cell before all these steps up to the cell `to`, where `speed` holds before them.
-fn lowest_up_to(steps: &[Step], speed: u16, to: i32) -> u16
-    ensures { (from : ℤ) (n : ℕ) → to ≡ from +ℤ pos n → AreAfter from steps.now →
-        result ≡ lowest min (speeds_of speed steps.now) from n }
-{
-    let mut lowest = speed;
-    for step in steps {
-        if to < step.start {
-            return lowest;
-        }
-        lowest = lowest.min(step.speed);
-    }
-    lowest
-}
-
 /// The first fall past a cell before all these steps, where `speed` holds before them.
 fn first_fall(steps: &[Step], speed: u16) -> Option<Fall>
     ensures { (after : ℤ) → AreAfter after steps.now → IsFallAfter (speeds_of speed steps.now) after result }
@@ -310,7 +295,14 @@ impl Steps {
         ensures { result ≡ lowest min (speeds_in self.now) from (int_gap from to) }
     {
         let rest = self.from_cell(from);
-        lowest_up_to(rest.later, rest.speed, to)
+        let mut lowest = rest.speed;
+        for step in rest.later {
+            if to < step.start {
+                return lowest;
+            }
+            lowest = lowest.min(step.speed);
+        }
+        lowest
     }
 
     /// The first fall past the start of the cell `after`.

@@ -12,10 +12,9 @@ use Rattle.sdm_rules.specs.Targets.{fall_at, foot_speed_of, is_fall}
 use Rattle.sdm_speed.specs.Profiles.{ProfileData, mrsp_of}
 use Rattle.sdm_speed.proofs.MrspLaws.{mrsp_is}
 use Rattle.sdm_targets.specs.Lists.{target_at}
-use Rattle.sdm_braking.specs.declared.kept_falls.KeptFall.{KeptFall}
 use Rattle.sdm_supervisor.specs.Supervised.{IsFallCurve, IsProfileOf}
 use Rattle.sdm_braking.specs.KeptCurves.{IsCurveOn, brake_kind}
-use Rattle.sdm_braking.specs.KeptFalls.{IsFallAt, IsKeptFall}
+use Rattle.sdm_braking.specs.KeptFalls.{IsFallAt, IsKeptFall, KeptFallData}
 use Rattle.sdm_supervisor.proofs.FindLaws.{state_of}
 
 module _ (train_and_track : TrainAndTrack) (a : Authority) (p : ProfileData) (last : Option ℕ) (held : Held)
@@ -24,20 +23,22 @@ module _ (train_and_track : TrainAndTrack) (a : Authority) (p : ProfileData) (la
   pub profile_is : mrsp_of p ≡ profile_of (state_of train_and_track a p last held)
   profile_is = sym (mrsp_is p train_and_track.train train_and_track.track is.max_speed is.length_cm is.speeds)
 
-  pub fall_curve_is : (at : ℤ) (k : KeptFall) → IsFallAt (mrsp_of p) at k.fall → IsKeptFall train_and_track k →
-      IsFallCurve (state_of train_and_track a p last held) at k.kept.value.brake
+  -- what is kept of a fall is its EBD
+  pub fall_curve_is : (at : ℤ) (k : KeptFallData) → IsFallAt (mrsp_of p) at k.fall → IsKeptFall train_and_track k →
+      IsFallCurve (state_of train_and_track a p last held) at k.kept.brake
   fall_curve_is at k fall kept =
       let fall_is : k.fall
       ≡ record { cell = at; speed = mrsp_of p at } = λ i. record { cell = fall.cell i; speed = fall.speed i } in
-      let target_is : k.kept.value.target ≡ fall_at (mrsp_of p) at = kept.at ∙ ap target_at fall_is in
+      let target_is : k.kept.target ≡ fall_at (mrsp_of p) at = kept.at ∙ ap target_at fall_is in
       let curve = subst (λ (t : Target). IsCurveOn (slopes_of (brake_kind t.kind) train_and_track) t.place
-      (foot_speed_of t) k.kept.value.brake) target_is kept.kept.brake in
+      (foot_speed_of t) k.kept.brake) target_is kept.kept.brake in
       record {
         falls = subst (λ (f : ℤ → ℕ). is_fall f at ≡ true) profile_is fall.falls;
         ebd = subst (λ (f : ℤ → ℕ). IsCurveOn (slopes_of Safe train_and_track) (place_of_cell at)
-            (foot_speed_of (fall_at f at)) k.kept.value.brake) profile_is curve;
+            (foot_speed_of (fall_at f at)) k.kept.brake) profile_is curve;
       }
 
+  -- where the kept profile doesn't fall, the MRSP doesn't
   pub no_fall_is : (at : ℤ) → is_fall (mrsp_of p) at ≡ false →
       is_fall (profile_of (state_of train_and_track a p last held)) at ≡ false
   no_fall_is at none = subst (λ (f : ℤ → ℕ). is_fall f at ≡ false) profile_is none

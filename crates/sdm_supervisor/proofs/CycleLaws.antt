@@ -42,19 +42,24 @@ module _ (s : Supervision) (r : OdometerReading) where
   taken held e = λ k. record s { last_time = Some r.time; commands = e k }
 
   module _ (row : Row) (is : row ≡ row_of s r) where
+    -- the order of the three commands
     pub order_of : IsOpen s → KeepsOrder s r row.held.eb
     unfolding row_in
     order_of opened = subst (λ (x : Row). KeepsOrder s r x.held.eb) (sym is) (machines s r opened)
 
+    -- from a covered row a stop
     pub safe_of : IsOpen s → IsTrue row.covered → IsSafe s r
     safe_of opened covered = stop s r opened (subst (λ (x : Row). IsTrue x.covered) is covered)
 
+    -- only gaps keep a row from being covered
     pub gaps_of : row.held.eb ≡ false → HasOnlyGaps s r
     gaps_of eb = gaps s r (subst (λ (x : Row). x.held.eb ≡ false) is eb)
 
+    -- the speed is within the ceiling
     pub ceiling_of : row.held.eb ≡ false → IsWithinCeiling r row
     ceiling_of eb = subst (λ (x : Row). IsWithinCeiling r x) (sym is)
         (within_ceiling s r (subst (λ (x : Row). x.held.eb ≡ false) is eb))
 
+  -- where release speed monitoring begins
   pub release_of : IsOpen s → BeginsReleaseMonitoring s r
   release_of opened = release s r opened

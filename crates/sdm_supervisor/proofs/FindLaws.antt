@@ -28,6 +28,7 @@ state_of train_and_track a p last held =
           held;
     }
 
+-- what each call found, by its definition, is found at the reading in the state
 pub found_is : (train_and_track : TrainAndTrack) (a : Authority) (p : ProfileData) (last : Option ℕ) (held : Held)
     (r : OdometerReading) (found : Findings) → IsProfileOf train_and_track p →
     found.speed ≡ r.speed → found.ceiling_kmh ≡ lowest min (mrsp_of p) (cell_of r.min)

@@ -18,16 +18,19 @@ use Rattle.sdm_supervisor.specs.Flats.{flat_map}
 
 -- ---- the map
 
+-- a list that is one slope as whole numbers is that one as naturals
 one_slope : (xs : List ℕ) (k : ℕ) → map pos xs ≡ pos k ∷ [] → xs ≡ k ∷ []
 one_slope [] k is = cc
 one_slope (x ∷ []) k is = cc
 one_slope (x ∷ y ∷ xs) k is = cc
 
+-- a map is told by its parts
 map_of_parts : (m : SlopeMap) (q : ℕ) (uppers : List ℕ) (starts : List ℤ) (slopes : List ℕ) → m.q ≡ q →
     m.uppers ≡ uppers → m.starts ≡ starts → m.slopes ≡ slopes →
     m ≡ record { q = q; uppers = uppers; starts = starts; slopes = slopes }
 map_of_parts m q uppers starts slopes a b c d = rw (← a, ← b, ← c, ← d)
 
+-- the map of what is handed in for a flat supervisor is the flat map
 pub flat_map_from : (m : SlopeMap) (decel : ℕ) →
     handed_in m ≡ map_data 100 [] (pos 0 ∷ []) (pos (2_000_000_000 * decel) ∷ []) → m ≡ flat_map decel
 flat_map_from m decel is = map_of_parts m 100 [] (pos 0 ∷ []) (2_000_000_000 * decel ∷ [])
@@ -66,11 +69,13 @@ stepped_arc : (decel : ℕ) (f : ℤ) (v : ℕ) →
 unfolding stepped
 stepped_arc decel f v = ap floor (place_up to_grain (flat_slopes decel) 1 f 0 (v * v) (omega arith))
 
+-- the exact place is the end of the same arc
 pub exact_arc : (decel : ℕ) (f : ℤ) (v : ℕ) →
     exact (flat_slopes decel) f 0 v ≡ arc_back (flat_slopes decel) 1 0 (whole (pos 1 *ℤ f)) (v * v - 0)
 unfolding exact exact_at
 exact_arc decel f v = place_up as_is (flat_slopes decel) 1 f 0 (v * v) (omega arith)
 
+-- the flat map and the flat slopes have the same stepped place
 pub same_stepped : (decel : ℕ) (f : ℤ) (v : ℕ) →
     stepped (meaning_of (flat_map decel)) f 0 v ≡ stepped (flat_slopes decel) f 0 v
 unfolding stepped
@@ -78,6 +83,7 @@ same_stepped decel f v =
     ap floor (place_up to_grain (meaning_of (flat_map decel)) 1 f 0 (v * v) (omega arith)
     ∙ same_arc decel (whole (pos 1 *ℤ f)) (v * v - 0)) ∙ sym (stepped_arc decel f v)
 
+-- which is the exact one rounded down to a grain
 stepped_floor : (decel : ℕ) (f : ℤ) (v : ℕ) →
     stepped (flat_slopes decel) f 0 v ≡ floor (exact (flat_slopes decel) f 0 v)
 stepped_floor decel f v = stepped_arc decel f v ∙ ap floor (sym (exact_arc decel f v))

@@ -28,6 +28,7 @@ rate decel = 54_000_000_000 * decel
 abbrev energy_of : ℕ → ℕ
 energy_of v = 500_000_000_000_000 * (v * v)
 
+-- the energy of a distance is the slope for each of its steps
 one_energy : (decel m d : ℕ) (p : ℤ) → 27 * energy (flat_slopes decel) 0 m p d ≡ rate decel * d
 one_energy decel m d p =
     omega (
@@ -60,6 +61,7 @@ exact_back decel f v =
     let used : 1 * grain_energy (flat_slopes decel) (v * v - 0) ≡ energy_of v = omega arith in
     exact_arc decel f v ∙ rw (foot, used)
 
+-- the exact place is the foot less the energy of the speed over the slope, by cross products
 exact_formula : (decel : ℕ) (f : ℤ) (v : ℕ) (x : Fraction) → 0 < decel → x ≡ exact (flat_slopes decel) f 0 v →
     (0 < x.m) × (pos (rate decel) *ℤ x.n ≡ pos x.m *ℤ (pos (rate decel) *ℤ f +ℤ neg_ℤ (pos (energy_of v))))
 exact_formula decel f v x some is =
@@ -101,6 +103,7 @@ common = 1_458_000_000_000_000_000
 in_common : (r k a : ℕ) (z : ℤ) → r * millimetre ≡ k * a → pos r *ℤ (pos millimetre *ℤ z) ≡ pos k *ℤ (pos a *ℤ z)
 in_common r k a z e = scale-scale r millimetre z ∙ (ap (λ (t : ℕ). pos t *ℤ z) e ∙ sym (scale-scale k a z))
 
+-- a multiple of a difference is the difference of the multiples
 difference : (k a b : ℕ) → pos k *ℤ (pos a +ℤ neg_ℤ (pos b)) ≡ pos (k * a) +ℤ neg_ℤ (pos (k * b))
 difference k a b = scale-+ℤ k (pos a) (neg_ℤ (pos b)) ∙ ap (λ (z : ℤ). pos (k * a) +ℤ z) (scale-neg k (pos b))
 

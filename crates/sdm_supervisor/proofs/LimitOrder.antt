@@ -50,6 +50,7 @@ of_lesser front x y =
 -- where a front end is not past what the driver's time asks for, it is past none of these
 module _ (front z : ℤ) (times : Times) (v : ℕ) (ebi : Option Fraction)
     (of_ebi : is_past 0 front (whole z) ≡ false → option_map_or (is_past 0 front) ebi false ≡ false) where
+  -- where it is past neither what the driver's time asks for nor the permitted limit
   of_driver : (guide : Option Fraction) → is_past 0 front (less (whole z) (distance_at v driver_time)) ≡ false →
       is_past 0 front (limits_from_sbi times v guide ebi (whole z)).permitted ≡ false →
       IsPastNone front (limits_from_sbi times v guide ebi (whole z))
@@ -64,6 +65,7 @@ module _ (front z : ℤ) (times : Times) (v : ℕ) (ebi : Option Fraction)
         permitted = permitted;
       }
 
+  -- where it isn't past the indication limit
   of_indication : (guide : Option ℤ) →
       is_past 0 front (limits_from_sbi times v (option_map whole guide) ebi (whole z)).indication ≡ false →
       IsPastNone front (limits_from_sbi times v (option_map whole guide) ebi (whole z))
@@ -79,6 +81,7 @@ module _ (front z : ℤ) (times : Times) (v : ℕ) (ebi : Option Fraction)
 -- ---- the limits of a target
 
 module _ (d : TrainAndTrack) (e : Estimate) (t : Target) (front : ℤ) where
+  -- so of the limits by the EBD
   ebd : (guide : Option ℤ) → is_past 0 front (ebd_limits_of computed d e t (option_map whole guide)).indication
       ≡ false → IsPastNone front (ebd_limits_of computed d e t (option_map whole guide))
   ebd guide =
@@ -88,6 +91,7 @@ module _ (d : TrainAndTrack) (e : Estimate) (t : Target) (front : ℤ) where
       of_indication front (ebi +ℤ neg_ℤ (pos (bs * 1))) (reaction_times d) e.speed (Some (whole ebi))
       (of_less front (whole ebi) bs) guide
 
+  -- so of those by the SBD
   sbd : (guide : Option ℤ) → is_past 0 front (sbd_limits_of computed d e t (option_map whole guide)).indication
       ≡ false → IsPastNone front (sbd_limits_of computed d e t (option_map whole guide))
   sbd guide =
@@ -105,6 +109,7 @@ module _ (d : TrainAndTrack) (e : Estimate) (t : Target) (front : ℤ) where
         | false ↦ h None
       ]
 
+  -- so of the limits of each kind of target
   of_kind : (kind : TargetKind) → is_past 0 front (limits_of_kind computed d e t kind).indication ≡ false →
       IsPastNone front (limits_of_kind computed d e t kind)
   of_kind Mrsp = guided (λ g. is_past 0 front (ebd_limits_of computed d e t g).indication ≡ false →

@@ -31,6 +31,7 @@ use Rattle.sdm_supervisor.specs.Verdicts.{AreNearest, IsNearer, ebi_in, mm_befor
 
 -- ---- the lesser of two places in whole millimetres
 
+-- rounding to millimetres keeps the order
 mm_rises : (a b : ℤ) → a ≤ℤ b → mm_below a ≤ℤ mm_below b
 mm_rises a b h = omega (arith, ints, h, floor_low 540_000_000 a (omega arith), floor_high 540_000_000 b (omega arith))
 
@@ -40,9 +41,11 @@ lesser_first a b h = omega (arith, ints, clamps, h)
 lesser_second : (a b : ℤ) → b ≤ℤ a → int_min a b ≡ b
 lesser_second a b h = omega (arith, ints, clamps, h)
 
+-- the lesser of two places, taken earlier, is the lesser of the two taken earlier
 lesser_earlier : (a b : ℤ) (k : ℕ) → int_min a b +ℤ neg_ℤ (pos k) ≡ int_min (a +ℤ neg_ℤ (pos k)) (b +ℤ neg_ℤ (pos k))
 lesser_earlier a b k = omega (arith, ints, clamps)
 
+-- in millimetres the lesser is the lesser of both in millimetres
 mm_of_lesser : (a b : ℤ) → mm_below (int_min a b) ≡ int_min (mm_below a) (mm_below b)
 mm_of_lesser a b =
     by_lt_z b a
@@ -51,6 +54,7 @@ mm_of_lesser a b =
     (λ (g : a ≤ℤ b). let below =
     mm_rises a b g in ap mm_below (lesser_first a b g) ∙ sym (lesser_first (mm_below a) (mm_below b) below))
 
+-- and so where a place may be missing
 mm_of_nearer : (a b : Option ℤ) →
     option_map mm_below (nearer a b) ≡ nearer (option_map mm_below a) (option_map mm_below b)
 mm_of_nearer None b = refl
@@ -61,26 +65,32 @@ nearer_none : (a : Option ℤ) → nearer a None ≡ a
 nearer_none None = refl
 nearer_none (Some x) = refl
 
+-- a whole place in millimetres
 mm_of_whole : (x : ℤ) → whole_mm (whole x) ≡ mm_below x
 mm_of_whole x = ap mm_below (omega (arith, ints, floor_low 1 x (omega arith), floor_high 1 x (omega arith)))
 
+-- and so where it may be missing
 mm_where : (x : Option ℤ) → option_map whole_mm (option_map whole x) ≡ option_map mm_below x
 mm_where None = refl
 mm_where (Some x) = ap Some (mm_of_whole x)
 
 -- ---- one more place
 
+-- the least of a list with one more is the nearer of the least and that one
 least_of_more : (xs : List ℤ) (y : ℤ) → least_of (xs ++ y ∷ []) ≡ nearer (least_of xs) (Some y)
 least_of_more [] y = refl
 least_of_more (x ∷ xs) y = ap Some (fold-append int_min x xs (y ∷ []))
 
 module _ (v : ℕ) (ts : List Target) (t : Target) (limit : Target → Option Fraction) where
+  -- the places in millimetres that targets have
   abbrev places : List Target → List ℤ
   places us = filter_map (λ u. option_map whole_mm (limit u)) us
 
+  -- the targets whose limits count: those that are no faster than the train
   abbrev counted : List Target → List Target
   counted us = filter (λ u. nat_le (target_speed u) v) us
 
+  -- one more target adds its own place behind the others'
   of_more : places (counted (ts ++ t ∷ [])) ≡ places (counted ts) ++ places (counted (t ∷ []))
   of_more = ap places (filter-append (λ u. nat_le (target_speed u) v) ts (t ∷ []))
       ∙ filter_map-append (λ u. option_map whole_mm (limit u)) (counted ts) (counted (t ∷ []))
@@ -90,6 +100,7 @@ module _ (v : ℕ) (ts : List Target) (t : Target) (limit : Target → Option Fr
   not_counted slower =
       ap least_of (of_more ∙ (rw (lt-leb (target_speed t) v slower) (append-nil (places (counted ts)))))
 
+  -- where it counts, the limit is the nearer of theirs and its own
   place_behind : (x : Option ℤ) → option_map whole_mm (limit t) ≡ x →
       least_of (places (counted ts) ++ places (t ∷ [])) ≡ nearer (shown_limit v ts limit) x
   place_behind None is =
@@ -129,6 +140,7 @@ nearest_without times v all ts t near slower is = record {
 -- ---- limits that lie so many grains before others
 
 module _ (d : TrainAndTrack) (e : Estimate) (t : Target) where
+  -- the warning limit lies the warning time before the SBI, for each kind of target
   warning_of_kind : (kind : TargetKind) → (limits_of_kind computed d e t kind).warning
       ≡ less (limits_of_kind computed d e t kind).sbi (distance_at e.speed warning_time)
   warning_of_kind Mrsp = refl
@@ -136,6 +148,7 @@ module _ (d : TrainAndTrack) (e : Estimate) (t : Target) where
   warning_of_kind Eoa = refl
   warning_of_kind Svl = refl
 
+  -- the indication limit lies the indication time before the permitted one, for each kind
   indication_of_kind : (kind : TargetKind) →
       (limits_of_kind computed d e t kind).indication
       ≡ less (limits_of_kind computed d e t kind).permitted (distance_at e.speed (reaction_times d).indication)
@@ -144,16 +157,19 @@ module _ (d : TrainAndTrack) (e : Estimate) (t : Target) where
   indication_of_kind Eoa = refl
   indication_of_kind Svl = refl
 
+  -- so for each target the warning limit
   warning_of : (limits_of computed d e t).warning
       ≡ less (limits_of computed d e t).sbi (distance_at e.speed warning_time)
   unfolding limits_of
   warning_of = warning_of_kind t.kind
 
+  -- and the indication limit
   indication_of : (limits_of computed d e t).indication
       ≡ less (limits_of computed d e t).permitted (distance_at e.speed (reaction_times d).indication)
   unfolding limits_of
   indication_of = indication_of_kind t.kind
 
+-- the place of a bound, where there is one
 whole_where : (b : Option Bound) → place_where b ≡ option_map whole (option_map (λ x. x.at) b)
 whole_where None = refl
 whole_where (Some x) = refl

@@ -31,15 +31,19 @@ use Rattle.sdm_supervisor.proofs.LimitOrder.{IsPastNone, past_none}
 -- ---- one more of a list
 
 module _ (p : Target → Bool) (ts : List Target) (t : Target) (a : Bool) where
+  -- whether some target passes, with one more
   pub any_more : a ≡ list_any p ts → (b : Bool) → b ≡ p t → (a || b) ≡ list_any p (ts ++ t ∷ [])
   any_more so_far b is = (λ k. so_far k || (is ∙ sym (or-false (p t))) k) ∙ sym (list_any-append p ts (t ∷ []))
 
+  -- one that fails changes nothing
   any_unless : a ≡ list_any p ts → p t ≡ false → a ≡ list_any p (ts ++ t ∷ [])
   any_unless so_far none = sym (or-false a) ∙ any_more so_far false (sym none)
 
+  -- whether all targets pass, with one more
   pub all_more : a ≡ list_all p ts → (b : Bool) → b ≡ p t → (a && b) ≡ list_all p (ts ++ t ∷ [])
   all_more so_far b is = (λ k. so_far k && (is ∙ sym (and-true (p t))) k) ∙ sym (list_all-append p ts (t ∷ []))
 
+  -- one that passes changes nothing
   all_where : a ≡ list_all p ts → p t ≡ true → a ≡ list_all p (ts ++ t ∷ [])
   all_where so_far is = sym (and-true a) ∙ all_more so_far true (sym is)
 
@@ -59,6 +63,7 @@ module _ (v : ℕ) (est max : ℤ) (t : Target) where
       let within : v ≤ with_margin margin t = omega (arith, at_least t.kind (notches t.speed) (margin t.speed)) in
       rw (le-ltb (with_margin margin t) v within)
 
+  -- nor is its EBI, where it has one
   ebi_not_passed : v < target_speed t → (ebi : Option Fraction) → passes_ebi v est max 0 t ebi ≡ false
   ebi_not_passed slower None = refl
   ebi_not_passed slower (Some ebi) = not_passed slower ebi_margin ebi
@@ -68,6 +73,7 @@ module _ (v : ℕ) (est max : ℤ) (t : Target) where
       passes v est max 0 margin t limit ≡ false
   not_reached margin limit ahead = rw ahead (and-false (nat_lt (with_margin margin t) v))
 
+  -- nor is an EBI that it is not past
   ebi_not_reached : (ebi : Option Fraction) → option_map_or (is_past 0 (front_for est max t.kind)) ebi false ≡ false →
       passes_ebi v est max 0 t ebi ≡ false
   ebi_not_reached None ahead = refl

@@ -6,10 +6,12 @@
 ghost use Rattle.std.specs.Prelude.{◌≡◌, ◌≤◌, ◌≤ℤ◌, pos, MatchOption, IsTrue, false, None, Some, IfOk, IfErr, OnOk};
 ghost use Rattle.std.specs.Prelude.{OnErr};
 ghost use Rattle.sdm_num.specs.Readings.{IsReading};
+ghost use Rattle.sdm_rules.specs.declared.authorities.Authority.TheVariants.{Stop};
 ghost use Rattle.sdm_rules.specs.Machines.{KeepsOrder};
 ghost use Rattle.sdm_rules.specs.Opening.{IsAccepted, IsOpen};
 ghost use Rattle.sdm_rules.specs.Promises.{BeginsReleaseMonitoring, HasOnlyGaps, IsWithinCeiling};
-ghost use Rattle.sdm_rules.specs.Records.{authority_fault, restrict_fault, revoke_fault, time_fault};
+ghost use Rattle.sdm_rules.specs.Records.{authority_fault, restrict_fault, revoke_fault, time_fault, trip_fault};
+ghost use Rattle.sdm_rules.specs.Release.{IsReleaseSpeed, calculated};
 ghost use Rattle.sdm_rules.specs.Stop.{IsSafe};
 ghost use Rattle.sdm_rules.specs.Supervision.{after_authority, after_reading, after_restriction, after_revocation};
 ghost use Rattle.sdm_rules.specs.Supervision.{opening, profile_of, row_of};
@@ -26,10 +28,10 @@ use sdm_braking::{Braking, Kept, release_kmh_at};
 use sdm_curve::Curve;
 use sdm_national::National;
 use sdm_num::Reading;
-use sdm_rules::{CycleFault, OpenFault, RestrictFault, Restriction, RevokeFault, Row};
+use sdm_rules::{CycleFault, OpenFault, RestrictFault, Restriction, RevokeFault, Row, TripFault};
 use sdm_speed::Profile;
 use sdm_state::{Held, Status, next};
-use sdm_targets::{Authority, AuthorityFault, check_authority, end_of};
+use sdm_targets::{Authority, AuthorityFault, check_authority, check_trip, end_of};
 use sdm_track::Track;
 use sdm_train::Train;
 use std::alloc::Global;
@@ -141,8 +143,48 @@ impl Supervisor {
         ensures unchanged { OnErr result (self.new ≡ self.old) }
     {
         check_authority(&a, self.braking.track_cm())?;
+        self.take_authority(a);
+        Ok(())
+    }
+
+    /// Takes an authority that is accepted for the track.
+    fn take_authority(&mut self, a: Authority)
+        requires { authority_fault self.old.train_and_track.track.length_cm a ≡ None }
+        ensures { self.new ≡ after_authority self.old a }
+    {
         self.kept.take_authority(&self.braking, &a);
         self.authority = a;
+    }
+
+    /// The calculated release speed in km/h, 0 to 500, of a stop with its SvL at `svl` cm on the track, for a train
+    /// that is tripped with its front end at `trip` cm, at or before the SvL: the greatest whole speed from which it
+    /// stops by the SvL, but that the next one may do so by limits less than a millimetre later. No memory is taken.
+    /// (SUBSET-026-3 3.13.9.4.8; own: the place of the trip is handed in)
+    pub fn release_for(&self, svl: u32, trip: u32) -> u16
+        requires svl { pos svl ≤ℤ self.now.train_and_track.track.length_cm }
+        requires trip { trip ≤ svl }
+        ensures value { result ≡ calculated self.now.train_and_track svl trip }
+        ensures range { result ≤ top_kmh }
+        ensures stops { IsReleaseSpeed self.now.train_and_track svl trip result }
+    {
+        self.braking.calculated_release(svl, trip)
+    }
+
+    /// Takes a stop with the calculated release speed of `release_for` in place of the old authority; no command
+    /// changes. Refused where `check_authority` refuses a stop at these places for the track, else where the place of
+    /// the trip lies before the EOA or past the SvL (BadTrip); nothing is then changed. Places are in cm.
+    /// (SUBSET-026-3 3.8, 3.13.9.4.8; refusals own)
+    pub fn calculated_stop(&mut self, eoa: u32, svl: u32, trip: u32) -> Result<(), TripFault>
+        ensures accepted { OnOk result (trip_fault self.old.train_and_track.track.length_cm eoa svl trip ≡ None) }
+        ensures taken { OnOk result (self.new ≡ after_authority self.old
+            (Stop eoa svl (calculated self.old.train_and_track svl trip))) }
+        ensures refused { IfErr result
+            (λ fault. trip_fault self.old.train_and_track.track.length_cm eoa svl trip ≡ Some fault) }
+        ensures unchanged { OnErr result (self.new ≡ self.old) }
+    {
+        check_trip(eoa, svl, trip, self.braking.track_cm())?;
+        let release = self.release_for(svl, trip);
+        self.take_authority(Authority::Stop { eoa, svl, release });
         Ok(())
     }
 
@@ -187,7 +229,7 @@ impl Supervisor {
             (is_fall (profile_of self.now) cell ≡ false) (λ curve. IsFallCurve self.now cell curve.now) }
     {
         match self.kept.falls.at(cell) {
-            Some(kept) => Some(&kept.kept.brake),
+            Some(fall) => Some(&fall.kept.brake),
             None => None,
         }
     }
@@ -226,7 +268,7 @@ impl Supervisor {
                 &self.braking,
                 &asked,
                 &fronts,
-                falls,
+                &falls,
                 &self.kept.end,
                 in_release_monitoring,
             ),

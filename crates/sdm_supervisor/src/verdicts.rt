@@ -15,7 +15,7 @@ ghost use Rattle.sdm_braking.specs.KeptFalls.{IsKeptFall, target_of};
 ghost use Rattle.sdm_supervisor.specs.Verdicts.{IsVerdictOf};
 
 use crate::nearest::Nearest;
-use sdm_braking::{AskedEstimate, Braking, KeptEnd, KeptFall, KeptTarget};
+use sdm_braking::{AskedEstimate, Braking, FallsAhead, KeptEnd, KeptTarget};
 use sdm_num::{Early, Place, Speed};
 use sdm_targets::TargetKind;
 
@@ -129,7 +129,7 @@ impl Verdict {
         braking: &Braking,
         asked: &AskedEstimate,
         fronts: &Fronts,
-        falls: &[KeptFall],
+        falls: &FallsAhead<'_>,
         end: &KeptEnd,
         in_release_monitoring: bool,
     ) -> Verdict
@@ -140,8 +140,8 @@ impl Verdict {
             (map target_of falls.now ++ targets_in end.now in_release_monitoring) result }
     {
         let mut said = NOTHING_SAID;
-        for fall in falls {
-            said.add(braking, asked, fronts, &fall.kept);
+        for i in 0..falls.len() {
+            said.add(braking, asked, fronts, falls.target(i));
         }
         match end {
             KeptEnd::Stop { eoa, svl } => {

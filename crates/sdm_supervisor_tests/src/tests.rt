@@ -8,6 +8,7 @@
 //! an identity stands for as many restrictions alike as bring the identities up to that one, `come and go` with a
 //! number for so many restrictions alike, each revoked before the next.
 
+mod calculated;
 mod curves;
 mod data;
 mod greatest;
@@ -16,32 +17,54 @@ mod modelled;
 mod records;
 mod whole_speeds;
 
-use data::{base, set_line};
+use calculated::CALCULATED;
+use data::{Data, base, set_line};
 use greatest::{expect, greatest, read, restrict};
 use journeys::{COMMANDS, FRONTS, LIMITS, RECORDS, RELEASES};
 use modelled::MODELLED;
-use records::{answer, begin};
+use records::begin;
+use sdm_supervisor::{OpenFault, Supervisor};
 use std::alloc::Global;
 use std::process::Abort;
 use std::test::Fail;
 
-fn go(rt: &impl Abort, alloc: Global, journey: &str) -> Result<(), Fail> {
+/// The data of a journey.
+fn data_of(alloc: Global, journey: &str) -> Result<Data, Fail> {
     let mut data = base(alloc);
     for line in journey.lines() {
         if !line.contains(" = ") && !line.starts_with('#') {
             set_line(alloc, &mut data, line)?;
         }
     }
-    let Ok(mut supervisor) = begin(alloc, data)? else {
-        return Err("the opening is refused")?;
-    };
+    Ok(data)
+}
+
+/// The supervisor that is opened over data.
+fn opened(alloc: Global, data: Data) -> Result<Supervisor, Fail> {
+    match begin(alloc, data)? {
+        Ok(supervisor) => Ok(supervisor),
+        Err(_) => Err("the opening is refused")?,
+    }
+}
+
+/// Hands a supervisor the records of a journey.
+fn run(
+    rt: &impl Abort,
+    alloc: Global,
+    supervisor: &mut Supervisor,
+    journey: &str,
+) -> Result<(), Fail> {
     for line in journey.lines() {
         if let Some((record, expected)) = line.split_once(" = ") {
-            let found = answer(alloc, &mut supervisor, record)?;
-            assert_eq!(rt; found.as_str(), expected, "{record}");
+            expect(rt, alloc, supervisor, record, expected)?;
         }
     }
     Ok(())
+}
+
+fn go(rt: &impl Abort, alloc: Global, journey: &str) -> Result<(), Fail> {
+    let mut supervisor = opened(alloc, data_of(alloc, journey)?)?;
+    run(rt, alloc, &mut supervisor, journey)
 }
 
 fn go_through(rt: &impl Abort, alloc: Global, table: &str) -> Result<(), Fail> {
@@ -77,6 +100,11 @@ fn the_release_speed_counts_past_the_earlier_start(rt: HostRuntime) -> Result<()
 }
 
 #[test]
+fn a_release_speed_is_calculated_from_the_trip(rt: HostRuntime) -> Result<(), Fail> {
+    go_through(&rt, rt.alloc(), CALCULATED)
+}
+
+#[test]
 fn rows_are_those_of_an_exact_model(rt: HostRuntime) -> Result<(), Fail> {
     go_through(&rt, rt.alloc(), MODELLED)
 }
@@ -104,38 +132,47 @@ limit 100000 0 = bad speed
 limit 200000 501 = bad speed
 band 1 upper 36; band 2 upper 72 emergency 80 service 80 normal 80; band 3 emergency 50 service 50 normal 50; gradient 0 800 199999 -500; end 100000 100000 0 = Safe slope 1900000000 too weak in band 3, cell 199999";
 
+/// Why data are refused, if they are.
+fn refusal(alloc: Global, data: Data) -> Result<Option<OpenFault>, Fail> {
+    match begin(alloc, data)? {
+        Ok(_) => Ok(None),
+        Err(fault) => Ok(Some(fault)),
+    }
+}
+
+/// What comes of opening a supervisor over the base data with changes.
+fn opening(alloc: Global, changes: &str) -> Result<String, Fail> {
+    let mut data = base(alloc);
+    set_line(alloc, &mut data, changes)?;
+    match refusal(alloc, data)? {
+        None => Ok(format!(in alloc; "taken")?),
+        Some(fault) => Ok(format!(in alloc; "{fault}")?),
+    }
+}
+
 #[test]
 fn the_first_fault_of_an_opening_is_named(rt: HostRuntime) -> Result<(), Fail> {
-    let alloc = rt.alloc();
     for line in OPENINGS.lines() {
-        let (text, expected) = line.split_once(" = ").ok_or("no answer")?;
-        let mut data = base(alloc);
-        set_line(alloc, &mut data, text)?;
-        let found = match begin(alloc, data)? {
-            Ok(_) => format!(in alloc; "taken")?,
-            Err(fault) => format!(in alloc; "{fault}")?,
-        };
-        assert_eq!(rt; found.as_str(), expected, "{text}");
+        let (changes, expected) = line.split_once(" = ").ok_or("no answer")?;
+        let found = opening(rt.alloc(), changes)?;
+        assert_eq!(rt; found.as_str(), expected, "{changes}");
     }
     Ok(())
+}
+
+/// The 32 restrictions are taken, and rows are as of the base data, before an EOA at 1 km and at 100 km.
+fn go_to_the_end(rt: &impl Abort, alloc: Global, supervisor: &mut Supervisor) -> Result<(), Fail> {
+    restrict(rt, alloc, supervisor)?;
+    let near = "800000,800000,760000,720000,540000";
+    read(rt, alloc, supervisor, 0, near)?;
+    expect(rt, alloc, supervisor, "end,10000000,10000000,0", "taken")?;
+    let far = "99800000,99800000,99760000,99720000,99540000";
+    read(rt, alloc, supervisor, 1, far)
 }
 
 #[test]
 fn the_greatest_data_have_rows(rt: HostRuntime) -> Result<(), Fail> {
     let alloc = rt.alloc();
-    let Ok(mut supervisor) = begin(alloc, greatest(alloc)?)? else {
-        return Err("the opening is refused")?;
-    };
-    restrict(&rt, alloc, &mut supervisor)?;
-    let near = "800000,800000,760000,720000,540000";
-    read(&rt, alloc, &mut supervisor, 0, near)?;
-    expect(
-        &rt,
-        alloc,
-        &mut supervisor,
-        "end,10000000,10000000,0",
-        "taken",
-    )?;
-    let far = "99800000,99800000,99760000,99720000,99540000";
-    read(&rt, alloc, &mut supervisor, 1, far)
+    let mut supervisor = opened(alloc, greatest(alloc)?)?;
+    go_to_the_end(&rt, alloc, &mut supervisor)
 }

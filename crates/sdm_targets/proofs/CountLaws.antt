@@ -23,10 +23,12 @@ use Rattle.sdm_targets.specs.Lists.{most_falls}
 
 -- ---- how many zones have begun
 
+-- 1 where a zone with this first cell has begun at `at`, else 0; one without a first cell counts 0
 abbrev begun : Option ℤ → ℤ → ℕ
 begun None at = 0
 begun (Some first) at = if int_le first at then 1 else 0
 
+-- how many zones have begun at a cell
 pub passed : List Zone → ℤ → ℕ
 passed [] at = 0
 passed (z ∷ zs) at = begun z.first at + passed zs at
@@ -36,6 +38,7 @@ begun_most None at = omega arith
 begun_most (Some f) at = by_lt_z at f (λ (l : at <ℤ f). rw (not_le_is f at l) (omega arith))
     (λ (g : f ≤ℤ at). rw (le_is f at g) (omega arith))
 
+-- no less at a later cell
 begun_rises : (first : Option ℤ) (at c : ℤ) → at ≤ℤ c → begun first at ≤ begun first c
 begun_rises None at c le = omega arith
 begun_rises (Some f) at c le =
@@ -43,6 +46,7 @@ begun_rises (Some f) at c le =
     (λ (l : at <ℤ f). rw (not_le_is f at l) (omega arith))
     (λ (g : f ≤ℤ at). rw (le_is f at g, le_is f c (omega (arith, ints))) (omega arith))
 
+-- one more where the zone begins
 begun_here : (first : Option ℤ) (at c : ℤ) → at <ℤ c → option_map_or (int_eq c) first false ≡ true →
     begun first at + 1 ≤ begun first c
 begun_here None at c lt here = absurd cc
@@ -55,17 +59,20 @@ unfolding passed
 passed_most [] at = omega arith
 passed_most (z ∷ zs) at = omega (arith, begun_most z.first at, passed_most zs at)
 
+-- no fewer at a later cell
 passed_rises : (zs : List Zone) (at c : ℤ) → at ≤ℤ c → passed zs at ≤ passed zs c
 unfolding passed
 passed_rises [] at c le = omega arith
 passed_rises (z ∷ zs) at c le = omega (arith, begun_rises z.first at c le, passed_rises zs at c le)
 
+-- where one of two counts rises and neither falls, their sum rises
 one_of : (a b : Bool) (k l m n : ℕ) → (a ≡ true → k + 1 ≤ l) → k ≤ l → (b ≡ true → m + 1 ≤ n) → m ≤ n →
     (a || b) ≡ true → (k + m) + 1 ≤ l + n
 one_of true b k l m n first le rest rises here = omega (arith, first refl)
 one_of false true k l m n first le rest rises here = omega (arith, rest refl)
 one_of false false k l m n first le rest rises here = absurd cc
 
+-- and more where one begins
 pub passed_more : (zs : List Zone) (at c : ℤ) → at <ℤ c → has_start zs c ≡ true → passed zs at + 1 ≤ passed zs c
 unfolding passed
 passed_more [] at c lt here = absurd cc
@@ -76,15 +83,18 @@ passed_more (z ∷ zs) at c lt here =
 
 -- ---- the zones of a profile
 
+-- a zone for each entry
 static_count : (length_cm : ℤ) (first : Option ℤ) (e : SpeedStep) (es : List SpeedStep) →
     length (static_zones length_cm first e es) ≡ length (e ∷ es)
 static_count length_cm first e [] = refl
 static_count length_cm first e (next ∷ es) = ap suc (static_count length_cm (Some next.start) next es)
 
+-- of a list with entries or none
 track_count : (length_cm : ℤ) (es : List SpeedStep) → length (zones_of_track length_cm es) ≡ length es
 track_count length_cm [] = refl
 track_count length_cm (e ∷ es) = static_count length_cm None e es
 
+-- there are no more zones than entries and restrictions
 pub zones_few : (p : ProfileData) → IsProfile p → length (zones_of p) ≤ length p.speeds + most_restrictions
 zones_few p h =
     rw (
@@ -96,6 +106,7 @@ zones_few p h =
     )
     (omega (arith, h.few))
 
+-- as many falls as zones have begun are no more than a profile may have
 pub falls_few : (p : ProfileData) (at : ℤ) (n : ℕ) → IsProfile p → n ≤ passed (zones_of p) at → n ≤ most_falls
 falls_few p at n h le = omega (arith, passed_most (zones_of p) at, zones_few p h, h.speeds.few)
 
@@ -107,6 +118,7 @@ fall_counts p at fall next =
 
 module _ {A : Type 0} (fall : A → Fall) (p : ℤ → ℕ) (zs : List Zone)
     (starts : (c : ℤ) → is_fall p c ≡ true → has_start zs c ≡ true) where
+  -- from a cell to the next fall one more zone has begun
   step : (at : ℤ) (x : A) → IsNextFall p at (fall x) → passed zs at + 1 ≤ passed zs (fall x).cell
   step at x next = passed_more zs at (fall x).cell next.beyond (starts (fall x).cell next.falls)
 

@@ -9,6 +9,7 @@ use Rattle.sdm_targets.specs.Lists.{falls_past, target_at}
 use Rattle.sdm_targets.proofs.FallLaws.{none_left, next_first}
 
 module _ {A : Type 0} (fall : A → Fall) (p : ℤ → ℕ) where
+  -- where the first `j` lie up to the end and the others past it, the first ones give the falls up to the end
   pub falls_up_to : (after end : ℤ) (xs : List A) (j : ℕ) → ((k : ℕ) (d : A) → k < j → k < length xs →
       (fall (get_or xs k d)).cell ≤ℤ end) →
       ((k : ℕ) (d : A) → j ≤ k → k < length xs → end <ℤ (fall (get_or xs k d)).cell) →

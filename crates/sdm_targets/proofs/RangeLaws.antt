@@ -18,6 +18,7 @@ cell_not_before_0 c h = omega (arith, ints)
 cell_on_track : (c : ℤ) → c ≤ℤ pos longest_track → place_of_cell c ≤ℤ place_of_cell (pos longest_track)
 cell_on_track c h = omega (arith, ints)
 
+-- with the target at one more such fall all targets are in their ranges
 pub one_more_on_track : (ts : List Target) (fall : Fall) → All IsTarget ts → IsFallInRange fall →
     All IsTarget (ts ++ record { kind = Mrsp; place = place_of_cell fall.cell; speed = fall.speed } ∷ [])
 one_more_on_track ts fall each on =

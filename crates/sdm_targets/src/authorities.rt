@@ -1,9 +1,9 @@
 //! Which movement authorities are accepted.
 
 ghost use Rattle.std.specs.Prelude.{◌≡◌, pos, Some, None, IfErr, OnOk};
-ghost use Rattle.sdm_rules.specs.Records.{authority_fault};
+ghost use Rattle.sdm_rules.specs.Records.{authority_fault, trip_fault};
 
-use sdm_rules::{Authority, AuthorityFault, TOP_KMH};
+use sdm_rules::{Authority, AuthorityFault, TOP_KMH, TripFault};
 
 /// Accepts a stop, or says the first fault of it.
 fn check_stop(eoa: u32, svl: u32, release: u16, track_cm: u32) -> Result<(), AuthorityFault>
@@ -49,4 +49,18 @@ pub fn check_authority(a: &Authority, track_cm: u32) -> Result<(), AuthorityFaul
         Authority::Stop { eoa, svl, release } => check_stop(eoa, svl, release, track_cm),
         Authority::Limit { loa, speed } => check_limit(loa, speed, track_cm),
     }
+}
+
+/// Accepts a stop whose release speed is calculated, for a track of this length in cm, with the place of the front end
+/// at which a train that ran past its EOA is tripped. Refused, by the first of these: where `check_authority` refuses
+/// a stop at these places; where the trip lies before the EOA or past the SvL. (SUBSET-026-3 3.13.9.4.8; refusals own)
+pub fn check_trip(eoa: u32, svl: u32, trip: u32, track_cm: u32) -> Result<(), TripFault>
+    ensures accepted { OnOk result (trip_fault (pos track_cm) eoa svl trip ≡ None) }
+    ensures refused { IfErr result (λ fault. trip_fault (pos track_cm) eoa svl trip ≡ Some fault) }
+{
+    check_stop(eoa, svl, 0, track_cm).map_err(TripFault::Authority)?;
+    if trip < eoa || svl < trip {
+        return Err(TripFault::BadTrip);
+    }
+    Ok(())
 }

@@ -6,10 +6,10 @@ mod authorities;
 mod foot_speeds;
 mod lists;
 
-pub use authorities::check_authority;
+pub use authorities::{check_authority, check_trip};
 pub use foot_speeds::foot_speed;
 pub use lists::{TargetList, end_of, targets_of};
-pub use sdm_rules::{Authority, AuthorityFault, Target, TargetKind};
+pub use sdm_rules::{Authority, AuthorityFault, Target, TargetKind, TripFault};
 
 #[cfg(test)]
 mod tests;

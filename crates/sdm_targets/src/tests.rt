@@ -1,6 +1,8 @@
 //! Authorities, foot speeds and lists of targets, worked by hand.
 
-use crate::{Authority, Target, TargetKind, TargetList, check_authority, foot_speed, targets_of};
+use crate::{
+    Authority, Target, TargetKind, TargetList, check_authority, check_trip, foot_speed, targets_of,
+};
 use sdm_num::Place;
 use sdm_speed::{Profile, Restriction};
 use sdm_track::{SpeedStep, Track};
@@ -54,6 +56,34 @@ fn the_first_fault_of_an_authority_is_named(rt: HostRuntime) -> Result<(), Fail>
     for line in AUTHORITIES.lines() {
         let (text, expected) = line.split_once(" = ").ok_or("no answer")?;
         let found = match check_authority(&authority(text)?, 100_000) {
+            Ok(()) => format!(in rt.alloc(); "accepted")?,
+            Err(fault) => format!(in rt.alloc(); "{fault}")?,
+        };
+        assert_eq!(rt; found.as_str(), expected, "{line}");
+    }
+    Ok(())
+}
+
+/// EOA, SvL and the place of a trip on a track of 100,000 cm, and what is answered.
+const TRIPS: &str = "\
+0 0 0 = accepted
+99999 100000 99999 = accepted
+99999 100000 100000 = accepted
+100000 99999 0 = supervised location before end
+100001 100000 0 = supervised location before end
+100000 100001 0 = beyond track
+90000 99999 89999 = bad trip place
+90000 99999 100000 = bad trip place";
+
+#[test]
+fn a_trip_lies_from_the_eoa_to_the_svl(rt: HostRuntime) -> Result<(), Fail> {
+    for line in TRIPS.lines() {
+        let (text, expected) = line.split_once(" = ").ok_or("no answer")?;
+        let mut words = text.split(' ');
+        let eoa = number(words.next())?;
+        let svl = number(words.next())?;
+        let trip = number(words.next())?;
+        let found = match check_trip(eoa, svl, trip, 100_000) {
             Ok(()) => format!(in rt.alloc(); "accepted")?,
             Err(fault) => format!(in rt.alloc(); "{fault}")?,
         };

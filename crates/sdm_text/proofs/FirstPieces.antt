@@ -13,6 +13,7 @@ not_true : (b : Bool) → (b ≡ true → ⊥) → b ≡ false
 not_true true is = absurd (is refl)
 not_true false is = refl
 
+-- the first line of a text with an LF is the text up to it, and the others are those of the rest
 line_up_to : (text : List ℕ) (at : ℕ) → at < length text → get_or text at 0 ≡ 10 →
     ((k : ℕ) → k < at → eqb (get_or text k 0) 10 ≡ false) →
     ended_lines text ≡ take (suc at) text ∷ ended_lines (drop (suc at) text)
@@ -23,6 +24,7 @@ line_up_to (c ∷ cs) (suc at) within is none =
     let rest = line_up_to cs at (omega arith) is (λ k lt. none (suc k) (omega arith)) in
     rw (other, rest)
 
+-- a text with no LF is one line
 one_line : (text : List ℕ) → 0 < length text → ((k : ℕ) → k < length text → eqb (get_or text k 0) 10 ≡ false) →
     ended_lines text ≡ text ∷ []
 one_line [] some none = absurd (omega arith)

@@ -33,6 +33,7 @@ none_read ds = record { digits = refl; writes = refl; small = omega arith }
 -- one more digit
 module _ (ds : List ℕ) (i n c d : ℕ) (within : i < length ds) (read : c ≡ get_or ds i 0)
     (digit : (is_ascii_digit c ≡ true) × (d ≡ c - 48)) where
+  -- the next byte is the digit `d`
   here : digit_value (get_or ds i 0) ≡ d
   here = let is = digit.0 in let value = digit.1 in rw (← read, value) (grind (arith, nat_tests))
 
@@ -66,19 +67,23 @@ writes_digits (c ∷ ds) is =
 
 module _ (line : List ℕ) (m count n : ℕ) (within : count < length (take m line)) (few : m ≤ most_digits + 1)
     (each : list_all is_ascii_digit (take count (take m line)) ≡ true) where
+  -- the digits end before the bytes that are looked at do, and before the line
   short : (count < m) × (count < length line)
   short = (omega (arith, length-take m line), omega (arith, length-take m line))
 
+  -- so they are the first bytes of the line
   digits : list_all is_ascii_digit (take count line) ≡ true
   digits = rw (take_of_take count m line (omega (arith, short.0))) at each
 
   long : length (take count line) ≡ count
   long = omega (arith, length-take count line, short.1)
 
+  -- and none of them is a comma
   before : (k : ℕ) → k < count → eqb (get_or line k 0) 44 ≡ false
   before k lt = no_comma (get_or line k 0) (rw (get_or-take count line k 0 lt) at
       (AllPass-from_list_all is_ascii_digit (take count line) digits k 0 (omega (arith, long))))
 
+  -- where a comma follows them, the line's first field is their number
   pub begins_with_digits : 0 < count → get_or (take m line) count 0 ≡ 44 →
       n ≡ digits_value 10 (take count (take m line)) → BeginsWithNumber line (pos n) (drop (count + 1) line)
   begins_with_digits some comma writes =

@@ -13,6 +13,7 @@ use Rattle.sdm_rules.specs.Numbers.{is_digits, number_of}
 pub no_comma : (c : ℕ) → is_ascii_digit c ≡ true → eqb c 44 ≡ false
 no_comma c is = ne_eqb c 44 (λ same. let digit : is_ascii_digit 44 ≡ true = rw same at is in false≢true digit)
 
+-- digits alone are one field
 digits_in_one : (ds : List ℕ) → list_all is_ascii_digit ds ≡ true → comma_fields ds ≡ ds ∷ []
 digits_in_one [] all = refl
 digits_in_one (c ∷ ds) all = let each = and_parts _ _ all in rw (no_comma c each.0, digits_in_one ds each.1) refl

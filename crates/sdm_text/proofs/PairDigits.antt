@@ -13,6 +13,7 @@ abbrev are_entries : ℕ → Bool
 are_entries zero = true
 are_entries (suc p) = is_entry p && are_entries p
 
+-- so each of them is
 entry_below : (n p : ℕ) → are_entries n ≡ true → p < n → is_entry p ≡ true
 entry_below zero p all lt = absurd (omega (arith, lt))
 entry_below (suc n) p all lt =

@@ -1,5 +1,5 @@
 -- The number of the first field of a line (own).
-use Rattle.std.specs.Prelude.{◌≡◌, ◌≢◌, ℕ, ℤ, List, ◌∷◌, Ok, Some, None}
+use Rattle.std.specs.Prelude.{◌≡◌, ◌≢◌, ℕ, ℤ, List, ◌∷◌, Ok, Some}
 use Rattle.sdm_rules.specs.Lines.{comma_fields}
 use Rattle.sdm_rules.specs.Numbers.{number_of, read_int}
 
@@ -8,11 +8,6 @@ pub record BeginsWithNumber (line : List ℕ) (number : ℤ) (after : List ℕ) 
   pub field : List ℕ
   pub fields : comma_fields line ≡ field ∷ comma_fields after
   pub writes : number_of field ≡ Some number
-
--- no comma ends the line's first field, or it writes no number
-abbrev pub BeginsWithNoNumber : List ℕ → Type 0
-BeginsWithNoNumber line =
-    (field next : List ℕ) (more : List (List ℕ)) → comma_fields line ≡ field ∷ next ∷ more → number_of field ≡ None
 
 -- a comma ends the line's first field, which is read as this number from `least` to `greatest`; `after` is the line
 -- after the comma

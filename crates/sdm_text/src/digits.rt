@@ -26,15 +26,7 @@ impl RowBuf {
         if n < 0 {
             self.byte(b'-');
         }
-        self.natural(n.unsigned_abs());
-    }
-
-    /// Puts a number that is not below 0.
-    #[inline(always)]
-    fn natural(&mut self, n: u64)
-        requires { length self.old + length (decimal n) ≤ ROW_BYTES }
-        ensures { self.new ≡ self.old ++ decimal n }
-    {
+        let n = n.unsigned_abs();
         if n < 10_000 {
             self.up_to_four(n);
         } else if n < NINE_DIGITS {
@@ -54,25 +46,16 @@ impl RowBuf {
         requires room { length self.old + length (decimal n) ≤ ROW_BYTES }
         ensures { self.new ≡ self.old ++ decimal n }
     {
-        if n < 100 {
-            self.up_to_two(n);
-        } else {
-            self.up_to_two(n / 100);
-            self.two(n % 100);
-        }
-    }
-
-    /// Puts a number of at most two digits.
-    #[inline(always)]
-    fn up_to_two(&mut self, n: u64)
-        requires few { n < 100 }
-        requires room { length self.old + length (decimal n) ≤ ROW_BYTES }
-        ensures { self.new ≡ self.old ++ decimal n }
-    {
         if n < 10 {
             self.byte(b'0' + n as u8);
-        } else {
+        } else if n < 100 {
             self.two(n);
+        } else if n < 1_000 {
+            self.byte(b'0' + (n / 100) as u8);
+            self.two(n % 100);
+        } else {
+            self.two(n / 100);
+            self.two(n % 100);
         }
     }
 

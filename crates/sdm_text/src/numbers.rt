@@ -5,9 +5,8 @@ ghost use Rattle.std.specs.Prelude.{◌≡◌, ◌^◌, ◌-◌, ◌<◌, ◌≤
 ghost use Rattle.std.specs.Prelude.{Some, None, if◌then◌else◌};
 ghost use Rattle.std.specs.Char.{is_ascii_digit};
 ghost use Rattle.std.specs.Str.Parse.{digits_value};
-ghost use Rattle.sdm_text.specs.FirstNumbers.{BeginsWithNoNumber, BeginsWithNoNumberIn, BeginsWithNumber};
-ghost use Rattle.sdm_text.specs.FirstNumbers.{BeginsWithNumberIn};
-ghost use Rattle.sdm_rules.specs.Numbers.{in_range, is_digits, most_digits, number_of, read_int};
+ghost use Rattle.sdm_text.specs.FirstNumbers.{BeginsWithNoNumberIn, BeginsWithNumber, BeginsWithNumberIn};
+ghost use Rattle.sdm_rules.specs.Numbers.{is_digits, most_digits, read_int};
 
 use crate::lines::split_field;
 use sdm_rules::FieldFault;
@@ -25,17 +24,10 @@ pub fn read_int(field: &[u8], lo: i64, hi: i64) -> Result<i64, FieldFault>
     ensures value { result ≡ read_int field.now lo hi }
     ensures range { IfOk result (λ n. (lo ≤ℤ n) × (n ≤ℤ hi)) }
 {
-    let Some(number) = number_of(field) else {
-        return Err(FieldFault::NotNumber);
+    let number = match field {
+        [b'-', digits @ ..] => -(magnitude(digits).ok_or(FieldFault::NotNumber)? as i64),
+        digits => magnitude(digits).ok_or(FieldFault::NotNumber)? as i64,
     };
-    in_range(number, lo, hi)
-}
-
-/// A number where it is from `lo` to `hi`.
-fn in_range(number: i64, lo: i64, hi: i64) -> Result<i64, FieldFault>
-    ensures value { result ≡ in_range lo hi (Some number) }
-    ensures range { IfOk result (λ n. (lo ≤ℤ n) × (n ≤ℤ hi)) }
-{
     if lo <= number && number <= hi {
         Ok(number)
     } else {
@@ -52,17 +44,6 @@ pub fn natural_in(field: &[u8], least: u32, greatest: u32) -> Result<u32, FieldF
 {
     let number = read_int(field, i64::from(least), i64::from(greatest))?;
     Ok(number as u32)
-}
-
-/// The number that a field writes, if it is of this form.
-#[inline(always)]
-fn number_of(field: &[u8]) -> Option<i64>
-    ensures { result ≡ number_of field.now }
-{
-    match field {
-        [b'-', digits @ ..] => Some(-(magnitude(digits)? as i64)),
-        digits => Some(magnitude(digits)? as i64),
-    }
 }
 
 /// The number that 1 to 18 digits write; none for other bytes. Digits are read in pairs, after the first of an odd
@@ -111,28 +92,18 @@ pub fn split_number(line: &[u8], least: i64, greatest: i64) -> Option<(i64, &[u8
     ensures range { IfSome result (λ cut. (least ≤ℤ cut.0) × (cut.0 ≤ℤ greatest)) }
     ensures none { IfNone result (BeginsWithNoNumberIn line.now least greatest) }
 {
-    let Some((number, after)) = split_any_number(line) else {
-        return None;
-    };
-    let Ok(number) = in_range(number, least, greatest) else {
-        return None;
-    };
-    Some((number, after))
-}
-
-/// The number of the first field of a line, and the line after the comma that ends the field; none where no comma
-/// does, or the field is no number.
-fn split_any_number(line: &[u8]) -> Option<(i64, &[u8])>
-    ensures some { IfSome result (λ cut. BeginsWithNumber line.now cut.0 cut.1.now) }
-    ensures none { IfNone result (BeginsWithNoNumber line.now) }
-{
     if let Some((number, after)) = split_digits(line) {
-        return Some((number as i64, after));
+        let number = number as i64;
+        return if least <= number && number <= greatest {
+            Some((number, after))
+        } else {
+            None
+        };
     }
     let Some((field, after)) = split_field(line) else {
         return None;
     };
-    let Some(number) = number_of(field) else {
+    let Ok(number) = read_int(field, least, greatest) else {
         return None;
     };
     Some((number, after))

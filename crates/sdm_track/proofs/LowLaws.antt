@@ -47,6 +47,7 @@ last_is : (indices : List ℕ) (last : ℕ) →
 last_is indices last = slice_get_read (indices ++ last ∷ []) _ _ last refl (omega (arith, length_push indices last))
     (sym (get_or_push indices last last _ (omega (arith, length_push indices last))))
 
+-- so what is left without it is kept
 pub goes : (entries : List Gradient) (i j : ℕ) (old new : List ℕ) (last : Option ℕ) →
     old ≡ new ++ option_to_list last → ends_below entries old j ≡ false →
     AreKept entries (grad_at entries j) i j old → AreKept entries (grad_at entries j) i j new
@@ -78,6 +79,7 @@ lowest_with entries i j index below h = record {
   ];
 }
 
+-- with the new entry behind them, the lows that are kept are the lows of the entries up to it
 low_added : (entries : List Gradient) (i j : ℕ) (indices : List ℕ) → i ≤ j →
     ((k d : ℕ) → k + 1 ≡ length indices → grad_at entries (get_or indices k d) ≤ℤ grad_at entries j) →
     AreKept entries (grad_at entries j) i j indices → AreLows entries i (j + 1) (indices ++ j ∷ [])

@@ -23,6 +23,7 @@ pub record IsLowest {V : Type 0} (AtMost : V → V → Type 0) (f : ℤ → V) (
   pub reached : f at ≡ v
 
 module _ {V : Type 0} (AtMost : V → V → Type 0) (lower : V → V → V) (order : GivesLower AtMost lower) (f : ℤ → V) where
+  -- of one cell
   lowest_of_one : (first last : ℤ) → first ≡ last → IsLowest AtMost f first last (f first)
   lowest_of_one first last e = record {
     none_below = λ c a b. let is : c ≡ first = omega (arith, ints) in rw is (order.same (f first));
@@ -58,6 +59,7 @@ module _ {V : Type 0} (AtMost : V → V → Type 0) (lower : V → V → V) (ord
         }
       ]
 
+  -- the lowest value over consecutive cells is at most each of theirs, and one of them
   pub lowest_is_lowest : (first last : ℤ) (n : ℕ) → last ≡ first +ℤ pos n →
       IsLowest AtMost f first last (lowest lower f first n)
   lowest_is_lowest first last zero e = lowest_of_one first last (omega (arith, ints))

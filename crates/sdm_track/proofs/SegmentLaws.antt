@@ -74,6 +74,7 @@ ends_on out at to value h le = record {
 module _ (out : List Segment) (s : Segment) (at value : ℤ) (h : EndsWith out at value) (later : at <ℤ s.start)
     (in_range : IsSegment s)
     (new : value ≢ s.value) where
+  -- the segments before stay as they were
   old_at : (i : ℕ) (d : Segment) → i < length out → get_or (out ++ s ∷ []) i d ≡ get_or out i d
   old_at i d l = get_or-append out (s ∷ []) d i l
 
@@ -197,6 +198,7 @@ module _ (entries : List Gradient) (length_cm : ℕ) (gradients : AreGradients (
   module _ (old new : Window) (out : List Segment) (value grad : ℤ) (made : IsSoFar entries length_cm old out value)
       (next : IsNext entries length_cm old new)
       (lowest_there : IsLowestEntry entries new.rear (new.front + 1) grad) where
+    -- both ends of the window lie among the entries
     rear_in : new.rear ≤ length entries - 1
     rear_in = omega (arith, next.under.rear.known)
 

@@ -27,6 +27,7 @@ module _ {E : Type 0} (start : E → ℤ) where
     pub index : ℕ
     pub lies : LiesIn start es index c
 
+  -- a cell before the start of the next step lies in one of the steps up to this one
   found_up_to : (es : List E) (d : E) (i : ℕ) (c : ℤ) → i < length es → IsBeforeNext start es i c → Found es c
   found_up_to es d zero c known before = record {
     index = 0;

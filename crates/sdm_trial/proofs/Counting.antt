@@ -33,6 +33,7 @@ sum_reduced n some x y =
     let part_rem = int_rem_euclid_is (pos (m % n) +ℤ y) (pos n) n (unsigned_abs y) (m % n + k) some refl part in
     ap (λ r. int_rem_euclid (r +ℤ y) (pos n)) x_rem ∙ part_rem ∙ ap (λ r. pos r) (mod-add-mod m n k) ∙ sym sum_rem
 
+-- the sum of EBIs is told modulo this number
 abbrev modulus : ℤ
 modulus = pos 1_000_000_000
 

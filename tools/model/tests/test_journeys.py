@@ -56,6 +56,15 @@ class Journeys(unittest.TestCase):
         self.assertLessEqual({0, 6}, ends[9] | ends[10])
         self.assertEqual([0 in ends[bands] for bands in (9, 10, 11)], [True, True, False])
 
+    def test_calculated_release_speeds_come_and_are_refused(self):
+        found = {0: set(), 1: set()}
+        for seed in range(400):
+            words, name, data = make(seed)
+            if words == ["run"] and b"endcalc" in data:
+                found[seed % 2].add(collect(words, data)[1].partition(": ")[2].split(": ")[-1].strip())
+        for faults in found.values():
+            self.assertLessEqual({"", "bad trip place"}, faults)
+
     def test_states_commands_and_faults_come(self):
         seen = set()
         for seed in range(300):

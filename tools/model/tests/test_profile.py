@@ -10,8 +10,9 @@ from model.curves import BrakeCurve
 from model.data import Limit, Stop
 from model.decelerations import Brake, brakes_of
 from model.journey import Supervisor, cycles
-from model.limits import Target, release_start, times_of, until_the_emergency_brake_works
+from model.limits import Target, times_of, until_the_emergency_brake_works
 from model.records import Reading, Restriction
+from model.release import release_start
 from model.speeds import dV_ebi, dV_sbi, dV_warning
 from model.trial import REALISTIC
 from model.units import GRAINS_PER_CM, GRAINS_PER_MM, NOTCHES_PER_KM_H, NOTCHES_PER_MM_S

@@ -8,13 +8,16 @@ use Rattle.sdm_rules.specs.Slopes.{Slopes}
 use Rattle.sdm_rules.specs.Curves.{back, forward, arc_back, arc_forward, grain_energy, upper_square}
 use Rattle.sdm_rules.specs.Curves.{back_through_bands, forward_through_bands, place_at}
 
+-- no change of the square uses no energy
 no_energy : (on : Slopes) (m u : ℕ) → m * grain_energy on (u - u) ≡ 0
 no_energy on m u = let none : u - u ≡ 0 = omega arith in rw none (omega arith)
 
+-- an arc back for no change of the square ends where it begins
 arc_back_none : (on : Slopes) (s band : ℕ) (x : Fraction) (u : ℕ) → arc_back on s band x (u - u) ≡ x
 unfolding arc_back back
 arc_back_none on s band x u = rw (no_energy on x.m u)
 
+-- so does an arc forward
 arc_forward_none : (on : Slopes) (s band : ℕ) (x : Fraction) (u : ℕ) → arc_forward on s band x (u - u) ≡ x
 unfolding arc_forward forward
 arc_forward_none on s band x u = rw (no_energy on x.m u)
@@ -22,14 +25,17 @@ arc_forward_none on s band x u = rw (no_energy on x.m u)
 module _ (round : Fraction → Fraction) (on : Slopes) (s : ℕ) where
   -- ---- back
 
+  -- a band that the square has left is passed
   pub climb_skip : (left band : ℕ) (x : Fraction) (u z : ℕ) → upper_square on s band ≤ u →
       back_through_bands round on s (suc left) band x u z ≡ back_through_bands round on s left (band + 1) x u z
   climb_skip left band x u z h = search rules
 
+  -- a square within the band ends the walk by an arc of this band
   pub climb_stop : (left band : ℕ) (x : Fraction) (u z : ℕ) → u < upper_square on s band → z ≤ upper_square on s band →
       back_through_bands round on s (suc left) band x u z ≡ arc_back on s band x (z - u)
   climb_stop left band x u z h k = search rules
 
+  -- a square above the band: the arc up to the border, rounded, and on from there in the next band
   pub climb_on : (left band : ℕ) (x : Fraction) (u z : ℕ) → u < upper_square on s band → upper_square on s band < z →
       back_through_bands round on s (suc left) band x u z ≡ back_through_bands round on s left (band + 1)
       (round (arc_back on s band x (upper_square on s band - u))) (upper_square on s band) z
@@ -37,14 +43,17 @@ module _ (round : Fraction → Fraction) (on : Slopes) (s : ℕ) where
 
   -- ---- forward
 
+  -- a band whose lower border the square has reached is left for the one below
   pub descend_skip : (band : ℕ) (x : Fraction) (u z : ℕ) → u ≤ upper_square on s band →
       forward_through_bands round on s (suc band) x u z ≡ forward_through_bands round on s band x u z
   descend_skip band x u z h = search rules
 
+  -- a square within the band ends the walk by an arc of this band
   pub descend_stop : (band : ℕ) (x : Fraction) (u z : ℕ) → upper_square on s band < u → upper_square on s band ≤ z →
       forward_through_bands round on s (suc band) x u z ≡ arc_forward on s (suc band) x (u - z)
   descend_stop band x u z h k = search rules
 
+  -- a square below the band: the arc down to the border, rounded, and on from there in the band below
   pub descend_on : (band : ℕ) (x : Fraction) (u z : ℕ) → upper_square on s band < u → z < upper_square on s band →
       forward_through_bands round on s (suc band) x u z ≡ forward_through_bands round on s band
       (round (arc_forward on s (suc band) x (u - upper_square on s band))) (upper_square on s band) z
@@ -52,12 +61,14 @@ module _ (round : Fraction → Fraction) (on : Slopes) (s : ℕ) where
 
   -- ---- from the foot
 
+  -- a square at or above the foot's is reached by the walk back from the foot
   pub place_up : (f : ℤ) (w z : ℕ) → s * (w * w) ≤ z →
       place_at round on s f w z
       ≡ back_through_bands round on s (length on.uppers) 0 (whole (pos s *ℤ f)) (s * (w * w)) z
   unfolding place_at
   place_up f w z h = search rules
 
+  -- a square below the foot's is reached by the walk forward from the foot
   pub place_down : (f : ℤ) (w z : ℕ) → z < s * (w * w) →
       place_at round on s f w z
       ≡ forward_through_bands round on s (length on.uppers) (whole (pos s *ℤ f)) (s * (w * w)) z
@@ -66,6 +77,7 @@ module _ (round : Fraction → Fraction) (on : Slopes) (s : ℕ) where
 
   -- ---- no distance for no change
 
+  -- the walk back to its own square stays where it is
   pub climb_none : (left band : ℕ) (x : Fraction) (u : ℕ) → back_through_bands round on s left band x u u ≡ x
   climb_none zero band x u = arc_back_none on s band x u
   climb_none (suc left) band x u =
@@ -74,6 +86,7 @@ module _ (round : Fraction → Fraction) (on : Slopes) (s : ℕ) where
         | inl lt ↦ climb_stop left band x u u lt (omega arith) ∙ arc_back_none on s band x u
       ]
 
+  -- so does the walk forward
   pub descend_none : (band : ℕ) (x : Fraction) (u : ℕ) → forward_through_bands round on s band x u u ≡ x
   descend_none zero x u = arc_forward_none on s 0 x u
   descend_none (suc band) x u =

@@ -20,6 +20,7 @@ pub data Chain (on : Slopes) (s : ℕ) : Fraction → ℕ → Fraction → ℕ �
   along : (band : ℕ) (y x z : Fraction) (u v w : ℕ) → IsInBand on s band u → IsInBand on s band v → v ≤ u →
       Arc on s band y x (grain_energy on (u - v)) → Chain on s x v z w → Chain on s y u z w
 
+-- a chain goes on where another ends
 pub chain_joined : (on : Slopes) (s : ℕ) (y x z : Fraction) (u v w : ℕ) → Chain on s y u x v → Chain on s x v z w →
     Chain on s y u z w
 chain_joined on s _ _ z _ _ w (arrived y u p) c = c
@@ -42,6 +43,7 @@ chain_to on s _ _ _ _ (along band y x z u v w in_u in_v le arc rest) = chain_to 
 
 -- ---- where the ends lie
 
+-- an arc begins at or before its end
 pub arc_at_most : (on : Slopes) (s band c : ℕ) (y x : Fraction) → Arc on s band y x c → IsAtMost y x
 arc_at_most on s band c y x h =
     let distance = h.is.is.distance in
@@ -61,6 +63,7 @@ arc_before on s band c y x c_pos h =
     some_distance (suc d) e r p used none = omega arith
     some_distance zero e r p used none = let z : e ≡ 0 = none (omega arith) in absurd (omega arith)
 
+-- a chain begins at or before its end
 pub chain_at_most : (on : Slopes) (s : ℕ) (y x : Fraction) (u w : ℕ) → Chain on s y u x w → IsAtMost y x
 chain_at_most on s _ _ _ _ (arrived y u p) = at_most_refl y
 chain_at_most on s _ _ _ _ (along band y x z u v w in_u in_v le arc rest) =

@@ -24,37 +24,42 @@ ArePositive on = (band : ℕ) → band ≤ length on.uppers → IsPositive on ba
 -- ---- which band a walk stands in
 
 -- the walk back stands at the square `u` in the band, with `left` borders above
-record IsUp (on : Slopes) (s left band u : ℕ) : Type 0 where
+pub record IsUp (on : Slopes) (s left band u : ℕ) : Type 0 where
   sum : band + left ≡ length on.uppers
   above : lower_square on s band ≤ u
 
-up_next : (on : Slopes) (s left band u u' : ℕ) → IsUp on s (suc left) band u → upper_square on s band ≤ u' →
+-- at the upper border the walk back stands in the next band
+pub up_next : (on : Slopes) (s left band u u' : ℕ) → IsUp on s (suc left) band u → upper_square on s band ≤ u' →
     IsUp on s left (band + 1) u'
 up_next on s left band u u' h le = let e = h.sum in record { sum = omega arith; above = rw add-one le }
 
-up_here : (on : Slopes) (s left band u z : ℕ) → IsUp on s (suc left) band u → u ≤ z → z ≤ upper_square on s band →
+-- a square from here up to the border is in this band
+pub up_here : (on : Slopes) (s left band u z : ℕ) → IsUp on s (suc left) band u → u ≤ z → z ≤ upper_square on s band →
     IsInBand on s band z
 up_here on s left band u z h le below =
     let e = h.sum in
     let a = h.above in
     record { known = omega arith; above = omega arith; below = λ _. below }
 
-up_last : (on : Slopes) (s band u z : ℕ) → IsUp on s 0 band u → u ≤ z → IsInBand on s band z
+-- with no border above, every greater square is in this band
+pub up_last : (on : Slopes) (s band u z : ℕ) → IsUp on s 0 band u → u ≤ z → IsInBand on s band z
 up_last on s band u z h le =
     let e = h.sum in
     let a = h.above in
     record { known = omega arith; above = omega arith; below = λ lt. absurd (omega arith) }
 
 -- the walk forward stands at the square `u` in the band
-record IsDown (on : Slopes) (s band u : ℕ) : Type 0 where
+pub record IsDown (on : Slopes) (s band u : ℕ) : Type 0 where
   known : band ≤ length on.uppers
   below : band < length on.uppers → u ≤ upper_square on s band
 
-down_next : (on : Slopes) (s band u u' : ℕ) → IsDown on s (suc band) u → u' ≤ upper_square on s band →
+-- at the border the walk forward stands in the band below
+pub down_next : (on : Slopes) (s band u u' : ℕ) → IsDown on s (suc band) u → u' ≤ upper_square on s band →
     IsDown on s band u'
 down_next on s band u u' h le = let k = h.known in record { known = omega arith; below = λ _. le }
 
-down_here : (on : Slopes) (s band u z : ℕ) → IsDown on s (suc band) u → z ≤ u → upper_square on s band ≤ z →
+-- a square from here down to the border is in this band
+pub down_here : (on : Slopes) (s band u z : ℕ) → IsDown on s (suc band) u → z ≤ u → upper_square on s band ≤ z →
     IsInBand on s (suc band) z
 down_here on s band u z h le above = record {
   known = h.known;
@@ -62,7 +67,8 @@ down_here on s band u z h le above = record {
   below = λ lt. (let b = h.below lt in omega arith);
 }
 
-down_last : (on : Slopes) (s u z : ℕ) → IsDown on s 0 u → z ≤ u → IsInBand on s 0 z
+-- in the lowest band every lesser square is
+pub down_last : (on : Slopes) (s u z : ℕ) → IsDown on s 0 u → z ≤ u → IsInBand on s 0 z
 down_last on s u z h le = record {
   known = h.known;
   above = omega arith;
@@ -71,6 +77,7 @@ down_last on s u z h le = record {
 
 -- ---- one band
 
+-- a greater change of the square uses at least as much energy
 energy_rises : (on : Slopes) (a b : ℕ) → a ≤ b → grain_energy on a ≤ grain_energy on b
 energy_rises on a b le = mul-le-mul_left (5_000_000_000_000 * on.q) le
 
@@ -79,13 +86,14 @@ energy_less : (on : Slopes) (a b c : ℕ) → a - b ≡ c → grain_energy on a 
 energy_less on a b c e = rw (← e) (sym (mul-sub (5_000_000_000_000 * on.q) a b))
 
 module _ (on : Slopes) (s : ℕ) (positive : ArePositive on) (s_pos : 0 < s) where
+  -- an arc within one band is a chain
   one_arc : (band : ℕ) (y x : Fraction) (u w : ℕ) → IsInBand on s band u → IsInBand on s band w → w ≤ u →
       Arc on s band y x (grain_energy on (u - w)) → Chain on s y u x w
   one_arc band y x u w in_u in_w le arc =
       along band y x x u w w in_u in_w le arc (arrived x w (arc_to on s band y x _ arc))
 
   -- two arcs back from one place
-  back_part : (band : ℕ) (x : Fraction) (u z' z : ℕ) → 0 < x.m → u ≤ z' → z' ≤ z → IsInBand on s band z' →
+  pub back_part : (band : ℕ) (x : Fraction) (u z' z : ℕ) → 0 < x.m → u ≤ z' → z' ≤ z → IsInBand on s band z' →
       IsInBand on s band z →
       Chain on s (arc_back on s band x (z - u)) z (arc_back on s band x (z' - u)) z'
   back_part band x u z' z x_pos le' le in_z' in_z =
@@ -95,7 +103,7 @@ module _ (on : Slopes) (s : ℕ) (positive : ArePositive on) (s_pos : 0 < s) whe
       one_arc band _ _ z z' in_z in_z' le (rw (energy_less on (z - u) (z' - u) (z - z') (omega arith)) at arc)
 
   -- two arcs forward from one place
-  forward_part : (band : ℕ) (x : Fraction) (u z' z : ℕ) → 0 < x.m → z ≤ u → z' ≤ z → IsInBand on s band z' →
+  pub forward_part : (band : ℕ) (x : Fraction) (u z' z : ℕ) → 0 < x.m → z ≤ u → z' ≤ z → IsInBand on s band z' →
       IsInBand on s band z →
       Chain on s (arc_forward on s band x (u - z)) z (arc_forward on s band x (u - z')) z'
   forward_part band x u z' z x_pos le' le in_z' in_z =
@@ -104,11 +112,13 @@ module _ (on : Slopes) (s : ℕ) (positive : ArePositive on) (s_pos : 0 < s) whe
       (arc_forward-is on s band (u - z') x p s_pos x_pos) (arc_forward-is on s band (u - z) x p s_pos x_pos) in
       one_arc band _ _ z z' in_z in_z' le (rw (energy_less on (u - z') (u - z) (z - z') (omega arith)) at arc)
 
+  -- an arc back from a place ends at a place (its denominator is above 0)
   back_pos : (band : ℕ) (x : Fraction) (change : ℕ) → band ≤ length on.uppers → 0 < x.m →
       0 < (arc_back on s band x change).m
   back_pos band x change known x_pos =
       arc_from on s band _ x _ (arc_back-is on s band change x (positive band known) s_pos x_pos)
 
+  -- so does an arc forward
   forward_pos : (band : ℕ) (x : Fraction) (change : ℕ) → band ≤ length on.uppers → 0 < x.m →
       0 < (arc_forward on s band x change).m
   forward_pos band x change known x_pos =
@@ -195,10 +205,12 @@ module _ (on : Slopes) (s : ℕ) (positive : ArePositive on) (s_pos : 0 < s) whe
 
   -- ---- from the foot
 
-  at_foot_up : (u : ℕ) → IsUp on s (length on.uppers) 0 u
+  -- the walk back begins in the lowest band
+  pub at_foot_up : (u : ℕ) → IsUp on s (length on.uppers) 0 u
   at_foot_up u = record { sum = omega arith; above = omega arith }
 
-  at_foot_down : (u : ℕ) → IsDown on s (length on.uppers) u
+  -- the walk forward begins in the highest band
+  pub at_foot_down : (u : ℕ) → IsDown on s (length on.uppers) u
   at_foot_down u = record { known = omega arith; below = λ lt. absurd (omega arith) }
 
   -- the exact places of two squares are joined

@@ -13,6 +13,7 @@ use Rattle.sdm_laws.proofs.BrakeCurves.CurveOrder.{exact_positive}
 use Rattle.sdm_laws.proofs.BrakeCurves.CurveScales.{exact_scaled}
 use Rattle.sdm_laws.specs.SupervisionLaws.{IsJustBefore}
 
+-- a computed place lies just before the exact one
 pub near_on : (on : Slopes) → IsUsable on → (f : ℤ) (w v : ℕ) → IsJustBefore (computed on f w v) (exact_places on f w v)
 near_on on usable f w v =
     let e = (rounding on f w v usable).early_at_most in
@@ -31,6 +32,7 @@ finer m p y_n b_n y_m b_m y_pos h same =
     let two = simp scales at same in
     scale-≤_cancel y_m _ _ y_pos (simp scales (omega (arith, ints, one, two)))
 
+-- a point within the curve at scale 1 is within it at every finer scale
 pub scaled_within : (on : Slopes) → IsUsable on → (m : ℕ) (f : ℤ) (w z : ℕ) (p : ℤ) → 0 < m →
     IsAtMost (whole p) (exact_at on 1 f w z) → IsAtMost (whole (pos m *ℤ p)) (exact_at on m f w (m * z))
 scaled_within on usable m f w z p m_pos h =

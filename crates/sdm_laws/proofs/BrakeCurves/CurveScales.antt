@@ -9,9 +9,11 @@ use Rattle.sdm_rules.specs.Curves.{as_is, exact_at}
 use Rattle.sdm_laws.proofs.OneBand.CommonSteps.{IsPastBy, past_more}
 use Rattle.sdm_laws.proofs.BrakeCurves.TwoWalks.{IsApartAfter, over, place_near, usable_fair}
 
+-- walks that don't round stay together
 never_apart : (k v : ℕ) → IsApartAfter k v as_is (λ n. 0)
 never_apart k v = record { later = λ n n' le. omega arith; rounds = λ n x x' h. past_more _ _ _ _ h (omega arith) }
 
+-- what is past the `k`th part by nothing is `k` times as much
 same_of : (k : ℕ) (x big : Fraction) → IsPastBy x (over k big) 0 → IsSame big (times k x)
 same_of k x big h = record { crossed = both_distances k big.m x.m big.n x.n h.not_before.crossed h.near.crossed }
   where
@@ -22,6 +24,7 @@ same_of k x big h = record { crossed = both_distances k big.m x.m big.n x.n h.no
         let none : big_n +ℤ pos (0 * (k * big_m)) ≡ big_n = omega (arith, ints) in
         rw (scale-scale big_m k n, mul_comm big_m k) (omega (arith, ints, low, rw none at high))
 
+-- at `k` times the scale the place of `k` times the square is `k` times the place
 pub exact_scaled : (on : Slopes) (s k : ℕ) (f : ℤ) (w u : ℕ) → IsUsable on → 0 < s → 0 < k →
     IsSame (exact_at on (k * s) f w (k * u)) (times k (exact_at on s f w u))
 unfolding exact_at

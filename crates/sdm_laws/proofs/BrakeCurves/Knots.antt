@@ -20,6 +20,7 @@ use Rattle.sdm_laws.proofs.BrakeCurves.BandSteps.{climb_on, descend_on}
 
 -- ---- the end of an arc
 
+-- back: the end of the arc, rounded down, lies the knot's distance before the whole grain
 floor_back : (on : Slopes) (band : ℕ) (f : ℤ) (d r : ℕ) (y : Fraction) → IsPositive on band → IsKnot on band f d r →
     IsBackBy on 1 band (whole f) y r → floor y ≡ f +ℤ neg_ℤ (pos d)
 floor_back on band f d r y some knot h =
@@ -60,6 +61,7 @@ floor_back on band f d r y some knot h =
         )) in
         omega arith
 
+-- forward: the end of the arc, rounded down, lies the knot's distance past the whole grain
 floor_forward : (on : Slopes) (band : ℕ) (f : ℤ) (d r : ℕ) (y : Fraction) → IsPositive on band →
     IsKnotPast on band f d r →
     IsForwardBy on 1 band (whole f) y r → floor y ≡ f +ℤ pos d
@@ -135,6 +137,7 @@ descend_knot on band at d u z some lt further knot =
 
 -- ---- all of it, in one band
 
+-- in each band of usable slopes the facts of knots give stepped places
 pub band_knots : (on : Slopes) (band : ℕ) → IsUsable on → band ≤ length on.uppers → HasKnots on band
 band_knots on band usable known =
     let some = usable.positive band known in

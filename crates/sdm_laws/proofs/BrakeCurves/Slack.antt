@@ -40,6 +40,7 @@ slack_next : (k n e : ℕ) → slack_after k (suc n) e ≡ k * slack_after k n e
 slack_next k zero e = refl
 slack_next k (suc n) e = slack_next k n (k * e + 1)
 
+-- after more bands the slack is no less
 slack_rises : (k n n' e : ℕ) → 0 < k → n ≤ n' → slack_after k n e ≤ slack_after k n' e
 slack_rises k n zero e p le = let none : n ≡ 0 = omega arith in rw none (omega arith)
 slack_rises k n (suc n') e p le =
@@ -89,9 +90,11 @@ greatest_slack : greatest slack_of most_bands ≡ most_slack
 unfolding greatest
 greatest_slack = refl
 
+-- the slack of as many bands as there may be is within the greatest slack
 slack_at_most : (bands : ℕ) → bands ≤ most_bands → slack_of bands ≤ most_slack
 slack_at_most bands le = rw (sym greatest_slack) (at_most_greatest slack_of bands most_bands le)
 
+-- a whole place at most `e` grains before the exact one is early for it, with any slack from `e` on
 early_of_past : (z : ℤ) (x : Fraction) (e e' : ℕ) → IsPastBy x (whole z) e → e ≤ e' →
     IsEarlyFor (record { at = z; slack = e' }) x
 early_of_past z x e e' past le =
@@ -99,6 +102,7 @@ early_of_past z x e e' past le =
     let one : e' * 1 ≡ e' = omega arith in
     record { positive = p.left; not_past = p.not_before; near = rw one at p.near }
 
+-- a stepped place is early for the exact one, within the slack of the bands and within a millimetre
 pub rounding : (on : Slopes) (f : ℤ) (w v : ℕ) → IsUsable on → IsRounded on f w v
 unfolding exact exact_at stepped
 rounding on f w v h =

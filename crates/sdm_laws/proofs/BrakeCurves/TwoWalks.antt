@@ -41,12 +41,15 @@ over k x = record { n = x.n; m = k * x.m }
 
 -- ---- what is `k` times as much
 
+-- a difference of scaled numbers is scaled
 less_scaled : (k a b a' b' : ℕ) → a' ≡ k * a → b' ≡ k * b → a' - b' ≡ k * (a - b)
 less_scaled k a b a' b' p q = rw (p, q) (sym (mul-sub k a b))
 
+-- scaling keeps `≤`
 le_scaled : (k a b a' b' : ℕ) → a' ≡ k * a → b' ≡ k * b → a ≤ b → a' ≤ b'
 le_scaled k a b a' b' p q le = rw (p, q) (mul-le-mul_left k le)
 
+-- scaling by a number above 0 keeps `<`
 lt_scaled : (k a b a' b' : ℕ) → 0 < k → a' ≡ k * a → b' ≡ k * b → a < b → a' < b'
 lt_scaled k a b a' b' k_pos p q lt = rw (p, q) (mul-lt-mul_of_pos_left lt k_pos)
 
@@ -108,6 +111,7 @@ module _ (on : Slopes) (s k v : ℕ) (round : Fraction → Fraction) (apart : �
       (past_back on s band v x _ _ _ _ _ s_pos some (fair.even band known) h arc scaled))
       (within.later (suc n) m (omega arith))
 
+  -- the same of an arc forward
   forward_near : (n m band change change' : ℕ) (x x' : Fraction) → band ≤ length on.uppers → n < m →
       change' ≡ k * change → IsNear n x x' →
       IsNear m (arc_forward on s band x change) (round (arc_forward on (k * s) band x' change'))
@@ -148,6 +152,7 @@ module _ (on : Slopes) (s k v : ℕ) (round : Fraction → Fraction) (apart : �
         ])
       ]
 
+  -- the walks forward through the bands stay near, with a step more for each band
   descend_near : (band n m u u' z z' : ℕ) (x x' : Fraction) → band ≤ length on.uppers → n + band < m →
       u' ≡ k * u → z' ≡ k * z → IsNear n x x' →
       IsNear m (forward_through_bands as_is on s band x u z)
@@ -176,6 +181,7 @@ module _ (on : Slopes) (s k v : ℕ) (round : Fraction → Fraction) (apart : �
 
   -- ---- from the foot
 
+  -- both walks begin at the same foot
   foot_near : (f : ℤ) → IsNear 0 (whole (pos s *ℤ f)) (whole (pos (k * s) *ℤ f))
   foot_near f =
       let one : k * 1 ≡ k = omega arith in

@@ -27,6 +27,7 @@ use Rattle.sdm_laws.proofs.Moving.Stretch.{stretch}
 abbrev AreRising : List ℕ → Type 0
 AreRising uppers = (i j : ℕ) → i ≤ j → j < length uppers → slice_index uppers i ≤ slice_index uppers j
 
+-- the square of a greater speed is no less, at every scale
 square_rises : (m a b : ℕ) → a ≤ b → m * (a * a) ≤ m * (b * b)
 square_rises m a b h = mul-le-mul_left m (mul-le a a b b h h)
 
@@ -60,6 +61,7 @@ same_band on m b b' u u' rising in_u in_u' part =
 
 -- ---- one step
 
+-- two places that differ have a part in the cell of the first
 part_at : (m : ℕ) (p p' : ℤ) → 0 < m → p <ℤ p' → HasPart m (cell_at m p) p p'
 part_at m p p' m_pos lt = record {
   apart = lt;
@@ -67,9 +69,11 @@ part_at m p p' m_pos lt = record {
   ends = cell_high m p m_pos;
 }
 
+-- a slope told of one of two equal bands bounds that of the other
 same_slope : (on : Slopes) (band band' : ℕ) (c : ℤ) (a : ℕ) → band ≡ band' → on.slope band' c ≡ a → on.slope band c ≤ a
 same_slope on band band' c a e h = rw (e, h) (omega arith)
 
+-- a step within the curve ends within the curve
 step_within : (on : Slopes) (m : ℕ) (f : ℤ) (w : ℕ) (x y : Point) → IsUsable on → 0 < m → IsStep on m x y →
     IsWithinCurve on m f w x →
     IsWithinCurve on m f w y
@@ -94,6 +98,7 @@ step_within on m f w x y usable m_pos step within =
 
 -- ---- at the foot
 
+-- whole places compare as their numbers do
 at_most_whole : (a b : ℤ) → IsAtMost (whole a) (whole b) → a ≤ℤ b
 at_most_whole a b h = omega (arith, ints, h.crossed)
 
@@ -124,6 +129,7 @@ within_held on m f w x usable m_pos within =
 
 -- ---- all points
 
+-- the law of braking: from within the curve every point is held by it
 pub braking : (on : Slopes) (m : ℕ) (f : ℤ) (w : ℕ) (x : Point) (ys : List Point) → IsUsable on → 0 < m →
     IsBraking on m x ys →
     IsWithinCurve on m f w x → All (IsHeldByCurve on m f w) (x ∷ ys)

@@ -20,15 +20,18 @@ use Rattle.sdm_laws.proofs.Moving.SliceBounds.{last_end}
 
 -- ---- one phase at a scale, over plain numbers
 
+-- the speed after a time with one acceleration, at the scale `s`, is at most `s` times that at scale 1
 speed_at_scale : (s speed accel time v : ℕ) → v ≤ s * speed →
     v + 54 * accel * (s * time) ≤ s * (speed + 54 * accel * time)
 speed_at_scale s speed accel time v h = omega arith
 
+-- the distance in a time with one acceleration, at the scale `s`, is at most `s * s` times that at scale 1
 distance_at_scale : (s speed accel time v distance : ℕ) → v ≤ s * speed →
     2 * distance ≤ 1_000_000 * (2 * v + 54 * accel * (s * time)) * (s * time) →
     distance ≤ s * s * (1_000_000 * ((speed + 27 * accel * time) * time))
 distance_at_scale s speed accel time v distance h k = omega (arith, mul-le-mul_left (s * time) h)
 
+-- the distances of both phases together are at most D_bec, at the scale `s`
 both_distances : (s mean at_least time rest distance distance' : ℕ) → mean ≤ at_least →
     distance ≤ s * s * (1_000_000 * (mean * time)) →
     distance' ≤ s * s * (1_000_000 * rest) → distance + distance' ≤ s * s * (1_000_000 * (at_least * time + rest))
@@ -40,6 +43,7 @@ module _ (s : ℕ) (start : Start) (target : ℕ) (p : ℤ) (v : ℕ) (traction 
     (in_traction : IsIn Traction traction) (in_build : IsIn Build build)
     (traction_time : time_of traction ≡ s * start.traction) (build_time : time_of build ≡ s * start.berem)
     (slices : AreSlices start v (traction ++ build)) (slow : v ≤ s * start.speed) where
+  -- the slices of each phase are slices of their own, the second phase from the last speed of the first
   parts : AreSlices start v traction × AreSlices start (last_speed v traction) build
   parts = slices_split start v traction build slices
 
@@ -51,6 +55,7 @@ module _ (s : ℕ) (start : Start) (target : ℕ) (p : ℤ) (v : ℕ) (traction 
       let e = speed_at_scale s start.speed start.accel1 start.traction v slow in
       rw traction_time (omega (arith, mul-le-mul_left s at_least))
 
+  -- after traction the train is no faster than the speed at the cut-off
   cut_off_last : last_speed v traction ≤ s * v_cut_off (build_up_of start) target
   cut_off_last = omega (arith, phase_speed start Traction v traction parts.0 in_traction, cut_off_speed)
 
@@ -73,6 +78,7 @@ module _ (s : ℕ) (start : Start) (target : ℕ) (p : ℤ) (v : ℕ) (traction 
       rw distance_of-append (both_distances s mean (max mean target) start.traction _ (distance_of traction)
       (distance_of build) (omega arith) traction_distance build_distance)
 
+  -- every end of a slice lies at most D_bec past the beginning, with at most V_bec
   ends_in_reach : All (IsInReach s start target p) (slice_ends p v (traction ++ build))
   ends_in_reach =
       let q = p +ℤ pos (s * s * d_bec (build_up_of start) target) in
@@ -87,6 +93,7 @@ module _ (s : ℕ) (start : Start) (target : ℕ) (p : ℤ) (v : ℕ) (traction 
       (omega (arith, ints)) in
       rw slice_ends-append (All-append (IsBounded q b) _ _ one two)
 
+  -- and so does the point where the slices end
   last_in_reach : IsInReach s start target p
       (last_point (record { place = p; square = v * v }) (slice_ends p v (traction ++ build)))
   last_in_reach =
@@ -104,6 +111,7 @@ pub record AreInReach (s : ℕ) (start : Start) (target : ℕ) (p : ℤ) (v : �
   pub ends : All (IsInReach s start target p) (slice_ends p v xs)
   pub begins : IsInReach s start target p first
 
+-- the same of every motion, and of its first braking point
 pub in_reach : (s : ℕ) (start : Start) (on : Slopes) (target : ℕ) (p : ℤ) (v : ℕ) (xs : List Slice) (first : Point)
     (more : List Point) →
     IsMotion s start on p v xs first more → v ≤ s * start.speed → AreInReach s start target p v xs first
@@ -117,6 +125,7 @@ in_reach s start on target p v xs first more m slow =
     h.build_time slices slow in
     record { ends = rw h.split ends; begins = rw (m.begins, h.split) last }
 
+-- the law of the reaction, of all ends of slices and the first braking point in one list
 pub reaction : (s : ℕ) (start : Start) (on : Slopes) (target : ℕ) (p : ℤ) (v : ℕ) (xs : List Slice) (first : Point)
     (more : List Point) →
     IsMotion s start on p v xs first more → v ≤ s * start.speed →

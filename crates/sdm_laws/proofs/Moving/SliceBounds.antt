@@ -26,24 +26,29 @@ distance_of (x ∷ xs) = x.length + distance_of xs
 
 -- ---- one phase
 
+-- the bounds of speed of one slice and of the rest add up
 more_speed : (a v to time rest last : ℕ) → to ≤ v + 54 * a * time → last ≤ to + 54 * a * rest →
     last ≤ v + 54 * a * (time + rest)
 more_speed a v to time rest last g k = omega arith
 
+-- the bounds of distance of one slice and of the rest add up
 more_distance : (a v to time length rest distance : ℕ) → to ≤ v + 54 * a * time →
     2 * length ≤ 1_000_000 * (v + to) * time →
     2 * distance ≤ 1_000_000 * (2 * to + 54 * a * rest) * rest →
     2 * (length + distance) ≤ 1_000_000 * (2 * v + 54 * a * (time + rest)) * (time + rest)
 more_distance a v to time length rest distance g m k = omega (arith, mul-le-mul_left time g, mul-le-mul_left rest g)
 
+-- the later slices are of the same phase
 rest_in : (phase : Phase) (x : Slice) (xs : List Slice) → IsIn phase (x ∷ xs) → IsIn phase xs
 rest_in phase x xs h = λ k d lt. h (suc k) d (omega arith)
 
+-- the first slice has the acceleration of its phase
 slice_in : (start : Start) (phase : Phase) (v : ℕ) (x : Slice) (xs : List Slice) → AreSlices start v (x ∷ xs) →
     IsIn phase (x ∷ xs) →
     IsSlice (accel_in start phase) v x
 slice_in start phase v x xs h i = subst (λ (p : Phase). IsSlice (accel_in start p) v x) (i 0 x (omega arith)) h.0
 
+-- in one phase the train gets no faster than with its acceleration over all the time
 pub phase_speed : (start : Start) (phase : Phase) (v : ℕ) (xs : List Slice) → AreSlices start v xs → IsIn phase xs →
     last_speed v xs ≤ v + 54 * accel_in start phase * time_of xs
 phase_speed start phase v [] h i = omega arith
@@ -52,6 +57,7 @@ phase_speed start phase v (x ∷ xs) h i =
     let here = slice_in start phase v x xs h i in
     more_speed (accel_in start phase) v x.to x.time (time_of xs) (last_speed x.to xs) here.gains rest
 
+-- in one phase the train comes no farther than with its acceleration over all the time
 pub phase_distance : (start : Start) (phase : Phase) (v : ℕ) (xs : List Slice) → AreSlices start v xs → IsIn phase xs →
     2 * distance_of xs ≤ 1_000_000 * (2 * v + 54 * accel_in start phase * time_of xs) * time_of xs
 phase_distance start phase v [] h i = omega arith
@@ -76,6 +82,7 @@ ends_bounded start phase p q v b (x ∷ xs) h i slow near =
 
 -- ---- slices of one phase after those of another
 
+-- slices one after the other are slices each, the second list from the last speed of the first
 pub slices_split : (start : Start) (v : ℕ) (xs ys : List Slice) → AreSlices start v (xs ++ ys) →
     AreSlices start v xs × AreSlices start (last_speed v xs) ys
 slices_split start v [] ys h = (tt, h)
@@ -98,6 +105,7 @@ slice_ends-append p v (x ∷ xs) ys =
     (slice_ends-append (p +ℤ pos x.length) x.to xs ys
     ∙ ap (λ (q : ℤ). slice_ends (p +ℤ pos x.length) x.to xs ++ slice_ends q (last_speed x.to xs) ys) e)
 
+-- slices end their whole distance past the beginning, with their last speed
 pub last_end : (p : ℤ) (v : ℕ) (xs : List Slice) →
     last_point (record { place = p; square = v * v }) (slice_ends p v xs) ≡ record {
       place = p +ℤ pos (distance_of xs);

@@ -31,12 +31,14 @@ use Rattle.sdm_laws.proofs.BrakeCurves.CurveChains.{ArePositive, exact_chain}
 record IsApart (a c : ℕ) (y x : Fraction) : Type 0 where
   apart : (pos ((27 * a) * x.m) *ℤ y.n +ℤ pos (c * (y.m * x.m))) ≤ℤ (pos ((27 * a) * y.m) *ℤ x.n)
 
+-- distances apart, and the energies that they use, add up along the way
 apart_trans : (a c c' : ℕ) (y x z : Fraction) → 0 < x.m → IsApart a c y x → IsApart a c' x z → IsApart a (c + c') y z
 apart_trans a c c' y x z p h k =
     let one = simp scales at (scale-≤ z.m _ _ h.apart) in
     let two = simp scales at (scale-≤ y.m _ _ k.apart) in
     record { apart = scale-≤_cancel x.m _ _ p (simp scales (omega (arith, ints, one, two))) }
 
+-- a place is apart from itself by no energy
 apart_none : (a c : ℕ) (x : Fraction) → c ≡ 0 → IsApart a c x x
 apart_none a c x e = record { apart = rw e (omega (arith, ints)) }
 
@@ -152,6 +154,8 @@ not_past a c y y' p p' a_pos y_pos h low brakes =
     at_most_in p' y' (scale-≤_cancel ((27 * a) * y.m) _ _ (mul-pos (mul-pos (omega arith) a_pos) y_pos)
     (simp scales (omega (arith, ints, one, two, three))))
 
+-- the law of one stretch: a train within the curve that brakes with its steepest slope is within it after the
+-- stretch
 pub stretch : (on : Slopes) (m : ℕ) (f : ℤ) (w a : ℕ) (x y : Point) → IsUsable on → 0 < m → 0 < a →
     IsSteepest on m a x y → BrakesAtLeast on a x.place x.square y.place y.square → IsWithinCurve on m f w x →
     IsWithinCurve on m f w y

@@ -23,6 +23,7 @@ pub record ArcIn (on : Slopes) (s band n : ℕ) (y x : Fraction) (c : ℕ) : Typ
   pub to_is : n ≡ to * x.m
   pub is : IsDistance on band (s * n) (pos from *ℤ y.n) (pos to *ℤ x.n) d (n * c)
 
+-- an arc from `y` on to `x` in some steps, with the energy `c` for each step of a grain
 pub record Arc (on : Slopes) (s band : ℕ) (y x : Fraction) (c : ℕ) : Type 0 where
   pub n : ℕ
   pub is : ArcIn on s band n y x c
@@ -39,6 +40,7 @@ arc_to on s band y x c h = factor_right h.n h.is.to x.m h.is.positive h.is.to_is
 times_energy : (t m m' c : ℕ) → m' ≡ t * m → t * (m * c) ≡ m' * c
 times_energy t m m' c e = rw e (omega arith)
 
+-- a walk back that uses up the energy makes an arc from its end to its beginning
 arc_of_back : (on : Slopes) (s band : ℕ) (x y : Fraction) (c : ℕ) → 0 < x.m → IsBackBy on s band x y (x.m * c) →
     Arc on s band y x c
 arc_of_back on s band x y c x_pos h = record {
@@ -54,6 +56,7 @@ arc_of_back on s band x y c x_pos h = record {
   };
 }
 
+-- a walk forward that uses up the energy makes an arc from its beginning to its end
 arc_of_forward : (on : Slopes) (s band : ℕ) (x y : Fraction) (c : ℕ) → 0 < x.m → IsForwardBy on s band x y (x.m * c) →
     Arc on s band x y c
 arc_of_forward on s band x y c x_pos h = record {
@@ -85,6 +88,7 @@ arc_forward-is on s band change x some s_pos x_pos =
 
 -- ---- two arcs in common steps
 
+-- an arc in steps is one in `k` times finer steps
 arc_finer : (on : Slopes) (s band k n n' : ℕ) (y x : Fraction) (c : ℕ) → 0 < s → 0 < k → n' ≡ k * n →
     ArcIn on s band n y x c →
     ArcIn on s band n' y x c
@@ -101,11 +105,13 @@ arc_finer on s band k n n' y x c s_pos k_pos e h =
       is = rw (← scale-scale k h.from y.n, ← scale-scale k h.to x.n) (rw (times_energy k n n' c e) at distance);
     }
 
+-- two arcs in the same steps
 record TwoArcs (on : Slopes) (s band : ℕ) (y x : Fraction) (c : ℕ) (y' x' : Fraction) (c' : ℕ) : Type 0 where
   n : ℕ
   one : ArcIn on s band n y x c
   two : ArcIn on s band n y' x' c'
 
+-- any two arcs of a band have common steps
 in_common_steps : (on : Slopes) (s band : ℕ) (y x : Fraction) (c : ℕ) (y' x' : Fraction) (c' : ℕ) → 0 < s →
     Arc on s band y x c →
     Arc on s band y' x' c' → TwoArcs on s band y x c y' x' c'
@@ -166,6 +172,7 @@ arc_between_ends on s band x y y' c c' some s_pos le h h' =
 
 -- ---- the law of one band
 
+-- a distance of at most `k` times one within `e` grains is within `k * e` grains
 times_most : (k e n f f' : ℕ) → f ≤ e * n → f' ≤ k * f → f' ≤ (k * e) * n
 times_most k e n f f' h h' = omega (arith, mul-le-mul_left k h)
 

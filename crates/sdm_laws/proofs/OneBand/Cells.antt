@@ -34,6 +34,7 @@ cell_in m c p m_pos low high = floor_is (m * centimetre) p c (omega arith) low (
 
 -- ---- finer steps
 
+-- in `k` times finer steps a cell begins at `k` times the step
 pub start_finer : (k m : ℕ) (c : ℤ) (m' : ℕ) → m' ≡ k * m → cell_start m' c ≡ pos k *ℤ cell_start m c
 start_finer k m c m' e =
     let w : m' * centimetre ≡ k * (m * centimetre) = omega (arith, ap (λ (t : ℕ). t * centimetre) e) in
@@ -62,6 +63,7 @@ pub record IsInCell (m : ℕ) (c x : ℤ) : Type 0 where
   pub low : cell_start m c ≤ℤ x
   pub high : x ≤ℤ (cell_start m c +ℤ pos (m * centimetre))
 
+-- a step in a cell is in it as `k` times the finer step
 pub in_cell_finer : (k m m' : ℕ) (c x : ℤ) → m' ≡ k * m → IsInCell m c x → IsInCell m' c (pos k *ℤ x)
 in_cell_finer k m m' c x e h =
     let start = start_finer k m c m' e in

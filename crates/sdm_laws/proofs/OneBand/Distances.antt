@@ -19,6 +19,7 @@ pub record IsDistance (on : Slopes) (band n : ℕ) (y x : ℤ) (d r : ℕ) : Typ
   pub distance : x ≡ y +ℤ pos d
   pub used : 27 * energy on band n y d ≡ r
 
+-- no distance uses no energy
 pub distance_none : (on : Slopes) (band n : ℕ) (x : ℤ) → IsDistance on band n x x 0 0
 distance_none on band n x =
     record {

@@ -24,6 +24,7 @@ record IsCut (starts : List ℤ) (c : ℤ) (j : ℕ) : Type 0 where
   low : (k : ℕ) → k < j → get_or starts k (pos 0) ≤ℤ c
   high : (k : ℕ) → j ≤ k → k < length starts → c <ℤ get_or starts k (pos 0)
 
+-- as many starts are at most the cell as stand before its cut
 count_cut : (xs : List ℤ) (j : ℕ) (c : ℤ) → IsCut xs c j → count_by (λ s. int_le s c) xs ≡ j
 count_cut [] j c h = let k = h.known in omega arith
 count_cut (x ∷ xs) zero c h =
@@ -44,6 +45,7 @@ count_cut (x ∷ xs) (suc j) c h =
     }) in
     sum_by-cons (λ s. cond (int_le s c) 1 0) x xs ∙ rw here (omega (arith, rest))
 
+-- the cut of some starts at a cell
 record Cut (starts : List ℤ) (c : ℤ) : Type 0 where
   j : ℕ
   is : IsCut starts c j
@@ -101,6 +103,7 @@ pub record IsInSegment (starts : List ℤ) (c : ℤ) (i : ℕ) : Type 0 where
   pub low : 0 < i → get_or starts i (pos 0) ≤ℤ c
   pub high : (k : ℕ) → i < k → k < length starts → c <ℤ get_or starts k (pos 0)
 
+-- a cell is in its segment
 pub in_segment : (starts : List ℤ) (c : ℤ) → IsRising starts → 0 < length starts →
     IsInSegment starts c (segment_of starts c)
 in_segment starts c rising some =
@@ -114,6 +117,7 @@ in_segment starts c rising some =
       high = λ k l m. h.high k (omega arith) m;
     }
 
+-- and in no other
 pub segment_is : (starts : List ℤ) (c : ℤ) (i : ℕ) → IsRising starts → IsInSegment starts c i → segment_of starts c ≡ i
 segment_is starts c i rising h =
     let known = h.known in
@@ -141,6 +145,7 @@ segment_is starts c i rising h =
 
 -- ---- slopes and energies in a segment
 
+-- in a segment each band has the map's one slope
 pub slope_in_segment : (map : SlopeMap) (band : ℕ) (c : ℤ) (i : ℕ) → IsRising map.starts → IsInSegment map.starts c i →
     (meaning_of map).slope band c ≡ slice_index map.slopes (band * length map.starts + i)
 slope_in_segment map band c i rising h =
@@ -161,6 +166,7 @@ step_in_segment m starts i p p' d k m_pos distance lt h = record {
   high = λ j l known. cell_stays m _ _ m_pos (omega (arith, ints, h.high j l known));
 }
 
+-- in a segment the energy of a distance is the slope times the distance
 pub energy_in_segment : (map : SlopeMap) (band m i : ℕ) (p p' : ℤ) (d : ℕ) → 0 < m → IsRising map.starts →
     IsDistanceInSegment m map.starts i p p' → p' ≡ p +ℤ pos d →
     energy (meaning_of map) band m p d ≡ slice_index map.slopes (band * length map.starts + i) * d

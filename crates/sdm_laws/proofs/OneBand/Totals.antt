@@ -6,6 +6,7 @@ pub total-zero : (f : ℕ → ℕ) → total f 0 ≡ 0
 unfolding total
 total-zero f = refl
 
+-- the sum of the first `a + b` values parts after the first `a`
 pub total-add : (f : ℕ → ℕ) (a b : ℕ) → total f (a + b) ≡ total f a + total (λ k. f (a + k)) b
 unfolding total
 total-add f a zero = let e : a + 0 ≡ a = omega arith in rw e (omega arith)

@@ -52,9 +52,11 @@ fuel_left r k g fuel p q l = omega (arith, mul-le-mul_left k q)
 abbrev cell_before : ℕ → Fraction → ℤ
 cell_before s x = cell_at (s * x.m) (x.n +ℤ neg_ℤ (pos 1))
 
+-- the steps from the start of the cell before `x` to `x`
 abbrev gap_before : ℕ → Fraction → ℕ
 gap_before s x = unsigned_abs (x.n +ℤ neg_ℤ (cell_start (s * x.m) (cell_before s x)))
 
+-- `x` lies some steps past the start of the cell before it
 record GapBefore (s : ℕ) (x : Fraction) : Type 0 where
   is : x.n ≡ cell_start (s * x.m) (cell_before s x) +ℤ pos (gap_before s x)
   some : 0 < gap_before s x
@@ -168,9 +170,11 @@ back-is on s band (suc fuel) x r some m_pos le =
 abbrev cell_here : ℕ → Fraction → ℤ
 cell_here s x = cell_at (s * x.m) x.n
 
+-- the steps from `x` to the end of its cell
 abbrev gap_after : ℕ → Fraction → ℕ
 gap_after s x = unsigned_abs (cell_start (s * x.m) (cell_here s x +ℤ pos 1) +ℤ neg_ℤ x.n)
 
+-- `x` lies some steps before the end of its cell
 record GapAfter (s : ℕ) (x : Fraction) : Type 0 where
   is : cell_start (s * x.m) (cell_here s x +ℤ pos 1) ≡ x.n +ℤ pos (gap_after s x)
   some : 0 < gap_after s x

@@ -18,10 +18,12 @@ use Rattle.sdm_rules.specs.Opening.{IsAcceptedKind, IsStrongAt, variation_of}
 upper_notches : Band → Option ℕ
 upper_notches b = option_map (λ v. notches (unsigned_abs v)) b.upper
 
+-- a band with an upper speed gives a border
 uppers_of-next : (b : Band) (bs : List Band) (upper : ℤ) → b.upper ≡ Some upper →
     uppers_of (b ∷ bs) ≡ notches (unsigned_abs upper) ∷ uppers_of bs
 uppers_of-next b bs upper e = ap (λ (o : Option ℤ). uppers_of (record b { upper = o } ∷ bs)) e
 
+-- the last band gives none
 uppers_of-last : (b : Band) → b.upper ≡ None → uppers_of (b ∷ []) ≡ []
 uppers_of-last b e = ap (λ (o : Option ℤ). uppers_of (record b { upper = o } ∷ [])) e
 
@@ -74,22 +76,26 @@ abbrev pub cell_from : ℤ → ℕ
 cell_from (pos n) = n
 cell_from (negsuc n) = 0
 
+-- before the track a slope is that of cell 0
 pub slope_from : (kind : SlopeKind) (d : TrainAndTrack) (band : ℕ) (c : ℤ) →
     slope_at kind d band c ≡ slope_at kind d band (pos (cell_from c))
 unfolding slope_at
 slope_from kind d band (pos n) = refl
 slope_from kind d band (negsuc n) = refl
 
+-- a slope of at least 0.05 m/s² is above 0
 strong_positive : (a : ℤ) (q : ℕ) → 0 < q → IsStrongSlope q a → 0 < unsigned_abs a
 strong_positive (pos n) q q_pos h = omega (arith, ints)
 strong_positive (negsuc n) q q_pos h = omega arith
 
+-- strong slopes within the variation are so as natural numbers too
 strong_even : (a b : ℤ) (q k : ℕ) → 0 < q → IsStrongSlope q a → IsStrongSlope q b → a ≤ℤ (pos k *ℤ b) →
     unsigned_abs a ≤ k * unsigned_abs b
 strong_even (pos n) (pos m) q k q_pos h g le = omega (arith, ints)
 strong_even (negsuc n) b q k q_pos h g le = absurd (omega (arith, ints))
 strong_even (pos n) (negsuc m) q k q_pos h g le = absurd (omega (arith, ints))
 
+-- the slopes of accepted data are usable
 pub accepted_usable : (kind : SlopeKind) (d : TrainAndTrack) → HasBands d.train.bands → IsAcceptedKind kind d →
     IsUsable (slopes_of kind d)
 unfolding slopes_of

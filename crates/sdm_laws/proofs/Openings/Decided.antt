@@ -26,9 +26,11 @@ module _ (kind : SlopeKind) (d : TrainAndTrack) where
   abbrev f : ℕ → ℕ → ℤ
   f band cell = slope_at kind d band (pos cell)
 
+  -- the least slope that is accepted
   abbrev limit : ℤ
   limit = pos (least_slope (q_of d.train.rotating_mass))
 
+  -- the cell from which on no slope changes
   abbrev n : ℕ
   n = settled_from d
 
@@ -36,6 +38,7 @@ module _ (kind : SlopeKind) (d : TrainAndTrack) where
   near : ℕ → ℕ
   near cell = min cell n
 
+  -- the slope there is the same
   near_same : (band cell : ℕ) → f band (near cell) ≡ f band cell
   unfolding near
   near_same band cell = elim (cases_lt cell n) [
@@ -49,6 +52,7 @@ module _ (kind : SlopeKind) (d : TrainAndTrack) where
 
   -- ---- weakness
 
+  -- the slope is below the least one
   abbrev WeakAt : ℕ → ℕ → Type 0
   WeakAt band cell = f band cell <ℤ limit
 
@@ -56,25 +60,31 @@ module _ (kind : SlopeKind) (d : TrainAndTrack) where
   strong_or_weak band cell =
       by_lt_z (f band cell) limit (λ (lt : WeakAt band cell). inr lt) (λ (le : IsStrongAt kind d band cell). inl le)
 
+  -- every slope of the band is strong
   abbrev IsStrongBand : ℕ → Type 0
   IsStrongBand band = (cell : ℕ) → IsStrongAt kind d band cell
 
+  -- the band has a first cell with too low a slope
   abbrev HasWeakCell : ℕ → Type 0
   HasWeakCell band = (cell : ℕ) × IsFirst (IsStrongAt kind d band) (WeakAt band) (suc n) cell
 
+  -- a band that is strong up to the settled cell is strong in every cell
   band_strong : (band : ℕ) → ((k : ℕ) → k < suc n → IsStrongAt kind d band k) → IsStrongBand band
   band_strong band h cell = let low =
       near_low cell in subst (λ (a : ℤ). limit ≤ℤ a) (near_same band cell) (h (near cell) (omega arith))
 
+  -- a band is strong or has a first weak cell
   decide_band : (band : ℕ) → IsStrongBand band ⊎ HasWeakCell band
   decide_band band = elim (first_below (IsStrongAt kind d band) (WeakAt band) (strong_or_weak band) (suc n)) [
     | inl h ↦ inl (band_strong band h)
     | inr w ↦ inr w
   ]
 
+  -- there is a first weak slope, by band and then by cell
   abbrev HasFirstWeak : Type 0
   HasFirstWeak = (band : ℕ) × ((cell : ℕ) × ((slope : ℤ) × IsFirstWeak kind d band cell slope))
 
+  -- the first band with a weak cell, and its first one, make the first weak slope
   first_weak : (band : ℕ) → IsFirst IsStrongBand HasWeakCell (band_count_of d) band → HasFirstWeak
   first_weak band w = (
     band,
@@ -93,6 +103,7 @@ module _ (kind : SlopeKind) (d : TrainAndTrack) where
     ),
   )
 
+  -- the slopes of the kind are strong, or there is a first weak one
   decide_strong : IsStrong kind d ⊎ HasFirstWeak
   decide_strong = elim (first_below IsStrongBand HasWeakCell decide_band (band_count_of d)) [
     | inl h ↦ inl (λ band cell lt. h band lt cell)
@@ -101,10 +112,12 @@ module _ (kind : SlopeKind) (d : TrainAndTrack) where
 
   -- ---- variation
 
+  -- the band's slopes, from the least to the greatest, vary too much
   abbrev HasRange : ℕ → Type 0
   HasRange band = (least : ℤ)
       × ((greatest : ℤ) × (IsRange kind d band least greatest × ((pos (variation_of d) *ℤ least) <ℤ greatest)))
 
+  -- a band is even, or its range varies too much
   decide_even : (band : ℕ) → IsEven kind d band ⊎ HasRange band
   decide_even band =
       let low = least_to (f band) n in
@@ -124,9 +137,11 @@ module _ (kind : SlopeKind) (d : TrainAndTrack) where
       let two = scale-≤ (variation_of d) _ _ (above cell') in
       omega (arith, ints, one, two, le)))
 
+  -- there is a first band that varies too much, with its range
   abbrev HasFirstVaried : Type 0
   HasFirstVaried = (band : ℕ) × ((least : ℤ) × ((greatest : ℤ) × IsFirstVaried kind d band least greatest))
 
+  -- the first band that is not even is the first varied one
   first_varied : IsStrong kind d → (band : ℕ) → IsFirst (IsEven kind d) HasRange (band_count_of d) band → HasFirstVaried
   first_varied strong band w = (
     band,
@@ -145,9 +160,11 @@ module _ (kind : SlopeKind) (d : TrainAndTrack) where
     ),
   )
 
+  -- the kind's slopes are accepted, or they have a first fault
   abbrev IsDecidedKind : Type 0
   IsDecidedKind = IsAcceptedKind kind d ⊎ (HasFirstWeak ⊎ HasFirstVaried)
 
+  -- slopes are looked at for weakness first, then for variation
   pub decide_kind : IsDecidedKind
   decide_kind = elim decide_strong [
     | inr weak ↦ inr (inl weak)
@@ -171,11 +188,13 @@ all_kinds d safe expected normal Safe = safe
 all_kinds d safe expected normal Expected = expected
 all_kinds d safe expected normal Normal = normal
 
+-- where all slopes are accepted, the authority decides
 by_authority : (d : TrainAndTrack) (a : Authority) → HasAcceptedSlopes d → (o : Option AuthorityFault) →
     authority_fault d.track.length_cm a ≡ o → IsAccepted d a ⊎ ((fault : OpenFault) × IsOpenFault d a fault)
 by_authority d a usable None e = inl (usable, e)
 by_authority d a usable (Some fault) e = inr (BadAuthority fault, (usable, e))
 
+-- every opening is accepted or has a first fault
 pub decided : (d : TrainAndTrack) (a : Authority) → IsAccepted d a ⊎ ((fault : OpenFault) × IsOpenFault d a fault)
 decided d a = elim (decide_kind Safe d) [
   | inr w ↦ inr (fault_of_kind Safe d a tt w)

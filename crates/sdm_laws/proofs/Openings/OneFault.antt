@@ -20,6 +20,7 @@ one_number b b' h k =
 
 -- ---- one kind
 
+-- a slope isn't both weak and strong
 weak_clash : (kind : SlopeKind) (d : TrainAndTrack) (band cell : ℕ) (slope : ℤ) → IsFirstWeak kind d band cell slope →
     IsStrongAt kind d band cell → ⊥
 weak_clash kind d band cell slope w strong = omega (arith, ints, w.value, w.weak, strong)
@@ -36,21 +37,25 @@ varied_clash kind d band least greatest range varied even =
     (subst (λ (a : ℤ). a ≤ℤ (pos (variation_of d) *ℤ slope_at kind d band (pos range.low.0))) one h) in
     omega (arith, ints, varied, le)
 
+-- a kind with a weak slope isn't accepted
 weak_refuses : (kind : SlopeKind) (d : TrainAndTrack) (band cell : ℕ) (slope : ℤ) →
     IsFirstWeak kind d band cell slope → IsAcceptedKind kind d → ⊥
 weak_refuses kind d band cell slope w ok = weak_clash kind d band cell slope w (ok.strong band cell w.known)
 
+-- a kind with a band that varies too much isn't accepted
 varied_refuses : (kind : SlopeKind) (d : TrainAndTrack) (band : ℕ) (least greatest : ℤ) →
     IsFirstVaried kind d band least greatest → IsAcceptedKind kind d → ⊥
 varied_refuses kind d band least greatest w ok =
     varied_clash kind d band least greatest w.range w.varied (ok.even band w.known)
 
+-- the band of the first weak slope is one
 one_weak_band : (kind : SlopeKind) (d : TrainAndTrack) (b b' c c' : ℕ) (a a' : ℤ) → IsFirstWeak kind d b c a →
     IsFirstWeak kind d b' c' a' → b ≡ b'
 one_weak_band kind d b b' c c' a a' w w' =
     one_number b b' (λ lt. weak_clash kind d b c a w (w'.lower_bands b c lt))
     (λ gt. weak_clash kind d b' c' a' w' (w.lower_bands b' c' gt))
 
+-- and so is its cell
 one_weak_cell : (kind : SlopeKind) (d : TrainAndTrack) (b c c' : ℕ) (a a' : ℤ) → IsFirstWeak kind d b c a →
     IsFirstWeak kind d b c' a' →
     c ≡ c'
@@ -64,6 +69,7 @@ record IsSameWeak (b b' c c' : ℕ) (a a' : ℤ) : Type 0 where
   cell : c ≡ c'
   slope : a ≡ a'
 
+-- there is one first weak slope
 one_weak : (kind : SlopeKind) (d : TrainAndTrack) (b b' c c' : ℕ) (a a' : ℤ) → IsFirstWeak kind d b c a →
     IsFirstWeak kind d b' c' a' → IsSameWeak b b' c c' a a'
 one_weak kind d b b' c c' a a' w w' =
@@ -73,6 +79,7 @@ one_weak kind d b b' c c' a a' w w' =
     let there : IsFirstWeak kind d b c a' = subst (λ (k : ℕ). IsFirstWeak kind d b k a') (sym e') here in
     record { band = e; cell = e'; slope = w.value ∙ sym there.value }
 
+-- a range has one least slope
 least_once : (kind : SlopeKind) (d : TrainAndTrack) (b : ℕ) (l l' g g' : ℤ) → IsRange kind d b l g →
     IsRange kind d b l' g' → l ≡ l'
 least_once kind d b l l' g g' r r' =
@@ -80,6 +87,7 @@ least_once kind d b l l' g g' r r' =
     let two : l' ≤ℤ l = subst (λ (a : ℤ). l' ≤ℤ a) r.low.1 (r'.above r.low.0) in
     omega (arith, ints)
 
+-- and one greatest
 greatest_once : (kind : SlopeKind) (d : TrainAndTrack) (b : ℕ) (l l' g g' : ℤ) → IsRange kind d b l g →
     IsRange kind d b l' g' → g ≡ g'
 greatest_once kind d b l l' g g' r r' =
@@ -87,6 +95,7 @@ greatest_once kind d b l l' g g' r r' =
     let two : g ≤ℤ g' = subst (λ (a : ℤ). a ≤ℤ g') r.high.1 (r'.below r.high.0) in
     omega (arith, ints)
 
+-- there is one first band that varies too much
 one_varied_band : (kind : SlopeKind) (d : TrainAndTrack) (b b' : ℕ) (l l' g g' : ℤ) → IsFirstVaried kind d b l g →
     IsFirstVaried kind d b' l' g' → b ≡ b'
 one_varied_band kind d b b' l l' g g' w w' =
@@ -101,6 +110,7 @@ data InTurn (d : TrainAndTrack) (k k' : SlopeKind) : Type 0 where
   goes_first : (AreBefore k' d → IsAcceptedKind k d) → InTurn d k k'
   goes_last : (AreBefore k d → IsAcceptedKind k' d) → InTurn d k k'
 
+-- any two kinds stand in turn
 in_turn : (d : TrainAndTrack) (k k' : SlopeKind) → InTurn d k k'
 in_turn d Safe Safe = together refl
 in_turn d Safe Expected = goes_first (λ h. h)
@@ -123,15 +133,18 @@ one_kind d k k' b b' none none' = elim (in_turn d k k') [
 
 -- ---- faults
 
+-- one first weak slope is one fault
 same_weak : (k k' : SlopeKind) (n n' b b' c c' : ℕ) (cell cell' a a' : ℤ) → k ≡ k' → n ≡ suc b → n' ≡ suc b' →
     cell ≡ pos c → cell' ≡ pos c' → IsSameWeak b b' c c' a a' → TooWeak k n cell a ≡ TooWeak k' n' cell' a'
 same_weak k k' n n' b b' c c' cell cell' a a' e p p' q q' same = let x = same.band in let y = same.cell in let z =
     same.slope in cc
 
+-- one first varied band is one fault
 same_varied : (k k' : SlopeKind) (n n' b b' : ℕ) (l l' g g' : ℤ) → k ≡ k' → n ≡ suc b → n' ≡ suc b' → b ≡ b' → l ≡ l' →
     g ≡ g' → TooVaried k n l g ≡ TooVaried k' n' l' g'
 same_varied k k' n n' b b' l l' g g' e p p' x y z = cc
 
+-- no opening is both accepted and refused
 pub not_both : (d : TrainAndTrack) (a : Authority) (fault : OpenFault) → IsAccepted d a → IsOpenFault d a fault → ⊥
 not_both d a (TooWeak kind band cell slope) ok (before, (b, is, (c, at, w))) =
     weak_refuses kind d b c slope w (ok.0 kind)
@@ -140,6 +153,7 @@ not_both d a (TooVaried kind band least greatest) ok (before, (b, is, w)) =
 not_both d a (BadAuthority fault) ok (usable, e) = let f = ok.1 in absurd (cc)
 not_both d a Memory ok h = absurd h
 
+-- an opening has one first fault
 pub one_fault : (d : TrainAndTrack) (a : Authority) (fault fault' : OpenFault) → IsOpenFault d a fault →
     IsOpenFault d a fault' →
     fault ≡ fault'

@@ -14,6 +14,7 @@ use Rattle.sdm_laws.specs.RunLaws.{LawOfOpening, HasOneRun}
 use Rattle.sdm_laws.proofs.Openings.Decided.{decided}
 use Rattle.sdm_laws.proofs.Openings.OneFault.{not_both, one_fault}
 
+-- of all data and authorities the opening is either accepted or has one first fault
 pub opening_decided : LawOfOpening
 opening_decided d a = record { decided = decided d a; not_both = not_both d a; one_fault = one_fault d a }
 
@@ -27,6 +28,7 @@ ends : (end : End) → Meaning (λ turns e. (turns ≡ []) × (e ≡ end))
 ends end = ([], (end, ((refl, refl), λ turns' end' h. h)))
 
 module _ {Table Fields : Type 0} (reader : Reader Table Fields) where
+  -- after data that are accepted or have a fault: the turns of the journey, or none
   opened : (d : TrainAndTrack) (a : Authority) (records : List Fields) →
       IsAccepted d a ⊎ ((fault : OpenFault) × IsOpenFault d a fault) →
       Meaning (λ turns end. IsAfterData reader turns end records (Ok (d, a)))
@@ -58,26 +60,31 @@ module _ {Table Fields : Type 0} (reader : Reader Table Fields) where
     ),
   )
 
+  -- whatever the data come to, accepted or refused, there is one meaning
   after_data : (records : List Fields) (r : Result (TrainAndTrack × Authority) DataFault) →
       Meaning (λ turns end. IsAfterData reader turns end records r)
   after_data records (Err fault) = ends (Data fault)
   after_data records (Ok x) = opened x.0 x.1 records (decided x.0 x.1)
 
+  -- after the document, there or not
   after_document : (records : List Fields) (o : Option Table) →
       Meaning (λ turns end. IsAfterDocument reader turns end records o)
   after_document records None = ends Toml
   after_document records (Some table) = after_data records (reader.data_of table)
 
+  -- after the division of the input, found or not
   after_division : (bytes : List ℕ) (o : Option (ℕ × ℕ)) →
       Meaning (λ turns end. IsAfterDivision reader turns end bytes o)
   after_division bytes None = ends NoSplit
   after_division bytes (Some x) = after_document (reader.records (drop x.1 bytes)) (reader.document (take x.0 bytes))
 
+  -- of an input that is too long or not
   from_length : (bytes : List ℕ) (long : Bool) → Meaning (λ turns end.
       MatchBool long ((turns ≡ []) × (end ≡ TooLong)) (IsAfterDivision reader turns end bytes (reader.divide bytes)))
   from_length bytes true = ends TooLong
   from_length bytes false = after_division bytes (reader.divide bytes)
 
+  -- all bytes have one meaning
   pub one_run : (bytes : List ℕ) → HasOneRun reader bytes
   one_run bytes = let m = from_length bytes (nat_lt most_bytes (length bytes)) in record {
     turns = m.0;

@@ -10,6 +10,7 @@ pub record IsFirst (P Q : ℕ → Type 0) (n i : ℕ) : Type 0 where
   pub fails : Q i
   pub before : (k : ℕ) → k < i → P k
 
+-- what holds below `n` and at `n` holds below the next number
 below_suc : (P : ℕ → Type 0) (n : ℕ) → ((k : ℕ) → k < n → P k) → P n → (k : ℕ) → k < suc n → P k
 below_suc P n h here k lt = elim (cases_lt k n) [
   | inl less ↦ h k less
@@ -33,12 +34,14 @@ pub record IsLeastTo (f : ℕ → ℤ) (n i : ℕ) : Type 0 where
   pub known : i ≤ n
   pub least : (k : ℕ) → k ≤ n → f i ≤ℤ f k
 
+-- what is at most each value up to `n` and the next one is at most each up to that
 to_suc : (f : ℕ → ℤ) (g : ℤ) (n : ℕ) → ((k : ℕ) → k ≤ n → g ≤ℤ f k) → g ≤ℤ f (suc n) → (k : ℕ) → k ≤ suc n → g ≤ℤ f k
 to_suc f g n h here k le = elim (cases_lt n k) [
   | inl more ↦ subst (λ (j : ℕ). g ≤ℤ f j) (let e : suc n ≡ k = omega arith in e) here
   | inr ge ↦ h k ge
 ]
 
+-- of the values from 0 to `n` one is the least
 pub least_to : (f : ℕ → ℤ) (n : ℕ) → (i : ℕ) × IsLeastTo f n i
 least_to f zero = (
   zero,
@@ -62,10 +65,12 @@ least_to f (suc n) =
     (λ (le : f w.0 ≤ℤ f (suc n)).
     (w.0, record { known = (let k = w.1.known in omega arith); least = to_suc f (f w.0) n w.1.least le }))
 
+-- the place of a greatest value of `f` from 0 to `n`
 pub record IsGreatestTo (f : ℕ → ℤ) (n i : ℕ) : Type 0 where
   pub known : i ≤ n
   pub greatest : (k : ℕ) → k ≤ n → f k ≤ℤ f i
 
+-- what is at least each value up to `n` and the next one is at least each up to that
 to_suc_above : (f : ℕ → ℤ) (g : ℤ) (n : ℕ) → ((k : ℕ) → k ≤ n → f k ≤ℤ g) → f (suc n) ≤ℤ g → (k : ℕ) → k ≤ suc n →
     f k ≤ℤ g
 to_suc_above f g n h here k le = elim (cases_lt n k) [
@@ -73,6 +78,7 @@ to_suc_above f g n h here k le = elim (cases_lt n k) [
   | inr ge ↦ h k ge
 ]
 
+-- of the values from 0 to `n` one is the greatest
 pub greatest_to : (f : ℕ → ℤ) (n : ℕ) → (i : ℕ) × IsGreatestTo f n i
 greatest_to f zero = (
   zero,

@@ -22,6 +22,7 @@ abbrev past_starts : List Gradient → ℕ
 past_starts [] = 0
 past_starts (e ∷ es) = unsigned_abs e.start + past_starts es
 
+-- past all starts the last entry at or before a cell is the same
 last_settled : (es : List Gradient) (c c' : ℤ) (before : ℤ) → pos (past_starts es) ≤ℤ c → pos (past_starts es) ≤ℤ c' →
     last_at (λ e. e.start) (λ e. e.grad) es c before ≡ last_at (λ e. e.start) (λ e. e.grad) es c' before
 last_settled [] c c' before h h' = refl
@@ -30,11 +31,13 @@ last_settled (e ∷ es) c c' before h h' =
     let two = le_is e.start c' (omega (arith, ints)) in
     rw (one, two) (last_settled es c c' e.grad (omega (arith, ints)) (omega (arith, ints)))
 
+-- past all starts the gradient stays the same
 gradient_settled : (es : List Gradient) (c c' : ℤ) → pos (past_starts es) ≤ℤ c → pos (past_starts es) ≤ℤ c' →
     track_gradient es c ≡ track_gradient es c'
 gradient_settled [] c c' h h' = refl
 gradient_settled (e ∷ es) c c' h h' = last_settled es c c' e.grad (omega (arith, ints)) (omega (arith, ints))
 
+-- and so does the least gradient over any number of cells
 lowest_settled : (es : List Gradient) (n : ℕ) (c c' : ℤ) → pos (past_starts es) ≤ℤ c → pos (past_starts es) ≤ℤ c' →
     lowest int_min (track_gradient es) c n ≡ lowest int_min (track_gradient es) c' n
 lowest_settled es zero c c' h h' = gradient_settled es c c' h h'
@@ -51,6 +54,7 @@ abbrev past_areas : ℤ → List Area → ℕ
 past_areas length_cm [] = 0
 past_areas length_cm (a ∷ more) = unsigned_abs a.end + unsigned_abs length_cm + past_areas length_cm more
 
+-- past all areas by the train length none is in force
 none_in_force : (length_cm : ℤ) (areas : List Area) (c : ℤ) → pos (past_areas length_cm areas) ≤ℤ c →
     list_any (is_in_force length_cm c) areas ≡ false
 none_in_force length_cm [] c h = refl
@@ -70,6 +74,7 @@ past_lists track length_cm =
 abbrev pub settled_from : TrainAndTrack → ℕ
 settled_from d = past_lists d.track d.train.length_cm
 
+-- past all lists by the train length the track under the train stays the same
 under_settled : (track : TrackData) (length_cm : ℤ) (c c' : ℤ) →
     pos (past_lists track length_cm) ≤ℤ c → pos (past_lists track length_cm) ≤ℤ c' →
     under_train track length_cm c ≡ under_train track length_cm c'
@@ -85,6 +90,7 @@ under_settled track length_cm c c' h h' =
 from_0 : (c : ℕ) → int_max (pos c) (pos 0) ≡ pos c
 from_0 c = omega (arith, ints, clamps)
 
+-- from the settled cell on the slope of a kind and band stays the same
 pub slope_settled : (kind : SlopeKind) (d : TrainAndTrack) (band c c' : ℕ) → settled_from d ≤ c → settled_from d ≤ c' →
     slope_at kind d band (pos c) ≡ slope_at kind d band (pos c')
 unfolding slope_at

@@ -10,6 +10,7 @@ use Rattle.sdm_rules.specs.Triggers.{above_ceiling, some_ebi_passed, triggers_of
 use Rattle.sdm_rules.specs.Supervision.{Supervision, situation_of, commands_in, row_in, row_of}
 use Rattle.sdm_laws.specs.SupervisionLaws.{LawOfCeiling}
 
+-- no EBI is passed, of the ceiling or of a target
 pub no_ebi_passed : (s : Supervision) (r : OdometerReading) → (row_of s r).held.eb ≡ false →
     (above_ceiling (situation_of s r) ebi_margin ≡ false) × (some_ebi_passed (situation_of s r) 0
     (λ t. (limits_of computed s.train_and_track (estimate_of r) t).ebi) ≡ false)
@@ -23,6 +24,7 @@ no_ebi_passed s r eb =
     or_parts (above_ceiling now ebi_margin)
     (some_ebi_passed now 0 (λ t. (limits_of computed s.train_and_track (estimate_of r) t).ebi)) three
 
+-- the speed is at most the ceiling with its EBI margin
 pub within_ceiling : LawOfCeiling
 unfolding row_in situation_of
 within_ceiling s r eb = ltb-false _ _ (no_ebi_passed s r eb).0

@@ -20,11 +20,13 @@ use Rattle.sdm_rules.specs.Supervision.{Supervision, situation_of, is_met_by_spe
 use Rattle.sdm_laws.specs.SupervisionLaws.{LawOfGaps}
 use Rattle.sdm_laws.proofs.Rows.Ceiling.{no_ebi_passed}
 
+-- a test that no target passes fails for each
 any_false : (p : Target → Bool) (ts : List Target) (t : Target) → list_any p ts ≡ false → Contains ts t → p t ≡ false
 any_false p [] t e (k, lt, is) = absurd (omega arith)
 any_false p (x ∷ xs) t e (zero, lt, is) = subst (λ (y : Target). p y ≡ false) is (or_parts (p x) (list_any p xs) e).0
 any_false p (x ∷ xs) t e (suc k, lt, is) = any_false p xs t (or_parts (p x) (list_any p xs) e).1 (k, omega arith, is)
 
+-- the EBI `p` is passed and not met by speed, and gives no command: the train isn't too fast
 core : (p met fast : Bool) → (not p || met) ≡ false → (fast && p) ≡ false → (met ≡ false) × (fast ≡ false)
 core true met true h e = absurd (true≢false e)
 core true met false h e = (h, refl)
@@ -47,6 +49,7 @@ by_kind s d r t Eoa m bec p c e = absurd (true≢false c)
 by_kind s d r t Svl m bec p c e = let k =
     core _ _ _ c e in absurd (let h : r.speed ≤ 0 = ltb-false 0 r.speed k.1 in omega arith)
 
+-- only gaps keep such a row of a moving train from being covered
 pub gaps : LawOfGaps
 unfolding situation_of limits_of
 gaps s r eb moving t is c =

@@ -3,6 +3,7 @@
 use Rattle.std.proofs.Common.{ℕ, suc, Bool, [], ◌∷◌, refl}
 use Rattle.std.specs.Prelude.{Result, Ok, Err, IfOk}
 use Rattle.sdm_num.specs.Readings.{OdometerReading}
+use Rattle.sdm_rules.specs.declared.data.SlopeKind.TheVariants.{Safe}
 use Rattle.sdm_rules.specs.declared.faults.EventCause.{EventCause}
 use Rattle.sdm_rules.specs.declared.faults.EventFault.{EventFault}
 use Rattle.sdm_rules.specs.declared.records.Event.{Event}
@@ -13,9 +14,11 @@ use Rattle.sdm_rules.specs.Records.{Journey, go_on, journey_from, step, turn_of,
 use Rattle.sdm_rules.specs.Supervision.{Supervision, after_reading, row_in}
 use Rattle.sdm_laws.specs.SupervisionLaws.{LawOfJourneys}
 use Rattle.sdm_laws.proofs.Rows.Ceiling.{within_ceiling}
+use Rattle.sdm_laws.proofs.Rows.CalculatedRelease.{release_speed_is, trip_by_svl}
 use Rattle.sdm_laws.proofs.Rows.Gaps.{gaps}
 use Rattle.sdm_laws.proofs.Rows.Headline.{machines, stop, release, over_kinds, still_open}
 
+-- the row of a reading in an open state is safe
 row_safe : (must may : Bool) (s : Supervision) (r : OdometerReading) → IsOpen s → InOrder must s.commands.eb may →
     IsRowSafe must may s r
 unfolding row_in
@@ -35,6 +38,7 @@ record Leads (must may : Bool) (s : Supervision) (e : Event) (t : Supervision) :
   open_after : IsOpen t
   order : InOrder (over_record must_after s e must) t.commands.eb (over_record may_after s e may)
 
+-- each record is safe and leads on
 leads : (must may : Bool) (s : Supervision) → IsOpen s → InOrder must s.commands.eb may → (e : Event) →
     IfOk (step s e) (Leads must may s e)
 unfolding after_reading
@@ -47,6 +51,11 @@ leads must may s o h =
           machines s r o must may h;
     })
     (λ a. record { safe = tt; open_after = still_open s _ refl o; order = h })
+    (λ eoa svl trip none. record {
+      safe = release_speed_is s.train_and_track svl trip o.bands (o.usable Safe) (trip_by_svl _ eoa svl trip none);
+      open_after = still_open s _ refl o;
+      order = h;
+    })
     (λ r. record { safe = tt; open_after = still_open s _ refl o; order = h })
     (λ id. record { safe = tt; open_after = still_open s _ refl o; order = h })
 
@@ -55,6 +64,7 @@ abbrev IsLaterSafe : (Supervision → Journey) → Type 0
 IsLaterSafe rest = (t : Supervision) (must may : Bool) → IsOpen t → InOrder must t.commands.eb may →
     AreTurnsSafe must may (rest t).turns
 
+-- the rest is safe after a record that is taken or refused
 after_step :
     (n : ℕ) (must may : Bool) (s : Supervision) (e : Event) (r : Result Supervision EventCause)
     (rest : Supervision → Journey) →
@@ -62,6 +72,7 @@ after_step :
 after_step n must may s e (Ok t) rest h later = (h.safe, later t _ _ h.open_after h.order)
 after_step n must may s e (Err cause) rest h later = tt
 
+-- and after a record that can be read or not
 after_record :
     (n : ℕ) (must may : Bool) (s : Supervision) (e : Result Event EventFault) (rest : Supervision → Journey) →
     IsOpen s → InOrder must s.commands.eb may → IsLaterSafe rest →
@@ -70,6 +81,7 @@ after_record n must may s (Ok e) rest o h later =
     after_step n must may s e (step s e) rest (leads must may s o h e) later
 after_record n must may s (Err fault) rest o h later = tt
 
+-- the headline of every journey
 pub turns_safe : {Record : Type 0} → LawOfJourneys Record
 turns_safe form n s must may [] o h = tt
 turns_safe form n s must may (x ∷ xs) o h =

@@ -31,6 +31,7 @@ use Rattle.sdm_laws.proofs.BrakeCurves.CurveNearness.{near_on}
 abbrev pub AreUsable : TrainAndTrack → Type 0
 AreUsable d = (kind : SlopeKind) → IsUsable (slopes_of kind d)
 
+-- limits that are taken from an SBI just before another lie just before the other's
 before_near : (times : Times) (v : ℕ) (guide guide' ebi ebi' : Option Fraction) (sbi sbi' : Fraction) →
     AreJustBeforeIfAny guide guide' → AreJustBeforeIfAny ebi ebi' → IsJustBefore sbi sbi' →
     AreLimitsJustBefore (limits_from_sbi times v guide ebi sbi) (limits_from_sbi times v guide' ebi' sbi')
@@ -51,6 +52,7 @@ before_near times v (Some x) (Some y) ebi ebi' sbi sbi' g e h = record {
   indication = less_near _ _ _ (lesser_near x y _ _ g (less_near sbi sbi' _ h));
 }
 
+-- the computed place of guidance lies just before the exact one
 guide_near : (d : TrainAndTrack) → AreUsable d → (r : OdometerReading) (t : Target) →
     AreJustBeforeIfAny (guidance_place computed d (estimate_of r) t) (guidance_place exact_places d (estimate_of r) t)
 guide_near d h r t =
@@ -61,6 +63,7 @@ guide_near d h r t =
       | false ↦ tt
     ]
 
+-- so do the limits by the EBD
 ebd_near : (d : TrainAndTrack) → AreUsable d → (r : OdometerReading) (t : Target) (g g' : Option Fraction) →
     AreJustBeforeIfAny g g' → AreLimitsJustBefore (ebd_limits_of computed d (estimate_of r) t g)
     (ebd_limits_of exact_places d (estimate_of r) t g')
@@ -70,6 +73,7 @@ ebd_near d h r t g g' n =
     before_near (reaction_times d) r.speed g g' _ _ _ _ n e
     (less_near _ _ (distance_at r.speed (reaction_times d).bs) e)
 
+-- and those by the SBD
 sbd_near : (d : TrainAndTrack) → AreUsable d → (r : OdometerReading) (t : Target) (g g' : Option Fraction) →
     AreJustBeforeIfAny g g' → AreLimitsJustBefore (sbd_limits_of computed d (estimate_of r) t g)
     (sbd_limits_of exact_places d (estimate_of r) t g')
@@ -78,6 +82,7 @@ sbd_near d h r t g g' n =
     (less_near _ _ (distance_at r.speed (reaction_times d).bs)
     (near_on (slopes_of Expected d) (h Expected) t.place 0 r.speed))
 
+-- and those of each kind of target
 kind_near : (d : TrainAndTrack) → AreUsable d → (r : OdometerReading) (t : Target) (k : TargetKind) →
     AreLimitsJustBefore (limits_of_kind computed d (estimate_of r) t k)
     (limits_of_kind exact_places d (estimate_of r) t k)
@@ -86,6 +91,7 @@ kind_near d h r t Loa = ebd_near d h r t _ _ (guide_near d h r t)
 kind_near d h r t Eoa = sbd_near d h r t _ _ (guide_near d h r t)
 kind_near d h r t Svl = ebd_near d h r t None None tt
 
+-- each computed limit of a target lies just before the exact one
 pub limits_near : (d : TrainAndTrack) → AreUsable d → (r : OdometerReading) (t : Target) →
     AreLimitsJustBefore (limits_of computed d (estimate_of r) t) (limits_of exact_places d (estimate_of r) t)
 unfolding limits_of
@@ -93,18 +99,21 @@ limits_near d h r t = kind_near d h r t t.kind
 
 -- ---- from near to sooner
 
+-- a limit just before the exact one is passed wherever the exact one is
 if_exact_sooner : (x y : Option Fraction) → AreJustBeforeIfAny x y → IsSoonerIfAny 0 y 0 x
 if_exact_sooner None None h = tt
 if_exact_sooner None (Some y) h = absurd h
 if_exact_sooner (Some x) None h = absurd h
 if_exact_sooner (Some x) (Some y) h = exact_sooner x y h
 
+-- a limit just before the exact one is passed only where the exact one, a millimetre earlier, is
 if_low_sooner : (x y : Option Fraction) → AreJustBeforeIfAny x y → IsSoonerIfAny 0 x millimetre y
 if_low_sooner None None h = tt
 if_low_sooner None (Some y) h = absurd h
 if_low_sooner (Some x) None h = absurd h
 if_low_sooner (Some x) (Some y) h = low_sooner x y h
 
+-- the same of all limits of a target: the exact ones are passed only where the computed ones are
 all_exact_sooner : (x y : SupervisionLimits) → AreLimitsJustBefore x y → AreSooner 0 y 0 x
 all_exact_sooner x y h = record {
   ebi = if_exact_sooner _ _ h.ebi;
@@ -114,6 +123,7 @@ all_exact_sooner x y h = record {
       exact_sooner _ _ h.permitted;
 }
 
+-- and these only where the exact ones, a millimetre earlier, are
 all_low_sooner : (x y : SupervisionLimits) → AreLimitsJustBefore x y → AreSooner 0 x millimetre y
 all_low_sooner x y h = record {
   ebi = if_low_sooner _ _ h.ebi;
@@ -123,6 +133,7 @@ all_low_sooner x y h = record {
       low_sooner _ _ h.permitted;
 }
 
+-- the three machines' commands stay in order over a reading
 pub keeps_order : (s : Supervision) (r : OdometerReading) → AreUsable s.train_and_track →
     KeepsOrder s r (held_after s r)
 unfolding machine_after commands_in commands_after

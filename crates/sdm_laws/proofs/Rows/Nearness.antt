@@ -34,14 +34,20 @@ below_more m k d a b f p h lt =
 plus_0 : (f : ℤ) → f +ℤ pos 0 ≡ f
 plus_0 f = omega (arith, ints)
 
-pub exact_sooner : (low x : Fraction) → IsJustBefore low x → IsSooner 0 x 0 low
-exact_sooner low x h = record {
+-- a front end is past a place only where it is past one at or before it
+pub at_most_sooner : (low x : Fraction) → 0 < low.m → IsAtMost low x → IsSooner 0 x 0 low
+at_most_sooner low x low_positive le = record {
   passed = λ front e.
       let lt = lt_of x.n (pos x.m *ℤ (front +ℤ pos 0)) e in
       lt_is low.n (pos low.m *ℤ (front +ℤ pos 0))
-      (below_low low.m x.m low.n x.n (front +ℤ pos 0) h.low_positive h.not_past.crossed lt);
+      (below_low low.m x.m low.n x.n (front +ℤ pos 0) low_positive le.crossed lt);
 }
 
+-- past the exact place only where past the computed one
+pub exact_sooner : (low x : Fraction) → IsJustBefore low x → IsSooner 0 x 0 low
+exact_sooner low x h = at_most_sooner low x h.low_positive h.not_past
+
+-- past the computed place only where past the exact one less a millimetre
 pub low_sooner : (low x : Fraction) → IsJustBefore low x → IsSooner 0 low millimetre x
 low_sooner low x h = record {
   passed = λ front e.
@@ -54,11 +60,16 @@ low_sooner low x h = record {
 
 -- ---- the same under the operations of limits
 
+-- some grains less, of both, stay in order
+pub less_order : (low x : Fraction) (k : ℕ) → IsAtMost low x → IsAtMost (less low k) (less x k)
+less_order low x k h = record { crossed = simp scales (let p = h.crossed in omega (arith, ints)) }
+
+-- some grains less, of both
 pub less_near : (low x : Fraction) (k : ℕ) → IsJustBefore low x → IsJustBefore (less low k) (less x k)
 less_near low x k h = record {
   low_positive = h.low_positive;
   positive = h.positive;
-  not_past = record { crossed = simp scales (let p = h.not_past.crossed in omega (arith, ints)) };
+  not_past = less_order low x k h.not_past;
   near = record { crossed = simp scales (let p = simp scales at h.near.crossed in omega (arith, ints)) };
 }
 
@@ -68,15 +79,21 @@ lesser_left x y = lesser_cases (λ z. IsAtMost z x) x y (λ _. at_most_refl x) (
 lesser_right : (x y : Fraction) → IsAtMost (lesser x y) y
 lesser_right x y = lesser_cases (λ z. IsAtMost z y) x y (λ le. le) (λ _. at_most_refl y)
 
+-- the lesser of two is at most the lesser of two
+pub lesser_order : (low x low' x' : Fraction) → 0 < low.m → 0 < low'.m → IsAtMost low x → IsAtMost low' x' →
+    IsAtMost (lesser low low') (lesser x x')
+lesser_order low x low' x' low_positive low_positive' h h' =
+    lesser_cases (λ z. IsAtMost (lesser low low') z) x x'
+    (λ _. at_most_trans (lesser low low') low x low_positive (lesser_left low low') h)
+    (λ _. at_most_trans (lesser low low') low' x' low_positive' (lesser_right low low') h')
+
 -- the lesser of two lies just before the lesser of two
 pub lesser_near : (low x low' x' : Fraction) → IsJustBefore low x → IsJustBefore low' x' →
     IsJustBefore (lesser low low') (lesser x x')
 lesser_near low x low' x' h h' = record {
   low_positive = lesser_cases (λ z. 0 < z.m) low low' (λ _. h.low_positive) (λ _. h'.low_positive);
   positive = lesser_cases (λ z. 0 < z.m) x x' (λ _. h.positive) (λ _. h'.positive);
-  not_past = lesser_cases (λ z. IsAtMost (lesser low low') z) x x'
-      (λ _. at_most_trans (lesser low low') low x h.low_positive (lesser_left low low') h.not_past)
-      (λ _. at_most_trans (lesser low low') low' x' h'.low_positive (lesser_right low low') h'.not_past);
+  not_past = lesser_order low x low' x' h.low_positive h'.low_positive h.not_past h'.not_past;
   near = lesser_cases (λ z. IsAtMost (lesser x x') (more z most_slack)) low low'
       (λ _. at_most_trans (lesser x x') x (more low most_slack) h.positive (lesser_left x x') h.near)
       (λ _. at_most_trans (lesser x x') x' (more low' most_slack) h'.positive (lesser_right x x') h'.near);

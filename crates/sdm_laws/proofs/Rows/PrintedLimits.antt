@@ -42,6 +42,7 @@ below_further m n z w d lt le =
     let parts = scale-+ℤ m (z +ℤ pos 1) (pos d) in
     omega (arith, ints, further, parts)
 
+-- an exact place is less than two millimetres past the printed one
 near_printed : (low x : Fraction) → IsJustBefore low x →
     IsBefore x (whole (place_of_mm (whole_mm low) +ℤ pos (2 * millimetre)))
 near_printed low x h =
@@ -54,9 +55,11 @@ near_printed low x h =
 
 -- ---- what is printed of a list of targets
 
+-- the places that are printed of targets that pass `p`: those that `f` gives
 shown : (Target → Option ℤ) → (Target → Bool) → List Target → List ℤ
 shown f p ts = filter_map f (filter p ts)
 
+-- the value is printed of a target of the list that passes
 record IsShown (f : Target → Option ℤ) (p : Target → Bool) (ts : List Target) (v : ℤ) : Type 0 where
   target : Target
   there : Contains ts target
@@ -64,10 +67,12 @@ record IsShown (f : Target → Option ℤ) (p : Target → Bool) (ts : List Targ
   is : f target ≡ Some v
 
 module _ (f : Target → Option ℤ) (p : Target → Bool) where
+  -- what stands in a list stands in it behind one more
   in_cons : (o : Option ℤ) (vs : List ℤ) (v : ℤ) → Contains vs v → Contains (cons_option o vs) v
   in_cons None vs v h = h
   in_cons (Some w) vs v h = Contains-append_right (w ∷ []) vs v h
 
+  -- what is shown of the later targets is shown of all
   keeps : (x : Target) (xs : List Target) (v : ℤ) → Contains (shown f p xs) v → Contains (shown f p (x ∷ xs)) v
   unfolding shown
   keeps x xs v h =
@@ -76,6 +81,7 @@ module _ (f : Target → Option ℤ) (p : Target → Bool) where
         | false ↦ h
       ]
 
+  -- what a passing first target gives is shown
   adds : (x : Target) (xs : List Target) (v : ℤ) → p x ≡ true → f x ≡ Some v → Contains (shown f p (x ∷ xs)) v
   unfolding shown
   adds x xs v e k = rw (e, k) (zero, omega arith, refl)
@@ -88,6 +94,7 @@ module _ (f : Target → Option ℤ) (p : Target → Bool) where
       adds x xs v (subst (λ (y : Target). p y ≡ true) (sym is) e) (subst (λ (y : Target). f y ≡ Some v) (sym is) j)
   in_shown (x ∷ xs) t v (suc k, lt, is) e j = keeps x xs v (in_shown xs t v (k, omega arith, is) e j)
 
+  -- what is of a later target is of a target
   later : (x : Target) (xs : List Target) (v : ℤ) → IsShown f p xs v → IsShown f p (x ∷ xs) v
   later x xs v h =
       record {
@@ -97,6 +104,7 @@ module _ (f : Target → Option ℤ) (p : Target → Bool) where
         is = h.is;
       }
 
+  -- behind a first target that passes, what it gives and what the later ones give are each of a target
   from_cons : (x : Target) (xs : List Target) (vs : List ℤ) (o : Option ℤ) → p x ≡ true → f x ≡ o →
       All (IsShown f p (x ∷ xs)) vs → All (IsShown f p (x ∷ xs)) (cons_option o vs)
   from_cons x xs vs None e j rest = rest
@@ -125,6 +133,7 @@ record HasExact (x : Option Fraction) (v : ℤ) : Type 0 where
   not_past : IsAtMost (whole (place_of_mm v)) place
   near : IsBefore place (whole (place_of_mm v +ℤ pos (2 * millimetre)))
 
+-- where a computed place is printed, there is an exact one just past it
 has_exact : (low x : Option Fraction) (v : ℤ) → AreJustBeforeIfAny low x → option_map whole_mm low ≡ Some v →
     HasExact x v
 has_exact None x v h e = cc
@@ -146,6 +155,7 @@ record HasComputed (low : Option Fraction) (b : Fraction) : Type 0 where
   is : low ≡ Some place
   just : IsJustBefore place b
 
+-- where there is an exact place, there is a computed one just before it
 has_computed : (low x : Option Fraction) (b : Fraction) → AreJustBeforeIfAny low x → x ≡ Some b → HasComputed low b
 has_computed None None b h e = cc
 has_computed None (Some y) b h e = absurd h
@@ -158,9 +168,11 @@ has_computed (Some a) (Some y) b h e = record {
 
 module _ (now : Situation) (low exact : Target → Option Fraction)
     (near : (t : Target) → AreJustBeforeIfAny (low t) (exact t)) where
+  -- the printed place of a target's computed limit
   abbrev mm_of : Target → Option ℤ
   mm_of t = option_map whole_mm (low t)
 
+  -- a target whose limits are shown: its speed is at most the train's
   abbrev is_slow : Target → Bool
   is_slow t = nat_le (target_speed t) now.speed
 
@@ -175,6 +187,7 @@ module _ (now : Situation) (low exact : Target → Option Fraction)
         at_most_printed c.place x c.just,
       )
 
+  -- of the list of printed places the least is printed rightly, or nothing where it is empty
   printed_by : (vs : List ℤ) → shown mm_of is_slow now.targets ≡ vs → IsPrinted now exact (least_of vs)
   printed_by [] e = λ t x h.
       let i = printed_in t x h in
@@ -204,10 +217,12 @@ module _ (now : Situation) (low exact : Target → Option Fraction)
         near = x.near;
       }
 
+  -- the limit in a row is printed rightly
   pub printed : IsPrinted now exact (shown_limit now.speed now.targets low)
   unfolding shown
   printed = printed_by _ refl
 
+-- and so is each of the row's limits
 pub printed_limits : LawOfPrintedLimits
 unfolding row_in
 printed_limits s r o =

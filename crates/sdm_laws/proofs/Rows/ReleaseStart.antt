@@ -35,6 +35,7 @@ state_by : (o : Option ℕ) (b : Bool) → is_some o ≡ true → (if is_some o 
 state_by (Some x) b e = refl
 state_by None b e = absurd (false≢true e)
 
+-- the state is release speed monitoring only where there is a release speed
 state_only : (o : Option ℕ) (b : Bool) → (if is_some o then R else if b then T else C) ≡ R → is_some o ≡ true
 state_only (Some x) b e = refl
 state_only None true e = absurd (cc)
@@ -44,6 +45,7 @@ some_if : (b : Bool) (x : ℕ) → is_some (if b then Some x else None) ≡ b
 some_if true x = refl
 some_if false x = refl
 
+-- under an end of authority with a release speed, its monitoring begins at its exact start or just before it
 pub begins_release_monitoring_at : (s : Supervision) (r : OdometerReading) (eoa svl release : ℕ) →
     AreUsable s.train_and_track → s.authority ≡ Stop eoa svl release → 0 < release →
     BeginsReleaseMonitoringAt s r eoa svl release

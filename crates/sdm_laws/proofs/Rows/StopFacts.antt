@@ -15,6 +15,8 @@ use Rattle.sdm_laws.specs.MotionLaws.{IsBounded, IsWithinCurve}
 use Rattle.sdm_laws.proofs.BrakeCurves.CurveOrder.{exact_positive, exact_falls}
 use Rattle.sdm_laws.proofs.BrakeCurves.CurveNearness.{scaled_within}
 
+-- a point within the bounds of the reaction is within a curve that the front end, with D_bec before it, hasn't
+-- passed
 pub within_first : (on : Slopes) → IsUsable on → (s : ℕ) (f : ℤ) (w v d : ℕ) (front p : ℤ) (x : Point) → 0 < s * s →
     IsAtMost (whole (front +ℤ pos d)) (exact_at on 1 f w (v * v)) → p ≤ℤ (pos (s * s) *ℤ front) →
     IsBounded (p +ℤ pos (s * s * d)) (s * v) x → IsWithinCurve on (s * s) f w x
@@ -32,6 +34,7 @@ within_first on usable s f w v d front p x pos_m h begins b =
     at_most_trans (whole x.place) y (exact_at on m f w x.square) (exact_positive on m f w (m * (v * v)) usable pos_m)
     (at_most_trans (whole x.place) (whole (pos m *ℤ (front +ℤ pos d))) y (omega arith) one two) three
 
+-- no speed rises while the train brakes
 pub slower : (on : Slopes) (m b : ℕ) (x : Point) (ys : List Point) → IsBraking on m x ys → x.square ≤ b →
     All (λ y. y.square ≤ b) ys
 slower on m b x [] h k = All-nil (λ (z : Point). z.square ≤ b)

@@ -19,6 +19,7 @@ use Rattle.sdm_num.proofs.Comparisons.{not_lt_of}
 use Rattle.sdm_rules.specs.declared.data.SlopeKind.TheVariants.{Safe}
 use Rattle.sdm_rules.specs.declared.motions.Slice.{Slice}
 use Rattle.sdm_rules.specs.declared.motions.Point.{Point}
+use Rattle.sdm_rules.specs.declared.motions.Start.{Start}
 use Rattle.sdm_rules.specs.declared.authorities.Authority.{Authority}
 use Rattle.sdm_rules.specs.declared.authorities.Authority.TheVariants.{Stop}
 use Rattle.sdm_rules.specs.declared.targets.Target.{Target}
@@ -31,13 +32,13 @@ use Rattle.sdm_rules.specs.Motion.{IsBy, KeepsTo, slice_ends}
 use Rattle.sdm_rules.specs.Data.{TrainAndTrack}
 use Rattle.sdm_rules.specs.Decelerations.{slopes_of}
 use Rattle.sdm_rules.specs.Targets.{targets_of, falls_ahead, ends_of, target_speed, foot_speed_of}
-use Rattle.sdm_rules.specs.Reaction.{reaction_start}
+use Rattle.sdm_rules.specs.Reaction.{build_up_of, d_bec, reaction_start, v_bec}
 use Rattle.sdm_rules.specs.Limits.{computed, limits_of, limits_of_kind, v_bec_for, d_bec_for}
 use Rattle.sdm_rules.specs.Triggers.{is_past}
 use Rattle.sdm_rules.specs.Supervision.{Supervision, situation_of, profile_of, row_of, row_in, is_covered_in}
 use Rattle.sdm_rules.specs.Supervision.{is_covered_for, is_met_by_speed}
-use Rattle.sdm_rules.specs.Stop.{IsMotionOn, StopsBySvl, MeetsTarget, IsSpeedTarget, IsSafe}
-use Rattle.sdm_laws.specs.MotionLaws.{IsHeldByCurve, IsInReach, IsWithinCurve}
+use Rattle.sdm_rules.specs.Stop.{IsMotionOn, StopsBy, StopsBySvl, MeetsTarget, IsSpeedTarget, IsSafe}
+use Rattle.sdm_laws.specs.MotionLaws.{IsBounded, IsHeldByCurve, IsInReach, IsWithinCurve}
 use Rattle.sdm_laws.proofs.BrakeCurves.CurveNearness.{near_on}
 use Rattle.sdm_laws.proofs.Moving.Braking.{within_held, braking}
 use Rattle.sdm_laws.proofs.Rows.MachineOrder.{AreUsable}
@@ -46,12 +47,15 @@ use Rattle.sdm_laws.proofs.Rows.StopFacts.{within_first, slower}
 
 -- ---- the SvL among the targets
 
+-- the SvL as a target
 svl_at : ℕ → Target
 svl_at svl = record { kind = Svl; place = place_of_cell (pos svl); speed = 0 }
 
+-- a test that all targets pass is passed by each
 all_of : (p : Target → Bool) (ts : List Target) (t : Target) → list_all p ts ≡ true → Contains ts t → p t ≡ true
 all_of p ts t e = All-contains (λ t. p t ≡ true) ts t (AllPass-from_list_all p ts e)
 
+-- under an end of authority outside release speed monitoring it is passed by the SvL
 all_svl : (p : Target → Bool) (profile : ℤ → ℕ) (front : ℤ) (eoa svl release : ℕ) →
     list_all p (targets_of profile (Stop eoa svl release) front false) ≡ true → p (svl_at svl) ≡ true
 unfolding targets_of svl_at
@@ -73,6 +77,21 @@ not_past on usable f w v bec front e =
     at_most_trans (whole (front +ℤ pos bec)) (whole low) (exact_at on 1 f w (v * v)) j.low_positive
     (record { crossed = omega (arith, ints) }) j.not_past
 
+-- where the front end of a start is not past the computed place of its speed V_bec, taken D_bec earlier, every motion
+-- from it stops by the foot
+pub stops_before : (on : Slopes) → IsUsable on → (start : Start) (f : ℤ) (v d : ℕ) → v_bec (build_up_of start) 0 ≡ v →
+    d_bec (build_up_of start) 0 ≡ d → is_past 0 start.front (less (computed on f 0 v) d) ≡ false → StopsBy on start f
+stops_before on usable start f v d speed distance e s p u xs first more m =
+    let B : ℕ → ℕ → Type 0 = λ distance speed. IsBounded (p +ℤ pos (s * s * distance)) (s * speed) first in
+    let s_pos : 0 < s * s = (let h = m.0 in omega (arith, mul-le-mul_left s h)) in
+    let h = not_past on usable f 0 v d start.front e in
+    let reached = in_reach s start on 0 p u xs first more m.1.motion m.1.speed in
+    let bounded = subst (λ (k : ℕ). B d k) speed
+    (subst (λ (k : ℕ). B k (v_bec (build_up_of start) 0)) distance reached.begins) in
+    let within = within_first on usable s f 0 v d start.front p first s_pos h m.1.place bounded in
+    let held = braking on (s * s) f 0 first more usable s_pos m.1.motion.braking within in
+    All-weaker (IsHeldByCurve on (s * s) f 0) (IsBy s f) (λ y k. k.standing refl) (first ∷ more) held
+
 module _ (d : TrainAndTrack) (usable : IsUsable (slopes_of Safe d)) (r : OdometerReading) (t : Target)
     (s : ℕ) (p : ℤ) (v : ℕ) (xs : List Slice) (first : Point) (more : List Point)
     (m : IsMotionOn (slopes_of Safe d) (reaction_start d r) s p v xs first more) where
@@ -83,6 +102,7 @@ module _ (d : TrainAndTrack) (usable : IsUsable (slopes_of Safe d)) (r : Odomete
   abbrev IsReached : Point → Type 0
   IsReached = IsInReach s (reaction_start d r) (target_speed t) p
 
+  -- in every motion the ends of slices and the first braking point are reached
   reached : AreInReach s (reaction_start d r) (target_speed t) p v xs first
   reached = in_reach s (reaction_start d r) (slopes_of Safe d) (target_speed t) p v xs first more m.1.motion m.1.speed
 
@@ -123,10 +143,12 @@ module _ (d : TrainAndTrack) (usable : IsUsable (slopes_of Safe d)) (r : Odomete
 
 -- ---- the row
 
+-- a target that is covered isn't passed, or is met by speed
 either : (past met : Bool) → (not past || met) ≡ true → (past ≡ false) ⊎ (met ≡ true)
 either true met e = inr e
 either false met e = inl refl
 
+-- for a covered speed target the front end is not past the EBI, or V_bec is at most the foot speed
 within_or_slow : (d : TrainAndTrack) (r : OdometerReading) (t : Target) (k : TargetKind) → k ≢ Eoa → k ≢ Svl →
     option_map_or (λ ebi. not (is_past 0 r.max ebi) || is_met_by_speed k (v_bec_for d (estimate_of r) t)
     (foot_speed_of t)) (limits_of_kind computed d (estimate_of r) t k).ebi true ≡ true →
@@ -143,6 +165,7 @@ within_or_slow d r t Loa a b e = elim (either _ (nat_le (v_bec_for d (estimate_o
 within_or_slow d r t Eoa a b e = absurd (a refl)
 within_or_slow d r t Svl a b e = absurd (b refl)
 
+-- a speed target that is covered is met by every motion
 meets_of : (d : TrainAndTrack) → IsUsable (slopes_of Safe d) → (r : OdometerReading) (t : Target) → IsSpeedTarget t →
     is_covered_for d r.max (estimate_of r) t ≡ true → MeetsTarget d r t
 unfolding limits_of
@@ -155,6 +178,7 @@ meets_of d usable r t is e s p v xs first more m =
       | inr x ↦ never_faster d usable r t s p v xs first more m x
     ]
 
+-- by an SvL that is covered every motion stops
 stops_of : (d : TrainAndTrack) → IsUsable (slopes_of Safe d) → (r : OdometerReading) (svl : ℕ) →
     is_covered_for d r.max (estimate_of r) (svl_at svl) ≡ true → StopsBySvl d r svl
 unfolding limits_of svl_at
@@ -167,6 +191,7 @@ stops_of d usable r svl e s p v xs first more m =
     All-weaker (IsHeldByCurve (slopes_of Safe d) (s * s) t.place 0) (IsBy s t.place)
     (λ y k. k.standing refl) (first ∷ more) held.1
 
+-- in a covered row outside release speed monitoring the SvL is covered
 svl_covered : (d : TrainAndTrack) (r : OdometerReading) (profile : ℤ → ℕ) (a : Authority)
     (in_release_monitoring : Bool) (eoa svl release : ℕ) → a ≡ Stop eoa svl release → in_release_monitoring ≡ false →
     list_all (is_covered_for d r.max (estimate_of r)) (targets_of profile a r.max in_release_monitoring) ≡ true →

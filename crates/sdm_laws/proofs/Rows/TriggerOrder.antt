@@ -22,6 +22,7 @@ use Rattle.sdm_rules.specs.Machines.{Implies}
 pub record IsSooner (a : ℕ) (x : Fraction) (b : ℕ) (y : Fraction) : Type 0 where
   pub passed : (front : ℤ) → Implies (is_past a front x) (is_past b front y)
 
+-- the same where there may be no limit: one that isn't there is never passed
 abbrev pub IsSoonerIfAny : ℕ → Option Fraction → ℕ → Option Fraction → Type 0
 IsSoonerIfAny a None b y = Unit {0}
 IsSoonerIfAny a (Some x) b None = ⊥
@@ -62,7 +63,8 @@ not_implies true true h = λ e. e
 not_implies true false h = λ _. absurd (false≢true (h refl))
 not_implies false b h = λ _. refl
 
-any_implies : (p q : Target → Bool) (ts : List Target) → ((t : Target) → Implies (p t) (q t)) →
+-- where a test implies another, so do the two over a list of targets
+pub any_implies : (p q : Target → Bool) (ts : List Target) → ((t : Target) → Implies (p t) (q t)) →
     Implies (list_any p ts) (list_any q ts)
 any_implies p q [] h = same false
 any_implies p q (t ∷ ts) h = or_implies (p t) (q t) _ _ (h t) (any_implies p q ts h)
@@ -71,6 +73,8 @@ any_implies p q (t ∷ ts) h = or_implies (p t) (q t) _ _ (h t) (any_implies p q
 
 module _ (f g : Target → SupervisionLimits) (a b : ℕ) (s : Situation)
     (sooner : (t : Target) → AreSooner a (f t) b (g t)) where
+  -- the front end is past some target's `x`, above its speed with the margin, only where it is past some target's
+  -- `y`
   some_implies : (margin : ℕ → ℕ) (x y : Target → Fraction) → ((t : Target) → IsSooner a (x t) b (y t)) →
       Implies (some_passed s a margin x) (some_passed s b margin y)
   some_implies margin x y h =
@@ -78,6 +82,7 @@ module _ (f g : Target → SupervisionLimits) (a b : ℕ) (s : Situation)
       (λ t. and_implies (nat_lt (with_margin margin t) s.speed) _ _ _ (same _)
       ((h t).passed (front_for s.est s.front t.kind)))
 
+  -- it passes a target's EBI `x` only where it passes `y`
   ebi_implies : (t : Target) (x y : Option Fraction) → IsSoonerIfAny a x b y →
       Implies (passes_ebi s.speed s.est s.front a t x) (passes_ebi s.speed s.est s.front b t y)
   ebi_implies t None y h = λ e. absurd (false≢true e)
@@ -85,7 +90,7 @@ module _ (f g : Target → SupervisionLimits) (a b : ℕ) (s : Situation)
   ebi_implies t (Some x) (Some y) h = and_implies (nat_lt (with_margin ebi_margin t) s.speed) _ _ _ (same _)
       (h.passed (front_for s.est s.front t.kind))
 
-  over_implies : Implies (is_over f a s) (is_over g b s)
+  pub over_implies : Implies (is_over f a s) (is_over g b s)
   over_implies = or_implies _ _ _ _ (or_implies (above_ceiling s no_margin) _ _ _ (same _)
       (some_implies no_margin _ _ (λ t. (sooner t).permitted))) (same (above_release s))
 
@@ -93,11 +98,11 @@ module _ (f g : Target → SupervisionLimits) (a b : ℕ) (s : Situation)
   warn_implies = or_implies (above_ceiling s warning_margin) _ _ _ (same _)
       (some_implies warning_margin _ _ (λ t. (sooner t).warning))
 
-  serv_implies : Implies (is_service f a s) (is_service g b s)
+  pub serv_implies : Implies (is_service f a s) (is_service g b s)
   serv_implies =
       or_implies (above_ceiling s sbi_margin) _ _ _ (same _) (some_implies sbi_margin _ _ (λ t. (sooner t).sbi))
 
-  some_ebi_implies : Implies (some_ebi_passed s a (λ t. (f t).ebi)) (some_ebi_passed s b (λ t. (g t).ebi))
+  pub some_ebi_implies : Implies (some_ebi_passed s a (λ t. (f t).ebi)) (some_ebi_passed s b (λ t. (g t).ebi))
   some_ebi_implies = any_implies _ _ s.targets (λ t. ebi_implies t (f t).ebi (g t).ebi (sooner t).ebi)
 
   emer_implies : Implies (is_emergency f a s) (is_emergency g b s)

@@ -1,7 +1,7 @@
 //! How far the slopes of a train of so many bands may differ, worked by hand: with 0.05 m/s² from 900 m on and
 //! 0.8 m/s² before, exactly sixteenfold; with 0.1 m/s² from 900 m on, exactly eightfold.
 
-use super::{STEADY, answer_to, bytes_of, fields_of, part_of};
+use super::{answer_to, bytes_of, expect, fields_of, part_of};
 use std::alloc::Global;
 use std::test::Fail;
 
@@ -56,10 +56,8 @@ fn up_to_eight_bands_differ_sixteenfold_nine_and_ten_eightfold(
         };
         let mut input = banded_part(alloc, count.parse::<u16>()?, adhesion)?;
         input.extend_from_slice(b"%%\nread,0,300000,300000,300000,20000,0,0\n")?;
-        let answer = answer_to(alloc, "run", &input, &STEADY)?;
-        assert_eq!(rt; answer.code, code.parse::<u8>()?, "{line}");
-        assert!(rt; answer.out == bytes_of(alloc, rows)?, "{line}");
-        assert!(rt; answer.err == bytes_of(alloc, told)?, "{line}");
+        let answer = answer_to(alloc, "run", &input)?;
+        expect(&rt, alloc, line, &answer, rows, code, told)?;
     }
     Ok(())
 }

@@ -1,6 +1,6 @@
 //! Journeys of `flat`, worked by hand, and faults at chosen calls.
 
-use super::{STEADY, Streams, answer_of, bytes_of, fields_of};
+use super::{Streams, answer_of, answer_over, expect, fields_of};
 use sdm_num::{Place, Speed};
 use sdm_supervisor::{CycleFault, Flat, FlatRow};
 use std::test::Fail;
@@ -43,10 +43,8 @@ fn each_journey_has_its_rows_and_its_end(rt: HostRuntime) -> Result<(), Fail> {
         let [words, input, rows, code, told] = fields.as_slice() else {
             return Err("no row".into());
         };
-        let answer = answer_of(alloc, words, input, &STEADY)?;
-        assert_eq!(rt; answer.code, code.parse::<u8>()?, "{line}");
-        assert!(rt; answer.out == bytes_of(alloc, rows)?, "{line}");
-        assert!(rt; answer.err == bytes_of(alloc, told)?, "{line}");
+        let answer = answer_of(alloc, words, input)?;
+        expect(&rt, alloc, line, &answer, rows, code, told)?;
     }
     Ok(())
 }
@@ -88,11 +86,9 @@ fn a_fault_ends_the_program_where_it_comes(rt: HostRuntime) -> Result<(), Fail> 
             failing_writes: writes,
             failing_lines: lines,
         };
-        let input = "0,799990,20000/5,800010,20000/";
-        let answer = answer_of(alloc, "flat 100 100000", input, &streams)?;
-        assert_eq!(rt; answer.code, code.parse::<u8>()?, "{line}");
-        assert!(rt; answer.out == bytes_of(alloc, rows)?, "{line}");
-        assert!(rt; answer.err == bytes_of(alloc, told)?, "{line}");
+        let input = b"0,799990,20000\n5,800010,20000\n";
+        let answer = answer_over(alloc, "flat 100 100000", input, &streams)?;
+        expect(&rt, alloc, line, &answer, rows, code, told)?;
     }
     Ok(())
 }

@@ -14,6 +14,8 @@ emergency_time = 0 > emergency_time = 20; service_time = 0 > service_time = 30 |
 eoa = 100000 > eoa = 200000; svl = 100000 > svl = 200000; emergency_time = 0 > emergency_time = 20 | restrict,1,50000,60000,80,1/read,0,460000,460000,460000,24305,0,0/read,5,460000,460000,460000,24306,0,0/ | 0,T,X,1,1,0,1,160,451403,451403,402793,354183,135438/5,T,X,1,1,1,0,160,451377,451377,402765,354153,135399/ | 0 | -
 eoa = 100000 > eoa = 200000; svl = 100000 > svl = 200000 | read,0,700000,700000,700000,20000,0,0/end,80000,80000,0/read,5,710000,710000,710000,20000,0,0/ | 0,C,N,0,0,0,1,160,1800000,1800000,1760000,1720000,1540000/5,T,X,1,1,1,0,160,600000,600000,560000,520000,340000/ | 0 | -
 svl = 100000 > svl = 100000/release = 18 | read,0,988000,988000,988000,4900,0,0/read,5,988000,988000,988000,5001,0,0/ | 0,R,I,0,0,0,0,160,-,-,-,-,-/5,R,X,1,0,1,0,160,-,-,-,-,-/ | 0 | -
+- | endcalc,100000,105000,101000/read,0,961000,961000,961000,8888,0,0/read,5,961000,961000,961000,8889,0,0/ | 0,R,I,0,0,0,0,160,-,-,-,-,-/5,R,X,1,0,1,0,160,-,-,-,-,-/ | 0 | -
+emergency_time = 0 > emergency_time = 20 | endcalc,100000,105000,101000/read,0,975888,975888,975888,6944,0,0/read,5,975888,975888,975888,6945,0,0/ | 0,R,I,0,0,0,0,160,-,-,-,-,-/5,R,X,1,0,1,0,160,-,-,-,-,-/ | 0 | -
 svl = 100000 > svl = 100000/release = 18 | read,0,987500,987500,987500,5000,0,0/ | 0,T,W,1,0,0,1,160,987500,987500,977500,967500,922500/ | 0 | -
 svl = 100000 > svl = 110000 | read,0,1000001,1000001,1000001,0,0,0/ | 0,C,X,1,0,1,1,160,1100000,1000000,1000000,1000000,1000000/ | 0 | -
 kind = "end" > kind = "limit"; eoa = 100000 > loa = 100000; svl = 100000 > speed = 60 | read,0,500000,500000,500000,25000,0,0/ | 0,C,N,0,0,0,1,160,863281,863281,813281,763281,538281/ | 0 | -
@@ -40,6 +42,12 @@ pub const REFUSALS: &str =
 - | read,0,a,0,0,0,0,0/ | - | 7 | sdm: bad event 1: field 3: not a number/
 - | limit,1000,501/ | - | 7 | sdm: bad event 1: field 3: out of range/
 - | end,2,1,0/ | - | 7 | sdm: bad event 1: supervised location before end/
+- | endcalc,100000,105000,105001/ | - | 7 | sdm: bad event 1: bad trip place/
+- | endcalc,100000,105000,99999/ | - | 7 | sdm: bad event 1: bad trip place/
+- | endcalc,2,1,0/ | - | 7 | sdm: bad event 1: supervised location before end/
+- | endcalc,1,200001,0/ | - | 7 | sdm: bad event 1: beyond track/
+- | endcalc,2,1,10000001/ | - | 7 | sdm: bad event 1: field 4: out of range/
+- | endcalc,1,2/ | - | 7 | sdm: bad event 1: field count/
 - | limit,200001,60/ | - | 7 | sdm: bad event 1: beyond track/
 - | restrict,1,10,20,80,0/restrict,1,30,40,80,0/ | - | 7 | sdm: bad event 2: identity in use/
 - | restrict,1,20,20,80,0/ | - | 7 | sdm: bad event 1: restriction value/

@@ -1,10 +1,11 @@
 //! Inputs of the greatest length, of the most records and entries, and of one more; and ten thousand rows.
 
-use super::{STEADY, answer_to, bytes_of, fields_of, words_of};
+use super::{answer_to, bytes_of, expect, fields_of, words_of};
 use sdm_data::BASE_PART;
 use sdm_io::{FixedSource, MemSink, NullSink};
 use sdm_run::{EventCause, Outcome, outcome_of, sdm_main};
 use std::alloc::Global;
+use std::process::Abort;
 use std::test::Fail;
 
 #[test]
@@ -42,6 +43,7 @@ fn many_records(alloc: Global, count: u32, odd: &str, even: &str) -> Result<Vec<
     for i in 0..count {
         let record = if i % 2 == 0 { odd } else { even };
         input.extend_from_slice(record.as_bytes())?;
+        input.push(b'\n')?;
     }
     Ok(input)
 }
@@ -59,14 +61,10 @@ fn a_record_past_the_hundred_thousandth_is_too_many(rt: HostRuntime) -> Result<(
         let [odd, even] = fields.as_slice() else {
             return Err("no row".into());
         };
-        let odd = format!(in alloc; "{odd}\n")?;
-        let even = format!(in alloc; "{even}\n")?;
-        let input = many_records(alloc, 100_001, odd.as_str(), even.as_str())?;
-        let answer = answer_to(alloc, "run", &input, &STEADY)?;
-        assert_eq!(rt; answer.code, 7, "{line}");
-        assert!(rt; answer.out.is_empty(), "{line}");
-        let told = b"sdm: bad event 100001: too many events\n";
-        assert!(rt; answer.err.as_slice() == told.as_slice(), "{line}");
+        let input = many_records(alloc, 100_001, odd, even)?;
+        let answer = answer_to(alloc, "run", &input)?;
+        let told = "sdm: bad event 100001: too many events/";
+        expect(&rt, alloc, line, &answer, "-", "7", told)?;
     }
     Ok(())
 }
@@ -86,20 +84,29 @@ const STANDING_FLAT: &str = ",1000000,1,0";
 
 const STANDING: &str = ",C,N,0,0,0,1,160,1000000,1000000,1000000,1000000,1000000";
 
+/// Words and an input have such rows.
+fn rows_are(
+    rt: &impl Abort,
+    alloc: Global,
+    words: &str,
+    input: &[u8],
+    back: &str,
+) -> Result<(), Fail> {
+    let answer = answer_to(alloc, words, input)?;
+    assert_eq!(rt; answer.code, 0);
+    let rows = ten_thousand(alloc, "", back)?;
+    assert!(rt; answer.out == rows);
+    Ok(())
+}
+
 #[test]
 fn ten_thousand_readings_have_their_rows(rt: HostRuntime) -> Result<(), Fail> {
     let alloc = rt.alloc();
     let lines = ten_thousand(alloc, "", ",0,0")?;
-    let answer = answer_to(alloc, "flat 100 100000", &lines, &STEADY)?;
-    assert_eq!(rt; answer.code, 0);
-    assert!(rt; answer.out == ten_thousand(alloc, "", STANDING_FLAT)?);
-
+    rows_are(&rt, alloc, "flat 100 100000", &lines, STANDING_FLAT)?;
     let mut input = many_records(alloc, 0, "", "")?;
     input.extend_from_slice(&ten_thousand(alloc, "read,", ",0,0,0,0,0,0")?)?;
-    let answer = answer_to(alloc, "run", &input, &STEADY)?;
-    assert_eq!(rt; answer.code, 0);
-    assert!(rt; answer.out == ten_thousand(alloc, "", STANDING)?);
-    Ok(())
+    rows_are(&rt, alloc, "run", &input, STANDING)
 }
 
 /// section | entry | one entry too many | line
@@ -107,6 +114,19 @@ const TOO_LONG_LISTS: &str = "\
     gradient | start = 0/grad = 0/ | 513 | sdm: bad data: count track.gradient/
     adhesion | start = 0/end = 1/ | 65 | sdm: bad data: count track.adhesion/
     speed | start = 0/speed = 160/ | 129 | sdm: bad data: count track.speed/";
+
+/// The base data with so many entries in a list.
+fn with_entries(alloc: Global, section: &str, entry: &str, count: u32) -> Result<Vec<u8>, Fail> {
+    let header = format!(in alloc; "\n[[track.{section}]]\n")?;
+    let entry = bytes_of(alloc, entry)?;
+    let mut input = BASE_PART.as_bytes().to_vec(alloc)?;
+    for _ in 0..count {
+        input.extend_from_slice(header.as_bytes())?;
+        input.extend_from_slice(&entry)?;
+    }
+    input.extend_from_slice(b"%%\n")?;
+    Ok(input)
+}
 
 #[test]
 fn a_list_with_too_many_entries_is_refused(rt: HostRuntime) -> Result<(), Fail> {
@@ -116,17 +136,9 @@ fn a_list_with_too_many_entries_is_refused(rt: HostRuntime) -> Result<(), Fail> 
         let [section, entry, count, told] = fields.as_slice() else {
             return Err("no row".into());
         };
-        let header = format!(in alloc; "\n[[track.{section}]]\n")?;
-        let mut input = BASE_PART.as_bytes().to_vec(alloc)?;
-        for _ in 0..count.parse::<u32>()? {
-            input.extend_from_slice(header.as_bytes())?;
-            input.extend_from_slice(&bytes_of(alloc, entry)?)?;
-        }
-        input.extend_from_slice(b"%%\n")?;
-        let answer = answer_to(alloc, "run", &input, &STEADY)?;
-        assert_eq!(rt; answer.code, 5, "{line}");
-        assert!(rt; answer.out.is_empty(), "{line}");
-        assert!(rt; answer.err == bytes_of(alloc, told)?, "{line}");
+        let input = with_entries(alloc, section, entry, count.parse::<u32>()?)?;
+        let answer = answer_to(alloc, "run", &input)?;
+        expect(&rt, alloc, line, &answer, "-", "5", told)?;
     }
     Ok(())
 }

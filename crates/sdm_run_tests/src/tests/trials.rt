@@ -1,7 +1,7 @@
 //! Trials, and a journey over the same data. The sums of three and of 100,000 cycles were found apart from this
 //! program, by hand and by a model in exact fractions.
 
-use super::{STEADY, Streams, answer_of, answer_to, bytes_of, fields_of};
+use super::{Streams, answer_over, answer_to, expect, fields_of};
 use sdm_data::REALISTIC_PART;
 use std::test::Fail;
 
@@ -32,10 +32,8 @@ fn each_trial_has_its_summary(rt: HostRuntime) -> Result<(), Fail> {
             failing_writes: writes,
             failing_lines: "-",
         };
-        let answer = answer_of(alloc, words, "-", &streams)?;
-        assert_eq!(rt; answer.code, code.parse::<u8>()?, "{line}");
-        assert!(rt; answer.out == bytes_of(alloc, out)?, "{line}");
-        assert!(rt; answer.err == bytes_of(alloc, told)?, "{line}");
+        let answer = answer_over(alloc, words, b"", &streams)?;
+        expect(&rt, alloc, line, &answer, out, code, told)?;
     }
     Ok(())
 }
@@ -52,7 +50,7 @@ fn a_journey_over_two_bands_and_a_falling_gradient(rt: HostRuntime) -> Result<()
     let alloc = rt.alloc();
     let mut input = REALISTIC_PART.as_bytes().to_vec(alloc)?;
     input.extend_from_slice(READINGS)?;
-    let answer = answer_to(alloc, "run", &input, &STEADY)?;
+    let answer = answer_to(alloc, "run", &input)?;
     assert_eq!(rt; answer.code, 0);
     assert!(rt; answer.out.as_slice() == ROWS);
     assert!(rt; answer.err.is_empty());

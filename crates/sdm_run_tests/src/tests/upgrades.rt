@@ -1,8 +1,10 @@
 //! Data parts as texts of version 2. The texts were written by hand: a table's keys in the order of their letters,
 //! the tables in it after them.
 
-use super::{STEADY, Streams, answer_of, answer_to, bytes_of, fields_of, part_of};
+use super::{Streams, answer_over, answer_to, base_and, expect, fields_of, part_of};
 use sdm_data::{BASE_PART, REALISTIC_PART};
+use std::alloc::Global;
+use std::process::Abort;
 use std::test::Fail;
 
 /// The base data: what they leave out is left out, but for `release` and `delayed`.
@@ -246,56 +248,65 @@ normal = 40
 service = 50
 "#;
 
+/// What `upgrade` writes for a part; no fault is told.
+fn upgraded(rt: &impl Abort, alloc: Global, part: &[u8]) -> Result<Vec<u8>, Fail> {
+    let answer = answer_to(alloc, "upgrade", part)?;
+    assert_eq!(rt; answer.code, 0);
+    assert!(rt; answer.err.is_empty());
+    Ok(answer.out)
+}
+
+/// A part becomes this text, which becomes itself and has no dividing line.
+fn becomes(rt: &impl Abort, alloc: Global, part: &str, text: &str) -> Result<(), Fail> {
+    let out = upgraded(rt, alloc, part.as_bytes())?;
+    assert!(rt; out.as_slice() == text.as_bytes(), "{text}");
+    assert!(rt; text.lines().all(|line| line != "%%"), "{text}");
+    let again = upgraded(rt, alloc, text.as_bytes())?;
+    assert!(rt; again.as_slice() == text.as_bytes(), "{text}");
+    Ok(())
+}
+
 #[test]
 fn data_of_each_version_become_their_text(rt: HostRuntime) -> Result<(), Fail> {
-    let alloc = rt.alloc();
-    let pairs = [
-        (BASE_PART, BASE_TEXT),
-        (REALISTIC_PART, REALISTIC_TEXT),
-        (WHOLE_PART, WHOLE_TEXT),
-    ];
-    for (part, text) in pairs {
-        let answer = answer_to(alloc, "upgrade", part.as_bytes(), &STEADY)?;
-        assert_eq!(rt; answer.code, 0, "{text}");
-        assert!(rt; answer.out.as_slice() == text.as_bytes(), "{text}");
-        assert!(rt; answer.err.is_empty(), "{text}");
-        assert!(rt; text.lines().all(|line| line != "%%"), "{text}");
-        let again = answer_to(alloc, "upgrade", text.as_bytes(), &STEADY)?;
-        assert!(rt; again.out.as_slice() == text.as_bytes(), "{text}");
-    }
+    becomes(&rt, rt.alloc(), BASE_PART, BASE_TEXT)?;
+    becomes(&rt, rt.alloc(), REALISTIC_PART, REALISTIC_TEXT)?;
+    becomes(&rt, rt.alloc(), WHOLE_PART, WHOLE_TEXT)
+}
+
+/// A journey over a part, of one record, has this row.
+fn runs(
+    rt: &impl Abort,
+    alloc: Global,
+    part: &[u8],
+    record: &[u8],
+    row: &[u8],
+) -> Result<(), Fail> {
+    let mut input = part.to_vec(alloc)?;
+    input.extend_from_slice(record)?;
+    let answer = answer_to(alloc, "run", &input)?;
+    assert_eq!(rt; answer.code, 0);
+    assert!(rt; answer.out.as_slice() == row);
     Ok(())
 }
 
 #[test]
 fn an_upgraded_journey_has_the_same_rows(rt: HostRuntime) -> Result<(), Fail> {
-    let alloc = rt.alloc();
-    let records = b"%%\nread,0,3300000,3295000,3305000,40000,0,500\n";
+    let record = b"%%\nread,0,3300000,3295000,3305000,40000,0,500\n";
     let row = b"0,C,N,0,0,0,1,160,3987048,3827048,3747048,3667048,3307048\n";
-    for part in [REALISTIC_PART, REALISTIC_TEXT] {
-        let mut input = part.as_bytes().to_vec(alloc)?;
-        input.extend_from_slice(records)?;
-        let answer = answer_to(alloc, "run", &input, &STEADY)?;
-        assert_eq!(rt; answer.code, 0);
-        assert!(rt; answer.out.as_slice() == row.as_slice());
-    }
-    Ok(())
+    runs(&rt, rt.alloc(), REALISTIC_PART.as_bytes(), record, row)?;
+    runs(&rt, rt.alloc(), REALISTIC_TEXT.as_bytes(), record, row)
 }
 
 /// Gradients of version 1, with 9 percent of rotating mass: 0.91 m/s² on the fall, in either version.
 #[test]
 fn an_upgraded_fall_is_the_same(rt: HostRuntime) -> Result<(), Fail> {
-    let alloc = rt.alloc();
     let fall =
         "rotating_mass = 0 > rotating_mass = 9; [[track.speed]] > [[track.gradient]]/start = 0/grad = -10/[[track.speed]]";
-    let upgraded = answer_to(alloc, "upgrade", &part_of(alloc, fall)?, &STEADY)?;
-    assert_eq!(rt; upgraded.code, 0);
-    let mut input = upgraded.out;
-    input.extend_from_slice(b"%%\nread,0,500000,500000,500000,20000,0,0\n")?;
-    let answer = answer_to(alloc, "run", &input, &STEADY)?;
-    assert_eq!(rt; answer.code, 0);
+    let part = part_of(rt.alloc(), fall)?;
+    let upgraded = upgraded(&rt, rt.alloc(), &part)?;
+    let record = b"%%\nread,0,500000,500000,500000,20000,0,0\n";
     let row = b"0,C,N,0,0,0,1,160,780219,780219,740219,700219,520219\n";
-    assert!(rt; answer.out.as_slice() == row.as_slice());
-    Ok(())
+    runs(&rt, rt.alloc(), &upgraded, record, row)
 }
 
 /// after the base data | code | line
@@ -316,17 +327,24 @@ fn what_is_no_data_part_is_refused(rt: HostRuntime) -> Result<(), Fail> {
         let [after, code, told] = fields.as_slice() else {
             return Err("no row".into());
         };
-        let mut input = BASE_PART.as_bytes().to_vec(alloc)?;
-        input.extend_from_slice(&bytes_of(alloc, after)?)?;
-        let answer = answer_to(alloc, "upgrade", &input, &STEADY)?;
-        assert_eq!(rt; answer.code, code.parse::<u8>()?, "{line}");
-        assert!(rt; answer.out.is_empty(), "{line}");
-        assert!(rt; answer.err == bytes_of(alloc, told)?, "{line}");
+        let answer = answer_to(alloc, "upgrade", &base_and(alloc, after)?)?;
+        expect(&rt, alloc, line, &answer, "-", code, told)?;
     }
-    let none = answer_of(alloc, "upgrade", "-", &STEADY)?;
-    assert_eq!(rt; none.code, 5);
-    assert!(rt; none.err.as_slice() == b"sdm: bad data: missing version\n".as_slice());
     Ok(())
+}
+
+#[test]
+fn no_data_part_lacks_its_version(rt: HostRuntime) -> Result<(), Fail> {
+    let answer = answer_to(rt.alloc(), "upgrade", b"")?;
+    expect(
+        &rt,
+        rt.alloc(),
+        "",
+        &answer,
+        "-",
+        "5",
+        "sdm: bad data: missing version/",
+    )
 }
 
 /// step | failing reads | failing calls of out | bytes of the text that out took | code | line
@@ -337,6 +355,16 @@ const FAULTS: &str = "\
     12 | - | 3 | 24 | 3 | sdm: write fault/
     1000 | - | 2 | all | 3 | sdm: write fault/
     1000 | - | 3 | all | 0 | -";
+
+/// The first bytes of the text of the base data, so many as a field says.
+fn prefix_of(taken: &str) -> Result<&'static [u8], Fail> {
+    let whole = BASE_TEXT.as_bytes();
+    let count = match taken {
+        "all" => whole.len(),
+        _ => taken.parse::<usize>()?,
+    };
+    Ok(whole.get(..count).ok_or("no such prefix")?)
+}
 
 #[test]
 fn a_fault_leaves_a_prefix_of_the_text(rt: HostRuntime) -> Result<(), Fail> {
@@ -352,16 +380,10 @@ fn a_fault_leaves_a_prefix_of_the_text(rt: HostRuntime) -> Result<(), Fail> {
             failing_writes: writes,
             failing_lines: "-",
         };
-        let whole = BASE_TEXT.as_bytes();
-        let count = match *taken {
-            "all" => whole.len(),
-            _ => taken.parse::<usize>()?,
-        };
-        let prefix = whole.get(..count).ok_or("no such prefix")?;
-        let answer = answer_to(alloc, "upgrade", BASE_PART.as_bytes(), &streams)?;
-        assert_eq!(rt; answer.code, code.parse::<u8>()?, "{line}");
-        assert!(rt; answer.out.as_slice() == prefix, "{line}");
-        assert!(rt; answer.err == bytes_of(alloc, told)?, "{line}");
+        let mut answer = answer_over(alloc, "upgrade", BASE_PART.as_bytes(), &streams)?;
+        assert!(rt; answer.out.as_slice() == prefix_of(taken)?, "{line}");
+        answer.out.clear();
+        expect(&rt, alloc, line, &answer, "-", code, told)?;
     }
     Ok(())
 }

@@ -6,16 +6,13 @@ ghost use Rattle.sdm_rules.specs.declared.data.SlopeKind.TheVariants.{Safe};
 ghost use Rattle.sdm_rules.specs.Decelerations.{slopes_of};
 ghost use Rattle.sdm_rules.specs.Slopes.{meaning_of};
 
-use crate::tests::data::{base, set_line};
+use crate::tests::data::{base, parts, set_line};
 use sdm_curve::BandMap;
 use sdm_decel::safe;
-use sdm_national::National;
 use sdm_num::Speed;
 use sdm_speed::Restriction;
 use sdm_supervisor::Supervisor;
 use sdm_targets::Authority;
-use sdm_track::{SpeedStep, Track};
-use sdm_train::Train;
 use std::alloc::Global;
 use std::test::Fail;
 
@@ -77,22 +74,10 @@ fn begun(alloc: Global) -> Result<(Supervisor, BandMap), Fail>
 {
     let mut data = base(alloc);
     set_line(alloc, &mut data, "end 200000 200000 0")?;
-    data.speeds.push(SpeedStep {
-        start: 0,
-        speed: 160,
-        delayed: true,
-    })?;
-    let train = Train::new(data.train)?;
-    let national = National::new(data.national)?;
-    let track = Track::new(
-        data.track_cm,
-        data.gradients,
-        data.speeds,
-        data.adhesion,
-        data.no_special,
-    )?;
+    let authority = data.authority;
+    let (train, national, track) = parts(data)?;
     let map = safe(alloc, &train, &national, &track)?;
-    let supervisor = Supervisor::begin(alloc, train, national, track, data.authority)?;
+    let supervisor = Supervisor::begin(alloc, train, national, track, authority)?;
     Ok((supervisor, map))
 }
 
@@ -137,15 +122,26 @@ fn as_it_began(supervisor: &mut Supervisor, map: &BandMap) -> Result<bool, Fail>
     Ok(is_at_2_km(supervisor, map))
 }
 
+/// An error where something does not hold.
+fn holds(fact: bool, otherwise: &'static str) -> Result<(), Fail> {
+    if !fact {
+        return Err(otherwise)?;
+    }
+    Ok(())
+}
+
+/// Asks for the curves of the beginning, of the restriction, of the LOA with it, and of the beginning again.
+fn go(supervisor: &mut Supervisor, map: &BandMap) -> Result<(), Fail>
+    requires { meaning_of map.now ≡ slopes_of Safe supervisor.old.train_and_track }
+{
+    holds(is_at_2_km(supervisor, map), "not at 2 km")?;
+    holds(restricted(supervisor, map)?, "not restricted")?;
+    holds(limited(supervisor, map)?, "not limited")?;
+    holds(as_it_began(supervisor, map)?, "not as it began")
+}
+
 #[test]
 fn lent_curves_are_those_of_the_present_falls_and_authority(rt: HostRuntime) -> Result<(), Fail> {
     let (mut supervisor, map) = begun(rt.alloc())?;
-    assert!(rt; is_at_2_km(&supervisor, &map));
-    let restricted = restricted(&mut supervisor, &map)?;
-    assert!(rt; restricted);
-    let limited = limited(&mut supervisor, &map)?;
-    assert!(rt; limited);
-    let as_it_began = as_it_began(&mut supervisor, &map)?;
-    assert!(rt; as_it_began);
-    Ok(())
+    go(&mut supervisor, &map)
 }

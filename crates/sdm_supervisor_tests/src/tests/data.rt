@@ -3,11 +3,11 @@
 ghost use Rattle.std.specs.Prelude.{◌<◌, IfOk};
 ghost use Rattle.sdm_rules.specs.Slopes.{most_bands};
 
-use sdm_national::NationalFields;
+use sdm_national::{National, NationalFields};
 use sdm_rules::{BASE_NATIONAL, BASE_TRAIN, MOST_BANDS};
 use sdm_targets::Authority;
-use sdm_track::{Area, Gradient, SpeedStep};
-use sdm_train::TrainFields;
+use sdm_track::{Area, Gradient, SpeedStep, Track};
+use sdm_train::{Train, TrainFields};
 use std::alloc::Global;
 use std::test::Fail;
 
@@ -41,6 +41,27 @@ pub fn base(alloc: Global) -> Data {
             release: 0,
         },
     }
+}
+
+/// The train, the national values and the track of data in their ranges. Data without speeds have 160 km/h all along.
+pub fn parts(mut data: Data) -> Result<(Train, National, Track), Fail> {
+    if data.speeds.is_empty() {
+        data.speeds.push(SpeedStep {
+            start: 0,
+            speed: 160,
+            delayed: true,
+        })?;
+    }
+    let train = Train::new(data.train)?;
+    let national = National::new(data.national)?;
+    let track = Track::new(
+        data.track_cm,
+        data.gradients,
+        data.speeds,
+        data.adhesion,
+        data.no_special,
+    )?;
+    Ok((train, national, track))
 }
 
 pub fn number(word: Option<&str>) -> Result<i64, Fail> {

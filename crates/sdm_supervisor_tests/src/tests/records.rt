@@ -2,45 +2,38 @@
 
 ghost use Rattle.std.specs.Prelude.{◌≤◌, IfOk};
 
-use crate::tests::data::{Data, authority, natural, small};
-use sdm_national::National;
+use crate::tests::data::{Data, authority, natural, parts, small};
 use sdm_num::Reading;
 use sdm_speed::Restriction;
-use sdm_supervisor::{CycleFault, OpenFault, Row, Supervisor};
-use sdm_track::{SpeedStep, Track};
-use sdm_train::Train;
-use std::alloc::Global;
+use sdm_supervisor::{OpenFault, Row, Supervisor};
+use std::alloc::{AllocError, Global};
+use std::fmt;
 use std::test::Fail;
 
-/// The supervisor of these data, or why it is refused. Data without speeds have 160 km/h all along.
-pub fn begin(alloc: Global, mut data: Data) -> Result<Result<Supervisor, OpenFault>, Fail> {
-    if data.speeds.is_empty() {
-        data.speeds.push(SpeedStep {
-            start: 0,
-            speed: 160,
-            delayed: true,
-        })?;
-    }
-    let train = Train::new(data.train)?;
-    let national = National::new(data.national)?;
-    let track = Track::new(
-        data.track_cm,
-        data.gradients,
-        data.speeds,
-        data.adhesion,
-        data.no_special,
-    )?;
-    Ok(Supervisor::begin(alloc, train, national, track, data.authority))
+/// The supervisor of these data, or why it is refused.
+pub fn begin(alloc: Global, data: Data) -> Result<Result<Supervisor, OpenFault>, Fail> {
+    let authority = data.authority;
+    let (train, national, track) = parts(data)?;
+    Ok(Supervisor::begin(alloc, train, national, track, authority))
+}
+
+/// A place in mm.
+fn place(word: Option<&str>) -> Result<i32, Fail> {
+    Ok(word.ok_or("a place is wanting")?.parse::<i32>()?)
+}
+
+fn acceleration(word: Option<&str>) -> Result<i16, Fail> {
+    Ok(word.ok_or("no acceleration")?.parse::<i16>()?)
 }
 
 fn reading(fields: &str) -> Result<Reading, Fail> {
     let mut words = fields.split(',');
     let time = natural(words.next())?;
-    let est = words.next().ok_or("no front end")?.parse::<i32>()?;
-    let min = words.next().ok_or("no min safe front end")?.parse::<i32>()?;
-    let max = words.next().ok_or("no max safe front end")?.parse::<i32>()?;
+    let est = place(words.next())?;
+    let min = place(words.next())?;
+    let max = place(words.next())?;
     let speed = natural(words.next())?;
-    let accel = words.next().ok_or("no acceleration")?.parse::<i16>()?;
+    let accel = acceleration(words.next())?;
     let under = natural(words.next())?;
     Ok(Reading::new(time, est, min, max, speed, accel, under).ok_or("no reading")?)
 }
@@ -60,29 +53,41 @@ fn restriction(fields: &str) -> Result<Restriction, Fail>
     })
 }
 
+fn push_flag(text: &mut String, flag: bool) -> Result<(), AllocError> {
+    text.push_str(if flag { ",1" } else { ",0" })
+}
+
+fn push_place(alloc: Global, text: &mut String, place: Option<i64>) -> Result<(), AllocError> {
+    match place {
+        Some(mm) => text.push_str(&format!(in alloc; ",{mm}")?),
+        None => text.push_str(",-"),
+    }
+}
+
 /// A row as the product prints it.
-fn row_text(alloc: Global, row: &Row) -> Result<String, Fail> {
+fn row_text(alloc: Global, row: &Row) -> Result<String, AllocError> {
     let mut text = format!(in alloc; "{},{:?},{:?}", row.time, row.state, row.held.status)?;
     for flag in [row.held.tco, row.held.sb, row.held.eb, row.covered] {
-        text.push_str(if flag { ",1" } else { ",0" })?;
+        push_flag(&mut text, flag)?;
     }
-    let ceiling = format!(in alloc; ",{}", row.ceiling)?;
-    text.push_str(ceiling.as_str())?;
+    text.push_str(&format!(in alloc; ",{}", row.ceiling)?)?;
     for place in [row.ebi, row.sbi, row.warning, row.permitted, row.indication] {
-        match place {
-            Some(mm) => {
-                let place = format!(in alloc; ",{mm}")?;
-                text.push_str(place.as_str())?;
-            }
-            None => text.push_str(",-")?,
-        }
+        push_place(alloc, &mut text, place)?;
     }
     Ok(text)
 }
 
 fn read(alloc: Global, supervisor: &mut Supervisor, fields: &str) -> Result<String, Fail> {
     match supervisor.cycle(&reading(fields)?) {
-        Ok(row) => row_text(alloc, &row),
+        Ok(row) => Ok(row_text(alloc, &row)?),
+        Err(fault) => Ok(format!(in alloc; "{fault}")?),
+    }
+}
+
+/// What came of a record that changes the authority or the restrictions.
+fn told<E: fmt::Display + Copy>(alloc: Global, answer: Result<(), E>) -> Result<String, Fail> {
+    match answer {
+        Ok(()) => Ok(format!(in alloc; "taken")?),
         Err(fault) => Ok(format!(in alloc; "{fault}")?),
     }
 }
@@ -95,17 +100,27 @@ fn authorize(
 ) -> Result<String, Fail> {
     let mut words = fields.split(',');
     let authority = authority(kind, words.next(), words.next(), words.next())?;
-    match supervisor.authority(authority) {
-        Ok(()) => Ok(format!(in alloc; "taken")?),
+    told(alloc, supervisor.authority(authority))
+}
+
+/// A stop with the place of a trip; what is taken is told with the release speed that is calculated for it.
+fn calculate(alloc: Global, supervisor: &mut Supervisor, fields: &str) -> Result<String, Fail> {
+    let mut words = fields.split(',');
+    let eoa = natural(words.next())?;
+    let svl = natural(words.next())?;
+    let trip = natural(words.next())?;
+    match supervisor.calculated_stop(eoa, svl, trip) {
+        Ok(()) => {
+            let kmh = supervisor.release_for(svl, trip);
+            Ok(format!(in alloc; "{kmh} km/h")?)
+        }
         Err(fault) => Ok(format!(in alloc; "{fault}")?),
     }
 }
 
 fn restrict(alloc: Global, supervisor: &mut Supervisor, fields: &str) -> Result<String, Fail> {
-    match supervisor.restrict(restriction(fields)?) {
-        Ok(()) => Ok(format!(in alloc; "taken")?),
-        Err(fault) => Ok(format!(in alloc; "{fault}")?),
-    }
+    let restriction = restriction(fields)?;
+    told(alloc, supervisor.restrict(restriction))
 }
 
 /// Restrictions that are alike, with each identity from that of the first to that of the last one.
@@ -136,10 +151,8 @@ fn restrict_and_revoke(
 }
 
 fn revoke(alloc: Global, supervisor: &mut Supervisor, fields: &str) -> Result<String, Fail> {
-    match supervisor.revoke(small(Some(fields))?) {
-        Ok(()) => Ok(format!(in alloc; "taken")?),
-        Err(fault) => Ok(format!(in alloc; "{fault}")?),
-    }
+    let id = small(Some(fields))?;
+    told(alloc, supervisor.revoke(id))
 }
 
 /// What a supervisor answers to a record.
@@ -148,6 +161,7 @@ pub fn answer(alloc: Global, supervisor: &mut Supervisor, record: &str) -> Resul
     match kind {
         "read" => read(alloc, supervisor, fields),
         "end" | "limit" => authorize(alloc, supervisor, kind, fields),
+        "endcalc" => calculate(alloc, supervisor, fields),
         "restrict" => restrict(alloc, supervisor, fields),
         "up to" => restrict_all(alloc, supervisor, fields),
         "come and go" => restrict_and_revoke(alloc, supervisor, fields),

@@ -1,12 +1,11 @@
 //! A limit may be asked for any whole speed, whether or not a reading has it: 500 km/h is more than any reading.
 
-use crate::tests::data::base;
+ghost use Rattle.std.specs.Prelude.{◌≤◌};
+
+use crate::tests::data::{base, parts};
 use sdm_braking::Braking;
-use sdm_national::National;
 use sdm_num::{Estimate, Place, Speed};
 use sdm_targets::{Target, TargetKind};
-use sdm_track::{SpeedStep, Track};
-use sdm_train::Train;
 use std::alloc::Global;
 use std::test::Fail;
 
@@ -17,37 +16,30 @@ fn ebi_by_hand_mm(kmh: u16) -> i64 {
 }
 
 fn base_braking(alloc: Global) -> Result<Braking, Fail> {
-    let mut data = base(alloc);
-    data.speeds.push(SpeedStep {
-        start: 0,
-        speed: 160,
-        delayed: true,
-    })?;
-    let train = Train::new(data.train)?;
-    let national = National::new(data.national)?;
-    let track = Track::new(
-        data.track_cm,
-        data.gradients,
-        data.speeds,
-        data.adhesion,
-        data.no_special,
-    )?;
+    let (train, national, track) = parts(base(alloc))?;
     Ok(Braking::open(alloc, train, national, track)?)
 }
 
-#[test]
-fn a_limit_is_asked_for_any_whole_speed(rt: HostRuntime) -> Result<(), Fail> {
-    let braking = base_braking(rt.alloc())?;
+/// The EBI in mm at a speed, before an SvL at 1000 m.
+fn ebi_mm(braking: &Braking, kmh: u16) -> Result<i64, Fail>
+    requires { kmh ≤ 500 }
+{
     let svl = braking.keep(Target {
         kind: TargetKind::Svl,
         place: Place::of_cm(100_000),
         speed: 0,
     });
+    let estimate = Estimate::new(Speed::of_kmh(kmh), 0, Speed::new(0)).ok_or("no estimate")?;
+    let limits = braking.limits(&braking.asked(estimate), &svl);
+    Ok(limits.ebi.ok_or("no EBI")?.at().mm_below())
+}
+
+#[test]
+fn a_limit_is_asked_for_any_whole_speed(rt: HostRuntime) -> Result<(), Fail> {
+    let braking = base_braking(rt.alloc())?;
     for kmh in 0..=500u16 {
-        let estimate = Estimate::new(Speed::of_kmh(kmh), 0, Speed::new(0)).ok_or("no estimate")?;
-        let limits = braking.limits(&braking.asked(estimate), &svl);
-        let ebi = limits.ebi.ok_or("no EBI")?.at().mm_below();
-        assert_eq!(rt; i64::from(ebi), ebi_by_hand_mm(kmh), "{kmh}");
+        let ebi = ebi_mm(&braking, kmh)?;
+        assert_eq!(rt; ebi, ebi_by_hand_mm(kmh), "{kmh}");
     }
     Ok(())
 }

@@ -7,11 +7,13 @@ use Rattle.sdm_track.specs.Ranges.{IsArea}
 use Rattle.sdm_decel.proofs.Pushes.{areas_more, nat_plus}
 use Rattle.sdm_decel.proofs.cells.push_areas.Goals as goal
 
+-- the start of an area is itself in 64 bits
 start_is : (a : Area) → IsArea (pos longest_track) a → unsigned_abs (to_z w64 (of_z w64 a.start)) ≡ unsigned_abs a.start
 start_is a h =
     let kept : to_z w64 (of_z w64 a.start) ≡ a.start = omega (arith, ints, h.not_before, h.some_cell, h.on_track) in
     ap unsigned_abs kept
 
+-- so is its end, to which the train length is added
 end_is : (a : Area) (length_cm : ℕ) → IsArea (pos longest_track) a →
     unsigned_abs (to_z w64 (of_z w64 a.end)) + length_cm ≡ unsigned_abs (a.end +ℤ pos length_cm)
 end_is a length_cm h =

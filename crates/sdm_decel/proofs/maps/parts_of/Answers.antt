@@ -8,6 +8,7 @@ use Rattle.sdm_decel.specs.Slopes.{slopes_of_bands}
 use Rattle.sdm_decel.proofs.Sizes.{nat_is}
 use Rattle.sdm_decel.proofs.maps.parts_of.Goals as goal
 
+-- a train length in its range is itself in 64 bits
 long_is : (given length_cm : ℤ) → (pos 1 ≤ℤ given) × (given ≤ℤ pos longest_train) → given ≡ length_cm →
     pos (unsigned_abs (to_z w64 (of_z w64 given))) ≡ length_cm
 long_is given length_cm range is =

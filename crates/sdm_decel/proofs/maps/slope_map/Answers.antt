@@ -6,6 +6,7 @@ use Rattle.sdm_decel.specs.Slopes.{train_and_track_from}
 use Rattle.sdm_decel.proofs.Making.{map_data_is, stands_for, stretches_kept, accepts, refuses}
 use Rattle.sdm_decel.proofs.maps.slope_map.Goals as goal
 
+-- what follows of two facts of a result
 IfOk-both : {T E : Type 0} (r : Result T E) (P Q R : T → Type 0) → ((x : T) → P x → Q x → R x) → IfOk r P → IfOk r Q →
     IfOk r R
 IfOk-both (Ok x) P Q R f p q = f x p q

@@ -34,7 +34,7 @@ unfolding event_of
 returns-then-is_kind-3 c = record {
   value = rw (first_field (fields_of c.args.fields.now) _ _ c.get.ensures.value c.in-Some.is)
       (grind (arith, common_steps));
-  form = c.limit_event.ensures.form;
+  form = c.endcalc_event.ensures.form;
 }
 
 pub returns-then-is_kind-4 : goal.returns-then-is_kind-4
@@ -42,7 +42,7 @@ unfolding event_of
 returns-then-is_kind-4 c = record {
   value = rw (first_field (fields_of c.args.fields.now) _ _ c.get.ensures.value c.in-Some.is)
       (grind (arith, common_steps));
-  form = c.restrict_event.ensures.form;
+  form = c.limit_event.ensures.form;
 }
 
 pub returns-then-is_kind-5 : goal.returns-then-is_kind-5
@@ -50,12 +50,20 @@ unfolding event_of
 returns-then-is_kind-5 c = record {
   value = rw (first_field (fields_of c.args.fields.now) _ _ c.get.ensures.value c.in-Some.is)
       (grind (arith, common_steps));
+  form = c.restrict_event.ensures.form;
+}
+
+pub returns-then-is_kind-6 : goal.returns-then-is_kind-6
+unfolding event_of
+returns-then-is_kind-6 c = record {
+  value = rw (first_field (fields_of c.args.fields.now) _ _ c.get.ensures.value c.in-Some.is)
+      (grind (arith, common_steps));
   form = c.revoke_event.ensures.form;
 }
 
-pub returns-else-is_kind-5 : goal.returns-else-is_kind-5
+pub returns-else-is_kind-6 : goal.returns-else-is_kind-6
 unfolding event_of
-returns-else-is_kind-5 c = record {
+returns-else-is_kind-6 c = record {
   value = rw (first_field (fields_of c.args.fields.now) _ _ c.get.ensures.value c.in-Some.is)
       (grind (arith, common_steps));
   form = tt;

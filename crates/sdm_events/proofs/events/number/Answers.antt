@@ -11,23 +11,29 @@ pub unwrap-field-requires : goal.unwrap-field-requires
 unwrap-field-requires c = field_found (fields_of c.args.fields.now) _ _ c.get.ensures.value (omega arith)
 
 module _ (c : goal.In-Ok) where
+  -- the bounds are themselves in 64 bits: the least
   least : to_z w64 (of_z w64 c.from.result) ≡ c.args.least
   least = to_z-of_z w64 c.from.result (search (rules, ints))
       ∙ (c.from.ensures ∙ to_z-of_z w32 c.args.least c.ranges.least)
 
+  -- and the greatest
   greatest : to_z w64 (of_z w64 c.from-2.result) ≡ c.args.greatest
   greatest = to_z-of_z w64 c.from-2.result (search (rules, ints))
       ∙ (c.from-2.ensures ∙ to_z-of_z w32 c.args.greatest c.ranges.greatest)
 
+  -- so is the number that was read
   number : to_z w64 (of_z w64 c.in-Ok.number) ≡ c.in-Ok.number
   number = to_z-of_z w64 c.in-Ok.number (search (rules, ints))
 
+  -- it lies between them
   bounds : (c.args.least ≤ℤ c.in-Ok.number) × (c.in-Ok.number ≤ℤ c.args.greatest)
   bounds = rw (← least, ← greatest) c.in-Ok.ensures.range
 
+  -- so it is itself in 32 bits
   same : to_z w32 (of_z w32 (to_z w64 (of_z w64 c.in-Ok.number))) ≡ c.in-Ok.number
   same = rw number (to_z-of_z w32 _ (between_fits w32 _ _ _ c.ranges.least c.ranges.greatest bounds.0 bounds.1))
 
+  -- the field is that of the column
   field : c.unwrap-field.result.now ≡ column_of (fields_of c.args.fields.now) c.args.column
   field = field_is (fields_of c.args.fields.now) _ _ _ c.get.ensures.value c.unwrap-field.ensures
 

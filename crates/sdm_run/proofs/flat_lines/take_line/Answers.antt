@@ -32,10 +32,12 @@ line_read : (line rest speed : List ℕ) (t f a b place : ℤ) (n notches : ℕ)
 line_read line rest speed t f a b place n notches first second third time front place_is notches_is =
     good_line line rest t first speed f second n third ∙ rw (time, place_is, front, notches_is) refl
 
+-- a time in its range is itself in 64 bits
 same_time : (n : ℤ) → pos 0 ≤ℤ n → n ≤ℤ pos 100_000_000 → to_z w64 (of_z w64 n) ≡ n
 same_time n low high = to_z-of_z w64 n
     (between_fits w64 (pos 0) (pos 100_000_000) n (record { sfits = lit< tt }) (record { sfits = lit< tt }) low high)
 
+-- a front end in its range is itself in 64 bits and in 32
 same_front : (n : ℤ) → negsuc 9_999_999 ≤ℤ n → n ≤ℤ pos 110_000_000 → to_z w32 (of_z w32 (to_z w64 (of_z w64 n))) ≡ n
 same_front n low high =
     let wide : to_z w64 (of_z w64 n) ≡ n = to_z-of_z w64 n (between_fits w64 (negsuc 9_999_999) (pos 110_000_000) n

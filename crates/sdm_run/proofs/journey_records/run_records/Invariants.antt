@@ -9,13 +9,13 @@ abbrev pub invariant-records : goal.invariant-records
 invariant-records g l = record {
   left : IsLeftOf (g.O.Sink.taken l.fn.out) (g.O.Sink.taken l.out)
       (output_of_records (g.T.Teller.tell l.fn.teller) 1 l.fn.supervisor (records_of l.bytes))
-      (output_of_records (g.T.Teller.tell l.fn.teller) l.number l.supervisor l.walk.records.left);
+      (output_of_records (g.T.Teller.tell l.fn.teller) l.number l.supervisor l.records.left);
   from_1 : 1 ≤ l.number;
   counted : l.number ≤ 100_001;
   later : g.O.Sink.faults l.fn.out ≤ g.O.Sink.faults l.out;
-  due : l.walk.is_flush_due ≡ false → l.out ≡ l.fn.out;
+  due : l.is_flush_due ≡ false → l.out ≡ l.fn.out;
 }
 
 -- each turn takes a record
 abbrev pub decreases-records : goal.decreases-records
-decreases-records g l = length l.walk.records.left
+decreases-records g l = length l.records.left

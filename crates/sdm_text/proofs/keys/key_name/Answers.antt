@@ -9,6 +9,7 @@ use Rattle.sdm_rules.specs.declared.faults.Section.{Section}
 use Rattle.sdm_rules.specs.FaultLines.{key_name, key_names}
 use Rattle.sdm_text.proofs.keys.key_name.Goals as goal
 
+-- a look-up gives what stands at the index of the names, where something does
 looked_up : (names : List (Bor (List ℕ))) (i : ℕ) (o : Option (Bor (Bor (List ℕ)))) → is_some o
     ≡ nat_lt i (length names) → IfSome o (λ x. x.now ≡ get_or names i x.now) → option_copied o ≡ slice_get names i
 looked_up names i None test is =
@@ -17,6 +18,7 @@ looked_up names i (Some x) test is =
     let within : i < length names = grind (arith, nat_tests)
     in sym (slice_get_read names (length names) i x.now refl within is)
 
+-- and that is the name of the key
 named : (names : List (Bor (List ℕ))) (section : Section) (key i : ℕ) → key ≡ suc i → map (λ name. name.now) names
     ≡ key_names section → option_map (λ name. name.now) (slice_get names i) ≡ key_name section key
 named names section key i at is = rw at (sym (slice_get-map (λ (name : Bor (List ℕ)). name.now) names i)

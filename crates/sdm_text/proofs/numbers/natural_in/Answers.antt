@@ -10,15 +10,19 @@ not_below_0 (pos n) h = refl
 not_below_0 (negsuc n) h = absurd (omega (arith, ints, h))
 
 module _ (c : goal.In_ok-number) where
+  -- the bounds are themselves in 64 bits: the least
   least : to_z w64 (of_z w64 c.from.result) ≡ pos c.args.least
   least = to_z-of_z w64 c.from.result (search (rules, ints)) ∙ c.from.ensures
 
+  -- and the greatest
   greatest : to_z w64 (of_z w64 c.from-2.result) ≡ pos c.args.greatest
   greatest = to_z-of_z w64 c.from-2.result (search (rules, ints)) ∙ c.from-2.ensures
 
+  -- so is the number that was read
   number : to_z w64 (of_z w64 c.in_ok-number.number) ≡ c.in_ok-number.number
   number = to_z-of_z w64 c.in_ok-number.number (search (rules, ints))
 
+  -- it was read between these bounds
   was : read_int c.args.field.now (pos c.args.least) (pos c.args.greatest) ≡ Ok c.in_ok-number.number
   was = rw (← least, ← greatest) (sym c.read_int.ensures.value ∙ c.in_ok-number.was)
 

@@ -5,6 +5,7 @@ use Rattle.sdm_rules.specs.declared.faults.Section.{Section}
 use Rattle.sdm_rules.specs.Ranges.{order_fault}
 use Rattle.sdm_track.proofs.entries.check_order.Goals as goal
 
+-- of at most one entry none starts too early
 order_fault-few : {E : Type 0} (list : Section) (start past : E → ℤ) (i : ℕ) (es : List E) → length es ≤ 1 →
     order_fault list start past i es ≡ None
 order_fault-few list start past i [] few = refl

@@ -1,14 +1,13 @@
 -- The falls up to each new one are made, in their order; what is left at the end lies past the cells that changed,
 -- where the profiles are the same.
-use Rattle.std.proofs.Common.{◌≡◌, ◌<◌, ◌≤◌, ◌^◌, ◌-ℤ◌, ◌≤ℤ◌, List, pos, length, drop, SFits, w32, w64, to_z, of_z}
-use Rattle.std.proofs.Common.{refl, sym, ap, subst, ◌∙◌, arith, rules, length-drop}
+use Rattle.std.proofs.Common.{◌≡◌, ◌<◌, ◌^◌, ◌-ℤ◌, ◌≤ℤ◌, List, pos, length, drop, SFits, w32, w64, to_z, of_z}
+use Rattle.std.proofs.Common.{refl, sym, subst, ◌∙◌, arith, rules, length-drop}
 use Rattle.std.proofs.lemmas.Int.{ints, to_z-of_z}
-use Rattle.sdm_speed.specs.Falls.{AreAtFalls}
 use Rattle.sdm_speed.specs.Profiles.{mrsp_of}
 use Rattle.sdm_speed.proofs.FallLists.{falls_from, rest_at}
 use Rattle.sdm_targets.proofs.CountLaws.{falls_past_few, falls_up_to_few, passed_more, passed_most}
-use Rattle.sdm_braking.specs.declared.kept_falls.KeptFall.{KeptFall}
-use Rattle.sdm_braking.specs.KeptFalls.{AreOfProfileBefore, ArePartedPast, KeptFallsData, fall_of, first_cell}
+use Rattle.sdm_braking.specs.KeptFalls.{AreOfProfileBefore, ArePartedPast, KeptFallData, KeptFallsData, fall_of}
+use Rattle.sdm_braking.specs.KeptFalls.{first_cell}
 use Rattle.sdm_braking.proofs.KeptFallLaws.{IsBegun, IsPlaced, begun_all, begun_before, begun_next, each_placed}
 use Rattle.sdm_braking.proofs.KeptFallLaws.{kept_past, less_before, one_before}
 use Rattle.sdm_braking.proofs.kept_falls.KeptFalls.remake.Goals as goal
@@ -25,15 +24,12 @@ loop-fall-init c =
     let first_fits : SFits w32 first = search rules in
     let first_is : to_z w32 (of_z w32 first) ≡ first = to_z-of_z w32 first first_fits in
     let at_is = one_before first cells.not_before first_fits in
-    let list_is = c.deref.ensures.value ∙ ap (λ (v : KeptFallsData). v.list) c.self.view_is in
     let wide : to_z w64 (of_z w64 c.from.result) ≡ at = omega (arith, ints, c.from.ensures, first_is, at_is) in
     let parts : (h : AreOfProfileBefore c.args.braking.now c.args.profile.now c.args.changed c.args.self.now) →
-    ArePartedPast at ks i = λ h. subst (λ (xs : List KeptFall). ArePartedPast at xs i) list_is
-    ((rw wide at c.reached-i.ensures.parted) (mrsp_of h.old) first_cell
-    (subst (λ (xs : List KeptFall). AreAtFalls fall_of (mrsp_of h.old) first_cell xs) (sym list_is) h.kept.falls))
-    in
+    ArePartedPast fall_of at ks i =
+    λ h. (rw wide at c.reached-i.ensures.parted) (mrsp_of h.old) first_cell h.kept.falls in
     let low : first_cell ≤ℤ at = omega (arith, ints, cells.not_before) in
-    let bound = subst (λ (xs : List KeptFall). i ≤ length xs) list_is c.reached-i.ensures.bound in
+    let bound = c.reached-i.ensures.bound in
     rw (first_is, at_is) (record {
       place = bound;
       made = begun_before (mrsp_of b.old) (mrsp_of c.args.profile.now) at ks i low
@@ -80,18 +76,12 @@ insert-requires-clause-room c =
 pub overflow_add-i : goal.overflow_add-i
 overflow_add-i c =
     let b = c.requires.before in
-    let room_is = ap (λ (v : KeptFallsData). v.room) c.self.view_is in
-    let ok = c.self.inside.list.ok in
-    let small = c.self.inside.list.small in
     omega (
       arith,
       c.loop-fall.invariant.few b,
       passed_most b.zones (to_z w32 c.loop-fall.at-bits),
       b.few,
-      room_is,
-      c.self.invariant.0,
-      ok,
-      small,
+      c.reached-i.ensures.small,
     )
 
 pub loop-fall-smaller : goal.loop-fall-smaller
@@ -173,7 +163,7 @@ returns c =
     let here = falls_from fall_of p (mrsp_of b.old) _ c.args.changed.past (drop i ks) inv.to
     (rw past_is at c.in_default.ensures.value) (λ x l. b.same.from x l) left in
     record {
-      falls = begun_all p _ ks i (subst (λ (xs : List KeptFall). IsBegun p (to_z w32 c.loop-fall.at-bits) xs)
+      falls = begun_all p _ ks i (subst (λ (xs : List KeptFallData). IsBegun p (to_z w32 c.loop-fall.at-bits) xs)
           (sym last.before) inv.made) here;
       each = last.each c.args.braking.now inv.each;
       room = rw b.speeds (omega (arith, b.kept.room, last.room, inv.room));

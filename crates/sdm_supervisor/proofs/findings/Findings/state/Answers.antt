@@ -16,6 +16,7 @@ returns-then-is_some c s r is =
     else if is_indicated (limits_of computed s.train_and_track (estimate_of r)) (situation_of s r) then T else C)
 
 module _ (s : Supervision) (r : OdometerReading) (indicated : Bool) where
+  -- with no release speed the state goes by whether an indication limit is passed
   decided : is_some (situation_of s r).release ≡ false → is_indicated
       (limits_of computed s.train_and_track (estimate_of r)) (situation_of s r) ≡ indicated →
       (if indicated then T else C) ≡ state_in s.train_and_track r (situation_of s r)

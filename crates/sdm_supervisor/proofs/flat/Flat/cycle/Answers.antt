@@ -23,9 +23,11 @@ after_by_parts : (s : FlatSupervision) (l : FlatLine) (decel end : ℕ) (eb : Bo
 after_by_parts s l decel end eb a b e = rw (← a, ← b, e)
 
 module _ (c : goal.After-is_passed_by) where
+  -- the line that came
   abbrev line : FlatLine
   line = line_at c.args.time c.args.front c.args.speed
 
+  -- the deceleration, the end and the command that are kept inside are those of the view
   decel_is : c.args.self.now.decel ≡ c.self.inside.decel
   decel_is = ap (λ (s : FlatSupervision). s.decel) (sym c.self.view_is)
 
@@ -35,6 +37,7 @@ module _ (c : goal.After-is_passed_by) where
   held_is : c.args.self.now.eb ≡ c.self.inside.eb
   held_is = ap (λ (s : FlatSupervision). s.eb) (sym c.self.view_is)
 
+  -- the place is the stepped one of the speed
   at_is : c.place-limit.result.at
       ≡ stepped (flat_slopes c.args.self.now.decel) (place_of_cell (pos c.args.self.now.end)) 0 c.args.speed
   at_is = rw (
@@ -45,19 +48,24 @@ module _ (c : goal.After-is_passed_by) where
   )
       (rw (c.self.invariant.map_is, c.self.invariant.place_is, c.self.invariant.speed_is) at c.place-limit.ensures.at)
 
+  -- the end is at its place
   place_is : c.of_cm_from_0-end.result ≡ place_of_cell (pos c.args.self.now.end)
   place_is = rw end_is c.of_cm_from_0-end.ensures
 
+  -- the front end is past the place as the definitions say
   passed : c.is_passed_by.result ≡ int_lt c.place-limit.result.at c.args.front
   passed = search (rules, ints)
 
+  -- the EBI in millimetres
   ebi : to_z w64 (of_z w64 c.whole_mm.result) ≡ mm_below c.place-limit.result.at
   ebi = to_z-of_z w64 c.whole_mm.result (search (rules, ints)) ∙ c.whole_mm.ensures
 
+  -- the command after the line, by its definition
   eb : c.held_after-eb.result ≡ (((nat_lt 0 c.args.speed && int_lt c.place-limit.result.at c.args.front) || int_lt
       (place_of_cell (pos c.args.self.now.end)) c.args.front) || (c.args.self.now.eb && nat_lt 0 c.args.speed))
   eb = c.held_after-eb.ensures ∙ rw (c.is_emergency.ensures, place_is, held_is)
 
+  -- the row is the flat row of the line
   row_is : record {
     time = c.args.time;
     ebi = to_z w64 (of_z w64 c.whole_mm.result);
@@ -67,6 +75,7 @@ module _ (c : goal.After-is_passed_by) where
   } ≡ flat_row c.args.self.now line
   row_is = rw (row_by_place c.args.self.now line c.place-limit.result.at at_is, ebi, passed, eb)
 
+  -- a flat supervisor's deceleration is above 0
   some : 0 < c.args.self.now.decel
   some = rw decel_is (omega (arith, c.self.invariant.low))
 

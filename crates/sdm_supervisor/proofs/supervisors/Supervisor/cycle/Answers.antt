@@ -9,17 +9,21 @@ use Rattle.sdm_supervisor.proofs.FindLaws.{state_of}
 use Rattle.sdm_supervisor.proofs.supervisors.Supervisor.cycle.Goals as goal
 
 module _ (c : goal.After-row) where
+  -- the state before the reading, from what the supervisor keeps inside
   abbrev state : Supervision
   state = state_of c.self.inside.braking c.self.inside.authority c.self.inside.profile c.self.inside.last_time
       c.self.inside.held
 
+  -- it is the one that its view tells
   same : state ≡ c.args.self.now
   same = c.self.view_is
 
+  -- what was found is what the definitions say
   found : IsFoundAt state c.args.reading.now c.find-found.result
   found = subst (λ (s : Supervision). IsFoundAt s c.args.reading.now c.find-found.result)
       (sym same) c.find-found.ensures.found
 
+  -- the commands are those of the definitions
   held : c.next-self-inside.result
       ≡ commands_in state.train_and_track state.commands c.args.reading.now (situation_of state c.args.reading.now)
   unfolding situation_of
@@ -31,6 +35,7 @@ module _ (c : goal.After-row) where
       (ap (λ n. n == 0) (c.notches.ensures.value ∙ found.speed)) c.has_early_release.ensures found.in_use
       c.next-self-inside.ensures
 
+  -- and so is the row
   row : c.row.result ≡ row_of c.args.self.now c.args.reading.now
   row =
       subst (λ (s : Supervision). c.row.result ≡ row_of s c.args.reading.now) same

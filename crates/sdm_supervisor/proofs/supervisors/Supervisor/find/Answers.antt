@@ -20,6 +20,7 @@ use Rattle.sdm_braking.proofs.WalkLaws.{ends_kept, targets_are}
 use Rattle.sdm_supervisor.proofs.supervisors.Supervisor.find.Goals as goal
 
 module _ (c : goal.After-of) where
+  -- the parts that were found
   abbrev found : Findings
   found = record {
     speed = c.speed_mm_s.result;
@@ -30,18 +31,22 @@ module _ (c : goal.After-of) where
     verdict = c.of.result;
   }
 
+  -- the cell of the min safe front end
   back : to_z w32 (of_z w32 c.cell.result) ≡ cell_of c.args.reading.now.min
   back = to_z-of_z w32 c.cell.result (search (rules, ints)) ∙ c.cell.ensures ∙ ap cell_of c.min_mm.ensures
 
+  -- the cell of the max safe front end
   front : to_z w32 (of_z w32 c.cell-cell.result) ≡ cell_of c.args.reading.now.max
   front = to_z-of_z w32 c.cell-cell.result (search (rules, ints)) ∙ c.cell-cell.ensures
       ∙ ap cell_of c.max_mm-front.ensures
 
+  -- the ceiling is the least MRSP between both
   ceiling : c.lowest.result ≡ lowest min (mrsp_of c.self.inside.profile) (cell_of c.args.reading.now.min)
       (int_gap (cell_of c.args.reading.now.min) (cell_of c.args.reading.now.max))
   ceiling =
       c.lowest.ensures.value ∙ (λ k. lowest min (mrsp_of c.self.inside.profile) (back k) (int_gap (back k) (front k)))
 
+  -- the release speed that was found is that of the definitions
   in_release_monitoring : c.release_kmh_at-release_kmh.result ≡
       release_of c.self.inside.braking c.self.inside.authority c.args.reading.now.max
   in_release_monitoring =
@@ -49,6 +54,7 @@ module _ (c : goal.After-of) where
       c.self.inside.kept.release c.max_mm-front.result c.self.invariant.kept.release
       ∙ ap (release_of c.self.inside.braking c.self.inside.authority) c.max_mm-front.ensures
 
+  -- the falls ahead are those past the cell of the max safe front end
   after : to_z w32 (of_z w32 c.cell-cell.result) ≡ cell_of c.max_mm-front.result
   after = to_z-of_z w32 c.cell-cell.result (search (rules, ints)) ∙ c.cell-cell.ensures
 
@@ -59,13 +65,14 @@ module _ (c : goal.After-of) where
   end_judged : IsKeptEnd c.self.inside.braking c.self.inside.authority c.deref-2.result.now
   end_judged = rw c.deref-2.ensures c.self.invariant.kept.end
 
-  targets : map target_of c.ahead-falls.result.now ++ targets_in c.deref-2.result.now
+  -- the falls ahead and the end make the targets of the definitions
+  targets : map target_of c.ahead-falls.result ++ targets_in c.deref-2.result.now
       c.is_some-in_release_monitoring.result ≡ targets_of (mrsp_of
       c.self.inside.profile) c.self.inside.authority c.args.reading.now.max
       (is_some (release_of c.self.inside.braking c.self.inside.authority c.args.reading.now.max))
   targets =
       targets_are c.self.inside.braking (mrsp_of c.self.inside.profile) c.self.inside.authority
-      c.ahead-falls.result.now c.deref-2.result.now _ c.max_mm-front.result c.end_of.result
+      c.ahead-falls.result c.deref-2.result.now _ c.max_mm-front.result c.end_of.result
       c.is_some-in_release_monitoring.result (after) c.end_of.ensures
       (c.ahead-falls.ensures.each c.self.inside.braking c.self.invariant.kept.falls.each)
       (c.ahead-falls.ensures.falls (mrsp_of c.self.inside.profile) c.self.invariant.kept.falls.falls) end_judged
@@ -80,7 +87,7 @@ module _ (c : goal.After-of) where
       let d = c.self.inside.braking in
       let r = c.args.reading.now in
       let said = subst (λ (e : Estimate). IsVerdictOf d e c.est_mm.result c.max_mm-front.result
-      (map target_of c.ahead-falls.result.now ++ targets_in c.deref-2.result.now
+      (map target_of c.ahead-falls.result ++ targets_in c.deref-2.result.now
       c.is_some-in_release_monitoring.result) c.of.result)
       (c.asked-asked.ensures.estimate ∙ c.estimate.ensures) c.of.ensures in
       let behind = subst (λ (ts : List Target).

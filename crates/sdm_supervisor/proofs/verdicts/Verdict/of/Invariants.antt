@@ -4,6 +4,6 @@ use Rattle.sdm_braking.specs.KeptFalls.{target_of}
 use Rattle.sdm_supervisor.specs.Verdicts.{IsVerdictOf}
 use Rattle.sdm_supervisor.proofs.verdicts.Verdict.of.Given as goal
 
-abbrev pub invariant-loop-fall : goal.invariant-loop-fall
-invariant-loop-fall l =
-    IsVerdictOf l.braking l.asked.estimate l.fronts.est l.fronts.max (map target_of (take l.fall-index l.falls)) l.said
+abbrev pub invariant-loop-i : goal.invariant-loop-i
+invariant-loop-i l =
+    IsVerdictOf l.braking l.asked.estimate l.fronts.est l.fronts.max (map target_of (take l.i l.falls)) l.said

@@ -1,5 +1,5 @@
 -- No number has more than twenty digits.
-use Rattle.std.proofs.Common.{◌≤◌, length, decimal, arith, rules}
+use Rattle.std.proofs.Common.{arith}
 use Rattle.std.proofs.lemmas.Fmt.{length-decimal-le}
 use Rattle.sdm_text.proofs.rows.RowBuf.many.Goals as goal
 

@@ -1,5 +1,5 @@
 -- The table's entry of the number is put.
-use Rattle.std.proofs.Common.{◌≡◌, ◌+◌, ◌*◌, ◌/◌, ◌%◌, get_or, refl, arith, append_assoc}
+use Rattle.std.proofs.Common.{refl, append_assoc}
 use Rattle.sdm_text.proofs.PairDigits.{pair_at}
 use Rattle.sdm_text.proofs.rows.RowBuf.two.Goals as goal
 

@@ -1,0 +1,69 @@
+//! Falls with what is kept of them, as they are read. The falls stand in a list in their order, and the targets at
+//! them, which are large, each at a place of their own, so that a fall that comes or goes moves none of them.
+
+ghost use Rattle.std.specs.Prelude.{◌≡◌, ◌<◌, ◌≤◌, ℕ, ℤ, length, slice_index_or};
+ghost use Rattle.sdm_speed.specs.Falls.{AreAtFalls};
+ghost use Rattle.sdm_braking.specs.KeptFalls.{ArePartedPast, KeptFallData, placed};
+
+use crate::kept_targets::KeptTarget;
+use sdm_rules::Fall;
+use std::marker::Model;
+
+/// A fall of the profile, and the target at it with its curves. (SUBSET-026-3 3.13.8.2; own)
+#[derive(Clone, Copy, Debug)]
+pub struct KeptFall<'a> {
+    pub fall: Fall,
+    pub kept: &'a KeptTarget,
+}
+
+/// A fall of the profile, and the place of its target among those that are kept, counted from 0. (own)
+#[derive(Clone, Copy, Debug)]
+pub struct PlacedFall {
+    pub fall: Fall,
+    pub place: usize,
+}
+
+/// How many of a list in order lie at the start of the cell `last` or before it.
+pub fn reached(list: &[PlacedFall], last: i64) -> usize
+    ensures bound { result ≤ length list.now }
+    ensures parted { (p : ℤ → ℕ) (after : ℤ) → AreAtFalls placed p after list.now →
+        ArePartedPast placed last list.now result }
+{
+    list.partition_point(|placed| i64::from(placed.fall.cell) <= last)
+}
+
+/// Falls that follow one another, with what is kept of each. (own)
+#[derive(Debug, Drop)]
+pub struct FallsAhead<'a> {
+    pub(crate) list: &'a [PlacedFall],
+    pub(crate) targets: &'a [KeptTarget],
+}
+
+impl<'a> Model for FallsAhead<'a> {
+    ghost use Rattle.std.specs.Prelude.{List};
+    ghost use Rattle.sdm_braking.specs.KeptFalls.{KeptFallData, kept_in, ArePlacedIn};
+
+    ghost Value = { List KeptFallData };
+
+    ghost view = { λ a. kept_in a.targets.now a.list.now };
+
+    ghost invariant = { λ a. ArePlacedIn a.targets.now a.list.now };
+}
+
+impl<'a> FallsAhead<'a> {
+    /// How many they are.
+    pub fn len(&self) -> usize
+        ensures { result ≡ length self.now }
+    {
+        self.list.len()
+    }
+
+    /// The target at one of them, counted from 0, with its curves.
+    pub fn target(&self, i: usize) -> &'a KeptTarget
+        requires { i < length self.now }
+        ensures { (d : KeptFallData) → result.now ≡ (slice_index_or self.now i d).kept }
+    {
+        let list = self.list;
+        &self.targets[list[i].place]
+    }
+}

@@ -1,7 +1,0 @@
--- The lowest of the speed so far and of the steps that are left is that of them all.
-use Rattle.std.proofs.Common.{◌≡◌, drop}
-use Rattle.sdm_speed.proofs.LowestLaws.{lowest_to}
-use Rattle.sdm_speed.proofs.steps.lowest_up_to.Given as goal
-
-abbrev pub invariant-loop-step : goal.invariant-loop-step
-invariant-loop-step l = lowest_to l.lowest (drop l.step-index l.steps) l.to ≡ lowest_to l.speed l.steps l.to
