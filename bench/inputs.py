@@ -4,7 +4,7 @@ The same seed gives the same bytes with every version of Python, since the numbe
 other. docs/FORMATS.md says what the bytes mean.
 """
 
-from dataclasses import dataclass
+from dataclasses import dataclass, replace
 from itertools import islice
 from pathlib import Path
 
@@ -113,6 +113,12 @@ def smooth(seed):
     """The realistic data with readings of a train that runs, brakes and stops."""
     lines = list(islice(smooth_readings(Numbers(seed)), RECORDS))
     return Input("smooth", ["run"], ["run"], realistic_data(), lines, len(lines))
+
+
+def display(seed):
+    """The readings of `smooth`, of each of which is told what a driver is shown."""
+    shown = smooth(seed)
+    return replace(shown, name="display", words=["display"], words_of_one=["display"])
 
 
 def scattered(seed):
@@ -261,6 +267,7 @@ def trial(seed):
 
 MAKERS = {
     "smooth": smooth,
+    "display": display,
     "scattered": scattered,
     "greatest": greatest,
     "greatest-guided": greatest_guided,

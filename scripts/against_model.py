@@ -4,8 +4,8 @@
     scripts/check-model --seed 5000 --journeys 9000 the journeys of the seeds 5000 to 13999 alone
     scripts/check-model --program PATH              another program than crates/sdm/out/sdm
 
-Of each difference it tells the input, the first row or line that differs, and both texts. The journey of a seed is
-written by `python3 tools/model/journeys.py input SEED`.
+The input of each third seed is given to `display` too. Of each difference it tells the input, the first row or line that
+differs, and both texts. The journey of a seed is written by `python3 tools/model/journeys.py input SEED`.
 """
 
 import argparse
@@ -25,6 +25,7 @@ from model.words import collect  # noqa: E402
 
 GATE_JOURNEYS = 1000
 PROGRESS = 2000  # journeys between two lines of progress
+SHOWN = 3  # each so many seeds an input is given to `display` too, which costs the model more than `run`
 
 
 def own_tests():
@@ -36,11 +37,17 @@ def own_tests():
     return done.returncode == 0
 
 
-def made(first, count):
+def made(first, count, step=1):
     """The journeys of some seeds, as cases with nothing due."""
-    for seed in range(first, first + count):
+    for seed in range(first, first + count, step):
         words, name, data = make(seed)
         yield Case(f"seed {seed} ({name})", words, data, None)
+
+
+def shown(first, count):
+    """The inputs of each third of some seeds, whatever their words, as cases of `display`."""
+    for case in made(first, count, SHOWN):
+        yield case._replace(words=["display"])
 
 
 def differences(program, case):
@@ -89,6 +96,8 @@ def main(args):
         first = words.seed or 0
         title = f"made journeys, seeds {first} to {first + words.journeys - 1}"
         bad += compare(title, program, made(first, words.journeys), words.journeys)
+        title = "each third of them by display"
+        bad += compare(title, program, shown(first, words.journeys), -(-words.journeys // SHOWN))
     except Fault as why:
         print(f"check-model: {why}", file=sys.stderr)
         return 1

@@ -41,7 +41,7 @@ class Journey:
     def keeps_rows_at_want_of_memory(self):
         """Whether rows may stand when memory is wanting: `flat` and `trial` take all their memory first, and `upgrade`
         before it writes."""
-        return self.words[0] == "run"
+        return self.words[0] in ("run", "display")
 
 
 def example(name):

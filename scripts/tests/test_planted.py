@@ -57,6 +57,7 @@ PLANTED = [
     ("plot", [
         Fault("examples/approach/rows", "^10,T,X,0,0,1,1,160,887500", "10,T,X,0,0,1,1,160,880000", "failed: its marks lie in their places"),
         Fault("tools/drawing/places.py", r"speed \(km/h\)", "speed (m/s)", "failed: the picture has the text 'speed (km/h)'"),
+        Fault("examples/display/rows", "^760,72,", "760,73,", "failed: the speeds that are shown lie in their places"),
     ]),
 ]
 

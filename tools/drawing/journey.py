@@ -17,9 +17,12 @@ from laboratory.walk import Walk, at_speed
 from model.curves import BrakeCurve
 from model.data import Limit
 from model.decelerations import Brake
+from model.display import display_of
 from model.flat import numbers_of
 from model.speeds import restriction_zone, static_zones
 from model.units import GRAINS_PER_CM, GRAINS_PER_MM, NOTCHES_PER_KM_H
+
+from . import display
 
 CM_PER_M, GRAINS_PER_M, TENTHS = 100, 1000 * GRAINS_PER_MM, 10  # TENTHS of a per mille, the model's unit of gradients
 FIELDS = dict(zip(LIMITS, "d_EBI d_SBI d_W d_P d_I".split()))  # the model's names
@@ -37,6 +40,7 @@ class Reading:
     speed: float  # km/h
     row: dict
     limits: dict  # m
+    shown: dict = field(default_factory=dict)  # km/h, of `display`
     release: int = None  # km/h, in release speed monitoring
     counts: str = ""
     differs: str = ""
@@ -81,18 +85,19 @@ def steps(zones):
 
 
 def highest(readings):
-    """The greatest speed that the picture has room for: what the train and the ceilings near it come to, in km/h."""
-    fastest = max(r.speed for r in readings)
-    tops = [int(r.row["ceiling"]) * 1.12 for r in readings if "ceiling" in r.row and int(r.row["ceiling"]) <= 1.6 * fastest]
-    return max([1.3 * fastest, 10, *tops])
+    """The greatest speed that the picture has room for, in km/h: what the train comes to, with the ceilings near it, or the speeds
+    that are shown."""
+    fastest, tops = max(r.speed for r in readings), [int(r.row["ceiling"]) for r in readings if "ceiling" in r.row]
+    tops += [kmh for r in readings for kmh in r.shown.values()]
+    return max([1.3 * fastest, 10, *(1.12 * top for top in tops if top <= 1.6 * fastest)])
 
 
 def reading_of(n, event, row):
     """A reading with its row."""
     if int(row["time"]) != event.time:
         raise Fault(f"The rows are not those of the input: row {n} has the time {row['time']}, its reading {event.time}.")
-    limits = {name: int(row[name]) / 1000 for name in LIMITS if row.get(name, "-") != "-"}
-    return Reading(event.time / 10, *(getattr(event, which) / 1000 for which in ("est", "min", "max")), event.speed * 0.0036, row, limits)
+    front_ends = (getattr(event, which) / 1000 for which in ("est", "min", "max"))
+    return Reading(event.time / 10, *front_ends, event.speed * 0.0036, row, {})
 
 
 def counted(rows, readings, fault):
@@ -104,7 +109,7 @@ def counted(rows, readings, fault):
         raise Fault("The journey has no readings.")
 
 
-# ---- a journey of `run`
+# ---- a journey of `run` or `display`
 
 class Course:
     """Goes through the records of an input, and keeps what counts at each reading."""
@@ -131,33 +136,55 @@ class Course:
 
 
 def run_journey(source, text, times):
-    """The journey of an input of `run` and its rows, up to a record that is refused; those readings alone whose times count."""
-    course, rows = Course(source), rows_of(text)
-    counted(rows, len(course.readings), course.walk.fault)
-    readings, differ = [], []
-    for n, ((event, cycle), row) in enumerate(zip(course.readings, rows), 1):
-        reading = reading_of(n, event, row)
+    """The journey of an input of `run` and its rows."""
+    course = Course(source)
+    readings = readings_of(course, rows_of(text), lambda cycle: cycle.row.text())
+    for reading, (_, cycle) in zip(readings, course.readings):
+        reading.limits = {name: int(reading.row[name]) / 1000 for name in LIMITS if reading.row[name] != "-"}
         reading.counts = counts_of(cycle.situation)
         reading.release = cycle.situation.authority.release if cycle.situation.in_release else None
-        readings.append(reading)
-        if cycle.row.text().rstrip("\n") != ",".join(row.values()):
-            differ.append(n)
-            reading.differs = "1"
+    journey, counting = part_of(course, readings, times)
+    journey.curves = curves_of(course.supervisor, counting, highest(journey.readings))
+    return journey
+
+
+def display_journey(source, text, times):
+    """The journey of an input of `display` and its lines."""
+    course = Course(source)
+    text_of = lambda cycle: display_of(course.supervisor, cycle.situation).text()
+    readings = readings_of(course, display.rows_of(text), text_of)
+    for reading in readings:
+        reading.shown = display.speeds_of(reading.row)
+    return part_of(course, readings, times)[0]
+
+
+def readings_of(course, rows, text_of):
+    """The readings of an input with their rows; those are marked whose row isn't the model's text."""
+    counted(rows, len(course.readings), course.walk.fault)
+    readings = []
+    for n, ((event, cycle), row) in enumerate(zip(course.readings, rows), 1):
+        readings.append(reading_of(n, event, row))
+        readings[-1].differs = "" if text_of(cycle).rstrip("\n") == ",".join(row.values()) else "1"
+    return readings
+
+
+def part_of(course, readings, times):
+    """The journey, up to a record that is refused, of those readings alone whose times count; and their events and cycles."""
     kept = [n for n, reading in enumerate(readings) if times[0] <= reading.time <= times[1]]
     if not kept:
         raise Fault("No reading lies within these times.")
-    first, last = kept[0], kept[-1] + 1
+    first, last, differ = kept[0], kept[-1] + 1, [n for n, reading in enumerate(readings, 1) if reading.differs]
     note = f"rows that the model has otherwise: {', '.join(map(str, differ[:10]))}{' ...' if differ[10:] else ''}" if differ else ""
     ends = ends_held(seen(course.authorities, len(readings))) + release_starts(course.readings)
     cut = lambda helds: within(seen(helds, len(readings)), first, last)
     journey = Journey(readings[first:last], cut(ends), cut(course.restrictions), note=note)
-    return with_track(journey, course.supervisor.data, curves_of(course.supervisor, course.readings[first:last], highest(journey.readings)))
+    return with_track(journey, course.supervisor.data), course.readings[first:last]
 
 
-def with_track(journey, data, curves):
+def with_track(journey, data):
     """The journey with what the data part tells of the track."""
     train = type(static_zones(data)[0])(data.train.max_speed, -math.inf, math.inf)
-    journey.profile, journey.curves = [train, *static_zones(data)], curves
+    journey.profile = [train, *static_zones(data)]
     starts = [entry.start / CM_PER_M for entry in data.track.gradient]
     per_mille = [entry.grad / TENTHS for entry in data.track.gradient]
     journey.gradients = list(zip([-math.inf, *starts[1:]], [*starts[1:], math.inf], per_mille))

@@ -10,6 +10,7 @@ from dataclasses import dataclass, replace
 from model.speeds import dV_ebi, dV_sbi, dV_warning
 from model.units import NOTCHES_PER_KM_H
 
+from . import display
 from .journey import CM_PER_M, highest, steps
 from .sheet import (ABOVE, BLACK, COMMAND, GREY, HEIGHT, LEFT, LETTER, LEVEL, PALE, RIGHT, SMALL, STATUSES, STRIP, WHITE, WIDTH,
                     Shade, across, block, frame, label, rgb, seconds, spot, up)
@@ -262,10 +263,11 @@ def series_data(journey, low, high):
         "ceiling": [f"{r.front:.3f} {r.row['ceiling']}" for r in readings if "ceiling" in r.row],
         "release": broken_lines((r.front, r.release) for r in readings),
         "profile": profile_lines(journey, low, high),
-        "train": [f"{r.front:.3f} {r.speed:.4f} {rgb(colour_of(r.row))}" for r in readings],
+        "train": [f"{r.front:.3f} {r.speed:.4f} {rgb(colour_of(r))}" for r in readings],
         "most": [f"{r.most:.3f} {r.speed:.4f}" for r in readings] if any(r.front < r.most for r in readings) else [],
         "bars": [f"{r.least:.3f} {r.speed:.4f} {r.most - r.least:.3f}" for r in readings if r.least < r.most],
     }
+    data |= display.series_data(readings)
     for limit, margin in MARGINS.items():
         over = [(r.front, int(r.row["ceiling"])) for r in readings if "ceiling" in r.row]
         data["over_" + limit] = [f"{front:.3f} {M + margin(M) / NOTCHES_PER_KM_H:.4f}" for front, M in over]
@@ -292,8 +294,11 @@ def curve_lines(lines, low, high):
     return found
 
 
-def colour_of(row):
-    """The colour of a reading's mark: that of its status, or in a row of `flat` that of the emergency brake."""
+def colour_of(reading):
+    """The colour of a reading's mark: that of its status, of `display` where its speed lies, of `flat` the emergency brake."""
+    if reading.shown:
+        return display.ZONES[display.zone_of(reading)].colour
+    row = reading.row
     return STATUSES[row["status"]].colour if "status" in row else COMMAND.get(row["eb"], Shade(WHITE)).colour
 
 
@@ -359,6 +364,7 @@ def drawn_series(data, count):
         *(("over_" + limit, "1:2", f"steps lw 0.9 lc rgb '{LIMITS[limit][1]}' dt {LIMITS[limit][2]}") for limit in MARGINS),
         ("release", "1:2", "steps lw 4 lc rgb '#56B4E9'"),
         ("profile", "1:2", f"steps lw 1 lc rgb '{BLACK}'"),
+        *display.series(),
         *(("curve_" + name, "1:2", f"lines lw 0.8 lc rgb '{CURVES[name][1]}' dt (2,2)") for name in CURVES),
         *(("curve_" + limit, "1:2", limit_style(limit)) for limit in LIMITS),
         *((limit, "1:2", mark_style(limit, count)) for limit in LIMITS),
@@ -377,6 +383,7 @@ def key_of(data, has_status):
         ("train", f"linespoints lw 1.4 pt 7 ps 0.8 lc rgb '{BLACK}'", "train, by status" if has_status else "train"),
         ("most", f"lines lw 0.9 lc rgb '{GREY}' dt (4,3)", "max safe front end"),
         ("bars", f"lines lw 1 lc rgb '{GREY}'", "safe front ends"),
+        *display.keys(),
         ("ceiling", "lines lw 4 lc rgb '#BBBBBB'", "ceiling, its margins"),
         ("release", "lines lw 4 lc rgb '#56B4E9'", "release speed"),
         ("profile", f"lines lw 1 lc rgb '{BLACK}'", "static profile"),

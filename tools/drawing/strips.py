@@ -4,6 +4,7 @@ The strips lie over time and not over place, since a train that stands has many 
 axis tell both.
 """
 
+from . import display
 from .sheet import (BLACK, COMMAND, COVERED, FOOT, GREY, LEFT, RIGHT, SMALL, STATES, STATUSES, STRIP, TARGETS, WHITE, Shade, block,
                     frame, label, rgb, seconds, spot)
 
@@ -15,12 +16,18 @@ STRIPS = {
     "sb": ("service brake", COMMAND),
     "eb": ("emergency brake", COMMAND),
     "covered": ("covered", COVERED),
+    "zone": ("own speed", display.ZONES),
     "counts": ("target of P", None),
+    "target": ("shown target", None),
     "differs": ("not the model's", {"1": Shade("#CC0000")}),
 }
 
-# Labels of the time axis are at least so many pixels apart; a letter needs a run of at least so many.
-APART, ROOM = 50, 12
+# What stands beside the strips of a column: letters with their shades.
+KEYS = {"status": list((STATES | STATUSES).items()), "zone": [("", shade) for shade in display.ZONES.values()]}
+
+# Labels of the time axis are at least so many pixels apart; a letter needs a run of at least so many; a line of the key is at
+# least so high.
+APART, ROOM, LEAST_STEP = 50, 12, 13
 
 
 def height_of(journey):
@@ -34,13 +41,16 @@ def columns_of(journey):
 
 
 def value_of(reading, column):
-    """What a reading has in a strip: a value of its row, the target that its permitted limit is of, whether the model's row differs."""
+    """What a reading has in a strip: a value of its row, the target that its permitted limit is of, whether the model's row
+    differs; of `display` where its speed lies, and the target that is shown."""
+    if column in ("zone", "target"):
+        return {"zone": display.zone_of, "target": display.target_of}[column](reading) if reading.shown else ""
     return getattr(reading, column) if column in ("counts", "differs") else reading.row.get(column, "")
 
 
 def shade_of(column, value):
     """How a value is shown; nothing where it isn't."""
-    if column == "counts":
+    if column in ("counts", "target"):
         return Shade(TARGETS.get(value.split(" ")[0], WHITE), BLACK, value) if value else None
     if column == "covered" and value == "R":
         return Shade("#EEEEEE", BLACK, "none is promised")
@@ -54,7 +64,7 @@ def strip_panel(journey):
     boxes, letters = strip_lines(readings, columns, end)
     names = ", ".join(f'"{STRIPS[column][0]}" {len(columns) - k - 0.5}' for k, column in enumerate(columns))
     lines = ["unset arrow; unset label; unset grid; unset xlabel; unset ylabel; unset key; set format x", *frame(FOOT, edge)]
-    lines += key_of(edge) if "status" in columns else []
+    lines += [line for column, shades in KEYS.items() if column in columns for line in key_of(edge, shades)]
     lines += block("boxes", boxes) + block("letters", letters)
     lines += [
         f"set xrange [{readings[0].time:.1f}:{end:.3f}]; set yrange [0:{len(columns)}]",
@@ -97,7 +107,7 @@ def strip_lines(readings, columns, end):
             if shade is None:
                 continue
             boxes.append(f"{since:.1f} {y} {since:.1f} {until:.3f} {y - 0.4:.1f} {y + 0.4:.1f} {rgb(shade.colour)}")
-            text = value if column != "covered" else shade.name
+            text = shade.name if column in ("covered", "zone") else value
             if text and shade.name and (until - since) * scale > max(ROOM, 6 * len(text)):
                 letters.append(f'{(since + until) / 2:.3f} {y} "{text}" {rgb(shade.ink)}')
     return boxes, letters
@@ -131,12 +141,12 @@ def round_step(readings, apart):
     return best
 
 
-def key_of(edge):
+def key_of(edge, shades):
     """What the letters of the strips, and the colours of the train's marks, are."""
-    lines, shades = [], STATES | STATUSES
-    for k, (letter, shade) in enumerate(shades.items(), 1):
-        y = edge + 2 - k * (edge - FOOT) / len(shades)
+    lines = []
+    for k, (letter, shade) in enumerate(shades, 1):
+        y = edge + 2 - k * max((edge - FOOT) / len(shades), LEAST_STEP)
         box = f"from {spot(RIGHT + 14, y)} to {spot(RIGHT + 28, y + 10)}"
         lines.append(f"set object rectangle {box} fs solid border lc rgb '{GREY}' fc rgb '{shade.colour}'")
-        lines.append(label(f"{letter}  {shade.name}", RIGHT + 34, y + 5, f"left {SMALL} tc rgb '{BLACK}'"))
+        lines.append(label(f"{letter}  {shade.name}".strip(), RIGHT + 34, y + 5, f"left {SMALL} tc rgb '{BLACK}'"))
     return lines

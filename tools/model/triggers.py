@@ -20,11 +20,15 @@ def over_a_limit(situation, margin, name):
             causes.append(Cause("target", each))
     return causes
 
-def triggers_of(situation):
-    """PROFILE "Triggers"."""
+def above_release(situation):
+    """PROFILE "Triggers": the reading is in release speed monitoring, and V above V_rel."""
     reading, authority = situation.reading, situation.authority
     too_fast = situation.in_release and reading.V_est > authority.release * NOTCHES_PER_KM_H
-    release = [Cause("release speed")] if too_fast else []
+    return [Cause("release speed")] if too_fast else []
+
+def triggers_of(situation):
+    """PROFILE "Triggers"."""
+    reading, authority, release = situation.reading, situation.authority, above_release(situation)
     serv = over_a_limit(situation, dV_sbi, "d_SBI")
     emer = over_a_limit(situation, dV_ebi, "d_EBI") + release
     if isinstance(authority, Stop) and reading.front_end("min") > authority.eoa * GRAINS_PER_CM:

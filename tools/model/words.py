@@ -2,6 +2,7 @@
 import os
 
 from .data import data_of, read_document, split, table_of
+from .display import display_of
 from .flat import flat_rows
 from .journey import Supervisor, cycles
 from .outcome import Outcome, Refused
@@ -37,6 +38,9 @@ def rows_of(words, read):
     match words:
         case ["run"]:
             return (cycle.row.text() for cycle in cycles(*open_run(not_too_long(read()))))
+        case ["display"]:
+            supervisor, events = open_run(not_too_long(read()))
+            return (display_of(supervisor, cycle.situation).text() for cycle in cycles(supervisor, events))
         case ["flat", A, END]:
             return flat_rows(number_word(A, 5, 400), number_word(END, 0, 10_000_000), not_too_long(read()))
         case ["upgrade"]:

@@ -110,6 +110,7 @@ def flat():
 def words():
     for name, given in [("none", []), ("help", ["--help"]), ("flat-4", ["flat", "4", "5"]),
                         ("flat-401", ["flat", "401", "5"]), ("flat-end", ["flat", "5", "10000001"]),
+                        ("display-1", ["display", "1"]), ("display-in-capitals", ["Display"]),
                         ("upgrade-1", ["upgrade", "1"]), ("upgrade-in-capitals", ["UPGRADE"]),
                         ("trial-0", ["trial", "1", "0"]), ("trial-100001", ["trial", "1", "100001"])]:
         yield name, f"words that none of the commands has: {' '.join(given) or 'none'}", given, b""

@@ -34,6 +34,8 @@ pub struct AskedEstimate {
 
 impl Braking {
     /// An estimate with what the limits of this journey ask of it.
+    // In line, as the limits that ask by it.
+    #[inline(always)]
     pub fn asked(&self, estimate: Estimate) -> AskedEstimate
         ensures estimate { result.estimate ≡ estimate }
         ensures asked { IsAsked self.now result }

@@ -239,6 +239,13 @@ impl Braking {
         self.national.early_release()
     }
 
+    /// Whether the compensation of under-reading is inhibited (Q_NVINHSMICPERM).
+    pub fn inhibits_under_reading(&self) -> bool
+        ensures { result ≡ self.now.national.inhibit_under_reading }
+    {
+        self.national.inhibit_under_reading()
+    }
+
     /// V_delta0: by how much the true speed may be above the estimated one; 0 where the compensation is inhibited.
     /// (SUBSET-026-3 3.13.9.3.2)
     pub fn v_delta0(&self, under: Speed) -> Speed

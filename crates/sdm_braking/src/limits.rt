@@ -18,6 +18,7 @@ use sdm_targets::TargetKind;
 
 impl Braking {
     /// The place of a target's guidance curve at the estimated speed, where it has one. (SUBSET-026-3 3.13.8.5)
+    #[inline(always)]
     fn guide(&self, asked: &AskedEstimate, kept: &KeptTarget) -> Option<Early>
         requires asked { IsAsked self.now asked.now }
         requires kept { IsKeptTarget self.now kept.now }
@@ -31,6 +32,8 @@ impl Braking {
     }
 
     /// The limits of a target that is no faster than the train. (SUBSET-026-3 3.13.9.3; own)
+    // In line in each walk over targets: a reading would pay for a call at each of them.
+    #[inline(always)]
     #[tactic(auto, unfolding(sdm_rules::specs::Limits::limits_of))]
     pub fn limits(&self, asked: &AskedEstimate, kept: &KeptTarget) -> Limits
         requires asked { IsAsked self.now asked.now }

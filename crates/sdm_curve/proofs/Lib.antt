@@ -13,3 +13,4 @@ pub mod KnotRows
 pub mod CurveKnots
 pub mod Climbs
 pub mod Cells
+pub mod GreatestSlopes

@@ -5,6 +5,7 @@
 mod checks;
 mod curve;
 mod faults;
+mod greatest;
 mod knots;
 mod levels;
 mod map;

@@ -145,6 +145,51 @@ fn a_map_keeps_what_was_handed_in(rt: HostRuntime) -> Result<(), CurveFault> {
     Ok(())
 }
 
+// ---- greatest slopes
+
+/// Cells from one to another, and the greatest slope in them.
+#[derive(Clone, Copy)]
+struct Cells(i32, i32, i64);
+
+fn assert_greatest(rt: &impl Abort, map: &BandMap, cases: &[Cells]) {
+    for case in cases {
+        assert!(rt; case.0 <= case.1);
+        assert_eq!(rt; map.greatest(case.0, case.1), case.2);
+    }
+}
+
+#[test]
+fn the_greatest_slope_is_that_of_any_band_in_any_of_the_cells(
+    rt: HostRuntime,
+) -> Result<(), CurveFault> {
+    let slopes = [
+        200_000_000_000,
+        100_000_000_000,
+        400_000_000_000,
+        140_000_000_000,
+        160_000_000_000,
+        180_000_000_000,
+        120_000_000_000,
+        220_000_000_000,
+    ];
+    let starts = [0, 100, 200, 300];
+    let map = map_of(&rt, rt.alloc(), 100, &[Speed::of_kmh(36)], &starts, &slopes)?;
+    let cases = [
+        Cells(-50, -1, 200_000_000_000),
+        Cells(0, 99, 200_000_000_000),
+        Cells(99, 100, 200_000_000_000),
+        Cells(100, 199, 180_000_000_000),
+        Cells(100, 200, 400_000_000_000),
+        Cells(150, 350, 400_000_000_000),
+        Cells(299, 300, 400_000_000_000),
+        Cells(300, 300, 220_000_000_000),
+        Cells(301, i32::MAX, 220_000_000_000),
+        Cells(i32::MIN, i32::MAX, 400_000_000_000),
+    ];
+    assert_greatest(&rt, &map, &cases);
+    Ok(())
+}
+
 // ---- places
 
 /// A metre in grains, and 1 m/s in notches.

@@ -8,6 +8,7 @@ pub mod ReleaseStart
 pub mod PrintedLimits
 pub mod StopFacts
 pub mod Stops
+pub mod WithinSvl
 pub mod FlatFacts
 pub mod CalculatedRelease
 pub mod Passing

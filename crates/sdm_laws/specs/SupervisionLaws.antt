@@ -1,10 +1,11 @@
 -- The laws of supervision, as statements over an accepted supervision state alone (own).
-use Rattle.std.specs.Prelude.{◌≡◌, ◌<◌, ◌≤◌, ℕ, ℤ, Bool, false, IsTrue, IfOk, List, Option, Some, None, Result, ⊤}
+use Rattle.std.specs.Prelude.{◌≡◌, ◌<◌, ◌≤◌, ℕ, ℤ, Bool, true, false, IsTrue, IfOk, List, Option, Some, None, Result, ⊤}
 use Rattle.sdm_num.specs.Units.{millimetre}
 use Rattle.sdm_num.specs.Fractions.{Fraction, IsAtMost, more}
 use Rattle.sdm_num.specs.Bounds.{IsEarlyFor}
 use Rattle.sdm_num.specs.Readings.{OdometerReading, estimate_of}
 use Rattle.sdm_rules.specs.declared.authorities.Authority.{Authority}
+use Rattle.sdm_rules.specs.declared.authorities.Authority.TheVariants.{Stop}
 use Rattle.sdm_rules.specs.declared.data.SlopeKind.{SlopeKind}
 use Rattle.sdm_rules.specs.declared.data.SlopeKind.TheVariants.{Safe}
 use Rattle.sdm_rules.specs.declared.faults.EventFault.{EventFault}
@@ -21,6 +22,7 @@ use Rattle.sdm_rules.specs.declared.display.LimitName.{LimitName}
 use Rattle.sdm_rules.specs.Machines.{Implies, KeepsOrder, InOrder, held_after}
 use Rattle.sdm_rules.specs.Records.{step, journey_from}
 use Rattle.sdm_rules.specs.Stop.{IsSafe}
+use Rattle.sdm_rules.specs.Within.{StopsByItsSvl, is_within_svl}
 use Rattle.sdm_rules.specs.Release.{IsReleaseSpeed, calculated}
 use Rattle.sdm_rules.specs.Promises.{BeginsReleaseMonitoring, HasOnlyGaps, IsWithinCeiling}
 use Rattle.sdm_rules.specs.Opening.{IsAccepted, IsAcceptedKind, IsOpen}
@@ -86,6 +88,17 @@ LawOfMachines = (s : Supervision) (r : OdometerReading) → IsOpen s → KeepsOr
 -- from every covered row each motion stops by the supervised location and meets each speed target
 abbrev pub LawOfStop : Type 0
 LawOfStop = (s : Supervision) (r : OdometerReading) → IsOpen s → IsTrue (row_of s r).covered → IsSafe s r
+
+-- from every reading within the SvL each motion stops at or before it
+abbrev pub LawOfWithin : Type 0
+LawOfWithin = (s : Supervision) (r : OdometerReading) → IsOpen s → IsTrue (is_within_svl s r) → StopsByItsSvl s r
+
+-- under a stop without a release speed, a reading of a moving train that isn't within the SvL commands the emergency
+-- brake
+abbrev pub LawOfCommand : Type 0
+LawOfCommand =
+    (s : Supervision) (r : OdometerReading) (eoa svl : ℕ) → s.authority ≡ Stop eoa svl 0 →
+    is_within_svl s r ≡ false → 0 < r.speed → (row_of s r).held.eb ≡ true
 
 -- gaps are all that keeps a row from being covered where no emergency brake is commanded and the train moves
 abbrev pub LawOfGaps : Type 0

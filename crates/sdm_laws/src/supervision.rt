@@ -2,10 +2,10 @@
 //! function makes no call and only states its clause.
 
 ghost use Rattle.sdm_laws.specs.PrintedLimits.{LawOfPrintedLimits};
-ghost use Rattle.sdm_laws.specs.SupervisionLaws.{IsKeptOpen, LawOfAcceptedSlopes, LawOfCeiling, LawOfGaps};
-ghost use Rattle.sdm_laws.specs.SupervisionLaws.{LawOfJourneys, LawOfLimits, LawOfMachines, LawOfNearness};
+ghost use Rattle.sdm_laws.specs.SupervisionLaws.{IsKeptOpen, LawOfAcceptedSlopes, LawOfCeiling, LawOfCommand};
+ghost use Rattle.sdm_laws.specs.SupervisionLaws.{LawOfGaps, LawOfJourneys, LawOfLimits, LawOfMachines, LawOfNearness};
 ghost use Rattle.sdm_laws.specs.SupervisionLaws.{LawOfPassing, LawOfReleaseSpeed, LawOfReleaseStart, LawOfStop};
-ghost use Rattle.sdm_laws.specs.SupervisionLaws.{LawOfSupervision};
+ghost use Rattle.sdm_laws.specs.SupervisionLaws.{LawOfSupervision, LawOfWithin};
 
 /// The slopes of accepted data are usable: brake curves on them have their laws.
 #[tactic(auto, using(crate::proofs::Openings::AcceptedSlopes::accepted_usable))]
@@ -49,6 +49,17 @@ pub fn law_of_machines()
 #[tactic(auto, using(crate::proofs::Rows::Headline::stop))]
 pub fn law_of_stop()
     ensures { LawOfStop }
+{}
+
+/// From every reading within the SvL each motion stops at or before it.
+pub fn law_of_within()
+    ensures { LawOfWithin }
+{}
+
+/// Where a moving train is not within the SvL, the emergency brake is commanded.
+#[tactic(auto, using(crate::proofs::Rows::WithinSvl::commanded))]
+pub fn law_of_command()
+    ensures { LawOfCommand }
 {}
 
 /// Why a row is not covered where no emergency brake is commanded.

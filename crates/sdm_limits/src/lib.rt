@@ -9,7 +9,7 @@ mod times;
 
 pub use limits::{Limits, ebd_limits, ebd_limits_at, sbd_limits};
 pub use reaction::{BuildUp, Reaction, reaction_of};
-pub use sdm_rules::Times;
+pub use sdm_rules::{LimitName, Times};
 pub use times::{OfTrain, T_WARNING};
 
 #[cfg(test)]

@@ -66,6 +66,8 @@ pub fn ebd_limits(
 
 /// The limits on an EBD by its place at V_bec, which lies within 9·10¹⁷ grains of the origin; the other conditions are
 /// those of `ebd_limits`. (SUBSET-026-3 3.13.9.3; ranges own)
+// In line, as the place that it goes by: a reading asks it of each target.
+#[inline(always)]
 pub fn ebd_limits_at(
     place: Early,
     guide: Option<Early>,
@@ -93,6 +95,8 @@ pub fn ebd_limits_at(
 
 /// The limits on an SBD, which have no EBI, at the estimated speed `v`, with the guidance curve's place at `v` where
 /// there is a guidance curve. The conditions are those of `ebd_limits`. (SUBSET-026-3 3.13.9.3; ranges own)
+// In line, as `ebd_limits_at`.
+#[inline(always)]
 pub fn sbd_limits(
     expected: &BandMap,
     sbd: &Curve,

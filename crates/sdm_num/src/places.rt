@@ -1,7 +1,7 @@
 //! Places on the track, in one absolute coordinate.
 
-ghost use Rattle.std.specs.Int.{int_div_euclid};
-ghost use Rattle.std.specs.Prelude.{◌≡◌, ℤ, pos, negsuc, neg_ℤ, ◌+ℤ◌, ◌*ℤ◌, ◌≤◌, ◌≤ℤ◌};
+ghost use Rattle.std.specs.Int.{int_div_euclid, int_max};
+ghost use Rattle.std.specs.Prelude.{◌≡◌, ℤ, pos, negsuc, neg_ℤ, ◌+ℤ◌, ◌-ℤ◌, ◌*ℤ◌, ◌≤◌, ◌≤ℤ◌};
 ghost use Rattle.sdm_num.specs.Units.{IsPlace, centimetre, place_of_mm};
 ghost use Rattle.sdm_num.specs.Bounds.{mm_above, mm_below};
 
@@ -127,6 +127,16 @@ impl Place {
         ensures { result ≡ mm_below self }
     {
         (self.from_far() / MILLIMETRE as u64) as i64 - 10 * i64::from(FAR_CM)
+    }
+
+    /// How far the place lies past another one, in millimetres rounded down; 0 where it doesn't lie past it.
+    pub fn mm_past(self, other: Place) -> i64
+        ensures { result ≡ int_max (mm_below (self -ℤ other)) (pos 0) }
+    {
+        if self.grains <= other.grains {
+            return 0;
+        }
+        (other.distance_to(self) / MILLIMETRE as u64) as i64
     }
 
     /// The place in millimetres, rounded up.

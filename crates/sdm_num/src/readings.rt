@@ -4,6 +4,7 @@ ghost use Rattle.std.specs.Prelude.{◌≡◌, ◌≤◌, ◌≤ℤ◌, ◌↔�
 ghost use Rattle.std.specs.Option.{SomeIff};
 ghost use Rattle.sdm_num.specs.Readings.{Estimate as EstimateOf, IsEstimate, IsReading, OdometerReading, estimate_of};
 ghost use Rattle.sdm_num.specs.Readings.{reading_of};
+ghost use Rattle.sdm_num.specs.Units.{notches, top_kmh};
 
 use crate::places::Place;
 use crate::speeds::{Speed, TOP_KMH};
@@ -100,6 +101,14 @@ impl Estimate {
             accel,
             under,
         })
+    }
+
+    /// The same estimate with another speed, of at most 500 km/h.
+    pub fn with_speed(self, speed: Speed) -> Estimate
+        requires { speed ≤ notches top_kmh }
+        ensures { result ≡ record self { speed = speed } }
+    {
+        Estimate { speed, ..self }
     }
 
     /// The estimated speed.

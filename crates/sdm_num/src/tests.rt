@@ -22,6 +22,8 @@ fn a_place_in_millimetres_is_rounded_towards_the_safe_side(rt: HostRuntime) {
     assert_eq!(rt; above.mm_above(), 2);
     assert_eq!(rt; Place::of_mm(5).mm_below(), 5);
     assert_eq!(rt; Place::of_mm(5).mm_above(), 5);
+    assert_eq!(rt; above.mm_past(below), 1);
+    assert_eq!(rt; below.mm_past(above), 0);
 }
 
 #[test]
@@ -112,6 +114,10 @@ fn an_estimate_keeps_its_numbers(rt: HostRuntime) {
     assert_eq!(rt; estimate.speed(), Speed::of_kmh(500));
     assert_eq!(rt; estimate.accel(), 300);
     assert_eq!(rt; estimate.under(), Speed::of_mm_s(10_000));
+    let slower = estimate.with_speed(Speed::of_kmh(7));
+    assert_eq!(rt; slower.speed(), Speed::of_kmh(7));
+    assert_eq!(rt; slower.accel(), 300);
+    assert_eq!(rt; slower.under(), Speed::of_mm_s(10_000));
 }
 
 #[test]

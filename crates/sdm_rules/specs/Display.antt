@@ -1,5 +1,6 @@
--- What is shown of a reading: three limits as speeds, and the target that counts (own). A limit's speed is the greatest
--- whole one that the train could have where it is and not pass the limit, all else as in the reading.
+-- What is shown of a reading: three limits as speeds, the release speed, and the target that counts (own). A limit's
+-- speed is the greatest whole one that the train could have where it is and not pass the limit, all else as in the
+-- reading.
 use Rattle.std.specs.Prelude.{ℕ, ℤ, pos, Bool, not, ◌||◌, ◌-ℤ◌, ◌*ℤ◌, List, [], ◌∷◌, Option, Some, None, fold}
 use Rattle.std.specs.Prelude.{filter, option_map, nat_lt, int_lt, if◌then◌else◌}
 use Rattle.std.specs.Int.{int_max}
@@ -7,6 +8,9 @@ use Rattle.sdm_num.specs.Units.{notches, top_kmh}
 use Rattle.sdm_num.specs.Fractions.{Fraction}
 use Rattle.sdm_num.specs.Bounds.{mm_below}
 use Rattle.sdm_num.specs.Readings.{Estimate, OdometerReading, estimate_of}
+use Rattle.sdm_rules.specs.declared.authorities.Authority.{Authority}
+use Rattle.sdm_rules.specs.declared.authorities.Authority.TheVariants.{Stop, Limit}
+use Rattle.sdm_rules.specs.declared.display.Display.{Display}
 use Rattle.sdm_rules.specs.declared.display.LimitName.{LimitName}
 use Rattle.sdm_rules.specs.declared.display.LimitName.TheVariants.{Permitted, Sbi, Ebi}
 use Rattle.sdm_rules.specs.declared.display.Shown.{Shown}
@@ -79,3 +83,21 @@ shown_target d r now =
 -- the target that is shown of a reading (own)
 abbrev pub shown_target_of : Supervision → OdometerReading → Option Shown
 shown_target_of s r = shown_target s.train_and_track r (situation_of s r)
+
+-- ---- all that is shown
+
+-- the release speed of an authority in km/h; 0 for a limit of authority (SUBSET-026-3 3.13.9.4; own)
+abbrev pub release_speed_of : Authority → ℕ
+release_speed_of (Stop eoa svl release) = release
+release_speed_of (Limit loa speed) = 0
+
+-- what is shown of a reading (own)
+unfoldable pub display_of : Supervision → OdometerReading → Display
+display_of s r = record {
+  time = r.time;
+  permitted = display_speed_of s r Permitted;
+  sbi = display_speed_of s r Sbi;
+  ebi = display_speed_of s r Ebi;
+  release = release_speed_of s.authority;
+  shown = shown_target_of s r;
+}

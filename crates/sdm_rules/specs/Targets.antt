@@ -46,12 +46,16 @@ abbrev pub falls_ahead : (ℤ → ℕ) → ℤ → ℕ → List Target
 falls_ahead profile front end = map (fall_at profile)
     (filter (is_fall profile) (cells (cell_of front +ℤ pos 1) (int_gap (cell_of front) (pos end))))
 
+-- the target at an SvL in cm (SUBSET-026-3 3.13.8.2)
+abbrev pub svl_target : ℕ → Target
+svl_target svl = record { kind = Svl; place = place_of_cell (pos svl); speed = 0 }
+
 -- the targets at the end of the authority, also once they are passed; in release speed monitoring the EOA and SvL are
 -- none (SUBSET-026-3 3.13.8.2)
 abbrev pub ends_of : Authority → Bool → List Target
 ends_of (Stop eoa svl release) in_release_monitoring =
-    if in_release_monitoring then [] else record { kind = Eoa; place = place_of_cell (pos eoa); speed = 0 }
-    ∷ record { kind = Svl; place = place_of_cell (pos svl); speed = 0 } ∷ []
+    if in_release_monitoring then []
+    else record { kind = Eoa; place = place_of_cell (pos eoa); speed = 0 } ∷ svl_target svl ∷ []
 ends_of (Limit loa speed) in_release_monitoring =
     record { kind = Loa; place = place_of_cell (pos loa); speed = speed } ∷ []
 

@@ -1,4 +1,4 @@
--- The text of rows and of turns (own).
+-- The text of rows, of what is shown of a reading, and of turns (own).
 use Rattle.std.specs.Prelude.{ℕ, ℤ, Bool, List, [], ◌∷◌, ◌++◌, Option, Some, None, codes, decimal, if◌then◌else◌}
 use Rattle.std.specs.Fmt.{signed_decimal}
 use Rattle.std.specs.List.{join_with_byte}
@@ -6,8 +6,16 @@ use Rattle.sdm_rules.specs.declared.commands.State.{State}
 use Rattle.sdm_rules.specs.declared.commands.State.TheVariants.{C, T, R}
 use Rattle.sdm_rules.specs.declared.commands.Status.{Status}
 use Rattle.sdm_rules.specs.declared.commands.Status.TheVariants.{N, I, O, W, X}
+use Rattle.sdm_rules.specs.declared.display.Display.{Display}
+use Rattle.sdm_rules.specs.declared.display.Shown.{Shown}
+use Rattle.sdm_rules.specs.declared.records.Event.{Event}
+use Rattle.sdm_rules.specs.declared.records.Event.TheVariants as record_kinds
 use Rattle.sdm_rules.specs.declared.rows.Row.{Row}
+use Rattle.sdm_rules.specs.declared.targets.TargetKind.{TargetKind}
+use Rattle.sdm_rules.specs.declared.targets.TargetKind.TheVariants.{Mrsp, Loa, Eoa, Svl}
+use Rattle.sdm_rules.specs.Display.{display_of}
 use Rattle.sdm_rules.specs.Records.{Turn, row_of_turn}
+use Rattle.sdm_rules.specs.Supervision.{Supervision}
 
 -- the letter of a type of speed and distance monitoring
 abbrev pub state_text : State → List ℕ
@@ -53,6 +61,36 @@ abbrev pub text_of_row : Option Row → List ℕ
 text_of_row None = []
 text_of_row (Some row) = row_text row
 
+-- ---- what is shown of a reading
+
+-- the letter of a kind of target
+abbrev pub kind_text : TargetKind → List ℕ
+kind_text Mrsp = codes "M"
+kind_text Loa = codes "L"
+kind_text Eoa = codes "E"
+kind_text Svl = codes "S"
+
+-- the fields of the target that is shown: its kind, and its distance in mm; `-` and `-` where there is none
+abbrev pub shown_fields : Option Shown → List (List ℕ)
+shown_fields None = codes "-" ∷ codes "-" ∷ []
+shown_fields (Some shown) = kind_text shown.kind ∷ signed_decimal shown.distance ∷ []
+
+-- the text of what is shown: time in ds, speeds in km/h, and the target
+unfoldable pub display_text : Display → List ℕ
+display_text d =
+    text_line (decimal d.time ∷ decimal d.permitted ∷ decimal d.sbi ∷ decimal d.ebi ∷ decimal d.release
+    ∷ shown_fields d.shown)
+
+-- what is shown of an event in a state: of a reading a line
+abbrev pub text_shown : Supervision → Event → List ℕ
+text_shown s (record_kinds.Read r) = display_text (display_of s r)
+text_shown s (record_kinds.Authority a) = []
+text_shown s (record_kinds.Calculated eoa svl trip) = []
+text_shown s (record_kinds.Restrict r) = []
+text_shown s (record_kinds.Revoke id) = []
+
+-- ---- turns
+
 -- what is told of turns, one after the other, by what is told of each
 abbrev pub told : (Turn → List ℕ) → List Turn → List ℕ
 told tell [] = []
@@ -61,3 +99,7 @@ told tell (t ∷ ts) = tell t ++ told tell ts
 -- what `run` tells of a turn: the text of its row
 abbrev pub run_tells : Turn → List ℕ
 run_tells t = text_of_row (row_of_turn t)
+
+-- what `display` tells of a turn: what is shown of its reading in the state after it
+abbrev pub display_tells : Turn → List ℕ
+display_tells t = text_shown t.after t.event

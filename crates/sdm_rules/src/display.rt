@@ -22,3 +22,20 @@ pub struct Shown {
     /// From the front end that the target compares to the target's place, in mm rounded down; 0 once it is passed.
     pub distance: i64,
 }
+
+/// What is shown of a reading. (own)
+#[derive(Clone, Copy, Debug, PartialEq, Eq)]
+pub struct Display {
+    /// Time of the reading in ds.
+    pub time: u32,
+    /// The permitted speed in km/h, 0 to 500.
+    pub permitted: u16,
+    /// The SBI speed in km/h, 0 to 500.
+    pub sbi: u16,
+    /// The EBI speed in km/h, 0 to 500.
+    pub ebi: u16,
+    /// The release speed of the authority in km/h, 0 to 500.
+    pub release: u16,
+    /// The target that counts; none where no target is slower than the train.
+    pub shown: Option<Shown>,
+}

@@ -24,7 +24,7 @@ pub use commands::{Held, State, Status, Triggers};
 pub use data::{
     Area, Band, Gradient, MOST_BANDS, NationalFields, SlopeKind, SpeedStep, Times, TrainFields,
 };
-pub use display::{LimitName, Shown};
+pub use display::{Display, LimitName, Shown};
 pub use faults::{
     At, AuthorityFault, CycleFault, DataFault, EventCause, EventFault, FieldFault, NationalFault,
     OpenFault, RestrictFault, RevokeFault, Section, TrackFault, TrainFault, TripFault,

@@ -1,6 +1,6 @@
 -- Which outcomes answer an output, and what out must have taken by then: an output of two lines that ends at a third
 -- one. And what the promises of the rows say: of `flat` for lines of a train with 1 m/s² towards an end at 10 m, of
--- `run` and `trial` for the first turn.
+-- `run`, `display` and `trial` for the first turn.
 use Rattle.std.proofs.Common.{◌≡◌, ℕ, zero, suc, pos, true, false, List, [], ◌∷◌, ◌++◌, Some, length, take, get_or}
 use Rattle.std.proofs.Common.{refl, ap, sym, subst, ◌∙◌, inl, inr, arith, ◌*◌}
 use Rattle.std.proofs.lemmas.List.{length-append}
@@ -22,11 +22,11 @@ use Rattle.sdm_rules.specs.Trial.{reading_in_cycle, summary_text, trial_authorit
 use Rattle.sdm_rules.specs.Trial.{trial_train_and_track}
 use Rattle.sdm_report.specs.declared.outcome.Outcome.TheVariants.{Done, ReadFault, WriteFault, BadEvent, Memory}
 use Rattle.sdm_run.specs.Answers.{AreWholeLines, IsAnswer, IsComplete}
-use Rattle.sdm_run.specs.Commands.{AreRunRowsSafe, AreTrialRowsSafe}
+use Rattle.sdm_run.specs.Commands.{AreJourneyTurnsSafe, AreTrialRowsSafe}
 use Rattle.sdm_run.specs.FlatRun.{AreFlatRowsSafe, AreFlatTurnsSafe, FlatTurn, IsEbiShown, IsFlatTurnSafe}
 use Rattle.sdm_run.specs.FlatRun.{IsStopCovered, flat_may_after_turn, flat_must_after_turn, flat_row_of_turn}
 use Rattle.sdm_run.specs.FlatRun.{text_of_turns, turns_of}
-use Rattle.sdm_run.specs.Journeys.{IsRunOutput}
+use Rattle.sdm_run.specs.Journeys.{IsJourneyOutput}
 
 -- ---- answers
 
@@ -230,10 +230,11 @@ not_commanded h holds = false≢true (sym none_early ∙ allowed holds)
     allowed =
         (subst (λ (turns : List FlatTurn). AreFlatTurnsSafe false false turns) one_early_turn h.safe).0.order.allowed
 
--- of `run`: where an output has turns, the record of the first is safe
-first_turn_of_run : (bytes : List ℕ) (output : Output) (told : IsRunOutput bytes output) (t : Turn) (ts : List Turn) →
-    told.turns ≡ t ∷ ts → AreRunRowsSafe bytes → IsRecordSafe false false t.before t.event
-first_turn_of_run bytes output told t ts is h =
+-- of `run` and `display`: where an output has turns, the record of the first is safe
+first_turn_told : (tell : Turn → List ℕ) (bytes : List ℕ) (output : Output) (told : IsJourneyOutput tell bytes output)
+    (t : Turn) (ts : List Turn) → told.turns ≡ t ∷ ts → AreJourneyTurnsSafe tell bytes →
+    IsRecordSafe false false t.before t.event
+first_turn_told tell bytes output told t ts is h =
     (subst (λ (turns : List Turn). AreTurnsSafe false false turns) is (h output told)).0
 
 -- of `trial`: the text sums up the row of its one reading, which is safe

@@ -8,8 +8,9 @@ use Rattle.sdm_io.specs.Told.{Told}
 use Rattle.sdm_rules.specs.Input.{most_bytes}
 use Rattle.sdm_rules.specs.Input as ends
 use Rattle.sdm_rules.specs.Flat.{Output, flat_output}
+use Rattle.sdm_rules.specs.Text.{display_tells, run_tells}
 use Rattle.sdm_run.specs.declared.words.Command.{Command}
-use Rattle.sdm_run.specs.declared.words.Command.TheVariants.{Flat, Run, Trial, Upgrade}
+use Rattle.sdm_run.specs.declared.words.Command.TheVariants.{Flat, Run, Display, Trial, Upgrade}
 use Rattle.sdm_report.specs.declared.outcome.Outcome.{Outcome}
 use Rattle.sdm_report.specs.declared.outcome.Outcome.TheVariants.{TooLong}
 use Rattle.sdm_run.specs.Words.{IsCommandInRange}
@@ -18,7 +19,7 @@ use Rattle.sdm_run.specs.Commands.{AreRowsSafe, IsOutputOf, within_limit}
 use Rattle.sdm_run.specs.Shapes.{OfInput, Shape, shape_of}
 use Rattle.sdm_run.specs.Upgrades.{upgrade_output}
 use Rattle.sdm_run.proofs.FlatOrder.{flat_rows_safe}
-use Rattle.sdm_run.proofs.RunAnswers.{run_rows_safe, run_too_long}
+use Rattle.sdm_run.proofs.RunAnswers.{journey_too_long, turns_are_safe}
 use Rattle.sdm_run.proofs.TrialRuns.{trial_rows_safe}
 
 -- ---- rows
@@ -26,7 +27,8 @@ use Rattle.sdm_run.proofs.TrialRuns.{trial_rows_safe}
 -- the promise of each command's rows holds for all bytes
 pub rows_safe : (command : Command) (bytes : List ℕ) → IsCommandInRange command → AreRowsSafe command bytes
 rows_safe (Flat decel end) bytes h = flat_rows_safe decel end bytes (omega (arith, h.0))
-rows_safe Run bytes h = run_rows_safe bytes
+rows_safe Run bytes h = turns_are_safe run_tells bytes
+rows_safe Display bytes h = turns_are_safe display_tells bytes
 rows_safe (Trial seed cycles) bytes h = trial_rows_safe seed cycles
 rows_safe Upgrade bytes h = tt
 
@@ -66,6 +68,7 @@ outputs_alike : (command : Command) (A : Output → Type 0) (bytes : List ℕ) �
     A output
 outputs_alike (Flat decel end) A bytes h none other = absurd cc
 outputs_alike Run A bytes h none other = absurd cc
+outputs_alike Display A bytes h none other = absurd cc
 outputs_alike (Trial seed cycles) A bytes h none other = h
 outputs_alike Upgrade A bytes h none other = absurd cc
 
@@ -110,7 +113,8 @@ too_long : (command : Command) (bytes : List ℕ) (old : Option (List ℕ)) → 
     most_bytes < length bytes → (output : Output) → IsOutputOf command bytes output → IsAnswer output old old TooLong
 too_long (Flat decel end) bytes old reads long output is =
     rw (is, above bytes (flat_output decel end bytes) long) (record { ended = inl refl; taken = Appends-nil old })
-too_long Run bytes old reads long output is = run_too_long bytes old long output is
+too_long Run bytes old reads long output is = journey_too_long run_tells bytes old long output is
+too_long Display bytes old reads long output is = journey_too_long display_tells bytes old long output is
 too_long (Trial seed cycles) bytes old reads long output is = absurd cc
 too_long Upgrade bytes old reads long output is =
     rw (is, above bytes (upgrade_output bytes) long) (record { ended = inl refl; taken = Appends-nil old })

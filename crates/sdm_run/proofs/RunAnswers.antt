@@ -1,4 +1,5 @@
--- What the parts of `run` say makes the output of the whole: an input has one run, so it is enough to name one.
+-- What the parts of a journey say makes the output of the whole, by what is told of each turn: an input has one run, so
+-- it is enough to name one.
 use Rattle.std.proofs.Common.{◌≡◌, ℕ, ◌≤◌, ◌<◌, true, false, List, [], Option, Some, None, take, drop, length, nat_lt}
 use Rattle.std.proofs.Common.{inl, inr, refl, ap, ◌∙◌, sym, subst, arith}
 use Rattle.std.proofs.lemmas.Bool.Decides.{nat_tests}
@@ -14,7 +15,7 @@ use Rattle.sdm_rules.specs.Input.{journey_of}
 use Rattle.sdm_rules.specs.Input as ends
 use Rattle.sdm_rules.specs.Records.{Turn}
 use Rattle.sdm_rules.specs.Supervision.{Supervision, opening}
-use Rattle.sdm_rules.specs.Text.{run_tells, told}
+use Rattle.sdm_rules.specs.Text.{told}
 use Rattle.sdm_rules.specs.Headline.{AreTurnsSafe}
 use Rattle.sdm_laws.proofs.Rows.Journeys.{turns_safe}
 use Rattle.sdm_laws.proofs.Openings.OneRun.{one_run}
@@ -27,41 +28,42 @@ use Rattle.sdm_data.specs.Document.{document_of}
 use Rattle.sdm_data.specs.Journey.{data_of}
 use Rattle.sdm_events.specs.Journey.{Record, records_of}
 use Rattle.sdm_run.specs.Answers.{ComesOfReadingAlone, LeavesOutUntouched, IsAnswer}
-use Rattle.sdm_run.specs.Journeys.{run_reader, output_of_records, IsRunOutput}
+use Rattle.sdm_run.specs.Journeys.{run_reader, output_of_records, IsJourneyOutput}
 use Rattle.sdm_run.specs.RunParts.{IsOpeningOf, IsRefusedBy}
-use Rattle.sdm_run.specs.Commands.{AreRunRowsSafe}
+use Rattle.sdm_run.specs.Commands.{AreJourneyTurnsSafe}
 use Rattle.sdm_run.specs.Shapes.{IsOutcomeIn, records_shape, run_shape}
 use Rattle.sdm_run.proofs.RunData.{has_bands}
 use Rattle.sdm_run.proofs.RunTexts.{of_records}
 
 -- the output of turns and an end
-abbrev pub output_by : List Turn → End → Output
-output_by turns end = record { text = told run_tells turns; end = end }
+abbrev pub output_by : (Turn → List ℕ) → List Turn → End → Output
+output_by tell turns end = record { text = told tell turns; end = end }
 
 -- an output of the input is that of any turns and end that are its run
-pub only_output : (bytes : List ℕ) (turns : List Turn) (end : End) → IsRun run_reader bytes turns end →
-    (output : Output) → IsRunOutput bytes output → output ≡ output_by turns end
-only_output bytes turns end run output is =
+pub only_output : (tell : Turn → List ℕ) (bytes : List ℕ) (turns : List Turn) (end : End) →
+    IsRun run_reader bytes turns end → (output : Output) → IsJourneyOutput tell bytes output →
+    output ≡ output_by tell turns end
+only_output tell bytes turns end run output is =
     let one = one_run run_reader bytes in
     let mine = one.only turns end run in
     let its = one.only is.turns output.end is.run in
-    λ k. record { text = (is.text_is ∙ ap (told run_tells) (its.0 ∙ sym mine.0)) k; end = (its.1 ∙ sym mine.1) k }
+    λ k. record { text = (is.text_is ∙ ap (told tell) (its.0 ∙ sym mine.0)) k; end = (its.1 ∙ sym mine.1) k }
 
 -- what answers the output of one run answers each output
-pub answers_all : (bytes : List ℕ) (turns : List Turn) (end : End) (old new : Option (List ℕ)) (outcome : Outcome) →
-    IsRun run_reader bytes turns end → IsAnswer (output_by turns end) old new outcome →
-    (output : Output) → IsRunOutput bytes output → IsAnswer output old new outcome
-answers_all bytes turns end old new outcome run answer output is =
-    subst (λ (o : Output). IsAnswer o old new outcome) (sym (only_output bytes turns end run output is)) answer
+pub answers_all : (tell : Turn → List ℕ) (bytes : List ℕ) (turns : List Turn) (end : End) (old new : Option (List ℕ))
+    (outcome : Outcome) → IsRun run_reader bytes turns end → IsAnswer (output_by tell turns end) old new outcome →
+    (output : Output) → IsJourneyOutput tell bytes output → IsAnswer output old new outcome
+answers_all tell bytes turns end old new outcome run answer output is =
+    subst (λ (o : Output). IsAnswer o old new outcome) (sym (only_output tell bytes turns end run output is)) answer
 
 -- ---- the limit
 
 -- an input above the limit is answered as too long
-pub run_too_long : (bytes : List ℕ) (old : Option (List ℕ)) → most_bytes < length bytes → (output : Output) →
-    IsRunOutput bytes output → IsAnswer output old old TooLong
-run_too_long bytes old long =
+pub journey_too_long : (tell : Turn → List ℕ) (bytes : List ℕ) (old : Option (List ℕ)) → most_bytes < length bytes →
+    (output : Output) → IsJourneyOutput tell bytes output → IsAnswer output old old TooLong
+journey_too_long tell bytes old long =
     let yes : nat_lt most_bytes (length bytes) ≡ true = grind (arith, nat_tests) in
-    answers_all bytes [] ends.TooLong old old TooLong (rw yes (refl, refl))
+    answers_all tell bytes [] ends.TooLong old old TooLong (rw yes (refl, refl))
     (record { ended = inl refl; taken = Appends-nil old })
 
 -- an input within the limit has the run of its parts
@@ -71,13 +73,6 @@ run_of_parts bytes turns end short parts =
     let no : nat_lt most_bytes (length bytes) ≡ false = grind (arith, nat_tests) in rw no parts
 
 -- ---- the data part
-
--- no dividing line
-pub no_split : (bytes : List ℕ) (old : Option (List ℕ)) → length bytes ≤ most_bytes → divide bytes ≡ None →
-    (output : Output) → IsRunOutput bytes output → IsAnswer output old old (BadData NoSplit)
-no_split bytes old short none = answers_all bytes [] ends.NoSplit old old (BadData NoSplit)
-    (run_of_parts bytes [] ends.NoSplit short (rw none (refl, refl)))
-    (record { ended = inl refl; taken = Appends-nil old })
 
 -- want of memory before the first row
 pub memory_first : (old : Option (List ℕ)) (output : Output) → IsAnswer output old old Memory
@@ -93,44 +88,45 @@ memory_first old output = record {
 }
 
 -- a data part that opens no supervisor
-pub refused : (bytes : List ℕ) (data_end start : ℕ) (old : Option (List ℕ)) (outcome : Outcome) →
-    length bytes ≤ most_bytes → divide bytes ≡ Some (data_end, start) → IsRefusedBy (take data_end bytes) outcome →
-    (output : Output) → IsRunOutput bytes output → IsAnswer output old old outcome
-refused bytes data_end start old (BadData Toml) short cut none =
-    answers_all bytes [] ends.Toml old old (BadData Toml) (run_of_parts bytes [] ends.Toml short
+pub refused : (tell : Turn → List ℕ) (bytes : List ℕ) (data_end start : ℕ) (old : Option (List ℕ))
+    (outcome : Outcome) → length bytes ≤ most_bytes → divide bytes ≡ Some (data_end, start) →
+    IsRefusedBy (take data_end bytes) outcome → (output : Output) → IsJourneyOutput tell bytes output →
+    IsAnswer output old old outcome
+refused tell bytes data_end start old (BadData Toml) short cut none =
+    answers_all tell bytes [] ends.Toml old old (BadData Toml) (run_of_parts bytes [] ends.Toml short
     (rw (cut, none) (refl, refl))) (record { ended = inl refl; taken = Appends-nil old })
-refused bytes data_end start old (BadData (Data fault)) short cut (known, table, document, read) =
-    answers_all bytes [] (ends.Data fault) old old (BadData (Data fault))
+refused tell bytes data_end start old (BadData (Data fault)) short cut (known, table, document, read) =
+    answers_all tell bytes [] (ends.Data fault) old old (BadData (Data fault))
     (run_of_parts bytes [] (ends.Data fault) short (rw (cut, document, read) (refl, refl)))
     (record { ended = inl refl; taken = Appends-nil old })
-refused bytes data_end start old (Refused fault) short cut (known, train_and_track, a, given, first) =
-    answers_all bytes [] (ends.Refused fault) old old (Refused fault)
+refused tell bytes data_end start old (Refused fault) short cut (known, train_and_track, a, given, first) =
+    answers_all tell bytes [] (ends.Refused fault) old old (Refused fault)
     (run_of_parts bytes [] (ends.Refused fault) short (rw (cut, given.document, given.read)
     (inr (fault, first, refl, refl)))) (record { ended = inl refl; taken = Appends-nil old })
-refused bytes data_end start old Memory short cut free = λ output is. memory_first old output
-refused bytes data_end start old Done short cut none = absurd none
-refused bytes data_end start old Usage short cut none = absurd none
-refused bytes data_end start old ReadFault short cut none = absurd none
-refused bytes data_end start old WriteFault short cut none = absurd none
-refused bytes data_end start old TooLong short cut none = absurd none
-refused bytes data_end start old (BadData NoSplit) short cut none = absurd none
-refused bytes data_end start old (BadEvent number cause) short cut none = absurd none
+refused tell bytes data_end start old Memory short cut free = λ output is. memory_first old output
+refused tell bytes data_end start old Done short cut none = absurd none
+refused tell bytes data_end start old Usage short cut none = absurd none
+refused tell bytes data_end start old ReadFault short cut none = absurd none
+refused tell bytes data_end start old WriteFault short cut none = absurd none
+refused tell bytes data_end start old TooLong short cut none = absurd none
+refused tell bytes data_end start old (BadData NoSplit) short cut none = absurd none
+refused tell bytes data_end start old (BadEvent number cause) short cut none = absurd none
 
 -- ---- the records
 
 -- the records of an input whose data part opens a supervisor
-pub recorded : (bytes : List ℕ) (data_end start : ℕ) (s : Supervision) (old new : Option (List ℕ))
-    (outcome : Outcome) → length bytes ≤ most_bytes → divide bytes ≡ Some (data_end, start) →
-    IsOpeningOf (take data_end bytes) s → IsAnswer (output_of_records run_tells 1 s
-    (records_of (drop start bytes))) old new outcome → (output : Output) → IsRunOutput bytes output →
-    IsAnswer output old new outcome
-recorded bytes data_end start s old new outcome short cut is answer =
+pub recorded : (tell : Turn → List ℕ) (bytes : List ℕ) (data_end start : ℕ) (s : Supervision)
+    (old new : Option (List ℕ)) (outcome : Outcome) → length bytes ≤ most_bytes →
+    divide bytes ≡ Some (data_end, start) → IsOpeningOf (take data_end bytes) s →
+    IsAnswer (output_of_records tell 1 s (records_of (drop start bytes))) old new outcome → (output : Output) →
+    IsJourneyOutput tell bytes output → IsAnswer output old new outcome
+recorded tell bytes data_end start s old new outcome short cut is answer =
     let journey = journey_of run_reader is.train_and_track is.authority (records_of (drop start bytes)) in
     let run = run_of_parts bytes journey.turns (ends.end_of_journey journey.refused) short
     (rw (cut, is.given.document, is.given.read)
     (inl (record { accepted = is.accepted; turns_are = refl; end_is = refl }))) in
-    answers_all bytes journey.turns (ends.end_of_journey journey.refused) old new outcome run
-    (subst (λ (t : Supervision). IsAnswer (output_of_records run_tells 1 t
+    answers_all tell bytes journey.turns (ends.end_of_journey journey.refused) old new outcome run
+    (subst (λ (t : Supervision). IsAnswer (output_of_records tell 1 t
     (records_of (drop start bytes))) old new outcome) is.state answer)
 
 -- ---- the turns
@@ -177,8 +173,9 @@ within_safe bytes turns end true h = rw h.0 tt
 within_safe bytes turns end false h = after_division_safe bytes turns end (divide bytes) h
 
 -- each turn of a run is safe
-pub run_rows_safe : (bytes : List ℕ) → AreRunRowsSafe bytes
-run_rows_safe bytes output told = within_safe bytes told.turns output.end (nat_lt most_bytes (length bytes)) told.run
+pub turns_are_safe : (tell : Turn → List ℕ) (bytes : List ℕ) → AreJourneyTurnsSafe tell bytes
+turns_are_safe tell bytes output told =
+    within_safe bytes told.turns output.end (nat_lt most_bytes (length bytes)) told.run
 
 -- ---- no outcome of these comes before the bytes are answered
 
@@ -207,7 +204,7 @@ flat_not_before (Refused fault) h b = b
 flat_not_before (BadEvent number cause) h b = b
 flat_not_before Memory h b = b
 
--- an outcome that records may have is one that `run` may have
+-- an outcome that records may have is one that `run` and `display` may have
 pub records_possible : (outcome : Outcome) → IsOutcomeIn records_shape outcome → IsOutcomeIn run_shape outcome
 records_possible =
     of_records (IsOutcomeIn run_shape) tt tt (λ number cause from_1 possible. (from_1, ap not possible)) tt

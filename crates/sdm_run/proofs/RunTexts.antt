@@ -1,5 +1,5 @@
 -- The output of records, record by record, and the outcomes that it may end with.
-use Rattle.std.proofs.Common.{◌≡◌, ℕ, suc, ◌≤◌, List, ◌∷◌, ◌++◌, Option, Some, None, refl, ap, ◌∙◌, sym}
+use Rattle.std.proofs.Common.{◌≡◌, ℕ, suc, ◌≤◌, List, [], ◌∷◌, ◌++◌, Option, Some, None, refl, ap, ◌∙◌, sym}
 use Rattle.std.proofs.Common.{subst}
 use Rattle.std.specs.Prelude.{Result, Ok, Err, OnOk, OnErr, is_err, Bool, true, false, not, IsTrue}
 use Rattle.std.proofs.lemmas.Bool.{le-ltb}
@@ -13,9 +13,10 @@ use Rattle.sdm_rules.specs.declared.faults.CycleFault.TheVariants.{TimeBack}
 use Rattle.sdm_rules.specs.declared.records.Event.{Event}
 use Rattle.sdm_rules.specs.declared.records.Event.TheVariants as record_kinds
 use Rattle.sdm_rules.specs.Forms.{event_of}
-use Rattle.sdm_rules.specs.Records.{Turn, authority_fault, restrict_fault, revoke_fault, time_fault, time_cause}
+use Rattle.sdm_rules.specs.Records.{Turn, row_at, authority_fault, restrict_fault, revoke_fault, time_fault, time_cause}
 use Rattle.sdm_rules.specs.Records.{trip_cause, trip_fault, unless, step, turn_of, turn_to, event_at, most_records}
 use Rattle.sdm_rules.specs.Supervision.{Supervision}
+use Rattle.sdm_rules.specs.Text.{text_of_row}
 use Rattle.sdm_report.specs.declared.outcome.InputFault.TheVariants.{NoSplit, Toml, Data}
 use Rattle.sdm_report.specs.declared.outcome.Outcome.{Outcome}
 use Rattle.sdm_report.specs.declared.outcome.Outcome.TheVariants.{Done, Usage, ReadFault, WriteFault, TooLong, BadData}
@@ -23,7 +24,9 @@ use Rattle.sdm_report.specs.declared.outcome.Outcome.TheVariants.{Refused, BadEv
 use Rattle.sdm_events.specs.Journey.{Record}
 use Rattle.sdm_run.specs.Answers.{ComesOfReadingAlone, LeavesOutUntouched}
 use Rattle.sdm_run.specs.Journeys.{output_of_records}
-use Rattle.sdm_run.specs.RunParts.{IsToldEvent, IsToldRecord}
+use Rattle.sdm_run.specs.declared.tellers.Teller.{Teller}
+use Rattle.sdm_run.specs.declared.tellers.Teller.TheVariants.{Rows, Displays}
+use Rattle.sdm_run.specs.RunParts.{IsToldEvent, IsToldRecord, tells}
 use Rattle.sdm_run.specs.Shapes.{IsOutcomeIn, is_of_line, records_shape}
 
 -- ---- one record
@@ -78,6 +81,16 @@ pub where_accepted : {A B : Type 0} (answer : Result A B) (P Q : Type 0) → (P 
 where_accepted (Ok x) P Q so h = so h
 where_accepted (Err fault) P Q so h = tt
 
+-- of an event that has no row nothing is told
+pub none_told : (teller : Teller) (s t : Supervision) (e : Event) → row_at s e ≡ None →
+    tells teller (record { before = s; event = e; after = t }) ≡ []
+none_told Rows s t e none = ap text_of_row none
+none_told Displays s t (record_kinds.Read r) none = absurd cc
+none_told Displays s t (record_kinds.Authority a) none = refl
+none_told Displays s t (record_kinds.Calculated eoa svl trip) none = refl
+none_told Displays s t (record_kinds.Restrict r) none = refl
+none_told Displays s t (record_kinds.Revoke id) none = refl
+
 -- ---- no record is refused as a line
 
 -- where no fault of a check is one of a line, what it refuses isn't refused as a line
@@ -117,7 +130,7 @@ not_true : (b : Bool) → IsTrue (not b) → b ≡ false
 not_true true h = sym h
 not_true false h = refl
 
--- a record that is refused ends `run` with an outcome of records
+-- a record that is refused ends a journey with an outcome of records
 pub refused_outcome : (n : ℕ) (s : Supervision) (e : Result Event EventFault) (cause : EventCause) → 1 ≤ n →
     turn_of s e ≡ Err cause →
     IsOutcomeIn records_shape (BadEvent n cause)

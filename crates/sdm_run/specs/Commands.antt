@@ -3,14 +3,15 @@ use Rattle.std.specs.Prelude.{◌≡◌, ℕ, false, List, [], Option, Some, Non
 use Rattle.sdm_rules.specs.Flat.{Output, flat_output}
 use Rattle.sdm_rules.specs.Headline.{AreTurnsSafe}
 use Rattle.sdm_rules.specs.Input.{most_bytes, TooLong}
-use Rattle.sdm_rules.specs.Records.{rows_of}
+use Rattle.sdm_rules.specs.Records.{Turn, rows_of}
+use Rattle.sdm_rules.specs.Text.{display_tells, run_tells}
 use Rattle.sdm_rules.specs.Trial.{summary_text, trial_journey, trial_output}
 use Rattle.sdm_run.specs.FlatRun.{AreFlatRowsSafe}
-use Rattle.sdm_run.specs.Journeys.{IsRunOutput}
+use Rattle.sdm_run.specs.Journeys.{IsJourneyOutput}
 use Rattle.sdm_run.specs.Shapes.{shape_of}
 use Rattle.sdm_run.specs.Upgrades.{upgrade_output}
 use Rattle.sdm_run.specs.declared.words.Command.{Command}
-use Rattle.sdm_run.specs.declared.words.Command.TheVariants.{Flat, Run, Trial, Upgrade}
+use Rattle.sdm_run.specs.declared.words.Command.TheVariants.{Flat, Run, Display, Trial, Upgrade}
 
 -- an input that is too long has no text; else the output that is given
 abbrev pub within_limit : List ℕ → Output → Output
@@ -19,7 +20,8 @@ within_limit bytes output = if nat_lt most_bytes (length bytes) then record { te
 -- the text and the end that a command defines for the bytes of its input; there is one such output for all bytes
 abbrev pub IsOutputOf : Command → List ℕ → Output → Type 0
 IsOutputOf (Flat decel end) bytes output = output ≡ within_limit bytes (flat_output decel end bytes)
-IsOutputOf Run bytes output = IsRunOutput bytes output
+IsOutputOf Run bytes output = IsJourneyOutput run_tells bytes output
+IsOutputOf Display bytes output = IsJourneyOutput display_tells bytes output
 IsOutputOf (Trial seed cycles) bytes output = output ≡ trial_output seed cycles
 IsOutputOf Upgrade bytes output = output ≡ within_limit bytes (upgrade_output bytes)
 
@@ -29,20 +31,22 @@ pub record HasOneOutput (command : Command) (bytes : List ℕ) : Type 0 where
   pub is : IsOutputOf command bytes output
   pub only : (other : Output) → IsOutputOf command bytes other → other ≡ output
 
--- whatever turns make an output of `run` (its text is that of their rows), each of them is safe, from no command held
--- on
-abbrev pub AreRunRowsSafe : List ℕ → Type 0
-AreRunRowsSafe bytes = (output : Output) (told : IsRunOutput bytes output) → AreTurnsSafe false false told.turns
+-- whatever turns make an output of a journey (its text is what is told of them), each of them is safe, from no command
+-- held on
+abbrev pub AreJourneyTurnsSafe : (Turn → List ℕ) → List ℕ → Type 0
+AreJourneyTurnsSafe tell bytes =
+    (output : Output) (told : IsJourneyOutput tell bytes output) → AreTurnsSafe false false told.turns
 
 -- the text of a trial sums up the rows of its turns, each of which is safe, from no command held on
 pub record AreTrialRowsSafe (seed cycles : ℕ) : Type 0 where
   pub text : (trial_output seed cycles).text ≡ summary_text (rows_of (trial_journey seed cycles).turns)
   pub safe : AreTurnsSafe false false (trial_journey seed cycles).turns
 
--- what is promised of the rows of a command; `upgrade` has none
+-- what is promised of the rows of a command, of `display` of those that `run` has for its input; `upgrade` has none
 abbrev pub AreRowsSafe : Command → List ℕ → Type 0
 AreRowsSafe (Flat decel end) bytes = AreFlatRowsSafe decel end bytes
-AreRowsSafe Run bytes = AreRunRowsSafe bytes
+AreRowsSafe Run bytes = AreJourneyTurnsSafe run_tells bytes
+AreRowsSafe Display bytes = AreJourneyTurnsSafe display_tells bytes
 AreRowsSafe (Trial seed cycles) bytes = AreTrialRowsSafe seed cycles
 AreRowsSafe Upgrade bytes = ⊤
 

@@ -1,4 +1,4 @@
--- The command `run`: how it reads the parts of its input, and what it defines for the bytes (own).
+-- A journey: how the parts of its input are read, and what is defined for the bytes by what is told of each turn (own).
 use Rattle.std.specs.Prelude.{◌≡◌, ℕ, List}
 use Rattle.toml.specs.Data.{Members}
 use Rattle.sdm_rules.specs.Flat.{Output}
@@ -6,7 +6,7 @@ use Rattle.sdm_rules.specs.Forms.{event_of}
 use Rattle.sdm_rules.specs.Input.{Reader, IsRun, end_of_journey}
 use Rattle.sdm_rules.specs.Records.{Turn, event_at, journey_from}
 use Rattle.sdm_rules.specs.Supervision.{Supervision}
-use Rattle.sdm_rules.specs.Text.{run_tells, told}
+use Rattle.sdm_rules.specs.Text.{told}
 use Rattle.sdm_data.specs.Division.{divide}
 use Rattle.sdm_data.specs.Document.{document_of}
 use Rattle.sdm_data.specs.Journey.{data_of}
@@ -29,8 +29,9 @@ output_of_records tell n s records =
     let journey = journey_from (event_at event_of) n s records in
     record { text = told tell journey.turns; end = end_of_journey journey.refused }
 
--- what `run` defines for the bytes of an input: the text of the turns of THE RUN, and its end
-pub record IsRunOutput (bytes : List ℕ) (output : Output) : Type 0 where
+-- what is defined for the bytes of an input, by what is told of each turn: the text of the turns of THE RUN, and its
+-- end
+pub record IsJourneyOutput (tell : Turn → List ℕ) (bytes : List ℕ) (output : Output) : Type 0 where
   pub turns : List Turn
   pub run : IsRun run_reader bytes turns output.end
-  pub text_is : output.text ≡ told run_tells turns
+  pub text_is : output.text ≡ told tell turns

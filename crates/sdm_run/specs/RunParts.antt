@@ -1,21 +1,27 @@
 -- What the parts of `run` say: of the data part, and of one record after the other (own).
 use Rattle.std.specs.Prelude.{◌≡◌, ◌≢◌, ℕ, List, Some, None, Result, Ok, Err, ⊤}
 use Rattle.toml.specs.Data.{Members}
+use Rattle.sdm_num.specs.Readings.{OdometerReading}
 use Rattle.sdm_rules.specs.declared.authorities.Authority.{Authority}
 use Rattle.sdm_rules.specs.declared.faults.DataFault.TheVariants as data_faults
 use Rattle.sdm_rules.specs.declared.faults.EventFault.{EventFault}
 use Rattle.sdm_rules.specs.declared.faults.OpenFault.TheVariants as open_faults
 use Rattle.sdm_rules.specs.declared.records.Event.{Event}
+use Rattle.sdm_rules.specs.declared.records.Event.TheVariants.{Read}
+use Rattle.sdm_rules.specs.declared.rows.Row.{Row}
 use Rattle.sdm_rules.specs.Data.{TrainAndTrack}
 use Rattle.sdm_rules.specs.Opening.{IsAccepted, IsOpenFault}
 use Rattle.sdm_rules.specs.Records.{Turn, step, turn_of}
-use Rattle.sdm_rules.specs.Supervision.{Supervision, opening}
+use Rattle.sdm_rules.specs.Supervision.{Supervision, after_reading, opening, row_of}
+use Rattle.sdm_rules.specs.Text.{display_tells, run_tells}
 use Rattle.sdm_report.specs.declared.outcome.InputFault.TheVariants.{NoSplit, Toml, Data}
 use Rattle.sdm_report.specs.declared.outcome.Outcome.{Outcome}
 use Rattle.sdm_report.specs.declared.outcome.Outcome.TheVariants.{Done, Usage, ReadFault, WriteFault, TooLong, BadData}
 use Rattle.sdm_report.specs.declared.outcome.Outcome.TheVariants.{Refused, BadEvent, Memory}
 use Rattle.sdm_data.specs.Document.{document_of}
 use Rattle.sdm_data.specs.Journey.{data_of}
+use Rattle.sdm_run.specs.declared.tellers.Teller.{Teller}
+use Rattle.sdm_run.specs.declared.tellers.Teller.TheVariants.{Rows, Displays}
 use Rattle.sdm_run.specs.Answers.{AreWholeLines}
 
 -- ---- the data part
@@ -57,6 +63,16 @@ IsRefusedBy bytes (Refused fault) = (fault ≢ open_faults.Memory) × (train_and
 IsRefusedBy bytes outcome = IsRefusedByData bytes outcome
 
 -- ---- the records
+
+-- what is told of a turn
+abbrev pub tells : Teller → Turn → List ℕ
+tells Rows = run_tells
+tells Displays = display_tells
+
+-- the text is what is told of a reading that was taken, with this row and this state after it
+abbrev pub IsToldReading : (Turn → List ℕ) → OdometerReading → Row → Supervision → List ℕ → Type 0
+IsToldReading tell r row after text = (before : Supervision) → row ≡ row_of before r → after ≡ after_reading before r →
+    text ≡ tell (record { before = before; event = Read r; after = after })
 
 -- an event was taken, and what is told of its turn was put: no text, or whole lines
 pub record IsToldEvent (tell : Turn → List ℕ) (s t : Supervision) (e : Event) (text : List ℕ) : Type 0 where

@@ -11,7 +11,7 @@ use Rattle.sdm_report.specs.declared.outcome.Outcome.{Outcome}
 use Rattle.sdm_report.specs.declared.outcome.Outcome.TheVariants.{Done, Usage, ReadFault, WriteFault, TooLong, BadData}
 use Rattle.sdm_report.specs.declared.outcome.Outcome.TheVariants.{Refused, BadEvent, Memory}
 use Rattle.sdm_run.specs.declared.words.Command.{Command}
-use Rattle.sdm_run.specs.declared.words.Command.TheVariants.{Flat, Run, Trial, Upgrade}
+use Rattle.sdm_run.specs.declared.words.Command.TheVariants.{Flat, Run, Display, Trial, Upgrade}
 
 -- what a command needs, and what it may refuse
 pub record Shape : Type 0 where
@@ -56,7 +56,7 @@ records_shape = record {
       λ cause. not (is_of_line cause);
 }
 
--- `run`: about the dividing line a data part, which opens a supervision state, and records
+-- `run` and `display`: about the dividing line a data part, which opens a supervision state, and records
 abbrev pub run_shape : Shape
 run_shape = record records_shape { reads_input = true; has_division = true; has_data = true; opens = true }
 
@@ -88,6 +88,7 @@ upgrade_shape = record {
 abbrev pub shape_of : Command → Shape
 shape_of (Flat decel end) = flat_shape
 shape_of Run = run_shape
+shape_of Display = run_shape
 shape_of (Trial seed cycles) = trial_shape
 shape_of Upgrade = upgrade_shape
 

@@ -8,7 +8,12 @@ use Rattle.sdm_rules.specs.Numbers.{read_int}
 use Rattle.sdm_rules.specs.Ranges.{longest_track}
 use Rattle.sdm_rules.specs.Records.{most_records}
 use Rattle.sdm_run.specs.declared.words.Command.{Command}
-use Rattle.sdm_run.specs.declared.words.Command.TheVariants.{Flat, Run, Trial, Upgrade}
+use Rattle.sdm_run.specs.declared.words.Command.TheVariants.{Flat, Run, Display, Trial, Upgrade}
+
+-- a command with no words after it
+abbrev pub alone : Command → List (List ℕ) → Option Command
+alone command [] = Some command
+alone command _ = None
 
 -- `flat` with its two numbers, if both are read
 abbrev pub flat_of : Result ℤ FieldFault → Result ℤ FieldFault → Option Command
@@ -20,11 +25,6 @@ flat_of (Err fault) end = None
 abbrev pub flat_command : List (List ℕ) → Option Command
 flat_command (decel ∷ end ∷ []) = flat_of (read_int decel (pos 5) (pos 400)) (read_int end (pos 0) (pos longest_track))
 flat_command _ = None
-
--- `run` has no words after it
-abbrev pub run_command : List (List ℕ) → Option Command
-run_command [] = Some Run
-run_command _ = None
 
 -- `trial` with its two numbers, if both are read
 abbrev pub trial_of : Result ℤ FieldFault → Result ℤ FieldFault → Option Command
@@ -38,19 +38,16 @@ trial_command (seed ∷ cycles ∷ []) =
     trial_of (read_int seed (pos 0) (pos 65_535)) (read_int cycles (pos 1) (pos most_records))
 trial_command _ = None
 
--- `upgrade` has no words after it
-abbrev pub upgrade_command : List (List ℕ) → Option Command
-upgrade_command [] = Some Upgrade
-upgrade_command _ = None
-
--- the shapes of the words, each with its command: `run`, `flat A END`, `trial NUMBER CYCLES`, and `upgrade`
+-- the shapes of the words, each with its command: `run`, `display`, `flat A END`, `trial NUMBER CYCLES`, and
+-- `upgrade`
 unfoldable pub command_of : List (List ℕ) → Option Command
 command_of [] = None
 command_of (name ∷ more) =
-    if bytes_eq name (codes "run") then run_command more
+    if bytes_eq name (codes "run") then alone Run more
+    else if bytes_eq name (codes "display") then alone Display more
     else if bytes_eq name (codes "flat") then flat_command more
     else if bytes_eq name (codes "trial") then trial_command more
-    else if bytes_eq name (codes "upgrade") then upgrade_command more
+    else if bytes_eq name (codes "upgrade") then alone Upgrade more
     else None
 
 -- the command that the words ask for, if they ask for one
@@ -61,5 +58,6 @@ asked_by words = command_of (map string_bytes words)
 abbrev pub IsCommandInRange : Command → Type 0
 IsCommandInRange (Flat decel end) = (5 ≤ decel) × (decel ≤ 400) × (end ≤ longest_track)
 IsCommandInRange Run = Unit {0}
+IsCommandInRange Display = Unit {0}
 IsCommandInRange (Trial seed cycles) = (seed ≤ 65_535) × (1 ≤ cycles) × (cycles ≤ most_records)
 IsCommandInRange Upgrade = Unit {0}

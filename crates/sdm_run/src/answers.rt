@@ -19,6 +19,7 @@ ghost use Rattle.sdm_run.specs.Words.{IsCommandInRange, asked_by};
 use crate::endings::Ended;
 use crate::flat_run::run_flat;
 use crate::journey_run::run_journey;
+use crate::tellers::Teller;
 use crate::trial_run::run_trial;
 use crate::upgrade_run::run_upgrade;
 use crate::words::{Command, command_of};
@@ -132,7 +133,8 @@ fn run_command<O: Sink>(alloc: Global, command: Command, bytes: &[u8], out: &mut
 {
     match command {
         Command::Flat { decel, end_cm } => run_flat(alloc, decel, end_cm, bytes, out),
-        Command::Run => run_journey(alloc, bytes, out),
+        Command::Run => run_journey(alloc, Teller::Rows, bytes, out),
+        Command::Display => run_journey(alloc, Teller::Displays, bytes, out),
         Command::Trial { seed, cycles } => run_trial(alloc, seed, cycles, out),
         Command::Upgrade => run_upgrade(alloc, bytes, out),
     }

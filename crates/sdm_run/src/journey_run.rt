@@ -1,4 +1,5 @@
-//! The command `run`: about the dividing line the data part, which opens a supervisor, and the records.
+//! The commands `run` and `display`: about the dividing line the data part, which opens a supervisor, and the records.
+//! They differ in what is told of a reading.
 
 ghost use Rattle.std.specs.Prelude.{◌≡◌, ◌⊎◌, ◌≤◌, length, false};
 ghost use Rattle.sdm_io.specs.Causes.{Rose};
@@ -6,21 +7,23 @@ ghost use Rattle.sdm_rules.specs.Flat.{Output};
 ghost use Rattle.sdm_rules.specs.Input.{most_bytes};
 ghost use Rattle.sdm_run.specs.Answers.{ComesOfReadingAlone, LeavesOutUntouched, IsAnswer};
 ghost use Rattle.sdm_run.specs.Shapes.{IsOutcomeIn, run_shape};
-ghost use Rattle.sdm_run.specs.Journeys.{IsRunOutput};
+ghost use Rattle.sdm_run.specs.Journeys.{IsJourneyOutput};
+ghost use Rattle.sdm_run.specs.RunParts.{tells};
 
 use crate::endings::Ended;
 use crate::journey_openings::opened;
-use crate::journey_records::{Rows, run_records};
+use crate::journey_records::run_records;
+use crate::tellers::Teller;
 use sdm_data::split;
 use sdm_io::Sink;
 use sdm_report::{InputFault, Outcome};
 use std::alloc::Global;
 
-/// Answers an input: the rows of its readings, each written before the next record is taken. WriteFault comes only
-/// where out failed; Memory may come at any time, and leaves whole rows written. (own)
-pub fn run_journey<O: Sink>(alloc: Global, bytes: &[u8], out: &mut O) -> Ended
+/// Answers an input by what is told of each turn, which is written before the next record is taken. WriteFault comes
+/// only where out failed; Memory may come at any time, and leaves whole lines written. (own)
+pub fn run_journey<O: Sink>(alloc: Global, teller: Teller, bytes: &[u8], out: &mut O) -> Ended
     requires short { length bytes.now ≤ most_bytes }
-    ensures answer { (output : Output) → IsRunOutput bytes.now output
+    ensures answer { (output : Output) → IsJourneyOutput (tells teller) bytes.now output
         → IsAnswer output (O.taken out.old) (O.taken out.new) result.outcome }
     ensures possible { IsOutcomeIn run_shape result.outcome }
     ensures not_before { ComesOfReadingAlone result.outcome → ⊥ }
@@ -38,7 +41,7 @@ pub fn run_journey<O: Sink>(alloc: Global, bytes: &[u8], out: &mut O) -> Ended
     match opened(alloc, &bytes[..data_end]) {
         Ok(mut supervisor) => run_records(
             alloc,
-            &Rows,
+            teller,
             &mut supervisor,
             &bytes[records_start..],
             out,

@@ -9,6 +9,7 @@ mod flat_run;
 mod journey_openings;
 mod journey_records;
 mod journey_run;
+mod tellers;
 mod trial_run;
 mod upgrade_run;
 mod words;

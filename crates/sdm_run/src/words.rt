@@ -2,8 +2,7 @@
 
 ghost use Rattle.std.specs.Prelude.{◌≡◌, map, string_bytes, IfSome};
 ghost use Rattle.sdm_run.specs.Shapes.{shape_of};
-ghost use Rattle.sdm_run.specs.Words.{IsCommandInRange, asked_by, flat_command, run_command, trial_command};
-ghost use Rattle.sdm_run.specs.Words.{upgrade_command};
+ghost use Rattle.sdm_run.specs.Words.{IsCommandInRange, alone, asked_by, flat_command, trial_command};
 
 use sdm_rules::{LONGEST_TRACK_CM, MOST_RECORDS};
 use sdm_text::natural_in;
@@ -15,6 +14,8 @@ pub enum Command {
     Flat { decel: u16, end_cm: u32 },
     /// `run`: the journey of the input.
     Run,
+    /// `display`: what is shown of each reading of that journey.
+    Display,
     /// `trial NUMBER CYCLES`: a journey from a number, from 0 to 65,535, of so many readings, from 1 to 100,000.
     Trial { seed: u16, cycles: u32 },
     /// `upgrade`: the data of the input as a text of version 2.
@@ -27,7 +28,7 @@ impl Command {
         ensures { result ≡ (shape_of self).reads_input }
     {
         match self {
-            Command::Flat { .. } | Command::Run | Command::Upgrade => true,
+            Command::Flat { .. } | Command::Run | Command::Display | Command::Upgrade => true,
             Command::Trial { .. } => false,
         }
     }
@@ -41,20 +42,23 @@ pub fn command_of(words: &[String]) -> Option<Command>
 {
     let (name, more) = words.split_first()?;
     match name.as_str() {
-        "run" => run_command(more),
+        "run" => alone(Command::Run, more),
+        "display" => alone(Command::Display, more),
         "flat" => flat_command(more),
         "trial" => trial_command(more),
-        "upgrade" => upgrade_command(more),
+        "upgrade" => alone(Command::Upgrade, more),
         _ => None,
     }
 }
 
-/// `run` has no words after it.
-fn run_command(words: &[String]) -> Option<Command>
-    ensures { result ≡ run_command (map string_bytes words.now) }
+/// A command with no words after it.
+fn alone(command: Command, words: &[String]) -> Option<Command>
+    requires { IsCommandInRange command }
+    ensures value { result ≡ alone command (map string_bytes words.now) }
+    ensures range { IfSome result IsCommandInRange }
 {
     if words.is_empty() {
-        Some(Command::Run)
+        Some(command)
     } else {
         None
     }
@@ -86,15 +90,4 @@ fn trial_command(words: &[String]) -> Option<Command>
         seed: seed as u16,
         cycles,
     })
-}
-
-/// `upgrade` has no words after it.
-fn upgrade_command(words: &[String]) -> Option<Command>
-    ensures { result ≡ upgrade_command (map string_bytes words.now) }
-{
-    if words.is_empty() {
-        Some(Command::Upgrade)
-    } else {
-        None
-    }
 }

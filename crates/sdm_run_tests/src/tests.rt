@@ -2,12 +2,14 @@
 //! for a carriage return and `-` for nothing.
 
 mod bands;
+mod displays;
 mod flats;
 mod journeys;
 mod long_inputs;
 mod trials;
 mod upgrades;
 
+use displays::DISPLAYS;
 use journeys::{CUTS, PARTS, REFUSALS, RUN_FAULTS, RUNS};
 use sdm_data::BASE_PART;
 use sdm_io::{MemSink, MemSource};
@@ -212,6 +214,9 @@ const WORDS: &str = "\
     run 1 | 1
     run run | 1
     Run | 1
+    display 1 | 1
+    display run | 1
+    Display | 1
     --help | 1
     --version | 1
     flat --help | 1
@@ -265,14 +270,15 @@ fn words_without_a_shape_are_usage(rt: HostRuntime) -> Result<(), Fail> {
     Ok(())
 }
 
-fn go_through(rt: &impl Abort, alloc: Global, table: &str) -> Result<(), Fail> {
+/// Each journey of a table is answered, by a command, as its line wants.
+fn go_through(rt: &impl Abort, alloc: Global, command: &str, table: &str) -> Result<(), Fail> {
     for line in table.lines() {
         let fields = fields_of(alloc, line)?;
         let [changes, records, rows, code, told] = fields.as_slice() else {
             return Err("no row".into());
         };
         let input = journey_of(alloc, changes, records)?;
-        let answer = answer_to(alloc, "run", &input)?;
+        let answer = answer_to(alloc, command, &input)?;
         expect(rt, alloc, line, &answer, rows, code, told)?;
     }
     Ok(())
@@ -280,12 +286,17 @@ fn go_through(rt: &impl Abort, alloc: Global, table: &str) -> Result<(), Fail> {
 
 #[test]
 fn each_reading_of_a_journey_has_its_row(rt: HostRuntime) -> Result<(), Fail> {
-    go_through(&rt, rt.alloc(), RUNS)
+    go_through(&rt, rt.alloc(), "run", RUNS)
 }
 
 #[test]
 fn what_is_refused_is_told_with_the_rows_before_it(rt: HostRuntime) -> Result<(), Fail> {
-    go_through(&rt, rt.alloc(), REFUSALS)
+    go_through(&rt, rt.alloc(), "run", REFUSALS)
+}
+
+#[test]
+fn what_is_shown_of_each_reading_has_its_line(rt: HostRuntime) -> Result<(), Fail> {
+    go_through(&rt, rt.alloc(), "display", DISPLAYS)
 }
 
 #[test]

@@ -1,8 +1,11 @@
 mod LimitOrder
 mod PassedLaws
+mod ShownLaws
+mod FallsAsked
 mod NearestLaws
 mod FindLaws
 mod CycleLaws
 mod CurveLaws
 pub mod FlatCurves
 pub mod FlatFormula
+pub mod WithinLaws

@@ -1,6 +1,6 @@
 -- One more target behind the others: the printed limit of a name becomes the lesser of theirs and its own, where its
 -- limits count.
-use Rattle.std.proofs.Common.{◌≡◌, ℕ, ℤ, pos, neg_ℤ, ◌+ℤ◌, true, false, nat_le, List, [], ◌∷◌, ◌++◌, Option, Some}
+use Rattle.std.proofs.Common.{◌≡◌, ℕ, ℤ, pos, neg_ℤ, ◌+ℤ◌, nat_le, List, [], ◌∷◌, ◌++◌, Option, Some}
 use Rattle.std.proofs.Common.{None, refl, ap, sym, ◌∙◌, ◌≤◌, ◌<◌, ◌≤ℤ◌, ◌<ℤ◌, arith}
 use Rattle.std.specs.Prelude.{filter, filter_map, option_map}
 use Rattle.std.specs.Int.{int_min}
@@ -10,7 +10,7 @@ use Rattle.std.proofs.lemmas.List.Elements.{filter-append, filter_map-append}
 use Rattle.std.proofs.lemmas.List.Sums.{fold-append}
 use Rattle.std.proofs.lemmas.List.{append-nil}
 use Rattle.sdm_num.specs.Bounds.{Bound, mm_below}
-use Rattle.sdm_num.specs.Fractions.{Fraction, floor, less, whole}
+use Rattle.sdm_num.specs.Fractions.{Fraction, less, whole}
 use Rattle.sdm_num.specs.Readings.{Estimate}
 use Rattle.sdm_num.specs.Units.{distance_at}
 use Rattle.sdm_num.proofs.Floors.{floor_low, floor_high}

@@ -2,7 +2,7 @@
 -- makes its speed lower; and one whose indication limit is not passed says nothing, since that is the first of its
 -- limits.
 use Rattle.std.proofs.Common.{◌≡◌, ℕ, ℤ, pos, ◌+ℤ◌, ◌*ℤ◌, ◌≤ℤ◌, ◌<ℤ◌, Bool, true, false, not, ◌||◌, ◌&&◌, nat_lt, List}
-use Rattle.std.proofs.Common.{[], ◌∷◌, ◌++◌, ◌+◌, ◌≤◌, ◌<◌, Option, Some, None, refl, ap, sym, ◌∙◌, arith}
+use Rattle.std.proofs.Common.{[], ◌∷◌, ◌++◌, ◌+◌, ◌≤◌, ◌<◌, Option, Some, None, refl, sym, ◌∙◌, arith}
 use Rattle.std.specs.Prelude.{IsTrue, ◌↔◌}
 use Rattle.std.specs.List.{list_all, list_any}
 use Rattle.std.specs.Option.{option_map_or}
@@ -50,7 +50,8 @@ module _ (p : Target → Bool) (ts : List Target) (t : Target) (a : Bool) where
 -- ---- what is left unsaid
 
 -- no margin makes a target's speed lower
-at_least : (kind : TargetKind) (speed margin : ℕ) → at_speed_target kind speed ≤ at_speed_target kind (speed + margin)
+pub at_least : (kind : TargetKind) (speed margin : ℕ) →
+    at_speed_target kind speed ≤ at_speed_target kind (speed + margin)
 at_least Mrsp speed margin = omega arith
 at_least Loa speed margin = omega arith
 at_least Eoa speed margin = omega arith

@@ -1,4 +1,5 @@
 pub mod Verdicts
+pub mod Sights
 pub mod Findings
 pub mod Supervised
 pub mod FlatLines

@@ -6,9 +6,12 @@
 mod findings;
 mod flat;
 mod nearest;
+mod shown;
+mod sight;
 mod supervisors;
 mod verdicts;
 
 pub use flat::Flat;
 pub use sdm_rules::{CycleFault, FlatRow, OpenFault, Row, SlopeKind};
+pub use sight::Sight;
 pub use supervisors::Supervisor;

@@ -7,6 +7,7 @@ ghost use Rattle.std.specs.Prelude.{◌≡◌, ◌≤◌, ◌≤ℤ◌, pos, Mat
 ghost use Rattle.std.specs.Prelude.{OnErr};
 ghost use Rattle.sdm_num.specs.Readings.{IsReading};
 ghost use Rattle.sdm_rules.specs.declared.authorities.Authority.TheVariants.{Stop};
+ghost use Rattle.sdm_rules.specs.Display.{passes_limit, release_speed_of, shown_target_of};
 ghost use Rattle.sdm_rules.specs.Machines.{KeepsOrder};
 ghost use Rattle.sdm_rules.specs.Opening.{IsAccepted, IsOpen};
 ghost use Rattle.sdm_rules.specs.Promises.{BeginsReleaseMonitoring, HasOnlyGaps, IsWithinCeiling};
@@ -14,21 +15,29 @@ ghost use Rattle.sdm_rules.specs.Records.{authority_fault, restrict_fault, revok
 ghost use Rattle.sdm_rules.specs.Release.{IsReleaseSpeed, calculated};
 ghost use Rattle.sdm_rules.specs.Stop.{IsSafe};
 ghost use Rattle.sdm_rules.specs.Supervision.{after_authority, after_reading, after_restriction, after_revocation};
-ghost use Rattle.sdm_rules.specs.Supervision.{opening, profile_of, row_of};
+ghost use Rattle.sdm_rules.specs.Supervision.{opening, profile_of, row_of, situation_of};
 ghost use Rattle.sdm_rules.specs.Targets.{is_fall};
 ghost use Rattle.sdm_rules.specs.Ranges.{top_kmh};
 ghost use Rattle.sdm_decel.specs.Slopes.{train_and_track_from};
 ghost use Rattle.sdm_supervisor.specs.Supervised.{IsAuthorityCurve, IsFallCurve};
 ghost use Rattle.sdm_braking.specs.Braking.{IsRefusal};
 ghost use Rattle.sdm_supervisor.specs.Findings.{IsFoundAt, AreFindingsInRange};
+ghost use Rattle.sdm_supervisor.specs.Sights.{seen_at};
+ghost use Rattle.sdm_rules.specs.declared.display.LimitName.{LimitName};
+ghost use Rattle.sdm_laws.specs.SupervisionLaws.{IsPassedUpwards};
+
+mod within;
 
 use crate::findings::Findings;
-use crate::verdicts::{Fronts, Verdict};
+use crate::sight::Sight;
 use sdm_braking::{Braking, Kept, release_kmh_at};
 use sdm_curve::Curve;
 use sdm_national::National;
 use sdm_num::Reading;
-use sdm_rules::{CycleFault, OpenFault, RestrictFault, Restriction, RevokeFault, Row, TripFault};
+use sdm_rules::{
+    CycleFault, LimitName, OpenFault, RestrictFault, Restriction, RevokeFault, Row, Shown,
+    TripFault,
+};
 use sdm_speed::Profile;
 use sdm_state::{Held, Status, next};
 use sdm_targets::{Authority, AuthorityFault, check_authority, check_trip, end_of};
@@ -170,6 +179,16 @@ impl Supervisor {
         self.braking.calculated_release(svl, trip)
     }
 
+    /// The release speed of the authority in km/h, 0 to 500; 0 for a limit of authority. (SUBSET-026-3 3.13.9.4; own)
+    pub fn release(&self) -> u16
+        ensures { result ≡ release_speed_of self.now.authority }
+    {
+        match self.authority {
+            Authority::Stop { release, .. } => release,
+            Authority::Limit { .. } => 0,
+        }
+    }
+
     /// Takes a stop with the calculated release speed of `release_for` in place of the old authority; no command
     /// changes. Refused where `check_authority` refuses a stop at these places for the track, else where the place of
     /// the trip lies before the EOA or past the SvL (BadTrip); nothing is then changed. Places are in cm.
@@ -241,6 +260,51 @@ impl Supervisor {
         self.kept.end.brake_curve()
     }
 
+    /// What is seen at a reading. No memory is taken. (SUBSET-026-3 3.13.10; own)
+    // In line: a reading would pay for each of its parts to be handed over.
+    #[inline(always)]
+    pub fn sight<'a>(&'a self, reading: &'a Reading) -> Sight<'a>
+        requires { IsReading reading.now }
+        ensures seen { result ≡ seen_at self.now reading.now }
+        ensures accepted { IsOpen self.now }
+        ensures upwards { (name : LimitName) → IsPassedUpwards self.now reading.now name }
+    {
+        let front = reading.max_mm();
+        let cell = front.cell();
+        Sight {
+            braking: &self.braking,
+            reading,
+            ceiling_kmh: self.profile.lowest(reading.min_mm().cell(), cell),
+            past_end: self.kept.end.is_passed_by(reading.min_mm()),
+            release_kmh: release_kmh_at(self.kept.release, front),
+            in_use: self.braking.is_service_in_use(),
+            falls: self.kept.falls.ahead(cell, end_of(&self.authority)),
+            end: &self.kept.end,
+        }
+    }
+
+    /// Whether the train would pass a limit at a speed in km/h, at most 500, in place of the reading's, all else as in
+    /// the reading. At 0 it passes none, and what it passes at a speed it passes at each greater one. No memory is
+    /// taken. (SUBSET-026-3 3.13.10; own)
+    pub fn would_pass(&self, reading: &Reading, name: LimitName, kmh: u16) -> bool
+        requires reading { IsReading reading.now }
+        requires speed { kmh ≤ top_kmh }
+        ensures value { result
+            ≡ passes_limit self.now.train_and_track reading.now (situation_of self.now reading.now) name kmh }
+        ensures upwards { IsPassedUpwards self.now reading.now name }
+    {
+        self.sight(reading).would_pass(name, kmh)
+    }
+
+    /// The target that counts at a reading, with its distance; none where no target is slower than the train. No memory
+    /// is taken. (own)
+    pub fn shown(&self, reading: &Reading) -> Option<Shown>
+        requires { IsReading reading.now }
+        ensures { result ≡ shown_target_of self.now reading.now }
+    {
+        self.sight(reading).shown()
+    }
+
     /// What is found at a reading, before the commands are decided.
     fn find(&self, reading: &Reading) -> Findings
         requires { IsReading reading.now }
@@ -248,31 +312,7 @@ impl Supervisor {
         ensures range { AreFindingsInRange result }
         ensures accepted { IsOpen self.now }
     {
-        let front = reading.max_mm();
-        let cell = front.cell();
-        let release_kmh = release_kmh_at(self.kept.release, front);
-        let in_release_monitoring = release_kmh.is_some();
-        let falls = self.kept.falls.ahead(cell, end_of(&self.authority));
-        let asked = self.braking.asked(reading.estimate());
-        let fronts = Fronts {
-            est: reading.est_mm(),
-            max: front,
-        };
-        Findings {
-            speed: reading.speed_mm_s(),
-            ceiling_kmh: self.profile.lowest(reading.min_mm().cell(), cell),
-            past_end: self.kept.end.is_passed_by(reading.min_mm()),
-            release_kmh,
-            in_use: self.braking.is_service_in_use(),
-            verdict: Verdict::of(
-                &self.braking,
-                &asked,
-                &fronts,
-                &falls,
-                &self.kept.end,
-                in_release_monitoring,
-            ),
-        }
+        self.sight(reading).find()
     }
 
     /// Judges a reading, and takes its time and the commands after it. TimeBack comes exactly where its time is before

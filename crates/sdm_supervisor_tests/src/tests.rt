@@ -15,7 +15,9 @@ mod greatest;
 mod journeys;
 mod modelled;
 mod records;
+mod shown;
 mod whole_speeds;
+mod within;
 
 use calculated::CALCULATED;
 use data::{Data, base, set_line};
@@ -24,6 +26,7 @@ use journeys::{COMMANDS, FRONTS, LIMITS, RECORDS, RELEASES};
 use modelled::MODELLED;
 use records::begin;
 use sdm_supervisor::{OpenFault, Supervisor};
+use shown::{is_shown_at_standstill, is_shown_before_the_end};
 use std::alloc::Global;
 use std::process::Abort;
 use std::test::Fail;
@@ -40,7 +43,7 @@ fn data_of(alloc: Global, journey: &str) -> Result<Data, Fail> {
 }
 
 /// The supervisor that is opened over data.
-fn opened(alloc: Global, data: Data) -> Result<Supervisor, Fail> {
+pub fn opened(alloc: Global, data: Data) -> Result<Supervisor, Fail> {
     match begin(alloc, data)? {
         Ok(supervisor) => Ok(supervisor),
         Err(_) => Err("the opening is refused")?,
@@ -175,4 +178,13 @@ fn the_greatest_data_have_rows(rt: HostRuntime) -> Result<(), Fail> {
     let alloc = rt.alloc();
     let mut supervisor = opened(alloc, greatest(alloc)?)?;
     go_to_the_end(&rt, alloc, &mut supervisor)
+}
+
+/// What is shown over the base data with the EOA and the SvL at 1000 m.
+#[test]
+fn what_is_shown_is_as_it_was_worked_by_hand(rt: HostRuntime) -> Result<(), Fail> {
+    let alloc = rt.alloc();
+    let supervisor = opened(alloc, data_of(alloc, "")?)?;
+    assert!(rt; is_shown_before_the_end(&supervisor) && is_shown_at_standstill(&supervisor));
+    Ok(())
 }

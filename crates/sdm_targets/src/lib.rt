@@ -9,7 +9,7 @@ mod lists;
 pub use authorities::{check_authority, check_trip};
 pub use foot_speeds::foot_speed;
 pub use lists::{TargetList, end_of, targets_of};
-pub use sdm_rules::{Authority, AuthorityFault, Target, TargetKind, TripFault};
+pub use sdm_rules::{Authority, AuthorityFault, Shown, Target, TargetKind, TripFault};
 
 #[cfg(test)]
 mod tests;

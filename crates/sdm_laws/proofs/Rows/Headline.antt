@@ -24,7 +24,7 @@ use Rattle.sdm_laws.proofs.Rows.ReleaseStart.{begins_release_monitoring_at, star
 use Rattle.sdm_laws.proofs.Rows.Stops.{covered_is_safe}
 
 -- the slopes of an accepted state are usable
-open_usable : (s : Supervision) → IsOpen s → AreUsable s.train_and_track
+pub open_usable : (s : Supervision) → IsOpen s → AreUsable s.train_and_track
 open_usable s o = λ kind. accepted_usable kind s.train_and_track o.bands (o.usable kind)
 
 -- each computed place of a curve lies at most the greatest slack before the exact one, and never past it

@@ -25,13 +25,12 @@ use Rattle.sdm_rules.specs.declared.authorities.Authority.TheVariants.{Stop}
 use Rattle.sdm_rules.specs.declared.targets.Target.{Target}
 use Rattle.sdm_rules.specs.declared.targets.TargetKind.{TargetKind}
 use Rattle.sdm_rules.specs.declared.targets.TargetKind.TheVariants.{Mrsp, Loa, Eoa, Svl}
-use Rattle.sdm_rules.specs.Cells.{place_of_cell}
 use Rattle.sdm_rules.specs.Slopes.{Slopes, IsUsable}
 use Rattle.sdm_rules.specs.Curves.{exact_at, exact, stepped}
 use Rattle.sdm_rules.specs.Motion.{IsBy, KeepsTo, slice_ends}
 use Rattle.sdm_rules.specs.Data.{TrainAndTrack}
 use Rattle.sdm_rules.specs.Decelerations.{slopes_of}
-use Rattle.sdm_rules.specs.Targets.{targets_of, falls_ahead, ends_of, target_speed, foot_speed_of}
+use Rattle.sdm_rules.specs.Targets.{targets_of, falls_ahead, ends_of, svl_target, target_speed, foot_speed_of}
 use Rattle.sdm_rules.specs.Reaction.{build_up_of, d_bec, reaction_start, v_bec}
 use Rattle.sdm_rules.specs.Limits.{computed, limits_of, limits_of_kind, v_bec_for, d_bec_for}
 use Rattle.sdm_rules.specs.Triggers.{is_past}
@@ -47,9 +46,13 @@ use Rattle.sdm_laws.proofs.Rows.StopFacts.{within_first, slower}
 
 -- ---- the SvL among the targets
 
--- the SvL as a target
-svl_at : ℕ → Target
-svl_at svl = record { kind = Svl; place = place_of_cell (pos svl); speed = 0 }
+-- outside release speed monitoring the SvL is among the targets
+pub has_svl : (profile : ℤ → ℕ) (front : ℤ) (eoa svl release : ℕ) →
+    Contains (targets_of profile (Stop eoa svl release) front false) (svl_target svl)
+unfolding targets_of
+has_svl profile front eoa svl release =
+    Contains-append_right (falls_ahead profile front eoa) (ends_of (Stop eoa svl release) false) (svl_target svl)
+    (1, omega arith, refl)
 
 -- a test that all targets pass is passed by each
 all_of : (p : Target → Bool) (ts : List Target) (t : Target) → list_all p ts ≡ true → Contains ts t → p t ≡ true
@@ -57,12 +60,8 @@ all_of p ts t e = All-contains (λ t. p t ≡ true) ts t (AllPass-from_list_all 
 
 -- under an end of authority outside release speed monitoring it is passed by the SvL
 all_svl : (p : Target → Bool) (profile : ℤ → ℕ) (front : ℤ) (eoa svl release : ℕ) →
-    list_all p (targets_of profile (Stop eoa svl release) front false) ≡ true → p (svl_at svl) ≡ true
-unfolding targets_of svl_at
-all_svl p profile front eoa svl release e =
-    let ends = ends_of (Stop eoa svl release) false in
-    all_of p _ (svl_at svl) e
-    (Contains-append_right (falls_ahead profile front eoa) ends (svl_at svl) (1, omega arith, refl))
+    list_all p (targets_of profile (Stop eoa svl release) front false) ≡ true → p (svl_target svl) ≡ true
+all_svl p profile front eoa svl release e = all_of p _ (svl_target svl) e (has_svl profile front eoa svl release)
 
 -- ---- one target
 
@@ -179,11 +178,11 @@ meets_of d usable r t is e s p v xs first more m =
     ]
 
 -- by an SvL that is covered every motion stops
-stops_of : (d : TrainAndTrack) → IsUsable (slopes_of Safe d) → (r : OdometerReading) (svl : ℕ) →
-    is_covered_for d r.max (estimate_of r) (svl_at svl) ≡ true → StopsBySvl d r svl
-unfolding limits_of svl_at
+pub stops_of : (d : TrainAndTrack) → IsUsable (slopes_of Safe d) → (r : OdometerReading) (svl : ℕ) →
+    is_covered_for d r.max (estimate_of r) (svl_target svl) ≡ true → StopsBySvl d r svl
+unfolding limits_of
 stops_of d usable r svl e s p v xs first more m =
-    let t = svl_at svl in
+    let t = svl_target svl in
     let past = elim (either _ false e) as (λ _. is_past 0 r.max
     (less (computed (slopes_of Safe d) t.place 0 (v_bec_for d (estimate_of r) t)) (d_bec_for d (estimate_of r) t))
     ≡ false) [ inl x ↦ x | inr x ↦ absurd (false≢true x) ] in
@@ -195,7 +194,7 @@ stops_of d usable r svl e s p v xs first more m =
 svl_covered : (d : TrainAndTrack) (r : OdometerReading) (profile : ℤ → ℕ) (a : Authority)
     (in_release_monitoring : Bool) (eoa svl release : ℕ) → a ≡ Stop eoa svl release → in_release_monitoring ≡ false →
     list_all (is_covered_for d r.max (estimate_of r)) (targets_of profile a r.max in_release_monitoring) ≡ true →
-    is_covered_for d r.max (estimate_of r) (svl_at svl) ≡ true
+    is_covered_for d r.max (estimate_of r) (svl_target svl) ≡ true
 svl_covered d r profile a in_release_monitoring eoa svl release e f h =
     all_svl (is_covered_for d r.max (estimate_of r)) profile r.max eoa svl release
     (subst (λ (b : Bool). list_all (is_covered_for d r.max (estimate_of r))

@@ -26,7 +26,7 @@ fn acceleration(word: Option<&str>) -> Result<i16, Fail> {
     Ok(word.ok_or("no acceleration")?.parse::<i16>()?)
 }
 
-fn reading(fields: &str) -> Result<Reading, Fail> {
+pub fn reading(fields: &str) -> Result<Reading, Fail> {
     let mut words = fields.split(',');
     let time = natural(words.next())?;
     let est = place(words.next())?;

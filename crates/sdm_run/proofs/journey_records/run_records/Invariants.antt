@@ -2,14 +2,15 @@
 use Rattle.std.proofs.Common.{◌≡◌, ◌≤◌, false, length}
 use Rattle.sdm_events.specs.Journey.{records_of}
 use Rattle.sdm_run.specs.Journeys.{output_of_records}
+use Rattle.sdm_run.specs.RunParts.{tells}
 use Rattle.sdm_run.proofs.OutputLeft.{IsLeftOf}
 use Rattle.sdm_run.proofs.journey_records.run_records.Given as goal
 
 abbrev pub invariant-records : goal.invariant-records
 invariant-records g l = record {
   left : IsLeftOf (g.O.Sink.taken l.fn.out) (g.O.Sink.taken l.out)
-      (output_of_records (g.T.Teller.tell l.fn.teller) 1 l.fn.supervisor (records_of l.bytes))
-      (output_of_records (g.T.Teller.tell l.fn.teller) l.number l.supervisor l.records.left);
+      (output_of_records (tells l.fn.teller) 1 l.fn.supervisor (records_of l.bytes))
+      (output_of_records (tells l.fn.teller) l.number l.supervisor l.records.left);
   from_1 : 1 ≤ l.number;
   counted : l.number ≤ 100_001;
   later : g.O.Sink.faults l.fn.out ≤ g.O.Sink.faults l.out;

@@ -11,7 +11,7 @@ returns-in-Ok-clause-answer g c =
     let start = c.in-Some.records_start in
     let rest : take (length bytes - start) (drop start bytes)
     ≡ drop start bytes = take_all _ _ (omega (arith, length-drop start bytes)) in
-    recorded bytes c.in-Some.data_end start c.in-Ok.supervisor _ _ _ c.requires.short
+    recorded _ bytes c.in-Some.data_end start c.in-Ok.supervisor _ _ _ c.requires.short
     (sym c.in-Some.ensures.value) c.in-Ok.ensures.opened (rw rest at c.run_records.ensures.answer)
 
 pub returns-in-Ok-clause-not_before : goal.returns-in-Ok-clause-not_before
@@ -25,7 +25,7 @@ returns-in-Ok-clause-first g c first =
     absurd (not_first c.run_records.result.outcome c.run_records.ensures.possible first)
 
 pub returns-in-Err-clause-answer : goal.returns-in-Err-clause-answer
-returns-in-Err-clause-answer g c = refused c.args.bytes.now c.in-Some.data_end c.in-Some.records_start _
+returns-in-Err-clause-answer g c = refused _ c.args.bytes.now c.in-Some.data_end c.in-Some.records_start _
     c.in-Err.outcome c.requires.short (sym c.in-Some.ensures.value) c.in-Err.ensures.refused
 
 pub returns-in-Err-clause-not_before : goal.returns-in-Err-clause-not_before

@@ -1,5 +1,5 @@
 -- The nearest limits in whole millimetres are those that the profile prints; the rest stands as it was found.
-use Rattle.std.proofs.Common.{◌≡◌, ◌&&◌, not, Option, None, Some, ap, is_some, sym, ◌∙◌, rules, w64, to_z, of_z}
+use Rattle.std.proofs.Common.{◌≡◌, ◌&&◌, not, Some, ap, is_some, sym, ◌∙◌, rules, w64}
 use Rattle.std.specs.Prelude.{option_map}
 use Rattle.std.proofs.lemmas.Int.{ints, to_z-of_z}
 use Rattle.sdm_num.specs.Bounds.{mm_below}

@@ -2,13 +2,11 @@
 use Rattle.std.proofs.Common.{◌≡◌, ℕ, ◌||◌, ◌&&◌, not, nat_lt, ◌+◌, ◌∙◌, false}
 use Rattle.std.specs.Option.{option_map_or}
 use Rattle.sdm_num.specs.Units.{notches}
-use Rattle.sdm_num.specs.Readings.{OdometerReading, estimate_of}
+use Rattle.sdm_num.specs.Readings.{estimate_of}
 use Rattle.sdm_rules.specs.Limits.{computed, limits_of}
 use Rattle.sdm_rules.specs.Margins.{ebi_margin, sbi_margin, warning_margin}
-use Rattle.sdm_rules.specs.Supervision.{Supervision, situation_of}
+use Rattle.sdm_rules.specs.Supervision.{situation_of}
 use Rattle.sdm_rules.specs.Triggers.{above_ceiling, above_release, is_service, no_margin, triggers_of}
-use Rattle.sdm_supervisor.specs.declared.findings.Findings.{Findings}
-use Rattle.sdm_supervisor.specs.Findings.{IsFoundAt}
 use Rattle.sdm_supervisor.proofs.findings.Findings.triggers.Goals as goal
 
 pub returns : goal.returns

@@ -1,9 +1,7 @@
 -- The row is that of the computed place, which is the stepped place of the flat curve; so the laws of flat hold of it.
-use Rattle.std.proofs.Common.{◌≡◌, ℕ, ℤ, pos, Some, ◌*ℤ◌, ◌<◌, Bool, IsTrue, not, ◌&&◌, ◌||◌, nat_lt, int_lt, to_z}
-use Rattle.std.proofs.Common.{of_z, w32, w64, ap, sym, subst, ◌∙◌, arith, rules}
+use Rattle.std.proofs.Common.{◌≡◌, ℕ, pos, Some, ◌<◌, Bool, IsTrue, not, ◌&&◌, ◌||◌, nat_lt, int_lt, to_z}
+use Rattle.std.proofs.Common.{of_z, w64, ap, sym, subst, ◌∙◌, arith, rules}
 use Rattle.std.proofs.lemmas.Int.{ints, to_z-of_z}
-use Rattle.std.proofs.Math.Facts.{to_z_pos}
-use Rattle.sdm_num.specs.Units.{centimetre}
 use Rattle.sdm_num.specs.Bounds.{mm_below}
 use Rattle.sdm_rules.specs.Cells.{place_of_cell}
 use Rattle.sdm_rules.specs.Curves.{exact, stepped}

@@ -1,16 +1,13 @@
 -- Above the train's speed a target only says whether it is covered, and up to its indication limit only where its
 -- limits lie. Past that each limit is passed as the profile says, by the speed and the place that are kept or found
 -- for it.
-use Rattle.std.proofs.Common.{◌≡◌, ℕ, ℤ, Bool, Option, Some, None, true, false, ◌<◌, ◌≤◌, ◌&&◌, nat_lt, ◌∙◌, ap, refl}
+use Rattle.std.proofs.Common.{◌≡◌, ℕ, Some, false, ◌<◌, ◌≤◌, ◌&&◌, nat_lt, ◌∙◌, ap, refl}
 use Rattle.std.proofs.Common.{subst, sym, arith}
-use Rattle.std.specs.Option.{option_map_or}
 use Rattle.std.proofs.lemmas.Bool.Decides.{nat_tests}
-use Rattle.sdm_num.specs.Fractions.{whole}
-use Rattle.sdm_rules.specs.Limits.{computed, limits_of, v_bec_for}
-use Rattle.sdm_rules.specs.Margins.{ebi_margin, sbi_margin, warning_margin}
-use Rattle.sdm_rules.specs.Supervision.{is_covered_for, is_met_by_speed}
-use Rattle.sdm_rules.specs.Targets.{at_speed_target, foot_speed_of, target_speed, with_margin}
-use Rattle.sdm_rules.specs.Triggers.{front_for, is_past, no_margin, passes, passes_ebi}
+use Rattle.sdm_rules.specs.Limits.{computed, limits_of}
+use Rattle.sdm_rules.specs.Supervision.{is_covered_for}
+use Rattle.sdm_rules.specs.Targets.{at_speed_target, target_speed, with_margin}
+use Rattle.sdm_rules.specs.Triggers.{front_for, is_past, no_margin, passes_ebi}
 use Rattle.sdm_limits.specs.Sides.{place_of, place_where}
 use Rattle.sdm_supervisor.proofs.NearestLaws.{nearest_with, nearest_without}
 use Rattle.sdm_supervisor.proofs.PassedLaws.{all_more, any_more, covered_where_met, nothing_said, past_of, slower_said}

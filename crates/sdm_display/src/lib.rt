@@ -1,0 +1,15 @@
+//! What a driver sees of a reading: limits as speeds, the release speed and the target that counts, with their line of
+//! text. A limit's speed is found by asking where a train as fast would pass it, so whoever can answer that is enough.
+#![tactic(auto)]
+
+mod display_lines;
+mod displays;
+mod speeds;
+
+pub use display_lines::display_bytes;
+pub use displays::display_of;
+pub use sdm_rules::{Display, LimitName, Shown, TargetKind};
+pub use speeds::{Passed, greatest};
+
+#[cfg(test)]
+mod tests;

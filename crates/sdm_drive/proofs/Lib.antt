@@ -1,0 +1,14 @@
+pub mod Greatest
+pub mod Braked
+pub mod Sliced
+pub mod Deciseconds
+pub mod Readings
+pub mod Ranges
+pub mod Steps
+pub mod Ahead
+pub mod Moves
+pub mod Millimetres
+pub mod DriveCases
+pub mod TrainLaws
+pub mod StepLaws
+pub mod StartLaws

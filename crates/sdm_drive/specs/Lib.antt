@@ -1,0 +1,6 @@
+pub mod Drive
+pub mod Trains
+pub mod DriveLaws
+pub mod Held
+pub mod Faults
+pub mod Kept

@@ -1,0 +1,18 @@
+//! A closed-loop drive: a train that a number drives, under the supervisor. Its true front end never passes the SvL.
+#![tactic(auto)]
+
+mod drives;
+mod faults;
+pub mod laws;
+mod odometers;
+pub mod orders;
+pub mod rows;
+mod trains;
+
+pub use drives::Drive;
+pub use faults::DriveFault;
+pub use orders::Orders;
+pub use rows::DriveRow;
+
+#[cfg(test)]
+mod tests;

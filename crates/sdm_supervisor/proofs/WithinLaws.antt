@@ -1,0 +1,68 @@
+-- A supervisor keeps the SvL of its authority with its curves, and the start of release speed monitoring: by these a
+-- reading is within the SvL where the definitions say.
+use Rattle.std.proofs.Common.{◌≡◌, ℕ, ℤ, Bool, Option, Some, None, true, false, not, is_some, refl, ap, sym, ◌∙◌}
+use Rattle.std.specs.Option.{option_map_or}
+use Rattle.sdm_num.specs.Bounds.{Bound}
+use Rattle.sdm_num.specs.Fractions.{Fraction}
+use Rattle.sdm_num.specs.Readings.{Estimate, OdometerReading, estimate_of}
+use Rattle.sdm_rules.specs.declared.authorities.Authority.{Authority}
+use Rattle.sdm_rules.specs.declared.authorities.Authority.TheVariants.{Stop, Limit}
+use Rattle.sdm_rules.specs.declared.targets.Target.{Target}
+use Rattle.sdm_rules.specs.Data.{TrainAndTrack}
+use Rattle.sdm_rules.specs.Limits.{computed, limits_of}
+use Rattle.sdm_rules.specs.Supervision.{release_of}
+use Rattle.sdm_rules.specs.Targets.{svl_target}
+use Rattle.sdm_rules.specs.Triggers.{is_past}
+use Rattle.sdm_rules.specs.Within.{is_before_svl, is_within}
+use Rattle.sdm_limits.specs.Sides.{place_of, place_where}
+use Rattle.sdm_braking.specs.declared.kept_ends.KeptEnd.TheVariants.{Stop as KeptStop, Limit as KeptLimit}
+use Rattle.sdm_braking.specs.declared.kept_targets.KeptTarget.{KeptTarget}
+use Rattle.sdm_braking.specs.declared.releases.Release.{Release}
+use Rattle.sdm_braking.specs.KeptCurves.{IsKeptAt, IsKeptEnd}
+use Rattle.sdm_braking.specs.Releases.{IsReleaseOf, release_speed_at}
+use Rattle.sdm_braking.proofs.ReleaseLaws.{release_speed_at_is}
+
+-- the EBI of a kept target for the estimate of a reading is that of the SvL, where this is the target
+pub ebi_of : (d : TrainAndTrack) (r : OdometerReading) (e : Estimate) (t : Target) (cm : ℕ) (ebi : Option Bound) →
+    place_where ebi ≡ (limits_of computed d e t).ebi → e ≡ estimate_of r → t ≡ svl_target cm →
+    place_where ebi ≡ (limits_of computed d (estimate_of r) (svl_target cm)).ebi
+ebi_of d r e t cm ebi is of_reading at = is ∙ (λ k. (limits_of computed d (of_reading k) (at k)).ebi)
+
+-- a front end is at or before an EBI that was found
+pub before_found : (ebi : Option Bound) (limit : Option Fraction) (front : ℤ) (found : Bound) (passed : Bool) →
+    ebi ≡ Some found → place_where ebi ≡ limit → passed ≡ is_past 0 front (place_of found) →
+    not passed ≡ option_map_or (λ e. not (is_past 0 front e)) limit false
+before_found ebi limit front found passed some is past =
+    ap not past ∙ ap (λ e. option_map_or (λ l. not (is_past 0 front l)) e false) (sym (ap place_where some) ∙ is)
+
+-- and where there is none, it is not
+pub before_none : (ebi : Option Bound) (limit : Option Fraction) (front : ℤ) → ebi ≡ None → place_where ebi ≡ limit →
+    false ≡ option_map_or (λ e. not (is_past 0 front e)) limit false
+before_none ebi limit front none is =
+    ap (λ e. option_map_or (λ l. not (is_past 0 front l)) e false) (sym (ap place_where none) ∙ is)
+
+-- the release speed that is kept is monitored where the definitions say
+pub monitored : (d : TrainAndTrack) (a : Authority) (kept : Option Release) (front at : ℤ) (found : Option ℕ)
+    (is : Bool) → IsReleaseOf d a kept → found ≡ release_speed_at kept at → at ≡ front → is ≡ is_some found →
+    is ≡ is_some (release_of d a front)
+monitored d a kept front at found is of_kept found_is at_front same =
+    same ∙ ap is_some (found_is ∙ release_speed_at_is d a kept at of_kept ∙ ap (release_of d a) at_front)
+
+-- no reading is within the end of an authority that isn't a stop
+pub not_of_limit : (d : TrainAndTrack) (r : OdometerReading) (a : Authority) (loa : KeptTarget) →
+    IsKeptEnd d a (KeptLimit loa) → false ≡ is_within d r a
+not_of_limit d r (Stop eoa svl release) loa kept = absurd kept
+not_of_limit d r (Limit at speed) loa kept = refl
+
+-- nor one in release speed monitoring
+pub not_in_release : (d : TrainAndTrack) (r : OdometerReading) (a : Authority) (eoa svl : KeptTarget) →
+    IsKeptEnd d a (KeptStop eoa svl) → is_some (release_of d a r.max) ≡ true → false ≡ is_within d r a
+not_in_release d r (Stop eoa svl release) k l kept release_is = rw release_is refl
+not_in_release d r (Limit at speed) k l kept release_is = absurd kept
+
+-- else the front end is compared with the EBI of the SvL
+pub by_front : (d : TrainAndTrack) (r : OdometerReading) (a : Authority) (eoa svl : KeptTarget) (before : Bool) →
+    IsKeptEnd d a (KeptStop eoa svl) → is_some (release_of d a r.max) ≡ false →
+    ((cm : ℕ) → IsKeptAt d (svl_target cm) svl → before ≡ is_before_svl d r cm) → before ≡ is_within d r a
+by_front d r (Stop eoa svl release) k l before kept release_is found = rw release_is (found svl kept.1)
+by_front d r (Limit at speed) k l before kept release_is found = absurd kept

@@ -1,0 +1,112 @@
+-- Each part of what is seen is that of the definitions, by the clause of the call that found it.
+use Rattle.std.proofs.Common.{◌≡◌, min, map, ◌++◌, ◌∙◌, ap, refl, subst, is_some, to_z, of_z, w32}
+use Rattle.std.proofs.Common.{rules}
+use Rattle.std.proofs.lemmas.Int.{ints, to_z-of_z}
+use Rattle.std.specs.Int.{int_gap}
+use Rattle.sdm_rules.specs.Cells.{cell_of, lowest}
+use Rattle.sdm_rules.specs.Supervision.{Supervision, release_of, is_past_end}
+use Rattle.sdm_rules.specs.Targets.{targets_of}
+use Rattle.sdm_speed.specs.Profiles.{mrsp_of}
+use Rattle.sdm_braking.specs.KeptCurves.{IsKeptEnd, targets_in}
+use Rattle.sdm_braking.specs.KeptFalls.{target_of}
+use Rattle.sdm_supervisor.specs.Sights.{Seen, seen_at}
+use Rattle.sdm_laws.proofs.Rows.Passing.{passing}
+use Rattle.sdm_supervisor.proofs.CycleLaws.{is_open}
+use Rattle.sdm_braking.proofs.ReleaseLaws.{release_speed_at_is, release_speed_in_range}
+use Rattle.sdm_supervisor.proofs.FindLaws.{seen_is}
+use Rattle.sdm_braking.proofs.WalkLaws.{ends_kept, targets_are}
+use Rattle.sdm_supervisor.proofs.supervisors.Supervisor.sight.Goals as goal
+
+module _ (c : goal.After-deref-2) where
+  -- the cell of the min safe front end
+  back : to_z w32 (of_z w32 c.cell.result) ≡ cell_of c.args.reading.now.min
+  back = to_z-of_z w32 c.cell.result (search (rules, ints)) ∙ c.cell.ensures ∙ ap cell_of c.min_mm.ensures
+
+  -- the cell of the max safe front end
+  front : to_z w32 (of_z w32 c.cell-cell.result) ≡ cell_of c.args.reading.now.max
+  front = to_z-of_z w32 c.cell-cell.result (search (rules, ints)) ∙ c.cell-cell.ensures
+      ∙ ap cell_of c.max_mm-front.ensures
+
+  -- the ceiling is the least MRSP between both
+  ceiling : c.lowest.result ≡ lowest min (mrsp_of c.self.inside.profile) (cell_of c.args.reading.now.min)
+      (int_gap (cell_of c.args.reading.now.min) (cell_of c.args.reading.now.max))
+  ceiling =
+      c.lowest.ensures.value ∙ (λ k. lowest min (mrsp_of c.self.inside.profile) (back k) (int_gap (back k) (front k)))
+
+  -- the release speed is that of the definitions
+  in_release_monitoring : c.release_kmh_at.result ≡
+      release_of c.self.inside.braking c.self.inside.authority c.args.reading.now.max
+  in_release_monitoring =
+      c.release_kmh_at.ensures ∙ release_speed_at_is c.self.inside.braking c.self.inside.authority
+      c.self.inside.kept.release c.max_mm-front.result c.self.invariant.kept.release
+      ∙ ap (release_of c.self.inside.braking c.self.inside.authority) c.max_mm-front.ensures
+
+  -- the falls ahead are those past the cell of the max safe front end
+  after : to_z w32 (of_z w32 c.cell-cell.result) ≡ cell_of c.max_mm-front.result
+  after = to_z-of_z w32 c.cell-cell.result (search (rules, ints)) ∙ c.cell-cell.ensures
+
+  -- the end of the authority is read out of its box, for its place and for its targets
+  end_passed : IsKeptEnd c.self.inside.braking c.self.inside.authority c.deref.result.now
+  end_passed = rw c.deref.ensures c.self.invariant.kept.end
+
+  end_seen : IsKeptEnd c.self.inside.braking c.self.inside.authority c.deref-2.result.now
+  end_seen = rw c.deref-2.ensures c.self.invariant.kept.end
+
+  -- the falls ahead and the end make the targets of the definitions
+  targets : map target_of c.ahead.result ++ targets_in c.deref-2.result.now (is_some c.release_kmh_at.result)
+      ≡ targets_of (mrsp_of c.self.inside.profile) c.self.inside.authority c.args.reading.now.max
+      (is_some (release_of c.self.inside.braking c.self.inside.authority c.args.reading.now.max))
+  targets =
+      targets_are c.self.inside.braking (mrsp_of c.self.inside.profile) c.self.inside.authority
+      c.ahead.result c.deref-2.result.now _ c.max_mm-front.result c.end_of.result
+      (is_some c.release_kmh_at.result) after c.end_of.ensures
+      (c.ahead.ensures.each c.self.inside.braking c.self.invariant.kept.falls.each)
+      (c.ahead.ensures.falls (mrsp_of c.self.inside.profile) c.self.invariant.kept.falls.falls) end_seen
+      ∙ (λ k. targets_of (mrsp_of c.self.inside.profile) c.self.inside.authority (c.max_mm-front.ensures k)
+      (is_some (in_release_monitoring k)))
+
+  -- all that is seen
+  abbrev seen : Seen
+  seen = record {
+    train_and_track = c.self.inside.braking;
+    reading = c.args.reading.now;
+    situation = record {
+      speed = c.args.reading.now.speed;
+      ceiling_kmh = c.lowest.result;
+      est = c.args.reading.now.est;
+      front = c.args.reading.now.max;
+      targets = map target_of c.ahead.result ++ targets_in c.deref-2.result.now (is_some c.release_kmh_at.result);
+      past_end = c.is_passed_by.result;
+      release = c.release_kmh_at.result;
+      in_use = c.is_service_in_use.result;
+    };
+  }
+
+pub lowest-requires : goal.lowest-requires
+lowest-requires c = search (rules, ints)
+
+pub invariant_of-result : goal.invariant_of-result
+invariant_of-result c = record {
+  ceiling = search rules;
+  release = rw c.release_kmh_at.ensures
+      (release_speed_in_range c.self.inside.braking c.self.inside.authority c.self.inside.kept.release
+      c.max_mm-front.result c.self.invariant.kept.release);
+  falls = c.ahead.ensures.each c.self.inside.braking c.self.invariant.kept.falls.each;
+  end = rw c.deref-2.ensures
+      (ends_kept c.self.inside.braking c.self.inside.authority c.self.inside.kept.end.value c.self.invariant.kept.end);
+}
+
+pub returns-clause-seen : goal.returns-clause-seen
+returns-clause-seen c =
+    subst (λ (s : Supervision). seen c ≡ seen_at s c.args.reading.now) c.self.view_is
+    (seen_is c.self.inside.braking c.self.inside.authority c.self.inside.profile c.self.inside.last_time
+    c.self.inside.held c.args.reading.now (seen c).situation c.self.invariant.profile
+    refl (ceiling c) refl refl (targets c) (c.is_passed_by.ensures c.self.inside.braking c.self.inside.authority
+    (end_passed c) ∙ ap (is_past_end c.self.inside.authority) c.min_mm-2.ensures)
+    (in_release_monitoring c) c.is_service_in_use.ensures.value)
+
+pub returns-clause-accepted : goal.returns-clause-accepted
+returns-clause-accepted c = is_open c.args.self.now (rw (← c.self.view_is) c.is_service_in_use.ensures.accepted)
+
+pub returns-clause-upwards : goal.returns-clause-upwards
+returns-clause-upwards c name = passing c.args.self.now c.args.reading.now name (returns-clause-accepted c)

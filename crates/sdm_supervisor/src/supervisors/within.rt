@@ -1,0 +1,73 @@
+//! What a closed-loop drive asks of a supervisor beside its rows: with which slopes and how late the emergency brake
+//! works, and whether a reading is within the SvL.
+
+ghost use Rattle.std.specs.Prelude.{◌≡◌, ℕ, IsTrue};
+ghost use Rattle.sdm_rules.specs.declared.data.SlopeKind.TheVariants.{Safe};
+ghost use Rattle.sdm_rules.specs.Decelerations.{slopes_of};
+ghost use Rattle.sdm_rules.specs.Reaction.{reaction_times};
+ghost use Rattle.sdm_rules.specs.Slopes.{meaning_of};
+ghost use Rattle.sdm_rules.specs.Targets.{svl_target};
+ghost use Rattle.sdm_rules.specs.Within.{StopsByItsSvl, is_before_svl, is_within_svl};
+ghost use Rattle.sdm_limits.specs.Ranges.{AreTimes};
+ghost use Rattle.sdm_braking.specs.KeptCurves.{IsKeptAt, IsKeptTarget};
+
+use super::Supervisor;
+use sdm_braking::{Braking, KeptEnd, KeptTarget, release_kmh_at};
+use sdm_curve::BandMap;
+use sdm_num::Reading;
+use sdm_rules::Times;
+
+/// Whether the max safe front end is at or before the EBI of a kept SvL. (SUBSET-026-3 3.13.9.3.2; own)
+fn is_before_svl(braking: &Braking, reading: &Reading, svl: &KeptTarget) -> bool
+    requires { IsKeptTarget braking.now svl.now }
+    ensures { (cm : ℕ) → IsKeptAt braking.now (svl_target cm) svl.now →
+        result ≡ is_before_svl braking.now reading.now cm }
+{
+    let asked = braking.asked(reading.estimate());
+    match braking.ebi(&asked, svl) {
+        Some(ebi) => !ebi.is_passed_by(reading.max_mm()),
+        None => false,
+    }
+}
+
+impl Supervisor {
+    /// The map of A_safe, with which the emergency brake works. (SUBSET-026-3 3.13.6.2)
+    pub fn safe_map(&self) -> &BandMap
+        ensures { meaning_of result.now ≡ slopes_of Safe self.now.train_and_track }
+    {
+        self.braking.safe()
+    }
+
+    /// The times of reaction: T_traction, T_berem and the others, each at most 300 ds. (SUBSET-026-3 3.13.9.3)
+    pub fn times(&self) -> &Times
+        ensures value { result.now ≡ reaction_times self.now.train_and_track }
+        ensures range { AreTimes result.now }
+    {
+        self.braking.times()
+    }
+
+    /// Whether the compensation of under-reading is inhibited (Q_NVINHSMICPERM). (SUBSET-026-3 3.13.9.3.2)
+    pub fn inhibits_under_reading(&self) -> bool
+        ensures { result ≡ self.now.train_and_track.national.inhibit_under_reading }
+    {
+        self.braking.inhibits_under_reading()
+    }
+
+    /// Whether a reading is within the SvL: the authority is a stop, the train isn't in release speed monitoring, and
+    /// its max safe front end is at or before the EBI of the SvL. Then every motion within the bounds of the reading
+    /// stops at or before the SvL. No memory is taken. (own)
+    pub fn within_svl(&self, reading: &Reading) -> bool
+        ensures value { result ≡ is_within_svl self.now reading.now }
+        ensures stops { IsTrue result → StopsByItsSvl self.now reading.now }
+    {
+        let KeptEnd::Stop { svl, .. } = &*self.kept.end else {
+            return false;
+        };
+        if release_kmh_at(self.kept.release, reading.max_mm()).is_some() {
+            return false;
+        }
+        // the length is told with it that the data are accepted
+        prove!(1 <= self.braking.track_cm());
+        is_before_svl(&self.braking, reading, svl)
+    }
+}
