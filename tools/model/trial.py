@@ -11,12 +11,16 @@ REALISTIC = Data(
           (), ()),
     Stop(500_000, 505_000, 0))
 
+def number_after(x):
+    """FORMATS "trial": the next number of the generator."""
+    return (25173 * x + 13849) % 65536
+
 def trial_lines(number, cycles):
     """FORMATS "trial": the five lines."""
     supervisor, x = Supervisor(REALISTIC), number
     count = dict.fromkeys(("rows", "covered", "emergency", "service", "ebi"), 0)
     for i in range(1, cycles + 1):
-        x = (25173 * x + 13849) % 65536
+        x = number_after(x)
         est = 3_000_000 + 20 * x
         row = supervisor.read(Reading(5 * i, est, est - 5_000, est + 5_000, x % 44_001, x % 101 - 50, 500)).row
         more = {"rows": 1, "covered": row.covered, "emergency": row.commands.eb, "service": row.commands.sb,

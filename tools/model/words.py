@@ -3,6 +3,7 @@ import os
 
 from .data import data_of, read_document, split, table_of
 from .display import display_of
+from .drive import drive_lines
 from .flat import flat_rows
 from .journey import Supervisor, cycles
 from .outcome import Outcome, Refused
@@ -12,13 +13,17 @@ from .trial import trial_lines
 
 MOST_BYTES = 16_777_216
 
+def opened(open_over, data, *more):
+    """What is opened over data; the refusal of an opening is told with its code."""
+    try:
+        return open_over(data, *more)
+    except Refused as refused:
+        raise Outcome(6, f"refused: {refused}") from None
+
 def open_run(data):
     """The supervisor and the bytes of the records of an input of `run`: library users begin here."""
     table, events = split(data)
-    try:
-        return Supervisor(data_of(read_document(table))), events
-    except Refused as refused:
-        raise Outcome(6, f"refused: {refused}") from None
+    return opened(Supervisor, data_of(read_document(table))), events
 
 def number_word(word, least, most):
     """FORMATS "Commands": a number among the words, in the form of numbers and within its range."""
@@ -45,6 +50,9 @@ def rows_of(words, read):
             return flat_rows(number_word(A, 5, 400), number_word(END, 0, 10_000_000), not_too_long(read()))
         case ["upgrade"]:
             return [laid_out(table_of(data_of(read_document(not_too_long(read())))))]
+        case ["drive", number, count]:
+            number, count = number_word(number, 0, 65_535), number_word(count, 1, 100_000)
+            return opened(drive_lines, data_of(read_document(not_too_long(read()))), number, count)
         case ["trial", number, count]:
             return trial_lines(number_word(number, 0, 65_535), number_word(count, 1, 100_000))
     raise Outcome(1, "bad words")
