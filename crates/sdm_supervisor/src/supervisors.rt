@@ -5,7 +5,6 @@
 
 ghost use Rattle.std.specs.Prelude.{◌≡◌, ◌≤◌, ◌≤ℤ◌, pos, MatchOption, IsTrue, false, None, Some, IfOk, IfErr, OnOk};
 ghost use Rattle.std.specs.Prelude.{OnErr};
-ghost use Rattle.sdm_num.specs.Readings.{IsReading};
 ghost use Rattle.sdm_rules.specs.declared.authorities.Authority.TheVariants.{Stop};
 ghost use Rattle.sdm_rules.specs.Display.{passes_limit, release_speed_of, shown_target_of};
 ghost use Rattle.sdm_rules.specs.Machines.{KeepsOrder};
@@ -264,11 +263,12 @@ impl Supervisor {
     // In line: a reading would pay for each of its parts to be handed over.
     #[inline(always)]
     pub fn sight<'a>(&'a self, reading: &'a Reading) -> Sight<'a>
-        requires { IsReading reading.now }
         ensures seen { result ≡ seen_at self.now reading.now }
         ensures accepted { IsOpen self.now }
         ensures upwards { (name : LimitName) → IsPassedUpwards self.now reading.now name }
     {
+        // the time is told with it that the reading is in its ranges
+        prove!(reading.time() <= 100_000_000);
         let front = reading.max_mm();
         let cell = front.cell();
         Sight {
@@ -287,8 +287,7 @@ impl Supervisor {
     /// the reading. At 0 it passes none, and what it passes at a speed it passes at each greater one. No memory is
     /// taken. (SUBSET-026-3 3.13.10; own)
     pub fn would_pass(&self, reading: &Reading, name: LimitName, kmh: u16) -> bool
-        requires reading { IsReading reading.now }
-        requires speed { kmh ≤ top_kmh }
+        requires { kmh ≤ top_kmh }
         ensures value { result
             ≡ passes_limit self.now.train_and_track reading.now (situation_of self.now reading.now) name kmh }
         ensures upwards { IsPassedUpwards self.now reading.now name }
@@ -299,7 +298,6 @@ impl Supervisor {
     /// The target that counts at a reading, with its distance; none where no target is slower than the train. No memory
     /// is taken. (own)
     pub fn shown(&self, reading: &Reading) -> Option<Shown>
-        requires { IsReading reading.now }
         ensures { result ≡ shown_target_of self.now reading.now }
     {
         self.sight(reading).shown()
@@ -307,7 +305,6 @@ impl Supervisor {
 
     /// What is found at a reading, before the commands are decided.
     fn find(&self, reading: &Reading) -> Findings
-        requires { IsReading reading.now }
         ensures found { IsFoundAt self.now reading.now result }
         ensures range { AreFindingsInRange result }
         ensures accepted { IsOpen self.now }
