@@ -265,6 +265,11 @@ def trial(seed):
     return Input("trial", ["trial", "7", "100000"], ["trial", "7", "1"], "", [], 100_000)
 
 
+def drive(seed):
+    """A drive of as many steps over the realistic data, which have no dividing line then."""
+    return Input("drive", ["drive", "7", "100000"], ["drive", "7", "1"], realistic_data().removesuffix("%%\n"), [], 100_000)
+
+
 MAKERS = {
     "smooth": smooth,
     "display": display,
@@ -278,4 +283,5 @@ MAKERS = {
     "mixed": mixed,
     "flat": flat,
     "trial": trial,
+    "drive": drive,
 }

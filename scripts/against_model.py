@@ -4,8 +4,10 @@
     scripts/check-model --seed 5000 --journeys 9000 the journeys of the seeds 5000 to 13999 alone
     scripts/check-model --program PATH              another program than crates/sdm/out/sdm
 
-The input of each third seed is given to `display` too. Of each difference it tells the input, the first row or line that
-differs, and both texts. The journey of a seed is written by `python3 tools/model/journeys.py input SEED`.
+The input of each third seed is given to `display` and to `certify` too, and each third seed makes a drive, and a text for
+`check`, besides. Of each difference it tells the input, the first row or line that differs, and both texts.
+`python3 tools/model/journeys.py input SEED` writes the journey of a seed, `drive SEED` its drive, and
+`python3 tools/model/certified.py SEED` its text for `check`.
 """
 
 import argparse
@@ -20,12 +22,14 @@ sys.path.insert(0, str(TOP / "tools"))
 
 from laboratory.cases import Case, cases_under, difference  # noqa: E402
 from laboratory.program import Fault, Result, add_program, built, run  # noqa: E402
-from model.journeys import make  # noqa: E402
+from model.certified import a_certify, a_check  # noqa: E402
+from model.journeys import a_drive, make  # noqa: E402
 from model.words import collect  # noqa: E402
 
 GATE_JOURNEYS = 1000
 PROGRESS = 2000  # journeys between two lines of progress
-SHOWN = 3  # each so many seeds an input is given to `display` too, which costs the model more than `run`
+SHARE = 3  # each so many seeds an input is given to the other commands too, of which `display` costs the model more than `run`
+BESIDES = [("drive", a_drive), ("certify", a_certify), ("check", a_check)]
 
 
 def own_tests():
@@ -46,8 +50,15 @@ def made(first, count, step=1):
 
 def shown(first, count):
     """The inputs of each third of some seeds, whatever their words, as cases of `display`."""
-    for case in made(first, count, SHOWN):
+    for case in made(first, count, SHARE):
         yield case._replace(words=["display"])
+
+
+def besides(what, of_seed, first, count):
+    """What is made of each third of some seeds besides their journeys."""
+    for seed in range(first, first + count, SHARE):
+        words, data = of_seed(seed)
+        yield Case(f"{what} {seed}", words, data, None)
 
 
 def differences(program, case):
@@ -97,7 +108,11 @@ def main(args):
         title = f"made journeys, seeds {first} to {first + words.journeys - 1}"
         bad += compare(title, program, made(first, words.journeys), words.journeys)
         title = "each third of them by display"
-        bad += compare(title, program, shown(first, words.journeys), -(-words.journeys // SHOWN))
+        share = -(-words.journeys // SHARE)
+        bad += compare(title, program, shown(first, words.journeys), share)
+        for what, of_seed in BESIDES:
+            title = f"{what} of each third of these seeds"
+            bad += compare(title, program, besides(what, of_seed, first, words.journeys), share)
     except Fault as why:
         print(f"check-model: {why}", file=sys.stderr)
         return 1

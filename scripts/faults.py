@@ -39,9 +39,9 @@ class Journey:
     whole: Ended
 
     def keeps_rows_at_want_of_memory(self):
-        """Whether rows may stand when memory is wanting: `flat` and `trial` take all their memory first, and `upgrade`
-        before it writes."""
-        return self.words[0] in ("run", "display")
+        """Whether rows may stand when memory is wanting: `flat` and `trial` take all their memory first, `upgrade` and
+        `drive` before they write."""
+        return self.words[0] in ("run", "display", "certify", "check")
 
 
 def example(name):

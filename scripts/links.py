@@ -1,6 +1,6 @@
 """Checks the pages of the repository: every relative link and picture leads to a file or folder in it, every anchor to a heading;
 what README shows to paste is the input of examples/approach, with its rows; and the code that docs/INTEGRATION.md shows stands in
-crates/sdm_onboard. Links to other hosts are not followed.
+crates/sdm_onboard or in c/. Links to other hosts are not followed.
 
     scripts/check-links
 """
@@ -17,6 +17,7 @@ FENCE = re.compile(r"^(```|~~~).*?^\1\s*$", re.M | re.S)
 CODE = re.compile(r"`[^`\n]*`")
 LINK = re.compile(r"\]\(\s*<?([^)\s>]+)>?(?:\s+\"[^\"]*\")?\s*\)")
 HEADING = re.compile(r"^#{1,6}\s+(.*?)\s*#*$", re.M)
+SHOWN_CODE = {"rust": "crates/sdm_onboard/src/*.rt", "c": "c/*.c", "ada": "c/ada/*.adb"}  # where docs/INTEGRATION.md has it from
 ELSEWHERE = re.compile(r"^[a-z][a-z0-9+.-]*:", re.I)
 
 
@@ -74,15 +75,16 @@ def example_faults():
 
 
 def code_faults():
-    """Where code of docs/INTEGRATION.md isn't that of the crate that it shows."""
+    """Where code of docs/INTEGRATION.md isn't that of the programs that it shows."""
     text = (ROOT / "docs" / "INTEGRATION.md").read_text()
-    sources = [path.read_text() for path in (ROOT / "crates" / "sdm_onboard" / "src").glob("*.rt")]
-    blocks = re.findall(r"^```rust\n(.*?)^```$", text, re.M | re.S)
-    for block in blocks:
-        if not any(block in source for source in sources):
-            yield f"docs/INTEGRATION.md: crates/sdm_onboard has no such code: {block.splitlines()[0].strip()}"
-    if not blocks:
-        yield "docs/INTEGRATION.md: it shows no code"
+    for language, files in SHOWN_CODE.items():
+        sources = [path.read_text() for path in ROOT.glob(files)]
+        blocks = re.findall(rf"^```{language}\n(.*?)^```$", text, re.M | re.S)
+        for block in blocks:
+            if not any(block in source for source in sources):
+                yield f"docs/INTEGRATION.md: {files} has no such code: {block.splitlines()[0].strip()}"
+        if not blocks:
+            yield f"docs/INTEGRATION.md: it shows no code of {files}"
 
 
 def link_faults(links):

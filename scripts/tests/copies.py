@@ -55,9 +55,9 @@ def alter(top: Path, file: str, pattern: str, new: str) -> None:
     (top / file).write_text(text)
 
 
-def stand_in(top: Path, filtered: str = "cat", status: str = "") -> None:
+def stand_in(top: Path, filtered: str = "cat", status: str = "", name: str = "crates/sdm/out/sdm") -> None:
     """A program in a copy that does as the model of this repository, its rows through a filter, or with another exit status."""
-    built = top / "crates" / "sdm" / "out" / "sdm"
+    built = top / name
     built.parent.mkdir(exist_ok=True)
     model = f"{sys.executable} -B {TOP / 'tools' / 'model'}"
     built.write_text(f'#!/bin/bash\n{model} "$@" | {filtered}\nexit ${{PIPESTATUS[0]}}{status}\n')

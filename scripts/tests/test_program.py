@@ -1,6 +1,7 @@
 """The scripts over the built program take it only where its mark holds, and tell where it does otherwise than it should."""
 
 import re
+import subprocess
 import sys
 import unittest
 from pathlib import Path
@@ -115,10 +116,78 @@ class Answers(OverACopy):
                 copies.marked_as_it_is(self.top)
                 self.assertIn("another table", self.told("scripts/check-upgrade"))
 
+    def test_certificates_that_are_answered_by_yes_pass(self):
+        self.assertRegex(self.told("scripts/check-certificates", status=0), "certificates: [1-9][0-9]* passed, 0 failed")
+
+    def test_a_certificate_that_is_not_answered_by_yes_is_told(self):
+        for filtered in ("sed 's/,yes$/,no/'", r"sed 's/^mark,\([0-9]*\),0$/mark,\11,0/'", "sed '/,yes$/d'"):
+            with self.subTest(filtered):
+                copies.stand_in(self.top, filtered)
+                copies.marked_as_it_is(self.top)
+                self.assertIn("claims are answered by yes", self.told("scripts/check-certificates"))
+
     def test_a_model_that_differs_from_the_program_is_told(self):
         module, text, misread = next(each for each in MISREADINGS if each[0] == "triggers")
         copies.alter(self.top, f"tools/model/{module}.py", re.escape(text), misread.replace("\\", r"\\"))
         self.assertRegex(self.told(*MADE), r"row \d+ differs")
+
+
+CALLS = ["open", "cycle", "end", "end_calculated", "limit", "restrict", "revoke", "display"]
+CLOSED = "unsigned sdm_layout(void) { return 1; }\nvoid sdm_close(void *h) { (void)h; }\n" + "".join(
+    f"unsigned sdm_{call}(void *h) {{ (void)h; return 1; }}\n" for call in CALLS)
+
+
+class Replays(OverACopy):
+    """The C side, over a stand-in for the program, for replay, and for the library."""
+
+    def setUp(self):
+        super().setUp()
+        copies.stand_in(self.top)
+        copies.marked_as_it_is(self.top)
+        copies.keep_examples(self.top, {"approach", "display", "refused-data", "refused-record"})
+
+    def library(self, more: str = "") -> str:
+        """A library whose every call answers that there is no supervisor, with more code in it."""
+        (self.top / "closed.c").write_text(CLOSED + more)
+        for words in (["cc", "-c", "closed.c"], ["ar", "rc", "libclosed.a", "closed.o"]):
+            subprocess.run(words, cwd=self.top, check=True)
+        return str(self.top / "libclosed.a")
+
+    def compared(self, *filtered: str, status: int = 1) -> str:
+        """What is told where replay does as the model, its rows through a filter or with another exit status."""
+        copies.stand_in(self.top, *filtered, name="replay")
+        (self.top / "compare").write_text("#!/bin/bash\nexec python3 -B scripts/against_replay.py replay --examples\n")
+        (self.top / "compare").chmod(0o755)
+        return self.told("compare", status=status)
+
+    def test_a_replay_that_does_as_the_program_passes(self):
+        self.assertIn("examples: 8 the same, 0 differ", self.compared(status=0))
+
+    def test_another_row_line_or_code_is_told(self):
+        told = self.compared("sed 's/^0,T,W/0,T,X/; s/,0,E,200010$/,0,S,200010/'")
+        self.assertRegex(told, r"examples/approach: run\n  row 1 differs")
+        self.assertRegex(told, r"examples/approach: display\n  row 1 differs")
+        self.assertIn("the code differs", self.compared("cat", "1"))
+
+    def test_records_that_are_not_plain_must_not_be_taken(self):
+        with (self.top / EXAMPLE / "input").open("a") as records:
+            records.write('"read",60,900000,900000,900000,0,0,0\n')
+        self.assertRegex(self.compared(), r"replay   0,T,W")
+
+    def test_a_warning_in_c_is_told(self):
+        copies.alter(self.top, "c/journey.c", r"\Z", "static int unused;\n")
+        self.assertIn("unused", self.told("scripts/check-c", self.library()))
+
+    def test_a_library_that_asks_for_more_is_told(self):
+        more = "int rand(void); int more(void); int more(void) { return rand(); }\n"
+        self.assertIn("what a C compiler brings: rand", self.told("scripts/check-c", self.library(more)))
+
+    def test_a_library_with_memory_of_its_own_is_told(self):
+        more = "int kept; int keep(int more); int keep(int more) { return kept += more; }\n"
+        self.assertIn("memory of its own: .bss", self.told("scripts/check-c", self.library(more)))
+
+    def test_a_library_that_answers_otherwise_is_told(self):
+        self.assertIn("fault: not so of data that are refused", self.told("scripts/check-c", self.library()))
 
 
 class Gate(OverACopy):
@@ -143,7 +212,7 @@ class Gate(OverACopy):
         tools = self.top / "tools-there"
         tools.mkdir()
         self.assertIn("rt, the toolchain's command", self.set_up(tools, {}))
-        there = dict.fromkeys(["rt", "gnuplot", "parallel"], "exit 0") | {"python3": "echo Python 3.9; exit 1"}
+        there = dict.fromkeys(["rt", "gnuplot", "parallel", "cc", "valgrind"], "exit 0") | {"python3": "echo Python 3.9; exit 1"}
         self.assertIn("Python from 3.11 on is needed", self.set_up(tools, there))
 
     def set_up(self, folder: Path, programs: dict[str, str]) -> str:

@@ -75,6 +75,8 @@ class Journey:
     adhesion: list = field(default_factory=list)  # of (from m, to m), as the next one
     no_special: list = field(default_factory=list)
     curves: dict = field(default_factory=dict)
+    true: list = field(default_factory=list)  # of (m, km/h): the train itself, of `drive`
+    certificates: dict = field(default_factory=dict)  # of `check`: lines of (m, km/h) by the name of their series
     note: str = ""
 
 

@@ -10,7 +10,7 @@ from dataclasses import dataclass, replace
 from model.speeds import dV_ebi, dV_sbi, dV_warning
 from model.units import NOTCHES_PER_KM_H
 
-from . import display
+from . import certificate, display
 from .journey import CM_PER_M, highest, steps
 from .sheet import (ABOVE, BLACK, COMMAND, GREY, HEIGHT, LEFT, LETTER, LEVEL, PALE, RIGHT, SMALL, STATUSES, STRIP, WHITE, WIDTH,
                     Shade, across, block, frame, label, rgb, seconds, spot, up)
@@ -39,6 +39,8 @@ LIMITS = {
 CURVES = {"EBD": ("EBD", "#D55E00"), "SBD": ("SBD", "#777777")}
 # The limits that are speeds over the ceiling as well.
 MARGINS = {"ebi": dV_ebi, "sbi": dV_sbi, "warning": dV_warning}
+# The train itself, where it is known beside its readings.
+TRUE = "lines lw 2.4 lc rgb '#CC79A7'"
 COMMANDS = ("tco", "sb", "eb")
 MOST_CHANGES = 24  # of commands, that are named
 
@@ -60,7 +62,7 @@ def place_panel(journey, low_edge, places=None, speeds=None):
         f"set grid lc rgb '{PALE}' lt 1 lw 0.6",
         f"set key at {spot(RIGHT + 10, high_edge - 2)} left top Left reverse samplen 3.2 spacing 1.2 {SMALL}",
     ]
-    series = drawn_series(data, len(journey.readings)) + key_of(data, "status" in journey.readings[0].row)
+    series = drawn_series(data, len(journey.readings)) + key_of(data, train_of(journey))
     return lines + ["plot " + ", ".join(series)] + track
 
 
@@ -230,9 +232,9 @@ def end_lines(journey):
 
 def changes_of(journey, near):
     """Where commands come and go: places in m and what changes there, those as near as a label's height together."""
-    last, changes = {}, []
+    last, changes, obeyed = {}, [], ("eb",) if journey.true else COMMANDS
     for reading in journey.readings:
-        now = {name: reading.row[name] == "1" for name in COMMANDS if name in reading.row}
+        now = {name: reading.row[name] == "1" for name in obeyed if name in reading.row}
         words = [f"{'+' if now[name] else '-'}{name}" for name in now if now[name] != last.get(name, False)]
         last = now
         if words and changes and abs(reading.front - changes[-1][0]) < near:
@@ -257,17 +259,18 @@ def change_lines(journey, scale):
 
 def series_data(journey, low, high):
     """The data of each series that the panel has, by name."""
-    readings = journey.readings
+    readings, differ = journey.readings, any(r.front < r.most for r in journey.readings)
     data = {
         "restrictions": restriction_lines(journey, low, high),
         "ceiling": [f"{r.front:.3f} {r.row['ceiling']}" for r in readings if "ceiling" in r.row],
         "release": broken_lines((r.front, r.release) for r in readings),
         "profile": profile_lines(journey, low, high),
         "train": [f"{r.front:.3f} {r.speed:.4f} {rgb(colour_of(r))}" for r in readings],
-        "most": [f"{r.most:.3f} {r.speed:.4f}" for r in readings] if any(r.front < r.most for r in readings) else [],
+        "most": [f"{r.most:.3f} {r.speed:.4f}" for r in readings if not journey.true and differ],
         "bars": [f"{r.least:.3f} {r.speed:.4f} {r.most - r.least:.3f}" for r in readings if r.least < r.most],
     }
-    data |= display.series_data(readings)
+    data["true"] = [f"{place:.3f} {kmh:.4f}" for place, kmh in journey.true]
+    data |= display.series_data(readings) | certificate.series_data(journey)
     for limit, margin in MARGINS.items():
         over = [(r.front, int(r.row["ceiling"])) for r in readings if "ceiling" in r.row]
         data["over_" + limit] = [f"{front:.3f} {M + margin(M) / NOTCHES_PER_KM_H:.4f}" for front, M in over]
@@ -295,10 +298,13 @@ def curve_lines(lines, low, high):
 
 
 def colour_of(reading):
-    """The colour of a reading's mark: that of its status, of `display` where its speed lies, of `flat` the emergency brake."""
+    """The colour of a reading's mark: that of its status, of `display` where its speed lies, of `flat` the emergency brake, of
+    `check` the answer."""
     if reading.shown:
         return display.ZONES[display.zone_of(reading)].colour
     row = reading.row
+    if "holds" in row:
+        return certificate.ANSWERS[row["holds"]].colour
     return STATUSES[row["status"]].colour if "status" in row else COMMAND.get(row["eb"], Shade(WHITE)).colour
 
 
@@ -365,25 +371,35 @@ def drawn_series(data, count):
         ("release", "1:2", "steps lw 4 lc rgb '#56B4E9'"),
         ("profile", "1:2", f"steps lw 1 lc rgb '{BLACK}'"),
         *display.series(),
+        *certificate.series(),
         *(("curve_" + name, "1:2", f"lines lw 0.8 lc rgb '{CURVES[name][1]}' dt (2,2)") for name in CURVES),
         *(("curve_" + limit, "1:2", limit_style(limit)) for limit in LIMITS),
         *((limit, "1:2", mark_style(limit, count)) for limit in LIMITS),
         ("most", "1:2", f"lines lw 0.9 lc rgb '{GREY}' dt (4,3)"),
         ("bars", "1:2:3:(0)", f"vectors nohead lw 1 lc rgb '{GREY}'"),
-        ("train", "1:2", f"lines lw 1.4 lc rgb '{BLACK}'"),
+        *([] if "marks" in data else [("train", "1:2", f"lines lw 1.4 lc rgb '{BLACK}'")]),  # claims are no journey
+        ("true", "1:2", TRUE),
         ("train", "1:2", f"points pt 6 ps {1.4 * marks:.2f} lc rgb '{BLACK}'"),
         ("train", "1:2:3", f"points pt 7 ps {1.2 * marks:.2f} lc rgb variable"),
     ]
     return [f"${name} using {using} with {style} notitle" for name, using, style in series if name in data]
 
 
-def key_of(data, has_status):
+def train_of(journey):
+    """What the key calls the marks of the train."""
+    row = journey.readings[0].row
+    return "claim" if "holds" in row else "train, by status" if "status" in row else "train"
+
+
+def key_of(data, train):
     """The lines of the key from top to bottom."""
     keys = [
-        ("train", f"linespoints lw 1.4 pt 7 ps 0.8 lc rgb '{BLACK}'", "train, by status" if has_status else "train"),
+        ("train", f"{'points' if train == 'claim' else 'linespoints lw 1.4'} pt 7 ps 0.8 lc rgb '{BLACK}'", train),
+        ("true", TRUE, "true train"),
         ("most", f"lines lw 0.9 lc rgb '{GREY}' dt (4,3)", "max safe front end"),
         ("bars", f"lines lw 1 lc rgb '{GREY}'", "safe front ends"),
         *display.keys(),
+        *certificate.keys(),
         ("ceiling", "lines lw 4 lc rgb '#BBBBBB'", "ceiling, its margins"),
         ("release", "lines lw 4 lc rgb '#56B4E9'", "release speed"),
         ("profile", f"lines lw 1 lc rgb '{BLACK}'", "static profile"),

@@ -4,7 +4,7 @@ The strips lie over time and not over place, since a train that stands has many 
 axis tell both.
 """
 
-from . import display
+from . import certificate, display
 from .sheet import (BLACK, COMMAND, COVERED, FOOT, GREY, LEFT, RIGHT, SMALL, STATES, STATUSES, STRIP, TARGETS, WHITE, Shade, block,
                     frame, label, rgb, seconds, spot)
 
@@ -19,6 +19,7 @@ STRIPS = {
     "zone": ("own speed", display.ZONES),
     "counts": ("target of P", None),
     "target": ("shown target", None),
+    "holds": ("holds", certificate.ANSWERS),
     "differs": ("not the model's", {"1": Shade("#CC0000")}),
 }
 

@@ -6,6 +6,7 @@ bands are of odd seeds alone.
     python3 tools/model/journeys.py folder DIR FIRST COUNT   a folder for each seed, as in examples/
     python3 tools/model/journeys.py lines FIRST COUNT        a line of JSON for each seed, to standard output
     python3 tools/model/journeys.py input SEED               the input of one seed
+    python3 tools/model/journeys.py drive SEED               the input of its drive
     python3 tools/model/journeys.py specials DIR             a folder for each input at the limits of the formats
 
 A line has `seed`, `name` (what the journey is about), `args`, `input` (base64), `rows`, `err`, `code`.
@@ -224,6 +225,20 @@ def upgraded(rng):
     return ["upgrade"], "upgrade", data
 
 
+def a_drive(seed):
+    """A drive of a seed: words, and a data part alone, of which most can be driven and come to their end."""
+    rng, version = random.Random(f"drive {seed}"), 1 + seed % 2
+    document, _ = an_open_document(rng, version)
+    train, track = document["train"], document["track"]
+    if rng.random() < .95:
+        train["emergency_time"] = max(train["emergency_time"], 5)
+    if rng.random() < .95:
+        eoa = min(rng.choice([0, 500, 20_000, 60_000, track["length"]]), track["length"])
+        document["authority"] = {"kind": "end", "eoa": eoa, "svl": rng.randint(eoa, min(eoa + 5_000, track["length"]))}
+    words = ["drive", str(rng.randint(0, 65_535)), str(rng.randint(1, 300))]
+    return words, toml(document, rng if rng.random() < .3 else None).encode()
+
+
 def make(seed):
     """The journey of a seed: words, what it is about, input."""
     rng, version = random.Random(seed), 1 + seed % 2
@@ -276,8 +291,8 @@ def write_folder(folder, words, name, data):
 
 
 def main(words):
-    if len(words) == 2 and words[0] == "input":
-        sys.stdout.buffer.write(make(int(words[1]))[2])
+    if len(words) == 2 and words[0] in ("input", "drive"):
+        sys.stdout.buffer.write((make if words[0] == "input" else a_drive)(int(words[1]))[-1])
         return
     if len(words) == 2 and words[0] == "specials":
         for name, data in specials():

@@ -1,6 +1,8 @@
 """Words, outcomes, input and output (FORMATS "Commands", "How a run ends")."""
 import os
 
+from .certificates import certify
+from .checker import check_lines
 from .data import data_of, read_document, split, table_of
 from .display import display_of
 from .drive import drive_lines
@@ -46,6 +48,11 @@ def rows_of(words, read):
         case ["display"]:
             supervisor, events = open_run(not_too_long(read()))
             return (display_of(supervisor, cycle.situation).text() for cycle in cycles(supervisor, events))
+        case ["certify", count]:
+            count = number_word(count, 1, 1_000)
+            return certify(*open_run(not_too_long(read())), count)
+        case ["check"]:
+            return check_lines(not_too_long(read()))
         case ["flat", A, END]:
             return flat_rows(number_word(A, 5, 400), number_word(END, 0, 10_000_000), not_too_long(read()))
         case ["upgrade"]:

@@ -111,6 +111,12 @@ def words():
     for name, given in [("none", []), ("help", ["--help"]), ("flat-4", ["flat", "4", "5"]),
                         ("flat-401", ["flat", "401", "5"]), ("flat-end", ["flat", "5", "10000001"]),
                         ("display-1", ["display", "1"]), ("display-in-capitals", ["Display"]),
+                        ("certify-alone", ["certify"]), ("certify-1-2", ["certify", "1", "2"]), ("certify-0", ["certify", "0"]),
+                        ("certify-1001", ["certify", "1001"]), ("check-1", ["check", "1"]), ("check-in-capitals", ["Check"]),
+                        ("drive-alone", ["drive"]), ("drive-1", ["drive", "1"]), ("drive-1-2-3", ["drive", "1", "2", "3"]),
+                        ("drive-in-capitals", ["DRIVE", "1", "2"]), ("drive-65536", ["drive", "65536", "1"]),
+                        ("drive-below-0", ["drive", "-1", "1"]), ("drive-0", ["drive", "1", "0"]),
+                        ("drive-100001", ["drive", "1", "100001"]), ("drive-plus", ["drive", "+1", "1"]),
                         ("upgrade-1", ["upgrade", "1"]), ("upgrade-in-capitals", ["UPGRADE"]),
                         ("trial-0", ["trial", "1", "0"]), ("trial-100001", ["trial", "1", "100001"])]:
         yield name, f"words that none of the commands has: {' '.join(given) or 'none'}", given, b""

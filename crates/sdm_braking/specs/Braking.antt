@@ -12,6 +12,7 @@ use Rattle.sdm_rules.specs.Reaction.{reaction_times}
 use Rattle.sdm_rules.specs.Opening.{HasAcceptedSlopes, IsOpenFault}
 use Rattle.sdm_train.specs.Trains.{IsTrain}
 use Rattle.sdm_track.specs.Ranges.{IsTrack}
+use Rattle.sdm_decel.specs.StretchCells.{AreStretches}
 use Rattle.sdm_limits.specs.Ranges.{AreTimes}
 
 -- data that supervision accepts: a train and a track within their ranges, and slopes of all kinds that curves can
@@ -21,9 +22,11 @@ pub record IsSupervisable (d : TrainAndTrack) : Type 0 where
   pub track : IsTrack d.track
   pub usable : HasAcceptedSlopes d
 
--- the slope maps and the times of reaction are those of the data
+-- the slope maps and the times of reaction are those of the data; the segments of the safe map are its stretches of
+-- track
 pub record IsBrakingOf (d : TrainAndTrack) (safe expected normal : SlopeMap) (times : Times) : Type 0 where
   pub safe_is : meaning_of safe ≡ slopes_of Safe d
+  pub safe_stretches : AreStretches d.track d.train.length_cm safe.starts
   pub expected_is : meaning_of expected ≡ slopes_of Expected d
   pub normal_is : meaning_of normal ≡ slopes_of Normal d
   pub times_are : times ≡ reaction_times d

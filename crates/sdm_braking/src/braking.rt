@@ -12,6 +12,7 @@ ghost use Rattle.sdm_rules.specs.Release.{t_be};
 ghost use Rattle.sdm_rules.specs.Slopes.{meaning_of};
 ghost use Rattle.sdm_rules.specs.Ranges.{longest_train, top_kmh};
 ghost use Rattle.sdm_decel.specs.Slopes.{train_and_track_from, IsFaultOfKind};
+ghost use Rattle.sdm_decel.specs.StretchCells.{AreStretches};
 ghost use Rattle.sdm_limits.specs.Ranges.{AreTimes};
 ghost use Rattle.sdm_braking.specs.Braking.{IsSupervisable, IsRefusal};
 
@@ -89,6 +90,7 @@ fn map_of(
     requires { AreBefore kind (train_and_track_from train.now national.now track.now) }
     ensures slopes { IfOk result
         (λ m. meaning_of m ≡ slopes_of kind (train_and_track_from train.now national.now track.now)) }
+    ensures segments { IfOk result (λ m. AreStretches track.now train.now.length_cm m.starts) }
     ensures accepted { IfOk result (λ _. IsAcceptedKind kind (train_and_track_from train.now national.now track.now)) }
     ensures refused { IfErr result
         (λ fault. (a : Authority) → IsRefusal (train_and_track_from train.now national.now track.now) a fault) }
@@ -179,9 +181,10 @@ impl Braking {
         self.train.length() as u32
     }
 
-    /// The map of A_safe, on which EBDs stand.
+    /// The map of A_safe, on which EBDs stand: at most 2,000 segments, none past cell 10,150,000.
     pub fn safe(&self) -> &BandMap
-        ensures { meaning_of result.now ≡ slopes_of Safe self.now }
+        ensures slopes { meaning_of result.now ≡ slopes_of Safe self.now }
+        ensures segments { AreStretches self.now.track self.now.train.length_cm result.now.starts }
     {
         &self.safe
     }

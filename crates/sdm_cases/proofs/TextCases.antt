@@ -14,7 +14,8 @@ use Rattle.sdm_rules.specs.declared.faults.FieldFault.TheVariants.{NotNumber}
 use Rattle.sdm_rules.specs.declared.faults.EventCause.TheVariants as causes
 use Rattle.sdm_rules.specs.declared.faults.OpenFault.TheVariants as open_faults
 use Rattle.sdm_rules.specs.Text.{row_text}
-use Rattle.sdm_rules.specs.Input.{Data, Refused, BadEvent}
+use Rattle.sdm_rules.specs.declared.faults.DriveCause.TheVariants.{ShortBuild}
+use Rattle.sdm_rules.specs.Input.{Data, Undrivable, Refused, BadEvent}
 use Rattle.sdm_rules.specs.FaultLines.{end_line, fault_line, data_text, open_text, cause_text, form_text, field_text}
 use Rattle.sdm_rules.specs.FaultLines.{train_text, track_text, kind_text, section_path, list_path, key_path, key_names}
 
@@ -72,3 +73,7 @@ field_line : end_line (BadEvent 1 (causes.Form (event_faults.Field 8 NotNumber))
     ≡ codes "sdm: bad event 1: field 8: not a number\n"
 unfolding end_line fault_line cause_text form_text field_text digits
 field_line = refl
+
+short_build_line : end_line (Undrivable ShortBuild) ≡ codes "sdm: not drivable: emergency time\n"
+unfolding end_line fault_line
+short_build_line = refl

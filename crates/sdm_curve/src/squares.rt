@@ -39,7 +39,7 @@ impl BandMap {
     }
 
     /// The energy of the square of a speed.
-    pub(crate) fn energy_of(&self, v: Speed) -> u128
+    pub fn energy_of(&self, v: Speed) -> u128
         ensures value { result ≡ grain_energy (meaning_of self.now) (v * v) }
         ensures small { result ≤ 10 ^ 32 }
         ensures fits { v ≤ top_speed }

@@ -12,3 +12,5 @@ pub mod DriveCases
 pub mod TrainLaws
 pub mod StepLaws
 pub mod StartLaws
+pub mod Counting
+pub mod MadeSteps

@@ -4,3 +4,4 @@ pub mod DriveLaws
 pub mod Held
 pub mod Faults
 pub mod Kept
+pub mod Summaries

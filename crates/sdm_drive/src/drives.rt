@@ -10,18 +10,18 @@ ghost use Rattle.sdm_rules.specs.Data.{TrainAndTrack};
 ghost use Rattle.sdm_decel.specs.Slopes.{train_and_track_from};
 ghost use Rattle.sdm_braking.specs.Braking.{IsRefusal};
 ghost use Rattle.sdm_drive.specs.Drive.{after_step, brake_delay, drive_row, drive_start, last_within};
-ghost use Rattle.sdm_drive.specs.Drive.{onset_after};
+ghost use Rattle.sdm_drive.specs.Drive.{onset_after, step_time};
 ghost use Rattle.sdm_drive.specs.DriveLaws.{most_steps};
 ghost use Rattle.sdm_drive.specs.Faults.{HasBuildUp, IsDriveRefusal, IsPlainStop, MayBeDriven};
 
 use crate::faults::DriveFault;
-use crate::odometers::{next_number, reading_by};
+use crate::odometers::reading_by;
 use crate::orders::Orders;
 use crate::rows::DriveRow;
 use crate::trains::{STEP_TIME, TrueTrain};
 use sdm_national::National;
 use sdm_num::{Place, Speed};
-use sdm_rules::OpenFault;
+use sdm_rules::{OpenFault, next_number};
 use sdm_supervisor::Supervisor;
 use sdm_targets::Authority;
 use sdm_track::Track;
@@ -199,6 +199,8 @@ impl Drive {
         ensures stepped { self.new ≡ after_step self.old }
         ensures by_svl { (eoa svl : ℕ) → self.old.supervision.authority ≡ Stop eoa svl 0 →
             result.front ≤ℤ place_of_cell (pos svl) }
+        ensures from_start { pos 0 ≤ℤ result.front }
+        ensures stops { result.stops ≤ step_time }
     {
         let time = STEP_TIME * (self.steps + 1);
         let number = next_number(self.number);

@@ -7,12 +7,16 @@ pub mod laws;
 mod odometers;
 pub mod orders;
 pub mod rows;
+mod summaries;
 mod trains;
+mod whole_drives;
 
 pub use drives::Drive;
 pub use faults::DriveFault;
 pub use orders::Orders;
 pub use rows::DriveRow;
+pub use summaries::Summary;
+pub use whole_drives::driven;
 
 #[cfg(test)]
 mod tests;

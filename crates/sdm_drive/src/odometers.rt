@@ -3,19 +3,10 @@
 
 ghost use Rattle.std.specs.Prelude.{◌≡◌, pos, ◌*◌, ◌%◌, ◌^◌, ◌≤◌, ◌+ℤ◌, ◌≤ℤ◌, if◌then◌else◌};
 ghost use Rattle.sdm_num.specs.Bounds.{mm_above};
-ghost use Rattle.sdm_rules.specs.Trial.{next_number};
 ghost use Rattle.sdm_drive.specs.Drive.{read_speed, reading_by};
 
 use crate::trains::TrueTrain;
 use sdm_num::{Late, MILLIMETRE, Place, Reading, Speed};
-
-/// The number of the step after that of a number.
-pub fn next_number(number: u16) -> u16
-    ensures { result ≡ next_number number }
-{
-    let next = (25_173 * u32::from(number) + 13_849) % 65_536;
-    next as u16
-}
 
 /// The speed that is read, in mm/s.
 fn read_speed(inhibited: bool, number: u16, speed: Speed) -> u32

@@ -1,13 +1,15 @@
 //! Drives whose rows were worked by hand, and others whose summaries were worked out in exact fractions by a program
 //! apart from this one.
 
-use crate::{Drive, DriveFault, DriveRow};
+ghost use Rattle.std.specs.Prelude.{◌≤◌};
+
+use crate::{Drive, DriveFault, DriveRow, driven};
 use sdm_national::National;
-use sdm_num::{MILLIMETRE, Place};
 use sdm_rules::{
     Authority, AuthorityFault, BASE_BAND, BASE_NATIONAL, BASE_TRAIN, Band, NationalFields,
     OpenFault, TrainFields,
 };
+use sdm_text::RowBuf;
 use sdm_track::{Area, Gradient, SpeedStep, Track};
 use sdm_train::Train;
 use std::alloc::{AllocError, Global};
@@ -58,8 +60,8 @@ fn base(alloc: Global) -> Result<Data, AllocError> {
     })
 }
 
-/// The drive over data, or why it is refused.
-fn begin(alloc: Global, data: Data, seed: u16) -> Result<Result<Drive, DriveFault>, Fail> {
+/// The train, the national values and the track of data.
+fn parts(alloc: Global, data: Data) -> Result<(Train, National, Track), Fail> {
     let train = Train::new(data.train)?;
     let national = National::new(data.national)?;
     let track = Track::new(
@@ -69,7 +71,14 @@ fn begin(alloc: Global, data: Data, seed: u16) -> Result<Result<Drive, DriveFaul
         data.adhesion,
         Vec::new(alloc),
     )?;
-    Ok(Drive::begin(alloc, train, national, track, data.authority, seed))
+    Ok((train, national, track))
+}
+
+/// The drive over data, or why it is refused.
+fn begin(alloc: Global, data: Data, seed: u16) -> Result<Result<Drive, DriveFault>, Fail> {
+    let authority = data.authority;
+    let (train, national, track) = parts(alloc, data)?;
+    Ok(Drive::begin(alloc, train, national, track, authority, seed))
 }
 
 fn begun(alloc: Global, data: Data, seed: u16) -> Result<Drive, Fail> {
@@ -105,38 +114,18 @@ fn a_train_is_driven_by_its_numbers(rt: HostRuntime) -> Result<(), Fail> {
 
 // ---- summaries
 
-/// What the rows of a drive say together: how many have the emergency brake commanded, how many stops there were, where
-/// the front end is in mm, rounded up, and how far it was at least before a place, in mm, rounded down.
-#[derive(Clone, Copy, Debug, PartialEq, Eq)]
-struct Summary {
-    emergency: u32,
-    stops: u32,
-    front: i64,
-    least: i64,
-}
-
-/// So many steps of a drive to an SvL in cm.
-fn drive_on(rt: &impl Abort, drive: &mut Drive, steps: u32, svl: u32) -> Summary {
-    assert!(rt; svl <= 10_000_000);
-    let end = Place::of_cm_from_0(svl);
-    let mut said = Summary {
-        emergency: 0,
-        stops: 0,
-        front: 0,
-        least: 10 * i64::from(svl),
+/// Whether the summary of so many steps over data is a text.
+fn is_summed_up(alloc: Global, data: Data, seed: u16, cycles: u32, text: &str) -> Result<bool, Fail>
+    requires { cycles ≤ 100_000 }
+{
+    let authority = data.authority;
+    let (train, national, track) = parts(alloc, data)?;
+    let Ok(summary) = driven(alloc, train, national, track, authority, seed, cycles) else {
+        return Err("the drive is refused")?;
     };
-    for _ in 0..steps {
-        let row = step(rt, drive);
-        if row.row.held.eb {
-            said.emergency = said.emergency.wrapping_add(1);
-        }
-        said.stops = said.stops.wrapping_add(row.stops);
-        said.front = row.front.mm_above();
-        assert!(rt; row.front <= end);
-        let ahead = row.front.distance_to(end) / MILLIMETRE as u64;
-        said.least = said.least.min(ahead as i64);
-    }
-    said
+    let mut said = RowBuf::new();
+    summary.put(&mut said);
+    Ok(said.bytes() == text.as_bytes())
 }
 
 #[test]
@@ -144,14 +133,18 @@ fn a_train_whose_svl_is_at_its_front_end_stands(rt: HostRuntime) -> Result<(), F
     let alloc = rt.alloc();
     let mut data = base(alloc)?;
     data.authority = stop(0, 0);
-    let mut drive = begun(alloc, data, 7)?;
-    let stands = Summary {
-        emergency: 0,
-        stops: 0,
-        front: 0,
-        least: 0,
-    };
-    assert_eq!(rt; drive_on(&rt, &mut drive, 1_000, 0), stands);
+    let text = "cycles 1000\nemergency 0\nstops 0\nfront 0\nleast 0\n";
+    assert!(rt; is_summed_up(alloc, data, 7, 1_000, text)?);
+    Ok(())
+}
+
+#[test]
+fn three_steps_are_summed_up(rt: HostRuntime) -> Result<(), Fail> {
+    let alloc = rt.alloc();
+    let text = "cycles 3\nemergency 0\nstops 0\nfront 184\nleast 999816\n";
+    assert!(rt; is_summed_up(alloc, base(alloc)?, 7, 3, text)?);
+    let nothing = "cycles 0\nemergency 0\nstops 0\nfront 0\nleast 1000000\n";
+    assert!(rt; is_summed_up(alloc, base(alloc)?, 7, 0, nothing)?);
     Ok(())
 }
 
@@ -189,14 +182,8 @@ fn realistic(alloc: Global) -> Result<Data, AllocError> {
 #[test]
 fn a_hundred_thousand_steps_over_realistic_data(rt: HostRuntime) -> Result<(), Fail> {
     let alloc = rt.alloc();
-    let mut drive = begun(alloc, realistic(alloc)?, 7)?;
-    let said = Summary {
-        emergency: 99_417,
-        stops: 2,
-        front: 5_016_932,
-        least: 33_068,
-    };
-    assert_eq!(rt; drive_on(&rt, &mut drive, 100_000, 505_000), said);
+    let text = "cycles 100000\nemergency 99417\nstops 2\nfront 5016932\nleast 33068\n";
+    assert!(rt; is_summed_up(alloc, realistic(alloc)?, 7, 100_000, text)?);
     Ok(())
 }
 
@@ -257,14 +244,8 @@ fn short(alloc: Global) -> Result<Data, AllocError> {
 #[test]
 fn a_train_stops_often_on_a_short_track(rt: HostRuntime) -> Result<(), Fail> {
     let alloc = rt.alloc();
-    let mut drive = begun(alloc, short(alloc)?, 47_880)?;
-    let said = Summary {
-        emergency: 68,
-        stops: 13,
-        front: 27_025,
-        least: 3_145,
-    };
-    assert_eq!(rt; drive_on(&rt, &mut drive, 300, 3_017), said);
+    let text = "cycles 300\nemergency 68\nstops 13\nfront 27025\nleast 3145\n";
+    assert!(rt; is_summed_up(alloc, short(alloc)?, 47_880, 300, text)?);
     Ok(())
 }
 

@@ -19,6 +19,8 @@ use sdm_text::read_int;
 /// The event that a record writes. It is refused by UnknownKind where its first field names no kind; else by
 /// FieldCount where it has another count of fields than its kind; else by Field where a column is no number in its
 /// range, with the first such column. TooMany is never answered here. No memory is taken. (own)
+// In line in each loop over records: a call would cost a reading some 70 instructions.
+#[inline(always)]
 #[tactic(auto, unfolding(sdm_rules::specs::Forms::event_of))]
 pub fn event_of(fields: &ByteRecord) -> Result<Event, EventFault>
     ensures value { result ≡ event_of (fields_of fields.now) }
@@ -76,6 +78,8 @@ fn number(fields: &ByteRecord, column: u32, least: i32, greatest: i32) -> Result
 }
 
 /// `read`: an odometer reading.
+// In line, as `event_of`.
+#[inline(always)]
 #[tactic(auto, unfolding(sdm_rules::specs::Forms::read_form))]
 fn read_event(fields: &ByteRecord) -> Result<Event, EventFault>
     ensures value { result ≡ read_form (drop 1 (fields_of fields.now)) }

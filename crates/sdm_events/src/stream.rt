@@ -48,6 +48,8 @@ impl<'a> Records<'a> {
     /// Takes the first of the records that are left into `into`; false where none is left. The only error is want of
     /// memory, since a reader of bytes in memory never fails; it is answered from then on. Only after true `into`
     /// holds a record.
+    // In line, as `event_of`.
+    #[inline(always)]
     pub fn next(&mut self, into: &mut ByteRecord) -> Result<bool, NoMemory>
         ensures found { result ≡ Ok true → self.old.left ≡ fields_of into.new ∷ self.new.left }
         ensures end { result ≡ Ok false → (self.old.left ≡ []) × (self.new.left ≡ []) }

@@ -3,3 +3,4 @@ pub mod BrakeCurves
 pub mod Moving
 pub mod Rows
 pub mod Openings
+pub mod Marks

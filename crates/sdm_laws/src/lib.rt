@@ -2,6 +2,7 @@
 //! with an empty body. Code crates cite the lemmas below them, in `proofs/`.
 #![tactic(auto)]
 
+pub mod certificates;
 pub mod curves;
 pub mod flat;
 pub mod motions;

@@ -16,7 +16,7 @@ abbrev pub HasOneSlope : SlopeMap → ℕ → ℕ → ℤ → ℤ → ℕ → Ty
 HasOneSlope map m band p p' a = (cell : ℤ) → HasPart m cell p p' → (meaning_of map).slope band cell ≡ a
 
 -- the segment of a cell that has a part is met
-cell_met : (map : SlopeMap) (m : ℕ) (p p' cell : ℤ) → AreStarts map.starts → HasPart m cell p p' →
+pub cell_met : (map : SlopeMap) (m : ℕ) (p p' cell : ℤ) → AreStarts map.starts → HasPart m cell p p' →
     IsMet m map.starts (segment_of map.starts cell) p p'
 cell_met map m p p' cell starts part =
     let g = in_segment map.starts cell (rising_of map.starts starts) starts.some in

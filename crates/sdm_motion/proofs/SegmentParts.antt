@@ -14,15 +14,15 @@ use Rattle.sdm_curve.specs.Maps.{AreStarts}
 use Rattle.sdm_motion.specs.Steps.{Meets}
 
 -- a later cell begins no earlier
-start_le : (m : ℕ) (a b : ℤ) → a ≤ℤ b → cell_start m a ≤ℤ cell_start m b
+pub start_le : (m : ℕ) (a b : ℤ) → a ≤ℤ b → cell_start m a ≤ℤ cell_start m b
 start_le m a b h = scale-≤ (m * centimetre) a b h
 
 -- a cell ends where the next one begins
-start_next : (m : ℕ) (c : ℤ) → cell_start m (c +ℤ pos 1) ≡ cell_start m c +ℤ pos (m * centimetre)
+pub start_next : (m : ℕ) (c : ℤ) → cell_start m (c +ℤ pos 1) ≡ cell_start m c +ℤ pos (m * centimetre)
 start_next m c = rw scale-+ℤ (omega (arith, ints))
 
 -- a cell that begins earlier is an earlier one
-start_lt_out : (m : ℕ) (a b : ℤ) → cell_start m a <ℤ cell_start m b → a <ℤ b
+pub start_lt_out : (m : ℕ) (a b : ℤ) → cell_start m a <ℤ cell_start m b → a <ℤ b
 start_lt_out m a b h = scale-<_cancel (m * centimetre) a b h
 
 -- a segment with a cell that has a part is met

@@ -5,7 +5,7 @@
 pub mod laws;
 mod motion;
 mod slices;
-mod slopes;
+pub mod slopes;
 mod steps;
 
 pub use motion::is_motion;

@@ -6,7 +6,7 @@ use Rattle.sdm_report.specs.declared.outcome.InputFault.{InputFault}
 use Rattle.sdm_report.specs.declared.outcome.InputFault.TheVariants.{NoSplit, Toml, Data}
 use Rattle.sdm_report.specs.declared.outcome.Outcome.{Outcome}
 use Rattle.sdm_report.specs.declared.outcome.Outcome.TheVariants.{Done, Usage, ReadFault, WriteFault, TooLong, BadData}
-use Rattle.sdm_report.specs.declared.outcome.Outcome.TheVariants.{Refused, BadEvent, Memory}
+use Rattle.sdm_report.specs.declared.outcome.Outcome.TheVariants.{Refused, BadEvent, Memory, Undrivable}
 
 -- the end of an input whose data part is refused
 abbrev pub end_of_data : InputFault → ends.End
@@ -25,6 +25,7 @@ outcome_line (BadData fault) = end_line (end_of_data fault)
 outcome_line (Refused fault) = end_line (ends.Refused fault)
 outcome_line (BadEvent number cause) = end_line (ends.BadEvent number cause)
 outcome_line Memory = fault_line memory_text
+outcome_line (Undrivable cause) = end_line (ends.Undrivable cause)
 
 -- the exit status of an outcome
 abbrev pub exit_code : Outcome → ℕ
@@ -37,3 +38,4 @@ exit_code (BadData fault) = 5
 exit_code (Refused fault) = 6
 exit_code (BadEvent number cause) = 7
 exit_code Memory = 8
+exit_code (Undrivable cause) = 9

@@ -3,6 +3,7 @@
 ghost use Rattle.std.specs.Prelude.{◌≡◌, ◌+◌, ◌≤◌, ◌++◌, length, decimal};
 ghost use Rattle.std.specs.Fmt.{signed_decimal};
 ghost use Rattle.sdm_rules.specs.Text.{flag_text, place_text};
+ghost use Rattle.sdm_rules.specs.Trial.{count_text};
 
 use sdm_text::{ROW_BYTES, RowBuf};
 
@@ -47,4 +48,16 @@ pub fn put_flag(flag: bool, into: &mut RowBuf)
     ensures short { length into.new ≤ length into.old + 1 }
 {
     into.byte(if flag { b'1' } else { b'0' });
+}
+
+/// Puts a word and a number as a line: at most 12 bytes more than the word. (own)
+pub fn put_count_line(word: &[u8], number: u32, into: &mut RowBuf)
+    requires room { length into.old + length word.now + 12 ≤ ROW_BYTES }
+    ensures text { into.new ≡ into.old ++ count_text word.now number }
+    ensures short { length into.new ≤ length into.old + length word.now + 12 }
+{
+    into.text(word);
+    into.byte(b' ');
+    put_count(number, into);
+    into.byte(b'\n');
 }

@@ -14,7 +14,7 @@ mod row_lines;
 pub use outcome::{InputFault, Outcome};
 pub use outcome_lines::outcome_bytes;
 pub use row_lines::row_bytes;
-pub use sdm_rules::EventCause;
+pub use sdm_rules::{DriveCause, EventCause};
 
 #[cfg(test)]
 mod tests;

@@ -2,7 +2,7 @@
 
 ghost use Rattle.std.specs.Prelude.{◌≡◌};
 
-use sdm_rules::{DataFault, EventCause, OpenFault};
+use sdm_rules::{DataFault, DriveCause, EventCause, OpenFault};
 use thiserror::Error;
 
 /// Why the data part of an input is refused. (own)
@@ -40,12 +40,14 @@ pub enum Outcome {
     BadEvent { number: u32, cause: EventCause },
     /// Memory was refused.
     Memory,
+    /// The data can't be driven.
+    Undrivable(DriveCause),
 }
 
 impl Outcome {
     ghost use Rattle.sdm_report.specs.OutcomeLines.{exit_code};
 
-    /// The exit status: 0 to 8 in the order of the variants. (own)
+    /// The exit status: 0 to 9 in the order of the variants. (own)
     pub fn code(&self) -> u8
         ensures { result ≡ exit_code self.now }
     {
@@ -59,6 +61,7 @@ impl Outcome {
             Outcome::Refused(_) => 6,
             Outcome::BadEvent { .. } => 7,
             Outcome::Memory => 8,
+            Outcome::Undrivable(_) => 9,
         }
     }
 }

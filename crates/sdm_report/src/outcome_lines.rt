@@ -3,13 +3,13 @@
 ghost use Rattle.std.specs.Prelude.{◌≡◌, []};
 ghost use Rattle.sdm_report.specs.OutcomeLines.{end_of_data, outcome_line};
 ghost use Rattle.sdm_rules.specs.FaultLines.{end_line};
-ghost use Rattle.sdm_rules.specs.Input.{BadEvent, Refused};
+ghost use Rattle.sdm_rules.specs.Input.{BadEvent, Refused, Undrivable};
 
 use crate::data_lines::put_data_fault;
 use crate::fields::put_count;
 use crate::outcome::{InputFault, Outcome};
 use crate::refusal_lines::{put_cause, put_open_fault};
-use sdm_rules::{EventCause, OpenFault};
+use sdm_rules::{DriveCause, EventCause, OpenFault};
 use sdm_text::RowBuf;
 
 /// Puts the line of an outcome; nothing where all was done. Want of memory inside a fault has the line of want of
@@ -29,6 +29,7 @@ pub fn outcome_bytes(outcome: &Outcome, into: &mut RowBuf)
         Outcome::Refused(fault) => put_refused(*fault, into),
         Outcome::BadEvent { number, cause } => put_bad_event(*number, *cause, into),
         Outcome::Memory => into.text(b"sdm: no memory\n"),
+        Outcome::Undrivable(cause) => put_undrivable(*cause, into),
     }
 }
 
@@ -68,4 +69,16 @@ fn put_bad_event(number: u32, cause: EventCause, into: &mut RowBuf)
     into.text(b": ");
     put_cause(cause, into);
     into.byte(b'\n');
+}
+
+#[tactic(auto, unfolding(sdm_rules::specs::FaultLines::end_line, sdm_rules::specs::FaultLines::fault_line))]
+fn put_undrivable(cause: DriveCause, into: &mut RowBuf)
+    requires { into.old ≡ [] }
+    ensures { into.new ≡ end_line (Undrivable cause) }
+{
+    match cause {
+        DriveCause::NoStop => into.text(b"sdm: not drivable: no stop\n"),
+        DriveCause::HasRelease => into.text(b"sdm: not drivable: release speed\n"),
+        DriveCause::ShortBuild => into.text(b"sdm: not drivable: emergency time\n"),
+    }
 }

@@ -3,8 +3,9 @@
 
 use crate::{EventCause, InputFault, Outcome, outcome_bytes, row_bytes};
 use sdm_rules::{
-    At, AuthorityFault, DataFault, EventFault, FieldFault, Held, NationalFault, OpenFault,
-    RestrictFault, RevokeFault, Row, Section, SlopeKind, State, Status, TrackFault, TrainFault,
+    At, AuthorityFault, DataFault, DriveCause, EventFault, FieldFault, Held, NationalFault,
+    OpenFault, RestrictFault, RevokeFault, Row, Section, SlopeKind, State, Status, TrackFault,
+    TrainFault,
 };
 use sdm_text::RowBuf;
 use std::alloc::Global;
@@ -375,6 +376,21 @@ fn each_outcome_has_its_code_and_its_line(rt: HostRuntime) {
         ),
         (refused_line, 7, "sdm: bad event 2: line\n"),
         (Outcome::Memory, 8, "sdm: no memory\n"),
+        (
+            Outcome::Undrivable(DriveCause::NoStop),
+            9,
+            "sdm: not drivable: no stop\n",
+        ),
+        (
+            Outcome::Undrivable(DriveCause::HasRelease),
+            9,
+            "sdm: not drivable: release speed\n",
+        ),
+        (
+            Outcome::Undrivable(DriveCause::ShortBuild),
+            9,
+            "sdm: not drivable: emergency time\n",
+        ),
     ];
     for (outcome, code, line) in outcomes {
         assert_eq!(rt; outcome.code(), code);

@@ -25,11 +25,13 @@ use Rattle.sdm_rules.specs.declared.faults.FieldFault.{FieldFault}
 use Rattle.sdm_rules.specs.declared.faults.FieldFault.TheVariants.{NotNumber, OutOfRange}
 use Rattle.sdm_rules.specs.declared.faults.EventFault.{EventFault}
 use Rattle.sdm_rules.specs.declared.faults.EventFault.TheVariants as event_faults
+use Rattle.sdm_rules.specs.declared.faults.DriveCause.{DriveCause}
+use Rattle.sdm_rules.specs.declared.faults.DriveCause.TheVariants.{NoStop, HasRelease, ShortBuild}
 use Rattle.sdm_rules.specs.declared.faults.EventCause.{EventCause}
 use Rattle.sdm_rules.specs.declared.faults.EventCause.TheVariants as causes
 use Rattle.sdm_rules.specs.declared.faults.OpenFault.{OpenFault}
 use Rattle.sdm_rules.specs.declared.faults.OpenFault.TheVariants as open_faults
-use Rattle.sdm_rules.specs.Input.{End, Done, TooLong, NoSplit, Toml, Data, Refused, BadEvent}
+use Rattle.sdm_rules.specs.Input.{End, Done, TooLong, NoSplit, Toml, Data, Undrivable, Refused, BadEvent}
 
 -- ---- keys of the data part
 
@@ -206,6 +208,14 @@ cause_text (causes.Revoke fault) = revoke_text fault
 cause_text (causes.TimeBack last time) = codes "time back"
 cause_text causes.Line = codes "line"
 
+-- ---- data that can't be driven
+
+-- why data can't be driven, in words
+abbrev pub drive_cause_text : DriveCause → List ℕ
+drive_cause_text NoStop = codes "no stop"
+drive_cause_text HasRelease = codes "release speed"
+drive_cause_text ShortBuild = codes "emergency time"
+
 -- ---- the line
 
 -- a line of the fault stream
@@ -219,5 +229,6 @@ end_line TooLong = fault_line (codes "input too long")
 end_line NoSplit = fault_line (codes "bad data: no %% line")
 end_line Toml = fault_line (codes "bad data: not TOML")
 end_line (Data fault) = fault_line (data_text fault)
+end_line (Undrivable cause) = fault_line (codes "not drivable: " ++ drive_cause_text cause)
 end_line (Refused fault) = fault_line (open_text fault)
 end_line (BadEvent n cause) = fault_line (codes "bad event " ++ decimal n ++ codes ": " ++ cause_text cause)

@@ -5,6 +5,7 @@ use Rattle.std.specs.Prelude.{take, drop}
 use Rattle.sdm_rules.specs.declared.authorities.Authority.{Authority}
 use Rattle.sdm_rules.specs.declared.records.Event.{Event}
 use Rattle.sdm_rules.specs.declared.faults.DataFault.{DataFault}
+use Rattle.sdm_rules.specs.declared.faults.DriveCause.{DriveCause}
 use Rattle.sdm_rules.specs.declared.faults.EventFault.{EventFault}
 use Rattle.sdm_rules.specs.declared.faults.EventCause.{EventCause}
 use Rattle.sdm_rules.specs.declared.faults.OpenFault.{OpenFault}
@@ -18,13 +19,15 @@ abbrev pub most_bytes : ℕ
 most_bytes = 16_777_216
 
 -- How an input ends: read whole, too long, without a dividing line, with data that are no TOML document or break a
--- rule, with data that the opening refuses, or with a record, by its number from 1, that is refused
+-- rule, with data that can't be driven, with data that the opening refuses, or with a record, by its number from 1,
+-- that is refused
 pub data End : Type 0 where
   Done : End
   TooLong : End
   NoSplit : End
   Toml : End
   Data : DataFault → End
+  Undrivable : DriveCause → End
   Refused : OpenFault → End
   BadEvent : ℕ → EventCause → End
 

@@ -15,6 +15,7 @@ pub mod Commands
 pub mod Supervision
 pub mod Machines
 pub mod Stop
+pub mod Certificates
 pub mod Within
 pub mod Release
 pub mod Display

@@ -11,9 +11,13 @@ use Rattle.sdm_rules.specs.declared.faults.FieldFault.TheVariants.{NotNumber, Ou
 abbrev pub most_digits : ℕ
 most_digits = 18
 
--- the bytes are 1 to 18 digits; leading zeros are accepted
+-- the bytes are digits, at least one and at most so many; leading zeros are accepted
+abbrev pub is_digits_of : ℕ → List ℕ → Bool
+is_digits_of most ds = nat_le 1 (length ds) && nat_le (length ds) most && list_all is_ascii_digit ds
+
+-- the bytes are 1 to 18 digits
 abbrev pub is_digits : List ℕ → Bool
-is_digits ds = nat_le 1 (length ds) && nat_le (length ds) most_digits && list_all is_ascii_digit ds
+is_digits ds = is_digits_of most_digits ds
 
 -- the number of digits after a minus sign
 abbrev pub negated : List ℕ → Option ℤ
@@ -33,3 +37,13 @@ in_range least greatest (Some n) = if int_le least n && int_le n greatest then O
 -- the number of a field within a range, or why it is refused
 unfoldable pub read_int : List ℕ → ℤ → ℤ → Result ℤ FieldFault
 read_int field least greatest = in_range least greatest (number_of field)
+
+-- the most digits of a wide number, one that may exceed 18 digits
+abbrev pub most_wide_digits : ℕ
+most_wide_digits = 38
+
+-- the number that a field of 1 to 38 digits writes, up to `greatest`, or why it is refused
+unfoldable pub read_wide : List ℕ → ℕ → Result ℕ FieldFault
+read_wide field greatest =
+    let n = digits_value 10 field in
+    if is_digits_of most_wide_digits field then (if nat_le n greatest then Ok n else Err OutOfRange) else Err NotNumber

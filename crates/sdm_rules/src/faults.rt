@@ -215,3 +215,17 @@ pub enum EventCause {
     #[error("line")]
     Line,
 }
+
+/// Why data can't be driven.
+#[derive(Clone, Copy, Debug, PartialEq, Eq, Error)]
+pub enum DriveCause {
+    /// The authority is a limit, and has no supervised location.
+    #[error("no stop")]
+    NoStop,
+    /// The authority has a release speed.
+    #[error("release speed")]
+    HasRelease,
+    /// The emergency brake takes less time to build up than there is from a reading to the next.
+    #[error("emergency time")]
+    ShortBuild,
+}

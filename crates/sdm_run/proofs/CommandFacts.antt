@@ -10,7 +10,8 @@ use Rattle.sdm_rules.specs.Input as ends
 use Rattle.sdm_rules.specs.Flat.{Output, flat_output}
 use Rattle.sdm_rules.specs.Text.{display_tells, run_tells}
 use Rattle.sdm_run.specs.declared.words.Command.{Command}
-use Rattle.sdm_run.specs.declared.words.Command.TheVariants.{Flat, Run, Display, Trial, Upgrade}
+use Rattle.sdm_run.specs.declared.words.Command.TheVariants.{Flat, Run, Display, Trial, Upgrade, Drive, Certify}
+use Rattle.sdm_run.specs.declared.words.Command.TheVariants.{Check}
 use Rattle.sdm_report.specs.declared.outcome.Outcome.{Outcome}
 use Rattle.sdm_report.specs.declared.outcome.Outcome.TheVariants.{TooLong}
 use Rattle.sdm_run.specs.Words.{IsCommandInRange}
@@ -18,6 +19,9 @@ use Rattle.sdm_run.specs.Answers.{IsAnswer}
 use Rattle.sdm_run.specs.Commands.{AreRowsSafe, IsOutputOf, within_limit}
 use Rattle.sdm_run.specs.Shapes.{OfInput, Shape, shape_of}
 use Rattle.sdm_run.specs.Upgrades.{upgrade_output}
+use Rattle.sdm_run.proofs.CertifyAnswers.{certify_too_long}
+use Rattle.sdm_run.proofs.CheckTexts.{check_too_long}
+use Rattle.sdm_run.proofs.DriveTexts.{drive_rows_safe, drive_too_long}
 use Rattle.sdm_run.proofs.FlatOrder.{flat_rows_safe}
 use Rattle.sdm_run.proofs.RunAnswers.{journey_too_long, turns_are_safe}
 use Rattle.sdm_run.proofs.TrialRuns.{trial_rows_safe}
@@ -31,6 +35,9 @@ rows_safe Run bytes h = turns_are_safe run_tells bytes
 rows_safe Display bytes h = turns_are_safe display_tells bytes
 rows_safe (Trial seed cycles) bytes h = trial_rows_safe seed cycles
 rows_safe Upgrade bytes h = tt
+rows_safe (Drive seed cycles) bytes h = drive_rows_safe seed cycles bytes
+rows_safe (Certify count) bytes h = turns_are_safe run_tells bytes
+rows_safe Check bytes h = tt
 
 -- what holds of all bytes holds of those that a command answers
 pub of_input : (shape : Shape) (left : Option (List ℕ)) (P : List ℕ → Type 0) → ((bytes : List ℕ) → P bytes) →
@@ -71,6 +78,9 @@ outputs_alike Run A bytes h none other = absurd cc
 outputs_alike Display A bytes h none other = absurd cc
 outputs_alike (Trial seed cycles) A bytes h none other = h
 outputs_alike Upgrade A bytes h none other = absurd cc
+outputs_alike (Drive seed cycles) A bytes h none other = absurd cc
+outputs_alike (Certify count) A bytes h none other = absurd cc
+outputs_alike Check A bytes h none other = absurd cc
 
 -- what answers the bytes that were read answers those of the input, at the command that the words ask for
 pub answer_told :
@@ -118,6 +128,9 @@ too_long Display bytes old reads long output is = journey_too_long display_tells
 too_long (Trial seed cycles) bytes old reads long output is = absurd cc
 too_long Upgrade bytes old reads long output is =
     rw (is, above bytes (upgrade_output bytes) long) (record { ended = inl refl; taken = Appends-nil old })
+too_long (Drive seed cycles) bytes old reads long output is = drive_too_long seed cycles bytes old long output is
+too_long (Certify count) bytes old reads long output is = certify_too_long count bytes old long output is
+too_long Check bytes old reads long output is = check_too_long bytes old long output is
 
 -- what holds of all bytes above the limit holds of an input that is too long
 too_long_of : (reads : Bool) (left : Option (List ℕ)) (P : List ℕ → Type 0) → IsTrue reads →

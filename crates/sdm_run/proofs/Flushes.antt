@@ -10,7 +10,7 @@ use Rattle.sdm_rules.specs.Input as ends
 use Rattle.sdm_rules.specs.Flat.{Output}
 use Rattle.sdm_report.specs.declared.outcome.Outcome.{Outcome}
 use Rattle.sdm_report.specs.declared.outcome.Outcome.TheVariants.{Done, Usage, ReadFault, WriteFault, TooLong, BadData}
-use Rattle.sdm_report.specs.declared.outcome.Outcome.TheVariants.{Refused, BadEvent, Memory}
+use Rattle.sdm_report.specs.declared.outcome.Outcome.TheVariants.{Refused, BadEvent, Memory, Undrivable}
 use Rattle.sdm_run.specs.declared.words.Command.{Command}
 use Rattle.sdm_run.specs.Answers.{IsAnswer, IsComplete, IsOutcomeOf, TakesFor, told_end}
 use Rattle.sdm_run.specs.Commands.{IsOutputOf}
@@ -65,6 +65,7 @@ part_of (BadData fault) old new text h = part_of_all old new text h
 part_of (Refused fault) old new text h = part_of_all old new text h
 part_of (BadEvent number cause) old new text h = part_of_all old new text h
 part_of Memory old new text h = part_of_prefix old new h.prefix h.rest text h.parts h.taken
+part_of (Undrivable cause) old new text h = part_of_all old new text h
 
 -- a fault of out after an answer is answered as such
 pub answer_failed : (output : Output) (old mid new : Option (List ℕ)) (outcome : Outcome) → Keeps mid new →
@@ -91,6 +92,7 @@ all_taken (BadData fault) end old new text is h = h
 all_taken (Refused fault) end old new text is h = h
 all_taken (BadEvent number cause) end old new text is h = h
 all_taken Memory end old new text is h = absurd cc
+all_taken (Undrivable cause) end old new text is h = h
 
 -- an outcome of an output with no fault is complete: the whole text and its end, or want of memory
 complete_end : (output : Output) (old new : Option (List ℕ)) (outcome : Outcome) →

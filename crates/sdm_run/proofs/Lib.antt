@@ -9,6 +9,15 @@ pub mod RunTexts
 pub mod RunAnswers
 pub mod Refusals
 pub mod UpgradeTexts
+pub mod Texts
+pub mod OneOutput
+pub mod DriveTexts
+pub mod WrittenMaps
+pub mod CertifyTexts
+pub mod CertifyLines
+pub mod CertifyAnswers
+pub mod CheckTexts
+pub mod CheckOutputs
 pub mod OutputLaws
 pub mod Flushes
 mod AnswerCases

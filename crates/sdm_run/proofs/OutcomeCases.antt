@@ -2,22 +2,24 @@
 use Rattle.std.proofs.Common.{refl, arith}
 use Rattle.sdm_rules.specs.declared.faults.AuthorityFault.TheVariants.{SvlBeforeEoa}
 use Rattle.sdm_rules.specs.declared.faults.DataFault.TheVariants as data_faults
+use Rattle.sdm_rules.specs.declared.faults.DriveCause.TheVariants.{NoStop}
 use Rattle.sdm_rules.specs.declared.faults.EventCause.TheVariants.{Authority, Line}
 use Rattle.sdm_rules.specs.declared.faults.OpenFault.TheVariants as open_faults
 use Rattle.sdm_rules.specs.declared.faults.OpenFault.TheVariants.{BadAuthority}
 use Rattle.sdm_rules.specs.declared.faults.TrainFault.TheVariants.{BandCount}
 use Rattle.sdm_report.specs.declared.outcome.InputFault.TheVariants.{Data, NoSplit, Toml}
 use Rattle.sdm_report.specs.declared.outcome.Outcome.TheVariants.{Done, Usage, ReadFault, WriteFault, TooLong, BadData}
-use Rattle.sdm_report.specs.declared.outcome.Outcome.TheVariants.{Refused, BadEvent, Memory}
+use Rattle.sdm_report.specs.declared.outcome.Outcome.TheVariants.{Refused, BadEvent, Memory, Undrivable}
 use Rattle.sdm_run.specs.Answers.{ComesOfReadingAlone, LeavesOutUntouched, NeedsTheWholeInput}
-use Rattle.sdm_run.specs.Shapes.{IsOutcomeIn, flat_shape, run_shape, trial_shape}
+use Rattle.sdm_run.specs.Shapes.{IsOutcomeIn, drive_shape, flat_shape, run_shape, trial_shape, upgrade_shape}
 
 -- ---- when an outcome comes
 
 -- words, reading, data and an opening are answered before any row
 before_any_row : LeavesOutUntouched Usage × LeavesOutUntouched ReadFault × LeavesOutUntouched TooLong
-    × LeavesOutUntouched (BadData NoSplit) × LeavesOutUntouched (Refused (BadAuthority SvlBeforeEoa))
-before_any_row = (tt, tt, tt, tt, tt)
+    × LeavesOutUntouched (BadData NoSplit) × LeavesOutUntouched (Undrivable NoStop)
+    × LeavesOutUntouched (Refused (BadAuthority SvlBeforeEoa))
+before_any_row = (tt, tt, tt, tt, tt, tt)
 
 -- the end, a write fault, a record and want of memory aren't
 not_before_rows : (LeavesOutUntouched Done → ⊥) × (LeavesOutUntouched WriteFault → ⊥)
@@ -113,3 +115,24 @@ not_of_trial = (
   (λ h. let e = h.0 in cc),
   (λ h. let e = h.1 in cc),
 )
+
+-- `drive` reads its input, and refuses data, also such that can't be driven, and an opening
+outcomes_of_drive : IsOutcomeIn drive_shape Done × IsOutcomeIn drive_shape ReadFault × IsOutcomeIn drive_shape WriteFault
+    × IsOutcomeIn drive_shape TooLong × IsOutcomeIn drive_shape (BadData Toml)
+    × IsOutcomeIn drive_shape (BadData (Data (data_faults.Train BandCount)))
+    × IsOutcomeIn drive_shape (Undrivable NoStop) × IsOutcomeIn drive_shape (Refused (BadAuthority SvlBeforeEoa))
+    × IsOutcomeIn drive_shape Memory
+outcomes_of_drive = (tt, refl, tt, refl, refl, (refl, λ e. cc), refl, (refl, λ e. cc), tt)
+
+-- its input has no dividing line and no record
+not_of_drive :
+    (IsOutcomeIn drive_shape Usage → ⊥) × (IsOutcomeIn drive_shape (BadData NoSplit) → ⊥)
+    × (IsOutcomeIn drive_shape (BadEvent 1 Line) → ⊥)
+    × (IsOutcomeIn drive_shape (BadEvent 1 (Authority SvlBeforeEoa)) → ⊥)
+not_of_drive = ((λ h. h), (λ h. cc), (λ h. let e = h.1 in cc), (λ h. let e = h.1 in cc))
+
+-- no other command tells that data can't be driven
+driven_by_drive_alone :
+    (IsOutcomeIn flat_shape (Undrivable NoStop) → ⊥) × (IsOutcomeIn run_shape (Undrivable NoStop) → ⊥)
+    × (IsOutcomeIn trial_shape (Undrivable NoStop) → ⊥) × (IsOutcomeIn upgrade_shape (Undrivable NoStop) → ⊥)
+driven_by_drive_alone = ((λ h. cc), (λ h. cc), (λ h. cc), (λ h. cc))

@@ -1,5 +1,6 @@
 -- Each command has one output for all bytes: those of `flat`, `trial` and `upgrade` by their definitions, those of
--- `run` and `display` since an input has one run.
+-- `run`, `display` and `certify` since an input has one run, that of `drive` since an opening is decided in one way,
+-- that of `check` since so is each claim.
 use Rattle.std.proofs.Common.{◌≡◌, ℕ, List, refl}
 use Rattle.sdm_rules.specs.Flat.{Output, flat_output}
 use Rattle.sdm_rules.specs.Records.{Turn}
@@ -7,10 +8,14 @@ use Rattle.sdm_rules.specs.Text.{display_tells, run_tells}
 use Rattle.sdm_rules.specs.Trial.{trial_output}
 use Rattle.sdm_laws.proofs.Openings.OneRun.{one_run}
 use Rattle.sdm_run.specs.declared.words.Command.{Command}
-use Rattle.sdm_run.specs.declared.words.Command.TheVariants.{Flat, Run, Display, Trial, Upgrade}
+use Rattle.sdm_run.specs.declared.words.Command.TheVariants.{Flat, Run, Display, Trial, Upgrade, Drive, Certify}
+use Rattle.sdm_run.specs.declared.words.Command.TheVariants.{Check}
 use Rattle.sdm_run.specs.Commands.{HasOneOutput, within_limit}
 use Rattle.sdm_run.specs.Journeys.{IsJourneyOutput, run_reader}
 use Rattle.sdm_run.specs.Upgrades.{upgrade_output}
+use Rattle.sdm_run.proofs.CheckOutputs.{one_check}
+use Rattle.sdm_run.proofs.CertifyAnswers.{one_certified}
+use Rattle.sdm_run.proofs.DriveTexts.{one_drive}
 use Rattle.sdm_run.proofs.RunAnswers.{output_by, only_output}
 
 -- an input has one output by what is told of each turn
@@ -41,3 +46,8 @@ one_output Upgrade bytes = record {
   is = refl;
   only = λ other is. is;
 }
+one_output (Drive seed cycles) bytes =
+    let one = one_drive seed cycles bytes in record { output = one.0; is = one.1.0; only = one.1.1 }
+one_output (Certify count) bytes =
+    let one = one_certified count bytes in record { output = one.0; is = one.1.0; only = one.1.1 }
+one_output Check bytes = let one = one_check bytes in record { output = one.0; is = one.1.0; only = one.1.1 }

@@ -9,7 +9,7 @@ use Rattle.sdm_io.specs.Told.{AppendsPart}
 use Rattle.sdm_rules.specs.Flat.{Output}
 use Rattle.sdm_report.specs.declared.outcome.Outcome.{Outcome}
 use Rattle.sdm_report.specs.declared.outcome.Outcome.TheVariants.{Done, Usage, ReadFault, WriteFault, TooLong, BadData}
-use Rattle.sdm_report.specs.declared.outcome.Outcome.TheVariants.{Refused, BadEvent, Memory}
+use Rattle.sdm_report.specs.declared.outcome.Outcome.TheVariants.{Refused, BadEvent, Memory, Undrivable}
 use Rattle.sdm_run.specs.Answers.{AreWholeLines, ComesOfReadingAlone, IsAnswer, IsOutcomeOf, TakesFor}
 
 -- the output that begins with a text, and goes on as another output
@@ -29,7 +29,7 @@ pub all_left : (old : Option (List ℕ)) (whole : Output) → IsLeftOf old old w
 all_left old whole = record { done = []; whole_lines = inl refl; taken = Appends-nil old; text = refl; end = refl }
 
 -- whole lines after whole lines are whole lines
-lines_both : (a b : List ℕ) → AreWholeLines a → AreWholeLines b → AreWholeLines (a ++ b)
+pub lines_both : (a b : List ℕ) → AreWholeLines a → AreWholeLines b → AreWholeLines (a ++ b)
 lines_both a b h (inl none) = rw (none, append-nil) h
 lines_both a b h (inr (prefix, is)) = inr (a ++ prefix, rw is (sym (append_assoc a prefix (10 ∷ []))))
 
@@ -60,6 +60,7 @@ module _ (old mid new : Option (List ℕ)) (whole left : Output) (so_far : IsLef
   takes (BadData fault) never h = all_taken h
   takes (Refused fault) never h = all_taken h
   takes (BadEvent number cause) never h = all_taken h
+  takes (Undrivable cause) never h = all_taken h
   takes Memory never h = record {
     prefix = so_far.done ++ h.prefix;
     rest = h.rest;

@@ -22,7 +22,7 @@ use Rattle.sdm_laws.proofs.Openings.OneRun.{one_run}
 use Rattle.sdm_report.specs.declared.outcome.InputFault.TheVariants.{NoSplit, Toml, Data}
 use Rattle.sdm_report.specs.declared.outcome.Outcome.{Outcome}
 use Rattle.sdm_report.specs.declared.outcome.Outcome.TheVariants.{Done, Usage, ReadFault, WriteFault, TooLong, BadData}
-use Rattle.sdm_report.specs.declared.outcome.Outcome.TheVariants.{Refused, BadEvent, Memory}
+use Rattle.sdm_report.specs.declared.outcome.Outcome.TheVariants.{Refused, BadEvent, Memory, Undrivable}
 use Rattle.sdm_data.specs.Division.{divide}
 use Rattle.sdm_data.specs.Document.{document_of}
 use Rattle.sdm_data.specs.Journey.{data_of}
@@ -111,6 +111,7 @@ refused tell bytes data_end start old WriteFault short cut none = absurd none
 refused tell bytes data_end start old TooLong short cut none = absurd none
 refused tell bytes data_end start old (BadData NoSplit) short cut none = absurd none
 refused tell bytes data_end start old (BadEvent number cause) short cut none = absurd none
+refused tell bytes data_end start old (Undrivable cause) short cut none = absurd none
 
 -- ---- the records
 
@@ -191,6 +192,7 @@ refused_not_before bytes (BadData fault) h b = b
 refused_not_before bytes (Refused fault) h b = b
 refused_not_before bytes (BadEvent number cause) h b = b
 refused_not_before bytes Memory h b = b
+refused_not_before bytes (Undrivable cause) h b = b
 
 -- nor does an outcome after which out isn't untouched
 pub flat_not_before : (outcome : Outcome) → (LeavesOutUntouched outcome → ⊥) → ComesOfReadingAlone outcome → ⊥
@@ -203,6 +205,7 @@ flat_not_before (BadData fault) h b = b
 flat_not_before (Refused fault) h b = b
 flat_not_before (BadEvent number cause) h b = b
 flat_not_before Memory h b = b
+flat_not_before (Undrivable cause) h b = b
 
 -- an outcome that records may have is one that `run` and `display` may have
 pub records_possible : (outcome : Outcome) → IsOutcomeIn records_shape outcome → IsOutcomeIn run_shape outcome

@@ -20,7 +20,7 @@ use Rattle.sdm_rules.specs.Text.{text_of_row}
 use Rattle.sdm_report.specs.declared.outcome.InputFault.TheVariants.{NoSplit, Toml, Data}
 use Rattle.sdm_report.specs.declared.outcome.Outcome.{Outcome}
 use Rattle.sdm_report.specs.declared.outcome.Outcome.TheVariants.{Done, Usage, ReadFault, WriteFault, TooLong, BadData}
-use Rattle.sdm_report.specs.declared.outcome.Outcome.TheVariants.{Refused, BadEvent, Memory}
+use Rattle.sdm_report.specs.declared.outcome.Outcome.TheVariants.{Refused, BadEvent, Memory, Undrivable}
 use Rattle.sdm_events.specs.Journey.{Record}
 use Rattle.sdm_run.specs.Answers.{ComesOfReadingAlone, LeavesOutUntouched}
 use Rattle.sdm_run.specs.Journeys.{output_of_records}
@@ -154,6 +154,7 @@ of_records P done write bad memory (BadData (Data fault)) h = absurd (let no = h
 of_records P done write bad memory (Refused fault) h = absurd (let no = h.0 in cc)
 of_records P done write bad memory (BadEvent number cause) h = bad number cause h.0 (not_true (is_of_line cause) h.1)
 of_records P done write bad memory Memory h = memory
+of_records P done write bad memory (Undrivable cause) h = absurd cc
 
 -- no outcome of records comes before any row
 pub not_first : (outcome : Outcome) → IsOutcomeIn records_shape outcome → LeavesOutUntouched outcome → ⊥

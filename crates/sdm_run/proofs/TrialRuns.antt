@@ -1,16 +1,17 @@
 -- A trial cycle by cycle: the rows of the cycles that were made, and those that the cycles left give from the state
 -- that is reached, are the rows of all.
-use Rattle.std.proofs.Common.{◌≡◌, ℕ, suc, pos, false, List, [], ◌∷◌, ◌++◌, Option, None, Some, inl, ◌+◌, ◌≤◌, ◌∙◌, ap}
+use Rattle.std.proofs.Common.{◌≡◌, ℕ, suc, pos, false, List, [], ◌∷◌, ◌++◌, Option, None, ◌+◌, ◌≤◌, ◌∙◌, ap}
 use Rattle.std.proofs.Common.{sym, arith, refl, append_assoc}
-use Rattle.std.specs.Io.KnownBytes.{Appends}
 use Rattle.std.proofs.lemmas.Int.{ints}
 use Rattle.std.proofs.lemmas.List.{append-nil}
 use Rattle.sdm_num.specs.Readings.{OdometerReading}
 use Rattle.sdm_rules.specs.declared.faults.OpenFault.{OpenFault}
 use Rattle.sdm_rules.specs.declared.faults.OpenFault.TheVariants.{TooWeak, TooVaried, BadAuthority, Memory}
 use Rattle.sdm_rules.specs.declared.rows.Row.{Row}
-use Rattle.sdm_report.specs.declared.outcome.Outcome.TheVariants.{Done}
+use Rattle.sdm_report.specs.declared.outcome.Outcome.{Outcome}
+use Rattle.sdm_rules.specs.Flat.{Output}
 use Rattle.sdm_rules.specs.Input.{end_of_journey}
+use Rattle.sdm_rules.specs.Input as ends
 use Rattle.sdm_rules.specs.Opening.{IsOpen}
 use Rattle.sdm_rules.specs.Records.{Journey, event_at, journey_from, rows_of, time_fault, most_records}
 use Rattle.sdm_rules.specs.Supervision.{Supervision, after_reading, opening, row_of}
@@ -114,13 +115,13 @@ all_made seed cycles m s counts h none =
     let nothing : rows_left m s ≡ [] = rw none refl in
     h.counts_are ∙ ap counts_of (sym (h.rows ∙ ap (λ rows. h.done ++ rows) nothing ∙ append-nil h.done))
 
--- the whole summary answers a trial
-pub trial_done : (seed cycles : ℕ) (old new : Option (List ℕ)) → cycles ≤ most_records → Appends old new
-    (summary_text (rows_of (trial_journey seed cycles).turns)) → IsAnswer (trial_output seed cycles) old new Done
-trial_done seed cycles old new few h = record {
-  ended = inl (ap Some (sym (ap end_of_journey (trial_taken seed cycles few).0)));
-  taken = h;
-}
+-- what answers an output with the summary and no fault answers a trial
+pub trial_written : (seed cycles : ℕ) (text : List ℕ) (old new : Option (List ℕ)) (outcome : Outcome) →
+    cycles ≤ most_records → text ≡ summary_text (rows_of (trial_journey seed cycles).turns) →
+    ((output : Output) → output.text ≡ text → output.end ≡ ends.Done → IsAnswer output old new outcome) →
+    IsAnswer (trial_output seed cycles) old new outcome
+trial_written seed cycles text old new outcome few text_is h =
+    h (trial_output seed cycles) (sym text_is) (ap end_of_journey (trial_taken seed cycles few).0)
 
 -- ---- the promises of the rows
 

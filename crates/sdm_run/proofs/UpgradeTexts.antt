@@ -1,18 +1,19 @@
 -- What `upgrade` writes is the text that is defined for the bytes; data that are read have one table, so the text that
 -- was printed of it is read back whichever data the bytes are told to be.
-use Rattle.std.proofs.Common.{◌≡◌, ℕ, List, Option, Some, None, inl, inr, refl, ap, sym, ◌∙◌, subst}
+use Rattle.std.proofs.Common.{◌≡◌, ℕ, List, Option, Some, None, inl, refl, ap, sym, ◌∙◌, subst}
 use Rattle.std.proofs.KnownBytes.{Appends-nil}
-use Rattle.std.specs.Io.KnownBytes.{Appends}
 use Rattle.std.specs.Prelude.{IsTrue, Result, Ok, Err}
 use Rattle.toml.specs.Data.{Members}
-use Rattle.sdm_io.specs.Told.{AppendsPart, Told}
+use Rattle.sdm_io.specs.Told.{Told}
 use Rattle.sdm_rules.specs.declared.authorities.Authority.{Authority}
 use Rattle.sdm_rules.specs.declared.faults.DataFault.{DataFault}
 use Rattle.sdm_rules.specs.Data.{TrainAndTrack}
+use Rattle.sdm_rules.specs.Flat.{Output}
+use Rattle.sdm_rules.specs.Input as ends
 use Rattle.sdm_report.specs.declared.outcome.InputFault.TheVariants.{NoSplit, Toml, Data}
 use Rattle.sdm_report.specs.declared.outcome.Outcome.{Outcome}
 use Rattle.sdm_report.specs.declared.outcome.Outcome.TheVariants.{Done, Usage, ReadFault, WriteFault, TooLong, BadData}
-use Rattle.sdm_report.specs.declared.outcome.Outcome.TheVariants.{Refused, BadEvent, Memory}
+use Rattle.sdm_report.specs.declared.outcome.Outcome.TheVariants.{Refused, BadEvent, Memory, Undrivable}
 use Rattle.sdm_data.specs.Document.{document_of}
 use Rattle.sdm_data.specs.Journey.{data_of}
 use Rattle.sdm_data.specs.Tables.{table_of}
@@ -67,6 +68,7 @@ refused_back bytes (BadData (Data fault)) (known, members, document, read) whole
 refused_back bytes (Refused fault) h whole = absurd h
 refused_back bytes (BadEvent number cause) h whole = absurd h
 refused_back bytes Memory h whole = absurd whole
+refused_back bytes (Undrivable cause) h whole = absurd h
 
 -- what refuses the data part answers the bytes with nothing written
 refused_answer : (bytes : List ℕ) (old : Option (List ℕ)) (outcome : Outcome) → IsRefusedByData bytes outcome →
@@ -83,6 +85,7 @@ refused_answer bytes old (BadData (Data fault)) (known, members, document, read)
 refused_answer bytes old (Refused fault) h = absurd h
 refused_answer bytes old (BadEvent number cause) h = absurd h
 refused_answer bytes old Memory h = memory_first old (upgrade_output bytes)
+refused_answer bytes old (Undrivable cause) h = absurd h
 
 -- and is an outcome of `upgrade`
 refused_possible : (bytes : List ℕ) (outcome : Outcome) → IsRefusedByData bytes outcome →
@@ -98,6 +101,7 @@ refused_possible bytes (BadData (Data fault)) h = (refl, h.0)
 refused_possible bytes (Refused fault) h = absurd h
 refused_possible bytes (BadEvent number cause) h = absurd h
 refused_possible bytes Memory h = tt
+refused_possible bytes (Undrivable cause) h = absurd h
 
 -- what follows where a data part is refused, before out was called
 pub record IsRefusal (bytes : List ℕ) (old : Option (List ℕ)) (outcome : Outcome) : Type 0 where
@@ -116,15 +120,12 @@ refusal bytes old outcome h = record {
   not_before = refused_not_before bytes outcome (of_data_part bytes outcome h);
 }
 
--- the whole text was written
-pub text_done : (bytes text : List ℕ) (old new : Option (List ℕ)) → IsUpgradedTo bytes text → Appends old new text →
-    IsAnswer (upgrade_output bytes) old new Done
-text_done bytes text old new is appends = rw is.output_is (record { ended = inl refl; taken = appends })
-
--- a prefix of it was written
-pub text_cut : (bytes text : List ℕ) (old new : Option (List ℕ)) → IsUpgradedTo bytes text →
-    AppendsPart old new text → IsAnswer (upgrade_output bytes) old new WriteFault
-text_cut bytes text old new is part = rw is.output_is (record { ended = inr (inr (inl refl)); taken = part })
+-- what answers an output with the text and no fault answers the upgrade
+pub text_written : (bytes text : List ℕ) (old new : Option (List ℕ)) (outcome : Outcome) → IsUpgradedTo bytes text →
+    ((output : Output) → output.text ≡ text → output.end ≡ ends.Done → IsAnswer output old new outcome) →
+    IsAnswer (upgrade_output bytes) old new outcome
+text_written bytes text old new outcome is h =
+    h (upgrade_output bytes) (ap (λ (o : Output). o.text) is.output_is) (ap (λ (o : Output). o.end) is.output_is)
 
 -- ---- the input
 

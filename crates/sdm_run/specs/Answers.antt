@@ -6,7 +6,7 @@ use Rattle.sdm_rules.specs.Input as ends
 use Rattle.sdm_rules.specs.Flat.{Output}
 use Rattle.sdm_report.specs.declared.outcome.Outcome.{Outcome}
 use Rattle.sdm_report.specs.declared.outcome.Outcome.TheVariants.{Done, Usage, ReadFault, WriteFault, TooLong, BadData}
-use Rattle.sdm_report.specs.declared.outcome.Outcome.TheVariants.{Refused, BadEvent, Memory}
+use Rattle.sdm_report.specs.declared.outcome.Outcome.TheVariants.{Refused, BadEvent, Memory, Undrivable}
 use Rattle.sdm_report.specs.OutcomeLines.{end_of_data}
 
 -- the end that an outcome tells, if it tells one
@@ -20,6 +20,7 @@ told_end (BadData fault) = Some (end_of_data fault)
 told_end (Refused fault) = Some (ends.Refused fault)
 told_end (BadEvent number cause) = Some (ends.BadEvent number cause)
 told_end Memory = None
+told_end (Undrivable cause) = Some (ends.Undrivable cause)
 
 -- a fault or want of memory came before the end
 abbrev pub IsCutShort : Outcome → Type 0
@@ -42,8 +43,8 @@ pub record AppendsLines (old new : Option (List ℕ)) (text : List ℕ) : Type 0
   pub taken : Appends old new prefix
 
 -- What out took of the defined text: where an end is told, the whole text before it; after a write fault a prefix of
--- it, after want of memory whole lines, and else nothing. A text is empty that ends as too long, with bad data, or
--- with a refused opening.
+-- it, after want of memory whole lines, and else nothing. A text is empty that ends as too long, with bad data, with
+-- data that can't be driven, or with a refused opening.
 abbrev pub TakesFor : Outcome → Option (List ℕ) → Option (List ℕ) → List ℕ → Type 0
 TakesFor Done old new text = Appends old new text
 TakesFor Usage old new text = Keeps old new
@@ -54,6 +55,7 @@ TakesFor (BadData fault) old new text = Appends old new text
 TakesFor (Refused fault) old new text = Appends old new text
 TakesFor (BadEvent number cause) old new text = Appends old new text
 TakesFor Memory old new text = AppendsLines old new text
+TakesFor (Undrivable cause) old new text = Appends old new text
 
 -- the outcome answers the defined output, of which out took its part
 pub record IsAnswer (output : Output) (old new : Option (List ℕ)) (outcome : Outcome) : Type 0 where
@@ -76,6 +78,7 @@ LeavesOutUntouched (BadData fault) = Unit {0}
 LeavesOutUntouched (Refused fault) = Unit {0}
 LeavesOutUntouched (BadEvent number cause) = ⊥
 LeavesOutUntouched Memory = ⊥
+LeavesOutUntouched (Undrivable cause) = Unit {0}
 
 -- an outcome that comes before the bytes of the input are answered
 abbrev pub ComesOfReadingAlone : Outcome → Type 0
@@ -88,6 +91,7 @@ ComesOfReadingAlone (BadData fault) = ⊥
 ComesOfReadingAlone (Refused fault) = ⊥
 ComesOfReadingAlone (BadEvent number cause) = ⊥
 ComesOfReadingAlone Memory = ⊥
+ComesOfReadingAlone (Undrivable cause) = ⊥
 
 -- an outcome that comes after the end of the input
 abbrev pub NeedsTheWholeInput : Outcome → Type 0
@@ -100,3 +104,4 @@ NeedsTheWholeInput (BadData fault) = Unit {0}
 NeedsTheWholeInput (Refused fault) = Unit {0}
 NeedsTheWholeInput (BadEvent number cause) = Unit {0}
 NeedsTheWholeInput Memory = ⊥
+NeedsTheWholeInput (Undrivable cause) = Unit {0}

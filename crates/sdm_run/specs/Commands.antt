@@ -6,12 +6,16 @@ use Rattle.sdm_rules.specs.Input.{most_bytes, TooLong}
 use Rattle.sdm_rules.specs.Records.{Turn, rows_of}
 use Rattle.sdm_rules.specs.Text.{display_tells, run_tells}
 use Rattle.sdm_rules.specs.Trial.{summary_text, trial_journey, trial_output}
+use Rattle.sdm_run.specs.Certifying.{IsCertifyOutput}
+use Rattle.sdm_run.specs.Checks.{IsCheckOutput}
+use Rattle.sdm_run.specs.Drives.{AreDriveRowsSafe, IsDriveOutput}
 use Rattle.sdm_run.specs.FlatRun.{AreFlatRowsSafe}
 use Rattle.sdm_run.specs.Journeys.{IsJourneyOutput}
 use Rattle.sdm_run.specs.Shapes.{shape_of}
 use Rattle.sdm_run.specs.Upgrades.{upgrade_output}
 use Rattle.sdm_run.specs.declared.words.Command.{Command}
-use Rattle.sdm_run.specs.declared.words.Command.TheVariants.{Flat, Run, Display, Trial, Upgrade}
+use Rattle.sdm_run.specs.declared.words.Command.TheVariants.{Flat, Run, Display, Trial, Upgrade, Drive, Certify}
+use Rattle.sdm_run.specs.declared.words.Command.TheVariants.{Check}
 
 -- an input that is too long has no text; else the output that is given
 abbrev pub within_limit : List ℕ → Output → Output
@@ -24,6 +28,9 @@ IsOutputOf Run bytes output = IsJourneyOutput run_tells bytes output
 IsOutputOf Display bytes output = IsJourneyOutput display_tells bytes output
 IsOutputOf (Trial seed cycles) bytes output = output ≡ trial_output seed cycles
 IsOutputOf Upgrade bytes output = output ≡ within_limit bytes (upgrade_output bytes)
+IsOutputOf (Drive seed cycles) bytes output = IsDriveOutput seed cycles bytes output
+IsOutputOf (Certify count) bytes output = IsCertifyOutput count bytes output
+IsOutputOf Check bytes output = IsCheckOutput bytes output
 
 -- there is an output of the command for the bytes, and no other
 pub record HasOneOutput (command : Command) (bytes : List ℕ) : Type 0 where
@@ -42,13 +49,17 @@ pub record AreTrialRowsSafe (seed cycles : ℕ) : Type 0 where
   pub text : (trial_output seed cycles).text ≡ summary_text (rows_of (trial_journey seed cycles).turns)
   pub safe : AreTurnsSafe false false (trial_journey seed cycles).turns
 
--- what is promised of the rows of a command, of `display` of those that `run` has for its input; `upgrade` has none
+-- what is promised of the rows of a command, of `display` and `certify` of those that `run` has for its input;
+-- `upgrade` has none, and each answer of `check` carries its own promise (`IsAnswerTo`)
 abbrev pub AreRowsSafe : Command → List ℕ → Type 0
 AreRowsSafe (Flat decel end) bytes = AreFlatRowsSafe decel end bytes
 AreRowsSafe Run bytes = AreJourneyTurnsSafe run_tells bytes
 AreRowsSafe Display bytes = AreJourneyTurnsSafe display_tells bytes
 AreRowsSafe (Trial seed cycles) bytes = AreTrialRowsSafe seed cycles
 AreRowsSafe Upgrade bytes = ⊤
+AreRowsSafe (Drive seed cycles) bytes = AreDriveRowsSafe seed cycles bytes
+AreRowsSafe (Certify count) bytes = AreJourneyTurnsSafe run_tells bytes
+AreRowsSafe Check bytes = ⊤
 
 -- the words ask for nothing that reads the input
 abbrev pub ReadsNothing : Option Command → Type 0

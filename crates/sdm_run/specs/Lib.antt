@@ -6,4 +6,7 @@ pub mod FlatRun
 pub mod Journeys
 pub mod RunParts
 pub mod Upgrades
+pub mod Drives
+pub mod Certifying
+pub mod Checks
 pub mod Commands

@@ -17,7 +17,7 @@ use Rattle.sdm_rules.specs.Text.{display_tells, run_tells}
 use Rattle.sdm_report.specs.declared.outcome.InputFault.TheVariants.{NoSplit, Toml, Data}
 use Rattle.sdm_report.specs.declared.outcome.Outcome.{Outcome}
 use Rattle.sdm_report.specs.declared.outcome.Outcome.TheVariants.{Done, Usage, ReadFault, WriteFault, TooLong, BadData}
-use Rattle.sdm_report.specs.declared.outcome.Outcome.TheVariants.{Refused, BadEvent, Memory}
+use Rattle.sdm_report.specs.declared.outcome.Outcome.TheVariants.{Refused, BadEvent, Memory, Undrivable}
 use Rattle.sdm_data.specs.Document.{document_of}
 use Rattle.sdm_data.specs.Journey.{data_of}
 use Rattle.sdm_run.specs.declared.tellers.Teller.{Teller}
@@ -55,6 +55,7 @@ IsRefusedByData bytes (BadData (Data fault)) = (fault ≢ data_faults.Memory) ×
 IsRefusedByData bytes (Refused fault) = ⊥
 IsRefusedByData bytes (BadEvent number cause) = ⊥
 IsRefusedByData bytes Memory = ⊤
+IsRefusedByData bytes (Undrivable cause) = ⊥
 
 -- the outcome of a data part that opens no supervision state: it holds no data, or the first fault of the opening
 abbrev pub IsRefusedBy : List ℕ → Outcome → Type 0

@@ -9,9 +9,10 @@ use Rattle.sdm_rules.specs.declared.faults.OpenFault.TheVariants as open_faults
 use Rattle.sdm_report.specs.declared.outcome.InputFault.TheVariants.{NoSplit, Toml, Data}
 use Rattle.sdm_report.specs.declared.outcome.Outcome.{Outcome}
 use Rattle.sdm_report.specs.declared.outcome.Outcome.TheVariants.{Done, Usage, ReadFault, WriteFault, TooLong, BadData}
-use Rattle.sdm_report.specs.declared.outcome.Outcome.TheVariants.{Refused, BadEvent, Memory}
+use Rattle.sdm_report.specs.declared.outcome.Outcome.TheVariants.{Refused, BadEvent, Memory, Undrivable}
 use Rattle.sdm_run.specs.declared.words.Command.{Command}
-use Rattle.sdm_run.specs.declared.words.Command.TheVariants.{Flat, Run, Display, Trial, Upgrade}
+use Rattle.sdm_run.specs.declared.words.Command.TheVariants.{Flat, Run, Display, Trial, Upgrade, Drive, Certify}
+use Rattle.sdm_run.specs.declared.words.Command.TheVariants.{Check}
 
 -- what a command needs, and what it may refuse
 pub record Shape : Type 0 where
@@ -19,10 +20,11 @@ pub record Shape : Type 0 where
   pub has_division : Bool  -- its input has a dividing line
   pub has_data : Bool  -- its input has a data part
   pub opens : Bool  -- the data open a supervision state
+  pub drives : Bool  -- a train is driven over the data, where it can be
   pub takes_memory_first : Bool  -- it takes all its memory before it writes
   pub refuses : EventCause → Bool  -- for which causes it refuses a record or a line
 
--- the cause is that of a line of `flat`; all others are those of records
+-- the cause is that of a line of `flat` or `check`; all others are those of records
 abbrev pub is_of_line : EventCause → Bool
 is_of_line (Form fault) = false
 is_of_line (Authority fault) = false
@@ -39,6 +41,7 @@ flat_shape = record {
   has_division = false;
   has_data = false;
   opens = false;
+  drives = false;
   takes_memory_first = true;
   refuses =
       is_of_line;
@@ -51,12 +54,13 @@ records_shape = record {
   has_division = false;
   has_data = false;
   opens = false;
+  drives = false;
   takes_memory_first = false;
   refuses =
       λ cause. not (is_of_line cause);
 }
 
--- `run` and `display`: about the dividing line a data part, which opens a supervision state, and records
+-- `run`, `display` and `certify`: about the dividing line a data part, which opens a supervision state, and records
 abbrev pub run_shape : Shape
 run_shape = record records_shape { reads_input = true; has_division = true; has_data = true; opens = true }
 
@@ -67,6 +71,7 @@ trial_shape = record {
   has_division = false;
   has_data = false;
   opens = false;
+  drives = false;
   takes_memory_first = true;
   refuses =
       λ cause. false;
@@ -79,10 +84,19 @@ upgrade_shape = record {
   has_division = false;
   has_data = true;
   opens = false;
+  drives = false;
   takes_memory_first = true;
   refuses =
       λ cause. false;
 }
+
+-- `drive`: an input that is a data part alone, which opens a supervision state
+abbrev pub drive_shape : Shape
+drive_shape = record upgrade_shape { opens = true; drives = true }
+
+-- `check`: an input of lines alone, as that of `flat`
+abbrev pub check_shape : Shape
+check_shape = flat_shape
 
 -- the shape of a command
 abbrev pub shape_of : Command → Shape
@@ -91,6 +105,9 @@ shape_of Run = run_shape
 shape_of Display = run_shape
 shape_of (Trial seed cycles) = trial_shape
 shape_of Upgrade = upgrade_shape
+shape_of (Drive seed cycles) = drive_shape
+shape_of (Certify count) = run_shape
+shape_of Check = check_shape
 
 -- an outcome that a command of a shape may have; want of memory is never told inside another fault
 abbrev pub IsOutcomeIn : Shape → Outcome → Type 0
@@ -105,6 +122,7 @@ IsOutcomeIn shape (BadData (Data fault)) = IsTrue shape.has_data × (fault ≢ d
 IsOutcomeIn shape (Refused fault) = IsTrue shape.opens × (fault ≢ open_faults.Memory)
 IsOutcomeIn shape (BadEvent number cause) = (1 ≤ number) × IsTrue (shape.refuses cause)
 IsOutcomeIn shape Memory = ⊤
+IsOutcomeIn shape (Undrivable cause) = IsTrue shape.drives
 
 -- a fact of the bytes that a command answers: those of the input, where the source tells them; for a command that
 -- reads nothing any

@@ -8,7 +8,8 @@ use Rattle.sdm_rules.specs.Numbers.{read_int}
 use Rattle.sdm_rules.specs.Ranges.{longest_track}
 use Rattle.sdm_rules.specs.Records.{most_records}
 use Rattle.sdm_run.specs.declared.words.Command.{Command}
-use Rattle.sdm_run.specs.declared.words.Command.TheVariants.{Flat, Run, Display, Trial, Upgrade}
+use Rattle.sdm_run.specs.declared.words.Command.TheVariants.{Flat, Run, Display, Trial, Upgrade, Drive, Certify}
+use Rattle.sdm_run.specs.declared.words.Command.TheVariants.{Check}
 
 -- a command with no words after it
 abbrev pub alone : Command → List (List ℕ) → Option Command
@@ -26,28 +27,41 @@ abbrev pub flat_command : List (List ℕ) → Option Command
 flat_command (decel ∷ end ∷ []) = flat_of (read_int decel (pos 5) (pos 400)) (read_int end (pos 0) (pos longest_track))
 flat_command _ = None
 
--- `trial` with its two numbers, if both are read
-abbrev pub trial_of : Result ℤ FieldFault → Result ℤ FieldFault → Option Command
-trial_of (Ok seed) (Ok cycles) = Some (Trial (unsigned_abs seed) (unsigned_abs cycles))
-trial_of (Ok seed) (Err fault) = None
-trial_of (Err fault) cycles = None
+-- a command with its NUMBER and CYCLES, if both are read
+abbrev pub numbered_of : (ℕ → ℕ → Command) → Result ℤ FieldFault → Result ℤ FieldFault → Option Command
+numbered_of command (Ok seed) (Ok cycles) = Some (command (unsigned_abs seed) (unsigned_abs cycles))
+numbered_of command (Ok seed) (Err fault) = None
+numbered_of command (Err fault) cycles = None
 
--- the words after `trial`: NUMBER and CYCLES
-abbrev pub trial_command : List (List ℕ) → Option Command
-trial_command (seed ∷ cycles ∷ []) =
-    trial_of (read_int seed (pos 0) (pos 65_535)) (read_int cycles (pos 1) (pos most_records))
-trial_command _ = None
+-- the words after `trial` and after `drive`: NUMBER and CYCLES
+abbrev pub numbered_command : (ℕ → ℕ → Command) → List (List ℕ) → Option Command
+numbered_command command (seed ∷ cycles ∷ []) =
+    numbered_of command (read_int seed (pos 0) (pos 65_535)) (read_int cycles (pos 1) (pos most_records))
+numbered_command command _ = None
 
--- the shapes of the words, each with its command: `run`, `display`, `flat A END`, `trial NUMBER CYCLES`, and
--- `upgrade`
+-- `certify` with its count, if it is read
+abbrev pub certify_of : Result ℤ FieldFault → Option Command
+certify_of (Ok count) = Some (Certify (unsigned_abs count))
+certify_of (Err fault) = None
+
+-- the word after `certify`: N
+abbrev pub certify_command : List (List ℕ) → Option Command
+certify_command (count ∷ []) = certify_of (read_int count (pos 1) (pos 1_000))
+certify_command _ = None
+
+-- the shapes of the words, each with its command: `run`, `display`, `flat A END`, `trial NUMBER CYCLES`, `upgrade`,
+-- `drive NUMBER CYCLES`, `certify N`, and `check`
 unfoldable pub command_of : List (List ℕ) → Option Command
 command_of [] = None
 command_of (name ∷ more) =
     if bytes_eq name (codes "run") then alone Run more
     else if bytes_eq name (codes "display") then alone Display more
     else if bytes_eq name (codes "flat") then flat_command more
-    else if bytes_eq name (codes "trial") then trial_command more
+    else if bytes_eq name (codes "trial") then numbered_command Trial more
     else if bytes_eq name (codes "upgrade") then alone Upgrade more
+    else if bytes_eq name (codes "drive") then numbered_command Drive more
+    else if bytes_eq name (codes "certify") then certify_command more
+    else if bytes_eq name (codes "check") then alone Check more
     else None
 
 -- the command that the words ask for, if they ask for one
@@ -61,3 +75,6 @@ IsCommandInRange Run = Unit {0}
 IsCommandInRange Display = Unit {0}
 IsCommandInRange (Trial seed cycles) = (seed ≤ 65_535) × (1 ≤ cycles) × (cycles ≤ most_records)
 IsCommandInRange Upgrade = Unit {0}
+IsCommandInRange (Drive seed cycles) = (seed ≤ 65_535) × (1 ≤ cycles) × (cycles ≤ most_records)
+IsCommandInRange (Certify count) = (1 ≤ count) × (count ≤ 1_000)
+IsCommandInRange Check = Unit {0}

@@ -1,12 +1,14 @@
 //! The end of a command: where out was handed a byte, it gives on what it holds back before the outcome stands.
 
 ghost use Rattle.std.specs.Prelude.{◌≡◌, ◌≢◌, ◌⊎◌, ◌≤◌, List, ℕ, Option, false, IsTrue};
+ghost use Rattle.sdm_rules.specs.Input as ends;
 ghost use Rattle.sdm_io.specs.Causes.{Rose};
 ghost use Rattle.sdm_io.specs.Told.{HoldsNothing};
 ghost use Rattle.sdm_rules.specs.Flat.{Output};
-ghost use Rattle.sdm_run.specs.Answers.{IsAnswer};
+ghost use Rattle.sdm_run.specs.Answers.{ComesOfReadingAlone, IsAnswer, LeavesOutUntouched};
+ghost use Rattle.sdm_run.specs.Shapes.{IsOutcomeIn, Shape};
 
-use sdm_io::Sink;
+use sdm_io::{Sink, write_piece};
 use sdm_report::Outcome;
 
 /// How a command ended: its outcome, and whether out is to be flushed, which is so where it was handed a byte and did
@@ -25,6 +27,25 @@ impl Ended {
         Ended {
             outcome,
             is_flush_due,
+        }
+    }
+
+    /// The end of a command whose whole text is written in one piece: WriteFault where out failed, else Done. (own)
+    #[tactic(auto, using(crate::proofs::Texts::written_whole, crate::proofs::Texts::written_in_part))]
+    pub fn written<O: Sink>(text: &[u8], out: &mut O) -> Ended
+        ensures answer { (output : Output) → output.text ≡ text.now → output.end ≡ ends.Done
+            → IsAnswer output (O.taken out.old) (O.taken out.new) result.outcome }
+        ensures possible { (shape : Shape) → IsOutcomeIn shape result.outcome }
+        ensures not_before { ComesOfReadingAlone result.outcome → ⊥ }
+        ensures not_first { LeavesOutUntouched result.outcome → ⊥ }
+        ensures not_memory { result.outcome ≢ Outcome.Memory }
+        ensures due { result.is_flush_due ≡ false → result.outcome ≡ Outcome.WriteFault }
+        ensures later { O.faults out.old ≤ O.faults out.new }
+        ensures write { result.outcome ≡ Outcome.WriteFault → Rose (O.faults out.old) (O.faults out.new) }
+    {
+        match write_piece(out, text) {
+            Ok(()) => Ended::new(Outcome::Done, true),
+            Err(_) => Ended::new(Outcome::WriteFault, false),
         }
     }
 

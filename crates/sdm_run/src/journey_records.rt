@@ -26,6 +26,8 @@ use std::alloc::Global;
 
 /// Answers the records of these bytes, from a supervision state on, by what is told of each turn. WriteFault comes
 /// only where out failed. (own)
+// Out of line, so that what a record calls is in line in it.
+#[inline(never)]
 pub fn run_records<O: Sink>(
     alloc: Global,
     teller: Teller,
@@ -117,8 +119,8 @@ fn take_event(
     }
 }
 
-/// Why a record is refused that gives a stop with the place of a trip.
-fn cause_of_trip(fault: TripFault) -> EventCause
+/// Why a record is refused that gives a stop with the place of a trip. (own)
+pub fn cause_of_trip(fault: TripFault) -> EventCause
     ensures { result ≡ trip_cause fault }
 {
     match fault {

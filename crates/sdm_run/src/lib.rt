@@ -3,6 +3,10 @@
 #![tactic(auto)]
 
 mod answers;
+mod certify_run;
+mod certify_texts;
+mod check_run;
+mod drive_run;
 mod endings;
 mod flat_lines;
 mod flat_run;

@@ -11,7 +11,7 @@ ghost use Rattle.sdm_run.specs.Answers.{LeavesOutUntouched, IsAnswer};
 ghost use Rattle.sdm_run.specs.Shapes.{IsOutcomeIn, trial_shape};
 
 use crate::endings::Ended;
-use sdm_io::{Sink, write_piece};
+use sdm_io::Sink;
 use sdm_num::NoMemory;
 use sdm_report::Outcome;
 use sdm_rules::OpenFault;
@@ -71,21 +71,9 @@ pub fn run_trial<O: Sink>(alloc: Global, seed: u16, cycles: u32, out: &mut O) ->
     ensures write { result.outcome ≡ Outcome.WriteFault → Rose (O.faults out.old) (O.faults out.new) }
 {
     let Ok(mut supervisor) = begin(alloc) else {
-        return Ended {
-            outcome: Outcome::Memory,
-            is_flush_due: false,
-        };
+        return Ended::new(Outcome::Memory, false);
     };
     let mut text = RowBuf::new();
     summary_of(&mut supervisor, seed, cycles).put(&mut text);
-    match write_piece(out, text.bytes()) {
-        Ok(()) => Ended {
-            outcome: Outcome::Done,
-            is_flush_due: true,
-        },
-        Err(_) => Ended {
-            outcome: Outcome::WriteFault,
-            is_flush_due: false,
-        },
-    }
+    Ended::written(text.bytes(), out)
 }

@@ -12,13 +12,13 @@ ghost use Rattle.sdm_run.specs.Upgrades.{IsReadBack, IsUpgradedTo, upgrade_outpu
 use crate::endings::Ended;
 use crate::journey_openings::{document_in, journey_in};
 use sdm_data::text_of;
-use sdm_io::{Sink, write_piece};
+use sdm_io::Sink;
 use sdm_report::Outcome;
 use std::alloc::Global;
 
 /// Answers a data part: the text of version 2 of its data, which is printed whole before out is called. Memory comes
 /// only before that; WriteFault only where out failed. (own)
-#[tactic(auto, using(crate::proofs::UpgradeTexts::refusal, crate::proofs::UpgradeTexts::text_done, crate::proofs::UpgradeTexts::text_cut))]
+#[tactic(auto, using(crate::proofs::UpgradeTexts::refusal, crate::proofs::UpgradeTexts::text_written))]
 pub fn run_upgrade<O: Sink>(alloc: Global, bytes: &[u8], out: &mut O) -> Ended
     ensures answer { IsAnswer (upgrade_output bytes.now) (O.taken out.old) (O.taken out.new) result.outcome }
     ensures read_back { NeedsTheWholeInput result.outcome → IsReadBack bytes.now }
@@ -30,24 +30,9 @@ pub fn run_upgrade<O: Sink>(alloc: Global, bytes: &[u8], out: &mut O) -> Ended
     ensures later { O.faults out.old ≤ O.faults out.new }
     ensures write { result.outcome ≡ Outcome.WriteFault → Rose (O.faults out.old) (O.faults out.new) }
 {
-    let text = match upgraded(alloc, bytes) {
-        Ok(text) => text,
-        Err(outcome) => {
-            return Ended {
-                outcome,
-                is_flush_due: false,
-            };
-        }
-    };
-    match write_piece(out, text.as_str().as_bytes()) {
-        Ok(()) => Ended {
-            outcome: Outcome::Done,
-            is_flush_due: true,
-        },
-        Err(_) => Ended {
-            outcome: Outcome::WriteFault,
-            is_flush_due: false,
-        },
+    match upgraded(alloc, bytes) {
+        Ok(text) => Ended::written(text.as_str().as_bytes(), out),
+        Err(outcome) => Ended::new(outcome, false),
     }
 }
 

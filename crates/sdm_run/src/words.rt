@@ -1,8 +1,10 @@
 //! The words after the program's name, and the commands that they ask for. A new command adds a variant and a shape.
 
-ghost use Rattle.std.specs.Prelude.{◌≡◌, map, string_bytes, IfSome};
+ghost use Rattle.std.specs.Prelude.{◌≡◌, ◌≤◌, map, option_map, string_bytes, IfSome};
+ghost use Rattle.sdm_rules.specs.Records.{most_records};
+ghost use Rattle.sdm_run.specs.declared.words.Command.TheVariants.{Drive, Trial};
 ghost use Rattle.sdm_run.specs.Shapes.{shape_of};
-ghost use Rattle.sdm_run.specs.Words.{IsCommandInRange, alone, asked_by, flat_command, trial_command};
+ghost use Rattle.sdm_run.specs.Words.{IsCommandInRange, alone, asked_by, certify_command, flat_command, numbered_command};
 
 use sdm_rules::{LONGEST_TRACK_CM, MOST_RECORDS};
 use sdm_text::natural_in;
@@ -20,6 +22,13 @@ pub enum Command {
     Trial { seed: u16, cycles: u32 },
     /// `upgrade`: the data of the input as a text of version 2.
     Upgrade,
+    /// `drive NUMBER CYCLES`: a train that a number, from 0 to 65,535, drives over the data of the input, in so many
+    /// steps, from 1 to 100,000.
+    Drive { seed: u16, cycles: u32 },
+    /// `certify N`: the certificates of the first N covered readings under a stop, N from 1 to 1,000.
+    Certify { count: u16 },
+    /// `check`: an answer for each claim of the certificate text of the input.
+    Check,
 }
 
 impl Command {
@@ -28,7 +37,13 @@ impl Command {
         ensures { result ≡ (shape_of self).reads_input }
     {
         match self {
-            Command::Flat { .. } | Command::Run | Command::Display | Command::Upgrade => true,
+            Command::Flat { .. }
+            | Command::Run
+            | Command::Display
+            | Command::Upgrade
+            | Command::Drive { .. }
+            | Command::Certify { .. }
+            | Command::Check => true,
             Command::Trial { .. } => false,
         }
     }
@@ -47,6 +62,9 @@ pub fn command_of(words: &[String]) -> Option<Command>
         "flat" => flat_command(more),
         "trial" => trial_command(more),
         "upgrade" => alone(Command::Upgrade, more),
+        "drive" => drive_command(more),
+        "certify" => certify_command(more),
+        "check" => alone(Command::Check, more),
         _ => None,
     }
 }
@@ -78,16 +96,44 @@ fn flat_command(words: &[String]) -> Option<Command>
     })
 }
 
-/// The two numbers of `trial`.
-fn trial_command(words: &[String]) -> Option<Command>
-    ensures value { result ≡ trial_command (map string_bytes words.now) }
-    ensures range { IfSome result IsCommandInRange }
+/// A number, from 0 to 65,535, and a count of cycles, from 1 to 100,000.
+fn seed_and_cycles(words: &[String]) -> Option<(u16, u32)>
+    ensures value { numbered_command Trial (map string_bytes words.now) ≡ option_map (λ n. Trial n.0 n.1) result }
+    ensures drive { numbered_command Drive (map string_bytes words.now) ≡ option_map (λ n. Drive n.0 n.1) result }
+    ensures range { IfSome result (λ n. (n.0 ≤ 65_535) × (1 ≤ n.1) × (n.1 ≤ most_records)) }
 {
     let [seed, cycles] = words else { return None };
     let seed = natural_in(seed.as_str().as_bytes(), 0, 65_535).ok()?;
     let cycles = natural_in(cycles.as_str().as_bytes(), 1, MOST_RECORDS).ok()?;
-    Some(Command::Trial {
-        seed: seed as u16,
-        cycles,
+    Some((seed as u16, cycles))
+}
+
+/// The two numbers of `trial`.
+fn trial_command(words: &[String]) -> Option<Command>
+    ensures value { result ≡ numbered_command Trial (map string_bytes words.now) }
+    ensures range { IfSome result IsCommandInRange }
+{
+    let (seed, cycles) = seed_and_cycles(words)?;
+    Some(Command::Trial { seed, cycles })
+}
+
+/// The two numbers of `drive`.
+fn drive_command(words: &[String]) -> Option<Command>
+    ensures value { result ≡ numbered_command Drive (map string_bytes words.now) }
+    ensures range { IfSome result IsCommandInRange }
+{
+    let (seed, cycles) = seed_and_cycles(words)?;
+    Some(Command::Drive { seed, cycles })
+}
+
+/// The count of `certify`.
+fn certify_command(words: &[String]) -> Option<Command>
+    ensures value { result ≡ certify_command (map string_bytes words.now) }
+    ensures range { IfSome result IsCommandInRange }
+{
+    let [count] = words else { return None };
+    let count = natural_in(count.as_str().as_bytes(), 1, 1_000).ok()?;
+    Some(Command::Certify {
+        count: count as u16,
     })
 }

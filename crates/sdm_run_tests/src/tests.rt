@@ -2,7 +2,10 @@
 //! for a carriage return and `-` for nothing.
 
 mod bands;
+mod certificates;
+mod checks;
 mod displays;
+mod drives;
 mod flats;
 mod journeys;
 mod long_inputs;
@@ -229,6 +232,22 @@ const WORDS: &str = "\
     trial 7 100001 | 1
     trial 7 1e5 | 1
     Trial 7 3 | 1
+    drive | 1
+    drive 7 | 1
+    drive 7 3 1 | 1
+    drive 0 0 | 1
+    drive 65536 1 | 1
+    drive -1 1 | 1
+    drive 7 100001 | 1
+    drive 7 1e5 | 1
+    Drive 7 3 | 1
+    certify | 1
+    certify 0 | 1
+    certify 1001 | 1
+    certify -1 | 1
+    certify 1 1 | 1
+    certify 1e2 | 1
+    Certify 1 | 1
     upgrade 1 | 1
     upgrade upgrade | 1
     Upgrade | 1

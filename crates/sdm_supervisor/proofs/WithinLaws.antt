@@ -10,10 +10,10 @@ use Rattle.sdm_rules.specs.declared.authorities.Authority.TheVariants.{Stop, Lim
 use Rattle.sdm_rules.specs.declared.targets.Target.{Target}
 use Rattle.sdm_rules.specs.Data.{TrainAndTrack}
 use Rattle.sdm_rules.specs.Limits.{computed, limits_of}
-use Rattle.sdm_rules.specs.Supervision.{release_of}
+use Rattle.sdm_rules.specs.Supervision.{Supervision, release_of}
 use Rattle.sdm_rules.specs.Targets.{svl_target}
 use Rattle.sdm_rules.specs.Triggers.{is_past}
-use Rattle.sdm_rules.specs.Within.{is_before_svl, is_within}
+use Rattle.sdm_rules.specs.Within.{is_before_svl, is_within, is_within_svl}
 use Rattle.sdm_limits.specs.Sides.{place_of, place_where}
 use Rattle.sdm_braking.specs.declared.kept_ends.KeptEnd.TheVariants.{Stop as KeptStop, Limit as KeptLimit}
 use Rattle.sdm_braking.specs.declared.kept_targets.KeptTarget.{KeptTarget}
@@ -66,3 +66,9 @@ pub by_front : (d : TrainAndTrack) (r : OdometerReading) (a : Authority) (eoa sv
     ((cm : ℕ) → IsKeptAt d (svl_target cm) svl → before ≡ is_before_svl d r cm) → before ≡ is_within d r a
 by_front d r (Stop eoa svl release) k l before kept release_is found = rw release_is (found svl kept.1)
 by_front d r (Limit at speed) k l before kept release_is found = absurd kept
+
+-- so a supervision state whose authority isn't a stop has no reading within the SvL
+pub never_within : (s : Supervision) (r : OdometerReading) (loa speed : ℕ) → s.authority ≡ Limit loa speed →
+    is_within_svl s r ≡ false
+unfolding is_within_svl
+never_within s r loa speed is = rw is refl

@@ -1,5 +1,6 @@
 -- What a supervisor keeps beside its supervision state (own).
-use Rattle.std.specs.Prelude.{◌≡◌, ℤ, pos, true, None, unsigned_abs}
+use Rattle.std.specs.Prelude.{◌≡◌, ℤ, pos, true, None, ◌≤ℤ◌, unsigned_abs}
+use Rattle.sdm_num.specs.Readings.{OdometerReading}
 use Rattle.sdm_rules.specs.declared.authorities.Authority.{Authority}
 use Rattle.sdm_rules.specs.declared.authorities.Authority.TheVariants.{Stop, Limit}
 use Rattle.sdm_rules.specs.declared.data.SlopeKind.TheVariants.{Safe}
@@ -8,9 +9,11 @@ use Rattle.sdm_rules.specs.declared.targets.TargetKind.TheVariants.{Loa, Svl}
 use Rattle.sdm_rules.specs.Cells.{place_of_cell}
 use Rattle.sdm_rules.specs.Data.{TrainAndTrack}
 use Rattle.sdm_rules.specs.Decelerations.{slopes_of}
+use Rattle.sdm_rules.specs.Ranges.{longest_track}
 use Rattle.sdm_rules.specs.Records.{authority_fault}
 use Rattle.sdm_rules.specs.Supervision.{Supervision, profile_of}
 use Rattle.sdm_rules.specs.Targets.{fall_at, foot_speed_of, is_fall}
+use Rattle.sdm_rules.specs.Within.{is_within_svl}
 use Rattle.sdm_speed.specs.Profiles.{ProfileData}
 use Rattle.sdm_curve.specs.Made.{BrakeCurve}
 use Rattle.sdm_braking.specs.declared.kept.Kept.{Kept}
@@ -46,3 +49,11 @@ last_of (Limit loa speed) = record { kind = Loa; place = place_of_cell (pos loa)
 abbrev pub IsAuthorityCurve : Supervision → BrakeCurve → Type 0
 IsAuthorityCurve s curve = IsCurveOn (slopes_of Safe s.train_and_track) (last_of s.authority).place
     (foot_speed_of (last_of s.authority)) curve
+
+-- the place of the SvL, which lies on the track, and its EBD, at a reading within the SvL (SUBSET-026-3 3.13.8.3; own)
+pub record IsClaimOf (s : Supervision) (r : OdometerReading) (place : ℤ) (curve : BrakeCurve) : Type 0 where
+  pub within : is_within_svl s r ≡ true
+  pub svl : place ≡ (last_of s.authority).place
+  pub not_below_0 : pos 0 ≤ℤ place
+  pub on_track : place ≤ℤ place_of_cell (pos longest_track)
+  pub ebd : IsAuthorityCurve s curve

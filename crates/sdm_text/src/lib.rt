@@ -8,12 +8,14 @@ mod keys;
 mod lines;
 mod numbers;
 mod rows;
+mod wide;
 
 pub use keys::{key_name, key_names};
 pub use lines::{split_field, split_line, without_lf};
 pub use numbers::{natural_in, read_int, split_number};
 pub use rows::{ROW_BYTES, RowBuf};
 pub use sdm_rules::{FieldFault, Section};
+pub use wide::read_wide;
 
 #[cfg(test)]
 mod tests;

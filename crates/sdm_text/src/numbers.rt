@@ -76,7 +76,7 @@ fn magnitude(digits: &[u8]) -> Option<u64>
 /// The digit that a byte writes, and more than 9 where it writes none: a byte below `0` wraps, so that a caller needs
 /// one test.
 #[inline]
-fn digit_of(byte: u8) -> u64
+pub(crate) fn digit_of(byte: u8) -> u64
     ensures digit { result ≤ 9 → (is_ascii_digit byte ≡ true) × (result ≡ byte - 48) }
     ensures none { 9 < result → is_ascii_digit byte ≡ false }
 {

@@ -2,8 +2,8 @@
 //! byte that they hold.
 
 use crate::{
-    FieldFault, ROW_BYTES, RowBuf, Section, key_name, key_names, natural_in, read_int, split_field,
-    split_line, split_number, without_lf,
+    FieldFault, ROW_BYTES, RowBuf, Section, key_name, key_names, natural_in, read_int, read_wide,
+    split_field, split_line, split_number, without_lf,
 };
 use std::test::Fail;
 
@@ -256,4 +256,48 @@ fn a_row_holds_192_bytes(rt: HostRuntime) {
     row.clear();
     row.text(&[b'z'; ROW_BYTES]);
     assert_eq!(rt; row.bytes().len(), 192);
+}
+
+/// A wide field, the greatest number that it may hold, the answer, and what the case shows.
+const WIDE_FIELDS: &str = "\
+0|0|0|zero alone
+007|7|7|leading zeros are accepted
+8|7|OutOfRange|one above the greatest
+100000000000000000000000000000000|100000000000000000000000000000000|100000000000000000000000000000000|10^32
+100000000000000000000000000000001|100000000000000000000000000000000|OutOfRange|one above 10^32
+99999999999999999999999999999999999999|340282366920938463463374607431768211455|99999999999999999999999999999999999999|thirty-eight digits
+000000000000000000000000000000000000001|1|NotNumber|thirty-nine digits with leading zeros
+|7|NotNumber|an empty field
+-1|7|NotNumber|a minus sign
++1|7|NotNumber|a plus sign
+1 |7|NotNumber|a space after
+/|7|NotNumber|the byte before the digits
+:|7|NotNumber|the byte after the digits";
+
+fn wide_answer(word: &str) -> Result<Result<u128, FieldFault>, &'static str> {
+    match word {
+        "NotNumber" => Ok(Err(FieldFault::NotNumber)),
+        "OutOfRange" => Ok(Err(FieldFault::OutOfRange)),
+        number => Ok(Ok(number.parse::<u128>().map_err(|_| "not an answer")?)),
+    }
+}
+
+#[test]
+#[tactic(auto, using(crate::proofs::Lengths::wide_decimal_is_short))]
+fn a_wide_field_is_digits_and_is_put_as_it_was_read(rt: HostRuntime) -> Result<(), Fail> {
+    for line in WIDE_FIELDS.lines() {
+        let mut words = line.split('|');
+        let field = words.next().ok_or("no field")?;
+        let hi = words.next().ok_or("no greatest")?;
+        let hi = hi.parse::<u128>().map_err(|_| "not a greatest")?;
+        let answer = words.next().ok_or("no answer")?;
+        let read = read_wide(field.as_bytes(), hi);
+        assert_eq!(rt; read, wide_answer(answer)?, "{line}");
+        if let Ok(number) = read {
+            let mut row = RowBuf::new();
+            row.wide(number);
+            assert_eq!(rt; row.bytes(), answer.as_bytes(), "{line}");
+        }
+    }
+    Ok(())
 }

@@ -7,6 +7,7 @@ ghost use Rattle.sdm_rules.specs.Records.{most_records};
 ghost use Rattle.sdm_trial.specs.Made.{TakesCycle};
 
 use sdm_num::Reading;
+use sdm_rules::next_number;
 use std::marker::Model;
 
 /// The readings of a trial, one after the other.
@@ -31,14 +32,6 @@ impl Model for Readings {
     ghost view = { λ r. record { seed = r.seed; made = r.made; left = r.left } };
 
     ghost invariant = { λ r. (r.number ≡ number_at r.seed r.made) × (r.made + r.left ≤ most_records) };
-}
-
-/// The number after this one.
-fn next_number(number: u16) -> u16
-    ensures { result ≡ next_number number }
-{
-    let next = (25_173 * u32::from(number) + 13_849) % 65_536;
-    next as u16
 }
 
 /// The reading of a cycle by its number.

@@ -3,13 +3,13 @@
 ghost use Rattle.std.specs.Prelude.{◌≡◌, ◌<◌, ◌≤◌, ◌+◌, suc, ◌+ℤ◌, pos, List, [], ◌∷◌, ◌++◌, length};
 ghost use Rattle.std.specs.Int.{int_rem_euclid};
 ghost use Rattle.sdm_rules.specs.declared.rows.Row.{Row};
-ghost use Rattle.sdm_rules.specs.Trial.{count_text, summary_text};
+ghost use Rattle.sdm_rules.specs.Trial.{summary_text};
 ghost use Rattle.sdm_rules.specs.Records.{most_records};
 ghost use Rattle.sdm_trial.specs.Summaries.{counts_of};
 
-use sdm_report::fields::put_count;
+use sdm_report::fields::put_count_line;
 use sdm_rules::Row;
-use sdm_text::{ROW_BYTES, RowBuf};
+use sdm_text::RowBuf;
 use std::marker::Model;
 
 /// The sum of the EBI places is told modulo this. (own)
@@ -57,18 +57,6 @@ fn sum_of(sum_mm: u32, place_mm: i64) -> u32
     (sum % EBI_MODULUS) as u32
 }
 
-/// Puts a word and a number as a line: at most 12 bytes more than the word.
-fn put_line(word: &[u8], number: u32, into: &mut RowBuf)
-    requires { length into.old + length word.now + 12 ≤ ROW_BYTES }
-    ensures text { into.new ≡ into.old ++ count_text word.now number }
-    ensures short { length into.new ≤ length into.old + length word.now + 12 }
-{
-    into.text(word);
-    into.byte(b' ');
-    put_count(number, into);
-    into.byte(b'\n');
-}
-
 impl Summary {
     /// The summary of no rows.
     pub fn new() -> Summary
@@ -102,10 +90,10 @@ impl Summary {
         requires { into.old ≡ [] }
         ensures { (rows : List Row) → self.now ≡ counts_of rows → into.new ≡ summary_text rows }
     {
-        put_line(b"rows", self.rows, into);
-        put_line(b"covered", self.covered, into);
-        put_line(b"emergency", self.emergency, into);
-        put_line(b"service", self.service, into);
-        put_line(b"ebi", self.ebi_mm, into);
+        put_count_line(b"rows", self.rows, into);
+        put_count_line(b"covered", self.covered, into);
+        put_count_line(b"emergency", self.emergency, into);
+        put_count_line(b"service", self.service, into);
+        put_count_line(b"ebi", self.ebi_mm, into);
     }
 }

@@ -9,7 +9,7 @@ from context import EXAMPLES
 from model.data import data_of, read_document
 from model.decelerations import brakes_of
 from model.drive import Drive, Train, braked, coasted, driven, greatest_slope, reading_of
-from model.journeys import an_open_document
+from model.journeys import a_drive, an_open_document
 from model.outcome import Outcome
 from model.toml_text import toml
 from model.units import GRAINS_PER_CM, GRAINS_PER_MM, NOTCHES_PER_MM_S
@@ -64,6 +64,15 @@ class Summaries(unittest.TestCase):
             self.assertEqual(lines(7, 3, *changes), ("", f"sdm: {fault}\n", code), fault)
         self.assertEqual(lines(7, 1, ("emergency_time = 20", "emergency_time = 5"))[2], 0)
         self.assertEqual(lines(7, 1, (END, END + "\nrelease = 0"))[2], 0)
+
+    def test_made_drives(self):
+        """Most can be driven, many are braked and stop; the same seed makes the same drive."""
+        ends = [collect(*a_drive(seed)) for seed in range(60)]
+        driven = [dict(line.split() for line in text.splitlines()) for text, _, code in ends if code == 0]
+        self.assertEqual({code for _, _, code in ends} - {0, 9}, set())
+        self.assertGreater(len(driven), 50)
+        self.assertGreater(sum(int(each["emergency"]) > 0 and int(each["stops"]) > 0 for each in driven), 20)
+        self.assertEqual(a_drive(7), a_drive(7))
 
     def test_a_data_part_alone(self):
         with_line = collect(["drive", "7", "3"], (PLAIN + "%%\n").encode())

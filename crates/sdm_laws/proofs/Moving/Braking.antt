@@ -24,7 +24,7 @@ use Rattle.sdm_laws.proofs.Moving.Stretch.{stretch}
 -- ---- bands
 
 -- the upper speeds rise
-abbrev AreRising : List ℕ → Type 0
+abbrev pub AreRising : List ℕ → Type 0
 AreRising uppers = (i j : ℕ) → i ≤ j → j < length uppers → slice_index uppers i ≤ slice_index uppers j
 
 -- the square of a greater speed is no less, at every scale
@@ -44,7 +44,7 @@ bands_rise on m b (suc k) u v rising in_u in_v lt =
     omega arith
 
 -- a band that holds both squares is the one with a part between them
-same_band : (on : Slopes) (m b b' u u' : ℕ) → AreRising on.uppers → IsInBand on m b u → IsInBand on m b u' →
+pub same_band : (on : Slopes) (m b b' u u' : ℕ) → AreRising on.uppers → IsInBand on m b u → IsInBand on m b u' →
     HasBandPart on m b' u' u →
     b' ≡ b
 same_band on m b b' u u' rising in_u in_u' part =
@@ -62,7 +62,7 @@ same_band on m b b' u u' rising in_u in_u' part =
 -- ---- one step
 
 -- two places that differ have a part in the cell of the first
-part_at : (m : ℕ) (p p' : ℤ) → 0 < m → p <ℤ p' → HasPart m (cell_at m p) p p'
+pub part_at : (m : ℕ) (p p' : ℤ) → 0 < m → p <ℤ p' → HasPart m (cell_at m p) p p'
 part_at m p p' m_pos lt = record {
   apart = lt;
   begins = omega (arith, ints, cell_low m p m_pos);

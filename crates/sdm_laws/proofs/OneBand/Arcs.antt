@@ -1,13 +1,14 @@
 -- Arcs of one band between two places of a curve, and the law of one band for them: of two arcs with one energy, from
 -- places at most `e` apart, the ends are at most `k * e` apart.
-use Rattle.std.proofs.Common.{◌≡◌, ℕ, ℤ, pos, ◌-◌, ◌*◌, ◌<◌, ◌≤◌, ◌+ℤ◌, ◌*ℤ◌, ap, arith, refl, sym, ◌∙◌}
+use Rattle.std.proofs.Common.{◌≡◌, ℕ, ℤ, pos, ◌+◌, ◌-◌, ◌*◌, ◌<◌, ◌≤◌, ◌+ℤ◌, ◌*ℤ◌, ap, arith, refl, sym, ◌∙◌}
 use Rattle.std.proofs.Math.Nat.{mul_comm, mul-le-mul_left, mul-pos, mul-sub}
 use Rattle.sdm_num.specs.Fractions.{Fraction}
 use Rattle.sdm_num.proofs.Ints.{scale-scale}
 use Rattle.sdm_rules.specs.Slopes.{Slopes}
 use Rattle.sdm_rules.specs.Curves.{arc_back, arc_forward, grain_energy}
 use Rattle.sdm_laws.proofs.OneBand.Energy.{IsPositive, IsEven}
-use Rattle.sdm_laws.proofs.OneBand.Distances.{IsDistance, distance_finer, distance_between_starts}
+use Rattle.sdm_laws.proofs.OneBand.Distances.{IsDistance, distance_none, distance_joined, distance_finer}
+use Rattle.sdm_laws.proofs.OneBand.Distances.{distance_between_starts}
 use Rattle.sdm_laws.proofs.OneBand.Distances.{distance_between_ends, shifted_back, shifted_forward, shifted_at_most}
 use Rattle.sdm_laws.proofs.OneBand.Walks.{IsBackBy, IsForwardBy, one_times, back-is, forward-is}
 use Rattle.sdm_laws.proofs.OneBand.CommonSteps.{IsPastBy, factor_right, same_steps, steps_of_past, past_of_steps}
@@ -85,6 +86,23 @@ pub arc_forward-is : (on : Slopes) (s band change : ℕ) (x : Fraction) → IsPo
 unfolding arc_forward
 arc_forward-is on s band change x some s_pos x_pos =
     arc_of_forward on s band x _ _ x_pos (forward-is on s band _ x _ some (mul-pos s_pos x_pos) (omega arith))
+
+-- with no energy an arc ends where it begins
+pub arc_none : (on : Slopes) (s band : ℕ) (x : Fraction) → 0 < x.m → Arc on s band x x 0
+arc_none on s band x x_pos =
+    let none : x.m * 0 ≡ 0 = omega arith in
+    record {
+      n = x.m;
+      is = record {
+        from = 1;
+        to = 1;
+        d = 0;
+        positive = x_pos;
+        from_is = omega arith;
+        to_is = omega arith;
+        is = rw none (distance_none on band (s * x.m) (pos 1 *ℤ x.n));
+      };
+    }
 
 -- ---- two arcs in common steps
 
@@ -167,6 +185,30 @@ arc_between_ends on s band x y y' c c' some s_pos le h h' =
         to_is = h1.to_is;
         is =
             rw (mul-sub both.n c c') rest;
+      };
+    }
+
+-- an arc and one from its end on are one arc
+pub arc_joined : (on : Slopes) (s band : ℕ) (y x z : Fraction) (c c' : ℕ) → 0 < s → Arc on s band y x c →
+    Arc on s band x z c' → Arc on s band y z (c + c')
+arc_joined on s band y x z c c' s_pos h h' =
+    let both = in_common_steps on s band y x c x z c' s_pos h h' in
+    let h1 = both.one in
+    let h2 = both.two in
+    let same : h1.to ≡ h2.from = same_steps both.n h1.to h2.from x.m h1.positive h1.to_is h2.from_is in
+    let sum : both.n * c + both.n * c' ≡ both.n * (c + c') = omega arith in
+    let distance = distance_joined on band (s * both.n) _ _ _ h1.d h2.d (both.n * c) (both.n * c') (rw same at h1.is)
+    h2.is in
+    record {
+      n = both.n;
+      is = record {
+        from = h1.from;
+        to = h2.to;
+        d = h1.d + h2.d;
+        positive = h1.positive;
+        from_is = h1.from_is;
+        to_is = h2.to_is;
+        is = rw sum at distance;
       };
     }
 

@@ -26,7 +26,8 @@ fn the_limit_of_an_input_is_not_past_it(rt: HostRuntime) -> Result<(), Fail> {
     assert_eq!(rt; outcome_of(alloc, &words, b"0,0,0\n"), Outcome::Done);
     assert_eq!(rt; outcome_of(alloc, &[], b"0,0,0\n"), Outcome::Usage);
 
-    for words in [&words, &run] {
+    let drive = words_of(alloc, "drive 7 3")?;
+    for words in [&words, &run, &drive] {
         let mut err = MemSink::new(alloc, 1000, 1000, &[])?;
         let mut input = FixedSource::new(&line_feeds);
         let outcome = sdm_main(alloc, words, &mut input, &mut NullSink::new(), &mut err);

@@ -18,6 +18,7 @@ invariant_of-result c = (
   accepted c,
   record {
     safe_is = c.in_ok-safe.ensures.slopes;
+    safe_stretches = c.in_ok-safe.ensures.segments;
     expected_is = c.in_ok-expected.ensures.slopes;
     normal_is = c.in_ok-normal.ensures.slopes;
     times_are = c.times_of-times.ensures.value;

@@ -75,7 +75,7 @@ module _ (c : goal.After-moved) where
       let onset = c.onset_after.ensures
       ∙ ap (onset_after c.in-Ok.row.held.eb c.self.inside.onset c.last_within-last.result
       (step_time * (before.steps + 1))) c.brake_delay-delay.ensures.value in
-      let on = c.safe_map.ensures
+      let on = c.safe_map.ensures.slopes
       ∙ ap (λ (s : Supervision). slopes_of Safe s.train_and_track) c.in-Ok.ensures.taken in
       step_of before c.reading_by-reading.result c.in-Ok.row c.within_svl-within.result c.last_within-last.result
       c.onset_after.result accel (meaning_of c.safe_map.result.now) (step_time * (before.steps + 1)) _ _ read

@@ -1,0 +1,387 @@
+/* Misuses the library in each way that sdm.h defines, over the data of an input of the program's `run`, and fails each
+ * allocation of sdm_open in turn. Link it with heap_test.c.
+ *
+ *     fault < INPUT
+ *
+ * It ends with 0 where every call answered as it should, changed nothing where it should change nothing, and no call
+ * but sdm_open asked for memory; else it tells what differs and ends with 1. Where the data are refused there is no
+ * supervisor to misuse: then the allocations alone are failed. */
+#include "heap_test.h"
+#include "journey.h"
+
+#include <inttypes.h>
+#include <limits.h>
+#include <stdlib.h>
+#include <string.h>
+
+enum { MOST_RESTRICTIONS = 32, HELD_ID = 7 };
+
+static unsigned checks, failures;
+
+/* A fact that must hold, and what it is said of. */
+static void check(bool is_true, const char *fact, const char *of) {
+    checks++;
+    if (is_true)
+        return;
+    failures++;
+    printf("fault: not so of %s: %s\n", of, fact);
+}
+
+static void check_answer(uint32_t status, uint32_t due, const char *of) {
+    check(status == due, "the status that is due is answered", of);
+    if (status != due)
+        printf("    %" PRIu32 " in the place of %" PRIu32 "\n", status, due);
+}
+
+/* That no call of the heap came since the last heap_test_begin. */
+static void check_no_memory_moved(const char *of) {
+    struct heap_counts counts = heap_test_counts();
+    check(counts.asked == 0 && counts.given_back == 0, "no memory is asked for or given back", of);
+}
+
+static bool is_same_handle(struct sdm one, struct sdm other) {
+    return one.at == other.at && one.is_open == other.is_open;
+}
+
+static bool is_closed(struct sdm h) {
+    struct sdm closed = SDM_INIT;
+    return is_same_handle(h, closed);
+}
+
+static bool is_same_place(struct sdm_place one, struct sdm_place other) {
+    return one.mm == other.mm && one.is_some == other.is_some;
+}
+
+static bool is_same_row(const struct sdm_row *one, const struct sdm_row *other) {
+    return one->time_ds == other->time_ds && one->state == other->state && one->status == other->status &&
+           one->tco == other->tco && one->sb == other->sb && one->eb == other->eb && one->covered == other->covered &&
+           one->ceiling_kmh == other->ceiling_kmh && is_same_place(one->ebi, other->ebi) &&
+           is_same_place(one->sbi, other->sbi) && is_same_place(one->warning, other->warning) &&
+           is_same_place(one->permitted, other->permitted) && is_same_place(one->indication, other->indication);
+}
+
+/* Whether all bytes of an output are still what `unwritten` made of them. */
+static bool is_unwritten(const void *output, size_t bytes) {
+    const uint8_t *at = (const uint8_t *)output;
+    for (size_t i = 0; i < bytes; i++)
+        if (at[i] != 0xa5)
+            return false;
+    return true;
+}
+
+static void unwritten(void *output, size_t bytes) { memset(output, 0xa5, bytes); }
+
+/* Opens over a copy of the data at an odd address, which is gone once this returns: the library keeps none of it. */
+static uint32_t open_over_a_copy(struct sdm *h, const uint8_t *data, size_t data_bytes, struct sdm_line *line) {
+    uint8_t *block = (uint8_t *)malloc(data_bytes + 1);
+    if (block == NULL)
+        abort();
+    memcpy(block + 1, data, data_bytes);
+    uint32_t status = sdm_open(h, block + 1, data_bytes, line);
+    memset(block, 0xff, data_bytes + 1);
+    free(block);
+    return status;
+}
+
+/* A call that is refused, told as an event. */
+struct misuse {
+    const char *what;
+    uint32_t due;
+    struct event event;
+};
+
+/* What each call but sdm_open and sdm_close answers where there is no supervisor. */
+static const struct misuse without_supervisor[] = {
+    {"a reading without supervisor", SDM_CLOSED, {EVENT_READ, {0, 0, 0, 0, 0, 0, 0}}},
+    {"a reading out of range without supervisor", SDM_CLOSED, {EVENT_READ, {100000001, 0, 0, 0, 0, 0, 0}}},
+    {"an end without supervisor", SDM_CLOSED, {EVENT_END, {0, 0, 0}}},
+    {"a calculated end without supervisor", SDM_CLOSED, {EVENT_END_CALCULATED, {0, 0, 0}}},
+    {"a limit without supervisor", SDM_CLOSED, {EVENT_LIMIT, {0, 1}}},
+    {"a restriction without supervisor", SDM_CLOSED, {EVENT_RESTRICT, {0, 0, 1, 1, 0}}},
+    {"a restriction out of range without supervisor", SDM_CLOSED, {EVENT_RESTRICT, {65536, 0, 1, 1, 0}}},
+    {"a revocation without supervisor", SDM_CLOSED, {EVENT_REVOKE, {0}}},
+    {"a revocation out of range without supervisor", SDM_CLOSED, {EVENT_REVOKE, {65536}}},
+};
+
+/* What is refused whatever the data are, once a reading at LAST_TIME was taken and a restriction HELD_ID is held. */
+enum { LAST_TIME = 50 };
+
+static const struct misuse misuses[] = {
+    {"a time above its range", SDM_OUT_OF_RANGE, {EVENT_READ, {100000001, 0, 0, 0, 0, 0, 0}}},
+    {"a time before the last", SDM_TIME_BACK, {EVENT_READ, {LAST_TIME - 1, 0, 0, 0, 0, 0, 0}}},
+    {"a time before the last, out of range", SDM_OUT_OF_RANGE, {EVENT_READ, {LAST_TIME - 1, 0, 0, 0, 138889, 0, 0}}},
+    {"front ends before their range", SDM_OUT_OF_RANGE, {EVENT_READ, {LAST_TIME, -10000001, -10000001, 0, 0, 0, 0}}},
+    {"a min safe front end before its range", SDM_OUT_OF_RANGE, {EVENT_READ, {LAST_TIME, 0, -10000001, 0, 0, 0, 0}}},
+    {"a min safe front end past the estimated one", SDM_OUT_OF_RANGE, {EVENT_READ, {LAST_TIME, 0, 1, 1, 0, 0, 0}}},
+    {"a max safe front end before the estimated one", SDM_OUT_OF_RANGE, {EVENT_READ, {LAST_TIME, 0, -1, -1, 0, 0, 0}}},
+    {"a max safe front end past its range", SDM_OUT_OF_RANGE, {EVENT_READ, {LAST_TIME, 0, 0, 110000001, 0, 0, 0}}},
+    {"a speed above its range", SDM_OUT_OF_RANGE, {EVENT_READ, {LAST_TIME, 0, 0, 0, 138889, 0, 0}}},
+    {"the greatest speed that can be written", SDM_OUT_OF_RANGE, {EVENT_READ, {LAST_TIME, 0, 0, 0, UINT32_MAX, 0, 0}}},
+    {"an acceleration above its range", SDM_OUT_OF_RANGE, {EVENT_READ, {LAST_TIME, 0, 0, 0, 0, 301, 0}}},
+    {"an acceleration below its range", SDM_OUT_OF_RANGE, {EVENT_READ, {LAST_TIME, 0, 0, 0, 0, -301, 0}}},
+    {"an acceleration that is 1 in 16 bits", SDM_OUT_OF_RANGE, {EVENT_READ, {LAST_TIME, 0, 0, 0, 0, 65537, 0}}},
+    {"an under-reading amount above its range", SDM_OUT_OF_RANGE, {EVENT_READ, {LAST_TIME, 0, 0, 0, 0, 0, 10001}}},
+    {"an SvL before the EOA", SDM_SVL_BEFORE_EOA, {EVENT_END, {1, 0, 0}}},
+    {"an SvL before the EOA, too fast", SDM_SVL_BEFORE_EOA, {EVENT_END, {1, 0, 501}}},
+    {"an SvL past every track", SDM_BEYOND_TRACK, {EVENT_END, {0, 10000001, 0}}},
+    {"an SvL past every track, too fast", SDM_BEYOND_TRACK, {EVENT_END, {0, UINT32_MAX, 501}}},
+    {"a release speed that is too high", SDM_BAD_SPEED, {EVENT_END, {0, 0, 501}}},
+    {"a release speed that is 1 in 16 bits", SDM_BAD_SPEED, {EVENT_END, {0, 0, 65537}}},
+    {"a calculated end with its SvL before the EOA", SDM_SVL_BEFORE_EOA, {EVENT_END_CALCULATED, {1, 0, 0}}},
+    {"a calculated end past every track", SDM_BEYOND_TRACK, {EVENT_END_CALCULATED, {0, 10000001, 0}}},
+    {"a trip before the EOA", SDM_BAD_TRIP, {EVENT_END_CALCULATED, {1, 1, 0}}},
+    {"a trip past the SvL", SDM_BAD_TRIP, {EVENT_END_CALCULATED, {0, 1, 2}}},
+    {"a limit past every track", SDM_BEYOND_TRACK, {EVENT_LIMIT, {10000001, 100}}},
+    {"a limit past every track, without speed", SDM_BEYOND_TRACK, {EVENT_LIMIT, {10000001, 0}}},
+    {"a limit without speed", SDM_BAD_SPEED, {EVENT_LIMIT, {0, 0}}},
+    {"a limit that is too fast", SDM_BAD_SPEED, {EVENT_LIMIT, {0, 501}}},
+    {"a limit of a speed that is 1 in 16 bits", SDM_BAD_SPEED, {EVENT_LIMIT, {0, 65537}}},
+    {"an identity above its range", SDM_OUT_OF_RANGE, {EVENT_RESTRICT, {65536, 0, 1, 100, 0}}},
+    {"a restriction without speed", SDM_OUT_OF_RANGE, {EVENT_RESTRICT, {8, 0, 1, 0, 0}}},
+    {"a restriction that is too fast", SDM_OUT_OF_RANGE, {EVENT_RESTRICT, {8, 0, 1, 501, 0}}},
+    {"a restriction of a speed that is 1 in 16 bits", SDM_OUT_OF_RANGE, {EVENT_RESTRICT, {8, 0, 1, 65537, 0}}},
+    {"a restriction with a flag of 2", SDM_OUT_OF_RANGE, {EVENT_RESTRICT, {8, 0, 1, 100, 2}}},
+    {"a held restriction out of range", SDM_OUT_OF_RANGE, {EVENT_RESTRICT, {HELD_ID, 0, 1, 501, 0}}},
+    {"a held restriction", SDM_ID_IN_USE, {EVENT_RESTRICT, {HELD_ID, 0, 1, 100, 0}}},
+    {"a held restriction without length", SDM_ID_IN_USE, {EVENT_RESTRICT, {HELD_ID, 1, 1, 100, 0}}},
+    {"a restriction without length", SDM_BAD_PLACES, {EVENT_RESTRICT, {8, 1, 1, 100, 0}}},
+    {"a restriction that ends before its start", SDM_BAD_PLACES, {EVENT_RESTRICT, {8, 1, 0, 100, 0}}},
+    {"a restriction past every track", SDM_BAD_PLACES, {EVENT_RESTRICT, {8, 0, 10000001, 100, 0}}},
+    {"an unknown identity", SDM_UNKNOWN_ID, {EVENT_REVOKE, {8}}},
+    {"an identity that is a held one in 16 bits", SDM_OUT_OF_RANGE, {EVENT_REVOKE, {65536 + HELD_ID}}},
+};
+
+/* Makes a call that is refused: it answers what is due, and writes nothing. Of a reading the display is asked too,
+ * which knows no last time. */
+static void refuse(struct sdm *h, const struct misuse *misuse) {
+    struct sdm before = *h;
+    struct sdm_row row;
+    struct sdm_display display;
+    unwritten(&row, sizeof row);
+    unwritten(&display, sizeof display);
+    heap_test_begin(0, 0);
+    check_answer(event_take(h, &misuse->event, &row), misuse->due, misuse->what);
+    if (misuse->event.kind == EVENT_READ && misuse->due != SDM_TIME_BACK) {
+        struct sdm_reading reading = event_reading(&misuse->event);
+        check_answer(sdm_display(h, &reading, &display), misuse->due, misuse->what);
+    }
+    check(is_unwritten(&row, sizeof row), "the row isn't written", misuse->what);
+    check(is_unwritten(&display, sizeof display), "the display isn't written", misuse->what);
+    check(is_same_handle(*h, before), "the handle stays", misuse->what);
+    check_no_memory_moved(misuse->what);
+}
+
+/* A handle without supervisor: each call is refused, and closing it does nothing, however often. */
+static void misuse_closed(struct sdm *h, const char *what) {
+    check(is_closed(*h), "the handle is as SDM_INIT", what);
+    for (size_t i = 0; i < sizeof without_supervisor / sizeof without_supervisor[0]; i++)
+        refuse(h, &without_supervisor[i]);
+    heap_test_begin(0, 0);
+    sdm_close(h);
+    sdm_close(h);
+    check(is_closed(*h), "the handle is as SDM_INIT after closing", what);
+    check_no_memory_moved(what);
+}
+
+/* Data that are opened, what is said of them, and what the opening answers with ample memory. */
+struct opening {
+    const uint8_t *data;
+    size_t data_bytes;
+    const char *what;
+    uint32_t status;
+};
+
+/* Closes what an opening left. */
+static void close_all(struct sdm *h, const char *what) {
+    sdm_close(h);
+    check(is_closed(*h), "closing leaves the handle as SDM_INIT", what);
+    check(heap_test_counts().held == 0, "closing gives all memory back", what);
+}
+
+/* Opens with some allocations failed: want of memory is answered, no memory is held, and handle and line stay. An
+ * allocation that is failed alone may have been asked for once more; then all is as with ample memory. */
+static void fail_some(const struct opening *opening, unsigned long first, unsigned long last) {
+    struct sdm h = SDM_INIT;
+    struct sdm_line line;
+    unwritten(&line, sizeof line);
+    heap_test_begin(first, last);
+    uint32_t status = open_over_a_copy(&h, opening->data, opening->data_bytes, &line);
+    if (first == last && status == opening->status) {
+        close_all(&h, opening->what);
+        return;
+    }
+    check_answer(status, SDM_NO_MEMORY, opening->what);
+    check(is_closed(h), "the handle stays without supervisor", opening->what);
+    check(is_unwritten(&line, sizeof line), "the line isn't written", opening->what);
+    check(heap_test_counts().held == 0, "no memory is held", opening->what);
+}
+
+/* Fails each allocation of an opening in turn, alone and with all that come after it. What the opening answers with
+ * ample memory. */
+static uint32_t fail_allocations(const uint8_t *data, size_t data_bytes, const char *what) {
+    struct sdm h = SDM_INIT;
+    struct sdm_line line;
+    unwritten(&line, sizeof line);
+    heap_test_begin(0, 0);
+    struct opening opening = {data, data_bytes, what, open_over_a_copy(&h, data, data_bytes, &line)};
+    struct heap_counts counts = heap_test_counts();
+    printf("fault: sdm_open over %s answers %" PRIu32
+           "; it asks %lu times for memory, for %zu bytes at most at a time, "
+           "and holds %zu of them in %lu blocks\n",
+           what, opening.status, counts.asked, counts.most_bytes, counts.bytes, counts.held);
+    close_all(&h, what);
+    for (unsigned long n = 1; n <= counts.asked && failures == 0; n++) {
+        fail_some(&opening, n, n);
+        fail_some(&opening, n, ULONG_MAX);
+    }
+    return opening.status;
+}
+
+/* A text that is no data part: its line is written, and nothing else. */
+static void refuse_data(const char *data, const char *due) {
+    static const char what[] = "data that are refused";
+    const uint8_t *bytes = (const uint8_t *)data;
+    struct sdm h = SDM_INIT;
+    struct sdm_line line;
+    check_answer(fail_allocations(bytes, strlen(data), what), SDM_BAD_DATA, what);
+    unwritten(&line, sizeof line);
+    heap_test_begin(0, 0);
+    check_answer(open_over_a_copy(&h, bytes, strlen(data), &line), SDM_BAD_DATA, what);
+    check(line.count == strlen(due) && memcmp(line.bytes, due, strlen(due)) == 0, "the line is the program's", what);
+    check(is_closed(h), "there is no supervisor", what);
+    check(heap_test_counts().held == 0, "no memory is held", what);
+}
+
+/* A second opening, over good data and over bad ones. */
+static void open_twice(struct sdm *h, const struct journey *journey) {
+    struct sdm before = *h;
+    struct sdm_line line;
+    unwritten(&line, sizeof line);
+    heap_test_begin(0, 0);
+    check_answer(sdm_open(h, journey->data, journey->data_bytes, &line), SDM_IN_USE, "a second opening");
+    check_answer(sdm_open(h, journey->data, 0, &line), SDM_IN_USE, "a second opening over no data");
+    check(is_unwritten(&line, sizeof line), "the line isn't written", "a second opening");
+    check(is_same_handle(*h, before), "the handle stays", "a second opening");
+    check_no_memory_moved("a second opening");
+}
+
+/* A reading of the same time and place on both: both must be in the same state, so their rows are the same. */
+static void compare(struct sdm *h, struct sdm *twin, const struct event *reading, const char *what) {
+    struct sdm_row row, twins_row;
+    unwritten(&row, sizeof row);
+    unwritten(&twins_row, sizeof twins_row);
+    check_answer(event_take(h, reading, &row), SDM_DONE, what);
+    check_answer(event_take(twin, reading, &twins_row), SDM_DONE, what);
+    check(is_same_row(&row, &twins_row), "the next row is as that of a supervisor that wasn't misused", what);
+}
+
+/* Takes as many restrictions as may be, and refuses one more. */
+static void fill(struct sdm *h, struct sdm *twin, const struct event *reading) {
+    static const struct misuse one_more[] = {
+        {"one restriction more", SDM_FULL, {EVENT_RESTRICT, {65535, 0, 1, 100, 0}}},
+        {"one restriction more, which is held", SDM_FULL, {EVENT_RESTRICT, {HELD_ID, 0, 1, 100, 0}}},
+    };
+    struct event more = {EVENT_RESTRICT, {0, 0, 1, 500, 1}};
+    for (more.numbers[0] = 100; more.numbers[0] < 100 + MOST_RESTRICTIONS - 1; more.numbers[0]++) {
+        check_answer(event_take(h, &more, NULL), SDM_DONE, "a restriction");
+        check_answer(event_take(twin, &more, NULL), SDM_DONE, "a restriction");
+    }
+    for (size_t i = 0; i < sizeof one_more / sizeof one_more[0]; i++) {
+        refuse(h, &one_more[i]);
+        compare(h, twin, reading, one_more[i].what);
+    }
+}
+
+/* The first reading of a journey, at LAST_TIME; one at the track's start, where it has none. */
+static struct event a_reading(const struct journey *journey) {
+    struct event event = {EVENT_READ, {LAST_TIME, 0, 0, 0, 20000, 0, 0}};
+    const uint8_t *at = journey->records;
+    unsigned column;
+    while (at < journey->end) {
+        struct event found;
+        if (event_read(&at, journey->end, &found, &column) == FORM_DONE && found.kind == EVENT_READ) {
+            event = found;
+            event.numbers[0] = LAST_TIME;
+            break;
+        }
+    }
+    return event;
+}
+
+/* Misuses an open supervisor beside a twin that isn't misused. */
+static void misuse_open(struct sdm *h, struct sdm *twin, const struct journey *journey) {
+    struct event reading = a_reading(journey), restriction = {EVENT_RESTRICT, {HELD_ID, 0, 1, 500, 0}};
+    open_twice(h, journey);
+    compare(h, twin, &reading, "a second opening");
+    check_answer(event_take(h, &restriction, NULL), SDM_DONE, "a restriction");
+    check_answer(event_take(twin, &restriction, NULL), SDM_DONE, "a restriction");
+    for (size_t i = 0; i < sizeof misuses / sizeof misuses[0]; i++) {
+        refuse(h, &misuses[i]);
+        compare(h, twin, &reading, misuses[i].what);
+    }
+    fill(h, twin, &reading);
+}
+
+/* Plays the whole journey: no record takes memory, and a handle may be moved. */
+static void play(struct sdm *h, const struct journey *journey) {
+    const uint8_t *at = journey->records;
+    unsigned column, readings = 0;
+    heap_test_begin(0, 0);
+    while (at < journey->end) {
+        struct event event;
+        struct sdm_row row;
+        struct sdm_display display;
+        struct sdm moved = *h, closed = SDM_INIT;
+        *h = closed;
+        unwritten(&row, sizeof row);
+        unwritten(&display, sizeof display);
+        if (event_read(&at, journey->end, &event, &column) == FORM_DONE &&
+            event_take(&moved, &event, &row) == SDM_DONE && event.kind == EVENT_READ) {
+            struct sdm_reading reading = event_reading(&event);
+            check_answer(sdm_display(&moved, &reading, &display), SDM_DONE, "a display");
+            readings++;
+        }
+        *h = moved;
+    }
+    check_no_memory_moved("a journey");
+    printf("fault: %u readings of the journey were judged without memory\n", readings);
+}
+
+/* All of it, over a journey whose data are taken. */
+static void misuse_supervisor(const struct journey *journey) {
+    struct sdm h = SDM_INIT, twin = SDM_INIT, player = SDM_INIT;
+    struct sdm_line line;
+    unwritten(&line, sizeof line);
+    misuse_closed(&h, "a handle that was never opened");
+    heap_test_begin(0, 0);
+    check_answer(open_over_a_copy(&h, journey->data, journey->data_bytes, &line), SDM_DONE, "an opening");
+    check_answer(open_over_a_copy(&twin, journey->data, journey->data_bytes, &line), SDM_DONE, "an opening beside it");
+    check_answer(open_over_a_copy(&player, journey->data, journey->data_bytes, &line), SDM_DONE,
+                 "an opening beside both");
+    check(is_unwritten(&line, sizeof line), "the line isn't written", "an opening");
+    misuse_open(&h, &twin, journey);
+    play(&player, journey);
+    sdm_close(&player);
+    sdm_close(&h);
+    misuse_closed(&h, "a handle that was closed");
+    check_answer(open_over_a_copy(&h, journey->data, journey->data_bytes, &line), SDM_DONE, "an opening after closing");
+    sdm_close(&h);
+    sdm_close(&twin);
+    check(heap_test_counts().held == 0, "closing gives all memory back", "the supervisors");
+}
+
+int main(void) {
+    struct journey journey;
+    if (journey_read(stdin, &journey) != JOURNEY_READ) {
+        fprintf(stderr, "usage: fault < INPUT, whose records are plain\n");
+        return 64;
+    }
+    check(sdm_layout() == SDM_LAYOUT, "it is that of sdm.h", "the layout");
+    refuse_data("", "sdm: bad data: missing version\n");
+    refuse_data("version = ", "sdm: bad data: not TOML\n");
+    if (fail_allocations(journey.data, journey.data_bytes, "the data of the input") == SDM_DONE)
+        misuse_supervisor(&journey);
+    journey_free(&journey);
+    printf("fault: %u checks, %u failed\n", checks, failures);
+    return failures != 0;
+}

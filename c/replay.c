@@ -1,0 +1,221 @@
+/* Plays a recorded journey on the library: reads an input of the program's `run` from standard input, hands each
+ * record to the supervisor as an onboard computer would, and writes what the program writes, to the byte.
+ *
+ *     replay run       the rows of `sdm run`
+ *     replay display   the lines of `sdm display`
+ *
+ * Rows, fault lines and exit status are those of docs/FORMATS.md, "How a run ends". An input whose records aren't
+ * plain (journey.h) isn't taken, and nothing is written but that; so are other words. The exit status is then 64. */
+#include "journey.h"
+
+#include <inttypes.h>
+#include <stdlib.h>
+#include <string.h>
+
+enum { MOST_RECORDS = 100000 };
+
+/* How the program ends. */
+enum outcome {
+    OUTCOME_DONE = 0,
+    OUTCOME_READ_FAULT = 2,
+    OUTCOME_WRITE_FAULT = 3,
+    OUTCOME_TOO_LONG = 4,
+    OUTCOME_BAD_DATA = 5,
+    OUTCOME_REFUSED = 6,
+    OUTCOME_BAD_EVENT = 7,
+    OUTCOME_NO_MEMORY = 8,
+    OUTCOME_NOT_TAKEN = 64,
+    OUTCOME_WRONG_LIBRARY = 65
+};
+
+static enum outcome tell(enum outcome outcome, const char *line) {
+    fprintf(stderr, "%s\n", line);
+    return outcome;
+}
+
+static void put_place(struct sdm_place place) {
+    if (place.is_some)
+        printf(",%" PRId64, place.mm);
+    else
+        printf(",-");
+}
+
+static void put_row(const struct sdm_row *row) {
+    printf("%" PRIu32 ",%c,%c,", row->time_ds, "CTR"[row->state], "NIOWX"[row->status]);
+    printf("%" PRIu32 ",%" PRIu32 ",%" PRIu32 ",%" PRIu32 ",%" PRIu32, row->tco, row->sb, row->eb, row->covered,
+           row->ceiling_kmh);
+    put_place(row->ebi);
+    put_place(row->sbi);
+    put_place(row->warning);
+    put_place(row->permitted);
+    put_place(row->indication);
+    putchar('\n');
+}
+
+static void put_display(const struct sdm_display *display) {
+    printf("%" PRIu32 ",%" PRIu32 ",%" PRIu32 ",%" PRIu32 ",%" PRIu32, display->time_ds, display->permitted_kmh,
+           display->sbi_kmh, display->ebi_kmh, display->release_kmh);
+    if (display->target == SDM_NO_TARGET)
+        printf(",-,-\n");
+    else
+        printf(",%c,%" PRId64 "\n", "-MESL"[display->target], display -> distance_mm);
+}
+
+/* Writes what a reading leads to once its row is there. */
+static uint32_t put_reading(struct sdm *h, bool is_display, const struct event *event, const struct sdm_row *row) {
+    if (!is_display) {
+        put_row(row);
+        return SDM_DONE;
+    }
+    struct sdm_reading reading = event_reading(event);
+    struct sdm_display display;
+    memset(&display, 0, sizeof display);
+    uint32_t status = sdm_display(h, &reading, &display);
+    if (status == SDM_DONE)
+        put_display(&display);
+    return status;
+}
+
+/* The text of a refusal that a record can lead to; null where there is none. */
+static const char *text_of(uint32_t status) {
+    switch (status) {
+    case SDM_TIME_BACK:
+        return "time back";
+    case SDM_SVL_BEFORE_EOA:
+        return "supervised location before end";
+    case SDM_BEYOND_TRACK:
+        return "beyond track";
+    case SDM_BAD_TRIP:
+        return "bad trip place";
+    case SDM_FULL:
+        return "too many restrictions";
+    case SDM_ID_IN_USE:
+        return "identity in use";
+    case SDM_BAD_PLACES:
+        return "restriction value";
+    case SDM_UNKNOWN_ID:
+        return "identity unknown";
+    default:
+        return NULL;
+    }
+}
+
+static bool is_written(void) { return fflush(stdout) == 0 && !ferror(stdout); }
+
+/* Tells why a record is refused, once the rows before it are out: a fault of writing goes before it. */
+static enum outcome bad_event(unsigned number, const char *text) {
+    if (!is_written())
+        return OUTCOME_WRITE_FAULT;
+    fprintf(stderr, "sdm: bad event %u: %s\n", number, text);
+    return OUTCOME_BAD_EVENT;
+}
+
+static enum outcome bad_form(unsigned number, enum form_fault fault, unsigned column) {
+    char text[40];
+    switch (fault) {
+    case FORM_UNKNOWN_KIND:
+        return bad_event(number, "unknown kind");
+    case FORM_FIELD_COUNT:
+        return bad_event(number, "field count");
+    default:
+        snprintf(text, sizeof text, "field %u: %s", column,
+                 fault == FORM_NOT_A_NUMBER ? "not a number" : "out of range");
+        return bad_event(number, text);
+    }
+}
+
+/* Hands over a record, and writes what it leads to. */
+static enum outcome play_record(struct sdm *h, bool is_display, unsigned number, const uint8_t **at,
+                                const uint8_t *end) {
+    struct event event;
+    unsigned column = 0;
+    if (number > MOST_RECORDS)
+        return bad_event(number, "too many events");
+    enum form_fault fault = event_read(at, end, &event, &column);
+    if (fault != FORM_DONE)
+        return bad_form(number, fault, column);
+    struct sdm_row row;
+    memset(&row, 0, sizeof row);
+    uint32_t status = event_take(h, &event, &row);
+    if (status == SDM_DONE && event.kind == EVENT_READ)
+        status = put_reading(h, is_display, &event, &row);
+    if (status == SDM_DONE)
+        return OUTCOME_DONE;
+    const char *text = text_of(status);
+    if (text != NULL)
+        return bad_event(number, text);
+    fprintf(stderr, "replay: record %u is answered by %" PRIu32 "\n", number, status);
+    return OUTCOME_WRONG_LIBRARY;
+}
+
+static enum outcome play(struct sdm *h, bool is_display, const struct journey *journey) {
+    const uint8_t *at = journey->records;
+    enum outcome outcome = OUTCOME_DONE;
+    for (unsigned number = 1; outcome == OUTCOME_DONE && at < journey->end; number++)
+        outcome = play_record(h, is_display, number, &at, journey->end);
+    return outcome;
+}
+
+/* Opens the supervisor; of data that are refused the line is told. */
+static enum outcome open_supervisor(struct sdm *h, const struct journey *journey) {
+    struct sdm_line line;
+    memset(&line, 0, sizeof line);
+    uint32_t status = sdm_open(h, journey->data, journey->data_bytes, &line);
+    switch (status) {
+    case SDM_DONE:
+        return OUTCOME_DONE;
+    case SDM_NO_MEMORY:
+        return tell(OUTCOME_NO_MEMORY, "sdm: no memory");
+    case SDM_BAD_DATA:
+    case SDM_REFUSED:
+        fwrite(line.bytes, 1, line.count, stderr);
+        return status == SDM_BAD_DATA ? OUTCOME_BAD_DATA : OUTCOME_REFUSED;
+    default:
+        fprintf(stderr, "replay: the opening is answered by %" PRIu32 "\n", status);
+        return OUTCOME_WRONG_LIBRARY;
+    }
+}
+
+static enum outcome end_of(enum journey_end end) {
+    switch (end) {
+    case JOURNEY_READ:
+        return OUTCOME_DONE;
+    case JOURNEY_READ_FAULT:
+        return tell(OUTCOME_READ_FAULT, "sdm: read fault");
+    case JOURNEY_NO_MEMORY:
+        return tell(OUTCOME_NO_MEMORY, "sdm: no memory");
+    case JOURNEY_TOO_LONG:
+        return tell(OUTCOME_TOO_LONG, "sdm: input too long");
+    case JOURNEY_NO_DIVIDING_LINE:
+        return tell(OUTCOME_BAD_DATA, "sdm: bad data: no %% line");
+    case JOURNEY_NOT_PLAIN:
+        return tell(OUTCOME_NOT_TAKEN, "replay: the records have a quote, a blank line, a CR or a byte order mark");
+    }
+    abort();
+}
+
+static enum outcome replay(bool is_display) {
+    struct journey journey;
+    struct sdm h = SDM_INIT;
+    enum outcome outcome = end_of(journey_read(stdin, &journey));
+    if (outcome != OUTCOME_DONE)
+        return outcome;
+    outcome = open_supervisor(&h, &journey);
+    if (outcome == OUTCOME_DONE)
+        outcome = play(&h, is_display, &journey);
+    sdm_close(&h);
+    journey_free(&journey);
+    return outcome;
+}
+
+int main(int count, char **words) {
+    bool is_display = count == 2 && strcmp(words[1], "display") == 0;
+    if (!is_display && (count != 2 || strcmp(words[1], "run") != 0))
+        return tell(OUTCOME_NOT_TAKEN, "usage: replay run|display < INPUT");
+    if (sdm_layout() != SDM_LAYOUT)
+        return tell(OUTCOME_WRONG_LIBRARY, "replay: the library is of another layout than sdm.h");
+    enum outcome outcome = replay(is_display);
+    if (!is_written())
+        return tell(OUTCOME_WRITE_FAULT, "sdm: write fault");
+    return outcome;
+}

@@ -1,0 +1,5 @@
+pub mod RawBoxSteps
+pub mod HandleSteps
+pub mod ReadingRanges
+pub mod Returned
+pub mod Answered

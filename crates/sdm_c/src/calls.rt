@@ -1,0 +1,140 @@
+//! The calls with a supervisor at hand: C's numbers are tested, the supervisor answers, its answer becomes a status.
+
+ghost use Rattle.std.specs.Prelude.{◌≡◌, ◌==◌};
+ghost use Rattle.sdm_rules.specs.declared.authorities.Authority.TheVariants.{Limit, Stop};
+ghost use Rattle.sdm_rules.specs.Display.{display_of};
+ghost use Rattle.sdm_rules.specs.Machines.{KeepsOrder};
+ghost use Rattle.sdm_rules.specs.Promises.{BeginsReleaseMonitoring, HasOnlyGaps, IsWithinCeiling};
+ghost use Rattle.sdm_rules.specs.Release.{calculated};
+ghost use Rattle.sdm_rules.specs.Stop.{IsSafe};
+ghost use Rattle.sdm_rules.specs.Supervision.{after_authority, after_reading, after_restriction, after_revocation};
+ghost use Rattle.sdm_rules.specs.Supervision.{row_of};
+ghost use Rattle.sdm_c.specs.Codes.{display_in_c, row_in_c};
+ghost use Rattle.sdm_c.specs.Numbers.{reading_from, restriction_from};
+ghost use Rattle.sdm_c.specs.Statuses.{authority_answer, calculated_answer, cycle_answer, display_answer};
+ghost use Rattle.sdm_c.specs.Statuses.{restrict_answer, revoke_answer};
+
+use crate::codes::{display_in_c, row_in_c};
+use crate::numbers::{identity_from, kmh_taken, reading_from, restriction_from};
+use crate::statuses::{
+    DONE, OUT_OF_RANGE, TIME_BACK, UNKNOWN_ID, of_authority, of_restriction, of_trip,
+};
+use crate::structs::{DisplayC, ReadingC, RestrictionC, RowC};
+use sdm_display::display_of;
+use sdm_rules::Authority;
+use sdm_supervisor::Supervisor;
+
+/// Judges a reading and writes its row. (SUBSET-026-3 3.13.10; statuses own)
+pub fn cycle(supervisor: &mut Supervisor, reading: ReadingC, row: &mut RowC) -> u32
+    ensures status { result ≡ cycle_answer supervisor.old reading }
+    ensures row { result ≡ DONE → row.new ≡ row_in_c (row_of supervisor.old (reading_from reading)) }
+    ensures taken { result ≡ DONE → supervisor.new ≡ after_reading supervisor.old (reading_from reading) }
+    ensures order { result ≡ DONE → KeepsOrder supervisor.old (reading_from reading) (row.new.eb == 1) }
+    ensures safe { result ≡ DONE → row.new.covered ≡ 1 → IsSafe supervisor.old (reading_from reading) }
+    ensures gaps { result ≡ DONE → row.new.eb ≡ 0 → HasOnlyGaps supervisor.old (reading_from reading) }
+    ensures ceiling { result ≡ DONE → row.new.eb ≡ 0 →
+        IsWithinCeiling (reading_from reading) (row_of supervisor.old (reading_from reading)) }
+    ensures release { result ≡ DONE → BeginsReleaseMonitoring supervisor.old (reading_from reading) }
+    ensures same_row { ¬ (result ≡ DONE) → row.new ≡ row.old }
+    ensures unchanged { ¬ (result ≡ DONE) → supervisor.new ≡ supervisor.old }
+{
+    let Some(reading) = reading_from(reading) else {
+        return OUT_OF_RANGE;
+    };
+    match supervisor.cycle(&reading) {
+        Ok(judged) => {
+            *row = row_in_c(judged);
+            DONE
+        }
+        Err(_) => TIME_BACK,
+    }
+}
+
+/// Takes an authority. (SUBSET-026-3 3.8; statuses own)
+fn authority(supervisor: &mut Supervisor, a: Authority) -> u32
+    ensures status { result ≡ authority_answer supervisor.old a }
+    ensures taken { result ≡ DONE → supervisor.new ≡ after_authority supervisor.old a }
+    ensures unchanged { ¬ (result ≡ DONE) → supervisor.new ≡ supervisor.old }
+{
+    match supervisor.authority(a) {
+        Ok(()) => DONE,
+        Err(fault) => of_authority(fault),
+    }
+}
+
+/// Takes a stop: places in cm, the release speed in km/h. (SUBSET-026-3 3.8; statuses own)
+pub fn stop(supervisor: &mut Supervisor, eoa: u32, svl: u32, release: u32) -> u32
+    ensures status { result ≡ authority_answer supervisor.old (Stop eoa svl release) }
+    ensures taken { result ≡ DONE → supervisor.new ≡ after_authority supervisor.old (Stop eoa svl release) }
+    ensures unchanged { ¬ (result ≡ DONE) → supervisor.new ≡ supervisor.old }
+{
+    let release = kmh_taken(release);
+    authority(supervisor, Authority::Stop { eoa, svl, release })
+}
+
+/// Takes a stop with the calculated release speed; places in cm. (SUBSET-026-3 3.8, 3.13.9.4.8; statuses own)
+pub fn calculated_stop(supervisor: &mut Supervisor, eoa: u32, svl: u32, trip: u32) -> u32
+    ensures status { result ≡ calculated_answer supervisor.old eoa svl trip }
+    ensures taken { result ≡ DONE → supervisor.new
+        ≡ after_authority supervisor.old (Stop eoa svl (calculated supervisor.old.train_and_track svl trip)) }
+    ensures unchanged { ¬ (result ≡ DONE) → supervisor.new ≡ supervisor.old }
+{
+    match supervisor.calculated_stop(eoa, svl, trip) {
+        Ok(()) => DONE,
+        Err(fault) => of_trip(fault),
+    }
+}
+
+/// Takes a limit of authority: its place in cm, its speed in km/h. (SUBSET-026-3 3.8; statuses own)
+pub fn limit(supervisor: &mut Supervisor, loa: u32, speed: u32) -> u32
+    ensures status { result ≡ authority_answer supervisor.old (Limit loa speed) }
+    ensures taken { result ≡ DONE → supervisor.new ≡ after_authority supervisor.old (Limit loa speed) }
+    ensures unchanged { ¬ (result ≡ DONE) → supervisor.new ≡ supervisor.old }
+{
+    let speed = kmh_taken(speed);
+    authority(supervisor, Authority::Limit { loa, speed })
+}
+
+/// Puts a restriction into force. (SUBSET-026-3 3.11.5; statuses own)
+pub fn restrict(supervisor: &mut Supervisor, restriction: RestrictionC) -> u32
+    ensures status { result ≡ restrict_answer supervisor.old restriction }
+    ensures taken { result ≡ DONE →
+        supervisor.new ≡ after_restriction supervisor.old (restriction_from restriction) }
+    ensures unchanged { ¬ (result ≡ DONE) → supervisor.new ≡ supervisor.old }
+{
+    let Some(restriction) = restriction_from(restriction) else {
+        return OUT_OF_RANGE;
+    };
+    match supervisor.restrict(restriction) {
+        Ok(()) => DONE,
+        Err(fault) => of_restriction(fault),
+    }
+}
+
+/// Takes the restriction with an identity out of force. (own)
+pub fn revoke(supervisor: &mut Supervisor, id: u32) -> u32
+    ensures status { result ≡ revoke_answer supervisor.old id }
+    ensures taken { result ≡ DONE → supervisor.new ≡ after_revocation supervisor.old id }
+    ensures unchanged { ¬ (result ≡ DONE) → supervisor.new ≡ supervisor.old }
+{
+    let Some(id) = identity_from(id) else {
+        return OUT_OF_RANGE;
+    };
+    match supervisor.revoke(id) {
+        Ok(()) => DONE,
+        Err(_) => UNKNOWN_ID,
+    }
+}
+
+/// Writes what the driver can be shown of a reading. (own)
+pub fn display(supervisor: &Supervisor, reading: ReadingC, display: &mut DisplayC) -> u32
+    ensures status { result ≡ display_answer reading }
+    ensures shown { result ≡ DONE → display.new ≡ display_in_c (display_of supervisor.now (reading_from reading)) }
+    ensures same_display { ¬ (result ≡ DONE) → display.new ≡ display.old }
+{
+    let Some(reading) = reading_from(reading) else {
+        return OUT_OF_RANGE;
+    };
+    *display = display_in_c(display_of(supervisor, &reading));
+    DONE
+}

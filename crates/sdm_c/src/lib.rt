@@ -1,0 +1,218 @@
+//! The supervisor for C: what `sdm.h` declares. A handle is opened once over the data of a journey, with all memory;
+//! each call tests its handle and its numbers, answers a status, and changes nothing where that isn't DONE.
+//!
+//! No call has a condition, since none of C's would be checked; what C owes is told in docs/INTEGRATION.md.
+#![tactic(auto)]
+
+mod calls;
+mod codes;
+mod handle;
+mod numbers;
+mod openings;
+mod raw_boxes;
+mod statuses;
+mod structs;
+
+ghost use Rattle.std.specs.Prelude.{◌≡◌, ◌==◌, ◌↔◌, IsTrue};
+ghost use Rattle.sdm_rules.specs.declared.authorities.Authority.TheVariants.{Limit, Stop};
+ghost use Rattle.sdm_rules.specs.Display.{display_of};
+ghost use Rattle.sdm_rules.specs.Machines.{KeepsOrder};
+ghost use Rattle.sdm_rules.specs.Promises.{BeginsReleaseMonitoring, HasOnlyGaps, IsWithinCeiling};
+ghost use Rattle.sdm_rules.specs.Release.{calculated};
+ghost use Rattle.sdm_rules.specs.Stop.{IsSafe};
+ghost use Rattle.sdm_rules.specs.Supervision.{after_authority, after_reading, after_restriction, after_revocation};
+ghost use Rattle.sdm_rules.specs.Supervision.{row_of};
+ghost use Rattle.sdm_report.specs.OutcomeLines.{outcome_line};
+ghost use Rattle.sdm_c.specs.Codes.{IsLine, display_in_c, row_in_c};
+ghost use Rattle.sdm_c.specs.Lending.{IsInit, with_state};
+ghost use Rattle.sdm_c.specs.Numbers.{reading_from, restriction_from};
+ghost use Rattle.sdm_c.specs.Openings.{IsBadData, IsOpeningOf, IsRefused};
+ghost use Rattle.sdm_c.specs.Statuses.{IsOpen, cycle_status, display_status, end_calculated_status, end_status};
+ghost use Rattle.sdm_c.specs.Statuses.{limit_status, is_open_status, restriction_status, revocation_status};
+
+use codes::put_line;
+use handle::Handle;
+use openings::{NoOpening, opened};
+use raw_boxes::RawBox;
+use sdm_report::{Outcome, outcome_bytes};
+use sdm_text::RowBuf;
+use statuses::{BAD_DATA, CLOSED, DONE, IN_USE, NO_MEMORY, REFUSED};
+use std::alloc::Global;
+use structs::{DisplayC, LineC, ReadingC, RestrictionC, RowC};
+
+/// The number of the layout of `sdm.h`.
+pub const LAYOUT: u32 = 1;
+
+/// The number of the layout of `sdm.h`, which a program compares with its own when it starts. (own)
+#[unsafe(no_mangle)]
+pub extern "C" fn sdm_layout() -> u32
+    ensures { result ≡ LAYOUT }
+{
+    LAYOUT
+}
+
+/// Writes the line of an outcome.
+fn tell(outcome: Outcome, line: &mut LineC)
+    ensures { IsLine line.new (outcome_line outcome) }
+{
+    let mut text = RowBuf::new();
+    outcome_bytes(&outcome, &mut text);
+    put_line(&text, line);
+}
+
+/// Opens a supervisor over a data part; all memory is taken here. BAD_DATA and REFUSED write the line that the program
+/// writes. (own)
+#[unsafe(no_mangle)]
+pub extern "C" fn sdm_open(alloc: Global, h: &mut Handle, given: &[u8], line: &mut LineC) -> u32
+    ensures status { IsTrue (is_open_status result) }
+    ensures in_use { result ≡ IN_USE ↔ IsOpen h.old }
+    ensures open { result ≡ DONE → IsOpen h.new }
+    ensures opening { result ≡ DONE → IsOpeningOf given.now h.new.state }
+    ensures bad_data { result ≡ BAD_DATA → IsBadData given.now line.new }
+    ensures refused { result ≡ REFUSED → IsRefused given.now line.new }
+    ensures same_line { ¬ (result ≡ BAD_DATA) → ¬ (result ≡ REFUSED) → line.new ≡ line.old }
+    ensures unchanged { ¬ (result ≡ DONE) → h.new ≡ h.old }
+{
+    if h.is_open() {
+        return IN_USE;
+    }
+    match opened(alloc, given) {
+        Ok(supervisor) => {
+            std::mem::replace(h, Handle::of(RawBox::of(supervisor))).discard();
+            DONE
+        }
+        Err(NoOpening::Memory) => NO_MEMORY,
+        Err(NoOpening::BadData(fault)) => {
+            tell(Outcome::BadData(fault), line);
+            BAD_DATA
+        }
+        Err(NoOpening::Refused(fault)) => {
+            tell(Outcome::Refused(fault), line);
+            REFUSED
+        }
+    }
+}
+
+/// Judges a reading and writes its row. Where the row is covered, every motion within the bounds of the reading stops
+/// at or before the SvL, if there is one. (SUBSET-026-3 3.13.10; statuses own)
+#[unsafe(no_mangle)]
+pub extern "C" fn sdm_cycle(h: &mut Handle, reading: &ReadingC, row: &mut RowC) -> u32
+    ensures status { result ≡ cycle_status h.old reading.now }
+    ensures row { result ≡ DONE → row.new ≡ row_in_c (row_of h.old.state (reading_from reading.now)) }
+    ensures taken { result ≡ DONE → h.new ≡ with_state h.old (after_reading h.old.state (reading_from reading.now)) }
+    ensures order { result ≡ DONE → KeepsOrder h.old.state (reading_from reading.now) (row.new.eb == 1) }
+    ensures safe { result ≡ DONE → row.new.covered ≡ 1 → IsSafe h.old.state (reading_from reading.now) }
+    ensures gaps { result ≡ DONE → row.new.eb ≡ 0 → HasOnlyGaps h.old.state (reading_from reading.now) }
+    ensures ceiling { result ≡ DONE → row.new.eb ≡ 0 →
+        IsWithinCeiling (reading_from reading.now) (row_of h.old.state (reading_from reading.now)) }
+    ensures release { result ≡ DONE → BeginsReleaseMonitoring h.old.state (reading_from reading.now) }
+    ensures same_row { ¬ (result ≡ DONE) → row.new ≡ row.old }
+    ensures unchanged { ¬ (result ≡ DONE) → h.new ≡ h.old }
+{
+    if !h.is_open() {
+        return CLOSED;
+    }
+    calls::cycle(h.supervisor(), *reading, row)
+}
+
+/// Takes a movement authority to an end: places in cm, the release speed in km/h, 0 for none. (SUBSET-026-3 3.8;
+/// statuses own)
+#[unsafe(no_mangle)]
+pub extern "C" fn sdm_end(h: &mut Handle, eoa_cm: u32, svl_cm: u32, release_kmh: u32) -> u32
+    ensures status { result ≡ end_status h.old eoa_cm svl_cm release_kmh }
+    ensures taken { result ≡ DONE →
+        h.new ≡ with_state h.old (after_authority h.old.state (Stop eoa_cm svl_cm release_kmh)) }
+    ensures unchanged { ¬ (result ≡ DONE) → h.new ≡ h.old }
+{
+    if !h.is_open() {
+        return CLOSED;
+    }
+    calls::stop(h.supervisor(), eoa_cm, svl_cm, release_kmh)
+}
+
+/// Takes a movement authority to an end with the calculated release speed for a trip at a place; places in cm.
+/// (SUBSET-026-3 3.8, 3.13.9.4.8; statuses own)
+#[unsafe(no_mangle)]
+pub extern "C" fn sdm_end_calculated(h: &mut Handle, eoa_cm: u32, svl_cm: u32, trip_cm: u32) -> u32
+    ensures status { result ≡ end_calculated_status h.old eoa_cm svl_cm trip_cm }
+    ensures taken { result ≡ DONE → h.new ≡ with_state h.old (after_authority h.old.state
+        (Stop eoa_cm svl_cm (calculated h.old.state.train_and_track svl_cm trip_cm))) }
+    ensures unchanged { ¬ (result ≡ DONE) → h.new ≡ h.old }
+{
+    if !h.is_open() {
+        return CLOSED;
+    }
+    calls::calculated_stop(h.supervisor(), eoa_cm, svl_cm, trip_cm)
+}
+
+/// Takes a movement authority to a limit: its place in cm, its speed in km/h. (SUBSET-026-3 3.8; statuses own)
+#[unsafe(no_mangle)]
+pub extern "C" fn sdm_limit(h: &mut Handle, loa_cm: u32, speed_kmh: u32) -> u32
+    ensures status { result ≡ limit_status h.old loa_cm speed_kmh }
+    ensures taken { result ≡ DONE →
+        h.new ≡ with_state h.old (after_authority h.old.state (Limit loa_cm speed_kmh)) }
+    ensures unchanged { ¬ (result ≡ DONE) → h.new ≡ h.old }
+{
+    if !h.is_open() {
+        return CLOSED;
+    }
+    calls::limit(h.supervisor(), loa_cm, speed_kmh)
+}
+
+/// Puts a temporary speed restriction into force. (SUBSET-026-3 3.11.5; statuses own)
+#[unsafe(no_mangle)]
+pub extern "C" fn sdm_restrict(h: &mut Handle, restriction: &RestrictionC) -> u32
+    ensures status { result ≡ restriction_status h.old restriction.now }
+    ensures taken { result ≡ DONE →
+        h.new ≡ with_state h.old (after_restriction h.old.state (restriction_from restriction.now)) }
+    ensures unchanged { ¬ (result ≡ DONE) → h.new ≡ h.old }
+{
+    if !h.is_open() {
+        return CLOSED;
+    }
+    calls::restrict(h.supervisor(), *restriction)
+}
+
+/// Lifts the restriction with an identity. (own)
+#[unsafe(no_mangle)]
+pub extern "C" fn sdm_revoke(h: &mut Handle, id: u32) -> u32
+    ensures status { result ≡ revocation_status h.old id }
+    ensures taken { result ≡ DONE → h.new ≡ with_state h.old (after_revocation h.old.state id) }
+    ensures unchanged { ¬ (result ≡ DONE) → h.new ≡ h.old }
+{
+    if !h.is_open() {
+        return CLOSED;
+    }
+    calls::revoke(h.supervisor(), id)
+}
+
+/// Writes what the driver can be shown of a reading in what is in force. (own)
+#[unsafe(no_mangle)]
+pub extern "C" fn sdm_display(h: &mut Handle, reading: &ReadingC, display: &mut DisplayC) -> u32
+    ensures status { result ≡ display_status h.old reading.now }
+    ensures shown { result ≡ DONE → display.new ≡ display_in_c (display_of h.old.state (reading_from reading.now)) }
+    ensures same_display { ¬ (result ≡ DONE) → display.new ≡ display.old }
+    ensures unchanged { h.new ≡ h.old }
+{
+    if !h.is_open() {
+        return CLOSED;
+    }
+    calls::display(h.supervisor(), *reading, display)
+}
+
+/// Gives the memory back; a handle without a supervisor stays as it is. (own)
+#[unsafe(no_mangle)]
+pub extern "C" fn sdm_close(alloc: Global, h: &mut Handle)
+    ensures closed { ¬ IsOpen h.new }
+    ensures init { IsOpen h.old → IsInit h.new }
+    ensures unchanged { ¬ IsOpen h.old → h.new ≡ h.old }
+{
+    if h.is_open() {
+        let _supervisor = std::mem::replace(h, Handle::closed())
+            .into_raw()
+            .into_box(alloc);
+    }
+}
+
+#[cfg(test)]
+mod tests;

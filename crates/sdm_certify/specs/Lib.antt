@@ -1,0 +1,10 @@
+pub mod Fields
+pub mod Lines
+pub mod SegmentLines
+pub mod Written
+pub mod WrittenLines
+pub mod Checker
+pub mod Steps
+pub mod Made
+pub mod Segments
+pub mod Certificates
