@@ -174,9 +174,6 @@ abbrev pub IsBegun : (ℤ → ℕ) → ℤ → List KeptFallData → Type 0
 IsBegun p at made =
     (rest : List KeptFallData) → AreAtFalls fall_of p at rest → AreAtFalls fall_of p first_cell (made ++ rest)
 
-pub begun_none : (p : ℤ → ℕ) → IsBegun p first_cell []
-begun_none p rest h = h
-
 -- one more
 begun_more : (p : ℤ → ℕ) (at : ℤ) (made : List KeptFallData) (k : KeptFallData) (fall : Fall) → k.fall ≡ fall →
     IsNextFall p at fall → IsBegun p at made → IsBegun p fall.cell (made ++ k ∷ [])

@@ -3,20 +3,27 @@
 -- stands there in the list of what is kept.
 use Rattle.std.proofs.Common.{◌≡◌, ◌≢◌, ℕ, suc, ℤ, List, [], ◌∷◌, ◌++◌, length, get_or, set, take, drop, map, All}
 use Rattle.std.proofs.Common.{if◌then◌else◌, ◌==◌, ◌+◌, ◌<◌, ◌≤◌, ◌≤ℤ◌, ◌<ℤ◌, refl, sym, ap, subst, ◌∙◌, arith}
-use Rattle.std.proofs.Common.{Bool, Some, true, false, pos, length-append}
+use Rattle.std.proofs.Common.{Bool, Some, true, false, pos, length-append, int_le}
+use Rattle.sdm_num.proofs.Comparisons.{le_of, not_le_of}
+use denote.Param.Members.{Mut}
+use denote.Ref.{Bor}
+use Rattle.std.specs.Fn.{Called, ComputesKey}
 use Rattle.std.specs.List.{insert, remove}
+use Rattle.std.specs.List.Sorted.{IsPartitionPoint, IsPartitionedBy}
 use Rattle.std.proofs.lemmas.Bool.Decides.{nat_tests}
 use Rattle.std.proofs.lemmas.List.{drop-map, get_or-map, get_or-set_other, get_or-set_same, get_or_default, length-map}
 use Rattle.std.proofs.lemmas.List.{map-append, take-map}
-use Rattle.std.proofs.lemmas.List.Edits.{length-insert, length-remove}
-use Rattle.std.proofs.lemmas.List.Elements.{All-append, All-cons, All-drop, All-get_or, All-head, All-nil}
+use Rattle.std.proofs.lemmas.List.Edits.{length-insert}
+use Rattle.std.proofs.lemmas.List.Elements.{All-append, All-cons, All-drop, All-get_or, All-head}
 use Rattle.std.proofs.lemmas.List.Elements.{All-pop, All-push, All-tail, All-take, All-weaker}
-use Rattle.std.proofs.lemmas.List.Sums.{sum_by-cons, sum_by-insert, sum_by-remove, sum_by_push}
+use Rattle.std.proofs.lemmas.List.Sorted.{IsPartitionPoint-from_clause}
+use Rattle.std.proofs.lemmas.List.Sums.{sum_by-cons, sum_by-insert, sum_by_push}
 use Rattle.sdm_braking.specs.declared.falls_ahead.PlacedFall.{PlacedFall}
 use Rattle.sdm_braking.specs.declared.kept_targets.KeptTarget.{KeptTarget}
 use Rattle.sdm_rules.specs.declared.targets.Fall.{Fall}
 use Rattle.sdm_rules.specs.declared.targets.Target.{Target}
 use Rattle.sdm_speed.specs.Falls.{AreAtFalls}
+use Rattle.sdm_speed.proofs.FallLists.{falls_parted, not_past}
 use Rattle.sdm_targets.specs.Lists.{target_at}
 use Rattle.sdm_braking.specs.KeptFalls.{ArePartedPast, ArePlacedIn, AreSpare, HasPlaces, KeptFallData, at_fall}
 use Rattle.sdm_braking.specs.KeptFalls.{fall_of, kept_at, kept_in, no_target, one_at, placed, times, times_had}
@@ -115,6 +122,21 @@ pub kept_index : (targets : List KeptTarget) (list : List PlacedFall) (i : ℕ) 
     i < length list → get_or (kept_in targets list) i d ≡ kept_at targets (get_or list i e)
 kept_index targets list i e d known = get_or-map (kept_at targets) list i e d known
 
+-- a search finds those at or before a cell, which come first
+pub parted_at : {F : Type 0} {g : Mut F (Bor PlacedFall × Unit {0}) Bool} {f : F} (p : ℤ → ℕ) (after last : ℤ)
+    (list : List PlacedFall) (i : ℕ) → AreAtFalls placed p after list →
+    ((q : PlacedFall → Bool) → ComputesKey g q f → IsPartitionedBy q list →
+    IsPartitionPoint (λ y. q y ≡ true) (λ y. q y ≡ false) list i) →
+    ((a : Bor PlacedFall × Unit {0}) (r : Bool) (f' : F) → Called g f a r f' →
+    (r ≡ int_le a.0.now.fall.cell last) × (f' ≡ f)) → ArePartedPast placed last list i
+parted_at p after last list i h found called =
+    let parts = IsPartitionPoint-from_clause (λ (e : PlacedFall). int_le e.fall.cell last) list i found
+    (falls_parted placed p (λ a. int_le a last) (not_past last) after list h) called in
+    record {
+      reached = λ k d l m. le_of _ _ (parts.0 k d (omega arith) l);
+      past = λ k d l m. not_le_of _ _ (parts.1 k d l m);
+    }
+
 pub parted_kept : (targets : List KeptTarget) (last : ℤ) (list : List PlacedFall) (i : ℕ) →
     ArePartedPast placed last list i → ArePartedPast fall_of last (kept_in targets list) i
 parted_kept targets last list i h =
@@ -172,23 +194,6 @@ module _ (was now : List KeptTarget) (list : List PlacedFall) (spare : List ℕ)
       let here = kept_here was e.place t e.fall known in
       kept_insert (set was e.place t) list i e ∙ (λ j. insert (others j) i (here j))
 
-  -- a fall that goes leaves its place
-  pub given_back : i < length list → e ≡ get_or list i e → HasPlaces was list spare →
-      HasPlaces was (remove list i) (spare ++ e.place ∷ [])
-  given_back known is h =
-      let here = subst Known (sym is) (All-get_or Known list i e known h.known) in
-      record {
-        known = All-append Known (take i list) (drop (suc i) list) (All-take Known i list h.known)
-            (All-drop Known (suc i) list h.known);
-        spare_known = All-push (λ p. p < length was) spare e.place h.spare_known here;
-        once = λ place.
-            let less = sum_by-remove (λ (x : PlacedFall). one_at place x.place) list i e known in
-            let same = ap (λ (x : PlacedFall). one_at place x.place) is in
-            let more = sum_by_push (one_at place) spare e.place in
-            omega (arith, h.once place, less, same, more);
-        all = omega (arith, length-remove list i known, h.all, length-append spare (e.place ∷ []));
-      }
-
 -- ---- at the beginning all are spare
 
 below : (a b : ℕ) → a < b → one_at b a ≡ 0
@@ -220,13 +225,4 @@ one_spare spare count h = record {
       (All-weaker (λ p. p < count) (λ p. p < count + 1) (λ p l. omega arith) spare h.known) (omega arith);
   once = λ place. rw (sum_by_push (one_at place) spare count) (once_by (count == place) count place spare refl h);
   all = omega (arith, length-append spare (count ∷ []), h.all);
-}
-
-pub none_had : (targets : List KeptTarget) (spare : List ℕ) → AreSpare (length targets) spare →
-    HasPlaces targets [] spare
-none_had targets spare h = record {
-  known = All-nil (λ (x : PlacedFall). x.place < length targets);
-  spare_known = h.known;
-  once = λ place. omega (arith, h.once place);
-  all = omega (arith, h.all);
 }

@@ -6,7 +6,7 @@ use Rattle.sdm_rules.specs.declared.targets.Target.{Target}
 use Rattle.sdm_rules.specs.Data.{TrainAndTrack}
 use Rattle.sdm_rules.specs.Decelerations.{slopes_of}
 use Rattle.sdm_rules.specs.Limits.{d_bec_for, v_bec_for}
-use Rattle.sdm_rules.specs.Reaction.{build_up_from}
+use Rattle.sdm_rules.specs.Reaction.{build_up_from, v_delta0}
 use Rattle.sdm_rules.specs.Targets.{target_speed}
 use Rattle.sdm_curve.specs.Asked.{Asked, IsAskedOf}
 use Rattle.sdm_braking.specs.declared.asked.AskedEstimate.{AskedEstimate}
@@ -17,11 +17,12 @@ IsGuidanceAsked d v None = d.national.guidance ≡ false
 IsGuidanceAsked d v (Some asked) =
     (d.national.guidance ≡ true) × (asked.speed ≡ v) × IsAskedOf (slopes_of Normal d) asked
 
--- what was worked out of an estimate is what the definitions say of it: what the train may do until its brake works;
--- V_bec with its band on the safe slopes and D_bec in grains, of every target that is no faster than the train; and
--- V_est on the normal slopes, where guidance is permitted (SUBSET-026-3 3.13.8.5, 3.13.9.3.2; own)
+-- what was worked out of an estimate is what the definitions say of it: V_delta0, and what the train may do until its
+-- brake works; V_bec with its band on the safe slopes and D_bec in grains, of every target that is no faster than the
+-- train; and V_est on the normal slopes, where guidance is permitted (SUBSET-026-3 3.13.8.5, 3.13.9.3.2; own)
 pub record IsAsked (d : TrainAndTrack) (a : AskedEstimate) : Type 0 where
   pub estimate : IsEstimate a.estimate
+  pub v_delta0 : a.v_delta0 ≡ v_delta0 d a.estimate.under
   pub build_up : a.build_up ≡ build_up_from d a.estimate
   pub v_bec : (t : Target) → target_speed t ≤ a.estimate.speed → a.v_bec.speed ≡ v_bec_for d a.estimate t
   pub v_bec_asked : IsAskedOf (slopes_of Safe d) a.v_bec

@@ -1,5 +1,5 @@
 -- The data of a journey beside the slope maps that they give (own).
-use Rattle.std.specs.Prelude.{◌≡◌, ⊤}
+use Rattle.std.specs.Prelude.{◌≡◌, Bool, ⊤}
 use Rattle.sdm_rules.specs.declared.authorities.Authority.{Authority}
 use Rattle.sdm_rules.specs.declared.data.SlopeKind.TheVariants.{Safe, Expected, Normal}
 use Rattle.sdm_rules.specs.declared.data.Times.{Times}
@@ -8,7 +8,7 @@ use Rattle.sdm_rules.specs.declared.faults.OpenFault.TheVariants.{TooWeak, TooVa
 use Rattle.sdm_rules.specs.Slopes.{SlopeMap, meaning_of}
 use Rattle.sdm_rules.specs.Data.{TrainAndTrack}
 use Rattle.sdm_rules.specs.Decelerations.{slopes_of}
-use Rattle.sdm_rules.specs.Reaction.{reaction_times}
+use Rattle.sdm_rules.specs.Reaction.{reaction_times, service_in_use}
 use Rattle.sdm_rules.specs.Opening.{HasAcceptedSlopes, IsOpenFault}
 use Rattle.sdm_train.specs.Trains.{IsTrain}
 use Rattle.sdm_track.specs.Ranges.{IsTrack}
@@ -22,13 +22,15 @@ pub record IsSupervisable (d : TrainAndTrack) : Type 0 where
   pub track : IsTrack d.track
   pub usable : HasAcceptedSlopes d
 
--- the slope maps and the times of reaction are those of the data; the segments of the safe map are its stretches of
--- track
-pub record IsBrakingOf (d : TrainAndTrack) (safe expected normal : SlopeMap) (times : Times) : Type 0 where
+-- the slope maps, the use of the service brake and the times of reaction are those of the data; the segments of the
+-- safe map are its stretches of track
+pub record IsBrakingOf (d : TrainAndTrack) (safe expected normal : SlopeMap) (in_use : Bool)
+    (times : Times) : Type 0 where
   pub safe_is : meaning_of safe ≡ slopes_of Safe d
   pub safe_stretches : AreStretches d.track d.train.length_cm safe.starts
   pub expected_is : meaning_of expected ≡ slopes_of Expected d
   pub normal_is : meaning_of normal ≡ slopes_of Normal d
+  pub use_is : in_use ≡ service_in_use d
   pub times_are : times ≡ reaction_times d
   pub in_range : AreTimes times
 

@@ -1,7 +1,5 @@
 -- The curves of targets that are kept between records (own).
 use Rattle.std.specs.Prelude.{◌≡◌, ℕ, ℤ, pos, Bool, true, false, if◌then◌else◌, List, [], ◌∷◌, Option, Some, None}
-use Rattle.sdm_num.specs.Fractions.{Fraction}
-use Rattle.sdm_num.specs.Readings.{Estimate}
 use Rattle.sdm_rules.specs.declared.authorities.Authority.{Authority}
 use Rattle.sdm_rules.specs.declared.authorities.Authority.TheVariants.{Stop, Limit}
 use Rattle.sdm_rules.specs.declared.data.SlopeKind.{SlopeKind}
@@ -13,7 +11,6 @@ use Rattle.sdm_rules.specs.Cells.{place_of_cell}
 use Rattle.sdm_rules.specs.Slopes.{Slopes}
 use Rattle.sdm_rules.specs.Data.{TrainAndTrack}
 use Rattle.sdm_rules.specs.Decelerations.{slopes_of}
-use Rattle.sdm_rules.specs.Limits.{computed}
 use Rattle.sdm_rules.specs.Margins.{sbi_margin, warning_margin}
 use Rattle.sdm_rules.specs.Targets.{foot_speed_of, target_speed, with_margin}
 use Rattle.sdm_curve.specs.Made.{BrakeCurve, IsMadeFrom}
@@ -95,8 +92,3 @@ targets_in (KeptLimit l) in_release_monitoring = l.target ∷ []
 abbrev pub AreKept : TrainAndTrack → KeptEnd → Type 0
 AreKept d (KeptStop e s) = IsKeptTarget d e × IsKeptTarget d s
 AreKept d (KeptLimit l) = IsKeptTarget d l
-
--- the place of a target's guidance curve at the estimated speed, where it has one (SUBSET-026-3 3.13.8.5; own)
-abbrev pub guide_at : TrainAndTrack → Estimate → Target → Option Fraction
-guide_at d e t =
-    if is_guided d t.kind then Some (computed (slopes_of Normal d) t.place (target_speed t) e.speed) else None

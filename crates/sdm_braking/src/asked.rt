@@ -22,6 +22,8 @@ use sdm_targets::TargetKind;
 #[derive(Debug, Drop)]
 pub struct AskedEstimate {
     pub estimate: Estimate,
+    /// V_delta0: by how much the true speed may be above the estimated one. (SUBSET-026-3 3.13.9.3.2)
+    pub v_delta0: Speed,
     /// What the train may do until its emergency brake works, whichever the target.
     pub build_up: BuildUp,
     /// V_bec on the map of A_safe, for every target that is no faster than the train.
@@ -41,12 +43,18 @@ impl Braking {
         ensures asked { IsAsked self.now result }
     {
         let v_est = estimate.speed();
-        let v_delta0 = self.v_delta0(estimate.under());
+        // V_delta0 is 0 where the compensation of under-reading is inhibited (SUBSET-026-3 3.13.9.3.2)
+        let v_delta0 = if self.inhibits_under_reading() {
+            Speed::new(0)
+        } else {
+            estimate.under()
+        };
         let build_up = BuildUp::of(self.times(), v_est, v_delta0, estimate.accel());
         // the slowest of the targets stands for all that are no faster than the train
         let reaction = build_up.reaction(Speed::new(0));
         let mut asked = AskedEstimate {
             estimate,
+            v_delta0,
             build_up,
             v_bec: self.safe().asked(reaction.v_bec),
             d_bec: reaction.d_bec,
@@ -71,7 +79,7 @@ impl AskedEstimate {
     {
         match kept.target.kind {
             TargetKind::Mrsp | TargetKind::Loa => {
-                self.build_up.v_bec(kept.speeds.permitted) <= kept.speeds.ebi
+                self.build_up.reaction(kept.speeds.permitted).v_bec <= kept.speeds.ebi
             }
             TargetKind::Eoa | TargetKind::Svl => false,
         }

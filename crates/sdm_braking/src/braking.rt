@@ -1,13 +1,13 @@
 //! How a train is braked on its track: its data with what is found from them once, at the opening: the slope maps of
-//! the three kinds and the times of reaction.
+//! the three kinds, whether the service brake is in use, and the times of reaction.
 
-ghost use Rattle.std.specs.Prelude.{◌≡◌, ◌≤◌, pos, unsigned_abs, IfOk, IfErr};
+ghost use Rattle.std.specs.Prelude.{◌≡◌, ◌≤◌, ◌&&◌, pos, unsigned_abs, IfOk, IfErr};
 ghost use Rattle.sdm_rules.specs.declared.authorities.Authority.{Authority};
 ghost use Rattle.sdm_rules.specs.declared.data.SlopeKind.TheVariants.{Safe, Expected, Normal};
 ghost use Rattle.sdm_rules.specs.Opening.{IsAcceptedKind, AreBefore};
 ghost use Rattle.sdm_rules.specs.Data.{TrainAndTrack};
 ghost use Rattle.sdm_rules.specs.Decelerations.{slopes_of};
-ghost use Rattle.sdm_rules.specs.Reaction.{reaction_times, service_in_use, v_delta0};
+ghost use Rattle.sdm_rules.specs.Reaction.{reaction_times, service_in_use};
 ghost use Rattle.sdm_rules.specs.Release.{t_be};
 ghost use Rattle.sdm_rules.specs.Slopes.{meaning_of};
 ghost use Rattle.sdm_rules.specs.Ranges.{longest_train, top_kmh};
@@ -20,14 +20,13 @@ use sdm_curve::{BandMap, CurveFault};
 use sdm_decel::slope_map;
 use sdm_limits::OfTrain;
 use sdm_national::National;
-use sdm_num::Speed;
 use sdm_rules::{OpenFault, SlopeKind, Times};
 use sdm_track::Track;
 use sdm_train::Train;
 use std::alloc::Global;
 use std::marker::Model;
 
-/// The data of a journey, all accepted, with their slope maps and times of reaction. (SUBSET-026-3 3.13.2)
+/// The data of a journey, all accepted, with what is found from them once. (SUBSET-026-3 3.13.2)
 #[derive(Drop)]
 pub struct Braking {
     train: Train,
@@ -36,6 +35,7 @@ pub struct Braking {
     safe: BandMap,
     expected: BandMap,
     normal: BandMap,
+    service_in_use: bool,
     times: Times,
 }
 
@@ -49,7 +49,8 @@ impl Model for Braking {
     ghost view = { λ l. train_and_track_from l.train l.national l.track };
 
     ghost invariant = { λ l. IsSupervisable (train_and_track_from l.train l.national l.track)
-        × IsBrakingOf (train_and_track_from l.train l.national l.track) l.safe l.expected l.normal l.times };
+        × IsBrakingOf (train_and_track_from l.train l.national l.track) l.safe l.expected l.normal l.service_in_use
+        l.times };
 }
 
 /// What the opening says of a fault of the slopes of a kind.
@@ -101,6 +102,14 @@ fn map_of(
     }
 }
 
+/// Whether the service brake is in use: the train has one, and the national values permit it. (SUBSET-026-3 3.13.9.3;
+/// own)
+fn is_service_in_use(train: &Train, national: &National) -> bool
+    ensures { result ≡ (train.now.service_brake && national.now.service_in_target) }
+{
+    train.service_brake() && national.service_in_target()
+}
+
 /// The times of reaction of the data. (SUBSET-026-3 3.13.9.3)
 #[tactic(auto, unfolding(sdm_rules::specs::Reaction::reaction_times))]
 fn times_of(train: &Train, national: &National, track: &Track) -> Times
@@ -112,7 +121,7 @@ fn times_of(train: &Train, national: &National, track: &Track) -> Times
         train.traction_cutoff_interface(),
         train.emergency_time() as u32,
         train.service_time() as u32,
-        train.service_brake() && national.service_in_target(),
+        is_service_in_use(train, national),
     )
 }
 
@@ -133,6 +142,7 @@ impl Braking {
         let safe = map_of(alloc, SlopeKind::Safe, &train, &national, &track)?;
         let expected = map_of(alloc, SlopeKind::Expected, &train, &national, &track)?;
         let normal = map_of(alloc, SlopeKind::Normal, &train, &national, &track)?;
+        let service_in_use = is_service_in_use(&train, &national);
         let times = times_of(&train, &national, &track);
         prove!(1 <= train.band_count());
         prove!(1 <= track.length_cm());
@@ -143,6 +153,7 @@ impl Braking {
             safe,
             expected,
             normal,
+            service_in_use,
             times,
         })
     }
@@ -219,13 +230,12 @@ impl Braking {
         self.train.emergency_time() as u32
     }
 
-    /// Whether the service brake is in use: the train has one, and the national values permit it. (SUBSET-026-3
-    /// 3.13.9.3; own)
+    /// Whether the service brake is in use. (SUBSET-026-3 3.13.9.3; own)
     pub fn is_service_in_use(&self) -> bool
         ensures value { result ≡ service_in_use self.now }
         ensures accepted { IsSupervisable self.now }
     {
-        self.train.service_brake() && self.national.service_in_target()
+        self.service_in_use
     }
 
     /// Whether guidance curves are permitted (Q_NVGUIPERM).
@@ -247,17 +257,5 @@ impl Braking {
         ensures { result ≡ self.now.national.inhibit_under_reading }
     {
         self.national.inhibit_under_reading()
-    }
-
-    /// V_delta0: by how much the true speed may be above the estimated one; 0 where the compensation is inhibited.
-    /// (SUBSET-026-3 3.13.9.3.2)
-    pub fn v_delta0(&self, under: Speed) -> Speed
-        ensures { result ≡ v_delta0 self.now under }
-    {
-        if self.national.inhibit_under_reading() {
-            Speed::new(0)
-        } else {
-            under
-        }
     }
 }

@@ -1,9 +1,8 @@
 //! Falls with what is kept of them, as they are read. The falls stand in a list in their order, and the targets at
 //! them, which are large, each at a place of their own, so that a fall that comes or goes moves none of them.
 
-ghost use Rattle.std.specs.Prelude.{◌≡◌, ◌<◌, ◌≤◌, ℕ, ℤ, length, slice_index_or};
-ghost use Rattle.sdm_speed.specs.Falls.{AreAtFalls};
-ghost use Rattle.sdm_braking.specs.KeptFalls.{ArePartedPast, KeptFallData, placed};
+ghost use Rattle.std.specs.Prelude.{◌≡◌, ◌<◌, length, slice_index_or};
+ghost use Rattle.sdm_braking.specs.KeptFalls.{KeptFallData};
 
 use crate::kept_targets::KeptTarget;
 use sdm_rules::Fall;
@@ -21,15 +20,6 @@ pub struct KeptFall<'a> {
 pub struct PlacedFall {
     pub fall: Fall,
     pub place: usize,
-}
-
-/// How many of a list in order lie at the start of the cell `last` or before it.
-pub fn reached(list: &[PlacedFall], last: i64) -> usize
-    ensures bound { result ≤ length list.now }
-    ensures parted { (p : ℤ → ℕ) (after : ℤ) → AreAtFalls placed p after list.now →
-        ArePartedPast placed last list.now result }
-{
-    list.partition_point(|placed| i64::from(placed.fall.cell) <= last)
 }
 
 /// Falls that follow one another, with what is kept of each. (own)

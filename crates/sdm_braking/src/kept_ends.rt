@@ -3,10 +3,7 @@
 
 ghost use Rattle.std.specs.Prelude.{◌≡◌, ◌≤◌, ◌≤ℤ◌, None, pos};
 ghost use Rattle.sdm_rules.specs.Cells.{place_of_cell};
-ghost use Rattle.sdm_rules.specs.declared.authorities.Authority.{Authority};
-ghost use Rattle.sdm_rules.specs.Data.{TrainAndTrack};
 ghost use Rattle.sdm_rules.specs.Records.{authority_fault};
-ghost use Rattle.sdm_rules.specs.Supervision.{is_past_end};
 ghost use Rattle.sdm_rules.specs.Ranges.{top_kmh};
 ghost use Rattle.sdm_braking.specs.KeptCurves.{IsKeptAt, IsKeptEnd, brake_curve_of};
 
@@ -56,16 +53,6 @@ impl Braking {
 }
 
 impl KeptEnd {
-    /// Whether there is an EOA, and the min safe front end is past it. (SUBSET-026-3 3.13.10; own)
-    pub fn is_passed_by(&self, min: Place) -> bool
-        ensures { (d : TrainAndTrack) (a : Authority) → IsKeptEnd d a self.now → result ≡ is_past_end a min }
-    {
-        match self {
-            KeptEnd::Stop { eoa, .. } => eoa.target.place < min,
-            KeptEnd::Limit { .. } => false,
-        }
-    }
-
     /// The EBD of the SvL or of the LOA.
     pub fn brake_curve(&self) -> &Curve
         ensures { result.now ≡ brake_curve_of self.now }

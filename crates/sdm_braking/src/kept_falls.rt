@@ -20,7 +20,7 @@ ghost use Rattle.sdm_braking.specs.KeptFalls.{IsFallAt, IsKeptFall, IsNextUpTo, 
 ghost use Rattle.sdm_braking.specs.KeptFalls.{fall_of, first_cell};
 
 use crate::braking::Braking;
-use crate::falls_ahead::{FallsAhead, KeptFall, PlacedFall, reached};
+use crate::falls_ahead::{FallsAhead, KeptFall, PlacedFall};
 use crate::kept_targets::KeptTarget;
 use sdm_num::{NoMemory, Place};
 use sdm_rules::Fall;
@@ -204,7 +204,8 @@ impl KeptFalls {
         ensures parted { (p : ℤ → ℕ) (after : ℤ) → AreAtFalls fall_of p after self.now.list →
             ArePartedPast fall_of last self.now.list result }
     {
-        reached(&self.list, last)
+        self.list
+            .partition_point(|placed| i64::from(placed.fall.cell) <= last)
     }
 
     /// Whether what is kept at an index is that of this fall.
@@ -263,9 +264,11 @@ impl KeptFalls {
         ensures falls { (p : ℤ → ℕ) → AreAtFalls fall_of p first_cell self.now.list →
             falls_past p after (pos end) ≡ map at_fall result }
     {
-        let begun = reached(&self.list, i64::from(after));
+        let begun = self
+            .list
+            .partition_point(|placed| placed.fall.cell <= after);
         let ahead = &self.list[begun..];
-        let ended = reached(ahead, i64::from(end));
+        let ended = ahead.partition_point(|placed| i64::from(placed.fall.cell) <= i64::from(end));
         FallsAhead {
             list: &ahead[..ended],
             targets: &self.targets,

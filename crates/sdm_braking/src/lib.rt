@@ -21,5 +21,5 @@ pub use kept::Kept;
 pub use kept_ends::KeptEnd;
 pub use kept_falls::KeptFalls;
 pub use kept_targets::KeptTarget;
-pub use releases::{Release, release_kmh_at};
+pub use releases::Release;
 pub use speeds::SpeedLimits;

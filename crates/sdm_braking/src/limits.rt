@@ -4,37 +4,22 @@
 ghost use Rattle.std.specs.Prelude.{◌≡◌, ◌≤◌, Option, Some};
 ghost use Rattle.sdm_rules.specs.Limits.{computed, limits_of};
 ghost use Rattle.sdm_rules.specs.Targets.{target_speed};
-ghost use Rattle.sdm_limits.specs.Ranges.{IsGuide};
 ghost use Rattle.sdm_limits.specs.Sides.{AreNear, place_where, places_of};
 ghost use Rattle.sdm_braking.specs.Asked.{IsAsked};
-ghost use Rattle.sdm_braking.specs.KeptCurves.{IsKeptTarget, guide_at};
+ghost use Rattle.sdm_braking.specs.KeptCurves.{IsKeptTarget};
 
 use crate::asked::AskedEstimate;
 use crate::braking::Braking;
 use crate::kept_targets::KeptTarget;
-use sdm_limits::{Limits, ebd_limits_at, sbd_limits};
+use sdm_limits::{Limits, limits_at};
 use sdm_num::Early;
 use sdm_targets::TargetKind;
 
 impl Braking {
-    /// The place of a target's guidance curve at the estimated speed, where it has one. (SUBSET-026-3 3.13.8.5)
-    #[inline(always)]
-    fn guide(&self, asked: &AskedEstimate, kept: &KeptTarget) -> Option<Early>
-        requires asked { IsAsked self.now asked.now }
-        requires kept { IsKeptTarget self.now kept.now }
-        ensures place { place_where result ≡ guide_at self.now asked.now.estimate kept.now.target }
-        ensures range { IsGuide result }
-    {
-        match (&kept.guide, &asked.guided_v_est) {
-            (Some(curve), Some(v_est)) => Some(curve.place_asked(self.normal(), v_est)),
-            _ => None,
-        }
-    }
-
     /// The limits of a target that is no faster than the train. (SUBSET-026-3 3.13.9.3; own)
     // In line in each walk over targets: a reading would pay for a call at each of them.
     #[inline(always)]
-    #[tactic(auto, unfolding(sdm_rules::specs::Limits::limits_of))]
+    #[tactic(auto, using(crate::proofs::EbdLaws::ebd_of), unfolding(sdm_rules::specs::Limits::limits_of))]
     pub fn limits(&self, asked: &AskedEstimate, kept: &KeptTarget) -> Limits
         requires asked { IsAsked self.now asked.now }
         requires kept { IsKeptTarget self.now kept.now }
@@ -43,14 +28,20 @@ impl Braking {
         ensures near { AreNear result }
     {
         let v_est = asked.estimate.speed();
-        let guide = self.guide(asked, kept);
+        // the guidance curve's place at V_est, where there is a guidance curve (SUBSET-026-3 3.13.8.5)
+        let guide = match (&kept.guide, &asked.guided_v_est) {
+            (Some(curve), Some(v_est)) => Some(curve.place_asked(self.normal(), v_est)),
+            _ => None,
+        };
         match kept.target.kind {
             TargetKind::Mrsp | TargetKind::Loa | TargetKind::Svl => {
                 let place = kept.brake.place_asked(self.safe(), &asked.v_bec);
-                ebd_limits_at(place, guide, self.times(), v_est, asked.d_bec)
+                limits_at(place, Some(asked.d_bec), guide, self.times(), v_est)
             }
             TargetKind::Eoa => {
-                sbd_limits(self.expected(), &kept.brake, guide, self.times(), v_est)
+                let expected = self.expected();
+                let place = kept.brake.place_asked(expected, &expected.asked(v_est));
+                limits_at(place, None, guide, self.times(), v_est)
             }
         }
     }
@@ -66,7 +57,8 @@ impl Braking {
         match kept.target.kind {
             TargetKind::Mrsp | TargetKind::Loa | TargetKind::Svl => {
                 let reaction = asked.build_up.reaction(kept.speeds.permitted);
-                let place = kept.brake.place(self.safe(), reaction.v_bec);
+                let safe = self.safe();
+                let place = kept.brake.place_asked(safe, &safe.asked(reaction.v_bec));
                 Some(place.less(reaction.d_bec))
             }
             TargetKind::Eoa => None,

@@ -13,7 +13,7 @@ ghost use Rattle.sdm_rules.specs.Ranges.{top_kmh};
 ghost use Rattle.sdm_curve.specs.Made.{IsMadeFrom};
 ghost use Rattle.sdm_limits.specs.Sides.{place_of};
 ghost use Rattle.sdm_braking.specs.Braking.{IsSupervisable};
-ghost use Rattle.sdm_braking.specs.Releases.{IsReleaseOf, release_speed_at};
+ghost use Rattle.sdm_braking.specs.Releases.{IsReleaseOf};
 ghost use Rattle.sdm_braking.specs.KeptCurves.{IsCurveOn, IsKeptEnd};
 
 use crate::braking::Braking;
@@ -31,17 +31,6 @@ pub struct Release {
     pub start: Early,
     /// The release speed, 1 to 500 km/h.
     pub speed_kmh: u16,
-}
-
-/// The release speed in km/h, where one is kept and the max safe front end is past the start of its monitoring.
-/// (SUBSET-026-3 3.13.10.5; own)
-pub fn release_kmh_at(release: Option<Release>, front: Place) -> Option<u16>
-    ensures { result ≡ release_speed_at release front }
-{
-    match release {
-        Some(release) if release.start.is_passed_by(front) => Some(release.speed_kmh),
-        _ => None,
-    }
 }
 
 impl Braking {

@@ -7,7 +7,7 @@ ghost use Rattle.sdm_rules.specs.Triggers.{no_margin};
 ghost use Rattle.sdm_rules.specs.Ranges.{top_kmh};
 ghost use Rattle.sdm_braking.specs.KeptCurves.{AreSpeedsOf};
 
-use sdm_ceiling::{dv_ebi, dv_sbi, dv_warning};
+use sdm_ceiling::Margins;
 use sdm_num::Speed;
 use sdm_targets::{Target, TargetKind};
 
@@ -30,11 +30,12 @@ impl SpeedLimits {
         ensures ebi { result.ebi ≡ notches kmh + ebi_margin kmh }
     {
         let permitted = Speed::of_kmh(kmh);
+        let margins = Margins::of_kmh(kmh);
         SpeedLimits {
             permitted,
-            warning: permitted.plus(dv_warning(kmh)),
-            sbi: permitted.plus(dv_sbi(kmh)),
-            ebi: permitted.plus(dv_ebi(kmh)),
+            warning: permitted.plus(margins.warning),
+            sbi: permitted.plus(margins.sbi),
+            ebi: permitted.plus(margins.ebi),
         }
     }
 

@@ -13,6 +13,12 @@ use Rattle.sdm_limits.specs.declared.limits.Limits.{Limits}
 use Rattle.sdm_limits.specs.declared.reaction.Reaction.{Reaction}
 use Rattle.sdm_limits.specs.Ranges.{IsNearZero, reach}
 
+-- the limits by the place of a curve: with a D_bec in grains those on an EBD, else those on an SBD (SUBSET-026-3
+-- 3.13.9.3; own)
+abbrev pub limits_at : Option ℕ → Times → ℕ → Option Fraction → Fraction → SupervisionLimits
+limits_at None times v guide place = sbd_limits_at times v guide place
+limits_at (Some d_bec) times v guide place = ebd_limits_at times v guide d_bec place
+
 -- the limits on an EBD with a foot, on the slopes of a map, for any way to find the places of a curve
 -- (SUBSET-026-3 3.13.9.3)
 abbrev pub ebd_limits_by : CurvePlaces → SlopeMap → BrakeCurve → Option Fraction → Times → ℕ → Reaction →

@@ -7,7 +7,7 @@ pub mod limits;
 mod reaction;
 mod times;
 
-pub use limits::{Limits, ebd_limits, ebd_limits_at, sbd_limits};
+pub use limits::{Limits, ebd_limits, limits_at, sbd_limits};
 pub use reaction::{BuildUp, Reaction, reaction_of};
 pub use sdm_rules::{LimitName, Times};
 pub use times::{OfTrain, T_WARNING};

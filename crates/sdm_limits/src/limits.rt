@@ -3,17 +3,17 @@
 //! the same, and each target has one SBI, on its EBD or, for an EOA, on its SBD.
 
 ghost use Rattle.std.specs.Prelude.{◌≡◌, ◌≤◌, ◌*◌, ◌^◌, Option};
-ghost use Rattle.std.specs.Option.{option_map_or};
+ghost use Rattle.std.specs.Option.{ForSome};
 ghost use Rattle.sdm_num.specs.Units.{notches};
 ghost use Rattle.sdm_num.specs.Bounds.{IsEarlyFor};
-ghost use Rattle.sdm_num.specs.Fractions.{Fraction, lesser};
-ghost use Rattle.sdm_rules.specs.Limits.{computed, ebd_limits_at, exact_places, limits_from_sbi};
+ghost use Rattle.sdm_num.specs.Fractions.{Fraction};
+ghost use Rattle.sdm_rules.specs.Limits.{computed, exact_places};
 ghost use Rattle.sdm_rules.specs.Slopes.{meaning_of};
 ghost use Rattle.sdm_rules.specs.Ranges.{top_kmh};
 ghost use Rattle.sdm_curve.specs.Made.{IsMadeFrom};
-ghost use Rattle.sdm_limits.specs.Ranges.{AreTimes, IsGuide, IsNearZero, curve_reach, reach};
+ghost use Rattle.sdm_limits.specs.Ranges.{AreTimes, IsGuide, IsNearZero, curve_reach};
 ghost use Rattle.sdm_limits.specs.Sides.{AreFine, AreNear, IsEarlyWhere, IsFine, IsFineWhere, StandFor, ebd_limits_by};
-ghost use Rattle.sdm_limits.specs.Sides.{place_of, place_where, places_of, sbd_limits_by};
+ghost use Rattle.sdm_limits.specs.Sides.{limits_at, place_of, place_where, places_of, sbd_limits_by};
 
 use crate::reaction::Reaction;
 use crate::times::{T_DRIVER, T_WARNING};
@@ -61,42 +61,11 @@ pub fn ebd_limits(
     ensures near { AreNear result }
 {
     let place = ebd.place(safe, reaction.v_bec);
-    ebd_limits_at(place, guide, times, v, reaction.d_bec)
-}
-
-/// The limits on an EBD by its place at V_bec, which lies within 9·10¹⁷ grains of the origin; the other conditions are
-/// those of `ebd_limits`. (SUBSET-026-3 3.13.9.3; ranges own)
-// In line, as the place that it goes by: a reading asks it of each target.
-#[inline(always)]
-pub fn ebd_limits_at(
-    place: Early,
-    guide: Option<Early>,
-    times: &Times,
-    v: Speed,
-    d_bec: u64,
-) -> Limits
-    requires place { IsNearZero curve_reach place.at }
-    requires guide { IsGuide guide }
-    requires times { AreTimes times.now }
-    requires speed { v ≤ notches top_kmh }
-    requires distance { d_bec ≤ 10 ^ 16 }
-    ensures at { places_of result ≡ ebd_limits_at times.now v (place_where guide) d_bec (place_of place) }
-    ensures stands { (g : Option Fraction) (x : Fraction) → IsEarlyWhere guide g → IsEarlyFor place x →
-        StandFor result (ebd_limits_at times.now v g d_bec x) }
-    ensures slack { IsFineWhere guide → IsFine place → AreFine result }
-    ensures near { AreNear result }
-{
-    // d_EBI = d_EBD(V_bec) - D_bec (SUBSET-026-3 3.13.9.3.2)
-    let ebi = place.less(d_bec);
-    // d_SBI = d_EBI - V_est * T_bs (SUBSET-026-3 3.13.9.3.3; form own)
-    let sbi = ebi.less(v.distance_at(times.bs));
-    limits_from_sbi(times, v, guide, Some(ebi), sbi)
+    limits_at(place, Some(reaction.d_bec), guide, times, v)
 }
 
 /// The limits on an SBD, which have no EBI, at the estimated speed `v`, with the guidance curve's place at `v` where
 /// there is a guidance curve. The conditions are those of `ebd_limits`. (SUBSET-026-3 3.13.9.3; ranges own)
-// In line, as `ebd_limits_at`.
-#[inline(always)]
 pub fn sbd_limits(
     expected: &BandMap,
     sbd: &Curve,
@@ -115,34 +84,48 @@ pub fn sbd_limits(
     ensures slack { IsFineWhere guide → AreFine result }
     ensures near { AreNear result }
 {
-    // d_SBI = d_SBD(V_est) - V_est * T_bs (SUBSET-026-3 3.13.9.3.3; form own)
-    let sbi = sbd.place(expected, v).less(v.distance_at(times.bs));
-    limits_from_sbi(times, v, guide, None, sbi)
+    limits_at(sbd.place(expected, v), None, guide, times, v)
 }
 
-/// The limits before an SBI, with an EBI if there is one. (SUBSET-026-3 3.13.9.3.4 to 3.13.9.3.6; form own)
-fn limits_from_sbi(
+/// The limits of a target by the place of its curve: of its EBD that at V_bec, with D_bec in grains; of an SBD, for which
+/// no D_bec counts, that at the estimated speed `v`. The place lies within 9·10¹⁷ grains of the origin; the other
+/// conditions are those of `ebd_limits`. (SUBSET-026-3 3.13.9.3; ranges own)
+// In line, as the place that it goes by: a reading asks it of each target.
+#[inline(always)]
+pub fn limits_at(
+    place: Early,
+    d_bec: Option<u64>,
+    guide: Option<Early>,
     times: &Times,
     v: Speed,
-    guide: Option<Early>,
-    ebi: Option<Early>,
-    sbi: Early,
 ) -> Limits
+    requires place { IsNearZero curve_reach place.at }
+    requires distance { ForSome d_bec (λ d. d ≤ 10 ^ 16) }
     requires guide { IsGuide guide }
     requires times { AreTimes times.now }
     requires speed { v ≤ notches top_kmh }
-    requires near { IsNearZero reach sbi.at }
-    ensures at { places_of result ≡
-        limits_from_sbi times.now v (place_where guide) (place_where ebi) (place_of sbi) }
-    ensures stands { (g e : Option Fraction) (s : Fraction) →
-        IsEarlyWhere guide g → IsEarlyWhere ebi e → IsEarlyFor sbi s →
-        StandFor result (limits_from_sbi times.now v g e s) }
-    ensures slack { IsFineWhere guide → IsFineWhere ebi → IsFine sbi → AreFine result }
+    ensures at { places_of result ≡ limits_at d_bec times.now v (place_where guide) (place_of place) }
+    ensures stands { (g : Option Fraction) (x : Fraction) → IsEarlyWhere guide g → IsEarlyFor place x →
+        StandFor result (limits_at d_bec times.now v g x) }
+    ensures slack { IsFineWhere guide → IsFine place → AreFine result }
     ensures near { AreNear result }
 {
+    // d_EBI = d_EBD(V_bec) - D_bec; an SBD gives none (SUBSET-026-3 3.13.9.3.2)
+    let (ebi, braked) = match d_bec {
+        Some(d_bec) => {
+            let ebi = place.less(d_bec);
+            (Some(ebi), ebi)
+        }
+        None => (None, place),
+    };
+    // d_SBI = d_EBI - V_est * T_bs, on an SBD d_SBD(V_est) - V_est * T_bs (SUBSET-026-3 3.13.9.3.3; form own)
+    let sbi = braked.less(v.distance_at(times.bs));
     // d_P = d_SBI - V_est * T_driver, or the guidance curve's place where that is earlier (SUBSET-026-3 3.13.9.3.5)
     let driver = sbi.less(v.distance_at(T_DRIVER));
-    let permitted = guided(guide, driver);
+    let permitted = match guide {
+        Some(guide) => guide.earlier(driver),
+        None => driver,
+    };
     Limits {
         ebi,
         sbi,
@@ -151,23 +134,5 @@ fn limits_from_sbi(
         permitted,
         // d_I = d_P - V_est * T_indication (SUBSET-026-3 3.13.9.3.6)
         indication: permitted.less(v.distance_at(times.indication)),
-    }
-}
-
-/// The permitted limit: the place that the driver's time asks for, or the guide where that is earlier.
-#[tactic(auto, using(crate::proofs::Places::earlier_place, crate::proofs::Places::earlier_fine))]
-fn guided(guide: Option<Early>, driver: Early) -> Early
-    requires guide { IsGuide guide }
-    requires near { IsNearZero (2 * reach) driver.at }
-    ensures at { place_of result ≡
-        option_map_or (λ g. lesser g (place_of driver)) (place_where guide) (place_of driver) }
-    ensures stands { (g : Option Fraction) (d : Fraction) → IsEarlyWhere guide g → IsEarlyFor driver d →
-        IsEarlyFor result (option_map_or (λ x. lesser x d) g d) }
-    ensures slack { IsFineWhere guide → IsFine driver → IsFine result }
-    ensures near { IsNearZero (2 * reach) result.at }
-{
-    match guide {
-        Some(guide) => guide.earlier(driver),
-        None => driver,
     }
 }

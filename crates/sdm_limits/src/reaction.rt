@@ -90,16 +90,9 @@ impl BuildUp {
         }
     }
 
-    /// V_bec for a target with a speed of at most 500 km/h. (SUBSET-026-3 3.13.9.3.2)
-    pub fn v_bec(&self, target: Speed) -> Speed
-        requires { target ≤ notches top_kmh }
-        ensures { result ≡ v_bec self.now target }
-    {
-        // V_bec = max(V_est + V_delta0 + V_delta1, V_target) + V_delta2 (SUBSET-026-3 3.13.9.3.2)
-        Speed::new((self.speed + self.v_delta1).max(target.notches()) + self.v_delta2)
-    }
-
     /// V_bec and D_bec for a target with a speed of at most 500 km/h. (SUBSET-026-3 3.13.9.3.2)
+    // In line: where V_bec alone is asked, D_bec isn't worked out.
+    #[inline(always)]
     pub fn reaction(&self, target: Speed) -> Reaction
         requires { target ≤ notches top_kmh }
         ensures v_bec { result.v_bec ≡ v_bec self.now target }

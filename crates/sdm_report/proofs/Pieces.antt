@@ -1,8 +1,12 @@
 -- Pieces that are put one after the other, and fields with commas between them.
-use Rattle.std.proofs.Common.{◌≡◌, ℕ, ◌+◌, Bool, true, false, List, [], ◌∷◌, ◌++◌, refl, ap, ◌∙◌, append_assoc}
+use Rattle.std.proofs.Common.{◌≡◌, ℕ, ℤ, ◌+◌, ◌≤◌, Bool, true, false, List, [], ◌∷◌, ◌++◌, refl, ap, ◌∙◌, append_assoc}
+use Rattle.std.proofs.Common.{FitsSigned, to_z, of_z, w64, length}
+use Rattle.std.specs.Fmt.{signed_decimal}
 use Rattle.std.specs.Int.{from_bool}
 use Rattle.std.specs.List.{join_with_byte}
+use Rattle.std.proofs.lemmas.Int.{to_z-of_z}
 use Rattle.sdm_rules.specs.Text.{flag_text}
+use Rattle.sdm_text.proofs.Lengths.{signed_decimal_is_short}
 
 -- three pieces are put
 pub three_pieces : (old one two new a b c : List ℕ) → one ≡ old ++ a → two ≡ one ++ b → new ≡ two ++ c →
@@ -32,3 +36,7 @@ more_fields old comma new x y xs ys h comma_is new_is = record {
 pub flag_digit : (b : Bool) (n : ℕ) → n ≡ from_bool b → (48 + n) ∷ [] ≡ flag_text b
 flag_digit true n is = rw is refl
 flag_digit false n is = rw is refl
+
+-- a number that is put is short
+pub number_is_short : (z : ℤ) → FitsSigned w64 z → length (signed_decimal (to_z w64 (of_z w64 z))) ≤ 20
+number_is_short z fits = rw (to_z-of_z w64 z fits) (signed_decimal_is_short z fits)

@@ -10,6 +10,7 @@ use sdm_text::{ROW_BYTES, RowBuf};
 /// Puts a number: at most 20 bytes. (own)
 // Put in line, with `RowBuf::number`, wherever a number is put.
 #[inline(always)]
+#[tactic(auto, using(crate::proofs::Pieces::number_is_short))]
 pub fn put_number(number: i64, into: &mut RowBuf)
     requires room { length into.old + 20 ≤ ROW_BYTES }
     ensures text { into.new ≡ into.old ++ signed_decimal number }
@@ -30,13 +31,14 @@ pub fn put_count(number: u32, into: &mut RowBuf)
 
 /// Puts a place in mm, `-` where there is none: at most 20 bytes. (own)
 #[inline(always)]
+#[tactic(auto, using(crate::proofs::Pieces::number_is_short))]
 pub fn put_place(place: Option<i64>, into: &mut RowBuf)
     requires room { length into.old + 20 ≤ ROW_BYTES }
     ensures text { into.new ≡ into.old ++ place_text place }
     ensures short { length into.new ≤ length into.old + 20 }
 {
     match place {
-        Some(place) => put_number(place, into),
+        Some(place) => into.number(place),
         None => into.byte(b'-'),
     }
 }

@@ -3,7 +3,7 @@
 ghost use Rattle.std.specs.Prelude.{◌≡◌, []};
 ghost use Rattle.sdm_rules.specs.Text.{row_text};
 
-use crate::fields::{put_count, put_place};
+use crate::fields::put_place;
 use sdm_rules::{Row, State, Status};
 use sdm_text::RowBuf;
 
@@ -13,7 +13,7 @@ pub fn row_bytes(row: &Row, into: &mut RowBuf)
     requires { into.old ≡ [] }
     ensures { into.new ≡ row_text row.now }
 {
-    put_count(row.time, into);
+    into.number(i64::from(row.time));
     into.byte(b',');
     into.byte(match row.state {
         State::C => b'C',
@@ -37,7 +37,7 @@ pub fn row_bytes(row: &Row, into: &mut RowBuf)
     into.byte(b',');
     into.byte(b'0' + u8::from(row.covered));
     into.byte(b',');
-    put_count(u32::from(row.ceiling), into);
+    into.number(i64::from(row.ceiling));
     into.byte(b',');
     put_place(row.ebi, into);
     into.byte(b',');

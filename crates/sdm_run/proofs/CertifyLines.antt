@@ -21,6 +21,9 @@ use Rattle.sdm_certify.specs.WrittenLines.{claim_text, mark_text}
 use Rattle.sdm_run.specs.Answers.{AreWholeLines}
 use Rattle.sdm_run.specs.Certifying.{head_line, map_text, marked_claim_text, safe_map_text, segment_cells, segment_line}
 use Rattle.sdm_run.specs.Certifying.{slopes_at, text_of_lines}
+use Rattle.sdm_run.specs.declared.tellers.Teller.{Teller}
+use Rattle.sdm_run.specs.declared.tellers.Teller.TheVariants.{Rows, Displays, Certificates}
+use Rattle.sdm_run.specs.RunParts.{head_text}
 use Rattle.sdm_run.proofs.OutputLeft.{lines_both}
 
 -- ---- whole lines
@@ -65,9 +68,12 @@ map_whole on = lines_both (head_line on (length (segment_cells on))) _
     (line_whole (codes "map" ∷ decimal on.q ∷ decimal (bands_of on.uppers) ∷ decimal (length (segment_cells on)) ∷ []))
     (uppers_whole on (nat_le (bands_of on.uppers) 1) (segment_cells on))
 
-pub safe_whole : (d : TrainAndTrack) → AreWholeLines (safe_map_text d)
+-- what stands before the records
+pub head_whole : (teller : Teller) (d : TrainAndTrack) → AreWholeLines (head_text teller d)
 unfolding safe_map_text
-safe_whole d = map_whole (slopes_of Safe d)
+head_whole Rows d = inl refl
+head_whole Displays d = inl refl
+head_whole (Certificates left) d = map_whole (slopes_of Safe d)
 
 -- ---- lines that are written one after the other
 

@@ -1,44 +1,44 @@
--- What `certify` makes of a record: a covered reading under a stop is within the SvL, so that it has a certificate; and
--- the first record that is left gives the certificate with which the rest of the output begins, or nothing.
-use Rattle.std.proofs.Common.{◌≡◌, ℕ, ℤ, zero, suc, ◌-◌, Bool, true, false, not, List, ◌∷◌, ◌++◌, Option, Some}
-use Rattle.std.proofs.Common.{None, nat_lt, cond, refl, ap, sym, ◌∙◌, inl, inr, arith}
-use Rattle.std.specs.Prelude.{Result, Ok, Err, MatchOption, IfOk, ◌≤◌, ◌⊎◌, ◌&&◌, ◌||◌, is_some}
+-- What is told of a reading and of its turn: of `run` its row, of `display` what is shown, of `certify` its certificate,
+-- which a covered reading under a stop has, since it is within the SvL.
+use Rattle.std.proofs.Common.{◌≡◌, ℕ, ℤ, zero, suc, ◌-◌, Bool, true, false, not, List, [], ◌∷◌, ◌++◌, nat_lt, refl}
+use Rattle.std.proofs.Common.{Option, None, ap, sym, ◌∙◌, inl, inr, arith}
+use Rattle.std.specs.Prelude.{◌<◌, ◌⊎◌, ◌&&◌, ◌||◌, is_some}
 use Rattle.std.specs.List.{list_all}
-use Rattle.std.proofs.lemmas.Bool.{and_parts, false≢true, le-ltb, not-true, true≢false}
+use Rattle.std.proofs.lemmas.Bool.{and_parts, false≢true, not-true, true≢false}
 use Rattle.std.proofs.lemmas.Bool.Decides.{nat_tests}
 use Rattle.std.proofs.lemmas.List.Elements.{All-contains}
 use Rattle.std.proofs.lemmas.List.Sums.{AllPass-from_list_all}
 use Rattle.sdm_num.specs.Readings.{OdometerReading, estimate_of}
 use Rattle.sdm_rules.specs.declared.authorities.Authority.{Authority}
 use Rattle.sdm_rules.specs.declared.authorities.Authority.TheVariants.{Stop, Limit}
-use Rattle.sdm_rules.specs.declared.faults.CycleFault.{CycleFault}
-use Rattle.sdm_rules.specs.declared.faults.EventFault.{EventFault}
-use Rattle.sdm_rules.specs.declared.faults.EventCause.{EventCause}
 use Rattle.sdm_rules.specs.declared.records.Event.{Event}
 use Rattle.sdm_rules.specs.declared.records.Event.TheVariants as record_kinds
+use Rattle.sdm_rules.specs.declared.rows.Row.{Row}
 use Rattle.sdm_rules.specs.Data.{TrainAndTrack}
-use Rattle.sdm_rules.specs.Forms.{event_of}
+use Rattle.sdm_rules.specs.Display.{display_of}
 use Rattle.sdm_rules.specs.Limits.{limits_of}
-use Rattle.sdm_rules.specs.Records.{Turn, turn_of, turn_to, step, unless, event_at, journey_from, most_records}
-use Rattle.sdm_rules.specs.Records.{time_cause, time_fault}
+use Rattle.sdm_rules.specs.Records.{Turn, row_at}
 use Rattle.sdm_rules.specs.Supervision.{Supervision, after_reading, is_covered_for, is_covered_in, profile_of, row_in}
 use Rattle.sdm_rules.specs.Supervision.{row_of, situation_of, release_of}
+use Rattle.sdm_rules.specs.Text.{display_tells, display_text, run_tells, row_text}
 use Rattle.sdm_rules.specs.declared.targets.Target.{Target}
 use Rattle.sdm_rules.specs.Targets.{svl_target, targets_of}
 use Rattle.sdm_rules.specs.Within.{is_before_svl, is_within, is_within_svl}
 use Rattle.sdm_laws.proofs.Rows.Stops.{has_svl}
-use Rattle.sdm_events.specs.Journey.{Record}
-use Rattle.sdm_report.specs.declared.outcome.Outcome.{Outcome}
-use Rattle.sdm_report.specs.declared.outcome.Outcome.TheVariants.{Done, Usage, ReadFault, WriteFault, TooLong, BadData}
-use Rattle.sdm_report.specs.declared.outcome.Outcome.TheVariants.{Refused, BadEvent, Memory, Undrivable}
+use Rattle.sdm_io.specs.Told.{AppendsPart}
+use Rattle.sdm_rules.specs.Flat.{Output}
+use Rattle.sdm_rules.specs.Input.{End}
+use Rattle.sdm_report.specs.declared.outcome.Outcome.TheVariants.{WriteFault}
 use Rattle.sdm_certify.specs.declared.certificates.Certificate.{Certificate}
 use Rattle.sdm_certify.specs.Certificates.{IsCertificateOf}
-use Rattle.sdm_run.specs.Certifying.{IsCoveredEvent, IsCoveredRecord, IsFoundFor, IsRefusedRecord, certificate}
-use Rattle.sdm_run.specs.Certifying.{certificate_text, certificates, certified_records, covered_reading, is_certified}
-use Rattle.sdm_run.specs.Certifying.{is_certified_in, is_stop, marked_claim_text}
-use Rattle.sdm_run.specs.Shapes.{IsOutcomeIn, records_shape}
-use Rattle.sdm_run.proofs.OutputLeft.{text_and}
-use Rattle.sdm_run.proofs.RunTexts.{refused_outcome}
+use Rattle.sdm_run.specs.declared.tellers.Teller.{Teller}
+use Rattle.sdm_run.specs.declared.tellers.Teller.TheVariants.{Rows, Displays, Certificates}
+use Rattle.sdm_run.specs.Certifying.{certificate_text, certificates, is_certified, is_stop}
+use Rattle.sdm_run.specs.Certifying.{marked_claim_text}
+use Rattle.sdm_run.specs.RunParts.{IsToldTurn, turns_text}
+use Rattle.sdm_run.specs.Answers.{IsAnswer}
+use Rattle.sdm_run.proofs.CertifyLines.{certificate_whole}
+use Rattle.sdm_run.proofs.OutputLeft.{all_left, wrote_part}
 
 -- ---- a covered reading under a stop is within the SvL
 
@@ -80,89 +80,7 @@ pub covered_within : (s : Supervision) (r : OdometerReading) → is_stop s.autho
 unfolding is_within_svl
 covered_within s r stop covered = within_of s r s.authority refl stop covered
 
--- ---- the reading of a turn
-
--- a reading that was taken leads to the state after it
-read_after : (s : Supervision) (r : OdometerReading) (o : Option CycleFault) (turn : Turn) →
-    turn_to s (record_kinds.Read r) (unless time_cause o (after_reading s r)) ≡ Ok turn →
-    turn ≡ record { before = s; event = record_kinds.Read r; after = after_reading s r }
-read_after s r None turn is = cc
-read_after s r (Some fault) turn is = absurd cc
-
--- a turn whose event is a covered reading: that reading, and what was made of it
-record IsReadingOf (turn : Turn) (r : OdometerReading) : Type 0 where
-  event : turn.event ≡ record_kinds.Read r
-  covered : (row_of turn.before r).covered ≡ true
-  after : turn.after ≡ after_reading turn.before r
-
-some_if : (b : Bool) (r r' : OdometerReading) → cond b (Some r) None ≡ Some r' → (b ≡ true) × (r ≡ r')
-some_if true r r' is = (refl, cc)
-some_if false r r' is = absurd cc
-
-none_if : (b : Bool) (r : OdometerReading) → cond b (Some r) None ≡ None → b ≡ false
-none_if true r is = absurd cc
-none_if false r is = refl
-
--- a turn is that of its event
-event_is : (s : Supervision) (e : Event) (o : Result Supervision EventCause) (turn : Turn) →
-    turn_to s e o ≡ Ok turn → turn.event ≡ e
-event_is s e (Ok after) turn is = cc
-event_is s e (Err cause) turn is = absurd cc
-
--- so an event that is no reading isn't covered
-not_read : (s : Supervision) (e : Event) (turn : Turn) (r : OdometerReading) → turn_of s (Ok e) ≡ Ok turn →
-    covered_reading turn.before turn.event ≡ Some r → ((before : Supervision) → covered_reading before e ≡ None) → ⊥
-not_read s e turn r taken is none =
-    let at = rw (event_is s e (step s e) turn taken) at is in
-    let no = sym (none turn.before) ∙ at in cc
-
-reading_of : (s : Supervision) (e : Result Event EventFault) (turn : Turn) (r : OdometerReading) →
-    turn_of s e ≡ Ok turn → covered_reading turn.before turn.event ≡ Some r → IsReadingOf turn r
-unfolding step
-reading_of s (Err fault) turn r taken is = absurd cc
-reading_of s (Ok (record_kinds.Read r')) turn r taken is =
-    let turn_is = read_after s r' (time_fault s.last_time r'.time) turn taken in
-    let same = some_if _ r' r (rw turn_is at is) in
-    rw (turn_is, sym same.1) (record { event = refl; covered = same.0; after = refl })
-reading_of s (Ok (record_kinds.Authority a)) turn r taken is =
-    absurd (not_read s (record_kinds.Authority a) turn r taken is (λ before. refl))
-reading_of s (Ok (record_kinds.Calculated eoa svl trip)) turn r taken is =
-    absurd (not_read s (record_kinds.Calculated eoa svl trip) turn r taken is (λ before. refl))
-reading_of s (Ok (record_kinds.Restrict x)) turn r taken is =
-    absurd (not_read s (record_kinds.Restrict x) turn r taken is (λ before. refl))
-reading_of s (Ok (record_kinds.Revoke id)) turn r taken is =
-    absurd (not_read s (record_kinds.Revoke id) turn r taken is (λ before. refl))
-
--- an event that was taken is the turn of its record
-pub covered_record : (s t : Supervision) (n : ℕ) (x : Record) (e : Event) (covered : Option OdometerReading) →
-    n ≤ most_records → event_of x ≡ Ok e → IsCoveredEvent s t e covered →
-    IsCoveredRecord s t (event_at event_of n x) covered
-covered_record s t n x e covered counted form h = record {
-  turn = record { before = s; event = e; after = t };
-  taken = rw (le-ltb most_records n counted) (rw (form, h.accepted) refl);
-  after = refl;
-  is = h.is;
-}
-
--- what follows of an answer that is no failure
-pub kept_ok : {A B : Type 0} (answer : Result A B) (P Q : A → Type 0) → ((x : A) → P x → Q x) → IfOk answer P →
-    IfOk answer Q
-kept_ok (Ok x) P Q so h = so x h
-kept_ok (Err fault) P Q so h = tt
-
--- ---- what is found
-
--- where no reading is covered there is no certificate
-none_covered : (s : Supervision) (e : Event) → covered_reading s e ≡ None → is_certified_in s e ≡ false
-none_covered s (record_kinds.Read r) is = rw (none_if _ r is) (and_none (is_stop s.authority))
-  where
-    and_none : (b : Bool) → (b && false) ≡ false
-    and_none true = refl
-    and_none false = refl
-none_covered s (record_kinds.Authority a) is = refl
-none_covered s (record_kinds.Calculated eoa svl trip) is = refl
-none_covered s (record_kinds.Restrict r) is = refl
-none_covered s (record_kinds.Revoke id) is = refl
+-- ---- the state after a reading
 
 -- after a reading the same is within the SvL, and the same is claimed
 within_after : (s : Supervision) (r : OdometerReading) → is_within_svl (after_reading s r) r ≡ is_within_svl s r
@@ -182,129 +100,112 @@ stop_within : (s : Supervision) (r : OdometerReading) → is_within_svl s r ≡ 
 unfolding is_within_svl
 stop_within s r h = stop_of_within s.train_and_track r s.authority h
 
-module _ (is_due : Bool) (s t : Supervision) (e : Result Event EventFault) where
-  -- a record that is no covered reading
-  pub found_none : (covered : Option OdometerReading) → IsCoveredRecord s t e covered →
-      ((r : OdometerReading) → covered ≡ Some r → ⊥) → IsFoundFor is_due s t e None
-  found_none None h never = record {
-    turn = h.turn;
-    taken = h.taken;
-    after = h.after;
-    is = inr (none_covered h.turn.before h.turn.event (sym h.is));
-  }
-  found_none (Some r) h never = absurd (never r refl)
+-- ---- a turn that has no text
 
-  -- a covered reading past the last that is due
-  pub found_late : (r : OdometerReading) → is_due ≡ false → IsCoveredRecord s t e (Some r) →
-      IsFoundFor is_due s t e None
-  found_late r late h = record { turn = h.turn; taken = h.taken; after = h.after; is = inl late }
+-- a turn without a certificate, or past the last that is due
+pub certificates_none : (turn : Turn) (more : List Turn) (left : ℕ) →
+    (nat_lt 0 left ≡ false) ⊎ (is_certified turn ≡ false) → certificates left (turn ∷ more) ≡ certificates left more
+certificates_none turn more zero h = refl
+certificates_none turn more (suc left) (inl none) =
+    let due : nat_lt 0 (suc left) ≡ true = grind (arith, nat_tests) in absurd (true≢false (sym due ∙ none))
+certificates_none turn more (suc left) (inr none) = rw none refl
 
-  module _ (r : OdometerReading) (h : IsCoveredRecord s t e (Some r)) where
-    the_reading : IsReadingOf h.turn r
-    the_reading = reading_of s e h.turn r h.taken (sym h.is)
+-- where each teller tells nothing
+nothing_told : (teller : Teller) (turn : Turn) → run_tells turn ≡ [] → display_tells turn ≡ [] →
+    is_certified turn ≡ false → IsToldTurn teller teller turn []
+nothing_told Rows turn row shown none = record { rest = λ more. rw row refl; whole_lines = inl refl }
+nothing_told Displays turn row shown none = record { rest = λ more. rw shown refl; whole_lines = inl refl }
+nothing_told (Certificates left) turn row shown none = record {
+  rest = λ more. certificates_none turn more left (inr none);
+  whole_lines = inl refl;
+}
 
-    -- a covered reading that isn't within the SvL
-    pub found_outside : is_within_svl t r ≡ false → IsFoundFor is_due s t e None
-    found_outside outside = record {
-      turn = h.turn;
-      taken = h.taken;
-      after = h.after;
-      is =
-          inr (by_stop (is_stop h.turn.before.authority) refl);
+-- of an event that has no row nothing is told
+pub none_told : (teller : Teller) (s t : Supervision) (e : Event) → row_at s e ≡ None →
+    IsToldTurn teller teller (record { before = s; event = e; after = t }) []
+none_told teller s t (record_kinds.Read r) none = absurd cc
+none_told teller s t (record_kinds.Authority a) none = nothing_told teller _ refl refl refl
+none_told teller s t (record_kinds.Calculated eoa svl trip) none = nothing_told teller _ refl refl refl
+none_told teller s t (record_kinds.Restrict r) none = nothing_told teller _ refl refl refl
+none_told teller s t (record_kinds.Revoke id) none = nothing_told teller _ refl refl refl
+
+-- ---- a reading
+
+module _ (before : Supervision) (r : OdometerReading) (after : Supervision) where
+  abbrev pub turn_of_reading : Turn
+  turn_of_reading = record { before = before; event = record_kinds.Read r; after = after }
+
+  -- `run` tells its row
+  pub row_told : (row : Row) → row ≡ row_of before r → IsToldTurn Rows Rows turn_of_reading (row_text row)
+  unfolding row_text
+  row_told row is = record { rest = λ more. rw is refl; whole_lines = inr (_, refl) }
+
+  -- `display` tells what is shown of it
+  pub shown_told : IsToldTurn Displays Displays turn_of_reading (display_text (display_of after r))
+  unfolding display_text
+  shown_told = record { rest = λ more. refl; whole_lines = inr (_, refl) }
+
+  module _ (left : ℕ) where
+    -- `certify` tells nothing of one that isn't certified, or past the last that is due
+    pub uncertified : (nat_lt 0 left ≡ false) ⊎ (is_certified turn_of_reading ≡ false) →
+        IsToldTurn (Certificates left) (Certificates left) turn_of_reading []
+    uncertified none = record {
+      rest = λ more. certificates_none turn_of_reading more left none;
+      whole_lines = inl refl;
     }
+
+    -- nothing of one that isn't covered
+    pub uncovered : (row : Row) → row ≡ row_of before r → row.covered ≡ false →
+        IsToldTurn (Certificates left) (Certificates left) turn_of_reading []
+    uncovered row is none = uncertified (inr (by_stop (is_stop before.authority) (sym (ap (λ (x : Row). x.covered) is) ∙ none)))
       where
-        not_within : is_within_svl h.turn.before r ≡ false
-        not_within = sym (within_after h.turn.before r)
-            ∙ ap (λ (x : Supervision). is_within_svl x r) (sym the_reading.after ∙ h.after) ∙ outside
+        by_stop : (b : Bool) → (row_of before r).covered ≡ false → (b && (row_of before r).covered) ≡ false
+        by_stop true none = none
+        by_stop false none = refl
 
-        by_stop : (b : Bool) → is_stop h.turn.before.authority ≡ b → is_certified h.turn ≡ false
-        by_stop false none = rw (the_reading.event, none) refl
-        by_stop true stop = absurd (false≢true (sym not_within
-            ∙ covered_within h.turn.before r stop the_reading.covered))
+    module _ (is : after ≡ after_reading before r) where
+      within_same : is_within_svl after r ≡ is_within_svl before r
+      within_same = ap (λ (x : Supervision). is_within_svl x r) is ∙ within_after before r
 
-    -- a certificate that was made
-    pub found_made : (c : Certificate) → is_due ≡ true → IsCertificateOf t r c.claim c.marks →
-        IsFoundFor is_due s t e (Some c)
-    found_made c due made =
-        let at : t ≡ after_reading h.turn.before r = sym h.after ∙ the_reading.after in
-        let within = sym (within_after h.turn.before r)
-        ∙ ap (λ (x : Supervision). is_within_svl x r) (sym at) ∙ made.within in
-        let stop = stop_within h.turn.before r within in
-        let text : certificate_text h.turn.before r ≡ marked_claim_text c.claim c.marks =
-        sym (certificate_after h.turn.before r) ∙ ap (λ (x : Supervision). certificate_text x r) (sym at)
-        ∙ sym (rw (made.marks_are, made.claim_is) refl) in
-        record {
-          turn = h.turn;
-          taken = h.taken;
-          after = h.after;
-          is =
-              (due, rw (the_reading.event, stop, the_reading.covered) refl, rw the_reading.event text);
-        }
+      -- nothing of one that isn't within the SvL
+      pub outside : is_within_svl after r ≡ false →
+          IsToldTurn (Certificates left) (Certificates left) turn_of_reading []
+      outside none = uncertified (inr (by_test (is_certified turn_of_reading) refl))
+        where
+          by_test : (b : Bool) → is_certified turn_of_reading ≡ b → is_certified turn_of_reading ≡ false
+          by_test false none = none
+          by_test true is_one =
+              let parts = and_parts (is_stop before.authority) (row_of before r).covered is_one in
+              absurd (false≢true (sym none ∙ within_same ∙ covered_within before r parts.0 parts.1))
 
-    -- what is found of a covered reading, where a certificate is due
-    pub found_of : (found : Option Certificate) → is_due ≡ true →
-        MatchOption found (is_within_svl t r ≡ false) (λ c. IsCertificateOf t r c.claim c.marks) →
-        IsFoundFor is_due s t e found
-    found_of None due outside = found_outside outside
-    found_of (Some c) due made = found_made c due made
+      -- the certificate of a covered one that is within the SvL
+      pub certified : (c : Certificate) → 0 < left → (row_of before r).covered ≡ true →
+          IsCertificateOf after r c.claim c.marks →
+          IsToldTurn (Certificates left) (Certificates (left - 1)) turn_of_reading (marked_claim_text c.claim c.marks)
+      certified c due covered made =
+          let stop = stop_within before r (sym within_same ∙ made.within) in
+          let is_one : is_certified turn_of_reading ≡ true = rw (stop, covered) refl in
+          let text : certificate_text before r ≡ marked_claim_text c.claim c.marks =
+          sym (certificate_after before r) ∙ ap (λ (x : Supervision). certificate_text x r) (sym is)
+          ∙ sym (rw (made.marks_are, made.claim_is) refl) in
+          record {
+            rest = λ more. certificates_some left due is_one more ∙ rw text refl;
+            whole_lines = certificate_whole c.claim c.marks;
+          }
+        where
+          certificates_some : (left : ℕ) → 0 < left → is_certified turn_of_reading ≡ true → (more : List Turn) →
+              certificates left (turn_of_reading ∷ more)
+              ≡ certificate_text before r ++ certificates (left - 1) more
+          certificates_some zero due is_one more = absurd (omega (arith, due))
+          certificates_some (suc left) due is_one more =
+              let same : suc left - 1 ≡ left = omega arith in rw (is_one, same) refl
 
--- ---- the output
-
--- what is said of the certificates of a turn and of others
-module _ (turn : Turn) (more : List Turn) where
-  certificates_none : (left : ℕ) → (nat_lt 0 left ≡ false) ⊎ (is_certified turn ≡ false) →
-      certificates left (turn ∷ more) ≡ certificates left more
-  certificates_none zero h = refl
-  certificates_none (suc left) (inl none) =
-      let due : nat_lt 0 (suc left) ≡ true = grind (arith, nat_tests) in absurd (true≢false (sym due ∙ none))
-  certificates_none (suc left) (inr none) = rw none refl
-
-  certificates_some : (left : ℕ) → nat_lt 0 left ≡ true → is_certified turn ≡ true →
-      certificates left (turn ∷ more) ≡ certificate turn ++ certificates (left - 1) more
-  certificates_some zero due is = absurd (false≢true due)
-  certificates_some (suc left) due is = let same : suc left - 1 ≡ left = omega arith in rw (is, same) refl
-
--- the output of records of which the first is a turn
-output_first : (left n : ℕ) (s : Supervision) (x : Record) (more : List Record) (turn : Turn) →
-    turn_of s (event_at event_of n x) ≡ Ok turn →
-    certified_records left n s (x ∷ more) ≡ record {
-      text = certificates left (turn ∷ (journey_from (event_at event_of) (suc n) turn.after more).turns);
-      end = (certified_records left (suc n) turn.after more).end;
-    }
-output_first left n s x more turn e = rw e refl
-
-module _ (left n : ℕ) (s t : Supervision) (records more : List Record) (x : Record) (first : records ≡ x ∷ more) where
-  -- the first record gives no certificate
-  pub first_none : IsFoundFor (nat_lt 0 left) s t (event_at event_of n x) None →
-      certified_records left n s records ≡ certified_records left (suc n) t more
-  first_none found =
-      ap (certified_records left n s) first ∙ output_first left n s x more found.turn found.taken
-      ∙ rw (certificates_none found.turn _ left found.is, found.after) refl
-
-  -- the first record gives a certificate
-  pub first_some : (c : Certificate) → IsFoundFor (nat_lt 0 left) s t (event_at event_of n x) (Some c) →
-      certified_records left n s records
-      ≡ text_and (marked_claim_text c.claim c.marks) (certified_records (left - 1) (suc n) t more)
-  first_some c found =
-      ap (certified_records left n s) first ∙ output_first left n s x more found.turn found.taken
-      ∙ rw (certificates_some found.turn _ left found.is.0 found.is.1, found.is.2, found.after) refl
-
--- where no certificate was found, there is none
-pub found_nothing : (is_due : Bool) (s t : Supervision) (e : Result Event EventFault) (found : Option Certificate) →
-    IsFoundFor is_due s t e found → ((c : Certificate) → found ≡ Some c → ⊥) → IsFoundFor is_due s t e None
-found_nothing is_due s t e None h never = h
-found_nothing is_due s t e (Some c) h never = absurd (never c refl)
-
--- a record that is refused, and want of memory, are outcomes of records
-pub refused_possible : (s : Supervision) (n : ℕ) (e : Result Event EventFault) (outcome : Outcome) → 1 ≤ n →
-    IsRefusedRecord s n e outcome → IsOutcomeIn records_shape outcome
-refused_possible s n e (BadEvent number cause) from_1 h = rw h.0 (refused_outcome n s e cause from_1 h.1)
-refused_possible s n e Memory from_1 h = tt
-refused_possible s n e Done from_1 h = absurd h
-refused_possible s n e Usage from_1 h = absurd h
-refused_possible s n e ReadFault from_1 h = absurd h
-refused_possible s n e WriteFault from_1 h = absurd h
-refused_possible s n e TooLong from_1 h = absurd h
-refused_possible s n e (BadData fault) from_1 h = absurd h
-refused_possible s n e (Refused fault) from_1 h = absurd h
-refused_possible s n e (Undrivable cause) from_1 h = absurd h
+-- a part of what is told of a turn answers as a write fault, whatever follows
+pub told_in_part : (teller after : Teller) (turn : Turn) (text : List ℕ) → IsToldTurn teller after turn text →
+    (old new : Option (List ℕ)) → AppendsPart old new text → (more : List Turn) (end : End) →
+    IsAnswer (record { text = turns_text teller (turn ∷ more); end = end }) old new WriteFault
+told_in_part teller after turn text told old new part more end =
+    let whole : Output = record { text = turns_text teller (turn ∷ more); end = end } in
+    let next : Output = record { text = turns_text after more; end = end } in
+    wrote_part old old new whole whole (all_left old whole) text next
+    (λ k. record { text = told.rest more k; end = end }) part

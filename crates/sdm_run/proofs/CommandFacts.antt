@@ -14,12 +14,12 @@ use Rattle.sdm_run.specs.declared.words.Command.TheVariants.{Flat, Run, Display,
 use Rattle.sdm_run.specs.declared.words.Command.TheVariants.{Check}
 use Rattle.sdm_report.specs.declared.outcome.Outcome.{Outcome}
 use Rattle.sdm_report.specs.declared.outcome.Outcome.TheVariants.{TooLong}
+use Rattle.sdm_run.specs.declared.tellers.Teller.TheVariants.{Rows, Displays, Certificates}
 use Rattle.sdm_run.specs.Words.{IsCommandInRange}
 use Rattle.sdm_run.specs.Answers.{IsAnswer}
 use Rattle.sdm_run.specs.Commands.{AreRowsSafe, IsOutputOf, within_limit}
 use Rattle.sdm_run.specs.Shapes.{OfInput, Shape, shape_of}
 use Rattle.sdm_run.specs.Upgrades.{upgrade_output}
-use Rattle.sdm_run.proofs.CertifyAnswers.{certify_too_long}
 use Rattle.sdm_run.proofs.CheckTexts.{check_too_long}
 use Rattle.sdm_run.proofs.DriveTexts.{drive_rows_safe, drive_too_long}
 use Rattle.sdm_run.proofs.FlatOrder.{flat_rows_safe}
@@ -123,13 +123,13 @@ too_long : (command : Command) (bytes : List ℕ) (old : Option (List ℕ)) → 
     most_bytes < length bytes → (output : Output) → IsOutputOf command bytes output → IsAnswer output old old TooLong
 too_long (Flat decel end) bytes old reads long output is =
     rw (is, above bytes (flat_output decel end bytes) long) (record { ended = inl refl; taken = Appends-nil old })
-too_long Run bytes old reads long output is = journey_too_long run_tells bytes old long output is
-too_long Display bytes old reads long output is = journey_too_long display_tells bytes old long output is
+too_long Run bytes old reads long output is = journey_too_long Rows bytes old long output is
+too_long Display bytes old reads long output is = journey_too_long Displays bytes old long output is
 too_long (Trial seed cycles) bytes old reads long output is = absurd cc
 too_long Upgrade bytes old reads long output is =
     rw (is, above bytes (upgrade_output bytes) long) (record { ended = inl refl; taken = Appends-nil old })
 too_long (Drive seed cycles) bytes old reads long output is = drive_too_long seed cycles bytes old long output is
-too_long (Certify count) bytes old reads long output is = certify_too_long count bytes old long output is
+too_long (Certify count) bytes old reads long output is = journey_too_long (Certificates count) bytes old long output is
 too_long Check bytes old reads long output is = check_too_long bytes old long output is
 
 -- what holds of all bytes above the limit holds of an input that is too long

@@ -15,7 +15,6 @@ pub mod DriveTexts
 pub mod WrittenMaps
 pub mod CertifyTexts
 pub mod CertifyLines
-pub mod CertifyAnswers
 pub mod CheckTexts
 pub mod CheckOutputs
 pub mod OutputLaws

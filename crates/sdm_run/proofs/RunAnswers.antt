@@ -1,6 +1,6 @@
--- What the parts of a journey say makes the output of the whole, by what is told of each turn: an input has one run, so
+-- What the parts of a journey say makes the output of the whole, by what is told of it and of each turn: an input has one run, so
 -- it is enough to name one.
-use Rattle.std.proofs.Common.{◌≡◌, ℕ, ◌≤◌, ◌<◌, true, false, List, [], Option, Some, None, take, drop, length, nat_lt}
+use Rattle.std.proofs.Common.{◌≡◌, ℕ, ◌≤◌, ◌<◌, ◌++◌, true, false, List, [], Option, Some, None, take, drop, length, nat_lt}
 use Rattle.std.proofs.Common.{inl, inr, refl, ap, ◌∙◌, sym, subst, arith}
 use Rattle.std.proofs.lemmas.Bool.Decides.{nat_tests}
 use Rattle.std.specs.Prelude.{Result, Ok, Err, Bool, MatchBool, not}
@@ -8,6 +8,7 @@ use Rattle.std.proofs.KnownBytes.{Appends-nil}
 use Rattle.toml.specs.Data.{Members}
 use Rattle.sdm_rules.specs.declared.authorities.Authority.{Authority}
 use Rattle.sdm_rules.specs.declared.faults.DataFault.{DataFault}
+use Rattle.sdm_rules.specs.declared.faults.EventCause.{EventCause}
 use Rattle.sdm_rules.specs.Data.{TrainAndTrack, HasBands}
 use Rattle.sdm_rules.specs.Flat.{Output}
 use Rattle.sdm_rules.specs.Input.{most_bytes, End, IsRun, IsOpened, IsAfterData, IsAfterDocument, IsAfterDivision}
@@ -15,7 +16,6 @@ use Rattle.sdm_rules.specs.Input.{journey_of}
 use Rattle.sdm_rules.specs.Input as ends
 use Rattle.sdm_rules.specs.Records.{Turn}
 use Rattle.sdm_rules.specs.Supervision.{Supervision, opening}
-use Rattle.sdm_rules.specs.Text.{told}
 use Rattle.sdm_rules.specs.Headline.{AreTurnsSafe}
 use Rattle.sdm_laws.proofs.Rows.Journeys.{turns_safe}
 use Rattle.sdm_laws.proofs.Openings.OneRun.{one_run}
@@ -28,43 +28,95 @@ use Rattle.sdm_data.specs.Document.{document_of}
 use Rattle.sdm_data.specs.Journey.{data_of}
 use Rattle.sdm_events.specs.Journey.{Record, records_of}
 use Rattle.sdm_run.specs.Answers.{ComesOfReadingAlone, LeavesOutUntouched, IsAnswer}
-use Rattle.sdm_run.specs.Journeys.{run_reader, output_of_records, IsJourneyOutput}
-use Rattle.sdm_run.specs.RunParts.{IsOpeningOf, IsRefusedBy}
+use Rattle.sdm_run.specs.declared.tellers.Teller.{Teller}
+use Rattle.sdm_run.specs.declared.tellers.Teller.TheVariants.{Rows, Displays, Certificates}
+use Rattle.sdm_run.specs.Certifying.{map_before}
+use Rattle.sdm_run.specs.Journeys.{run_reader}
+use Rattle.sdm_run.specs.RunParts.{IsOpeningOf, IsRefusedBy, IsToldOutput, head_text, output_of_records, turns_text}
 use Rattle.sdm_run.specs.Commands.{AreJourneyTurnsSafe}
 use Rattle.sdm_run.specs.Shapes.{IsOutcomeIn, records_shape, run_shape}
+use Rattle.sdm_run.proofs.OneOutput.{Single}
+use Rattle.sdm_run.proofs.OutputLeft.{text_and}
 use Rattle.sdm_run.proofs.RunData.{has_bands}
-use Rattle.sdm_run.proofs.RunTexts.{of_records}
+use Rattle.sdm_run.proofs.RunTexts.{none_of_none, of_records}
+
+-- what stands before the texts of turns
+abbrev pub head_of : Teller → List ℕ → End → List ℕ
+head_of Rows bytes end = []
+head_of Displays bytes end = []
+head_of (Certificates left) bytes end = map_before bytes end
 
 -- the output of turns and an end
-abbrev pub output_by : (Turn → List ℕ) → List Turn → End → Output
-output_by tell turns end = record { text = told tell turns; end = end }
+abbrev pub output_by : Teller → List ℕ → List Turn → End → Output
+output_by teller bytes turns end = record { text = head_of teller bytes end ++ turns_text teller turns; end = end }
 
--- an output of the input is that of any turns and end that are its run
-pub only_output : (tell : Turn → List ℕ) (bytes : List ℕ) (turns : List Turn) (end : End) →
-    IsRun run_reader bytes turns end → (output : Output) → IsJourneyOutput tell bytes output →
-    output ≡ output_by tell turns end
-only_output tell bytes turns end run output is =
-    let one = one_run run_reader bytes in
-    let mine = one.only turns end run in
-    let its = one.only is.turns output.end is.run in
-    λ k. record { text = (is.text_is ∙ ap (told tell) (its.0 ∙ sym mine.0)) k; end = (its.1 ∙ sym mine.1) k }
+-- turns that are a run of the input, of which the output tells
+record IsOfRun (teller : Teller) (bytes : List ℕ) (output : Output) : Type 0 where
+  turns : List Turn
+  run : IsRun run_reader bytes turns output.end
+  text_is : output.text ≡ (output_by teller bytes turns output.end).text
 
--- what answers the output of one run answers each output
-pub answers_all : (tell : Turn → List ℕ) (bytes : List ℕ) (turns : List Turn) (end : End) (old new : Option (List ℕ))
-    (outcome : Outcome) → IsRun run_reader bytes turns end → IsAnswer (output_by tell turns end) old new outcome →
-    (output : Output) → IsJourneyOutput tell bytes output → IsAnswer output old new outcome
-answers_all tell bytes turns end old new outcome run answer output is =
-    subst (λ (o : Output). IsAnswer o old new outcome) (sym (only_output tell bytes turns end run output is)) answer
+-- an output of the input tells of its run
+of_run : (teller : Teller) (bytes : List ℕ) (output : Output) → IsToldOutput teller bytes output →
+    IsOfRun teller bytes output
+of_run Rows bytes output is = record { turns = is.turns; run = is.run; text_is = is.text_is }
+of_run Displays bytes output is = record { turns = is.turns; run = is.run; text_is = is.text_is }
+of_run (Certificates left) bytes output is = record { turns = is.turns; run = is.run; text_is = is.text_is }
+
+-- and what tells of the run is an output of the input
+is_told : (teller : Teller) (bytes : List ℕ) (turns : List Turn) (end : End) → IsRun run_reader bytes turns end →
+    IsToldOutput teller bytes (output_by teller bytes turns end)
+is_told Rows bytes turns end run = record { turns = turns; run = run; text_is = refl }
+is_told Displays bytes turns end run = record { turns = turns; run = run; text_is = refl }
+is_told (Certificates left) bytes turns end run = record { turns = turns; run = run; text_is = refl }
+
+module _ (teller : Teller) (bytes : List ℕ) where
+  -- an output of the input is that of any turns and end that are its run
+  only_output : (turns : List Turn) (end : End) → IsRun run_reader bytes turns end →
+      (output : Output) → IsToldOutput teller bytes output → output ≡ output_by teller bytes turns end
+  only_output turns end run output told =
+      let is = of_run teller bytes output told in
+      let one = one_run run_reader bytes in
+      let mine = one.only turns end run in
+      let its = one.only is.turns output.end is.run in
+      let end_is : output.end ≡ end = its.1 ∙ sym mine.1 in
+      let turns_are : is.turns ≡ turns = its.0 ∙ sym mine.0 in
+      λ k. record {
+        text = (is.text_is ∙ (λ j. (output_by teller bytes (turns_are j) (end_is j)).text)) k;
+        end = end_is k;
+      }
+
+  -- all bytes have one output
+  pub one_told : Single (IsToldOutput teller bytes)
+  one_told =
+      let one = one_run run_reader bytes in (
+        output_by teller bytes one.turns one.end,
+        (is_told teller bytes one.turns one.end one.is, only_output one.turns one.end one.is),
+      )
+
+  -- what answers the output of one run answers each output
+  answers_all : (turns : List Turn) (end : End) (old new : Option (List ℕ)) (outcome : Outcome) →
+      IsRun run_reader bytes turns end → IsAnswer (output_by teller bytes turns end) old new outcome →
+      (output : Output) → IsToldOutput teller bytes output → IsAnswer output old new outcome
+  answers_all turns end old new outcome run answer output is =
+      subst (λ (o : Output). IsAnswer o old new outcome) (sym (only_output turns end run output is)) answer
+
+-- where nothing is opened there is no text
+nothing : (teller : Teller) (bytes : List ℕ) (end : End) → map_before bytes end ≡ [] →
+    output_by teller bytes [] end ≡ record { text = []; end = end }
+nothing Rows bytes end none = refl
+nothing Displays bytes end none = refl
+nothing (Certificates left) bytes end none = rw (none, none_of_none (Certificates left)) refl
 
 -- ---- the limit
 
 -- an input above the limit is answered as too long
-pub journey_too_long : (tell : Turn → List ℕ) (bytes : List ℕ) (old : Option (List ℕ)) → most_bytes < length bytes →
-    (output : Output) → IsJourneyOutput tell bytes output → IsAnswer output old old TooLong
-journey_too_long tell bytes old long =
+pub journey_too_long : (teller : Teller) (bytes : List ℕ) (old : Option (List ℕ)) → most_bytes < length bytes →
+    (output : Output) → IsToldOutput teller bytes output → IsAnswer output old old TooLong
+journey_too_long teller bytes old long =
     let yes : nat_lt most_bytes (length bytes) ≡ true = grind (arith, nat_tests) in
-    answers_all tell bytes [] ends.TooLong old old TooLong (rw yes (refl, refl))
-    (record { ended = inl refl; taken = Appends-nil old })
+    answers_all teller bytes [] ends.TooLong old old TooLong (rw yes (refl, refl))
+    (rw (nothing teller bytes ends.TooLong refl) (record { ended = inl refl; taken = Appends-nil old }))
 
 -- an input within the limit has the run of its parts
 pub run_of_parts : (bytes : List ℕ) (turns : List Turn) (end : End) → length bytes ≤ most_bytes →
@@ -87,48 +139,68 @@ memory_first old output = record {
   };
 }
 
--- a data part that opens no supervisor
-pub refused : (tell : Turn → List ℕ) (bytes : List ℕ) (data_end start : ℕ) (old : Option (List ℕ))
-    (outcome : Outcome) → length bytes ≤ most_bytes → divide bytes ≡ Some (data_end, start) →
-    IsRefusedBy (take data_end bytes) outcome → (output : Output) → IsJourneyOutput tell bytes output →
-    IsAnswer output old old outcome
-refused tell bytes data_end start old (BadData Toml) short cut none =
-    answers_all tell bytes [] ends.Toml old old (BadData Toml) (run_of_parts bytes [] ends.Toml short
-    (rw (cut, none) (refl, refl))) (record { ended = inl refl; taken = Appends-nil old })
-refused tell bytes data_end start old (BadData (Data fault)) short cut (known, table, document, read) =
-    answers_all tell bytes [] (ends.Data fault) old old (BadData (Data fault))
-    (run_of_parts bytes [] (ends.Data fault) short (rw (cut, document, read) (refl, refl)))
-    (record { ended = inl refl; taken = Appends-nil old })
-refused tell bytes data_end start old (Refused fault) short cut (known, train_and_track, a, given, first) =
-    answers_all tell bytes [] (ends.Refused fault) old old (Refused fault)
-    (run_of_parts bytes [] (ends.Refused fault) short (rw (cut, given.document, given.read)
-    (inr (fault, first, refl, refl)))) (record { ended = inl refl; taken = Appends-nil old })
-refused tell bytes data_end start old Memory short cut free = λ output is. memory_first old output
-refused tell bytes data_end start old Done short cut none = absurd none
-refused tell bytes data_end start old Usage short cut none = absurd none
-refused tell bytes data_end start old ReadFault short cut none = absurd none
-refused tell bytes data_end start old WriteFault short cut none = absurd none
-refused tell bytes data_end start old TooLong short cut none = absurd none
-refused tell bytes data_end start old (BadData NoSplit) short cut none = absurd none
-refused tell bytes data_end start old (BadEvent number cause) short cut none = absurd none
-refused tell bytes data_end start old (Undrivable cause) short cut none = absurd none
+module _ (teller : Teller) (bytes : List ℕ) (short : length bytes ≤ most_bytes) (old : Option (List ℕ)) where
+  -- an input whose run has no turns, by an end before which nothing is written
+  without_turns : (end : End) (outcome : Outcome) → map_before bytes end ≡ [] →
+      IsAfterDivision run_reader [] end bytes (divide bytes) →
+      IsAnswer (record { text = []; end = end }) old old outcome →
+      (output : Output) → IsToldOutput teller bytes output → IsAnswer output old old outcome
+  without_turns end outcome none parts h = answers_all teller bytes [] end old old outcome
+      (run_of_parts bytes [] end short parts) (rw (nothing teller bytes end none) h)
 
--- ---- the records
+  -- an input without a dividing line
+  pub undivided : divide bytes ≡ None → (output : Output) → IsToldOutput teller bytes output →
+      IsAnswer output old old (BadData NoSplit)
+  undivided none = without_turns ends.NoSplit (BadData NoSplit) refl (rw none (refl, refl))
+      (record { ended = inl refl; taken = Appends-nil old })
 
--- the records of an input whose data part opens a supervisor
-pub recorded : (tell : Turn → List ℕ) (bytes : List ℕ) (data_end start : ℕ) (s : Supervision)
-    (old new : Option (List ℕ)) (outcome : Outcome) → length bytes ≤ most_bytes →
-    divide bytes ≡ Some (data_end, start) → IsOpeningOf (take data_end bytes) s →
-    IsAnswer (output_of_records tell 1 s (records_of (drop start bytes))) old new outcome → (output : Output) →
-    IsJourneyOutput tell bytes output → IsAnswer output old new outcome
-recorded tell bytes data_end start s old new outcome short cut is answer =
-    let journey = journey_of run_reader is.train_and_track is.authority (records_of (drop start bytes)) in
-    let run = run_of_parts bytes journey.turns (ends.end_of_journey journey.refused) short
-    (rw (cut, is.given.document, is.given.read)
-    (inl (record { accepted = is.accepted; turns_are = refl; end_is = refl }))) in
-    answers_all tell bytes journey.turns (ends.end_of_journey journey.refused) old new outcome run
-    (subst (λ (t : Supervision). IsAnswer (output_of_records tell 1 t
-    (records_of (drop start bytes))) old new outcome) is.state answer)
+  module _ (data_end start : ℕ) (cut : divide bytes ≡ Some (data_end, start)) where
+    -- a data part that opens no supervisor
+    pub refused : (outcome : Outcome) → IsRefusedBy (take data_end bytes) outcome →
+        (output : Output) → IsToldOutput teller bytes output → IsAnswer output old old outcome
+    refused (BadData Toml) none = without_turns ends.Toml (BadData Toml) refl (rw (cut, none) (refl, refl))
+        (record { ended = inl refl; taken = Appends-nil old })
+    refused (BadData (Data fault)) (known, table, document, read) =
+        without_turns (ends.Data fault) (BadData (Data fault)) refl (rw (cut, document, read) (refl, refl))
+        (record { ended = inl refl; taken = Appends-nil old })
+    refused (Refused fault) (known, train_and_track, a, given, first) =
+        without_turns (ends.Refused fault) (Refused fault) refl
+        (rw (cut, given.document, given.read) (inr (fault, first, refl, refl)))
+        (record { ended = inl refl; taken = Appends-nil old })
+    refused Memory free = λ output is. memory_first old output
+    refused Done none = absurd none
+    refused Usage none = absurd none
+    refused ReadFault none = absurd none
+    refused WriteFault none = absurd none
+    refused TooLong none = absurd none
+    refused (BadData NoSplit) none = absurd none
+    refused (BadEvent number cause) none = absurd none
+    refused (Undrivable cause) none = absurd none
+
+    -- ---- the records
+
+    -- what is written before the records stands before what is told of them
+    head_stands : (teller : Teller) (s : Supervision) (is : IsOpeningOf (take data_end bytes) s)
+        (refused : Option (ℕ × EventCause)) →
+        head_of teller bytes (ends.end_of_journey refused) ≡ head_text teller is.train_and_track
+    head_stands Rows s is refused = refl
+    head_stands Displays s is refused = refl
+    head_stands (Certificates left) s is None = rw (cut, is.given.document, is.given.read) refl
+    head_stands (Certificates left) s is (Some x) = rw (cut, is.given.document, is.given.read) refl
+
+    -- the records of an input whose data part opens a supervisor
+    pub recorded : (s : Supervision) (new : Option (List ℕ)) (outcome : Outcome) →
+        IsOpeningOf (take data_end bytes) s →
+        IsAnswer (text_and (head_text teller s.train_and_track)
+        (output_of_records teller 1 s (records_of (drop start bytes)))) old new outcome →
+        (output : Output) → IsToldOutput teller bytes output → IsAnswer output old new outcome
+    recorded s new outcome is answer =
+        let journey = journey_of run_reader is.train_and_track is.authority (records_of (drop start bytes)) in
+        let end = ends.end_of_journey journey.refused in
+        let run = run_of_parts bytes journey.turns end short (rw (cut, is.given.document, is.given.read)
+        (inl (record { accepted = is.accepted; turns_are = refl; end_is = refl }))) in
+        let stands = head_stands teller s is journey.refused in
+        answers_all teller bytes journey.turns end old new outcome run (rw stands (rw is.state at answer))
 
 -- ---- the turns
 

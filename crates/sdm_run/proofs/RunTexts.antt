@@ -1,8 +1,11 @@
 -- The output of records, record by record, and the outcomes that it may end with.
-use Rattle.std.proofs.Common.{◌≡◌, ℕ, suc, ◌≤◌, List, [], ◌∷◌, ◌++◌, Option, Some, None, refl, ap, ◌∙◌, sym}
+use Rattle.std.proofs.Common.{◌≡◌, ℕ, zero, suc, ◌≤◌, List, [], ◌∷◌, Option, Some, None, refl, ap, ◌∙◌, sym}
 use Rattle.std.proofs.Common.{subst}
 use Rattle.std.specs.Prelude.{Result, Ok, Err, OnOk, OnErr, is_err, Bool, true, false, not, IsTrue}
 use Rattle.std.proofs.lemmas.Bool.{le-ltb}
+use Rattle.std.proofs.KnownBytes.{Appends-nil}
+use Rattle.std.specs.Io.KnownBytes.{Appends}
+use Rattle.sdm_num.specs.Readings.{OdometerReading}
 use Rattle.sdm_rules.specs.declared.faults.EventFault.{EventFault}
 use Rattle.sdm_rules.specs.declared.faults.EventCause.{EventCause}
 use Rattle.sdm_rules.specs.declared.faults.EventCause.TheVariants as causes
@@ -12,47 +15,99 @@ use Rattle.sdm_rules.specs.declared.faults.CycleFault.{CycleFault}
 use Rattle.sdm_rules.specs.declared.faults.CycleFault.TheVariants.{TimeBack}
 use Rattle.sdm_rules.specs.declared.records.Event.{Event}
 use Rattle.sdm_rules.specs.declared.records.Event.TheVariants as record_kinds
+use Rattle.sdm_rules.specs.declared.rows.Row.{Row}
+use Rattle.sdm_rules.specs.Flat.{Output}
 use Rattle.sdm_rules.specs.Forms.{event_of}
-use Rattle.sdm_rules.specs.Records.{Turn, row_at, authority_fault, restrict_fault, revoke_fault, time_fault, time_cause}
-use Rattle.sdm_rules.specs.Records.{trip_cause, trip_fault, unless, step, turn_of, turn_to, event_at, most_records}
-use Rattle.sdm_rules.specs.Supervision.{Supervision}
-use Rattle.sdm_rules.specs.Text.{text_of_row}
+use Rattle.sdm_rules.specs.Input as ends
+use Rattle.sdm_rules.specs.Records.{row_at, authority_fault, restrict_fault, revoke_fault, time_fault, time_cause}
+use Rattle.sdm_rules.specs.Records.{trip_cause, trip_fault, unless, step, turn_of, turn_to, event_at, journey_from, most_records}
+use Rattle.sdm_rules.specs.Supervision.{Supervision, after_reading, row_of}
 use Rattle.sdm_report.specs.declared.outcome.InputFault.TheVariants.{NoSplit, Toml, Data}
 use Rattle.sdm_report.specs.declared.outcome.Outcome.{Outcome}
 use Rattle.sdm_report.specs.declared.outcome.Outcome.TheVariants.{Done, Usage, ReadFault, WriteFault, TooLong, BadData}
 use Rattle.sdm_report.specs.declared.outcome.Outcome.TheVariants.{Refused, BadEvent, Memory, Undrivable}
 use Rattle.sdm_events.specs.Journey.{Record}
-use Rattle.sdm_run.specs.Answers.{ComesOfReadingAlone, LeavesOutUntouched}
-use Rattle.sdm_run.specs.Journeys.{output_of_records}
+use Rattle.sdm_run.specs.Answers.{ComesOfReadingAlone, IsAnswer, LeavesOutUntouched}
+use Rattle.sdm_run.specs.declared.endings.Ended.{Ended}
 use Rattle.sdm_run.specs.declared.tellers.Teller.{Teller}
-use Rattle.sdm_run.specs.declared.tellers.Teller.TheVariants.{Rows, Displays}
-use Rattle.sdm_run.specs.RunParts.{IsToldEvent, IsToldRecord, tells}
+use Rattle.sdm_run.specs.declared.tellers.Teller.TheVariants.{Rows, Displays, Certificates}
+use Rattle.sdm_run.specs.RunParts.{IsTakenRecord, IsToldReading, IsToldRecord, IsToldTurn, output_of_records, turns_text}
 use Rattle.sdm_run.specs.Shapes.{IsOutcomeIn, is_of_line, records_shape}
+use Rattle.sdm_run.proofs.CertifyTexts.{none_told}
+use Rattle.sdm_run.proofs.OutputLeft.{IsLeftOf, cut_off, wrote}
 
 -- ---- one record
 
--- the output of records of which the first is a turn
-output_first : (tell : Turn → List ℕ) (n : ℕ) (s : Supervision) (x : Record) (more : List Record) (turn : Turn) →
-    turn_of s (event_at event_of n x) ≡ Ok turn →
-    output_of_records tell n s (x ∷ more) ≡
-    record {
-      text = tell turn ++ (output_of_records tell (suc n) turn.after more).text;
-      end =
-          (output_of_records tell (suc n) turn.after more).end;
-    }
-output_first tell n s x more turn e = rw e refl
+-- no turns have no text
+pub none_of_none : (teller : Teller) → turns_text teller [] ≡ []
+none_of_none Rows = refl
+none_of_none Displays = refl
+none_of_none (Certificates zero) = refl
+none_of_none (Certificates (suc left)) = refl
 
--- the output of records of which the first was told
-pub first_told : (tell : Turn → List ℕ) (n : ℕ) (s t : Supervision) (records more : List Record) (x : Record)
-    (text : List ℕ) → records ≡ x ∷ more → IsToldRecord tell s t (event_at event_of n x) text →
-    output_of_records tell n s records ≡
-    record {
-      text = text ++ (output_of_records tell (suc n) t more).text;
-      end =
-          (output_of_records tell (suc n) t more).end;
-    }
-first_told tell n s t records more x text is told = ap (output_of_records tell n s) is
-    ∙ rw (sym told.after, told.text_is) (output_first tell n s x more told.turn told.taken)
+module _ (teller : Teller) (n : ℕ) (s : Supervision) where
+  -- the output of no records
+  pub none_left : (records : List Record) → records ≡ [] →
+      output_of_records teller n s records ≡ record { text = []; end = ends.Done }
+  none_left records none = rw (none, none_of_none teller) refl
+
+  module _ (records more : List Record) (x : Record) (first : records ≡ x ∷ more) where
+    -- the output of records of which the first is refused
+    pub first_refused : (cause : EventCause) → turn_of s (event_at event_of n x) ≡ Err cause →
+        output_of_records teller n s records ≡ record { text = []; end = ends.BadEvent n cause }
+    first_refused cause is = rw (first, is, none_of_none teller) refl
+
+    module _ (old mid new : Option (List ℕ)) (whole : Output)
+        (so_far : IsLeftOf old mid whole (output_of_records teller n s records)) (t : Supervision) where
+      -- the output of records of which the first is taken
+      first_taken : (e : Event) → event_at event_of n x ≡ Ok e → step s e ≡ Ok t →
+          output_of_records teller n s records ≡ record {
+            text = turns_text teller
+                (record { before = s; event = e; after = t } ∷ (journey_from (event_at event_of) (suc n) t more).turns);
+            end = (output_of_records teller (suc n) t more).end;
+          }
+      first_taken e form accepted = rw (first, form, accepted) refl
+
+      -- what is left after a turn that was told
+      left_after : (e : Event) → event_at event_of n x ≡ Ok e → step s e ≡ Ok t → (after : Teller) (text : List ℕ) →
+          IsToldTurn teller after (record { before = s; event = e; after = t }) text → Appends mid new text →
+          IsLeftOf old new whole (output_of_records after (suc n) t more)
+      left_after e form accepted after text told taken =
+          let later = journey_from (event_at event_of) (suc n) t more in
+          let next = output_of_records after (suc n) t more in
+          wrote old mid new whole (output_of_records teller n s records) so_far text next
+          (first_taken e form accepted ∙ (λ k. record { text = told.rest later.turns k; end = next.end }))
+          told.whole_lines taken
+
+      -- an event that has no row
+      pub event_told : IsTakenRecord s t (event_at event_of n x) None → mid ≡ new →
+          IsLeftOf old new whole (output_of_records teller (suc n) t more)
+      event_told (e, form, accepted, none) same =
+          left_after e form accepted teller [] (none_told teller s t e none) (subst (λ taken. Appends mid taken []) same (Appends-nil mid))
+
+      module _ (r : OdometerReading) (row : Row)
+          (taken : IsTakenRecord s t (event_at event_of n x) (Some (r, row))) where
+        -- the state after a reading
+        after_is : t ≡ after_reading s r
+        unfolding step
+        after_is = by_time (time_fault s.last_time r.time) taken.1
+          where
+            by_time : (o : Option CycleFault) → unless time_cause o (after_reading s r) ≡ Ok t → t ≡ after_reading s r
+            by_time None is = cc
+            by_time (Some fault) is = absurd cc
+
+        -- a reading that was told
+        pub reading_told : (after : Teller) → IsToldReading teller r row t mid new (Ok after) →
+            IsLeftOf old new whole (output_of_records after (suc n) t more)
+        reading_told after h =
+            let told = h s taken.2 after_is in
+            left_after (record_kinds.Read r) taken.0 taken.1 after told.0 told.1 told.2
+
+        -- or not to its end
+        pub reading_cut : (ended : Ended) → (ComesOfReadingAlone ended.outcome → ⊥) →
+            IsToldReading teller r row t mid new (Err ended) → IsAnswer whole old new ended.outcome
+        reading_cut ended never h = cut_off old mid new whole (output_of_records teller n s records) so_far
+            ended.outcome never (rw (first_taken (record_kinds.Read r) taken.0 taken.1) (h s taken.2 after_is _ _))
 
 -- what is said of an answer that is no failure
 pub where_ok : {A B : Type 0} (answer : Result A B) (P : Type 0) → is_err answer ≡ false → OnOk answer P → P
@@ -64,32 +119,29 @@ pub where_err : {A B : Type 0} (answer : Result A B) (P : Type 0) → is_err ans
 where_err (Ok x) P is h = cc is
 where_err (Err fault) P is h = h
 
--- an event that was taken is the turn of its record
-pub told_record : (tell : Turn → List ℕ) (s t : Supervision) (n : ℕ) (x : Record) (e : Event) (text : List ℕ) →
-    n ≤ most_records → event_of x ≡ Ok e →
-    IsToldEvent tell s t e text → IsToldRecord tell s t (event_at event_of n x) text
-told_record tell s t n x e text counted form told = record {
-  turn = record { before = s; event = e; after = t };
-  taken = rw (le-ltb most_records n counted) (rw (form, told.accepted) refl);
-  after = refl;
-  text_is = told.text_is;
-  whole_lines = told.whole_lines;
-}
+-- ---- a record that is taken, or refused
 
--- what follows of an accepted event follows where it is accepted
-pub where_accepted : {A B : Type 0} (answer : Result A B) (P Q : Type 0) → (P → Q) → OnOk answer P → OnOk answer Q
-where_accepted (Ok x) P Q so h = so h
-where_accepted (Err fault) P Q so h = tt
+module _ (s : Supervision) (n : ℕ) (x : Record) (e : Event) (counted : n ≤ most_records) (form : event_of x ≡ Ok e) where
+  -- the event at its number
+  pub form_at : event_at event_of n x ≡ Ok e
+  form_at = rw (le-ltb most_records n counted) form
 
--- of an event that has no row nothing is told
-pub none_told : (teller : Teller) (s t : Supervision) (e : Event) → row_at s e ≡ None →
-    tells teller (record { before = s; event = e; after = t }) ≡ []
-none_told Rows s t e none = ap text_of_row none
-none_told Displays s t (record_kinds.Read r) none = absurd cc
-none_told Displays s t (record_kinds.Authority a) none = refl
-none_told Displays s t (record_kinds.Calculated eoa svl trip) none = refl
-none_told Displays s t (record_kinds.Restrict r) none = refl
-none_told Displays s t (record_kinds.Revoke id) none = refl
+  -- an event that has no row
+  pub taken_event : (t : Supervision) → step s e ≡ Ok t → row_at s e ≡ None →
+      IsTakenRecord s t (event_at event_of n x) None
+  taken_event t accepted none = (e, form_at, accepted, none)
+
+  -- a reading that was told
+  pub taken_reading : (r : OdometerReading) → e ≡ record_kinds.Read r → (t : Supervision) → step s e ≡ Ok t →
+      (row : Row) → row ≡ row_of s r → (teller : Teller) (old new : Option (List ℕ)) (told : Result Teller Ended) →
+      IsToldReading teller r row t old new told →
+      IsToldRecord teller s t (event_at event_of n x) old new (Some told)
+  taken_reading r is t accepted row row_is teller old new told h =
+      (r, row, (form_at ∙ ap (λ (e : Event). Ok e) is, sym (ap (step s) is) ∙ accepted, row_is), h)
+
+  -- an event that is refused
+  pub refused_event : (cause : EventCause) → step s e ≡ Err cause → turn_of s (event_at event_of n x) ≡ Err cause
+  refused_event cause is = rw (form_at, is) refl
 
 -- ---- no record is refused as a line
 

@@ -1,5 +1,5 @@
 -- The command `certify`: the text that it defines for its input, the written map and after it certificates (own).
-use Rattle.std.specs.Prelude.{◌≡◌, ◌⊎◌, ⊤, ℕ, zero, suc, ℤ, pos, neg_ℤ, Bool, true, false, ◌&&◌, ◌==◌, nat_le, List, [], ◌∷◌}
+use Rattle.std.specs.Prelude.{◌≡◌, ℕ, zero, suc, ℤ, pos, neg_ℤ, Bool, true, false, ◌&&◌, ◌==◌, nat_le, List, [], ◌∷◌}
 use Rattle.std.specs.Prelude.{◌++◌, ◌+ℤ◌, map, length, take, filter, codes, decimal, Option, Some, None, Result, Ok, Err}
 use Rattle.std.specs.Prelude.{if◌then◌else◌}
 use Rattle.std.specs.Fmt.{signed_decimal}
@@ -11,30 +11,23 @@ use Rattle.sdm_rules.specs.declared.certificates.Claim.{Claim}
 use Rattle.sdm_rules.specs.declared.certificates.Mark.{Mark}
 use Rattle.sdm_rules.specs.declared.data.SlopeKind.TheVariants.{Safe}
 use Rattle.sdm_rules.specs.declared.faults.DataFault.{DataFault}
-use Rattle.sdm_rules.specs.declared.faults.EventFault.{EventFault}
 use Rattle.sdm_rules.specs.declared.records.Event.{Event}
 use Rattle.sdm_rules.specs.declared.records.Event.TheVariants as record_kinds
 use Rattle.sdm_rules.specs.Data.{TrainAndTrack}
 use Rattle.sdm_rules.specs.Decelerations.{slopes_of}
 use Rattle.sdm_rules.specs.Flat.{Output}
-use Rattle.sdm_rules.specs.Forms.{event_of}
 use Rattle.sdm_rules.specs.Input.{IsRun, end_of_journey}
 use Rattle.sdm_rules.specs.Input as ends
-use Rattle.sdm_rules.specs.Records.{Turn, event_at, journey_from, step, turn_of}
+use Rattle.sdm_rules.specs.Records.{Turn}
 use Rattle.sdm_rules.specs.Slopes.{Slopes, bands_of}
 use Rattle.sdm_rules.specs.Supervision.{Supervision, row_of}
 use Rattle.sdm_rules.specs.Text.{text_line, told}
-use Rattle.sdm_report.specs.declared.outcome.Outcome.{Outcome}
-use Rattle.sdm_report.specs.declared.outcome.Outcome.TheVariants.{Done, Usage, ReadFault, WriteFault, TooLong, BadData}
-use Rattle.sdm_report.specs.declared.outcome.Outcome.TheVariants.{Refused, BadEvent, Memory, Undrivable}
-use Rattle.sdm_certify.specs.declared.certificates.Certificate.{Certificate}
 use Rattle.sdm_certify.specs.Certificates.{claim_of}
 use Rattle.sdm_certify.specs.Made.{marks_of}
 use Rattle.sdm_certify.specs.WrittenLines.{claim_text, mark_text}
 use Rattle.sdm_data.specs.Division.{divide}
 use Rattle.sdm_data.specs.Document.{document_of}
 use Rattle.sdm_data.specs.Journey.{data_of}
-use Rattle.sdm_events.specs.Journey.{Record}
 use Rattle.sdm_run.specs.Journeys.{run_reader}
 
 -- lines one after the other
@@ -178,59 +171,3 @@ pub record IsCertifyOutput (count : ℕ) (bytes : List ℕ) (output : Output) : 
   pub turns : List Turn
   pub run : IsRun run_reader bytes turns output.end
   pub text_is : output.text ≡ map_before bytes output.end ++ certificates count turns
-
--- ---- the parts of the command
-
--- the certificates and the end of records; the first record has the number `n`
-abbrev pub certified_records : ℕ → ℕ → Supervision → List Record → Output
-certified_records count n s records =
-    let journey = journey_from (event_at event_of) n s records in
-    record { text = certificates count journey.turns; end = end_of_journey journey.refused }
-
--- the reading that an event is, if its row is covered
-abbrev pub covered_reading : Supervision → Event → Option OdometerReading
-covered_reading s (record_kinds.Read r) = if (row_of s r).covered then Some r else None
-covered_reading s (record_kinds.Authority a) = None
-covered_reading s (record_kinds.Calculated eoa svl trip) = None
-covered_reading s (record_kinds.Restrict r) = None
-covered_reading s (record_kinds.Revoke id) = None
-
--- an event was taken: its reading, if its row is covered
-pub record IsCoveredEvent (s t : Supervision) (e : Event) (covered : Option OdometerReading) : Type 0 where
-  pub accepted : step s e ≡ Ok t
-  pub is : covered ≡ covered_reading s e
-
--- a record was taken as a turn to the state `t`: its reading, if its row is covered
-pub record IsCoveredRecord (s t : Supervision) (e : Result Event EventFault) (covered : Option OdometerReading) :
-    Type 0 where
-  pub turn : Turn
-  pub taken : turn_of s e ≡ Ok turn
-  pub after : turn.after ≡ t
-  pub is : covered ≡ covered_reading turn.before turn.event
-
--- what was found for a turn: its certificate, or none, where none is due or it has none
-abbrev pub IsFoundOf : Bool → Turn → Option Certificate → Type 0
-IsFoundOf is_due turn None = (is_due ≡ false) ⊎ (is_certified turn ≡ false)
-IsFoundOf is_due turn (Some c) =
-    (is_due ≡ true) × (is_certified turn ≡ true) × (certificate turn ≡ marked_claim_text c.claim c.marks)
-
--- a record was taken as a turn to the state `t`: its certificate was made, where one was due
-pub record IsFoundFor (is_due : Bool) (s t : Supervision) (e : Result Event EventFault) (found : Option Certificate) :
-    Type 0 where
-  pub turn : Turn
-  pub taken : turn_of s e ≡ Ok turn
-  pub after : turn.after ≡ t
-  pub is : IsFoundOf is_due turn found
-
--- the outcome of a record that is refused, or of want of memory
-abbrev pub IsRefusedRecord : Supervision → ℕ → Result Event EventFault → Outcome → Type 0
-IsRefusedRecord s n e (BadEvent number cause) = (number ≡ n) × (turn_of s e ≡ Err cause)
-IsRefusedRecord s n e Memory = ⊤
-IsRefusedRecord s n e Done = ⊥
-IsRefusedRecord s n e Usage = ⊥
-IsRefusedRecord s n e ReadFault = ⊥
-IsRefusedRecord s n e WriteFault = ⊥
-IsRefusedRecord s n e TooLong = ⊥
-IsRefusedRecord s n e (BadData fault) = ⊥
-IsRefusedRecord s n e (Refused fault) = ⊥
-IsRefusedRecord s n e (Undrivable cause) = ⊥

@@ -3,9 +3,8 @@ use Rattle.std.specs.Prelude.{◌≡◌, ℕ, List}
 use Rattle.toml.specs.Data.{Members}
 use Rattle.sdm_rules.specs.Flat.{Output}
 use Rattle.sdm_rules.specs.Forms.{event_of}
-use Rattle.sdm_rules.specs.Input.{Reader, IsRun, end_of_journey}
-use Rattle.sdm_rules.specs.Records.{Turn, event_at, journey_from}
-use Rattle.sdm_rules.specs.Supervision.{Supervision}
+use Rattle.sdm_rules.specs.Input.{Reader, IsRun}
+use Rattle.sdm_rules.specs.Records.{Turn}
 use Rattle.sdm_rules.specs.Text.{told}
 use Rattle.sdm_data.specs.Division.{divide}
 use Rattle.sdm_data.specs.Document.{document_of}
@@ -22,12 +21,6 @@ run_reader = record {
   records = records_of;
   form = event_of;
 }
-
--- the text and the end of records, by what is told of each turn; the first record has the number `n`
-abbrev pub output_of_records : (Turn → List ℕ) → ℕ → Supervision → List Record → Output
-output_of_records tell n s records =
-    let journey = journey_from (event_at event_of) n s records in
-    record { text = told tell journey.turns; end = end_of_journey journey.refused }
 
 -- what is defined for the bytes of an input, by what is told of each turn: the text of the turns of THE RUN, and its
 -- end

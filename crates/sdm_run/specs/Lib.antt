@@ -4,9 +4,9 @@ pub mod Answers
 pub mod TakenLines
 pub mod FlatRun
 pub mod Journeys
-pub mod RunParts
 pub mod Upgrades
 pub mod Drives
 pub mod Certifying
+pub mod RunParts
 pub mod Checks
 pub mod Commands

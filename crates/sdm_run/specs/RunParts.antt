@@ -1,5 +1,6 @@
 -- What the parts of `run` say: of the data part, and of one record after the other (own).
-use Rattle.std.specs.Prelude.{◌≡◌, ◌≢◌, ℕ, List, Some, None, Result, Ok, Err, ⊤}
+use Rattle.std.specs.Prelude.{◌≡◌, ◌≢◌, ℕ, List, [], ◌∷◌, ◌++◌, Option, Some, None, Result, Ok, Err, ⊤}
+use Rattle.std.specs.Io.KnownBytes.{Appends}
 use Rattle.toml.specs.Data.{Members}
 use Rattle.sdm_num.specs.Readings.{OdometerReading}
 use Rattle.sdm_rules.specs.declared.authorities.Authority.{Authority}
@@ -10,19 +11,26 @@ use Rattle.sdm_rules.specs.declared.records.Event.{Event}
 use Rattle.sdm_rules.specs.declared.records.Event.TheVariants.{Read}
 use Rattle.sdm_rules.specs.declared.rows.Row.{Row}
 use Rattle.sdm_rules.specs.Data.{TrainAndTrack}
+use Rattle.sdm_rules.specs.Flat.{Output}
+use Rattle.sdm_rules.specs.Forms.{event_of}
+use Rattle.sdm_rules.specs.Input.{End, end_of_journey}
 use Rattle.sdm_rules.specs.Opening.{IsAccepted, IsOpenFault}
-use Rattle.sdm_rules.specs.Records.{Turn, step, turn_of}
+use Rattle.sdm_rules.specs.Records.{Turn, event_at, journey_from, row_at, step}
 use Rattle.sdm_rules.specs.Supervision.{Supervision, after_reading, opening, row_of}
-use Rattle.sdm_rules.specs.Text.{display_tells, run_tells}
+use Rattle.sdm_rules.specs.Text.{display_tells, run_tells, told}
 use Rattle.sdm_report.specs.declared.outcome.InputFault.TheVariants.{NoSplit, Toml, Data}
 use Rattle.sdm_report.specs.declared.outcome.Outcome.{Outcome}
 use Rattle.sdm_report.specs.declared.outcome.Outcome.TheVariants.{Done, Usage, ReadFault, WriteFault, TooLong, BadData}
 use Rattle.sdm_report.specs.declared.outcome.Outcome.TheVariants.{Refused, BadEvent, Memory, Undrivable}
 use Rattle.sdm_data.specs.Document.{document_of}
 use Rattle.sdm_data.specs.Journey.{data_of}
+use Rattle.sdm_events.specs.Journey.{Record}
+use Rattle.sdm_run.specs.declared.endings.Ended.{Ended}
 use Rattle.sdm_run.specs.declared.tellers.Teller.{Teller}
-use Rattle.sdm_run.specs.declared.tellers.Teller.TheVariants.{Rows, Displays}
-use Rattle.sdm_run.specs.Answers.{AreWholeLines}
+use Rattle.sdm_run.specs.declared.tellers.Teller.TheVariants.{Rows, Displays, Certificates}
+use Rattle.sdm_run.specs.Answers.{AreWholeLines, IsAnswer}
+use Rattle.sdm_run.specs.Certifying.{IsCertifyOutput, certificates, safe_map_text}
+use Rattle.sdm_run.specs.Journeys.{IsJourneyOutput}
 
 -- ---- the data part
 
@@ -63,29 +71,61 @@ IsRefusedBy bytes (Refused fault) = (fault ≢ open_faults.Memory) × (train_and
     × IsDataOf bytes train_and_track a × IsOpenFault train_and_track a fault
 IsRefusedBy bytes outcome = IsRefusedByData bytes outcome
 
+-- ---- what is told
+
+-- what is defined for the bytes of an input
+abbrev pub IsToldOutput : Teller → List ℕ → Output → Type 0
+IsToldOutput Rows = IsJourneyOutput run_tells
+IsToldOutput Displays = IsJourneyOutput display_tells
+IsToldOutput (Certificates left) = IsCertifyOutput left
+
+-- what stands before the records: of `certify` the written map
+abbrev pub head_text : Teller → TrainAndTrack → List ℕ
+head_text Rows d = []
+head_text Displays d = []
+head_text (Certificates left) d = safe_map_text d
+
+-- what is told of turns
+abbrev pub turns_text : Teller → List Turn → List ℕ
+turns_text Rows turns = told run_tells turns
+turns_text Displays turns = told display_tells turns
+turns_text (Certificates left) turns = certificates left turns
+
+-- the text and the end of records, by what is told of their turns; the first record has the number `n`
+abbrev pub output_of_records : Teller → ℕ → Supervision → List Record → Output
+output_of_records teller n s records =
+    let journey = journey_from (event_at event_of) n s records in
+    record { text = turns_text teller journey.turns; end = end_of_journey journey.refused }
+
 -- ---- the records
 
--- what is told of a turn
-abbrev pub tells : Teller → Turn → List ℕ
-tells Rows = run_tells
-tells Displays = display_tells
+-- a record was taken to the state `t`: a reading with this row, or an event that has no row
+abbrev pub IsTakenRecord : Supervision → Supervision → Result Event EventFault → Option (OdometerReading × Row) → Type 0
+IsTakenRecord s t e (Some x) = (e ≡ Ok (Read x.0)) × (step s (Read x.0) ≡ Ok t) × (x.1 ≡ row_of s x.0)
+IsTakenRecord s t e None = (event : Event) × (e ≡ Ok event) × (step s event ≡ Ok t) × (row_at s event ≡ None)
 
--- the text is what is told of a reading that was taken, with this row and this state after it
-abbrev pub IsToldReading : (Turn → List ℕ) → OdometerReading → Row → Supervision → List ℕ → Type 0
-IsToldReading tell r row after text = (before : Supervision) → row ≡ row_of before r → after ≡ after_reading before r →
-    text ≡ tell (record { before = before; event = Read r; after = after })
-
--- an event was taken, and what is told of its turn was put: no text, or whole lines
-pub record IsToldEvent (tell : Turn → List ℕ) (s t : Supervision) (e : Event) (text : List ℕ) : Type 0 where
-  pub accepted : step s e ≡ Ok t
-  pub text_is : text ≡ tell (record { before = s; event = e; after = t })
+-- a text is told of a turn, and the rest of the turns by `after`: no text, or whole lines
+pub record IsToldTurn (teller after : Teller) (turn : Turn) (text : List ℕ) : Type 0 where
+  pub rest : (more : List Turn) → turns_text teller (turn ∷ more) ≡ text ++ turns_text after more
   pub whole_lines : AreWholeLines text
 
--- a record was taken as a turn to the state `t`, and what is told of it was put
-pub record IsToldRecord (tell : Turn → List ℕ) (s t : Supervision) (e : Result Event EventFault)
-    (text : List ℕ) : Type 0 where
-  pub turn : Turn
-  pub taken : turn_of s e ≡ Ok turn
-  pub after : turn.after ≡ t
-  pub text_is : text ≡ tell turn
-  pub whole_lines : AreWholeLines text
+-- out took what is told of a turn, or the outcome answers it, whatever follows
+abbrev pub IsToldTo : Teller → Turn → Option (List ℕ) → Option (List ℕ) → Result Teller Ended → Type 0
+IsToldTo teller turn old new (Ok after) =
+    (text : List ℕ) × IsToldTurn teller after turn text × Appends old new text
+IsToldTo teller turn old new (Err ended) = (more : List Turn) (end : End) →
+    IsAnswer (record { text = turns_text teller (turn ∷ more); end = end }) old new ended.outcome
+
+-- a reading that was taken was told of, with this row and this state after it
+abbrev pub IsToldReading : Teller → OdometerReading → Row → Supervision → Option (List ℕ) → Option (List ℕ) →
+    Result Teller Ended → Type 0
+IsToldReading teller r row after old new result =
+    (before : Supervision) → row ≡ row_of before r → after ≡ after_reading before r →
+    IsToldTo teller (record { before = before; event = Read r; after = after }) old new result
+
+-- a record was taken to the state `t`, and a reading was told of; of another record nothing is told
+abbrev pub IsToldRecord : Teller → Supervision → Supervision → Result Event EventFault → Option (List ℕ) →
+    Option (List ℕ) → Option (Result Teller Ended) → Type 0
+IsToldRecord teller s t e old new (Some told) = (r : OdometerReading) × (row : Row)
+    × IsTakenRecord s t e (Some (r, row)) × IsToldReading teller r row t old new told
+IsToldRecord teller s t e old new None = IsTakenRecord s t e None

@@ -16,7 +16,6 @@ ghost use Rattle.sdm_run.specs.Shapes.{IsOutcomeIn, OfInput, shape_of};
 ghost use Rattle.sdm_run.specs.Upgrades.{IsReadBack};
 ghost use Rattle.sdm_run.specs.Words.{IsCommandInRange, asked_by};
 
-use crate::certify_run::run_certify;
 use crate::check_run::run_check;
 use crate::drive_run::run_drive;
 use crate::endings::Ended;
@@ -141,7 +140,9 @@ fn run_command<O: Sink>(alloc: Global, command: Command, bytes: &[u8], out: &mut
         Command::Trial { seed, cycles } => run_trial(alloc, seed, cycles, out),
         Command::Upgrade => run_upgrade(alloc, bytes, out),
         Command::Drive { seed, cycles } => run_drive(alloc, seed, cycles, bytes, out),
-        Command::Certify { count } => run_certify(alloc, count, bytes, out),
+        Command::Certify { count } => {
+            run_journey(alloc, Teller::Certificates { left: count }, bytes, out)
+        }
         Command::Check => run_check(alloc, bytes, out),
     }
 }

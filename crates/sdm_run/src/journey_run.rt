@@ -1,14 +1,13 @@
-//! The commands `run` and `display`: about the dividing line the data part, which opens a supervisor, and the records.
-//! They differ in what is told of a reading.
+//! The commands `run`, `display` and `certify`: about the dividing line the data part, which opens a supervisor, and
+//! the records. They differ in what is told of the data and of a reading.
 
 ghost use Rattle.std.specs.Prelude.{◌≡◌, ◌⊎◌, ◌≤◌, length, false};
 ghost use Rattle.sdm_io.specs.Causes.{Rose};
 ghost use Rattle.sdm_rules.specs.Flat.{Output};
 ghost use Rattle.sdm_rules.specs.Input.{most_bytes};
 ghost use Rattle.sdm_run.specs.Answers.{ComesOfReadingAlone, LeavesOutUntouched, IsAnswer};
+ghost use Rattle.sdm_run.specs.RunParts.{IsToldOutput};
 ghost use Rattle.sdm_run.specs.Shapes.{IsOutcomeIn, run_shape};
-ghost use Rattle.sdm_run.specs.Journeys.{IsJourneyOutput};
-ghost use Rattle.sdm_run.specs.RunParts.{tells};
 
 use crate::endings::Ended;
 use crate::journey_openings::opened;
@@ -19,11 +18,11 @@ use sdm_io::Sink;
 use sdm_report::{InputFault, Outcome};
 use std::alloc::Global;
 
-/// Answers an input by what is told of each turn, which is written before the next record is taken. WriteFault comes
-/// only where out failed; Memory may come at any time, and leaves whole lines written. (own)
+/// Answers an input by what is told of it and of each turn, which is written before the next record is taken.
+/// WriteFault comes only where out failed; Memory may come at any time, and leaves whole lines written. (own)
 pub fn run_journey<O: Sink>(alloc: Global, teller: Teller, bytes: &[u8], out: &mut O) -> Ended
     requires short { length bytes.now ≤ most_bytes }
-    ensures answer { (output : Output) → IsJourneyOutput (tells teller) bytes.now output
+    ensures answer { (output : Output) → IsToldOutput teller bytes.now output
         → IsAnswer output (O.taken out.old) (O.taken out.new) result.outcome }
     ensures possible { IsOutcomeIn run_shape result.outcome }
     ensures not_before { ComesOfReadingAlone result.outcome → ⊥ }
@@ -33,22 +32,22 @@ pub fn run_journey<O: Sink>(alloc: Global, teller: Teller, bytes: &[u8], out: &m
     ensures write { result.outcome ≡ Outcome.WriteFault → Rose (O.faults out.old) (O.faults out.new) }
 {
     let Some((data_end, records_start)) = split(bytes) else {
-        return Ended {
-            outcome: Outcome::BadData(InputFault::NoSplit),
-            is_flush_due: false,
-        };
+        return Ended::new(Outcome::BadData(InputFault::NoSplit), false);
     };
-    match opened(alloc, &bytes[..data_end]) {
-        Ok(mut supervisor) => run_records(
-            alloc,
-            teller,
-            &mut supervisor,
-            &bytes[records_start..],
-            out,
-        ),
-        Err(outcome) => Ended {
-            outcome,
-            is_flush_due: false,
-        },
-    }
+    let mut supervisor = match opened(alloc, &bytes[..data_end]) {
+        Ok(supervisor) => supervisor,
+        Err(outcome) => return Ended::new(outcome, false),
+    };
+    let is_flush_due = match teller.begin(&supervisor, out) {
+        Ok(is_flush_due) => is_flush_due,
+        Err(_) => return Ended::new(Outcome::WriteFault, false),
+    };
+    run_records(
+        alloc,
+        teller,
+        is_flush_due,
+        &mut supervisor,
+        &bytes[records_start..],
+        out,
+    )
 }

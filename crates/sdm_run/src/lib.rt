@@ -3,7 +3,6 @@
 #![tactic(auto)]
 
 mod answers;
-mod certify_run;
 mod certify_texts;
 mod check_run;
 mod drive_run;

@@ -4,7 +4,7 @@
 #![tactic(auto)]
 
 ghost use Rattle.std.specs.Prelude.{◌≡◌};
-ghost use Rattle.sdm_rules.specs.Commands.{commands_after, status_after};
+ghost use Rattle.sdm_rules.specs.Commands.{commands_after};
 
 pub use sdm_rules::{Held, State, Status, Triggers};
 
@@ -22,28 +22,15 @@ pub fn next(
 ) -> Held
     ensures { result ≡ commands_after held t state stopped early_release service }
 {
-    let is_released = stopped || (early_release && !t.over);
-    let eb = t.emer || (held.eb && !is_released);
-    let sb = service && (t.serv || (held.sb && t.over));
-    let tco = t.warn || t.serv || t.emer || (held.tco && t.over);
-    let status = status_after(held.status, t, state, sb, eb);
-    Held {
-        tco,
-        sb,
-        eb,
-        status,
-    }
-}
-
-/// The status: the first that holds of intervention, warning, overspeed, indication and normal. A warning stays over
-/// the permitted speed, also after an intervention.
-fn status_after(last: Status, t: Triggers, state: State, sb: bool, eb: bool) -> Status
-    ensures { result ≡ status_after last t state sb eb }
-{
-    let was_alarm = matches!(last, Status::W | Status::X);
-    if eb || sb {
+    let is_released = stopped | (early_release & !t.over);
+    let eb = t.emer | (held.eb & !is_released);
+    let sb = service & (t.serv | (held.sb & t.over));
+    let tco = t.warn | t.serv | t.emer | (held.tco & t.over);
+    // The first that holds. A warning stays over the permitted speed, also after an intervention.
+    let was_alarm = matches!(held.status, Status::W | Status::X);
+    let status = if eb | sb {
         Status::X
-    } else if t.warn || (t.over && was_alarm) {
+    } else if t.warn | (t.over & was_alarm) {
         Status::W
     } else if t.over {
         Status::O
@@ -51,6 +38,12 @@ fn status_after(last: Status, t: Triggers, state: State, sb: bool, eb: bool) -> 
         Status::N
     } else {
         Status::I
+    };
+    Held {
+        tco,
+        sb,
+        eb,
+        status,
     }
 }
 

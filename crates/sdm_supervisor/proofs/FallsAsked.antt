@@ -12,11 +12,11 @@ use Rattle.sdm_braking.specs.KeptFalls.{IsKeptFall, KeptFallData, target_of}
 beside : KeptTarget → KeptFallData
 beside k = record { fall = record { cell = pos 0; speed = 0 }; kept = k }
 
-module _ (ks : List KeptFallData) (i : ℕ) (k : KeptTarget) (within : i < length ks)
-    (is : (d : KeptFallData) → k ≡ (slice_index_or ks i d).kept) where
+module _ (ks : List KeptFallData) {i : ℕ} {k : KeptTarget} (is : (d : KeptFallData) → k ≡ (slice_index_or ks i d).kept)
+    (within : i < length ks) where
   -- what is read at an index is the target there with its curves
-  pub kept_there : (d : TrainAndTrack) → All (IsKeptFall d) ks → IsKeptTarget d k
-  kept_there d each = rw (is (beside k)) (each i (beside k) within).kept
+  pub kept_there : {d : TrainAndTrack} → All (IsKeptFall d) ks → IsKeptTarget d k
+  kept_there each = rw (is (beside k)) (each i (beside k) within).kept
 
   -- the targets up to an index, and the one there
   pub one_more : map target_of (take i ks) ++ k.target ∷ [] ≡ map target_of (take (i + 1) ks)
@@ -25,6 +25,6 @@ module _ (ks : List KeptFallData) (i : ℕ) (k : KeptTarget) (within : i < lengt
       ∙ sym (map_more target_of ks i (beside k) within)
 
 -- where all falls have been asked, all their targets have
-pub all_asked : (ks : List KeptFallData) (i n : ℕ) → n ≡ length ks → n ≤ i →
+pub all_asked : (ks : List KeptFallData) {i n : ℕ} → n ≡ length ks → n ≤ i →
     map target_of (take i ks) ≡ map target_of ks
-all_asked ks i n len past = ap (map target_of) (take_all i ks (omega (arith, len, past)))
+all_asked ks {i} len past = ap (map target_of) (take_all i ks (omega (arith, len, past)))

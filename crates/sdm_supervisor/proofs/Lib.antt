@@ -1,5 +1,6 @@
 mod LimitOrder
 mod PassedLaws
+mod VerdictLaws
 mod ShownLaws
 mod FallsAsked
 mod NearestLaws

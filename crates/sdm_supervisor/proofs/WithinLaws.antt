@@ -1,6 +1,8 @@
 -- A supervisor keeps the SvL of its authority with its curves, and the start of release speed monitoring: by these a
 -- reading is within the SvL where the definitions say.
 use Rattle.std.proofs.Common.{◌≡◌, ℕ, ℤ, Bool, Option, Some, None, true, false, not, is_some, refl, ap, sym, ◌∙◌}
+use Rattle.std.proofs.Common.{◌<ℤ◌, if◌then◌else◌}
+use Rattle.std.specs.Prelude.{IsTrue, ◌↔◌}
 use Rattle.std.specs.Option.{option_map_or}
 use Rattle.sdm_num.specs.Bounds.{Bound}
 use Rattle.sdm_num.specs.Fractions.{Fraction}
@@ -21,6 +23,7 @@ use Rattle.sdm_braking.specs.declared.releases.Release.{Release}
 use Rattle.sdm_braking.specs.KeptCurves.{IsKeptAt, IsKeptEnd}
 use Rattle.sdm_braking.specs.Releases.{IsReleaseOf, release_speed_at}
 use Rattle.sdm_braking.proofs.ReleaseLaws.{release_speed_at_is}
+use Rattle.sdm_supervisor.proofs.PassedLaws.{past_of}
 
 -- the EBI of a kept target for the estimate of a reading is that of the SvL, where this is the target
 pub ebi_of : (d : TrainAndTrack) (r : OdometerReading) (e : Estimate) (t : Target) (cm : ℕ) (ebi : Option Bound) →
@@ -41,12 +44,29 @@ pub before_none : (ebi : Option Bound) (limit : Option Fraction) (front : ℤ) �
 before_none ebi limit front none is =
     ap (λ e. option_map_or (λ l. not (is_past 0 front l)) e false) (sym (ap place_where none) ∙ is)
 
--- the release speed that is kept is monitored where the definitions say
-pub monitored : (d : TrainAndTrack) (a : Authority) (kept : Option Release) (front at : ℤ) (found : Option ℕ)
-    (is : Bool) → IsReleaseOf d a kept → found ≡ release_speed_at kept at → at ≡ front → is ≡ is_some found →
-    is ≡ is_some (release_of d a front)
-monitored d a kept front at found is of_kept found_is at_front same =
-    same ∙ ap is_some (found_is ∙ release_speed_at_is d a kept at of_kept ∙ ap (release_of d a) at_front)
+-- the release speed that is kept counts where a front end is past the start of its monitoring
+pub released_at : (kept : Option Release) (release : Release) (front : ℤ) (passed : Bool) → kept ≡ Some release →
+    (IsTrue passed ↔ (release.start.at <ℤ front)) →
+    (if passed then Some release.speed_kmh else None) ≡ release_speed_at kept front
+released_at kept release front passed some is =
+    (λ k. if past_of is refl refl k then Some release.speed_kmh else None)
+    ∙ sym (ap (λ x. release_speed_at x front) some)
+
+-- and it is monitored there
+pub begun_at : (kept : Option Release) (release : Release) (front : ℤ) (passed : Bool) → kept ≡ Some release →
+    (IsTrue passed ↔ (release.start.at <ℤ front)) → passed ≡ is_some (release_speed_at kept front)
+begun_at kept release front passed some is =
+    where_some passed ∙ ap is_some (released_at kept release front passed some is)
+  where
+    where_some : (b : Bool) → b ≡ is_some (if b then Some release.speed_kmh else None)
+    where_some true = refl
+    where_some false = refl
+
+-- so the release speed that is kept is monitored where the definitions say
+pub monitored : (d : TrainAndTrack) (a : Authority) (kept : Option Release) (front at : ℤ) (is : Bool) →
+    IsReleaseOf d a kept → is ≡ is_some (release_speed_at kept at) → at ≡ front → is ≡ is_some (release_of d a front)
+monitored d a kept front at is of_kept found at_front =
+    found ∙ ap is_some (release_speed_at_is d a kept at of_kept ∙ ap (release_of d a) at_front)
 
 -- no reading is within the end of an authority that isn't a stop
 pub not_of_limit : (d : TrainAndTrack) (r : OdometerReading) (a : Authority) (loa : KeptTarget) →

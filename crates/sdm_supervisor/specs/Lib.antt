@@ -1,6 +1,5 @@
-pub mod Verdicts
 pub mod Sights
-pub mod Findings
+pub mod Verdicts
 pub mod Supervised
 pub mod FlatLines
 pub mod Flats

@@ -4,7 +4,7 @@ use Rattle.std.specs.Int.{int_min}
 use Rattle.std.specs.List.{list_all, list_any}
 use Rattle.std.specs.Option.{option_map_or}
 use Rattle.sdm_num.specs.Bounds.{mm_below}
-use Rattle.sdm_num.specs.Readings.{Estimate}
+use Rattle.sdm_num.specs.Readings.{Estimate, estimate_of}
 use Rattle.sdm_num.specs.Units.{distance_at}
 use Rattle.sdm_rules.specs.declared.data.Times.{Times}
 use Rattle.sdm_rules.specs.declared.targets.Target.{Target}
@@ -13,10 +13,11 @@ use Rattle.sdm_rules.specs.Limits.{SupervisionLimits, computed, limits_of}
 use Rattle.sdm_rules.specs.Margins.{sbi_margin, warning_margin}
 use Rattle.sdm_rules.specs.Reaction.{reaction_times, warning_time}
 use Rattle.sdm_rules.specs.Supervision.{is_covered_for, shown_limit}
-use Rattle.sdm_rules.specs.Triggers.{no_margin, passes, passes_ebi}
+use Rattle.sdm_rules.specs.Triggers.{is_indicated, no_margin, passes, passes_ebi, triggers_of}
 use Rattle.sdm_limits.specs.declared.limits.Limits.{Limits}
 use Rattle.sdm_supervisor.specs.declared.nearest.Nearest.{Nearest}
 use Rattle.sdm_supervisor.specs.declared.verdicts.Verdict.{Verdict}
+use Rattle.sdm_supervisor.specs.Sights.{Seen}
 
 -- the lesser of two places, where there are any (own)
 abbrev pub nearer : Option ℤ → Option ℤ → Option ℤ
@@ -27,10 +28,10 @@ nearer (Some x) (Some y) = Some (int_min x y)
 -- which limits of targets are passed, by an estimate with the estimated and the max safe front end, and whether each
 -- target is covered (SUBSET-026-3 3.13.10.4; own)
 pub record ArePassed (d : TrainAndTrack) (e : Estimate) (est max : ℤ) (ts : List Target) (v : Verdict) : Type 0 where
-  pub over : v.over ≡ list_any (λ t. passes e.speed est max 0 no_margin t (limits_of computed d e t).permitted) ts
-  pub warn : v.warn ≡ list_any (λ t. passes e.speed est max 0 warning_margin t (limits_of computed d e t).warning) ts
-  pub serv : v.serv ≡ list_any (λ t. passes e.speed est max 0 sbi_margin t (limits_of computed d e t).sbi) ts
-  pub emer : v.emer ≡ list_any (λ t. passes_ebi e.speed est max 0 t (limits_of computed d e t).ebi) ts
+  pub over : v.triggers.over ≡ list_any (λ t. passes e.speed est max 0 no_margin t (limits_of computed d e t).permitted) ts
+  pub warn : v.triggers.warn ≡ list_any (λ t. passes e.speed est max 0 warning_margin t (limits_of computed d e t).warning) ts
+  pub serv : v.triggers.serv ≡ list_any (λ t. passes e.speed est max 0 sbi_margin t (limits_of computed d e t).sbi) ts
+  pub emer : v.triggers.emer ≡ list_any (λ t. passes_ebi e.speed est max 0 t (limits_of computed d e t).ebi) ts
   pub indicated : v.indicated
       ≡ list_any (λ t. passes e.speed est max 0 no_margin t (limits_of computed d e t).indication) ts
   pub covered : v.covered ≡ list_all (is_covered_for d max e) ts
@@ -71,6 +72,18 @@ pub record AreNearest (times : Times) (v : ℕ) (limits : Target → Supervision
       ≡ shown_limit v ts (λ t. Some (limits t).indication)
 
 -- what targets say together (SUBSET-026-3 3.13.10; own)
-pub record IsVerdictOf (d : TrainAndTrack) (e : Estimate) (est max : ℤ) (ts : List Target) (v : Verdict) : Type 0 where
+pub record IsSaid (d : TrainAndTrack) (e : Estimate) (est max : ℤ) (ts : List Target) (v : Verdict) : Type 0 where
   pub passed : ArePassed d e est max ts v
   pub nearest : AreNearest (reaction_times d) e.speed (limits_of computed d e) ts v.nearest
+
+-- what is said of what is seen: what is triggered, and what its targets say (SUBSET-026-3 3.13.10; own)
+pub record IsVerdictOf (seen : Seen) (v : Verdict) : Type 0 where
+  pub triggers : v.triggers
+      ≡ triggers_of (limits_of computed seen.train_and_track (estimate_of seen.reading)) 0 seen.situation
+  pub indicated : v.indicated
+      ≡ is_indicated (limits_of computed seen.train_and_track (estimate_of seen.reading)) seen.situation
+  pub covered : v.covered
+      ≡ list_all (is_covered_for seen.train_and_track seen.reading.max (estimate_of seen.reading))
+      seen.situation.targets
+  pub nearest : AreNearest (reaction_times seen.train_and_track) seen.situation.speed
+      (limits_of computed seen.train_and_track (estimate_of seen.reading)) seen.situation.targets v.nearest

@@ -3,7 +3,6 @@
 //! it knows of text.
 #![tactic(auto)]
 
-mod findings;
 mod flat;
 mod nearest;
 mod shown;

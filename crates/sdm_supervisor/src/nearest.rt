@@ -1,7 +1,6 @@
 //! The nearest limits of the targets that a reading looks at, one name at a time.
 
-ghost use Rattle.std.specs.Prelude.{◌≡◌, ◌*◌};
-ghost use Rattle.std.specs.Int.{int_min};
+ghost use Rattle.std.specs.Prelude.{◌*◌};
 ghost use Rattle.sdm_limits.specs.Ranges.{IsNearZero, reach};
 ghost use Rattle.sdm_limits.specs.Sides.{AreNear};
 
@@ -19,26 +18,8 @@ pub struct Nearest {
     ghost near: { IsNearZero (2 * reach) sbi × IsNearZero (2 * reach) permitted },
 }
 
-/// The lesser of two places.
-fn lesser(a: Place, b: Place) -> Place
-    ensures { result ≡ int_min a b }
-{
-    if b.grains() < a.grains() { b } else { a }
-}
-
 impl Nearest {
-    ghost use Rattle.sdm_supervisor.specs.Verdicts.{IsNearer, nearer};
-
-    /// The lesser of two EBIs, where there are any.
-    fn lesser_ebi(a: Option<Place>, b: Option<Place>) -> Option<Place>
-        ensures { result ≡ nearer a b }
-    {
-        match (a, b) {
-            (None, _) => b,
-            (Some(x), None) => Some(x),
-            (Some(x), Some(y)) => Some(lesser(x, y)),
-        }
-    }
+    ghost use Rattle.sdm_supervisor.specs.Verdicts.{IsNearer};
 
     /// The nearest of these limits and of those of one more target.
     pub fn with(nearest: Option<Nearest>, limits: &Limits) -> Nearest
@@ -46,16 +27,26 @@ impl Nearest {
         ensures { IsNearer nearest limits.now result }
     {
         let ebi = limits.ebi.map(|ebi| ebi.at());
-        match nearest {
-            Some(nearest) => Nearest {
-                ebi: Nearest::lesser_ebi(nearest.ebi, ebi),
-                sbi: lesser(nearest.sbi, limits.sbi.at()),
-                permitted: lesser(nearest.permitted, limits.permitted.at()),
-            },
-            None => Nearest {
+        let sbi = limits.sbi.at();
+        let permitted = limits.permitted.at();
+        let Some(nearest) = nearest else {
+            return Nearest {
                 ebi,
-                sbi: limits.sbi.at(),
-                permitted: limits.permitted.at(),
+                sbi,
+                permitted,
+            };
+        };
+        Nearest {
+            ebi: match (nearest.ebi, ebi) {
+                (None, _) => ebi,
+                (Some(a), None) => Some(a),
+                (Some(a), Some(b)) => Some(if b < a { b } else { a }),
+            },
+            sbi: if sbi < nearest.sbi { sbi } else { nearest.sbi },
+            permitted: if permitted < nearest.permitted {
+                permitted
+            } else {
+                nearest.permitted
             },
         }
     }

@@ -9,7 +9,6 @@ ghost use Rattle.sdm_rules.specs.declared.targets.Target.{Target as TargetOf};
 ghost use Rattle.sdm_rules.specs.Display.{passes_limit, shown_target};
 ghost use Rattle.sdm_rules.specs.Limits.{computed, limits_of};
 ghost use Rattle.sdm_rules.specs.Ranges.{top_kmh};
-ghost use Rattle.sdm_rules.specs.Triggers.{front_for};
 ghost use Rattle.sdm_braking.specs.Asked.{IsAsked};
 ghost use Rattle.sdm_braking.specs.KeptCurves.{IsKeptTarget};
 ghost use Rattle.sdm_limits.specs.Sides.{place_where, places_of};
@@ -17,11 +16,12 @@ ghost use Rattle.sdm_supervisor.specs.Sights.{IsCounting, counts_release, limit_
 ghost use Rattle.sdm_supervisor.specs.Sights.{some_target_passed, speed_named};
 
 use crate::sight::Sight;
+use crate::verdicts::front_for;
 use sdm_braking::{AskedEstimate, KeptEnd, KeptTarget, SpeedLimits};
 use sdm_limits::Limits;
 use sdm_num::{Early, Place, Speed};
 use sdm_rules::{LimitName, Shown};
-use sdm_targets::{Target, TargetKind};
+use sdm_targets::Target;
 
 /// The target that counts so far, with its permitted limit. (own)
 #[derive(Clone, Copy, Debug, PartialEq, Eq)]
@@ -53,17 +53,6 @@ fn limit_named(limits: &Limits, name: LimitName) -> Option<Early>
 }
 
 impl<'a> Sight<'a> {
-    /// The front end that a target compares: the estimated one for the EOA, else the max safe one. (SUBSET-026-3
-    /// 3.13.10.4)
-    fn front_for(&self, kind: TargetKind) -> Place
-        ensures { result ≡ front_for self.now.situation.est self.now.situation.front kind }
-    {
-        match kind {
-            TargetKind::Eoa => self.reading.est_mm(),
-            TargetKind::Svl | TargetKind::Mrsp | TargetKind::Loa => self.reading.max_mm(),
-        }
-    }
-
     /// Whether a speed is above the ceiling with the margin of a limit. (SUBSET-026-3 3.13.10.3)
     fn is_above_ceiling(&self, name: LimitName, v: Speed) -> bool
         ensures { let ceiling = self.now.situation.ceiling_kmh in
@@ -103,7 +92,7 @@ impl<'a> Sight<'a> {
             return so_far;
         }
         match limit_named(&self.braking.limits(asked, kept), name) {
-            Some(limit) => limit.is_passed_by(self.front_for(kept.target.kind)),
+            Some(limit) => limit.is_passed_by(front_for(self.reading, kept.target.kind)),
             None => false,
         }
     }
@@ -208,7 +197,7 @@ impl<'a> Sight<'a> {
         let Counting { target, .. } = self.counted(&asked)?;
         Some(Shown {
             kind: target.kind,
-            distance: target.place.mm_past(self.front_for(target.kind)),
+            distance: target.place.mm_past(front_for(self.reading, target.kind)),
         })
     }
 }

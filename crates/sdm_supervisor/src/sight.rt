@@ -1,15 +1,15 @@
 //! What a supervisor sees at a reading before it judges: the front ends, the ceiling, the targets with their curves,
 //! and whether release speed monitoring has begun. All of it stays where only the train's speed is another.
 
-ghost use Rattle.std.specs.Prelude.{◌≡◌, ◌≤◌};
-ghost use Rattle.sdm_rules.specs.Display.{passes_limit, shown_target};
-ghost use Rattle.sdm_rules.specs.Ranges.{top_kmh};
-ghost use Rattle.sdm_supervisor.specs.Findings.{AreFindingsInRange, IsFoundIn};
+ghost use Rattle.std.specs.Prelude.{◌≡◌};
+ghost use Rattle.sdm_rules.specs.Supervision.{row_in};
 
-use crate::findings::Findings;
-use crate::verdicts::{Fronts, Verdict};
+use crate::verdicts::Verdict;
 use sdm_braking::{Braking, FallsAhead, KeptEnd};
+use sdm_limits::T_WARNING;
 use sdm_num::Reading;
+use sdm_rules::Row;
+use sdm_state::{Held, State, next};
 use std::marker::Model;
 
 /// What is seen at a reading. (SUBSET-026-3 3.13.10; own)
@@ -55,32 +55,49 @@ impl<'a> Model for Sight<'a> {
     ghost invariant = { λ s. IsSight s.braking.now s.ceiling_kmh s.release_kmh s.falls s.end.now };
 }
 
-impl<'a> Sight<'a> {
-    /// What is found, before the commands are decided.
+impl Sight<'_> {
+    /// The row of what is seen, with the commands after it, from those that are held. (SUBSET-026-3 3.13.10; own)
     #[inline(always)]
-    pub fn find(&self) -> Findings
-        ensures found { IsFoundIn self.now result }
-        ensures range { AreFindingsInRange result }
+    pub fn row(&self, held: Held) -> Row
+        ensures { result ≡ row_in self.now.train_and_track held self.now.reading self.now.situation }
     {
-        let asked = self.braking.asked(self.reading.estimate());
-        let fronts = Fronts {
-            est: self.reading.est_mm(),
-            max: self.reading.max_mm(),
+        let said = Verdict::of(self);
+        let v_est = self.reading.speed_mm_s();
+        // Release speed monitoring is decided first. (SUBSET-026-3 3.13.10.6; own)
+        let state = match (self.release_kmh, said.indicated) {
+            (Some(_), _) => State::R,
+            (None, true) => State::T,
+            (None, false) => State::C,
         };
-        Findings {
-            speed: self.reading.speed_mm_s(),
-            ceiling_kmh: self.ceiling_kmh,
-            past_end: self.past_end,
-            release_kmh: self.release_kmh,
-            in_use: self.in_use,
-            verdict: Verdict::of(
-                self.braking,
-                &asked,
-                &fronts,
-                &self.falls,
-                self.end,
-                self.release_kmh.is_some(),
-            ),
+        let held = next(
+            held,
+            said.triggers,
+            state,
+            v_est.notches() == 0,
+            self.braking.has_early_release(),
+            self.in_use,
+        );
+        let mut row = Row {
+            time: self.reading.time(),
+            state,
+            held,
+            covered: self.release_kmh.is_none() & said.covered,
+            ceiling: self.ceiling_kmh,
+            ebi: None,
+            sbi: None,
+            warning: None,
+            permitted: None,
+            indication: None,
+        };
+        if let Some(nearest) = &said.nearest {
+            // d_W = d_SBI - V_est * T_warning, d_I = d_P - V_est * T_indication (SUBSET-026-3 3.13.9.3.4, 3.13.9.3.6)
+            let reaction = v_est.distance_at(self.braking.times().indication);
+            row.ebi = nearest.ebi.map(|ebi| ebi.mm_below());
+            row.sbi = Some(nearest.sbi.mm_below());
+            row.warning = Some(nearest.sbi.less(v_est.distance_at(T_WARNING)).mm_below());
+            row.permitted = Some(nearest.permitted.mm_below());
+            row.indication = Some(nearest.permitted.less(reaction).mm_below());
         }
+        row
     }
 }

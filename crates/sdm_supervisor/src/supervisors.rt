@@ -20,16 +20,14 @@ ghost use Rattle.sdm_rules.specs.Ranges.{top_kmh};
 ghost use Rattle.sdm_decel.specs.Slopes.{train_and_track_from};
 ghost use Rattle.sdm_supervisor.specs.Supervised.{IsAuthorityCurve, IsFallCurve};
 ghost use Rattle.sdm_braking.specs.Braking.{IsRefusal};
-ghost use Rattle.sdm_supervisor.specs.Findings.{IsFoundAt, AreFindingsInRange};
 ghost use Rattle.sdm_supervisor.specs.Sights.{seen_at};
 ghost use Rattle.sdm_rules.specs.declared.display.LimitName.{LimitName};
 ghost use Rattle.sdm_laws.specs.SupervisionLaws.{IsPassedUpwards};
 
 mod within;
 
-use crate::findings::Findings;
 use crate::sight::Sight;
-use sdm_braking::{Braking, Kept, release_kmh_at};
+use sdm_braking::{Braking, Kept, KeptEnd};
 use sdm_curve::Curve;
 use sdm_national::National;
 use sdm_num::Reading;
@@ -38,7 +36,7 @@ use sdm_rules::{
     TripFault,
 };
 use sdm_speed::Profile;
-use sdm_state::{Held, Status, next};
+use sdm_state::{Held, Status};
 use sdm_targets::{Authority, AuthorityFault, check_authority, check_trip, end_of};
 use sdm_track::Track;
 use sdm_train::Train;
@@ -275,8 +273,16 @@ impl Supervisor {
             braking: &self.braking,
             reading,
             ceiling_kmh: self.profile.lowest(reading.min_mm().cell(), cell),
-            past_end: self.kept.end.is_passed_by(reading.min_mm()),
-            release_kmh: release_kmh_at(self.kept.release, front),
+            // past the EOA, where there is one, by the min safe front end (SUBSET-026-3 3.13.10; own)
+            past_end: match &*self.kept.end {
+                KeptEnd::Stop { eoa, .. } => eoa.target.place < reading.min_mm(),
+                KeptEnd::Limit { .. } => false,
+            },
+            // (SUBSET-026-3 3.13.10.5)
+            release_kmh: match self.kept.release {
+                Some(release) if release.start.is_passed_by(front) => Some(release.speed_kmh),
+                _ => None,
+            },
             in_use: self.braking.is_service_in_use(),
             falls: self.kept.falls.ahead(cell, end_of(&self.authority)),
             end: &self.kept.end,
@@ -301,15 +307,6 @@ impl Supervisor {
         ensures { result ≡ shown_target_of self.now reading.now }
     {
         self.sight(reading).shown()
-    }
-
-    /// What is found at a reading, before the commands are decided.
-    fn find(&self, reading: &Reading) -> Findings
-        ensures found { IsFoundAt self.now reading.now result }
-        ensures range { AreFindingsInRange result }
-        ensures accepted { IsOpen self.now }
-    {
-        self.sight(reading).find()
     }
 
     /// Judges a reading, and takes its time and the commands after it. TimeBack comes exactly where its time is before
@@ -338,16 +335,9 @@ impl Supervisor {
                 return Err(CycleFault::TimeBack { last, time });
             }
         }
-        let found = self.find(reading);
-        self.held = next(
-            self.held,
-            found.triggers(),
-            found.state(),
-            found.speed.notches() == 0,
-            self.braking.has_early_release(),
-            found.in_use,
-        );
+        let row = self.sight(reading).row(self.held);
+        self.held = row.held;
         self.last_time = Some(time);
-        Ok(found.row(time, self.held, self.braking.times()))
+        Ok(row)
     }
 }

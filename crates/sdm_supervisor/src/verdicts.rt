@@ -1,40 +1,25 @@
-//! What the targets of a reading say together. Each target is looked at once, and what it says is added to what the
-//! others said.
+//! What is said of a reading: by its targets, each of which is looked at once and adds to what the others said, and
+//! then by the ceiling, the end of the authority and the release speed.
 
-ghost use Rattle.std.specs.Prelude.{◌≡◌, ◌++◌, ◌∷◌, ◌&&◌, All, List, [], map, nat_lt};
-ghost use Rattle.sdm_rules.specs.Data.{TrainAndTrack};
+ghost use Rattle.std.specs.Prelude.{◌≡◌, ◌++◌, ◌∷◌, List, []};
 ghost use Rattle.sdm_rules.specs.declared.targets.Target.{Target};
-ghost use Rattle.sdm_rules.specs.Limits.{computed, limits_of};
-ghost use Rattle.sdm_rules.specs.Supervision.{is_covered_for};
-ghost use Rattle.sdm_rules.specs.Triggers.{front_for, is_past};
-ghost use Rattle.sdm_limits.specs.Sides.{place_of, place_where};
-ghost use Rattle.sdm_targets.specs.Lists.{IsTarget};
+ghost use Rattle.sdm_rules.specs.Triggers.{front_for};
 ghost use Rattle.sdm_braking.specs.Asked.{IsAsked};
-ghost use Rattle.sdm_braking.specs.KeptCurves.{AreKept, AreSpeedsOf, IsKeptTarget, targets_in};
-ghost use Rattle.sdm_braking.specs.KeptFalls.{IsKeptFall, target_of};
-ghost use Rattle.sdm_supervisor.specs.Verdicts.{IsVerdictOf};
+ghost use Rattle.sdm_braking.specs.KeptCurves.{IsKeptTarget};
+ghost use Rattle.sdm_supervisor.specs.Verdicts.{IsSaid, IsVerdictOf};
 
 use crate::nearest::Nearest;
-use sdm_braking::{AskedEstimate, Braking, FallsAhead, KeptEnd, KeptTarget};
-use sdm_num::{Early, Place, Speed};
+use crate::sight::Sight;
+use sdm_braking::{AskedEstimate, Braking, KeptEnd, KeptTarget, SpeedLimits};
+use sdm_num::{Place, Reading, Speed};
+use sdm_rules::Triggers;
 use sdm_targets::TargetKind;
 
-/// The front ends that targets compare. (SUBSET-026-3 3.13.10.4)
-#[derive(Clone, Copy, Debug, PartialEq, Eq)]
-pub struct Fronts {
-    pub est: Place,
-    pub max: Place,
-}
-
-/// What targets say at a reading: whether the train is above the speed of one of them and past its permitted, warning,
-/// service brake intervention, emergency brake intervention or indication limit; whether each of them is covered; and
-/// the nearest limits. (SUBSET-026-3 3.13.10; own)
+/// What is said of a reading: what is triggered, whether the train is above the speed of a target and past its
+/// indication limit, whether each target is covered, and the nearest limits. (SUBSET-026-3 3.13.10; own)
 #[derive(Clone, Copy, Debug, PartialEq, Eq)]
 pub struct Verdict {
-    pub over: bool,
-    pub warn: bool,
-    pub serv: bool,
-    pub emer: bool,
+    pub triggers: Triggers,
     pub indicated: bool,
     pub covered: bool,
     pub nearest: Option<Nearest>,
@@ -42,10 +27,12 @@ pub struct Verdict {
 
 /// What no target says: nothing is passed. (own)
 const NOTHING_SAID: Verdict = Verdict {
-    over: false,
-    warn: false,
-    serv: false,
-    emer: false,
+    triggers: Triggers {
+        over: false,
+        warn: false,
+        serv: false,
+        emer: false,
+    },
     indicated: false,
     covered: true,
     nearest: None,
@@ -53,105 +40,98 @@ const NOTHING_SAID: Verdict = Verdict {
 
 /// The front end that a target compares: the estimated one for the EOA, else the max safe one. (SUBSET-026-3
 /// 3.13.10.4)
-fn front_for(fronts: &Fronts, kind: TargetKind) -> Place
-    ensures { result ≡ front_for fronts.now.est fronts.now.max kind }
+pub fn front_for(reading: &Reading, kind: TargetKind) -> Place
+    ensures { result ≡ front_for reading.now.est reading.now.max kind }
 {
     match kind {
-        TargetKind::Eoa => fronts.est,
-        TargetKind::Svl | TargetKind::Mrsp | TargetKind::Loa => fronts.max,
-    }
-}
-
-/// Whether a limit of a target is passed: the estimated speed is above the target's with a margin, and the front end
-/// that the target compares is past the limit. (SUBSET-026-3 3.13.10.4; own)
-fn passes(v_est: Speed, front: Place, above: Speed, limit: Early) -> bool
-    ensures { result ≡ (nat_lt above v_est && is_past 0 front (place_of limit)) }
-{
-    above < v_est && limit.is_passed_by(front)
-}
-
-/// Whether a target with this EBI is covered: the max safe front end is at or before the EBI, if there is one, or the
-/// target is met by speed. (own)
-fn is_covered(asked: &AskedEstimate, max: Place, kept: &KeptTarget, ebi: Option<Early>) -> bool
-    requires target { IsTarget kept.now.target }
-    requires speeds { AreSpeedsOf kept.now.target kept.now.speeds }
-    ensures { (d : TrainAndTrack) → IsAsked d asked.now →
-        place_where ebi ≡ (limits_of computed d asked.now.estimate kept.now.target).ebi →
-        result ≡ is_covered_for d max asked.now.estimate kept.now.target }
-{
-    match ebi {
-        Some(ebi) => !ebi.is_passed_by(max) || asked.is_met_by_speed(kept),
-        None => true,
+        TargetKind::Eoa => reading.est_mm(),
+        TargetKind::Svl | TargetKind::Mrsp | TargetKind::Loa => reading.max_mm(),
     }
 }
 
 impl Verdict {
-    /// Adds what a target says. (SUBSET-026-3 3.13.10; own)
-    fn add(&mut self, braking: &Braking, asked: &AskedEstimate, fronts: &Fronts, kept: &KeptTarget)
+    /// Adds what a target says: a limit is passed where the estimated speed is above the target's with its margin, and
+    /// the front end that the target compares is past the limit. (SUBSET-026-3 3.13.10.4; own)
+    fn add(
+        &mut self,
+        braking: &Braking,
+        asked: &AskedEstimate,
+        reading: &Reading,
+        kept: &KeptTarget,
+    )
         requires asked { IsAsked braking.now asked.now }
         requires kept { IsKeptTarget braking.now kept.now }
         ensures { (ts : List Target) →
-            IsVerdictOf braking.now asked.now.estimate fronts.now.est fronts.now.max ts self.old →
-            IsVerdictOf braking.now asked.now.estimate fronts.now.est fronts.now.max
+            IsSaid braking.now asked.now.estimate reading.now.est reading.now.max ts self.old →
+            IsSaid braking.now asked.now.estimate reading.now.est reading.now.max
             (ts ++ kept.now.target ∷ []) self.new }
     {
         let v_est = asked.estimate.speed();
         let speeds = &kept.speeds;
+        let max = reading.max_mm();
         // A target above the train's speed is not passed, and none of its limits counts. Most such targets are met by
-        // speed.
+        // speed; another is covered where the max safe front end is at or before its EBI.
         if v_est < speeds.permitted {
-            self.covered = self.covered
-                && (asked.is_met_by_speed(kept)
-                    || is_covered(asked, fronts.max, kept, braking.ebi(asked, kept)));
+            if self.covered && !asked.is_met_by_speed(kept) {
+                self.covered = match braking.ebi(asked, kept) {
+                    Some(ebi) => !ebi.is_passed_by(max),
+                    None => true,
+                };
+            }
             return;
         }
         let limits = braking.limits(asked, kept);
         self.nearest = Some(Nearest::with(self.nearest, &limits));
-        let front = front_for(fronts, kept.target.kind);
+        let front = front_for(reading, kept.target.kind);
         // No limit lies before the indication limit: up to there none is passed.
         if !limits.indication.is_passed_by(front) {
             return;
         }
-        self.over |= passes(v_est, front, speeds.permitted, limits.permitted);
-        self.warn |= passes(v_est, front, speeds.warning, limits.warning);
-        self.serv |= passes(v_est, front, speeds.sbi, limits.sbi);
-        self.emer |= match limits.ebi {
-            Some(ebi) => passes(v_est, front, speeds.ebi, ebi),
-            None => false,
-        };
-        self.indicated |= passes(v_est, front, speeds.permitted, limits.indication);
-        self.covered &= is_covered(asked, fronts.max, kept, limits.ebi);
+        self.triggers.over |= (speeds.permitted < v_est) & limits.permitted.is_passed_by(front);
+        self.triggers.warn |= (speeds.warning < v_est) & limits.warning.is_passed_by(front);
+        self.triggers.serv |= (speeds.sbi < v_est) & limits.sbi.is_passed_by(front);
+        self.indicated |= speeds.permitted < v_est;
+        if let Some(ebi) = limits.ebi {
+            self.triggers.emer |= (speeds.ebi < v_est) & ebi.is_passed_by(front);
+            self.covered &= !ebi.is_passed_by(max) || asked.is_met_by_speed(kept);
+        }
     }
 
-    /// What falls and the targets at the end of the authority say together at a reading; in release speed monitoring
-    /// the EOA and the SvL are none. (SUBSET-026-3 3.13.10; own)
-    pub fn of(
-        braking: &Braking,
-        asked: &AskedEstimate,
-        fronts: &Fronts,
-        falls: &FallsAhead<'_>,
-        end: &KeptEnd,
-        in_release_monitoring: bool,
-    ) -> Verdict
-        requires asked { IsAsked braking.now asked.now }
-        requires falls { All (IsKeptFall braking.now) falls.now }
-        requires end { AreKept braking.now end.now }
-        ensures { IsVerdictOf braking.now asked.now.estimate fronts.now.est fronts.now.max
-            (map target_of falls.now ++ targets_in end.now in_release_monitoring) result }
+    /// What is said of a sight. In release speed monitoring the EOA and the SvL are no targets. (SUBSET-026-3 3.13.10;
+    /// own)
+    pub fn of(sight: &Sight<'_>) -> Verdict
+        ensures { IsVerdictOf sight.now result }
     {
+        let asked = sight.braking.asked(sight.reading.estimate());
         let mut said = NOTHING_SAID;
-        for i in 0..falls.len() {
-            said.add(braking, asked, fronts, falls.target(i));
+        for i in 0..sight.falls.len() {
+            said.add(sight.braking, &asked, sight.reading, sight.falls.target(i));
         }
-        match end {
+        match sight.end {
             KeptEnd::Stop { eoa, svl } => {
-                if !in_release_monitoring {
-                    said.add(braking, asked, fronts, eoa);
-                    said.add(braking, asked, fronts, svl);
+                if sight.release_kmh.is_none() {
+                    said.add(sight.braking, &asked, sight.reading, eoa);
+                    said.add(sight.braking, &asked, sight.reading, svl);
                 }
             }
-            KeptEnd::Limit { loa } => said.add(braking, asked, fronts, loa),
+            KeptEnd::Limit { loa } => said.add(sight.braking, &asked, sight.reading, loa),
         }
+        let v_est = sight.reading.speed_mm_s();
+        // No margin makes the ceiling lower. (SUBSET-026-3 3.13.10.3)
+        if Speed::of_kmh(sight.ceiling_kmh) < v_est {
+            let ceiling = SpeedLimits::of_kmh(sight.ceiling_kmh);
+            said.triggers.over = true;
+            said.triggers.warn |= ceiling.warning < v_est;
+            said.triggers.serv |= ceiling.sbi < v_est;
+            said.triggers.emer |= ceiling.ebi < v_est;
+        }
+        // (SUBSET-026-3 3.13.10.5)
+        if let Some(kmh) = sight.release_kmh {
+            let is_above = Speed::of_kmh(kmh) < v_est;
+            said.triggers.over |= is_above;
+            said.triggers.emer |= is_above;
+        }
+        said.triggers.emer |= sight.past_end | (said.triggers.serv & !sight.in_use);
         said
     }
 }

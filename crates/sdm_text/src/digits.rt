@@ -21,7 +21,8 @@ impl RowBuf {
     #[inline(always)]
     pub fn number(&mut self, n: i64)
         requires { length self.old + length (signed_decimal n) ≤ ROW_BYTES }
-        ensures { self.new ≡ self.old ++ signed_decimal n }
+        ensures text { self.new ≡ self.old ++ signed_decimal n }
+        ensures short { length self.new ≤ length self.old + 20 }
     {
         if n < 0 {
             self.byte(b'-');

@@ -14,7 +14,7 @@ ghost use Rattle.sdm_braking.specs.KeptCurves.{IsKeptAt, IsKeptTarget};
 ghost use Rattle.sdm_supervisor.specs.Supervised.{IsClaimOf};
 
 use super::Supervisor;
-use sdm_braking::{Braking, KeptEnd, KeptTarget, release_kmh_at};
+use sdm_braking::{Braking, KeptEnd, KeptTarget};
 use sdm_curve::{BandMap, Curve};
 use sdm_num::{Place, Reading, Speed};
 use sdm_rules::Times;
@@ -64,7 +64,7 @@ impl Supervisor {
     pub fn under(&self, reading: &Reading) -> Speed
         ensures { result ≡ v_delta0 self.now.train_and_track reading.now.under }
     {
-        self.braking.v_delta0(reading.under_mm_s())
+        self.braking.asked(reading.estimate()).v_delta0
     }
 
     /// Whether a reading is within the SvL: the authority is a stop, the train isn't in release speed monitoring, and
@@ -77,8 +77,10 @@ impl Supervisor {
         let KeptEnd::Stop { svl, .. } = &*self.kept.end else {
             return false;
         };
-        if release_kmh_at(self.kept.release, reading.max_mm()).is_some() {
-            return false;
+        if let Some(release) = self.kept.release {
+            if release.start.is_passed_by(reading.max_mm()) {
+                return false;
+            }
         }
         // the length is told with it that the data are accepted
         prove!(1 <= self.braking.track_cm());

@@ -4,6 +4,6 @@ use Rattle.sdm_rules.specs.Curves.{exact}
 use Rattle.sdm_limits.proofs.limits.ebd_limits.Goals as goal
 
 pub returns-clause-stands : goal.returns-clause-stands
-returns-clause-stands c = λ g guided. c.ebd_limits_at.ensures.stands g
+returns-clause-stands c = λ g guided. c.limits_at.ensures.stands g
     (exact (meaning_of c.args.safe.now) c.args.ebd.now.place c.args.ebd.now.speed c.args.reaction.now.v_bec) guided
     c.place-place.ensures.stands

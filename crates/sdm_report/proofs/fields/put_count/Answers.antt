@@ -18,4 +18,4 @@ returns-clause-short c =
     ≤ 10 = length-decimal-le 10 c.args.number (omega arith) (omega arith) (omega arith) in
     let same : to_z w64 (of_z w64 c.from.result)
     ≡ pos c.args.number = to_z-of_z w64 c.from.result (search (rules, ints)) ∙ c.from.ensures in
-    rw (c.number.ensures, same, length-append) (omega arith)
+    rw (c.number.ensures.text, same, length-append) (omega arith)

@@ -1,17 +1,25 @@
 -- Each comma and the field after it lengthen the fields that are put, and a line feed ends them.
-use Rattle.std.proofs.Common.{◌≡◌, [], ◌∷◌, ◌++◌, ◌∙◌, decimal, refl, ap, arith, List, ℕ}
+use Rattle.std.proofs.Common.{◌≡◌, [], ◌∷◌, ◌++◌, ◌∙◌, decimal, refl, ap, arith, rules, List, ℕ}
 use Rattle.std.proofs.lemmas.Grind.{common_steps}
+use Rattle.std.proofs.lemmas.Int.{ints, to_z-of_z}
 use Rattle.sdm_rules.specs.Text.{row_text, flag_text, state_text, status_text, place_text}
-use Rattle.sdm_report.proofs.Pieces.{IsJoined, flag_digit, more_fields}
+use Rattle.sdm_report.proofs.Pieces.{IsJoined, flag_digit, more_fields, number_is_short}
 use Rattle.sdm_report.proofs.row_lines.row_bytes.Goals as goal
 use Rattle.sdm_report.proofs.row_lines.row_bytes.Goals.{in-C, in-T, in-R, in-N, in-I, in-O, in-W, in-X}
+
+pub number-requires : goal.number-requires
+number-requires c = grind (arith, common_steps, number_is_short c.from.result (search (rules, ints)))
+
+pub number-requires-2 : goal.number-requires-2
+number-requires-2 c = grind (arith, common_steps, number_is_short c.from-6.result (search (rules, ints)))
 
 pub returns : goal.returns
 unfolding row_text
 returns c =
     let r = c.args.row.now in
-    let time : IsJoined c.put_count.new.into
-    (decimal r.time ∷ []) = record { is = rw (c.put_count.ensures.text, c.requires) refl } in
+    let time_put : c.number.new.self ≡ decimal r.time = grind (arith, to_z-of_z, common_steps) in
+    let time : IsJoined c.number.new.self
+    (decimal r.time ∷ []) = record { is = time_put } in
     let state_put : c.byte-2.new.self ≡ c.byte.new.self ++ state_text r.state = elim c.match-row.branch [
       | in-C w ↦ grind (arith, common_steps)
       | in-T w ↦ grind (arith, common_steps)
@@ -25,15 +33,15 @@ returns c =
       | in-X w ↦ grind (arith, common_steps)
     ] in
     let tco_put : c.byte-6.new.self ≡ c.byte-5.new.self ++ flag_text r.held.tco =
-    c.byte-6.ensures ∙ ap (λ (t : List ℕ). c.byte-5.new.self ++ t) (flag_digit _ _ c.from.ensures) in
+    c.byte-6.ensures ∙ ap (λ (t : List ℕ). c.byte-5.new.self ++ t) (flag_digit _ _ c.from-2.ensures) in
     let sb_put : c.byte-8.new.self ≡ c.byte-7.new.self ++ flag_text r.held.sb =
-    c.byte-8.ensures ∙ ap (λ (t : List ℕ). c.byte-7.new.self ++ t) (flag_digit _ _ c.from-2.ensures) in
+    c.byte-8.ensures ∙ ap (λ (t : List ℕ). c.byte-7.new.self ++ t) (flag_digit _ _ c.from-3.ensures) in
     let eb_put : c.byte-10.new.self ≡ c.byte-9.new.self ++ flag_text r.held.eb =
-    c.byte-10.ensures ∙ ap (λ (t : List ℕ). c.byte-9.new.self ++ t) (flag_digit _ _ c.from-3.ensures) in
+    c.byte-10.ensures ∙ ap (λ (t : List ℕ). c.byte-9.new.self ++ t) (flag_digit _ _ c.from-4.ensures) in
     let covered_put : c.byte-12.new.self ≡ c.byte-11.new.self ++ flag_text r.covered =
-    c.byte-12.ensures ∙ ap (λ (t : List ℕ). c.byte-11.new.self ++ t) (flag_digit _ _ c.from-4.ensures) in
-    let ceiling_put : c.put_count-2.new.into ≡ c.byte-13.new.self
-    ++ decimal r.ceiling = rw (← c.from-5.ensures) c.put_count-2.ensures.text in
+    c.byte-12.ensures ∙ ap (λ (t : List ℕ). c.byte-11.new.self ++ t) (flag_digit _ _ c.from-5.ensures) in
+    let ceiling_put : c.number-2.new.self ≡ c.byte-13.new.self
+    ++ decimal r.ceiling = grind (arith, to_z-of_z, common_steps) in
     let state = more_fields _ _ _ _ (state_text r.state) _ [] time c.byte.ensures state_put in
     let status = more_fields _ _ _ _ (status_text r.held.status) _ [] state c.byte-3.ensures status_put in
     let tco = more_fields _ _ _ _ (flag_text r.held.tco) _ [] status c.byte-5.ensures tco_put in

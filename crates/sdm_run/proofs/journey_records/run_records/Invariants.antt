@@ -1,20 +1,18 @@
 -- So far out took what is told of the turns before, and the records that are left give the rest of the output.
-use Rattle.std.proofs.Common.{◌≡◌, ◌≤◌, false, length}
+use Rattle.std.proofs.Common.{◌≡◌, ◌+◌, ◌≤◌, false, length}
 use Rattle.sdm_events.specs.Journey.{records_of}
-use Rattle.sdm_run.specs.Journeys.{output_of_records}
-use Rattle.sdm_run.specs.RunParts.{tells}
+use Rattle.sdm_run.specs.RunParts.{output_of_records}
 use Rattle.sdm_run.proofs.OutputLeft.{IsLeftOf}
 use Rattle.sdm_run.proofs.journey_records.run_records.Given as goal
 
 abbrev pub invariant-records : goal.invariant-records
 invariant-records g l = record {
   left : IsLeftOf (g.O.Sink.taken l.fn.out) (g.O.Sink.taken l.out)
-      (output_of_records (tells l.fn.teller) 1 l.fn.supervisor (records_of l.bytes))
-      (output_of_records (tells l.fn.teller) l.number l.supervisor l.records.left);
-  from_1 : 1 ≤ l.number;
-  counted : l.number ≤ 100_001;
+      (output_of_records l.fn.teller 1 l.fn.supervisor (records_of l.bytes))
+      (output_of_records l.teller (l.number + 1) l.supervisor l.records.left);
+  counted : l.number ≤ 100_000;
   later : g.O.Sink.faults l.fn.out ≤ g.O.Sink.faults l.out;
-  due : l.is_flush_due ≡ false → l.out ≡ l.fn.out;
+  due : l.is_flush_due ≡ false → (l.fn.is_flush_due ≡ false) × (l.out ≡ l.fn.out);
 }
 
 -- each turn takes a record

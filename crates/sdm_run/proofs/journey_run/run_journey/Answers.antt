@@ -1,32 +1,57 @@
--- The parts of the input answer for the whole of it.
-use Rattle.std.proofs.Common.{◌≡◌, ◌-◌, sym, take, drop, length, arith}
+-- The parts of the input answer for the whole of it: first what stands before the records is written, and then what is
+-- told of them.
+use Rattle.std.proofs.Common.{◌≡◌, ◌-◌, sym, take, drop, length, refl, arith}
 use Rattle.std.proofs.lemmas.List.{take_all, length-drop}
-use Rattle.sdm_run.proofs.RunAnswers.{recorded, refused, refused_not_before, records_possible}
+use Rattle.sdm_events.specs.Journey.{records_of}
+use Rattle.sdm_run.specs.RunParts.{head_text, output_of_records}
+use Rattle.sdm_run.proofs.CertifyLines.{head_whole}
+use Rattle.sdm_run.proofs.OutputLeft.{all_left, cut_off, text_and, wrote, wrote_part}
+use Rattle.sdm_run.proofs.RunAnswers.{recorded, records_possible, refused, undivided}
 use Rattle.sdm_run.proofs.RunTexts.{not_first, records_not_before}
 use Rattle.sdm_run.proofs.journey_run.run_journey.Goals as goal
 
-pub returns-in-Ok-clause-answer : goal.returns-in-Ok-clause-answer
-returns-in-Ok-clause-answer g c =
-    let bytes = c.args.bytes.now in
-    let start = c.in-Some.records_start in
-    let rest : take (length bytes - start) (drop start bytes)
-    ≡ drop start bytes = take_all _ _ (omega (arith, length-drop start bytes)) in
-    recorded _ bytes c.in-Some.data_end start c.in-Ok.supervisor _ _ _ c.requires.short
-    (sym c.in-Some.ensures.value) c.in-Ok.ensures.opened (rw rest at c.run_records.ensures.answer)
-
-pub returns-in-Ok-clause-not_before : goal.returns-in-Ok-clause-not_before
-returns-in-Ok-clause-not_before g c = records_not_before c.run_records.result.outcome c.run_records.ensures.possible
-
-pub returns-in-Ok-clause-possible : goal.returns-in-Ok-clause-possible
-returns-in-Ok-clause-possible g c = records_possible c.run_records.result.outcome c.run_records.ensures.possible
-
-pub returns-in-Ok-clause-first : goal.returns-in-Ok-clause-first
-returns-in-Ok-clause-first g c first =
-    absurd (not_first c.run_records.result.outcome c.run_records.ensures.possible first)
+pub returns-in_default-clause-answer : goal.returns-in_default-clause-answer
+returns-in_default-clause-answer g c = rw c.new.ensures (undivided _ c.args.bytes.now c.requires.short _
+    (sym c.in_default.ensures.value))
 
 pub returns-in-Err-clause-answer : goal.returns-in-Err-clause-answer
-returns-in-Err-clause-answer g c = refused _ c.args.bytes.now c.in-Some.data_end c.in-Some.records_start _
-    c.in-Err.outcome c.requires.short (sym c.in-Some.ensures.value) c.in-Err.ensures.refused
+returns-in-Err-clause-answer g c = rw c.new-in-Err.ensures (refused _ c.args.bytes.now c.requires.short _
+    c.in-Some.data_end c.in-Some.records_start (sym c.in-Some.ensures.value) c.in-Err.outcome c.in-Err.ensures.refused)
 
-pub returns-in-Err-clause-not_before : goal.returns-in-Err-clause-not_before
-returns-in-Err-clause-not_before g c = refused_not_before _ c.in-Err.outcome c.in-Err.ensures.refused
+pub returns-in-Err-begin-clause-answer : goal.returns-in-Err-begin-clause-answer
+returns-in-Err-begin-clause-answer g c =
+    let bytes = c.args.bytes.now in
+    let s = c.in-Ok.supervisor in
+    let text = head_text c.args.teller s.train_and_track in
+    let next = output_of_records c.args.teller 1 s (records_of (drop c.in-Some.records_start bytes)) in
+    let whole = text_and text next in
+    rw c.new-in-Err-begin.ensures (recorded _ bytes c.requires.short _ c.in-Some.data_end c.in-Some.records_start
+    (sym c.in-Some.ensures.value) s _ _ c.in-Ok.ensures.opened
+    (wrote_part _ _ _ whole whole (all_left _ _) text next refl c.in-Err-begin.ensures.err))
+
+pub returns-clause-answer : goal.returns-clause-answer
+returns-clause-answer g c =
+    let bytes = c.args.bytes.now in
+    let start = c.in-Some.records_start in
+    let s = c.in-Ok.supervisor in
+    let rest : take (length bytes - start) (drop start bytes)
+    ≡ drop start bytes = take_all _ _ (omega (arith, length-drop start bytes)) in
+    let text = head_text c.args.teller s.train_and_track in
+    let next = output_of_records c.args.teller 1 s (records_of (drop start bytes)) in
+    let whole = text_and text next in
+    let so_far = wrote _ _ _ whole whole (all_left _ _) text next refl (head_whole c.args.teller s.train_and_track)
+    c.in-Ok-begin.ensures.ok in
+    recorded _ bytes c.requires.short _ c.in-Some.data_end start (sym c.in-Some.ensures.value) s _ _
+    c.in-Ok.ensures.opened (cut_off _ _ _ whole next so_far c.run_records.result.outcome
+    (records_not_before c.run_records.result.outcome c.run_records.ensures.possible)
+    (rw rest at c.run_records.ensures.answer))
+
+pub returns-clause-not_before : goal.returns-clause-not_before
+returns-clause-not_before g c = records_not_before c.run_records.result.outcome c.run_records.ensures.possible
+
+pub returns-clause-possible : goal.returns-clause-possible
+returns-clause-possible g c = records_possible c.run_records.result.outcome c.run_records.ensures.possible
+
+pub returns-clause-first : goal.returns-clause-first
+returns-clause-first g c first =
+    absurd (not_first c.run_records.result.outcome c.run_records.ensures.possible first)

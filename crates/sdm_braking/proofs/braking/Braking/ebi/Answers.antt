@@ -10,6 +10,11 @@ use Rattle.sdm_braking.specs.KeptCurves.{brake_kind}
 use Rattle.sdm_braking.proofs.EbdLaws.{ebd_of, ebi_of}
 use Rattle.sdm_braking.proofs.braking.Braking.ebi.Goals as goal
 
+pub place_asked-place-requires-clause-made : goal.place_asked-place-requires-clause-made
+place_asked-place-requires-clause-made c =
+    let safe : brake_kind c.args.kept.now.target.kind ≡ Safe = search rules in
+    rw c.safe-safe.ensures.slopes (ebd_of c.args.self.now c.args.kept.now safe c.requires.kept).made
+
 pub returns-in-Mrsp : goal.returns-in-Mrsp
 returns-in-Mrsp c =
     let d = c.args.self.now in

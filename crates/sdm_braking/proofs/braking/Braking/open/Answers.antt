@@ -21,6 +21,7 @@ invariant_of-result c = (
     safe_stretches = c.in_ok-safe.ensures.segments;
     expected_is = c.in_ok-expected.ensures.slopes;
     normal_is = c.in_ok-normal.ensures.slopes;
+    use_is = c.is_service_in_use-service_in_use.ensures;
     times_are = c.times_of-times.ensures.value;
     in_range = c.times_of-times.ensures.range;
   },

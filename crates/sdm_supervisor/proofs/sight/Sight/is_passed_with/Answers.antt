@@ -1,9 +1,9 @@
 -- Above its speed with the margin a target is passed where the front end is past the limit.
-use Rattle.std.proofs.Common.{◌≡◌, ◌<◌, ℕ, Some, ap, sym, subst, ◌∙◌, arith}
+use Rattle.std.proofs.Common.{◌≡◌, ◌<◌, ℕ, Some, ap, refl, sym, subst, ◌∙◌, arith}
 use Rattle.std.proofs.lemmas.Bool.Decides.{nat_tests}
 use Rattle.sdm_rules.specs.Limits.{computed, limits_of}
 use Rattle.sdm_rules.specs.Targets.{with_margin}
-use Rattle.sdm_rules.specs.Triggers.{is_past}
+use Rattle.sdm_rules.specs.Triggers.{front_for}
 use Rattle.sdm_limits.specs.Sides.{place_of, place_where}
 use Rattle.sdm_supervisor.specs.Sights.{limit_named, margin_of, passes_target}
 use Rattle.sdm_supervisor.proofs.PassedLaws.{past_of}
@@ -25,7 +25,7 @@ returns-in-Some c ts is =
     let limit : limit_named name limits ≡ Some (place_of c.in-Some.limit) =
     (λ k. limit_named name (sym places k)) ∙ sym c.limit_named.ensures ∙ ap place_where c.in-Some.is in
     let here : c.is_passed_by.result ≡ passes_target name e.speed now.est now.front t limits =
-    past_of c.is_passed_by.result _ _ c.is_passed_by.ensures
-    ∙ ap (λ front. is_past 0 front (place_of c.in-Some.limit)) c.front_for.ensures
+    past_of c.is_passed_by.ensures (c.front_for.ensures
+    ∙ (λ k. front_for (c.self.view_is k).situation.est (c.self.view_is k).situation.front t.kind)) refl
     ∙ sym (above e.speed now.est now.front t name limits (place_of c.in-Some.limit) limit faster) in
     passed_now _ ts t c.args.so_far _ c.if-so_far.false is here

@@ -8,7 +8,7 @@ use Rattle.sdm_num.specs.Readings.{Estimate, OdometerReading, estimate_of}
 use Rattle.sdm_rules.specs.Data.{TrainAndTrack}
 use Rattle.sdm_rules.specs.Display.{distance_to, shown_target}
 use Rattle.sdm_rules.specs.Limits.{computed, limits_of}
-use Rattle.sdm_rules.specs.Triggers.{Situation}
+use Rattle.sdm_rules.specs.Triggers.{Situation, front_for}
 use Rattle.sdm_supervisor.specs.declared.shown.Counting.{Counting}
 use Rattle.sdm_supervisor.specs.Sights.{IsCounting}
 use Rattle.sdm_supervisor.proofs.ShownLaws.{shown_is}
@@ -40,7 +40,9 @@ returns c =
     let counting = c.in_ok-target.field-0 in
     let distance : to_z w64 (of_z w64 c.mm_past.result) ≡ distance_to seen.situation counting.target =
     to_z-of_z w64 c.mm_past.result (search (rules, ints)) ∙ c.mm_past.ensures
-    ∙ (λ k. int_max (mm_below (counting.target.place -ℤ c.front_for.ensures k)) (pos 0)) in
+    ∙ (λ k. int_max (mm_below (counting.target.place -ℤ (c.front_for.ensures
+    ∙ ap (λ (x : Situation). front_for x.est x.front counting.target.kind) (λ j. (c.self.view_is j).situation)) k))
+    (pos 0)) in
     (λ k. Some (record { kind = counting.target.kind; distance = distance k }))
     ∙ sym (shown_of seen.train_and_track seen.reading seen.situation c.asked-asked.result.estimate c.counted.result
     (c.asked-asked.ensures.estimate ∙ c.estimate.ensures ∙ (λ k. estimate_of (c.self.view_is k).reading))

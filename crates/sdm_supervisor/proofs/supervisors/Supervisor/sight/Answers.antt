@@ -1,5 +1,5 @@
 -- Each part of what is seen is that of the definitions, by the clause of the call that found it.
-use Rattle.std.proofs.Common.{◌≡◌, min, map, ◌++◌, ◌∙◌, ap, refl, subst, is_some, to_z, of_z, w32}
+use Rattle.std.proofs.Common.{◌≡◌, min, map, ◌++◌, ◌∙◌, ap, refl, sym, subst, is_some, Option, true, false, to_z, of_z, w32}
 use Rattle.std.proofs.Common.{rules}
 use Rattle.std.proofs.lemmas.Int.{ints, to_z-of_z}
 use Rattle.std.specs.Int.{int_gap}
@@ -7,15 +7,19 @@ use Rattle.sdm_rules.specs.Cells.{cell_of, lowest}
 use Rattle.sdm_rules.specs.Supervision.{Supervision, release_of, is_past_end}
 use Rattle.sdm_rules.specs.Targets.{targets_of}
 use Rattle.sdm_speed.specs.Profiles.{mrsp_of}
+use Rattle.sdm_braking.specs.declared.releases.Release.{Release}
 use Rattle.sdm_braking.specs.KeptCurves.{IsKeptEnd, targets_in}
 use Rattle.sdm_braking.specs.KeptFalls.{target_of}
+use Rattle.sdm_braking.specs.Releases.{release_speed_at}
 use Rattle.sdm_supervisor.specs.Sights.{Seen, seen_at}
 use Rattle.sdm_laws.proofs.Rows.Passing.{passing}
 use Rattle.sdm_supervisor.proofs.CycleLaws.{is_open}
 use Rattle.sdm_braking.proofs.ReleaseLaws.{release_speed_at_is, release_speed_in_range}
 use Rattle.sdm_supervisor.proofs.FindLaws.{seen_is}
-use Rattle.sdm_braking.proofs.WalkLaws.{ends_kept, targets_are}
+use Rattle.sdm_supervisor.proofs.WithinLaws.{released_at}
+use Rattle.sdm_braking.proofs.WalkLaws.{ends_kept, is_past_eoa, past_eoa, targets_are}
 use Rattle.sdm_supervisor.proofs.supervisors.Supervisor.sight.Goals as goal
+use Rattle.sdm_supervisor.proofs.supervisors.Supervisor.sight.Goals.{in-Some, in_default-2, in_default, in-Stop, in-Limit}
 
 module _ (c : goal.After-deref-2) where
   -- the cell of the min safe front end
@@ -33,11 +37,23 @@ module _ (c : goal.After-deref-2) where
   ceiling =
       c.lowest.ensures.value ∙ (λ k. lowest min (mrsp_of c.self.inside.profile) (back k) (int_gap (back k) (front k)))
 
-  -- the release speed is that of the definitions
-  in_release_monitoring : c.release_kmh_at.result ≡
+  -- the release speed is that which is kept, past the start of its monitoring
+  released : c.match-self.result ≡ release_speed_at c.self.inside.kept.release c.max_mm-front.result
+  released =
+      let kept = c.self.inside.kept.release in
+      let front = c.max_mm-front.result in
+      elim c.match-self.branch [
+        | in-Some w ↦ w.result-is ∙ released_at kept w.in-Some.release front true w.in-Some.is w.if-is_passed_by.ensures
+        | in_default-2 w ↦
+            w.result-is ∙ released_at kept w.in-Some.release front false w.in-Some.is w.if-is_passed_by.ensures
+        | in_default w ↦ w.result-is ∙ sym (ap (λ (x : Option Release). release_speed_at x front) w.in_default.is)
+      ]
+
+  -- so it is that of the definitions
+  in_release_monitoring : c.match-self.result ≡
       release_of c.self.inside.braking c.self.inside.authority c.args.reading.now.max
   in_release_monitoring =
-      c.release_kmh_at.ensures ∙ release_speed_at_is c.self.inside.braking c.self.inside.authority
+      released ∙ release_speed_at_is c.self.inside.braking c.self.inside.authority
       c.self.inside.kept.release c.max_mm-front.result c.self.invariant.kept.release
       ∙ ap (release_of c.self.inside.braking c.self.inside.authority) c.max_mm-front.ensures
 
@@ -45,21 +61,29 @@ module _ (c : goal.After-deref-2) where
   after : to_z w32 (of_z w32 c.cell-cell.result) ≡ cell_of c.max_mm-front.result
   after = to_z-of_z w32 c.cell-cell.result (search (rules, ints)) ∙ c.cell-cell.ensures
 
-  -- the end of the authority is read out of its box, for its place and for its targets
-  end_passed : IsKeptEnd c.self.inside.braking c.self.inside.authority c.deref.result.now
-  end_passed = rw c.deref.ensures c.self.invariant.kept.end
-
+  -- the end of the authority is read out of its box, for its targets
   end_seen : IsKeptEnd c.self.inside.braking c.self.inside.authority c.deref-2.result.now
   end_seen = rw c.deref-2.ensures c.self.invariant.kept.end
 
+  -- the min safe front end is past the EOA that is kept, where one is
+  end_passed : c.match-deref.result ≡ is_past_end c.self.inside.authority c.args.reading.now.min
+  end_passed =
+      let kept : c.match-deref.result ≡ is_past_eoa c.deref.result.now c.args.reading.now.min =
+      elim c.match-deref.branch [
+        | in-Stop w ↦ rw (w.in-Stop.is, ← w.min_mm-in-Stop.ensures) (search rules)
+        | in-Limit w ↦ w.result-is ∙ rw w.in-Limit.is refl
+      ] in
+      kept ∙ past_eoa c.self.inside.braking c.self.inside.authority c.deref.result.now c.args.reading.now.min
+      (rw c.deref.ensures c.self.invariant.kept.end)
+
   -- the falls ahead and the end make the targets of the definitions
-  targets : map target_of c.ahead.result ++ targets_in c.deref-2.result.now (is_some c.release_kmh_at.result)
+  targets : map target_of c.ahead.result ++ targets_in c.deref-2.result.now (is_some c.match-self.result)
       ≡ targets_of (mrsp_of c.self.inside.profile) c.self.inside.authority c.args.reading.now.max
       (is_some (release_of c.self.inside.braking c.self.inside.authority c.args.reading.now.max))
   targets =
       targets_are c.self.inside.braking (mrsp_of c.self.inside.profile) c.self.inside.authority
       c.ahead.result c.deref-2.result.now _ c.max_mm-front.result c.end_of.result
-      (is_some c.release_kmh_at.result) after c.end_of.ensures
+      (is_some c.match-self.result) after c.end_of.ensures
       (c.ahead.ensures.each c.self.inside.braking c.self.invariant.kept.falls.each)
       (c.ahead.ensures.falls (mrsp_of c.self.inside.profile) c.self.invariant.kept.falls.falls) end_seen
       ∙ (λ k. targets_of (mrsp_of c.self.inside.profile) c.self.inside.authority (c.max_mm-front.ensures k)
@@ -75,9 +99,9 @@ module _ (c : goal.After-deref-2) where
       ceiling_kmh = c.lowest.result;
       est = c.args.reading.now.est;
       front = c.args.reading.now.max;
-      targets = map target_of c.ahead.result ++ targets_in c.deref-2.result.now (is_some c.release_kmh_at.result);
-      past_end = c.is_passed_by.result;
-      release = c.release_kmh_at.result;
+      targets = map target_of c.ahead.result ++ targets_in c.deref-2.result.now (is_some c.match-self.result);
+      past_end = c.match-deref.result;
+      release = c.match-self.result;
       in_use = c.is_service_in_use.result;
     };
   }
@@ -88,7 +112,7 @@ lowest-requires c = search (rules, ints)
 pub invariant_of-result : goal.invariant_of-result
 invariant_of-result c = record {
   ceiling = search rules;
-  release = rw c.release_kmh_at.ensures
+  release = rw (released c)
       (release_speed_in_range c.self.inside.braking c.self.inside.authority c.self.inside.kept.release
       c.max_mm-front.result c.self.invariant.kept.release);
   falls = c.ahead.ensures.each c.self.inside.braking c.self.invariant.kept.falls.each;
@@ -101,8 +125,7 @@ returns-clause-seen c =
     subst (λ (s : Supervision). seen c ≡ seen_at s c.args.reading.now) c.self.view_is
     (seen_is c.self.inside.braking c.self.inside.authority c.self.inside.profile c.self.inside.last_time
     c.self.inside.held c.args.reading.now (seen c).situation c.self.invariant.profile
-    refl (ceiling c) refl refl (targets c) (c.is_passed_by.ensures c.self.inside.braking c.self.inside.authority
-    (end_passed c) ∙ ap (is_past_end c.self.inside.authority) c.min_mm-2.ensures)
+    refl (ceiling c) refl refl (targets c) (end_passed c)
     (in_release_monitoring c) c.is_service_in_use.ensures.value)
 
 pub returns-clause-accepted : goal.returns-clause-accepted

@@ -1,45 +1,102 @@
--- Each fall adds what it says, and the targets at the end are said behind them.
-use Rattle.std.proofs.Common.{List, map, ◌∷◌, [], take, append_assoc, subst, arith}
+-- Each fall adds what it says, the targets at the end are said behind them, and then what else triggers.
+use Rattle.std.proofs.Common.{◌≡◌, true, ◌||◌, List, map, ◌∷◌, ◌++◌, [], append_assoc}
+use Rattle.std.proofs.Common.{append-nil, ap, sym, subst, ◌∙◌, arith, rules}
+use Rattle.std.specs.Prelude.{is_some}
+use Rattle.std.proofs.Math.Bool.{or-false, or-true}
+use Rattle.sdm_num.specs.Readings.{estimate_of}
 use Rattle.sdm_rules.specs.declared.targets.Target.{Target}
+use Rattle.sdm_rules.specs.Triggers.{Situation, above_ceiling, no_margin}
+use Rattle.sdm_braking.specs.KeptCurves.{targets_in}
 use Rattle.sdm_braking.specs.KeptFalls.{target_of}
-use Rattle.sdm_supervisor.specs.Verdicts.{IsVerdictOf}
+use Rattle.sdm_supervisor.specs.Verdicts.{IsSaid}
 use Rattle.sdm_supervisor.proofs.FallsAsked.{all_asked, kept_there, one_more}
+use Rattle.sdm_supervisor.proofs.VerdictLaws.{above, no_ceiling, triggers_are, with_ceiling, with_release}
 use Rattle.sdm_supervisor.proofs.verdicts.Verdict.of.Goals as goal
+use Rattle.sdm_supervisor.proofs.verdicts.Verdict.of.Goals.{in-Stop+then-is_none, in-Stop+else-is_none, in-Limit}
+use Rattle.sdm_supervisor.proofs.verdicts.Verdict.of.Goals.{then-lt, else-lt, in-Some, in_default}
 
 pub add-requires-clause-kept : goal.add-requires-clause-kept
 add-requires-clause-kept c =
-    kept_there c.args.falls.now c.loop-i.i c.target.result.now (omega (arith, c.loop-i-test.true, c.len-i-end.ensures))
-    c.target.ensures c.args.braking.now c.requires.falls
+    kept_there _ c.target.ensures (omega (arith, c.loop-i-test.true, c.len-i-end.ensures))
+    c.sight.invariant.falls
 
 pub loop-i-preserved : goal.loop-i-preserved
 loop-i-preserved c =
-    let ks = c.args.falls.now in
-    let i = c.loop-i.i in
-    subst (λ (ts : List Target). IsVerdictOf c.args.braking.now c.args.asked.now.estimate c.args.fronts.now.est
-    c.args.fronts.now.max ts c.add.new.self)
-    (one_more ks i c.target.result.now (omega (arith, c.loop-i-test.true, c.len-i-end.ensures)) c.target.ensures)
-    (c.add.ensures (map target_of (take i ks)) c.loop-i.invariant)
+    let r = c.sight.inside.reading.now in
+    subst (λ (ts : List Target). IsSaid c.sight.inside.braking.now c.asked-asked.result.estimate r.est r.max ts
+    c.add.new.self)
+    (one_more _ c.target.ensures (omega (arith, c.loop-i-test.true, c.len-i-end.ensures)))
+    (c.add.ensures _ c.loop-i.invariant)
 
-pub returns-then-not-in_release_monitoring : goal.returns-then-not-in_release_monitoring
-returns-then-not-in_release_monitoring c =
-    let ts = map target_of c.args.falls.now in
-    let eoa = c.in-Stop.eoa.target in
-    let svl = c.in-Stop.svl.target in
-    let last = c.add-then-not-in_release_monitoring-2 in
-    let falls = subst (λ (us : List Target). IsVerdictOf c.args.braking.now c.args.asked.now.estimate
-    c.args.fronts.now.est c.args.fronts.now.max us c.loop-i.said)
-    (all_asked c.args.falls.now c.loop-i.i c.len-i-end.result c.len-i-end.ensures c.loop-i-test.false)
+pub returns : goal.returns
+returns c =
+    let d = c.sight.inside.braking.now in
+    let r = c.sight.inside.reading.now in
+    let release = c.sight.inside.release_kmh in
+    let falls = map target_of c.sight.inside.falls in
+    let targets = falls ++ targets_in c.sight.inside.end.now (is_some release) in
+    let s : Situation = record {
+      speed = r.speed;
+      ceiling_kmh = c.sight.inside.ceiling_kmh;
+      est = r.est;
+      front = r.max;
+      targets = targets;
+      past_end = c.sight.inside.past_end;
+      release = release;
+      in_use = c.sight.inside.in_use;
+    } in
+    let first = c.match-sight.said in
+    let said : IsSaid d c.asked-asked.result.estimate r.est r.max targets first =
+    let of_falls = subst (λ (ts : List Target). IsSaid d c.asked-asked.result.estimate r.est r.max ts c.loop-i.said)
+    (all_asked _ c.len-i-end.ensures c.loop-i-test.false)
     c.loop-i.invariant in
-    rw (c.in-Stop.is, c.if-not-in_release_monitoring.true)
-    (subst (λ (us : List Target). IsVerdictOf c.args.braking.now c.args.asked.now.estimate c.args.fronts.now.est
-    c.args.fronts.now.max us last.new.self) (append_assoc ts (eoa ∷ []) (svl ∷ []))
-    (last.ensures _ (c.add-then-not-in_release_monitoring.ensures ts falls)))
-
-pub returns-in-Limit : goal.returns-in-Limit
-returns-in-Limit c =
-    rw c.in-Limit.is
-    (c.add-in-Limit.ensures (map target_of c.args.falls.now)
-    (subst (λ (us : List Target). IsVerdictOf c.args.braking.now c.args.asked.now.estimate c.args.fronts.now.est
-    c.args.fronts.now.max us c.loop-i.said)
-    (all_asked c.args.falls.now c.loop-i.i c.len-i-end.result c.len-i-end.ensures c.loop-i-test.false)
-    c.loop-i.invariant))
+    elim c.match-sight.branch [
+      | in-Stop+then-is_none w ↦
+          rw (w.said-is, w.in-Stop.is, w.if-is_none.ensures)
+          (subst (λ (ts : List Target). IsSaid d c.asked-asked.result.estimate r.est r.max ts
+          w.add-then-is_none-2.new.self) (append_assoc falls (w.in-Stop.eoa.target ∷ []) (w.in-Stop.svl.target ∷ []))
+          (w.add-then-is_none-2.ensures _ (w.add-then-is_none.ensures falls of_falls)))
+      | in-Stop+else-is_none w ↦
+          let begun : is_some release ≡ true = search rules in
+          rw (w.said-is, w.in-Stop.is, begun, append-nil falls) of_falls
+      | in-Limit w ↦ rw (w.said-is, w.in-Limit.is) (w.add-in-Limit.ensures falls of_falls)
+    ] in
+    let v = c.speed_mm_s-v_est.ensures in
+    let is_above : c.lt.result ≡ above_ceiling s no_margin =
+    above c.lt.ensures (c.of_kmh.ensures ∙ omega arith) v in
+    let with_its_ceiling : c.if-lt.said ≡ with_ceiling s first = elim c.if-lt.branch [
+      | then-lt w ↦
+          let t = first.triggers in
+          let ceiling = w.of_kmh-ceiling.ensures in
+          w.said-is ∙ (λ k. record first {
+            triggers = record {
+              over = (sym (or-true t.over) ∙ (λ i. t.over || (sym w.if-lt.true ∙ is_above) i)) k;
+              warn = t.warn || above w.lt-then-lt.ensures ceiling.warning v k;
+              serv = t.serv || above w.lt-then-lt-2.ensures ceiling.sbi v k;
+              emer = t.emer || above w.lt-then-lt-3.ensures ceiling.ebi v k;
+            };
+          })
+      | else-lt w ↦ w.said-is ∙ no_ceiling s (sym is_above ∙ w.if-lt.false) first
+    ] in
+    let t = c.if-lt.said.triggers in
+    let with_its_release : c.match-sight-2.said ≡ with_release s c.if-lt.said = elim c.match-sight-2.branch [
+      | in-Some w ↦
+          let is_above = above w.lt-is_above.ensures w.of_kmh-in-Some.ensures v in
+          rw w.in-Some.is (w.said-is ∙ (λ k. record c.if-lt.said {
+            triggers = record t { over = t.over || is_above k; emer = t.emer || is_above k };
+          }))
+      | in_default w ↦
+          rw w.in_default.is (w.said-is ∙ (λ k. record c.if-lt.said {
+            triggers = record t { over = sym (or-false t.over) k; emer = sym (or-false t.emer) k };
+          }))
+    ] in
+    let is : IsSaid d (estimate_of r) r.est r.max targets first =
+    rw (sym (c.asked-asked.ensures.estimate ∙ c.estimate.ensures)) said in
+    let value : c.match-sight-2.said ≡ with_release s (with_ceiling s first) =
+    with_its_release ∙ ap (with_release s) with_its_ceiling in
+    rw (sym c.sight.view_is, value) (record {
+      triggers = triggers_are s _ first is.passed.over is.passed.warn is.passed.serv is.passed.emer;
+      indicated = is.passed.indicated;
+      covered = is.passed.covered;
+      nearest = is.nearest;
+    })
