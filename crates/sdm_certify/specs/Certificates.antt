@@ -13,7 +13,8 @@ use Rattle.sdm_supervisor.specs.Supervised.{last_of}
 use Rattle.sdm_certify.specs.Made.{marks_of, AreMarksInRange}
 
 -- what a reading claims: from the greatest front end, speed and accelerations that it allows, at V_est + V_delta0 and
--- with A_est1 and A_est2 for T_traction and T_berem, the train stops at or before the SvL (SUBSET-026-3 3.13.9.3.2; own)
+-- with A_est1 and A_est2 for T_traction and T_berem, the train stops at or before the SvL (SUBSET-026-3 3.13.9.3.2;
+-- own)
 abbrev pub claim_of : Supervision → OdometerReading → Claim
 claim_of s r =
     let start = reaction_start s.train_and_track r in

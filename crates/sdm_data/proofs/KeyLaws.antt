@@ -44,3 +44,6 @@ pub limit_keys_are : (names : List (Bor (List ℕ))) (d : Bor (List ℕ)) → ma
     ≡ key_names Authority → (get_or names 0 d).now ∷ (get_or names 4 d).now ∷ (get_or names 5 d).now ∷ [] ≡ limit_keys
 unfolding key_names
 limit_keys_are names d are = rw (name_at names 0 d are, name_at names 4 d are, name_at names 5 d are) refl
+
+-- how many keys a section has, and which come first
+pub ruleset sizes = (nine_keys, five_keys, first_keys)

@@ -93,3 +93,6 @@ module _ (input rest line after : List ℕ) (h : IsLeft input rest) (first : end
           take (suc (length xs)) (xs ++ y ∷ ys) ≡ xs ++ y ∷ []
       take_one_more [] y ys = refl
       take_one_more (x ∷ xs) y ys = ap (λ (t : List (List ℕ)). x ∷ t) (take_one_more xs y ys)
+
+-- the lines that are read so far, and the one at which the reading ends
+pub ruleset divisions = (all_left, passed, divided, undivided)

@@ -8,7 +8,7 @@ use sdm_text::split_line;
 /// The offset at which the data part ends, and the one at which the records begin: those of the dividing line and of
 /// the byte after it. The dividing line is the first line that is exactly `%%`, ended by LF, by CR and LF, or by the
 /// end of the input; None exactly where there is no such line. (own)
-#[tactic(auto, using(crate::proofs::LinesOfInput::all_left, crate::proofs::LinesOfInput::passed, crate::proofs::LinesOfInput::divided, crate::proofs::LinesOfInput::undivided))]
+#[tactic(auto, using(crate::proofs::LinesOfInput::divisions))]
 pub fn split(input: &[u8]) -> Option<(usize, usize)>
     ensures value { result ≡ divide input.now }
     ensures within { IfSome result (λ ends. (ends.0 ≤ ends.1) × (ends.1 ≤ length input.now)) }

@@ -27,7 +27,7 @@ pub fn version_of(number: i64) -> Option<Version>
 
 /// The keys that a section may have in data of a version: version 1 lacks the last one of a band, `emergency_reduced`,
 /// and the last one of the track, `no_special`. (own)
-#[tactic(auto, using(crate::proofs::KeyLaws::nine_keys, crate::proofs::KeyLaws::five_keys, crate::proofs::KeyLaws::first_keys))]
+#[tactic(auto, using(crate::proofs::KeyLaws::sizes))]
 pub fn known_keys(version: Version, section: Section) -> &'static [&'static str]
     ensures { map (λ name. name.now) result.now ≡ known_keys version section }
 {

@@ -83,7 +83,8 @@ module _ (start : Drive) (svl cycles : ℕ) (s : Drive) (counts : Counts) (h : I
         let next : s'.steps ≡ suc n = ap (λ (d : Drive). d.steps) s'_is ∙ step_counted s in
         let row_all : rows ++ row ∷ [] ≡ drive_rows (suc n) start =
         ap (λ (r : DriveRow). rows ++ r ∷ []) (row_is ∙ ap drive_row h.stepped) ∙ sym (one_row_more n start) in
-        let before : counts ≡ counts_of counts.svl rows = h.counted ∙ ap (λ (to : ℕ). counts_of to rows) (sym its_svl) in
+        let before : counts ≡ counts_of counts.svl rows =
+        h.counted ∙ ap (λ (to : ℕ). counts_of to rows) (sym its_svl) in
         let all : counts' ≡ counts_of svl (drive_rows (suc n) start) =
         counted rows before ∙ (λ k. counts_of (its_svl k) (row_all k)) in
         record {

@@ -1,5 +1,5 @@
--- What is told of a reading and of its turn: of `run` its row, of `display` what is shown, of `certify` its certificate,
--- which a covered reading under a stop has, since it is within the SvL.
+-- What is told of a reading and of its turn: of `run` its row, of `display` what is shown, of `certify` its
+-- certificate, which a covered reading under a stop has, since it is within the SvL.
 use Rattle.std.proofs.Common.{◌≡◌, ℕ, ℤ, zero, suc, ◌-◌, Bool, true, false, not, List, [], ◌∷◌, ◌++◌, nat_lt, refl}
 use Rattle.std.proofs.Common.{Option, None, ap, sym, ◌∙◌, inl, inr, arith}
 use Rattle.std.specs.Prelude.{◌<◌, ◌⊎◌, ◌&&◌, ◌||◌, is_some}
@@ -87,7 +87,8 @@ within_after : (s : Supervision) (r : OdometerReading) → is_within_svl (after_
 unfolding after_reading is_within_svl
 within_after s r = refl
 
-certificate_after : (s : Supervision) (r : OdometerReading) → certificate_text (after_reading s r) r ≡ certificate_text s r
+certificate_after : (s : Supervision) (r : OdometerReading) →
+    certificate_text (after_reading s r) r ≡ certificate_text s r
 unfolding after_reading
 certificate_after s r = refl
 
@@ -157,7 +158,8 @@ module _ (before : Supervision) (r : OdometerReading) (after : Supervision) wher
     -- nothing of one that isn't covered
     pub uncovered : (row : Row) → row ≡ row_of before r → row.covered ≡ false →
         IsToldTurn (Certificates left) (Certificates left) turn_of_reading []
-    uncovered row is none = uncertified (inr (by_stop (is_stop before.authority) (sym (ap (λ (x : Row). x.covered) is) ∙ none)))
+    uncovered row is none =
+        uncertified (inr (by_stop (is_stop before.authority) (sym (ap (λ (x : Row). x.covered) is) ∙ none)))
       where
         by_stop : (b : Bool) → (row_of before r).covered ≡ false → (b && (row_of before r).covered) ≡ false
         by_stop true none = none

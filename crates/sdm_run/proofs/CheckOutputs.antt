@@ -1,6 +1,7 @@
--- A certificate text has one output of `check`: there are answers, since whether marks hold is decided, and they are the
--- only ones, since each claim has one answer.
-use Rattle.std.proofs.Common.{◌≡◌, ◌∙◌, ℕ, nat_lt, List, [], ◌∷◌, Option, Some, None, Ok, Err, length, refl, ap, sym, subst}
+-- A certificate text has one output of `check`: there are answers, since whether marks hold is decided, and they are
+-- the only ones, since each claim has one answer.
+use Rattle.std.proofs.Common.{◌≡◌, ◌∙◌, ℕ, nat_lt, List, [], ◌∷◌, Option, Some, None, Ok, Err, length, refl, ap}
+use Rattle.std.proofs.Common.{sym, subst}
 use Rattle.sdm_rules.specs.Input as ends
 use Rattle.sdm_rules.specs.Input.{End, most_bytes}
 use Rattle.sdm_rules.specs.Slopes.{SlopeMap}

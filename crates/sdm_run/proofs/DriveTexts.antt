@@ -94,8 +94,8 @@ module _ (seed cycles : ℕ) where
   -- ---- the limit
 
   -- within it the output is that of the document
-  pub of_short : (bytes : List ℕ) (output : Output) → length bytes ≤ most_bytes → IsDriveOutput seed cycles bytes output →
-      IsDriveOfDocument seed cycles (document_of bytes) output
+  pub of_short : (bytes : List ℕ) (output : Output) → length bytes ≤ most_bytes →
+      IsDriveOutput seed cycles bytes output → IsDriveOfDocument seed cycles (document_of bytes) output
   of_short bytes output short h =
       let no : nat_lt most_bytes (length bytes) ≡ false = grind (arith, nat_tests) in rw no at h
 

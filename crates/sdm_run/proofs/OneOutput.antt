@@ -12,6 +12,7 @@ pub named : (x : Output) → Single (λ output. output ≡ x)
 named x = (x, (refl, λ other h. h))
 
 -- in each of two cases
-pub in_case : (P Q : Output → Type 0) (b : Bool) → Single P → Single Q → Single (λ output. MatchBool b (P output) (Q output))
+pub in_case : (P Q : Output → Type 0) (b : Bool) → Single P → Single Q →
+    Single (λ output. MatchBool b (P output) (Q output))
 in_case P Q true p q = p
 in_case P Q false p q = q

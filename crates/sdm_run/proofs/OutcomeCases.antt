@@ -117,8 +117,8 @@ not_of_trial = (
 )
 
 -- `drive` reads its input, and refuses data, also such that can't be driven, and an opening
-outcomes_of_drive : IsOutcomeIn drive_shape Done × IsOutcomeIn drive_shape ReadFault × IsOutcomeIn drive_shape WriteFault
-    × IsOutcomeIn drive_shape TooLong × IsOutcomeIn drive_shape (BadData Toml)
+outcomes_of_drive : IsOutcomeIn drive_shape Done × IsOutcomeIn drive_shape ReadFault
+    × IsOutcomeIn drive_shape WriteFault × IsOutcomeIn drive_shape TooLong × IsOutcomeIn drive_shape (BadData Toml)
     × IsOutcomeIn drive_shape (BadData (Data (data_faults.Train BandCount)))
     × IsOutcomeIn drive_shape (Undrivable NoStop) × IsOutcomeIn drive_shape (Refused (BadAuthority SvlBeforeEoa))
     × IsOutcomeIn drive_shape Memory

@@ -1,7 +1,7 @@
--- What the parts of a journey say makes the output of the whole, by what is told of it and of each turn: an input has one run, so
--- it is enough to name one.
-use Rattle.std.proofs.Common.{◌≡◌, ℕ, ◌≤◌, ◌<◌, ◌++◌, true, false, List, [], Option, Some, None, take, drop, length, nat_lt}
-use Rattle.std.proofs.Common.{inl, inr, refl, ap, ◌∙◌, sym, subst, arith}
+-- What the parts of a journey say makes the output of the whole, by what is told of it and of each turn: an input has
+-- one run, so it is enough to name one.
+use Rattle.std.proofs.Common.{◌≡◌, ℕ, ◌≤◌, ◌<◌, ◌++◌, true, false, List, [], Option, Some, None, take, drop, length}
+use Rattle.std.proofs.Common.{nat_lt, inl, inr, refl, ap, ◌∙◌, sym, subst, arith}
 use Rattle.std.proofs.lemmas.Bool.Decides.{nat_tests}
 use Rattle.std.specs.Prelude.{Result, Ok, Err, Bool, MatchBool, not}
 use Rattle.std.proofs.KnownBytes.{Appends-nil}

@@ -20,7 +20,8 @@ use Rattle.sdm_rules.specs.Flat.{Output}
 use Rattle.sdm_rules.specs.Forms.{event_of}
 use Rattle.sdm_rules.specs.Input as ends
 use Rattle.sdm_rules.specs.Records.{row_at, authority_fault, restrict_fault, revoke_fault, time_fault, time_cause}
-use Rattle.sdm_rules.specs.Records.{trip_cause, trip_fault, unless, step, turn_of, turn_to, event_at, journey_from, most_records}
+use Rattle.sdm_rules.specs.Records.{trip_cause, trip_fault, unless, step, turn_of, turn_to, event_at, journey_from}
+use Rattle.sdm_rules.specs.Records.{most_records}
 use Rattle.sdm_rules.specs.Supervision.{Supervision, after_reading, row_of}
 use Rattle.sdm_report.specs.declared.outcome.InputFault.TheVariants.{NoSplit, Toml, Data}
 use Rattle.sdm_report.specs.declared.outcome.Outcome.{Outcome}
@@ -29,9 +30,11 @@ use Rattle.sdm_report.specs.declared.outcome.Outcome.TheVariants.{Refused, BadEv
 use Rattle.sdm_events.specs.Journey.{Record}
 use Rattle.sdm_run.specs.Answers.{ComesOfReadingAlone, IsAnswer, LeavesOutUntouched}
 use Rattle.sdm_run.specs.declared.endings.Ended.{Ended}
+use Rattle.sdm_run.specs.declared.journey_records.Taken.TheVariants.{Told, Cut}
 use Rattle.sdm_run.specs.declared.tellers.Teller.{Teller}
 use Rattle.sdm_run.specs.declared.tellers.Teller.TheVariants.{Rows, Displays, Certificates}
-use Rattle.sdm_run.specs.RunParts.{IsTakenRecord, IsToldReading, IsToldRecord, IsToldTurn, output_of_records, turns_text}
+use Rattle.sdm_run.specs.RunParts.{IsTakenRecord, IsToldReading, IsToldRecord, IsToldTurn, output_of_records}
+use Rattle.sdm_run.specs.RunParts.{turns_text}
 use Rattle.sdm_run.specs.Shapes.{IsOutcomeIn, is_of_line, records_shape}
 use Rattle.sdm_run.proofs.CertifyTexts.{none_told}
 use Rattle.sdm_run.proofs.OutputLeft.{IsLeftOf, cut_off, wrote}
@@ -83,7 +86,8 @@ module _ (teller : Teller) (n : ℕ) (s : Supervision) where
       pub event_told : IsTakenRecord s t (event_at event_of n x) None → mid ≡ new →
           IsLeftOf old new whole (output_of_records teller (suc n) t more)
       event_told (e, form, accepted, none) same =
-          left_after e form accepted teller [] (none_told teller s t e none) (subst (λ taken. Appends mid taken []) same (Appends-nil mid))
+          left_after e form accepted teller [] (none_told teller s t e none)
+          (subst (λ taken. Appends mid taken []) same (Appends-nil mid))
 
       module _ (r : OdometerReading) (row : Row)
           (taken : IsTakenRecord s t (event_at event_of n x) (Some (r, row))) where
@@ -121,7 +125,8 @@ where_err (Err fault) P is h = h
 
 -- ---- a record that is taken, or refused
 
-module _ (s : Supervision) (n : ℕ) (x : Record) (e : Event) (counted : n ≤ most_records) (form : event_of x ≡ Ok e) where
+module _ (s : Supervision) (n : ℕ) (x : Record) (e : Event) (counted : n ≤ most_records)
+    (form : event_of x ≡ Ok e) where
   -- the event at its number
   pub form_at : event_at event_of n x ≡ Ok e
   form_at = rw (le-ltb most_records n counted) form
@@ -131,17 +136,34 @@ module _ (s : Supervision) (n : ℕ) (x : Record) (e : Event) (counted : n ≤ m
       IsTakenRecord s t (event_at event_of n x) None
   taken_event t accepted none = (e, form_at, accepted, none)
 
-  -- a reading that was told
-  pub taken_reading : (r : OdometerReading) → e ≡ record_kinds.Read r → (t : Supervision) → step s e ≡ Ok t →
-      (row : Row) → row ≡ row_of s r → (teller : Teller) (old new : Option (List ℕ)) (told : Result Teller Ended) →
-      IsToldReading teller r row t old new told →
-      IsToldRecord teller s t (event_at event_of n x) old new (Some told)
-  taken_reading r is t accepted row row_is teller old new told h =
-      (r, row, (form_at ∙ ap (λ (e : Event). Ok e) is, sym (ap (step s) is) ∙ accepted, row_is), h)
+  -- a reading, with its row
+  reading_taken : (r : OdometerReading) → e ≡ record_kinds.Read r → (t : Supervision) → step s e ≡ Ok t →
+      (row : Row) → row ≡ row_of s r → IsTakenRecord s t (event_at event_of n x) (Some (r, row))
+  reading_taken r is t accepted row row_is =
+      (form_at ∙ ap (λ (e : Event). Ok e) is, sym (ap (step s) is) ∙ accepted, row_is)
+
+  -- a reading that was told of
+  pub taken_told : (r : OdometerReading) → e ≡ record_kinds.Read r → (t : Supervision) → step s e ≡ Ok t →
+      (row : Row) → row ≡ row_of s r → (teller after : Teller) (old new : Option (List ℕ)) →
+      IsToldReading teller r row t old new (Ok after) →
+      IsToldRecord teller s t (event_at event_of n x) old new (Told after)
+  taken_told r is t accepted row row_is teller after old new h =
+      (r, row, reading_taken r is t accepted row row_is, h)
+
+  -- or not to its end
+  pub taken_cut : (r : OdometerReading) → e ≡ record_kinds.Read r → (t : Supervision) → step s e ≡ Ok t →
+      (row : Row) → row ≡ row_of s r → (teller : Teller) (ended : Ended) (old new : Option (List ℕ)) →
+      IsToldReading teller r row t old new (Err ended) →
+      IsToldRecord teller s t (event_at event_of n x) old new (Cut ended)
+  taken_cut r is t accepted row row_is teller ended old new h =
+      (r, row, reading_taken r is t accepted row row_is, h)
 
   -- an event that is refused
   pub refused_event : (cause : EventCause) → step s e ≡ Err cause → turn_of s (event_at event_of n x) ≡ Err cause
   refused_event cause is = rw (form_at, is) refl
+
+-- what comes of a record
+pub ruleset taken_records = (form_at, taken_event, taken_told, taken_cut, refused_event)
 
 -- ---- no record is refused as a line
 

@@ -17,11 +17,11 @@ use Rattle.sdm_curve.specs.Maps.{AreStarts}
 use Rattle.sdm_curve.proofs.Cells.{segment_of_start}
 use Rattle.sdm_curve.proofs.Meanings.{rising_of}
 use Rattle.sdm_decel.specs.StretchCells.{AreStretches}
-use Rattle.sdm_certify.specs.WrittenLines.{are_same_slopes, head_text, is_written, segment_text, slope_fields, uppers_text}
-use Rattle.sdm_certify.specs.WrittenLines.{written, written_from}
+use Rattle.sdm_certify.specs.WrittenLines.{are_same_slopes, head_text, is_written, segment_text, slope_fields}
+use Rattle.sdm_certify.specs.WrittenLines.{uppers_text, written, written_from}
 use Rattle.sdm_certify.specs.WrittenLines as kept
-use Rattle.sdm_run.specs.Certifying.{changed_cells, has_slopes_before, last_start, lines_from, segment_cells, segment_line}
-use Rattle.sdm_run.specs.Certifying.{head_line, uppers_line}
+use Rattle.sdm_run.specs.Certifying.{changed_cells, has_slopes_before, last_start, lines_from, segment_cells}
+use Rattle.sdm_run.specs.Certifying.{head_line, segment_line, uppers_line}
 use Rattle.sdm_run.specs.Certifying.{map_text, safe_map_text, slopes_at, text_of_lines}
 
 -- a cell that a written segment begins with
@@ -122,7 +122,8 @@ module _ (m : SlopeMap) (h : AreStarts m.starts) where
 
   -- and the lines of written segments
   lines_are : (i left : ℕ) → i + left ≤ length m.starts →
-      map (segment_text m) (written_from m i left) ≡ map (segment_line (meaning_of m)) (map start (written_from m i left))
+      map (segment_text m) (written_from m i left)
+      ≡ map (segment_line (meaning_of m)) (map start (written_from m i left))
   lines_are i zero known = refl
   lines_are i (suc left) known =
       by_written (is_written m i) (line_is i (omega arith)) (lines_are (suc i) left (omega arith))

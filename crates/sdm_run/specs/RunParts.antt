@@ -26,6 +26,8 @@ use Rattle.sdm_data.specs.Document.{document_of}
 use Rattle.sdm_data.specs.Journey.{data_of}
 use Rattle.sdm_events.specs.Journey.{Record}
 use Rattle.sdm_run.specs.declared.endings.Ended.{Ended}
+use Rattle.sdm_run.specs.declared.journey_records.Taken.{Taken}
+use Rattle.sdm_run.specs.declared.journey_records.Taken.TheVariants.{Untold, Told, Cut}
 use Rattle.sdm_run.specs.declared.tellers.Teller.{Teller}
 use Rattle.sdm_run.specs.declared.tellers.Teller.TheVariants.{Rows, Displays, Certificates}
 use Rattle.sdm_run.specs.Answers.{AreWholeLines, IsAnswer}
@@ -123,9 +125,11 @@ IsToldReading teller r row after old new result =
     (before : Supervision) → row ≡ row_of before r → after ≡ after_reading before r →
     IsToldTo teller (record { before = before; event = Read r; after = after }) old new result
 
--- a record was taken to the state `t`, and a reading was told of; of another record nothing is told
+-- a record was taken to the state `t`: a reading was told of, or to a part of it; of another record nothing is told
 abbrev pub IsToldRecord : Teller → Supervision → Supervision → Result Event EventFault → Option (List ℕ) →
-    Option (List ℕ) → Option (Result Teller Ended) → Type 0
-IsToldRecord teller s t e old new (Some told) = (r : OdometerReading) × (row : Row)
-    × IsTakenRecord s t e (Some (r, row)) × IsToldReading teller r row t old new told
-IsToldRecord teller s t e old new None = IsTakenRecord s t e None
+    Option (List ℕ) → Taken → Type 0
+IsToldRecord teller s t e old new Untold = IsTakenRecord s t e None
+IsToldRecord teller s t e old new (Told after) = (r : OdometerReading) × (row : Row)
+    × IsTakenRecord s t e (Some (r, row)) × IsToldReading teller r row t old new (Ok after)
+IsToldRecord teller s t e old new (Cut ended) = (r : OdometerReading) × (row : Row)
+    × IsTakenRecord s t e (Some (r, row)) × IsToldReading teller r row t old new (Err ended)

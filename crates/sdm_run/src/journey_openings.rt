@@ -19,11 +19,11 @@ use std::alloc::Global;
 use toml::Table;
 
 /// The TOML document of the data part. (own)
-pub fn document_in(alloc: Global, data: &[u8]) -> Result<Table, Outcome>
-    ensures document { IfOk result (λ table. document_of data.now ≡ Some (table_view table)) }
-    ensures refused { IfErr result (IsRefusedByData data.now) }
+pub fn document_in(alloc: Global, bytes: &[u8]) -> Result<Table, Outcome>
+    ensures document { IfOk result (λ table. document_of bytes.now ≡ Some (table_view table)) }
+    ensures refused { IfErr result (IsRefusedByData bytes.now) }
 {
-    match read_document(alloc, data) {
+    match read_document(alloc, bytes) {
         Ok(table) => Ok(table),
         Err(DocumentFault::NotToml) => Err(Outcome::BadData(InputFault::Toml)),
         Err(DocumentFault::Memory) => Err(Outcome::Memory),
@@ -68,11 +68,11 @@ fn begin(alloc: Global, journey: JourneyData) -> Result<Supervisor, Outcome>
 /// The supervisor that a data part opens; else the outcome, which is that of the first rule that the data break, or of
 /// the first fault of the opening, unless memory was refused first. (own)
 #[tactic(auto, using(crate::proofs::Refusals::of_data_part))]
-pub fn opened(alloc: Global, data: &[u8]) -> Result<Supervisor, Outcome>
-    ensures opened { IfOk result (IsOpeningOf data.now) }
-    ensures refused { IfErr result (IsRefusedBy data.now) }
+pub fn opened(alloc: Global, bytes: &[u8]) -> Result<Supervisor, Outcome>
+    ensures opened { IfOk result (IsOpeningOf bytes.now) }
+    ensures refused { IfErr result (IsRefusedBy bytes.now) }
 {
-    let table = document_in(alloc, data)?;
+    let table = document_in(alloc, bytes)?;
     let journey = journey_in(alloc, &table)?;
     begin(alloc, journey)
 }

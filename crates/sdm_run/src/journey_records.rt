@@ -2,7 +2,7 @@
 //! written, before the next one is read. What is told of a reading is the one thing that differs from command
 //! to command.
 
-ghost use Rattle.std.specs.Prelude.{◌≡◌, ◌⊎◌, ◌≤◌, false, None, Some, Err, IfErr, IfOk, OnOk};
+ghost use Rattle.std.specs.Prelude.{◌≡◌, ◌⊎◌, ◌≤◌, false, Err, IfErr, IfOk, OnOk};
 ghost use Rattle.csv.specs.Records.{fields_of};
 ghost use Rattle.sdm_io.specs.Causes.{Rose};
 ghost use Rattle.sdm_rules.specs.Forms.{event_of};
@@ -10,6 +10,7 @@ ghost use Rattle.sdm_rules.specs.Records.{event_at, most_records, trip_cause, tu
 ghost use Rattle.sdm_events.specs.Journey.{records_of};
 ghost use Rattle.sdm_run.specs.Answers.{IsAnswer};
 ghost use Rattle.sdm_run.specs.declared.endings.Ended.{Ended};
+ghost use Rattle.sdm_run.specs.declared.journey_records.Taken.TheVariants.{Cut, Untold};
 ghost use Rattle.sdm_run.specs.RunParts.{IsToldRecord, output_of_records};
 ghost use Rattle.sdm_run.specs.Shapes.{IsOutcomeIn, records_shape};
 
@@ -23,6 +24,17 @@ use sdm_rules::{MOST_RECORDS, TripFault};
 use sdm_supervisor::{CycleFault, Supervisor};
 use sdm_text::RowBuf;
 use std::alloc::Global;
+
+/// What comes of a record that is taken. (own)
+#[derive(Clone, Copy)]
+pub enum Taken {
+    /// Nothing is told of it.
+    Untold,
+    /// A reading was told of; this tells of the next one.
+    Told(Teller),
+    /// The command ends before all was told of a reading.
+    Cut(Ended),
+}
 
 /// Answers the records of these bytes, from a supervision state on, by what is told of each turn. Whether a flush is
 /// due from before is handed in. WriteFault comes only where out failed. (own)
@@ -55,51 +67,55 @@ pub fn run_records<O: Sink>(
             Err(NoMemory) => return Ended::new(Outcome::Memory, is_flush_due),
         }
         number += 1;
-        let told = match take_record(alloc, teller, supervisor, number, &record, &mut text, out) {
-            Ok(Some(told)) => told,
-            Ok(None) => continue 'records,
+        match take_record(alloc, teller, supervisor, number, &record, &mut text, out) {
+            Ok(Taken::Untold) => {}
+            Ok(Taken::Told(after)) => {
+                teller = after;
+                is_flush_due = true;
+            }
+            Ok(Taken::Cut(ended)) => return ended,
             Err(cause) => return Ended::new(Outcome::BadEvent { number, cause }, is_flush_due),
-        };
-        teller = match told {
-            Ok(after) => after,
-            Err(ended) => return ended,
-        };
-        is_flush_due = true;
+        }
     }
 }
 
-/// Takes the record of a number, which counts from 1, and tells of a reading.
-#[tactic(auto, unfolding(sdm_rules::specs::Records::step), using(crate::proofs::RunTexts::form_at, crate::proofs::RunTexts::refused_event, crate::proofs::RunTexts::taken_event, crate::proofs::RunTexts::taken_reading))]
+/// Takes the record with these fields, whose number counts from 1, and tells of a reading.
+#[tactic(auto, unfolding(sdm_rules::specs::Records::step), using(crate::proofs::RunTexts::taken_records))]
 fn take_record<O: Sink>(
     alloc: Global,
     teller: Teller,
     supervisor: &mut Supervisor,
     number: u32,
-    record: &ByteRecord,
+    fields: &ByteRecord,
     text: &mut RowBuf,
     out: &mut O,
-) -> Result<Option<Result<Teller, Ended>>, EventCause>
+) -> Result<Taken, EventCause>
     ensures taken { IfOk result (IsToldRecord teller supervisor.old supervisor.new
-        (event_at event_of number (fields_of record.now)) (O.taken out.old) (O.taken out.new)) }
+        (event_at event_of number (fields_of fields.now)) (O.taken out.old) (O.taken out.new)) }
     ensures counted { OnOk result (number ≤ most_records) }
     ensures refused { IfErr result
-        (λ cause. turn_of supervisor.old (event_at event_of number (fields_of record.now)) ≡ Err cause) }
+        (λ cause. turn_of supervisor.old (event_at event_of number (fields_of fields.now)) ≡ Err cause) }
     ensures untold { IfErr result (λ cause. out.new ≡ out.old) }
-    ensures silent { IfOk result (λ told. told ≡ None → out.new ≡ out.old) }
-    ensures due { IfOk result (λ told. (ended : Ended) → told ≡ Some (Err ended) →
+    ensures silent { IfOk result (λ taken. taken ≡ Untold → out.new ≡ out.old) }
+    ensures due { IfOk result (λ taken. (ended : Ended) → taken ≡ Cut ended →
         ended.is_flush_due ≡ false → ended.outcome ≡ Outcome.WriteFault) }
     ensures later { O.faults out.old ≤ O.faults out.new }
-    ensures write { IfOk result (λ told. (ended : Ended) → told ≡ Some (Err ended) →
+    ensures write { IfOk result (λ taken. (ended : Ended) → taken ≡ Cut ended →
         ended.outcome ≡ Outcome.WriteFault → Rose (O.faults out.old) (O.faults out.new)) }
-    ensures possible { IfOk result (λ told. (ended : Ended) → told ≡ Some (Err ended) →
+    ensures possible { IfOk result (λ taken. (ended : Ended) → taken ≡ Cut ended →
         IsOutcomeIn records_shape ended.outcome) }
 {
     if MOST_RECORDS < number {
         return Err(EventCause::Form(EventFault::TooMany));
     }
-    match event_of(record).map_err(EventCause::Form)? {
+    match event_of(fields).map_err(EventCause::Form)? {
         Event::Read(reading) => match supervisor.cycle(&reading) {
-            Ok(row) => return Ok(Some(teller.tell(alloc, &reading, &row, supervisor, text, out))),
+            Ok(row) => {
+                return Ok(match teller.tell(alloc, &reading, &row, supervisor, text, out) {
+                    Ok(after) => Taken::Told(after),
+                    Err(ended) => Taken::Cut(ended),
+                });
+            }
             Err(CycleFault::TimeBack { last, time }) => {
                 return Err(EventCause::TimeBack { last, time });
             }
@@ -111,7 +127,7 @@ fn take_record<O: Sink>(
         Event::Restrict(r) => supervisor.restrict(r).map_err(EventCause::Restrict)?,
         Event::Revoke { id } => supervisor.revoke(id).map_err(EventCause::Revoke)?,
     }
-    Ok(None)
+    Ok(Taken::Untold)
 }
 
 /// Why a record is refused that gives a stop with the place of a trip. (own)

@@ -4,7 +4,8 @@ ghost use Rattle.std.specs.Prelude.{◌≡◌, ◌≤◌, map, option_map, strin
 ghost use Rattle.sdm_rules.specs.Records.{most_records};
 ghost use Rattle.sdm_run.specs.declared.words.Command.TheVariants.{Drive, Trial};
 ghost use Rattle.sdm_run.specs.Shapes.{shape_of};
-ghost use Rattle.sdm_run.specs.Words.{IsCommandInRange, alone, asked_by, certify_command, flat_command, numbered_command};
+ghost use Rattle.sdm_run.specs.Words.{IsCommandInRange, alone, asked_by, certify_command, flat_command};
+ghost use Rattle.sdm_run.specs.Words.{numbered_command};
 
 use sdm_rules::{LONGEST_TRACK_CM, MOST_RECORDS};
 use sdm_text::natural_in;

@@ -28,8 +28,10 @@ nearer (Some x) (Some y) = Some (int_min x y)
 -- which limits of targets are passed, by an estimate with the estimated and the max safe front end, and whether each
 -- target is covered (SUBSET-026-3 3.13.10.4; own)
 pub record ArePassed (d : TrainAndTrack) (e : Estimate) (est max : ℤ) (ts : List Target) (v : Verdict) : Type 0 where
-  pub over : v.triggers.over ≡ list_any (λ t. passes e.speed est max 0 no_margin t (limits_of computed d e t).permitted) ts
-  pub warn : v.triggers.warn ≡ list_any (λ t. passes e.speed est max 0 warning_margin t (limits_of computed d e t).warning) ts
+  pub over : v.triggers.over
+      ≡ list_any (λ t. passes e.speed est max 0 no_margin t (limits_of computed d e t).permitted) ts
+  pub warn : v.triggers.warn
+      ≡ list_any (λ t. passes e.speed est max 0 warning_margin t (limits_of computed d e t).warning) ts
   pub serv : v.triggers.serv ≡ list_any (λ t. passes e.speed est max 0 sbi_margin t (limits_of computed d e t).sbi) ts
   pub emer : v.triggers.emer ≡ list_any (λ t. passes_ebi e.speed est max 0 t (limits_of computed d e t).ebi) ts
   pub indicated : v.indicated

@@ -37,7 +37,7 @@ use sdm_rules::{
 };
 use sdm_speed::Profile;
 use sdm_state::{Held, Status};
-use sdm_targets::{Authority, AuthorityFault, check_authority, check_trip, end_of};
+use sdm_targets::{Authority, AuthorityFault, check_authority, check_trip};
 use sdm_track::Track;
 use sdm_train::Train;
 use std::alloc::Global;
@@ -269,6 +269,10 @@ impl Supervisor {
         prove!(reading.time() <= 100_000_000);
         let front = reading.max_mm();
         let cell = front.cell();
+        let end = match self.authority {
+            Authority::Stop { eoa, .. } => eoa,
+            Authority::Limit { loa, .. } => loa,
+        };
         Sight {
             braking: &self.braking,
             reading,
@@ -284,7 +288,7 @@ impl Supervisor {
                 _ => None,
             },
             in_use: self.braking.is_service_in_use(),
-            falls: self.kept.falls.ahead(cell, end_of(&self.authority)),
+            falls: self.kept.falls.ahead(cell, end),
             end: &self.kept.end,
         }
     }

@@ -1,5 +1,6 @@
 -- One mark more, or a part of its line.
-use Rattle.std.proofs.Common.{◌≡◌, pos, List, ◌+◌, ◌<◌, ◌++◌, ◌∙◌, length, drop, suc, take, map, get_or, [], ap, sym, subst, arith, append_assoc}
+use Rattle.std.proofs.Common.{◌≡◌, pos, List, ◌+◌, ◌<◌, ◌++◌, ◌∙◌, length, drop, suc, take, map, get_or, [], ap, sym}
+use Rattle.std.proofs.Common.{subst, arith, append_assoc}
 use Rattle.std.proofs.lemmas.List.{get_or-map, length-map}
 use Rattle.std.proofs.KnownBytes.{Appends-trans}
 use Rattle.std.specs.Io.KnownBytes.{Appends}

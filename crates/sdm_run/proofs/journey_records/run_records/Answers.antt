@@ -27,7 +27,8 @@ pub returns-in-Err-take_record-clause-answer : goal.returns-in-Err-take_record-c
 returns-in-Err-take_record-clause-answer g c =
     let found : c.records.records.left ≡ fields_of c.next.new.into ∷ c.next.new.self.left =
     c.next.ensures.found (cc (c.in-Ok-true.is, c.in-Ok-true.field-0-test)) in
-    rw (c.new-in-Err-take_record.ensures, c.in-Err-take_record.ensures.untold) (cut_off _ _ _ _ _ c.records.invariant.left (BadEvent _ _) (λ h. h)
+    rw (c.new-in-Err-take_record.ensures, c.in-Err-take_record.ensures.untold)
+    (cut_off _ _ _ _ _ c.records.invariant.left (BadEvent _ _) (λ h. h)
     (rw (first_refused _ _ _ _ _ _ found _ c.in-Err-take_record.ensures.refused)
     (record { ended = inl refl; taken = Appends-nil _ })))
 

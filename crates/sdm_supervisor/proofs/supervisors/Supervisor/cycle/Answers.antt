@@ -33,26 +33,31 @@ returns-clause-row c = row ((goal.at.returns-clause-row c).After-row-row)
 pub returns-clause-taken : goal.returns-clause-taken
 unfolding after_reading row_in
 returns-clause-taken c =
-    subst (λ (s : Supervision). record (state ((goal.at.returns-clause-taken c).After-row-row)) {
+    let w = (goal.at.returns-clause-taken c).After-row-row in
+    subst (λ (s : Supervision). record (state w) {
       last_time = Some c.time-time.result;
       commands = c.row-row.result.held;
-    } ≡ after_reading s c.args.reading.now) (same ((goal.at.returns-clause-taken c).After-row-row))
-    (λ k. record (state ((goal.at.returns-clause-taken c).After-row-row)) {
+    } ≡ after_reading s c.args.reading.now) (same w)
+    (λ k. record (state w) {
       last_time = Some (c.time-time.ensures.value k);
-      commands = ((row ((goal.at.returns-clause-taken c).After-row-row) ∙ (λ i. row_of (sym (same ((goal.at.returns-clause-taken c).After-row-row)) i) c.args.reading.now)) k).held;
+      commands = ((row w ∙ (λ i. row_of (sym (same w) i) c.args.reading.now)) k).held;
     })
 
 pub returns-clause-order : goal.returns-clause-order
-returns-clause-order c = order_of c.args.self.now c.args.reading.now c.row-row.result (row ((goal.at.returns-clause-order c).After-row-row)) c.sight.ensures.accepted
+returns-clause-order c = order_of c.args.self.now c.args.reading.now c.row-row.result
+    (row ((goal.at.returns-clause-order c).After-row-row)) c.sight.ensures.accepted
 
 pub returns-clause-safe : goal.returns-clause-safe
-returns-clause-safe c = safe_of c.args.self.now c.args.reading.now c.row-row.result (row ((goal.at.returns-clause-safe c).After-row-row)) c.sight.ensures.accepted
+returns-clause-safe c = safe_of c.args.self.now c.args.reading.now c.row-row.result
+    (row ((goal.at.returns-clause-safe c).After-row-row)) c.sight.ensures.accepted
 
 pub returns-clause-gaps : goal.returns-clause-gaps
-returns-clause-gaps c = gaps_of c.args.self.now c.args.reading.now c.row-row.result (row ((goal.at.returns-clause-gaps c).After-row-row))
+returns-clause-gaps c = gaps_of c.args.self.now c.args.reading.now c.row-row.result
+    (row ((goal.at.returns-clause-gaps c).After-row-row))
 
 pub returns-clause-ceiling : goal.returns-clause-ceiling
-returns-clause-ceiling c = ceiling_of c.args.self.now c.args.reading.now c.row-row.result (row ((goal.at.returns-clause-ceiling c).After-row-row))
+returns-clause-ceiling c = ceiling_of c.args.self.now c.args.reading.now c.row-row.result
+    (row ((goal.at.returns-clause-ceiling c).After-row-row))
 
 pub returns-clause-release : goal.returns-clause-release
 returns-clause-release c = release_of c.args.self.now c.args.reading.now c.sight.ensures.accepted

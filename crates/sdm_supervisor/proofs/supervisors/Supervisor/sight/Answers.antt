@@ -1,6 +1,6 @@
 -- Each part of what is seen is that of the definitions, by the clause of the call that found it.
-use Rattle.std.proofs.Common.{◌≡◌, min, map, ◌++◌, ◌∙◌, ap, refl, sym, subst, is_some, Option, true, false, to_z, of_z, w32}
-use Rattle.std.proofs.Common.{rules}
+use Rattle.std.proofs.Common.{◌≡◌, min, map, ◌++◌, ◌∙◌, ap, refl, sym, subst, is_some, Option, true, false, to_z, of_z}
+use Rattle.std.proofs.Common.{w32, rules}
 use Rattle.std.proofs.lemmas.Int.{ints, to_z-of_z}
 use Rattle.std.specs.Int.{int_gap}
 use Rattle.sdm_rules.specs.Cells.{cell_of, lowest}
@@ -19,7 +19,8 @@ use Rattle.sdm_supervisor.proofs.FindLaws.{seen_is}
 use Rattle.sdm_supervisor.proofs.WithinLaws.{released_at}
 use Rattle.sdm_braking.proofs.WalkLaws.{ends_kept, is_past_eoa, past_eoa, targets_are}
 use Rattle.sdm_supervisor.proofs.supervisors.Supervisor.sight.Goals as goal
-use Rattle.sdm_supervisor.proofs.supervisors.Supervisor.sight.Goals.{in-Some, in_default-2, in_default, in-Stop, in-Limit}
+use Rattle.sdm_supervisor.proofs.supervisors.Supervisor.sight.Goals.{in-Some, in_default-2, in_default, in-Stop}
+use Rattle.sdm_supervisor.proofs.supervisors.Supervisor.sight.Goals.{in-Limit}
 
 module _ (c : goal.After-deref-2) where
   -- the cell of the min safe front end

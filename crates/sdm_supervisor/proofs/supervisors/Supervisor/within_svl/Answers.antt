@@ -29,7 +29,8 @@ unfolding is_within_svl
 returns-then-is_passed_by-clause-value c =
     let inside = c.self.inside in
     let r = c.args.reading.now in
-    let begun = monitored inside.braking inside.authority inside.kept.release r.max c.max_mm.result c.is_passed_by.result
+    let begun =
+    monitored inside.braking inside.authority inside.kept.release r.max c.max_mm.result c.is_passed_by.result
     c.self.invariant.kept.release (begun_at inside.kept.release c.in-Some.release c.max_mm.result c.is_passed_by.result
     c.in-Some.is c.is_passed_by.ensures) c.max_mm.ensures in
     subst (λ (s : Supervision). false ≡ is_within s.train_and_track r s.authority) c.self.view_is
