@@ -29,29 +29,29 @@ impl Nearest {
         let ebi = limits.ebi.map(|ebi| ebi.at());
         let sbi = limits.sbi.at();
         let permitted = limits.permitted.at();
-        // By grains: on the greatest data `<` and `min` of places cost a reading some 100 instructions more.
-        match nearest {
-            None => Nearest {
+        let Some(nearest) = nearest else {
+            return Nearest {
                 ebi,
                 sbi,
                 permitted,
+            };
+        };
+        // By grains: with `<` of places a reading costs some 100 instructions more on the greatest data.
+        Nearest {
+            ebi: match (nearest.ebi, ebi) {
+                (None, _) => ebi,
+                (Some(a), None) => Some(a),
+                (Some(a), Some(b)) => Some(if b.grains() < a.grains() { b } else { a }),
             },
-            Some(nearest) => Nearest {
-                ebi: match (nearest.ebi, ebi) {
-                    (Some(a), Some(b)) if b.grains() < a.grains() => Some(b),
-                    (Some(a), _) => Some(a),
-                    (None, _) => ebi,
-                },
-                sbi: if sbi.grains() < nearest.sbi.grains() {
-                    sbi
-                } else {
-                    nearest.sbi
-                },
-                permitted: if permitted.grains() < nearest.permitted.grains() {
-                    permitted
-                } else {
-                    nearest.permitted
-                },
+            sbi: if sbi.grains() < nearest.sbi.grains() {
+                sbi
+            } else {
+                nearest.sbi
+            },
+            permitted: if permitted.grains() < nearest.permitted.grains() {
+                permitted
+            } else {
+                nearest.permitted
             },
         }
     }

@@ -5,7 +5,7 @@ use Rattle.std.proofs.lemmas.Int.{ints, to_z-of_z}
 use Rattle.std.specs.Int.{int_gap}
 use Rattle.sdm_rules.specs.Cells.{cell_of, lowest}
 use Rattle.sdm_rules.specs.Supervision.{Supervision, release_of, is_past_end}
-use Rattle.sdm_rules.specs.Targets.{targets_of}
+use Rattle.sdm_rules.specs.Targets.{end_of, targets_of}
 use Rattle.sdm_speed.specs.Profiles.{mrsp_of}
 use Rattle.sdm_braking.specs.declared.releases.Release.{Release}
 use Rattle.sdm_braking.specs.KeptCurves.{IsKeptEnd, targets_in}
@@ -19,8 +19,8 @@ use Rattle.sdm_supervisor.proofs.FindLaws.{seen_is}
 use Rattle.sdm_supervisor.proofs.WithinLaws.{released_at}
 use Rattle.sdm_braking.proofs.WalkLaws.{ends_kept, is_past_eoa, past_eoa, targets_are}
 use Rattle.sdm_supervisor.proofs.supervisors.Supervisor.sight.Goals as goal
-use Rattle.sdm_supervisor.proofs.supervisors.Supervisor.sight.Goals.{in-Some, in_default-2, in_default, in-Stop}
-use Rattle.sdm_supervisor.proofs.supervisors.Supervisor.sight.Goals.{in-Limit}
+use Rattle.sdm_supervisor.proofs.supervisors.Supervisor.sight.Goals.{in-Some, in_default-2, in_default}
+use Rattle.sdm_supervisor.proofs.supervisors.Supervisor.sight.Goals.{in-Stop, in-Limit, in-Stop-deref, in-Limit-deref}
 
 module _ (c : goal.After-deref-2) where
   -- the cell of the min safe front end
@@ -39,11 +39,11 @@ module _ (c : goal.After-deref-2) where
       c.lowest.ensures.value ∙ (λ k. lowest min (mrsp_of c.self.inside.profile) (back k) (int_gap (back k) (front k)))
 
   -- the release speed is that which is kept, past the start of its monitoring
-  released : c.match-self.result ≡ release_speed_at c.self.inside.kept.release c.max_mm-front.result
+  released : c.match-self-2.result ≡ release_speed_at c.self.inside.kept.release c.max_mm-front.result
   released =
       let kept = c.self.inside.kept.release in
       let front = c.max_mm-front.result in
-      elim c.match-self.branch [
+      elim c.match-self-2.branch [
         | in-Some w ↦ w.result-is ∙ released_at kept w.in-Some.release front true w.in-Some.is w.if-is_passed_by.ensures
         | in_default-2 w ↦
             w.result-is ∙ released_at kept w.in-Some.release front false w.in-Some.is w.if-is_passed_by.ensures
@@ -51,7 +51,7 @@ module _ (c : goal.After-deref-2) where
       ]
 
   -- so it is that of the definitions
-  in_release_monitoring : c.match-self.result ≡
+  in_release_monitoring : c.match-self-2.result ≡
       release_of c.self.inside.braking c.self.inside.authority c.args.reading.now.max
   in_release_monitoring =
       released ∙ release_speed_at_is c.self.inside.braking c.self.inside.authority
@@ -62,6 +62,13 @@ module _ (c : goal.After-deref-2) where
   after : to_z w32 (of_z w32 c.cell-cell.result) ≡ cell_of c.max_mm-front.result
   after = to_z-of_z w32 c.cell-cell.result (search (rules, ints)) ∙ c.cell-cell.ensures
 
+  -- they end at the EOA or the LOA
+  end_is : c.match-self.end ≡ end_of c.self.inside.authority
+  end_is = elim c.match-self.branch [
+    | in-Stop w ↦ w.end-is ∙ rw w.in-Stop.is refl
+    | in-Limit w ↦ w.end-is ∙ rw w.in-Limit.is refl
+  ]
+
   -- the end of the authority is read out of its box, for its targets
   end_seen : IsKeptEnd c.self.inside.braking c.self.inside.authority c.deref-2.result.now
   end_seen = rw c.deref-2.ensures c.self.invariant.kept.end
@@ -71,20 +78,20 @@ module _ (c : goal.After-deref-2) where
   end_passed =
       let kept : c.match-deref.result ≡ is_past_eoa c.deref.result.now c.args.reading.now.min =
       elim c.match-deref.branch [
-        | in-Stop w ↦ rw (w.in-Stop.is, ← w.min_mm-in-Stop.ensures) (search rules)
-        | in-Limit w ↦ w.result-is ∙ rw w.in-Limit.is refl
+        | in-Stop-deref w ↦ rw (w.in-Stop-deref.is, ← w.min_mm-in-Stop-deref.ensures) (search rules)
+        | in-Limit-deref w ↦ w.result-is ∙ rw w.in-Limit-deref.is refl
       ] in
       kept ∙ past_eoa c.self.inside.braking c.self.inside.authority c.deref.result.now c.args.reading.now.min
       (rw c.deref.ensures c.self.invariant.kept.end)
 
   -- the falls ahead and the end make the targets of the definitions
-  targets : map target_of c.ahead.result ++ targets_in c.deref-2.result.now (is_some c.match-self.result)
+  targets : map target_of c.ahead.result ++ targets_in c.deref-2.result.now (is_some c.match-self-2.result)
       ≡ targets_of (mrsp_of c.self.inside.profile) c.self.inside.authority c.args.reading.now.max
       (is_some (release_of c.self.inside.braking c.self.inside.authority c.args.reading.now.max))
   targets =
       targets_are c.self.inside.braking (mrsp_of c.self.inside.profile) c.self.inside.authority
-      c.ahead.result c.deref-2.result.now _ c.max_mm-front.result c.end_of.result
-      (is_some c.match-self.result) after c.end_of.ensures
+      c.ahead.result c.deref-2.result.now _ c.max_mm-front.result c.match-self.end
+      (is_some c.match-self-2.result) after end_is
       (c.ahead.ensures.each c.self.inside.braking c.self.invariant.kept.falls.each)
       (c.ahead.ensures.falls (mrsp_of c.self.inside.profile) c.self.invariant.kept.falls.falls) end_seen
       ∙ (λ k. targets_of (mrsp_of c.self.inside.profile) c.self.inside.authority (c.max_mm-front.ensures k)
@@ -100,9 +107,9 @@ module _ (c : goal.After-deref-2) where
       ceiling_kmh = c.lowest.result;
       est = c.args.reading.now.est;
       front = c.args.reading.now.max;
-      targets = map target_of c.ahead.result ++ targets_in c.deref-2.result.now (is_some c.match-self.result);
+      targets = map target_of c.ahead.result ++ targets_in c.deref-2.result.now (is_some c.match-self-2.result);
       past_end = c.match-deref.result;
-      release = c.match-self.result;
+      release = c.match-self-2.result;
       in_use = c.is_service_in_use.result;
     };
   }
