@@ -1,5 +1,6 @@
 -- A place so many whole grains before a whole one, and the lesser of two, are found as for fractions.
-use Rattle.std.proofs.Common.{◌≡◌, ℕ, ℤ, pos, neg_ℤ, ◌+◌, ◌*◌, ◌^◌, ◌≤◌, ◌+ℤ◌, Option, Some, None, arith, ap, refl, subst, ◌∙◌}
+use Rattle.std.proofs.Common.{◌≡◌, ℕ, ℤ, pos, neg_ℤ, ◌+◌, ◌*◌, ◌^◌, ◌≤◌, ◌+ℤ◌, Option, Some, None, arith, ap, refl}
+use Rattle.std.proofs.Common.{subst, ◌∙◌}
 use Rattle.std.specs.Prelude.{IfSome, option_map}
 use Rattle.std.specs.Int.{int_min}
 use Rattle.std.specs.Option.{ForSome, option_map_or}
@@ -81,8 +82,8 @@ permitted_near (Some e) d h k = let near = h e refl in
 abbrev pub braked_of : Option ℕ → Bound → Bound
 braked_of d_bec place = option_map_or (sooner place) d_bec place
 
-pub braked_near : (d_bec : Option ℕ) (place : Bound) → ForSome d_bec (λ d. d ≤ 10 ^ 16) → IsNearZero curve_reach place.at →
-    IsNearZero (curve_reach + 10 ^ 16) (braked_of d_bec place).at
+pub braked_near : (d_bec : Option ℕ) (place : Bound) → ForSome d_bec (λ d. d ≤ 10 ^ 16) →
+    IsNearZero curve_reach place.at → IsNearZero (curve_reach + 10 ^ 16) (braked_of d_bec place).at
 braked_near None place h k = (omega (arith, ints, k.0), omega (arith, ints, k.1))
 braked_near (Some d) place h k = let small = h d refl in
     (omega (arith, ints, small, k.0), omega (arith, ints, small, k.1))
@@ -105,8 +106,9 @@ module _ (times : Times) (v : ℕ) (guide : Option Bound) where
       ≡ limits_from_sbi times v (place_where guide) (place_where ebi) (place_of sbi)
   from_places ebi sbi =
       let driver = sooner sbi (distance_at v driver_time) in
+      let at = sooner_place sbi (distance_at v driver_time) in
       let permitted = permitted_place guide driver
-      ∙ ap (λ z. option_map_or (λ g. lesser g z) (place_where guide) z) (sooner_place sbi (distance_at v driver_time)) in
+      ∙ ap (λ z. option_map_or (λ g. lesser g z) (place_where guide) z) at in
       λ i. record {
         ebi = place_where ebi;
         sbi = place_of sbi;
@@ -117,7 +119,8 @@ module _ (times : Times) (v : ℕ) (guide : Option Bound) where
       }
 
   from_early : (ebi : Option Bound) (sbi : Bound) (g e : Option Fraction) (s : Fraction) → IsEarlyWhere guide g →
-      IsEarlyWhere ebi e → IsEarlyFor sbi s → StandFor (found_from times v guide ebi sbi) (limits_from_sbi times v g e s)
+      IsEarlyWhere ebi e → IsEarlyFor sbi s →
+      StandFor (found_from times v guide ebi sbi) (limits_from_sbi times v g e s)
   from_early ebi sbi g e s guided early h =
       let driver = sooner_early sbi (distance_at v driver_time) s h in
       let permitted = permitted_early guide g _ _ guided driver in

@@ -87,9 +87,9 @@ pub fn sbd_limits(
     limits_at(sbd.place(expected, v), None, guide, times, v)
 }
 
-/// The limits of a target by the place of its curve: of its EBD that at V_bec, with D_bec in grains; of an SBD, for which
-/// no D_bec counts, that at the estimated speed `v`. The place lies within 9·10¹⁷ grains of the origin; the other
-/// conditions are those of `ebd_limits`. (SUBSET-026-3 3.13.9.3; ranges own)
+/// The limits of a target by the place of its curve: of its EBD that at V_bec, with D_bec in grains; of an SBD, for
+/// which no D_bec counts, that at the estimated speed `v`. The place lies within 9·10¹⁷ grains of the origin; the
+/// other conditions are those of `ebd_limits`. (SUBSET-026-3 3.13.9.3; ranges own)
 // In line, as the place that it goes by: a reading asks it of each target.
 #[inline(always)]
 pub fn limits_at(

@@ -1,13 +1,13 @@
 -- The lowest speed of consecutive cells is that of the steps that they lie in: of the first cell's, and of each that
 -- starts at or before the last.
 use Rattle.std.proofs.Common.{◌≡◌, ℕ, zero, suc, ℤ, pos, List, [], ◌∷◌, min, int_le, if◌then◌else◌, ◌≤◌, ◌+ℤ◌, ◌≤ℤ◌}
-use Rattle.std.proofs.Common.{◌<ℤ◌, refl, arith, sym, ◌∙◌}
+use Rattle.std.proofs.Common.{◌<ℤ◌, drop, refl, arith, sym, ◌∙◌}
 use Rattle.std.proofs.lemmas.Int.{ints, by_lt_z}
 use Rattle.sdm_num.proofs.Comparisons.{le_is, not_le_is}
 use Rattle.sdm_rules.specs.Cells.{lowest}
 use Rattle.sdm_speed.specs.declared.steps.Step.{Step}
-use Rattle.sdm_speed.specs.Steps.{AreAfter, speeds_of}
-use Rattle.sdm_speed.proofs.StepLaws.{first_begun, none_begun}
+use Rattle.sdm_speed.specs.Steps.{AreAfter, AreRising, ArePartedAt, speed_to, speeds_of}
+use Rattle.sdm_speed.proofs.StepLaws.{first_begun, none_begun, rest_later, rest_same}
 
 -- speeds that are the same from a cell on have the same lowest
 lowest_same : (f g : ℤ → ℕ) (from : ℤ) (n : ℕ) → ((c : ℤ) → from ≤ℤ c → f c ≡ g c) →
@@ -71,9 +71,9 @@ lowest_of_steps v ss from n to is after =
     let first = none_begun from v ss from after (omega (arith, ints)) in
     omega arith
 
--- so the lowest of speeds is, where from the first cell on they are those of a speed and of steps past that cell
-pub lowest_from : (f : ℤ → ℕ) (v : ℕ) (ss : List Step) (from : ℤ) (n : ℕ) (to : ℤ) → to ≡ from +ℤ pos n →
-    ((c : ℤ) → from ≤ℤ c → f c ≡ speeds_of v ss c) → AreAfter from ss →
-    lowest_to v ss to ≡ lowest min f from n
-lowest_from f v ss from n to is same after =
-    sym (lowest_of_steps v ss from n to is after) ∙ sym (lowest_same f (speeds_of v ss) from n same)
+-- so it is of all steps, where the first `i` start at the first cell or before it: these count by the last of them
+pub lowest_past : (v : ℕ) (ss : List Step) (i : ℕ) (from : ℤ) (n : ℕ) (to : ℤ) → to ≡ from +ℤ pos n → AreRising ss →
+    ArePartedAt (from +ℤ pos 1) ss i → lowest_to (speed_to v ss i) (drop i ss) to ≡ lowest min (speeds_of v ss) from n
+lowest_past v ss i from n to is rising parted =
+    sym (lowest_of_steps (speed_to v ss i) (drop i ss) from n to is (rest_later v ss i from parted rising))
+    ∙ sym (lowest_same (speeds_of v ss) (speeds_of (speed_to v ss i) (drop i ss)) from n (rest_same v ss i from parted))

@@ -1,10 +1,10 @@
 -- The speed of a cell is that of the last step that has begun there: steps that have begun can be left out but the
 -- last, and steps that start past the cell say nothing of it.
-use Rattle.std.proofs.Common.{◌≡◌, ℕ, zero, suc, ℤ, pos, List, [], ◌∷◌, length, get_or, set, drop, int_lt, inl, inr}
-use Rattle.std.proofs.Common.{◌<◌, ◌≤◌, ◌≤ℤ◌, ◌<ℤ◌, refl, ◌∙◌, arith}
+use Rattle.std.proofs.Common.{◌≡◌, ℕ, zero, suc, ℤ, pos, List, [], ◌∷◌, length, get_or, set, drop, inl, inr}
+use Rattle.std.proofs.Common.{int_le, int_lt, ◌<◌, ◌≤◌, ◌+ℤ◌, ◌≤ℤ◌, ◌<ℤ◌, refl, ◌∙◌, arith}
 use Rattle.std.specs.List.Sorted.{IsPartitionedBy}
 use Rattle.std.proofs.lemmas.Int.{ints}
-use Rattle.sdm_num.proofs.Comparisons.{le_is, not_le_is, lt_is, lt_of}
+use Rattle.sdm_num.proofs.Comparisons.{le_is, le_of, not_le_is, lt_is, lt_of}
 use Rattle.sdm_speed.specs.declared.steps.Step.{Step}
 use Rattle.sdm_speed.specs.Steps.{AreAfter, AreRising, ArePartedAt, IsStart, speed_to, speeds_of}
 
@@ -56,6 +56,12 @@ starts_parted ss cell rising i j d le known on =
     let begun : (get_or ss j d).start <ℤ cell = lt_of _ _ on in
     lt_is (get_or ss i d).start cell (let r = rises ss i j d rising le known in omega (arith, ints))
 
+-- so do those that start at it or before it
+pub begun_parted : (ss : List Step) (cell : ℤ) → AreRising ss → IsPartitionedBy (λ s. int_le s.start cell) ss
+begun_parted ss cell rising i j d le known on =
+    let begun : (get_or ss j d).start ≤ℤ cell = le_of _ _ on in
+    le_is (get_or ss i d).start cell (let r = rises ss i j d rising le known in omega (arith, ints))
+
 -- ---- the speed of a cell
 
 -- no step has begun
@@ -71,7 +77,7 @@ pub first_begun : (v : ℕ) (s : Step) (ss : List Step) (c : ℤ) → s.start �
 first_begun v s ss c begun = rw (le_is s.start c begun) refl
 
 -- the first `i` steps have begun
-pub rest_begun : (v : ℕ) (ss : List Step) (i : ℕ) (c : ℤ) → ((k : ℕ) (d : Step) → k < i → k < length ss →
+rest_begun : (v : ℕ) (ss : List Step) (i : ℕ) (c : ℤ) → ((k : ℕ) (d : Step) → k < i → k < length ss →
     (get_or ss k d).start ≤ℤ c) → speeds_of v ss c ≡ speeds_of (speed_to v ss i) (drop i ss) c
 rest_begun v [] zero c begun = refl
 rest_begun v [] (suc i) c begun = refl
@@ -80,13 +86,27 @@ rest_begun v (s ∷ ss) (suc i) c begun = first_begun v s ss c (begun 0 s (omega
     ∙ (rest_begun s.speed ss i c (λ k d l m. begun (suc k) d (omega arith) (omega arith)))
 
 -- the steps that are left start past the cell
-pub rest_after : (ss : List Step) (i : ℕ) (c : ℤ) → AreRising ss →
+rest_after : (ss : List Step) (i : ℕ) (c : ℤ) → AreRising ss →
     ((k : ℕ) (d : Step) → i ≤ k → k < length ss → c <ℤ (get_or ss k d).start) → AreAfter c (drop i ss)
 rest_after [] zero c rising later = tt
 rest_after [] (suc i) c rising later = tt
 rest_after (s ∷ ss) zero c rising later = (later 0 s (omega arith) (omega arith), rising)
 rest_after (s ∷ ss) (suc i) c rising later =
     rest_after ss i c (rising_of s.start ss rising) (λ k d l m. later (suc k) d (omega arith) (omega arith))
+
+module _ (v : ℕ) (ss : List Step) (i : ℕ) (cell : ℤ) (parted : ArePartedAt (cell +ℤ pos 1) ss i) where
+  -- from a cell on, of the steps that start at it or before it only the last counts
+  pub rest_same : (c : ℤ) → cell ≤ℤ c → speeds_of v ss c ≡ speeds_of (speed_to v ss i) (drop i ss) c
+  rest_same c le = rest_begun v ss i c (λ k d l m. let b = parted.before k d l in omega (arith, ints))
+
+  -- the others start past it
+  pub rest_later : AreRising ss → AreAfter cell (drop i ss)
+  rest_later rising = rest_after ss i cell rising (λ k d l m. let f = parted.from k d l m in omega (arith, ints))
+
+  -- so it has the speed of that last one
+  pub rest_first : AreRising ss → speeds_of v ss cell ≡ speed_to v ss i
+  rest_first rising = rest_same cell (omega (arith, ints))
+      ∙ none_begun cell (speed_to v ss i) (drop i ss) cell (rest_later rising) (omega (arith, ints))
 
 -- the speed up to a step is that of the step before it
 pub speed_to_next : (v : ℕ) (ss : List Step) (i : ℕ) (d : Step) → i < length ss →

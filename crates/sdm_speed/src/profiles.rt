@@ -279,7 +279,21 @@ impl Profile {
         ensures value { result ≡ lowest min (mrsp_of self.now) from (int_gap from to) }
         ensures in_range { IsLimit result }
     {
-        self.steps.lowest(from, to)
+        // the speed of the first cell, and of each step past its start that begins at or before the last
+        let steps = &self.steps.list;
+        let begun = steps.partition_point(|step| step.start <= from);
+        let mut lowest = if begun == 0 {
+            self.steps.before
+        } else {
+            steps[begun - 1].speed
+        };
+        for step in &steps[begun..] {
+            if to < step.start {
+                return lowest;
+            }
+            lowest = lowest.min(step.speed);
+        }
+        lowest
     }
 
     /// The first fall of the MRSP past the start of the cell `after`, with the lower speed in km/h.

@@ -3,10 +3,8 @@
 //! each step that it covers takes its limit. A step can take another speed, and go again, where a restriction has
 //! gone.
 
-ghost use Rattle.std.specs.Prelude.{◌≡◌, ◌⊎◌, ◌+◌, ◌<◌, ◌≤◌, ◌+ℤ◌, ◌≤ℤ◌, ℕ, ℤ, pos, [], Some, true, IfOk, length, map};
-ghost use Rattle.std.specs.Prelude.{min, set, take, slice_index_or, vec_len, vec_capacity};
-ghost use Rattle.std.specs.Int.{int_gap};
-ghost use Rattle.sdm_rules.specs.Cells.{lowest};
+ghost use Rattle.std.specs.Prelude.{◌≡◌, ◌⊎◌, ◌+◌, ◌<◌, ◌≤◌, ℕ, ℤ, [], Some, true, IfOk, length, map, min, set};
+ghost use Rattle.std.specs.Prelude.{take, slice_index_or, vec_len, vec_capacity};
 ghost use Rattle.sdm_rules.specs.Profile.{capped};
 ghost use Rattle.sdm_speed.specs.ZoneEnds.{AreSpeedsAt, HasStartsOf};
 ghost use Rattle.sdm_speed.specs.Steps.{AreAfter, AreCovered, AreRising, AreRising-prop, ArePartedAt, IsFallAfter};
@@ -28,16 +26,9 @@ pub struct Step {
 /// A speed in km/h for every cell: one before the first step, and steps whose starts rise.
 #[derive(Debug, Drop)]
 pub struct Steps {
-    before: u16,
-    list: Vec<Step>,
+    pub before: u16,
+    pub list: Vec<Step>,
     ghost rises: { AreRising list.items } by { AreRising-prop list.items },
-}
-
-/// The speeds from a cell on: that of the cell, and the steps that start past it.
-#[derive(Clone, Copy)]
-struct Rest<'a> {
-    speed: u16,
-    later: &'a [Step],
 }
 
 /// The indices of steps in their list: from the first one up to, but not including, the second.
@@ -118,7 +109,7 @@ impl Steps {
     pub fn speed_at(&self, cell: i32) -> u16
         ensures { result ≡ speeds_in self.now cell }
     {
-        self.from_cell(cell).speed
+        self.speed_to(self.started_before(i64::from(cell) + 1))
     }
 
     /// Whether a step starts at a cell.
@@ -168,18 +159,6 @@ impl Steps {
             self.before
         } else {
             self.list[i - 1].speed
-        }
-    }
-
-    /// The speeds from a cell on.
-    fn from_cell(&self, cell: i32) -> Rest<'_>
-        ensures same { (c : ℤ) → cell ≤ℤ c → speeds_in self.now c ≡ speeds_of result.speed result.later.now c }
-        ensures later { AreAfter cell result.later.now }
-    {
-        let begun = self.started_before(i64::from(cell) + 1);
-        Rest {
-            speed: self.speed_to(begun),
-            later: &self.list[begun..],
         }
     }
 
@@ -289,27 +268,11 @@ impl Steps {
         self.cap(zone, Range { from, to });
     }
 
-    /// The lowest speed of the cells from `from` to `to`.
-    pub fn lowest(&self, from: i32, to: i32) -> u16
-        requires { from ≤ℤ to }
-        ensures { result ≡ lowest min (speeds_in self.now) from (int_gap from to) }
-    {
-        let rest = self.from_cell(from);
-        let mut lowest = rest.speed;
-        for step in rest.later {
-            if to < step.start {
-                return lowest;
-            }
-            lowest = lowest.min(step.speed);
-        }
-        lowest
-    }
-
     /// The first fall past the start of the cell `after`.
     pub fn next_fall(&self, after: i32) -> Option<Fall>
         ensures { IsFallAfter (speeds_in self.now) after result }
     {
-        let rest = self.from_cell(after);
-        first_fall(rest.later, rest.speed)
+        let begun = self.started_before(i64::from(after) + 1);
+        first_fall(&self.list[begun..], self.speed_to(begun))
     }
 }

@@ -9,7 +9,8 @@ use Rattle.sdm_limits.specs.Sides.{AreFine, StandFor, limits_at, place_of, place
 use Rattle.sdm_limits.proofs.Places.{braked_near, braked_of, found, found_early, found_fine, found_places}
 use Rattle.sdm_limits.proofs.Places.{permitted_near, permitted_of, sooner}
 use Rattle.sdm_limits.proofs.limits.limits_at.Goals as goal
-use Rattle.sdm_limits.proofs.limits.limits_at.Goals.{After-distance_at-4, in-Some, in-None, in-Some-guide, in-None-guide}
+use Rattle.sdm_limits.proofs.limits.limits_at.Goals.{After-distance_at-4, in-Some, in-None, in-Some-guide}
+use Rattle.sdm_limits.proofs.limits.limits_at.Goals.{in-None-guide}
 
 module _ (c : goal.After-distance_at-4) where
   ebi_is : c.match-d_bec.ebi ≡ (option_map (sooner c.args.place) c.args.d_bec, braked_of c.args.d_bec c.args.place)
@@ -49,7 +50,13 @@ less-requires-2 c =
     (omega (arith, ints, n.0, c.distance_at-4.ensures.small, c.requires.speed), omega (arith, ints, n.1))
 
 module _ (c : goal.After-less-2) where
-  found_is : record { ebi = c.match-d_bec.ebi.0; sbi = c.less-sbi.result; warning = c.less.result; permitted = c.match-guide.permitted; indication = c.less-2.result } ≡ found c.args.times.now c.args.v c.args.guide c.args.d_bec c.args.place
+  found_is : record {
+    ebi = c.match-d_bec.ebi.0;
+    sbi = c.less-sbi.result;
+    warning = c.less.result;
+    permitted = c.match-guide.permitted;
+    indication = c.less-2.result;
+  } ≡ found c.args.times.now c.args.v c.args.guide c.args.d_bec c.args.place
   found_is =
       let d = (goal.at.returns-clause-at c).After-distance_at-4 in
       rw (

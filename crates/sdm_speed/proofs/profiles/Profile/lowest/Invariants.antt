@@ -1,7 +1,7 @@
 -- The lowest of the speed so far and of the steps that are left is that of them all.
 use Rattle.std.proofs.Common.{◌≡◌, drop}
 use Rattle.sdm_speed.proofs.LowestLaws.{lowest_to}
-use Rattle.sdm_speed.proofs.steps.Steps.lowest.Given as goal
+use Rattle.sdm_speed.proofs.profiles.Profile.lowest.Given as goal
 
 abbrev pub invariant-loop-step : goal.invariant-loop-step
 invariant-loop-step l =
