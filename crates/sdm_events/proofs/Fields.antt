@@ -1,12 +1,11 @@
 -- The fields of a record by their indices: what a look-up finds, and the list of all that follow an index.
-use Rattle.std.proofs.Common.{◌≡◌, ◌≢◌, ◌<◌, ◌∙◌, ℕ, false, List, [], ◌∷◌, length, drop, Option, Some, None, Bor}
-use Rattle.std.proofs.Common.{IsSome, option_map, get_or, refl, sym, ap, arith}
+use Rattle.std.proofs.Common.{◌≡◌, ◌≢◌, ◌<◌, ◌∙◌, ℕ, Bool, false, List, [], ◌∷◌, length, drop, Option, Some, None, Bor}
+use Rattle.std.proofs.Common.{IsSome, option_map, get_or, refl, sym, ap}
 use Rattle.std.specs.Bool.{one_answer}
-use Rattle.std.specs.List.{starts_with}
+use Rattle.std.specs.Option.{MatchOption, option_eq}
+use Rattle.std.specs.Array.{IsWholeChunk}
 use Rattle.std.specs.Str.{bytes_eq}
-use Rattle.std.proofs.Math.Dec.{eqb}
 use Rattle.std.proofs.lemmas.Bool.{false≢true}
-use Rattle.std.proofs.lemmas.List.{take_all}
 use Rattle.std.proofs.lemmas.Slice.Eq.{bytes_eq-Decides}
 use Rattle.csv.specs.Records.{field_at}
 use Rattle.csv.proofs.RecordFacts.{field-get, field-there}
@@ -39,15 +38,14 @@ no_fields (k ∷ more) o is none = cc (rw none at is)
 
 -- ---- whether a field is a text
 
--- a field that is as long as a text and begins with it is that text
-pub same_text : (s p : List ℕ) → length s ≡ length p → starts_with eqb s p ≡ bytes_eq s p
-same_text s p long =
-    let whole : starts_with eqb s p ≡ bytes_eq p s = ap (bytes_eq p) (take_all (length p) s (omega (arith, long))) in
-    let back = bytes_eq-Decides p s in
-    whole ∙ one_answer (bytes_eq p s) (bytes_eq s p) ((λ yes. sym (back.0 yes)), (λ same. back.1 (sym same)))
-    (bytes_eq-Decides s p)
-
 -- a field of another length is another text
-pub other_length : (s p : List ℕ) → length s ≢ length p → false ≡ bytes_eq s p
+other_length : (s p : List ℕ) → length s ≢ length p → false ≡ bytes_eq s p
 other_length s p other = one_answer false (bytes_eq s p)
     ((λ no. absurd (false≢true no)), (λ same. absurd (other (ap length same)))) (bytes_eq-Decides s p)
+
+-- a field that is asked for as an array of a text's length is that text where the array is
+pub as_text : (s : List ℕ) (p : Bor (List ℕ)) (n : ℕ) (o : Option (Bor (List ℕ))) (r : Bool) → n ≡ length p.now →
+    MatchOption o (length s ≢ n) (λ a. IsWholeChunk s a.now n) →
+    r ≡ option_eq (λ a b. bytes_eq a.now b.now) o (Some p) → r ≡ bytes_eq s p.now
+as_text s p n None r long other is = is ∙ other_length s p.now (λ same. other (same ∙ sym long))
+as_text s p n (Some a) r long whole is = is ∙ ap (λ t. bytes_eq t p.now) whole.same

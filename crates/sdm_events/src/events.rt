@@ -29,34 +29,21 @@ pub fn event_of(fields: &ByteRecord) -> Result<Event, EventFault>
     let Some(kind) = fields.get(0) else {
         return Err(EventFault::UnknownKind);
     };
-    if is_kind(kind, b"read") {
+    if kind.as_array() == Some(b"read") {
         read_event(fields)
-    } else if is_kind(kind, b"end") {
+    } else if kind.as_array() == Some(b"end") {
         end_event(fields)
-    } else if is_kind(kind, b"endcalc") {
+    } else if kind.as_array() == Some(b"endcalc") {
         endcalc_event(fields)
-    } else if is_kind(kind, b"limit") {
+    } else if kind.as_array() == Some(b"limit") {
         limit_event(fields)
-    } else if is_kind(kind, b"restrict") {
+    } else if kind.as_array() == Some(b"restrict") {
         restrict_event(fields)
-    } else if is_kind(kind, b"revoke") {
+    } else if kind.as_array() == Some(b"revoke") {
         revoke_event(fields)
     } else {
         Err(EventFault::UnknownKind)
     }
-}
-
-/// A field is the name of a kind: as long, and beginning with it.
-// At a name that stands in the code `starts_with` is a few compares, where `==` of slices calls a loop.
-#[inline]
-#[tactic(auto, using(crate::proofs::Fields::same_text, crate::proofs::Fields::other_length))]
-fn is_kind(field: &[u8], kind: &[u8]) -> bool
-    ensures { result ≡ bytes_eq field.now kind.now }
-{
-    if field.len() != kind.len() {
-        return false;
-    }
-    field.starts_with(kind)
 }
 
 /// The number of a column, from `least` to `greatest`, or the column's fault.
@@ -95,7 +82,7 @@ fn read_event(fields: &ByteRecord) -> Result<Event, EventFault>
     let speed = number(fields, 6, 0, 138_888)?;
     let accel = number(fields, 7, -300, 300)?;
     let under = number(fields, 8, 0, 10_000)?;
-    Ok(Event::Read(reading(
+    let reading = Reading::new(
         time as u32,
         est,
         min,
@@ -103,32 +90,8 @@ fn read_event(fields: &ByteRecord) -> Result<Event, EventFault>
         speed as u32,
         accel as i16,
         under as u32,
-    )))
-}
-
-/// The reading of numbers that are in their ranges.
-#[inline(always)]
-fn reading(
-    time: u32,
-    est_mm: i32,
-    min_mm: i32,
-    max_mm: i32,
-    speed_mm_s: u32,
-    accel: i16,
-    under_mm_s: u32,
-) -> Reading
-    requires time { time ≤ 100_000_000 }
-    requires low { negsuc 9_999_999 ≤ℤ min_mm }
-    requires back { min_mm ≤ℤ est_mm }
-    requires front { est_mm ≤ℤ max_mm }
-    requires high { max_mm ≤ℤ pos 110_000_000 }
-    requires speed { speed_mm_s ≤ 138_888 }
-    requires slowing { negsuc 299 ≤ℤ accel }
-    requires gaining { accel ≤ℤ pos 300 }
-    requires under { under_mm_s ≤ 10_000 }
-    ensures { result ≡ reading_of time est_mm min_mm max_mm speed_mm_s accel under_mm_s }
-{
-    Reading::new(time, est_mm, min_mm, max_mm, speed_mm_s, accel, under_mm_s).unwrap()
+    );
+    Ok(Event::Read(reading.unwrap()))
 }
 
 /// `end`: an authority that ends in a stop.

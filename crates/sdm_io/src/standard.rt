@@ -17,21 +17,6 @@ use std::alloc::Global;
 use std::io::{BufWriter, ErrorKind, Read, Write};
 use std::marker::Model;
 
-/// Counts an answer of failure, and hands the answer on.
-fn counted<T>(answer: Result<T, Failed>, faults: &mut u64) -> Result<T, Failed>
-    ensures same { result ≡ answer }
-    ensures cause { HasCause faults.old faults.new result }
-    ensures counted { faults.new ≡ (if is_err result then next_count faults.old else faults.old) }
-{
-    match answer {
-        Ok(value) => Ok(value),
-        Err(failed) => {
-            *faults = faults.saturating_add(1);
-            Err(failed)
-        }
-    }
-}
-
 /// One read, made again where the system interrupted it.
 fn read_once<R: Read>(inner: &mut R, buf: &mut [u8]) -> Result<usize, Failed>
     ensures { ReadsAtMost result buf.new }
@@ -48,6 +33,7 @@ fn read_once<R: Read>(inner: &mut R, buf: &mut [u8]) -> Result<usize, Failed>
 
 /// One write, likewise. A writer that takes nothing of a piece that is not empty would never come to its end, so that
 /// is a failure.
+#[inline(always)]
 fn write_once<W: Write>(inner: &mut W, piece: &[u8]) -> Result<usize, Failed>
     ensures bound { WritesAtMost result piece.now }
     ensures some { IfOk result (λ n. 0 < length piece.now → 0 < n) }
@@ -120,7 +106,9 @@ impl<R: Read> Source for StdSource<R> {
         ensures cause { HasCause self.old self.new result }
         ensures counted { self.new ≡ (if is_err result then next_count self.old else self.old) }
     {
-        counted(read_once(&mut self.inner, buf), &mut self.faults)
+        let answer = read_once(&mut self.inner, buf);
+        self.faults = self.faults.saturating_add(u64::from(answer.is_err()));
+        answer
     }
 }
 
@@ -159,14 +147,18 @@ impl<W: Write> Sink for StdSink<W> {
         ensures cause { HasCause self.old self.new result }
         ensures counted { self.new ≡ (if is_err result then next_count self.old else self.old) }
     {
-        counted(write_once(&mut self.inner, piece), &mut self.faults)
+        let answer = write_once(&mut self.inner, piece);
+        self.faults = self.faults.saturating_add(u64::from(answer.is_err()));
+        answer
     }
 
     fn flush(&mut self) -> Result<(), Failed>
         ensures cause { HasCause self.old self.new result }
         ensures counted { self.new ≡ (if is_err result then next_count self.old else self.old) }
     {
-        counted(flush_once(&mut self.inner), &mut self.faults)
+        let answer = flush_once(&mut self.inner);
+        self.faults = self.faults.saturating_add(u64::from(answer.is_err()));
+        answer
     }
 }
 
@@ -205,13 +197,17 @@ impl<W: Write + Drop> Sink for BlockSink<W> {
 
     ghost faults = { λ s. s.faults };
 
+    // In line in each loop over records: a call would cost a reading some 60 instructions.
+    #[inline(always)]
     fn write(&mut self, piece: &[u8]) -> Result<usize, Failed>
         ensures bound { WritesAtMost result piece.now }
         ensures some { IfOk result (λ n. 0 < length piece.now → 0 < n) }
         ensures cause { HasCause self.old.faults self.new.faults result }
         ensures counted { self.new.faults ≡ (if is_err result then next_count self.old.faults else self.old.faults) }
     {
-        counted(write_once(&mut self.inner, piece), &mut self.faults)
+        let answer = write_once(&mut self.inner, piece);
+        self.faults = self.faults.saturating_add(u64::from(answer.is_err()));
+        answer
     }
 
     fn flush(&mut self) -> Result<(), Failed>
@@ -219,7 +215,9 @@ impl<W: Write + Drop> Sink for BlockSink<W> {
         ensures cause { HasCause self.old.faults self.new.faults result }
         ensures counted { self.new.faults ≡ (if is_err result then next_count self.old.faults else self.old.faults) }
     {
-        counted(flush_block(&mut self.inner), &mut self.faults)
+        let answer = flush_block(&mut self.inner);
+        self.faults = self.faults.saturating_add(u64::from(answer.is_err()));
+        answer
     }
 }
 

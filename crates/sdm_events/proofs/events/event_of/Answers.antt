@@ -1,70 +1,73 @@
--- A record that has a first field is its kind and the fields after it.
+-- The kind is the record's first field; it is the text of a kind or of none of them.
 use Rattle.std.proofs.Common.{refl, arith}
 use Rattle.std.proofs.lemmas.Grind.{common_steps}
 use Rattle.csv.specs.Records.{fields_of}
 use Rattle.sdm_rules.specs.Forms.{event_of}
-use Rattle.sdm_events.proofs.Fields.{first_field, no_fields}
+use Rattle.sdm_events.proofs.Fields.{as_text, first_field, no_fields}
 use Rattle.sdm_events.proofs.events.event_of.Goals as goal
 
-pub returns-in_default : goal.returns-in_default
+pub returns-in_default-clause-value : goal.returns-in_default-clause-value
 unfolding event_of
-returns-in_default c = record {
-  value = rw (no_fields (fields_of c.args.fields.now) _ c.get.ensures.value c.in_default.is) refl;
-  form = tt;
-}
+returns-in_default-clause-value c = rw (no_fields (fields_of c.args.fields.now) _ c.get.ensures.value c.in_default.is) refl
 
-pub returns-then-is_kind : goal.returns-then-is_kind
+pub returns-then-eq-clause-value : goal.returns-then-eq-clause-value
 unfolding event_of
-returns-then-is_kind c = record {
-  value = rw (first_field (fields_of c.args.fields.now) _ _ c.get.ensures.value c.in-Some.is)
-      (grind (arith, common_steps));
-  form = c.read_event.ensures.form;
-}
+returns-then-eq-clause-value c =
+    let is_read = as_text _ _ _ _ _ refl c.as_array.ensures.cases c.eq.ensures in
+    rw (first_field (fields_of c.args.fields.now) _ _ c.get.ensures.value c.in-Some.is) (grind (arith, common_steps))
 
-pub returns-then-is_kind-2 : goal.returns-then-is_kind-2
+pub returns-then-eq-2-clause-value : goal.returns-then-eq-2-clause-value
 unfolding event_of
-returns-then-is_kind-2 c = record {
-  value = rw (first_field (fields_of c.args.fields.now) _ _ c.get.ensures.value c.in-Some.is)
-      (grind (arith, common_steps));
-  form = c.end_event.ensures.form;
-}
+returns-then-eq-2-clause-value c =
+    let is_read = as_text _ _ _ _ _ refl c.as_array.ensures.cases c.eq.ensures in
+    let is_end = as_text _ _ _ _ _ refl c.as_array-else-eq.ensures.cases c.eq-else-eq.ensures in
+    rw (first_field (fields_of c.args.fields.now) _ _ c.get.ensures.value c.in-Some.is) (grind (arith, common_steps))
 
-pub returns-then-is_kind-3 : goal.returns-then-is_kind-3
+pub returns-then-eq-3-clause-value : goal.returns-then-eq-3-clause-value
 unfolding event_of
-returns-then-is_kind-3 c = record {
-  value = rw (first_field (fields_of c.args.fields.now) _ _ c.get.ensures.value c.in-Some.is)
-      (grind (arith, common_steps));
-  form = c.endcalc_event.ensures.form;
-}
+returns-then-eq-3-clause-value c =
+    let is_read = as_text _ _ _ _ _ refl c.as_array.ensures.cases c.eq.ensures in
+    let is_end = as_text _ _ _ _ _ refl c.as_array-else-eq.ensures.cases c.eq-else-eq.ensures in
+    let is_endcalc = as_text _ _ _ _ _ refl c.as_array-else-eq-2.ensures.cases c.eq-else-eq-2.ensures in
+    rw (first_field (fields_of c.args.fields.now) _ _ c.get.ensures.value c.in-Some.is) (grind (arith, common_steps))
 
-pub returns-then-is_kind-4 : goal.returns-then-is_kind-4
+pub returns-then-eq-4-clause-value : goal.returns-then-eq-4-clause-value
 unfolding event_of
-returns-then-is_kind-4 c = record {
-  value = rw (first_field (fields_of c.args.fields.now) _ _ c.get.ensures.value c.in-Some.is)
-      (grind (arith, common_steps));
-  form = c.limit_event.ensures.form;
-}
+returns-then-eq-4-clause-value c =
+    let is_read = as_text _ _ _ _ _ refl c.as_array.ensures.cases c.eq.ensures in
+    let is_end = as_text _ _ _ _ _ refl c.as_array-else-eq.ensures.cases c.eq-else-eq.ensures in
+    let is_endcalc = as_text _ _ _ _ _ refl c.as_array-else-eq-2.ensures.cases c.eq-else-eq-2.ensures in
+    let is_limit = as_text _ _ _ _ _ refl c.as_array-else-eq-3.ensures.cases c.eq-else-eq-3.ensures in
+    rw (first_field (fields_of c.args.fields.now) _ _ c.get.ensures.value c.in-Some.is) (grind (arith, common_steps))
 
-pub returns-then-is_kind-5 : goal.returns-then-is_kind-5
+pub returns-then-eq-5-clause-value : goal.returns-then-eq-5-clause-value
 unfolding event_of
-returns-then-is_kind-5 c = record {
-  value = rw (first_field (fields_of c.args.fields.now) _ _ c.get.ensures.value c.in-Some.is)
-      (grind (arith, common_steps));
-  form = c.restrict_event.ensures.form;
-}
+returns-then-eq-5-clause-value c =
+    let is_read = as_text _ _ _ _ _ refl c.as_array.ensures.cases c.eq.ensures in
+    let is_end = as_text _ _ _ _ _ refl c.as_array-else-eq.ensures.cases c.eq-else-eq.ensures in
+    let is_endcalc = as_text _ _ _ _ _ refl c.as_array-else-eq-2.ensures.cases c.eq-else-eq-2.ensures in
+    let is_limit = as_text _ _ _ _ _ refl c.as_array-else-eq-3.ensures.cases c.eq-else-eq-3.ensures in
+    let is_restrict = as_text _ _ _ _ _ refl c.as_array-else-eq-4.ensures.cases c.eq-else-eq-4.ensures in
+    rw (first_field (fields_of c.args.fields.now) _ _ c.get.ensures.value c.in-Some.is) (grind (arith, common_steps))
 
-pub returns-then-is_kind-6 : goal.returns-then-is_kind-6
+pub returns-then-eq-6-clause-value : goal.returns-then-eq-6-clause-value
 unfolding event_of
-returns-then-is_kind-6 c = record {
-  value = rw (first_field (fields_of c.args.fields.now) _ _ c.get.ensures.value c.in-Some.is)
-      (grind (arith, common_steps));
-  form = c.revoke_event.ensures.form;
-}
+returns-then-eq-6-clause-value c =
+    let is_read = as_text _ _ _ _ _ refl c.as_array.ensures.cases c.eq.ensures in
+    let is_end = as_text _ _ _ _ _ refl c.as_array-else-eq.ensures.cases c.eq-else-eq.ensures in
+    let is_endcalc = as_text _ _ _ _ _ refl c.as_array-else-eq-2.ensures.cases c.eq-else-eq-2.ensures in
+    let is_limit = as_text _ _ _ _ _ refl c.as_array-else-eq-3.ensures.cases c.eq-else-eq-3.ensures in
+    let is_restrict = as_text _ _ _ _ _ refl c.as_array-else-eq-4.ensures.cases c.eq-else-eq-4.ensures in
+    let is_revoke = as_text _ _ _ _ _ refl c.as_array-else-eq-5.ensures.cases c.eq-else-eq-5.ensures in
+    rw (first_field (fields_of c.args.fields.now) _ _ c.get.ensures.value c.in-Some.is) (grind (arith, common_steps))
 
-pub returns-else-is_kind-6 : goal.returns-else-is_kind-6
+pub returns-else-eq-6-clause-value : goal.returns-else-eq-6-clause-value
 unfolding event_of
-returns-else-is_kind-6 c = record {
-  value = rw (first_field (fields_of c.args.fields.now) _ _ c.get.ensures.value c.in-Some.is)
-      (grind (arith, common_steps));
-  form = tt;
-}
+returns-else-eq-6-clause-value c =
+    let is_read = as_text _ _ _ _ _ refl c.as_array.ensures.cases c.eq.ensures in
+    let is_end = as_text _ _ _ _ _ refl c.as_array-else-eq.ensures.cases c.eq-else-eq.ensures in
+    let is_endcalc = as_text _ _ _ _ _ refl c.as_array-else-eq-2.ensures.cases c.eq-else-eq-2.ensures in
+    let is_limit = as_text _ _ _ _ _ refl c.as_array-else-eq-3.ensures.cases c.eq-else-eq-3.ensures in
+    let is_restrict = as_text _ _ _ _ _ refl c.as_array-else-eq-4.ensures.cases c.eq-else-eq-4.ensures in
+    let is_revoke = as_text _ _ _ _ _ refl c.as_array-else-eq-5.ensures.cases c.eq-else-eq-5.ensures in
+    rw (first_field (fields_of c.args.fields.now) _ _ c.get.ensures.value c.in-Some.is) (grind (arith, common_steps))
