@@ -19,7 +19,8 @@ use sdm_text::read_int;
 /// The event that a record writes. It is refused by UnknownKind where its first field names no kind; else by
 /// FieldCount where it has another count of fields than its kind; else by Field where a column is no number in its
 /// range, with the first such column. TooMany is never answered here. No memory is taken. (own)
-// In line in each loop over records: a call would cost a reading some 70 instructions.
+// In line in each loop over records: a call would cost a reading some 70 instructions. A kind is compared as an array,
+// which takes a few compares, where `==` of slices calls a loop.
 #[inline(always)]
 #[tactic(auto, unfolding(sdm_rules::specs::Forms::event_of))]
 pub fn event_of(fields: &ByteRecord) -> Result<Event, EventFault>

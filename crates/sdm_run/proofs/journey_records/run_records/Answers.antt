@@ -1,5 +1,5 @@
 -- Each turn takes the first record that is left, or ends the run with the outcome of what is left.
-use Rattle.std.proofs.Common.{◌≡◌, ◌+◌, suc, ◌∷◌, Some, Ok, Err, refl, inl, ap, ◌∙◌, sym, arith}
+use Rattle.std.proofs.Common.{◌≡◌, ◌+◌, suc, ◌∷◌, refl, inl, sym, arith}
 use Rattle.std.proofs.lemmas.Bool.{false≢true}
 use Rattle.std.proofs.KnownBytes.{Appends-nil}
 use Rattle.csv.specs.Records.{fields_of}
@@ -36,28 +36,24 @@ pub returns-in-Err-take_record-clause-possible : goal.returns-in-Err-take_record
 returns-in-Err-take_record-clause-possible g c = rw c.new-in-Err-take_record.ensures
     (refused_outcome _ c.records.supervisor _ _ (omega arith) c.in-Err-take_record.ensures.refused)
 
-pub returns-in-Err-told-clause-answer : goal.returns-in-Err-told-clause-answer
-returns-in-Err-told-clause-answer g c =
+pub returns-in-Ok-Cut-clause-answer : goal.returns-in-Ok-Cut-clause-answer
+returns-in-Ok-Cut-clause-answer g c =
     let found : c.records.records.left ≡ fields_of c.next.new.into ∷ c.next.new.self.left =
     c.next.ensures.found (cc (c.in-Ok-true.is, c.in-Ok-true.field-0-test)) in
-    let told : c.in-Ok-Some.field-0 ≡ Some (Err c.in-Err-told.ended) =
-    c.in-Ok-Some.field-0-is ∙ ap (λ told. Some told) c.in-Err-told.is in
-    let taken = (rw told at c.in-Ok-Some.ensures.taken) in
-    reading_cut _ _ _ _ _ _ found _ _ _ _ c.records.invariant.left _ taken.0 taken.1 taken.2 c.in-Err-told.ended
-    (records_not_before _ (c.in-Ok-Some.ensures.possible _ told)) taken.3
+    let taken = (rw c.in-Ok-Cut.field-0-is at c.in-Ok-Cut.ensures.taken) in
+    reading_cut _ _ _ _ _ _ found _ _ _ _ c.records.invariant.left _ taken.0 taken.1 taken.2 c.in-Ok-Cut.ended
+    (records_not_before _ (c.in-Ok-Cut.ensures.possible _ c.in-Ok-Cut.field-0-is)) taken.3
 
 pub records-preserved : goal.records-preserved
 records-preserved g c =
     let found : c.records.records.left ≡ fields_of c.next.new.into ∷ c.next.new.self.left =
     c.next.ensures.found (cc (c.in-Ok-true.is, c.in-Ok-true.field-0-test)) in
     let next : c.records.number + 1 + 1 ≡ suc (c.records.number + 1) = omega arith in
-    let told : c.in-Ok-Some.field-0 ≡ Some (Ok c.in-Ok.after) =
-    c.in-Ok-Some.field-0-is ∙ ap (λ told. Some told) c.in-Ok.is in
-    let taken = (rw told at c.in-Ok-Some.ensures.taken) in
+    let taken = (rw c.in-Ok-Told.field-0-is at c.in-Ok-Told.ensures.taken) in
     record {
       left = rw next (reading_told _ _ _ _ _ _ found _ _ _ _ c.records.invariant.left _ taken.0 taken.1 taken.2 _
           taken.3);
-      counted = omega (arith, c.in-Ok-Some.ensures.counted);
-      later = omega (arith, c.records.invariant.later, c.in-Ok-Some.ensures.later);
+      counted = omega (arith, c.in-Ok-Told.ensures.counted);
+      later = omega (arith, c.records.invariant.later, c.in-Ok-Told.ensures.later);
       due = λ is. absurd (false≢true (sym is));
     }
