@@ -1,5 +1,5 @@
 -- The release speed that is kept is the one that the definitions monitor.
-use Rattle.std.proofs.Common.{◌≡◌, ℤ, Option, Some, None, ◌≤◌, refl, arith}
+use Rattle.std.proofs.Common.{◌≡◌, ℕ, ℤ, Option, Some, None, ◌≤◌, if◌then◌else◌, refl, arith}
 use Rattle.std.specs.Prelude.{IfSome}
 use Rattle.std.proofs.lemmas.Bool.{cond_both, lt-ltb}
 use Rattle.sdm_rules.specs.declared.authorities.Authority.{Authority}
@@ -10,7 +10,14 @@ use Rattle.sdm_rules.specs.Triggers.{is_past}
 use Rattle.sdm_rules.specs.Ranges.{top_kmh}
 use Rattle.sdm_limits.specs.Sides.{place_of}
 use Rattle.sdm_braking.specs.declared.releases.Release.{Release}
-use Rattle.sdm_braking.specs.Releases.{IsReleaseOf, release_speed_at}
+use Rattle.sdm_braking.specs.Releases.{IsReleaseOf}
+
+-- the release speed that is kept, in km/h, where a max safe front end is past the start of its monitoring
+-- (SUBSET-026-3 3.13.10.5)
+abbrev pub release_speed_at : Option Release → ℤ → Option ℕ
+release_speed_at None front = None
+release_speed_at (Some release) front =
+    if is_past 0 front (place_of release.start) then Some release.speed_kmh else None
 
 -- the release speed that is kept is monitored where the definitions say
 pub release_speed_at_is : (d : TrainAndTrack) (a : Authority) (kept : Option Release) (front : ℤ) →

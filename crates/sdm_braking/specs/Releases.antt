@@ -1,10 +1,9 @@
 -- What is kept of release speed monitoring (own).
-use Rattle.std.specs.Prelude.{◌≡◌, ℕ, ℤ, Option, Some, None, ⊤, ◌<◌, ◌≤◌, if◌then◌else◌}
+use Rattle.std.specs.Prelude.{◌≡◌, ℕ, Option, Some, None, ⊤, ◌<◌, ◌≤◌}
 use Rattle.sdm_rules.specs.declared.authorities.Authority.{Authority}
 use Rattle.sdm_rules.specs.declared.authorities.Authority.TheVariants.{Stop, Limit}
 use Rattle.sdm_rules.specs.Data.{TrainAndTrack}
 use Rattle.sdm_rules.specs.Limits.{computed, release_start}
-use Rattle.sdm_rules.specs.Triggers.{is_past}
 use Rattle.sdm_rules.specs.Ranges.{top_kmh}
 use Rattle.sdm_limits.specs.Sides.{place_of}
 use Rattle.sdm_braking.specs.declared.releases.Release.{Release}
@@ -24,10 +23,3 @@ IsReleaseOf d (Stop eoa svl speed) (Some release) = IsStartOf d eoa svl speed re
 IsReleaseOf d (Stop eoa svl speed) None = speed ≡ 0
 IsReleaseOf d (Limit loa speed) (Some release) = ⊥
 IsReleaseOf d (Limit loa speed) None = ⊤
-
--- the release speed that is kept, in km/h, where a max safe front end is past the start of its monitoring
--- (SUBSET-026-3 3.13.10.5; own)
-abbrev pub release_speed_at : Option Release → ℤ → Option ℕ
-release_speed_at None front = None
-release_speed_at (Some release) front =
-    if is_past 0 front (place_of release.start) then Some release.speed_kmh else None

@@ -21,8 +21,8 @@ use Rattle.sdm_braking.specs.declared.kept_ends.KeptEnd.TheVariants.{Stop as Kep
 use Rattle.sdm_braking.specs.declared.kept_targets.KeptTarget.{KeptTarget}
 use Rattle.sdm_braking.specs.declared.releases.Release.{Release}
 use Rattle.sdm_braking.specs.KeptCurves.{IsKeptAt, IsKeptEnd}
-use Rattle.sdm_braking.specs.Releases.{IsReleaseOf, release_speed_at}
-use Rattle.sdm_braking.proofs.ReleaseLaws.{release_speed_at_is}
+use Rattle.sdm_braking.specs.Releases.{IsReleaseOf}
+use Rattle.sdm_braking.proofs.ReleaseLaws.{release_speed_at, release_speed_at_is}
 use Rattle.sdm_supervisor.proofs.PassedLaws.{past_of}
 
 -- the EBI of a kept target for the estimate of a reading is that of the SvL, where this is the target

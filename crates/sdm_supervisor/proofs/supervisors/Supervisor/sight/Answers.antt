@@ -10,11 +10,10 @@ use Rattle.sdm_speed.specs.Profiles.{mrsp_of}
 use Rattle.sdm_braking.specs.declared.releases.Release.{Release}
 use Rattle.sdm_braking.specs.KeptCurves.{IsKeptEnd, targets_in}
 use Rattle.sdm_braking.specs.KeptFalls.{target_of}
-use Rattle.sdm_braking.specs.Releases.{release_speed_at}
 use Rattle.sdm_supervisor.specs.Sights.{Seen, seen_at}
 use Rattle.sdm_laws.proofs.Rows.Passing.{passing}
 use Rattle.sdm_supervisor.proofs.CycleLaws.{is_open}
-use Rattle.sdm_braking.proofs.ReleaseLaws.{release_speed_at_is, release_speed_in_range}
+use Rattle.sdm_braking.proofs.ReleaseLaws.{release_speed_at, release_speed_at_is, release_speed_in_range}
 use Rattle.sdm_supervisor.proofs.FindLaws.{seen_is}
 use Rattle.sdm_supervisor.proofs.WithinLaws.{released_at}
 use Rattle.sdm_braking.proofs.WalkLaws.{ends_kept, is_past_eoa, past_eoa, targets_are}

@@ -7,8 +7,8 @@ use Rattle.sdm_laws.proofs.Rows.WithinSvl.{within_stops}
 use Rattle.sdm_braking.specs.declared.kept_ends.KeptEnd.{KeptEnd}
 use Rattle.sdm_braking.specs.declared.releases.Release.{Release}
 use Rattle.sdm_braking.specs.Braking.{IsSupervisable}
-use Rattle.sdm_braking.specs.Releases.{release_speed_at}
 use Rattle.sdm_braking.specs.KeptCurves.{AreKept, IsKeptEnd}
+use Rattle.sdm_braking.proofs.ReleaseLaws.{release_speed_at}
 use Rattle.sdm_braking.proofs.WalkLaws.{ends_kept}
 use Rattle.sdm_supervisor.proofs.CycleLaws.{is_open}
 use Rattle.sdm_supervisor.proofs.WithinLaws.{begun_at, by_front, monitored, not_in_release, not_of_limit}
