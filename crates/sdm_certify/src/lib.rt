@@ -29,8 +29,3 @@ pub use marks::Marks;
 pub use sdm_rules::{Claim, Mark};
 pub use written_claims::{answer_line, claim_line, mark_line};
 pub use written_map::{map_line, map_lines};
-
-#[cfg(test)]
-mod tests;
-#[cfg(test)]
-mod text_tests;

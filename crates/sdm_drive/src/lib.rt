@@ -17,6 +17,3 @@ pub use orders::Orders;
 pub use rows::DriveRow;
 pub use summaries::Summary;
 pub use whole_drives::driven;
-
-#[cfg(test)]
-mod tests;

@@ -7,6 +7,9 @@
 //! of the product's input, each with its answer: the row as the product prints it, a fault, or `taken`. `up to` with
 //! an identity stands for as many restrictions alike as bring the identities up to that one, `come and go` with a
 //! number for so many restrictions alike, each revoked before the next.
+//!
+//! A test owns its data and supervisors in one function and judges them in another, which takes them by reference: the
+//! proof of a function counts what each of its exits drops.
 
 mod calculated;
 mod curves;
@@ -14,102 +17,76 @@ mod data;
 mod greatest;
 mod journeys;
 mod modelled;
+mod openings;
 mod records;
 mod shown;
 mod whole_speeds;
 mod within;
 
 use calculated::CALCULATED;
-use data::{Data, base, set_line};
-use greatest::{expect, greatest, read, restrict};
+use greatest::{greatest, reads_all, restricts_all};
 use journeys::{COMMANDS, FRONTS, LIMITS, RECORDS, RELEASES};
 use modelled::MODELLED;
-use records::begin;
-use sdm_supervisor::{OpenFault, Supervisor};
+use openings::{data_of, is_opened_as, opened};
+use records::answers;
+use sdm_supervisor::Supervisor;
 use shown::{is_shown_at_standstill, is_shown_before_the_end};
 use std::alloc::Global;
 use std::process::Abort;
-use std::test::Fail;
 
-/// The data of a journey.
-fn data_of(alloc: Global, journey: &str) -> Result<Data, Fail> {
-    let mut data = base(alloc);
+/// Hands a supervisor the records of a journey; each is answered as its line says.
+fn run(rt: &impl Abort, alloc: Global, supervisor: &mut Supervisor, journey: &str) {
     for line in journey.lines() {
-        if !line.contains(" = ") && !line.starts_with('#') {
-            set_line(alloc, &mut data, line)?;
+        if let Some((record, answer)) = line.split_once(" = ") {
+            assert!(rt; answers(alloc, supervisor, record, answer), "{line}");
         }
     }
-    Ok(data)
 }
 
-/// The supervisor that is opened over data.
-pub fn opened(alloc: Global, data: Data) -> Result<Supervisor, Fail> {
-    match begin(alloc, data)? {
-        Ok(supervisor) => Ok(supervisor),
-        Err(_) => Err("the opening is refused")?,
-    }
+fn go(rt: &impl Abort, alloc: Global, journey: &str) {
+    let mut supervisor = opened(alloc, data_of(alloc, journey)).expect(rt, "an opening");
+    run(rt, alloc, &mut supervisor, journey);
 }
 
-/// Hands a supervisor the records of a journey.
-fn run(
-    rt: &impl Abort,
-    alloc: Global,
-    supervisor: &mut Supervisor,
-    journey: &str,
-) -> Result<(), Fail> {
-    for line in journey.lines() {
-        if let Some((record, expected)) = line.split_once(" = ") {
-            expect(rt, alloc, supervisor, record, expected)?;
-        }
-    }
-    Ok(())
-}
-
-fn go(rt: &impl Abort, alloc: Global, journey: &str) -> Result<(), Fail> {
-    let mut supervisor = opened(alloc, data_of(alloc, journey)?)?;
-    run(rt, alloc, &mut supervisor, journey)
-}
-
-fn go_through(rt: &impl Abort, alloc: Global, table: &str) -> Result<(), Fail> {
+fn go_through(rt: &impl Abort, alloc: Global, table: &str) {
     for journey in table.split("\n\n") {
-        go(rt, alloc, journey)?;
+        go(rt, alloc, journey);
     }
-    Ok(())
 }
 
 #[test]
-fn limits_lie_where_a_train_must_begin_to_brake(rt: HostRuntime) -> Result<(), Fail> {
-    go_through(&rt, rt.alloc(), LIMITS)
+fn limits_lie_where_a_train_must_begin_to_brake(rt: HostRuntime) {
+    go_through(&rt, rt.alloc(), LIMITS);
 }
 
 #[test]
-fn each_target_compares_its_own_front_end(rt: HostRuntime) -> Result<(), Fail> {
-    go_through(&rt, rt.alloc(), FRONTS)
+fn each_target_compares_its_own_front_end(rt: HostRuntime) {
+    go_through(&rt, rt.alloc(), FRONTS);
 }
 
 #[test]
-fn commands_are_held_until_they_are_released(rt: HostRuntime) -> Result<(), Fail> {
-    go_through(&rt, rt.alloc(), COMMANDS)
+fn commands_are_held_until_they_are_released(rt: HostRuntime) {
+    go_through(&rt, rt.alloc(), COMMANDS);
 }
 
 #[test]
-fn what_is_refused_changes_nothing(rt: HostRuntime) -> Result<(), Fail> {
-    go_through(&rt, rt.alloc(), RECORDS)
+fn what_is_refused_changes_nothing(rt: HostRuntime) {
+    go_through(&rt, rt.alloc(), RECORDS);
 }
 
 #[test]
-fn the_release_speed_counts_past_the_earlier_start(rt: HostRuntime) -> Result<(), Fail> {
-    go_through(&rt, rt.alloc(), RELEASES)
+fn the_release_speed_counts_past_the_earlier_start(rt: HostRuntime) {
+    go_through(&rt, rt.alloc(), RELEASES);
 }
 
 #[test]
-fn a_release_speed_is_calculated_from_the_trip(rt: HostRuntime) -> Result<(), Fail> {
-    go_through(&rt, rt.alloc(), CALCULATED)
+fn a_release_speed_is_calculated_from_the_trip(rt: HostRuntime) {
+    go_through(&rt, rt.alloc(), CALCULATED);
 }
 
 #[test]
-fn rows_are_those_of_an_exact_model(rt: HostRuntime) -> Result<(), Fail> {
-    go_through(&rt, rt.alloc(), MODELLED)
+fn rows_are_those_of_an_exact_model(rt: HostRuntime) {
+    go_through(&rt, rt.alloc(), MODELLED);
 }
 
 /// What the data of an opening have otherwise than the base data, and whether it is taken or what its first fault is.
@@ -135,56 +112,47 @@ limit 100000 0 = bad speed
 limit 200000 501 = bad speed
 band 1 upper 36; band 2 upper 72 emergency 80 service 80 normal 80; band 3 emergency 50 service 50 normal 50; gradient 0 800 199999 -500; end 100000 100000 0 = Safe slope 1900000000 too weak in band 3, cell 199999";
 
-/// Why data are refused, if they are.
-fn refusal(alloc: Global, data: Data) -> Result<Option<OpenFault>, Fail> {
-    match begin(alloc, data)? {
-        Ok(_) => Ok(None),
-        Err(fault) => Ok(Some(fault)),
-    }
-}
-
-/// What comes of opening a supervisor over the base data with changes.
-fn opening(alloc: Global, changes: &str) -> Result<String, Fail> {
-    let mut data = base(alloc);
-    set_line(alloc, &mut data, changes)?;
-    match refusal(alloc, data)? {
-        None => Ok(format!(in alloc; "taken")?),
-        Some(fault) => Ok(format!(in alloc; "{fault}")?),
+fn is_named(alloc: Global, line: &str) -> bool {
+    match line.split_once(" = ") {
+        Some((changes, answer)) => is_opened_as(alloc, changes, answer),
+        None => false,
     }
 }
 
 #[test]
-fn the_first_fault_of_an_opening_is_named(rt: HostRuntime) -> Result<(), Fail> {
+fn the_first_fault_of_an_opening_is_named(rt: HostRuntime) {
     for line in OPENINGS.lines() {
-        let (changes, expected) = line.split_once(" = ").ok_or("no answer")?;
-        let found = opening(rt.alloc(), changes)?;
-        assert_eq!(rt; found.as_str(), expected, "{changes}");
+        assert!(rt; is_named(rt.alloc(), line), "{line}");
     }
-    Ok(())
 }
 
-/// The 32 restrictions are taken, and rows are as of the base data, before an EOA at 1 km and at 100 km.
-fn go_to_the_end(rt: &impl Abort, alloc: Global, supervisor: &mut Supervisor) -> Result<(), Fail> {
-    restrict(rt, alloc, supervisor)?;
-    let near = "800000,800000,760000,720000,540000";
-    read(rt, alloc, supervisor, 0, near)?;
-    expect(rt, alloc, supervisor, "end,10000000,10000000,0", "taken")?;
-    let far = "99800000,99800000,99760000,99720000,99540000";
-    read(rt, alloc, supervisor, 1, far)
+/// Whether the 32 restrictions are taken, and rows are as of the base data, before an EOA at 1 km and at 100 km.
+fn goes_to_the_end(alloc: Global, supervisor: &mut Supervisor) -> bool {
+    let near = "0,C,N,0,0,0,1,300,800000,800000,760000,720000,540000";
+    let far = "1,C,N,0,0,0,1,300,99800000,99800000,99760000,99720000,99540000";
+    restricts_all(alloc, supervisor)
+        && reads_all(alloc, supervisor, 0, near)
+        && answers(alloc, supervisor, "end,10000000,10000000,0", "taken")
+        && reads_all(alloc, supervisor, 1, far)
 }
 
 #[test]
-fn the_greatest_data_have_rows(rt: HostRuntime) -> Result<(), Fail> {
-    let alloc = rt.alloc();
-    let mut supervisor = opened(alloc, greatest(alloc)?)?;
-    go_to_the_end(&rt, alloc, &mut supervisor)
+fn the_greatest_data_have_rows(rt: HostRuntime) {
+    let went = match opened(rt.alloc(), greatest(rt.alloc())) {
+        Some(mut supervisor) => goes_to_the_end(rt.alloc(), &mut supervisor),
+        None => false,
+    };
+    assert!(rt; went);
 }
 
 /// What is shown over the base data with the EOA and the SvL at 1000 m.
 #[test]
-fn what_is_shown_is_as_it_was_worked_by_hand(rt: HostRuntime) -> Result<(), Fail> {
-    let alloc = rt.alloc();
-    let supervisor = opened(alloc, data_of(alloc, "")?)?;
-    assert!(rt; is_shown_before_the_end(&supervisor) && is_shown_at_standstill(&supervisor));
-    Ok(())
+fn what_is_shown_is_as_it_was_worked_by_hand(rt: HostRuntime) {
+    let shown = match opened(rt.alloc(), data_of(rt.alloc(), "")) {
+        Some(supervisor) => {
+            is_shown_before_the_end(&supervisor) && is_shown_at_standstill(&supervisor)
+        }
+        None => false,
+    };
+    assert!(rt; shown);
 }

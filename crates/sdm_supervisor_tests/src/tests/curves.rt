@@ -1,12 +1,12 @@
 //! The curves that a supervisor lends, asked for places that were worked by hand. A train that brakes at 1 m/s² needs
 //! half the difference of the squares of two speeds in m/s, as metres, from one to the other.
 
-ghost use Rattle.std.specs.Prelude.{◌≡◌, ◌≤ℤ◌, IfOk, OnOk, pos};
+ghost use Rattle.std.specs.Prelude.{◌≡◌, ◌≤ℤ◌, IfSome, pos};
 ghost use Rattle.sdm_rules.specs.declared.data.SlopeKind.TheVariants.{Safe};
 ghost use Rattle.sdm_rules.specs.Decelerations.{slopes_of};
 ghost use Rattle.sdm_rules.specs.Slopes.{meaning_of};
 
-use crate::tests::data::{base, parts, set_line};
+use crate::tests::data::{Parts, accepted, changed};
 use sdm_curve::BandMap;
 use sdm_decel::safe;
 use sdm_num::Speed;
@@ -14,7 +14,6 @@ use sdm_speed::Restriction;
 use sdm_supervisor::Supervisor;
 use sdm_targets::Authority;
 use std::alloc::Global;
-use std::test::Fail;
 
 /// Where the fall at a place in cm has a speed on its EBD, in mm; none where there is no fall.
 fn on_fall(supervisor: &Supervisor, map: &BandMap, cell: i32, v: Speed) -> Option<i64>
@@ -68,80 +67,94 @@ fn is_limited(supervisor: &Supervisor, map: &BandMap) -> bool
     on_end(supervisor, map, Speed::new(1_012_500)) == 1_500_000
 }
 
-/// A supervisor with 160 km/h on 2 km, up to an EOA at their end, and the map of A_safe of its data.
-fn begun(alloc: Global) -> Result<(Supervisor, BandMap), Fail>
-    ensures { IfOk result (λ both. meaning_of both.1 ≡ slopes_of Safe both.0.train_and_track) }
+/// A supervisor, and the map of A_safe of its data.
+#[derive(Drop)]
+struct Lender {
+    supervisor: Supervisor,
+    map: BandMap,
+}
+
+/// Of these data.
+fn opened(alloc: Global, parts: Parts, authority: Authority) -> Option<Lender>
+    ensures { IfSome result (λ o. meaning_of o.map ≡ slopes_of Safe o.supervisor.train_and_track) }
 {
-    let mut data = base(alloc);
-    set_line(alloc, &mut data, "end 200000 200000 0")?;
+    let map = safe(alloc, &parts.train, &parts.national, &parts.track).ok()?;
+    match Supervisor::begin(alloc, parts.train, parts.national, parts.track, authority) {
+        Ok(supervisor) => Some(Lender { supervisor, map }),
+        Err(_) => None,
+    }
+}
+
+/// With 160 km/h on 2 km, up to an EOA at their end.
+fn begun(alloc: Global) -> Option<Lender>
+    ensures { IfSome result (λ o. meaning_of o.map ≡ slopes_of Safe o.supervisor.train_and_track) }
+{
+    let data = changed(alloc, "end 200000 200000 0")?;
     let authority = data.authority;
-    let (train, national, track) = parts(data)?;
-    let map = safe(alloc, &train, &national, &track)?;
-    let supervisor = Supervisor::begin(alloc, train, national, track, authority)?;
-    Ok((supervisor, map))
+    opened(alloc, accepted(data)?, authority)
 }
 
 /// Takes a restriction to 80 km/h from 500 m to 600 m, until the train's end has left it at 700 m; whether the curves are
 /// then its own.
-fn restricted(supervisor: &mut Supervisor, map: &BandMap) -> Result<bool, Fail>
+fn is_restricted_by(supervisor: &mut Supervisor, map: &BandMap) -> bool
     requires { meaning_of map.now ≡ slopes_of Safe supervisor.old.train_and_track }
-    ensures { OnOk result (meaning_of map.now ≡ slopes_of Safe supervisor.new.train_and_track) }
+    ensures { meaning_of map.now ≡ slopes_of Safe supervisor.new.train_and_track }
 {
-    supervisor.restrict(Restriction {
+    let restriction = Restriction {
         id: 1,
         start: 50_000,
         end: 60_000,
         speed: 80,
         delayed: true,
-    })?;
-    Ok(is_restricted(supervisor, map) && falls_once(supervisor))
+    };
+    supervisor.restrict(restriction).is_ok()
+        && is_restricted(supervisor, map)
+        && falls_once(supervisor)
 }
 
 /// Takes an authority to the LOA; whether the curves are then those of the restriction and of the LOA.
-fn limited(supervisor: &mut Supervisor, map: &BandMap) -> Result<bool, Fail>
+fn is_limited_by(supervisor: &mut Supervisor, map: &BandMap) -> bool
     requires { meaning_of map.now ≡ slopes_of Safe supervisor.old.train_and_track }
-    ensures { OnOk result (meaning_of map.now ≡ slopes_of Safe supervisor.new.train_and_track) }
+    ensures { meaning_of map.now ≡ slopes_of Safe supervisor.new.train_and_track }
 {
-    supervisor.authority(Authority::Limit {
+    let authority = Authority::Limit {
         loa: 150_000,
         speed: 60,
-    })?;
-    Ok(is_restricted(supervisor, map) && is_limited(supervisor, map))
+    };
+    supervisor.authority(authority).is_ok()
+        && is_restricted(supervisor, map)
+        && is_limited(supervisor, map)
 }
 
 /// Takes the first authority again and revokes the restriction; whether the curves are those of the beginning.
-fn as_it_began(supervisor: &mut Supervisor, map: &BandMap) -> Result<bool, Fail>
+fn is_as_it_began(supervisor: &mut Supervisor, map: &BandMap) -> bool
     requires { meaning_of map.now ≡ slopes_of Safe supervisor.old.train_and_track }
 {
-    supervisor.authority(Authority::Stop {
+    let authority = Authority::Stop {
         eoa: 200_000,
         svl: 200_000,
         release: 0,
-    })?;
-    supervisor.revoke(1)?;
-    Ok(is_at_2_km(supervisor, map))
-}
-
-/// An error where something does not hold.
-fn holds(fact: bool, otherwise: &'static str) -> Result<(), Fail> {
-    if !fact {
-        return Err(otherwise)?;
-    }
-    Ok(())
+    };
+    supervisor.authority(authority).is_ok()
+        && supervisor.revoke(1).is_ok()
+        && is_at_2_km(supervisor, map)
 }
 
 /// Asks for the curves of the beginning, of the restriction, of the LOA with it, and of the beginning again.
-fn go(supervisor: &mut Supervisor, map: &BandMap) -> Result<(), Fail>
+fn are_present(supervisor: &mut Supervisor, map: &BandMap) -> bool
     requires { meaning_of map.now ≡ slopes_of Safe supervisor.old.train_and_track }
 {
-    holds(is_at_2_km(supervisor, map), "not at 2 km")?;
-    holds(restricted(supervisor, map)?, "not restricted")?;
-    holds(limited(supervisor, map)?, "not limited")?;
-    holds(as_it_began(supervisor, map)?, "not as it began")
+    is_at_2_km(supervisor, map)
+        && is_restricted_by(supervisor, map)
+        && is_limited_by(supervisor, map)
+        && is_as_it_began(supervisor, map)
 }
 
 #[test]
-fn lent_curves_are_those_of_the_present_falls_and_authority(rt: HostRuntime) -> Result<(), Fail> {
-    let (mut supervisor, map) = begun(rt.alloc())?;
-    go(&mut supervisor, &map)
+fn lent_curves_are_those_of_the_present_falls_and_authority(rt: HostRuntime) {
+    let present = match begun(rt.alloc()) {
+        Some(mut lender) => are_present(&mut lender.supervisor, &lender.map),
+        None => false,
+    };
+    assert!(rt; present);
 }

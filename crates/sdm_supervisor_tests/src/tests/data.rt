@@ -1,6 +1,6 @@
 //! The data of a journey, from what a table says of them.
 
-ghost use Rattle.std.specs.Prelude.{◌<◌, IfOk};
+ghost use Rattle.std.specs.Prelude.{◌<◌, IfSome};
 ghost use Rattle.sdm_rules.specs.Slopes.{most_bands};
 
 use sdm_national::{National, NationalFields};
@@ -9,7 +9,6 @@ use sdm_targets::Authority;
 use sdm_track::{Area, Gradient, SpeedStep, Track};
 use sdm_train::{Train, TrainFields};
 use std::alloc::Global;
-use std::test::Fail;
 
 /// The data of a journey before any range is tested.
 #[derive(Drop)]
@@ -43,139 +42,166 @@ pub fn base(alloc: Global) -> Data {
     }
 }
 
-/// The train, the national values and the track of data in their ranges. Data without speeds have 160 km/h all along.
-pub fn parts(mut data: Data) -> Result<(Train, National, Track), Fail> {
-    if data.speeds.is_empty() {
-        data.speeds.push(SpeedStep {
+/// The train, the national values and the track of data in their ranges.
+#[derive(Drop)]
+pub struct Parts {
+    pub train: Train,
+    pub national: National,
+    pub track: Track,
+}
+
+/// 160 km/h all along.
+fn put_speed(speeds: &mut Vec<SpeedStep>) -> bool {
+    speeds
+        .push(SpeedStep {
             start: 0,
             speed: 160,
             delayed: true,
-        })?;
+        })
+        .is_ok()
+}
+
+/// The parts of data, if each is in its ranges. Data without speeds have 160 km/h all along.
+pub fn accepted(mut data: Data) -> Option<Parts> {
+    if data.speeds.is_empty() && !put_speed(&mut data.speeds) {
+        return None;
     }
-    let train = Train::new(data.train)?;
-    let national = National::new(data.national)?;
-    let track = Track::new(
+    let train = Train::new(data.train).ok()?;
+    let national = National::new(data.national).ok()?;
+    match Track::new(
         data.track_cm,
         data.gradients,
         data.speeds,
         data.adhesion,
         data.no_special,
-    )?;
-    Ok((train, national, track))
+    ) {
+        Ok(track) => Some(Parts {
+            train,
+            national,
+            track,
+        }),
+        Err(_) => None,
+    }
 }
 
-pub fn number(word: Option<&str>) -> Result<i64, Fail> {
-    Ok(word.ok_or("a number is wanting")?.parse::<i64>()?)
+// ---- words
+
+pub fn number(word: Option<&str>) -> Option<i64> {
+    word?.parse::<i64>().ok()
 }
 
-pub fn natural(word: Option<&str>) -> Result<u32, Fail> {
-    Ok(word.ok_or("a number is wanting")?.parse::<u32>()?)
+pub fn natural(word: Option<&str>) -> Option<u32> {
+    word?.parse::<u32>().ok()
 }
 
-pub fn small(word: Option<&str>) -> Result<u16, Fail> {
-    Ok(word.ok_or("a number is wanting")?.parse::<u16>()?)
+pub fn small(word: Option<&str>) -> Option<u16> {
+    word?.parse::<u16>().ok()
 }
 
-fn set_in_train(train: &mut TrainFields, key: &str, value: Option<&str>) -> Result<(), Fail> {
+/// Whether a key is set.
+fn known(set: bool) -> Option<()> {
+    if set { Some(()) } else { None }
+}
+
+fn set_in_train(train: &mut TrainFields, key: &str, value: Option<&str>) -> Option<()> {
     if key == "rotating_mass" && value == Some("-") {
         train.rotating_mass = None;
-        return Ok(());
+        return Some(());
     }
     known(train.set(key, number(value)?))
 }
 
-fn known(set: bool) -> Result<(), Fail> {
-    if !set {
-        return Err("no such key")?;
-    }
-    Ok(())
-}
-
 /// The place in the array of a band's number, which counts from 1.
-fn band_index(word: Option<&str>) -> Result<usize, Fail>
-    ensures { IfOk result (λ i. i < most_bands) }
+fn band_index(word: Option<&str>) -> Option<usize>
+    ensures { IfSome result (λ i. i < most_bands) }
 {
     let number = natural(word)? as usize;
     if number == 0 || number > MOST_BANDS {
-        return Err("no such band")?;
+        return None;
     }
-    Ok(number - 1)
+    Some(number - 1)
 }
 
-fn set_band(train: &mut TrainFields, text: &str) -> Result<(), Fail> {
+fn set_band(train: &mut TrainFields, text: &str) -> Option<()> {
     let mut words = text.split_whitespace();
     let i = band_index(words.next())?;
     train.band_count = train.band_count.max(i as u32 + 1);
     while let Some(key) = words.next() {
         known(train.bands[i].set(key, number(words.next())?))?;
     }
-    Ok(())
+    Some(())
 }
 
 /// Gives the first bands these upper speeds; the band after them is the last, and has none.
-fn set_uppers(train: &mut TrainFields, text: &str) -> Result<(), Fail> {
+fn set_uppers(train: &mut TrainFields, text: &str) -> Option<()> {
     let mut words = text.split_whitespace();
     for i in 0..MOST_BANDS {
         let Some(upper) = words.next() else {
-            return Ok(());
+            return Some(());
         };
         known(train.bands[i].set("upper", number(Some(upper))?))?;
         train.band_count = i as u32 + 2;
     }
-    Ok(())
+    Some(())
 }
 
-fn set_each_band(train: &mut TrainFields, key: &str, value: i64) -> Result<(), Fail> {
+fn set_each_band(train: &mut TrainFields, key: &str, value: i64) -> Option<()> {
     for i in 0..MOST_BANDS {
         known(train.bands[i].set(key, value))?;
     }
-    Ok(())
+    Some(())
 }
 
-fn set_bands(train: &mut TrainFields, text: &str) -> Result<(), Fail> {
+fn set_bands(train: &mut TrainFields, text: &str) -> Option<()> {
     let mut words = text.split_whitespace();
     while let Some(key) = words.next() {
         set_each_band(train, key, number(words.next())?)?;
     }
-    Ok(())
+    Some(())
 }
 
-fn gradients(alloc: Global, text: &str) -> Result<Vec<Gradient>, Fail> {
-    let mut entries = Vec::new(alloc);
+// ---- lists
+
+fn read_gradients(text: &str, entries: &mut Vec<Gradient>) -> Option<()> {
+    entries.clear();
     let mut words = text.split_whitespace();
     while let Some(start) = words.next() {
-        entries.push(Gradient {
-            start: number(Some(start))?,
-            grad: number(words.next())?,
-        })?;
+        let start = number(Some(start))?;
+        let grad = number(words.next())?;
+        entries.push(Gradient { start, grad }).ok()?;
     }
-    Ok(entries)
+    Some(())
 }
 
-fn speeds(alloc: Global, text: &str) -> Result<Vec<SpeedStep>, Fail> {
-    let mut entries = Vec::new(alloc);
+fn read_speeds(text: &str, entries: &mut Vec<SpeedStep>) -> Option<()> {
+    entries.clear();
     let mut words = text.split_whitespace();
     while let Some(start) = words.next() {
-        entries.push(SpeedStep {
-            start: number(Some(start))?,
-            speed: number(words.next())?,
-            delayed: words.next() == Some("1"),
-        })?;
+        let start = number(Some(start))?;
+        let speed = number(words.next())?;
+        let delayed = words.next() == Some("1");
+        let step = SpeedStep {
+            start,
+            speed,
+            delayed,
+        };
+        entries.push(step).ok()?;
     }
-    Ok(entries)
+    Some(())
 }
 
-fn areas(alloc: Global, text: &str) -> Result<Vec<Area>, Fail> {
-    let mut entries = Vec::new(alloc);
+fn read_areas(text: &str, entries: &mut Vec<Area>) -> Option<()> {
+    entries.clear();
     let mut words = text.split_whitespace();
     while let Some(start) = words.next() {
-        entries.push(Area {
-            start: number(Some(start))?,
-            end: number(words.next())?,
-        })?;
+        let start = number(Some(start))?;
+        let end = number(words.next())?;
+        entries.push(Area { start, end }).ok()?;
     }
-    Ok(entries)
+    Some(())
 }
+
+// ---- authorities and sections
 
 /// The authority of a kind with these numbers: of `end` EOA, SvL and release speed; of `limit` LOA and speed.
 pub fn authority<'a>(
@@ -183,22 +209,28 @@ pub fn authority<'a>(
     first: Option<&'a str>,
     second: Option<&'a str>,
     third: Option<&'a str>,
-) -> Result<Authority, Fail> {
+) -> Option<Authority> {
     match kind {
-        "end" => Ok(Authority::Stop {
+        "end" => Some(Authority::Stop {
             eoa: natural(first)?,
             svl: natural(second)?,
             release: small(third)?,
         }),
-        "limit" => Ok(Authority::Limit {
+        "limit" => Some(Authority::Limit {
             loa: natural(first)?,
             speed: small(second)?,
         }),
-        _ => Err("no such authority")?,
+        _ => None,
     }
 }
 
-fn set_numbers(data: &mut Data, section: &str, text: &str) -> Result<(), Fail> {
+fn set_authority(data: &mut Data, kind: &str, text: &str) -> Option<()> {
+    let mut words = text.split_whitespace();
+    data.authority = authority(kind, words.next(), words.next(), words.next())?;
+    Some(())
+}
+
+fn set_numbers(data: &mut Data, section: &str, text: &str) -> Option<()> {
     let mut words = text.split_whitespace();
     while let Some(key) = words.next() {
         let value = words.next();
@@ -208,37 +240,43 @@ fn set_numbers(data: &mut Data, section: &str, text: &str) -> Result<(), Fail> {
             _ => data.track_cm = natural(value)?,
         }
     }
-    Ok(())
-}
-
-fn set_authority(data: &mut Data, kind: &str, text: &str) -> Result<(), Fail> {
-    let mut words = text.split_whitespace();
-    data.authority = authority(kind, words.next(), words.next(), words.next())?;
-    Ok(())
+    Some(())
 }
 
 /// Sets what a section says.
-fn set_section(alloc: Global, data: &mut Data, text: &str) -> Result<(), Fail> {
-    let (section, text) = text.trim().split_once(' ').ok_or("an empty section")?;
+fn set_section(data: &mut Data, section: &str, text: &str) -> Option<()> {
     match section {
-        "train" | "national" | "track" => set_numbers(data, section, text)?,
-        "band" => set_band(&mut data.train, text)?,
-        "bands" => set_bands(&mut data.train, text)?,
-        "uppers" => set_uppers(&mut data.train, text)?,
-        "gradient" => data.gradients = gradients(alloc, text)?,
-        "speed" => data.speeds = speeds(alloc, text)?,
-        "adhesion" => data.adhesion = areas(alloc, text)?,
-        "no_special" => data.no_special = areas(alloc, text)?,
-        "end" | "limit" => set_authority(data, section, text)?,
-        _ => return Err("no such section")?,
+        "train" | "national" | "track" => set_numbers(data, section, text),
+        "band" => set_band(&mut data.train, text),
+        "bands" => set_bands(&mut data.train, text),
+        "uppers" => set_uppers(&mut data.train, text),
+        "gradient" => read_gradients(text, &mut data.gradients),
+        "speed" => read_speeds(text, &mut data.speeds),
+        "adhesion" => read_areas(text, &mut data.adhesion),
+        "no_special" => read_areas(text, &mut data.no_special),
+        "end" | "limit" => set_authority(data, section, text),
+        _ => None,
     }
-    Ok(())
 }
 
-/// Sets what a line says, whose sections are parted by `;`.
-pub fn set_line(alloc: Global, data: &mut Data, line: &str) -> Result<(), Fail> {
-    for section in line.split(';') {
-        set_section(alloc, data, section)?;
+/// Sets what a line says, whose sections are parted by `;`; false where one is none.
+pub fn set_line(data: &mut Data, line: &str) -> bool {
+    for part in line.split(';') {
+        let Some((section, text)) = part.trim().split_once(' ') else {
+            return false;
+        };
+        if set_section(data, section, text).is_none() {
+            return false;
+        }
     }
-    Ok(())
+    true
+}
+
+/// The base data with what a line says otherwise.
+pub fn changed(alloc: Global, line: &str) -> Option<Data> {
+    let mut data = base(alloc);
+    if !set_line(&mut data, line) {
+        return None;
+    }
+    Some(data)
 }

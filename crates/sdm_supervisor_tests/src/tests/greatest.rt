@@ -3,13 +3,13 @@
 //! band brakes with 1 m/s² on level track with its special brake: so before an EOA at 1 km, and before one at 100 km,
 //! the limits are those that 20 m/s have on the track of the base data.
 
+ghost use Rattle.std.specs.Prelude.{◌≤◌};
+
 use crate::tests::data::{Data, base, set_line};
-use crate::tests::records::answer;
+use crate::tests::records::answers;
 use sdm_supervisor::Supervisor;
 use sdm_track::{Area, Gradient, SpeedStep};
 use std::alloc::Global;
-use std::process::Abort;
-use std::test::Fail;
 
 /// The ten bands: at 1 m/s² each of their borders is passed a whole number of millimetres before the foot.
 const BANDS: &str = "\
@@ -18,9 +18,9 @@ band 1 emergency_reduced 90; band 2 emergency_reduced 85; band 3 emergency_reduc
 band 5 emergency_reduced 70; band 6 emergency_reduced 65; band 7 emergency_reduced 60; band 8 emergency_reduced 55
 band 9 emergency_reduced 50; band 10 emergency_reduced 45";
 
-/// 511 more gradients: by turns 5 per mille down and up, and level from 98,900 m on.
-fn add_gradients(data: &mut Data) -> Result<(), Fail> {
-    data.gradients.push(Gradient { start: 0, grad: 0 })?;
+/// Level first, and then 511 more gradients: by turns 5 per mille down and up, and level from 98,900 m on.
+fn put_gradients(gradients: &mut Vec<Gradient>) -> Option<()> {
+    gradients.push(Gradient { start: 0, grad: 0 }).ok()?;
     for i in 0..511u32 {
         let grad = if i == 510 {
             0
@@ -29,95 +29,103 @@ fn add_gradients(data: &mut Data) -> Result<(), Fail> {
         } else {
             50
         };
-        data.gradients.push(Gradient {
-            start: i64::from(200_000 + 19_000 * i),
-            grad,
-        })?;
+        let start = i64::from(200_000 + 19_000 * i);
+        gradients.push(Gradient { start, grad }).ok()?;
     }
-    Ok(())
+    Some(())
+}
+
+/// From a start on.
+fn put_speed(start: u32, speed: u32, speeds: &mut Vec<SpeedStep>) -> Option<()> {
+    let step = SpeedStep {
+        start: i64::from(start),
+        speed: i64::from(speed),
+        delayed: true,
+    };
+    speeds.push(step).ok()
 }
 
 /// 300 km/h, then 127 falls of 1 km/h.
-fn add_speeds(data: &mut Data) -> Result<(), Fail> {
-    data.speeds.push(SpeedStep {
-        start: 0,
-        speed: 300,
-        delayed: true,
-    })?;
+fn put_speeds(speeds: &mut Vec<SpeedStep>) -> Option<()> {
+    put_speed(0, 300, speeds)?;
     for i in 1..128u32 {
-        data.speeds.push(SpeedStep {
-            start: i64::from(130_000 + 70_000 * i),
-            speed: i64::from(300 - i),
-            delayed: true,
-        })?;
+        put_speed(130_000 + 70_000 * i, 300 - i, speeds)?;
     }
-    Ok(())
+    Some(())
 }
 
-fn add_areas(data: &mut Data) -> Result<(), Fail> {
+/// 64 areas from a place on.
+fn put_areas(first: u32, areas: &mut Vec<Area>) -> Option<()>
+    requires { first ≤ 1_000_000 }
+{
     for i in 0..64u32 {
-        let start = 200_000 + 140_000 * i;
-        data.adhesion.push(Area {
+        let start = first + 140_000 * i;
+        let area = Area {
             start: i64::from(start),
             end: i64::from(start + 70_000),
-        })?;
-        data.no_special.push(Area {
-            start: i64::from(start + 35_000),
-            end: i64::from(start + 105_000),
-        })?;
+        };
+        areas.push(area).ok()?;
     }
-    Ok(())
+    Some(())
 }
 
-/// The greatest data, with the EOA at 1 km.
-pub fn greatest(alloc: Global) -> Result<Data, Fail> {
-    let mut data = base(alloc);
+/// Sets the greatest data, with the EOA at 1 km; false where no memory is left.
+fn set_greatest(data: &mut Data) -> bool {
     for line in BANDS.lines() {
-        set_line(alloc, &mut data, line)?;
+        if !set_line(data, line) {
+            return false;
+        }
     }
-    add_gradients(&mut data)?;
-    add_speeds(&mut data)?;
-    add_areas(&mut data)?;
-    Ok(data)
+    put_gradients(&mut data.gradients).is_some()
+        && put_speeds(&mut data.speeds).is_some()
+        && put_areas(200_000, &mut data.adhesion).is_some()
+        && put_areas(235_000, &mut data.no_special).is_some()
 }
 
-/// A record is answered by this text.
-pub fn expect(
-    rt: &impl Abort,
-    alloc: Global,
-    supervisor: &mut Supervisor,
-    record: &str,
-    expected: &str,
-) -> Result<(), Fail> {
-    let found = answer(alloc, supervisor, record)?;
-    assert_eq!(rt; found.as_str(), expected, "{record}");
-    Ok(())
+pub fn greatest(alloc: Global) -> Option<Data> {
+    let mut data = base(alloc);
+    if !set_greatest(&mut data) {
+        return None;
+    }
+    Some(data)
 }
 
-/// 32 restrictions of 100 km/h, each a fall of its own.
-pub fn restrict(rt: &impl Abort, alloc: Global, supervisor: &mut Supervisor) -> Result<(), Fail> {
+/// Whether the restriction of a number is taken.
+fn restricts(alloc: Global, supervisor: &mut Supervisor, i: u32) -> bool
+    requires { i ≤ 32 }
+{
+    let start = 1_000_000 + 250_000 * i;
+    let end = start + 50_000;
+    match format!(in alloc; "restrict,{i},{start},{end},100,1") {
+        Ok(record) => answers(alloc, supervisor, record.as_str(), "taken"),
+        Err(_) => false,
+    }
+}
+
+/// Whether 32 restrictions of 100 km/h are taken, each a fall of its own.
+pub fn restricts_all(alloc: Global, supervisor: &mut Supervisor) -> bool {
     for i in 0..32u32 {
-        let start = 1_000_000 + 250_000 * i;
-        let end = start + 50_000;
-        let record = format!(in alloc; "restrict,{i},{start},{end},100,1")?;
-        expect(rt, alloc, supervisor, record.as_str(), "taken")?;
+        if !restricts(alloc, supervisor, i) {
+            return false;
+        }
     }
-    Ok(())
+    true
 }
 
-/// A hundred readings of one time at 20 m/s, 5 m apart, with the limits of a row.
-pub fn read(
-    rt: &impl Abort,
-    alloc: Global,
-    supervisor: &mut Supervisor,
-    time: u32,
-    limits: &str,
-) -> Result<(), Fail> {
-    let row = format!(in alloc; "{time},C,N,0,0,0,1,300,{limits}")?;
-    for i in 0..100u32 {
-        let front = 5_000 * i;
-        let record = format!(in alloc; "read,{time},{front},{front},{front},20000,0,0")?;
-        expect(rt, alloc, supervisor, record.as_str(), row.as_str())?;
+/// Whether a reading at 20 m/s has a row.
+fn reads(alloc: Global, supervisor: &mut Supervisor, time: u32, front: u32, row: &str) -> bool {
+    match format!(in alloc; "read,{time},{front},{front},{front},20000,0,0") {
+        Ok(record) => answers(alloc, supervisor, record.as_str(), row),
+        Err(_) => false,
     }
-    Ok(())
+}
+
+/// Whether a hundred readings of one time at 20 m/s, 5 m apart, have this row.
+pub fn reads_all(alloc: Global, supervisor: &mut Supervisor, time: u32, row: &str) -> bool {
+    for i in 0..100u32 {
+        if !reads(alloc, supervisor, time, 5_000 * i, row) {
+            return false;
+        }
+    }
+    true
 }

@@ -1,32 +1,27 @@
 //! Records of a journey, and what a supervisor answers to them, as text.
 
-ghost use Rattle.std.specs.Prelude.{◌≤◌, IfOk};
+ghost use Rattle.std.specs.Prelude.{◌≤◌, IfSome};
 
-use crate::tests::data::{Data, authority, natural, parts, small};
+use crate::tests::data::{authority, natural, small};
 use sdm_num::Reading;
+use sdm_report::row_bytes;
+use sdm_rules::Row;
 use sdm_speed::Restriction;
-use sdm_supervisor::{OpenFault, Row, Supervisor};
-use std::alloc::{AllocError, Global};
+use sdm_supervisor::Supervisor;
+use sdm_text::RowBuf;
+use std::alloc::Global;
 use std::fmt;
-use std::test::Fail;
-
-/// The supervisor of these data, or why it is refused.
-pub fn begin(alloc: Global, data: Data) -> Result<Result<Supervisor, OpenFault>, Fail> {
-    let authority = data.authority;
-    let (train, national, track) = parts(data)?;
-    Ok(Supervisor::begin(alloc, train, national, track, authority))
-}
 
 /// A place in mm.
-fn place(word: Option<&str>) -> Result<i32, Fail> {
-    Ok(word.ok_or("a place is wanting")?.parse::<i32>()?)
+fn place(word: Option<&str>) -> Option<i32> {
+    word?.parse::<i32>().ok()
 }
 
-fn acceleration(word: Option<&str>) -> Result<i16, Fail> {
-    Ok(word.ok_or("no acceleration")?.parse::<i16>()?)
+fn acceleration(word: Option<&str>) -> Option<i16> {
+    word?.parse::<i16>().ok()
 }
 
-pub fn reading(fields: &str) -> Result<Reading, Fail> {
+pub fn reading(fields: &str) -> Option<Reading> {
     let mut words = fields.split(',');
     let time = natural(words.next())?;
     let est = place(words.next())?;
@@ -35,137 +30,170 @@ pub fn reading(fields: &str) -> Result<Reading, Fail> {
     let speed = natural(words.next())?;
     let accel = acceleration(words.next())?;
     let under = natural(words.next())?;
-    Ok(Reading::new(time, est, min, max, speed, accel, under).ok_or("no reading")?)
+    Reading::new(time, est, min, max, speed, accel, under)
 }
 
 /// Fields of a restriction from its identity on.
-fn restriction(fields: &str) -> Result<Restriction, Fail>
-    ensures slowest { IfOk result (λ r. 1 ≤ r.speed) }
-    ensures fastest { IfOk result (λ r. r.speed ≤ 500) }
+fn restriction(fields: &str) -> Option<Restriction>
+    ensures slowest { IfSome result (λ r. 1 ≤ r.speed) }
+    ensures fastest { IfSome result (λ r. r.speed ≤ 500) }
 {
     let mut words = fields.split(',');
-    Ok(Restriction {
-        id: small(words.next())?,
-        start: natural(words.next())?,
-        end: natural(words.next())?,
-        speed: small(words.next())?.clamp(1, 500),
-        delayed: words.next() == Some("1"),
+    let id = small(words.next())?;
+    let start = natural(words.next())?;
+    let end = natural(words.next())?;
+    let speed = small(words.next())?.clamp(1, 500);
+    let delayed = words.next() == Some("1");
+    Some(Restriction {
+        id,
+        start,
+        end,
+        speed,
+        delayed,
     })
 }
 
-fn push_flag(text: &mut String, flag: bool) -> Result<(), AllocError> {
-    text.push_str(if flag { ",1" } else { ",0" })
+/// Whether a row is this text, as the product prints it, but for the line feed.
+fn is_row(row: &Row, text: &str) -> bool {
+    let mut line = RowBuf::new();
+    row_bytes(row, &mut line);
+    line.bytes().strip_suffix(b"\n") == Some(text.as_bytes())
 }
 
-fn push_place(alloc: Global, text: &mut String, place: Option<i64>) -> Result<(), AllocError> {
-    match place {
-        Some(mm) => text.push_str(&format!(in alloc; ",{mm}")?),
-        None => text.push_str(",-"),
+/// Whether a fault or another answer has this text.
+pub fn is_told<T: fmt::Display + Copy>(alloc: Global, answer: T, text: &str) -> bool {
+    match format!(in alloc; "{answer}") {
+        Ok(told) => told.as_str() == text,
+        Err(_) => false,
     }
 }
 
-/// A row as the product prints it.
-fn row_text(alloc: Global, row: &Row) -> Result<String, AllocError> {
-    let mut text = format!(in alloc; "{},{:?},{:?}", row.time, row.state, row.held.status)?;
-    for flag in [row.held.tco, row.held.sb, row.held.eb, row.covered] {
-        push_flag(&mut text, flag)?;
-    }
-    text.push_str(&format!(in alloc; ",{}", row.ceiling)?)?;
-    for place in [row.ebi, row.sbi, row.warning, row.permitted, row.indication] {
-        push_place(alloc, &mut text, place)?;
-    }
-    Ok(text)
-}
-
-fn read(alloc: Global, supervisor: &mut Supervisor, fields: &str) -> Result<String, Fail> {
-    match supervisor.cycle(&reading(fields)?) {
-        Ok(row) => Ok(row_text(alloc, &row)?),
-        Err(fault) => Ok(format!(in alloc; "{fault}")?),
-    }
-}
-
-/// What came of a record that changes the authority or the restrictions.
-fn told<E: fmt::Display + Copy>(alloc: Global, answer: Result<(), E>) -> Result<String, Fail> {
+/// Whether a record that changes the authority or the restrictions is taken, or refused by a fault with this text.
+fn is_taken<E: fmt::Display + Copy>(alloc: Global, answer: Result<(), E>, text: &str) -> bool {
     match answer {
-        Ok(()) => Ok(format!(in alloc; "taken")?),
-        Err(fault) => Ok(format!(in alloc; "{fault}")?),
+        Ok(()) => text == "taken",
+        Err(fault) => is_told(alloc, fault, text),
     }
 }
 
-fn authorize(
+fn reads(alloc: Global, supervisor: &mut Supervisor, fields: &str, answer: &str) -> bool {
+    let Some(reading) = reading(fields) else {
+        return false;
+    };
+    match supervisor.cycle(&reading) {
+        Ok(row) => is_row(&row, answer),
+        Err(fault) => is_told(alloc, fault, answer),
+    }
+}
+
+fn authorizes(
     alloc: Global,
     supervisor: &mut Supervisor,
     kind: &str,
     fields: &str,
-) -> Result<String, Fail> {
+    answer: &str,
+) -> bool {
     let mut words = fields.split(',');
-    let authority = authority(kind, words.next(), words.next(), words.next())?;
-    told(alloc, supervisor.authority(authority))
+    match authority(kind, words.next(), words.next(), words.next()) {
+        Some(authority) => is_taken(alloc, supervisor.authority(authority), answer),
+        None => false,
+    }
 }
 
-/// A stop with the place of a trip; what is taken is told with the release speed that is calculated for it.
-fn calculate(alloc: Global, supervisor: &mut Supervisor, fields: &str) -> Result<String, Fail> {
+/// EOA, SvL and the place of a trip.
+fn trip(fields: &str) -> Option<(u32, u32, u32)> {
     let mut words = fields.split(',');
     let eoa = natural(words.next())?;
     let svl = natural(words.next())?;
-    let trip = natural(words.next())?;
+    Some((eoa, svl, natural(words.next())?))
+}
+
+/// A stop with the place of a trip; what is taken is told with the release speed that is calculated for it.
+fn calculates(alloc: Global, supervisor: &mut Supervisor, fields: &str, answer: &str) -> bool {
+    let Some((eoa, svl, trip)) = trip(fields) else {
+        return false;
+    };
     match supervisor.calculated_stop(eoa, svl, trip) {
         Ok(()) => {
             let kmh = supervisor.release_for(svl, trip);
-            Ok(format!(in alloc; "{kmh} km/h")?)
+            answer
+                .strip_suffix(" km/h")
+                .and_then(|word| small(Some(word)))
+                == Some(kmh)
         }
-        Err(fault) => Ok(format!(in alloc; "{fault}")?),
+        Err(fault) => is_told(alloc, fault, answer),
     }
 }
 
-fn restrict(alloc: Global, supervisor: &mut Supervisor, fields: &str) -> Result<String, Fail> {
-    let restriction = restriction(fields)?;
-    told(alloc, supervisor.restrict(restriction))
+fn restricts(alloc: Global, supervisor: &mut Supervisor, fields: &str, answer: &str) -> bool {
+    match restriction(fields) {
+        Some(restriction) => is_taken(alloc, supervisor.restrict(restriction), answer),
+        None => false,
+    }
 }
 
-/// Restrictions that are alike, with each identity from that of the first to that of the last one.
-fn restrict_all(alloc: Global, supervisor: &mut Supervisor, fields: &str) -> Result<String, Fail> {
-    let (last, fields) = fields.split_once(',').ok_or("no last identity")?;
-    let last = last.parse::<u16>()?;
-    let first = restriction(fields)?;
+/// A number, and the fields of a restriction after it.
+fn counted(fields: &str) -> Option<(u32, Restriction)>
+    ensures slowest { IfSome result (λ both. 1 ≤ both.1.speed) }
+    ensures fastest { IfSome result (λ both. both.1.speed ≤ 500) }
+{
+    let (count, fields) = fields.split_once(',')?;
+    let count = natural(Some(count))?;
+    Some((count, restriction(fields)?))
+}
+
+/// Restrictions that are alike are taken, with each identity from that of the first to that of the last one.
+fn restricts_all(supervisor: &mut Supervisor, fields: &str) -> bool {
+    let Some((last, first)) = counted(fields) else {
+        return false;
+    };
+    let Ok(last) = u16::try_from(last) else {
+        return false;
+    };
     for id in first.id..=last {
-        supervisor.restrict(Restriction { id, ..first })?;
+        if supervisor.restrict(Restriction { id, ..first }).is_err() {
+            return false;
+        }
     }
-    Ok(format!(in alloc; "taken")?)
+    true
 }
 
-/// A restriction that comes and goes so many times.
-fn restrict_and_revoke(
-    alloc: Global,
-    supervisor: &mut Supervisor,
-    fields: &str,
-) -> Result<String, Fail> {
-    let (times, fields) = fields.split_once(',').ok_or("no number of times")?;
-    let times = times.parse::<u32>()?;
-    let restriction = restriction(fields)?;
+/// A restriction that comes and goes so many times is taken each time.
+fn restricts_and_revokes(supervisor: &mut Supervisor, fields: &str) -> bool {
+    let Some((times, restriction)) = counted(fields) else {
+        return false;
+    };
     for _ in 0..times {
-        supervisor.restrict(restriction)?;
-        supervisor.revoke(restriction.id)?;
+        if supervisor.restrict(restriction).is_err() {
+            return false;
+        }
+        if supervisor.revoke(restriction.id).is_err() {
+            return false;
+        }
     }
-    Ok(format!(in alloc; "taken")?)
+    true
 }
 
-fn revoke(alloc: Global, supervisor: &mut Supervisor, fields: &str) -> Result<String, Fail> {
-    let id = small(Some(fields))?;
-    told(alloc, supervisor.revoke(id))
+fn revokes(alloc: Global, supervisor: &mut Supervisor, fields: &str, answer: &str) -> bool {
+    match small(Some(fields)) {
+        Some(id) => is_taken(alloc, supervisor.revoke(id), answer),
+        None => false,
+    }
 }
 
-/// What a supervisor answers to a record.
-pub fn answer(alloc: Global, supervisor: &mut Supervisor, record: &str) -> Result<String, Fail> {
-    let (kind, fields) = record.split_once(',').ok_or("no fields")?;
+/// Whether a supervisor answers this to a record.
+pub fn answers(alloc: Global, supervisor: &mut Supervisor, record: &str, answer: &str) -> bool {
+    let Some((kind, fields)) = record.split_once(',') else {
+        return false;
+    };
     match kind {
-        "read" => read(alloc, supervisor, fields),
-        "end" | "limit" => authorize(alloc, supervisor, kind, fields),
-        "endcalc" => calculate(alloc, supervisor, fields),
-        "restrict" => restrict(alloc, supervisor, fields),
-        "up to" => restrict_all(alloc, supervisor, fields),
-        "come and go" => restrict_and_revoke(alloc, supervisor, fields),
-        "revoke" => revoke(alloc, supervisor, fields),
-        _ => Err("no such record")?,
+        "read" => reads(alloc, supervisor, fields, answer),
+        "end" | "limit" => authorizes(alloc, supervisor, kind, fields, answer),
+        "endcalc" => calculates(alloc, supervisor, fields, answer),
+        "restrict" => restricts(alloc, supervisor, fields, answer),
+        "up to" => answer == "taken" && restricts_all(supervisor, fields),
+        "come and go" => answer == "taken" && restricts_and_revokes(supervisor, fields),
+        "revoke" => revokes(alloc, supervisor, fields, answer),
+        _ => false,
     }
 }

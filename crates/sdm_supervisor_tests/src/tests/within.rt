@@ -1,11 +1,11 @@
 //! Readings that are within the SvL, and others that are not. A train that brakes at 1 m/s² at once needs 200 m from
 //! 20 m/s and 50 m from 10 m/s.
 
-use crate::tests::data::{base, set_line};
-use crate::tests::opened;
+use crate::tests::data::changed;
+use crate::tests::openings::opened;
 use crate::tests::records::reading;
+use sdm_supervisor::Supervisor;
 use std::alloc::Global;
-use std::test::Fail;
 
 /// What the data have otherwise than the base data, whose SvL is at 1000 m; a reading; and whether it is within the
 /// SvL. With a release speed of 40 km/h its monitoring begins 61.728 m before the SvL.
@@ -23,40 +23,50 @@ end 100000 100000 40; 0,900000,900000,900000,10000,0,0; true
 end 100000 100000 40; 0,938271,938271,938271,0,0,0; true
 end 100000 100000 40; 0,938272,938272,938272,0,0,0; false";
 
-fn within(alloc: Global, changes: &str, fields: &str) -> Result<bool, Fail> {
-    let mut data = base(alloc);
-    set_line(alloc, &mut data, changes)?;
-    let supervisor = opened(alloc, data)?;
-    Ok(supervisor.within_svl(&reading(fields)?))
+fn is_within(supervisor: &Supervisor, fields: &str) -> Option<bool> {
+    Some(supervisor.within_svl(&reading(fields)?))
+}
+
+/// Whether a reading over the base data with changes is within the SvL.
+fn within(alloc: Global, changes: &str, fields: &str) -> Option<bool> {
+    match opened(alloc, changed(alloc, changes)) {
+        Some(supervisor) => is_within(&supervisor, fields),
+        None => None,
+    }
+}
+
+fn is_answered(alloc: Global, line: &str) -> bool {
+    let Some((changes, rest)) = line.split_once("; ") else {
+        return false;
+    };
+    let Some((fields, answer)) = rest.split_once("; ") else {
+        return false;
+    };
+    within(alloc, changes, fields) == Some(answer == "true")
 }
 
 #[test]
-fn a_reading_is_within_the_svl_up_to_its_ebi(rt: HostRuntime) -> Result<(), Fail> {
+fn a_reading_is_within_the_svl_up_to_its_ebi(rt: HostRuntime) {
     for line in READINGS.lines() {
-        let (changes, rest) = line.split_once("; ").ok_or("no reading")?;
-        let (fields, expected) = rest.split_once("; ").ok_or("no answer")?;
-        assert_eq!(rt;
-            within(rt.alloc(), changes, fields)?,
-            expected == "true",
-            "{line}"
-        );
+        assert!(rt; is_answered(rt.alloc(), line), "{line}");
     }
-    Ok(())
 }
 
 /// The traction is cut off after 0.5 s, and the emergency brake works 1.5 s after that.
+fn tells_how_it_brakes(supervisor: &Supervisor) -> bool {
+    supervisor.safe_map().greatest(0, 200_000) == 200_000_000_000
+        && supervisor.times().traction == 5
+        && supervisor.times().berem == 15
+        && supervisor.inhibits_under_reading()
+}
+
 #[test]
-fn a_supervisor_tells_how_its_emergency_brake_works(rt: HostRuntime) -> Result<(), Fail> {
-    let mut data = base(rt.alloc());
-    set_line(
-        rt.alloc(),
-        &mut data,
-        "train traction_cutoff_time 5 emergency_time 20; national inhibit_under_reading 1",
-    )?;
-    let supervisor = opened(rt.alloc(), data)?;
-    assert_eq!(rt; supervisor.safe_map().greatest(0, 200_000), 200_000_000_000);
-    assert_eq!(rt; supervisor.times().traction, 5);
-    assert_eq!(rt; supervisor.times().berem, 15);
-    assert!(rt; supervisor.inhibits_under_reading());
-    Ok(())
+fn a_supervisor_tells_how_its_emergency_brake_works(rt: HostRuntime) {
+    let changes =
+        "train traction_cutoff_time 5 emergency_time 20; national inhibit_under_reading 1";
+    let told = match opened(rt.alloc(), changed(rt.alloc(), changes)) {
+        Some(supervisor) => tells_how_it_brakes(&supervisor),
+        None => false,
+    };
+    assert!(rt; told);
 }

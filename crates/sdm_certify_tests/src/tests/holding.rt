@@ -1,14 +1,13 @@
-//! Certificates worked by hand, and others by a model in whole numbers apart from this program. At q = 100 a slope of
-//! 200,000,000,000 is 1 m/s², a metre is 540,000,000,000 grains and 1 m/s is 54,000 notches; the square of 1 m/s then
-//! has an energy of 1,458,000,000,000,000,000,000,000.
+//! Marks that hold for a claim on a map, and others that do not. At q = 100 a slope of 200,000,000,000 is 1 m/s², a
+//! metre is 540,000,000,000 grains and 1 m/s is 54,000 notches; the square of 1 m/s then has an energy of
+//! 1,458,000,000,000,000,000,000,000.
 
-mod made;
-mod read;
-
-use crate::holds;
-use read::{claim, map_named, marks};
+use crate::tests::claims::{Line, claim, line_of, read_marks};
+use crate::tests::maps::map_named;
+use sdm_certify::holds;
+use sdm_curve::BandMap;
+use sdm_rules::Mark;
 use std::alloc::Global;
-use std::test::Fail;
 
 // In each table: map | time, front, speed, accelerations, times and place of the claim | place, energy of marks.
 //
@@ -42,31 +41,32 @@ parts | 0 27000000000000 540000 0 0 0 0 135000000000000 | 27000000000000 1458000
 parts | 0 27000000000000 540000 0 0 0 0 135000000000000 | 27000000000000 145800000000000000000000000, 81000000000000 145799999999999999999999999, 135000000000000 0
 parts | 0 27000000000000 540000 0 0 0 0 135000000000000 | 27000000000000 145800000000000000000000000, 135000000000000 0";
 
-/// The answer to a line.
-fn answer_to(alloc: Global, line: &str) -> Result<bool, Fail> {
-    let mut columns = line.split('|');
-    let map = map_named(alloc, columns.next().ok_or("a map")?.trim())?;
-    let claimed = claim(columns.next().ok_or("a claim")?)?;
-    let found = marks(alloc, columns.next().ok_or("marks")?)?;
-    Ok(holds(&map, &claimed, &found))
+/// Whether the answer to a line on its map is the one that is wanted.
+fn is_answer(map: &BandMap, line: Line, marks: &mut Vec<Mark>, want: bool) -> bool {
+    let Some(claim) = claim(line.claim) else {
+        return false;
+    };
+    read_marks(line.marks, marks) && holds(map, &claim, marks) == want
 }
 
-/// The lines of a table whose answer is not the one that the table gives.
-fn wrong_lines(alloc: Global, table: &str, want: bool) -> Result<Vec<usize>, Fail> {
-    let mut wrong = Vec::new(alloc);
-    for (i, line) in table.lines().enumerate() {
-        if answer_to(alloc, line)? != want {
-            wrong.push(i)?;
-        }
+/// Whether the answer to a line is the one that is wanted.
+fn is_answered(alloc: Global, text: &str, want: bool) -> bool {
+    let Some(line) = line_of(text) else {
+        return false;
+    };
+    let mut marks = Vec::new(alloc);
+    match map_named(alloc, line.map) {
+        Some(map) => is_answer(&map, line, &mut marks, want),
+        None => false,
     }
-    Ok(wrong)
 }
 
 #[test]
-fn marks_that_hold_are_told_from_others(rt: HostRuntime) -> Result<(), Fail> {
-    let wrong = wrong_lines(rt.alloc(), HOLD, true)?;
-    assert_eq!(rt; wrong.len(), 0);
-    let wrong = wrong_lines(rt.alloc(), DO_NOT_HOLD, false)?;
-    assert_eq!(rt; wrong.len(), 0);
-    Ok(())
+fn marks_that_hold_are_told_from_others(rt: HostRuntime) {
+    for line in HOLD.lines() {
+        assert!(rt; is_answered(rt.alloc(), line, true), "{line}");
+    }
+    for line in DO_NOT_HOLD.lines() {
+        assert!(rt; is_answered(rt.alloc(), line, false), "{line}");
+    }
 }
