@@ -1,7 +1,8 @@
 //! Certificates, worked by hand: at 20 m/s a train that brakes with 1 m/s² needs 200 m, and at 10 m/s 50 m.
 
-use super::{Streams, answer_over, answer_to, expect, fields_of, journey_of};
-use std::test::Fail;
+use crate::tests::inputs::{fields_of, put_journey};
+use crate::tests::runs::{Case, is_answered};
+use std::alloc::Global;
 
 /// What the base data have otherwise | words | records | out | code | line
 const CERTIFICATES: &str =
@@ -23,18 +24,18 @@ kn_down = 0 > kn_down = 0/upper = 36/[[train.band]]/emergency = 50/service = 50/
 svl = 100000 > svl = 99999 | certify 1 | read,0,799990,799990,799990,20000,0,0/ | - | 6 | sdm: refused: supervised location before end/
 version = 1 > version = 3 | certify 1 | read,0,799990,799990,799990,20000,0,0/ | - | 5 | sdm: bad data: value version/"#;
 
+fn is_certified(alloc: Global, line: &str) -> bool {
+    let [changes, words, records, out, code, told, ..] = fields_of(line, 6);
+    let mut input = Vec::new(alloc);
+    put_journey(changes, records, &mut input)
+        && is_answered(alloc, Case::of(words, out, code, told), &input)
+}
+
 #[test]
-fn the_first_covered_readings_under_a_stop_are_certified(rt: HostRuntime) -> Result<(), Fail> {
-    let alloc = rt.alloc();
+fn the_first_covered_readings_under_a_stop_are_certified(rt: HostRuntime) {
     for line in CERTIFICATES.lines() {
-        let fields = fields_of(alloc, line)?;
-        let [changes, words, records, out, code, told] = fields.as_slice() else {
-            return Err("no row".into());
-        };
-        let answer = answer_to(alloc, words, &journey_of(alloc, changes, records)?)?;
-        expect(&rt, alloc, line, &answer, out, code, told)?;
+        assert!(rt; is_certified(rt.alloc(), line), "{line}");
     }
-    Ok(())
 }
 
 /// bytes at once | failing reads | failing calls of out | out | code | line
@@ -46,23 +47,22 @@ const FAULTS: &str = "\
     1000 | - | 6 | map,100,1,1/seg,0,200000000000/claim,0,431994600000000,1080000,0,0,0,0,540000000000000,2/mark,432000000000000,583200000000000000000000000/mark,540000000000000,0/ | 3 | sdm: write fault/
     1000 | - | 7 | map,100,1,1/seg,0,200000000000/claim,0,431994600000000,1080000,0,0,0,0,540000000000000,2/mark,432000000000000,583200000000000000000000000/mark,540000000000000,0/ | 0 | -";
 
+fn is_prefix(alloc: Global, line: &str) -> bool {
+    let [step, failing_reads, failing_writes, out, code, told, ..] = fields_of(line, 6);
+    let case = Case {
+        step,
+        failing_reads,
+        failing_writes,
+        ..Case::of("certify 1", out, code, told)
+    };
+    let mut input = Vec::new(alloc);
+    put_journey("-", "read,0,799990,799990,799990,20000,0,0/", &mut input)
+        && is_answered(alloc, case, &input)
+}
+
 #[test]
-fn a_fault_leaves_a_prefix_of_map_and_certificate(rt: HostRuntime) -> Result<(), Fail> {
-    let alloc = rt.alloc();
-    let input = journey_of(alloc, "-", "read,0,799990,799990,799990,20000,0,0/")?;
+fn a_fault_leaves_a_prefix_of_map_and_certificate(rt: HostRuntime) {
     for line in FAULTS.lines() {
-        let fields = fields_of(alloc, line)?;
-        let [step, reads, writes, out, code, told] = fields.as_slice() else {
-            return Err("no row".into());
-        };
-        let streams = Streams {
-            step,
-            failing_reads: reads,
-            failing_writes: writes,
-            failing_lines: "-",
-        };
-        let answer = answer_over(alloc, "certify 1", &input, &streams)?;
-        expect(&rt, alloc, line, &answer, out, code, told)?;
+        assert!(rt; is_prefix(rt.alloc(), line), "{line}");
     }
-    Ok(())
 }

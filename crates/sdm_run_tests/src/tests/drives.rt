@@ -1,10 +1,11 @@
 //! Drives over data parts. The summaries of a few steps were worked by hand, those of 100,000 steps by a model in exact
 //! fractions.
 
-use super::{Streams, answer_over, answer_to, base_and, expect, fields_of, part_of, words_of};
+use crate::tests::inputs::{fields_of, put_base, put_part};
+use crate::tests::runs::{Case, is_answered, outcome_of_words};
 use sdm_data::{BASE_PART, REALISTIC_PART};
-use sdm_run::{Outcome, outcome_of};
-use std::test::Fail;
+use sdm_run::Outcome;
+use std::alloc::Global;
 
 /// What the base data have otherwise | words | out | code | line; the accelerations from 7 on are −19, 39 and 30 cm/s²,
 /// so that the train stands, goes 48.75 mm, and goes 135 mm
@@ -29,28 +30,26 @@ kdry = 1000 > kdry = true | drive 7 3 | - | 5 | sdm: bad data: wrong kind train.
 svl = 100000 > svl = 100000/release = 501 | drive 7 3 | - | 5 | sdm: bad data: value authority.release/
 version = 1 > version = 1/version = 1 | drive 7 3 | - | 5 | sdm: bad data: not TOML/"#;
 
-#[test]
-fn each_drive_has_its_summary_or_its_refusal(rt: HostRuntime) -> Result<(), Fail> {
-    let alloc = rt.alloc();
-    for line in DRIVES.lines() {
-        let fields = fields_of(alloc, line)?;
-        let [changes, words, out, code, told] = fields.as_slice() else {
-            return Err("no row".into());
-        };
-        let answer = answer_to(alloc, words, &part_of(alloc, changes)?)?;
-        expect(&rt, alloc, line, &answer, out, code, told)?;
-    }
-    Ok(())
+fn is_driven(alloc: Global, line: &str) -> bool {
+    let [changes, words, out, code, told, ..] = fields_of(line, 5);
+    let mut input = Vec::new(alloc);
+    put_part(changes, &mut input) && is_answered(alloc, Case::of(words, out, code, told), &input)
 }
 
 #[test]
-fn a_long_drive_over_realistic_data_is_the_same_each_time(rt: HostRuntime) -> Result<(), Fail> {
-    let out = "cycles 100000/emergency 99417/stops 2/front 5016932/least 33068/";
-    for _ in 0..2 {
-        let answer = answer_to(rt.alloc(), "drive 7 100000", REALISTIC_PART.as_bytes())?;
-        expect(&rt, rt.alloc(), out, &answer, out, "0", "-")?;
+fn each_drive_has_its_summary_or_its_refusal(rt: HostRuntime) {
+    for line in DRIVES.lines() {
+        assert!(rt; is_driven(rt.alloc(), line), "{line}");
     }
-    Ok(())
+}
+
+#[test]
+fn a_long_drive_over_realistic_data_is_the_same_each_time(rt: HostRuntime) {
+    let out = "cycles 100000/emergency 99417/stops 2/front 5016932/least 33068/";
+    let case = Case::of("drive 7 100000", out, "0", "-");
+    for _ in 0..2 {
+        assert!(rt; is_answered(rt.alloc(), case, REALISTIC_PART.as_bytes()));
+    }
 }
 
 /// after the base data | line
@@ -59,20 +58,19 @@ const NO_DATA_PARTS: &str = "\
     %%~/read,0,0,0,0,0,0,0/ | sdm: bad data: not TOML/
     loa = 1/ | sdm: bad data: unknown key in authority/";
 
+fn is_no_part(alloc: Global, line: &str) -> bool {
+    let [after, told, ..] = fields_of(line, 2);
+    let mut input = Vec::new(alloc);
+    put_base(after, &mut input) && is_answered(alloc, Case::of("drive 7 3", "-", "5", told), &input)
+}
+
 #[test]
-fn a_drive_has_a_data_part_alone(rt: HostRuntime) -> Result<(), Fail> {
-    let alloc = rt.alloc();
+fn a_drive_has_a_data_part_alone(rt: HostRuntime) {
     for line in NO_DATA_PARTS.lines() {
-        let fields = fields_of(alloc, line)?;
-        let [after, told] = fields.as_slice() else {
-            return Err("no row".into());
-        };
-        let answer = answer_to(alloc, "drive 7 3", &base_and(alloc, after)?)?;
-        expect(&rt, alloc, line, &answer, "-", "5", told)?;
+        assert!(rt; is_no_part(rt.alloc(), line), "{line}");
     }
-    let answer = answer_to(alloc, "drive 7 3", b"")?;
-    let told = "sdm: bad data: missing version/";
-    expect(&rt, alloc, told, &answer, "-", "5", told)
+    let empty = Case::of("drive 7 3", "-", "5", "sdm: bad data: missing version/");
+    assert!(rt; is_answered(rt.alloc(), empty, b""));
 }
 
 /// What the base data have otherwise | bytes at once | failing reads | failing calls of out | out | code | line; where
@@ -86,34 +84,42 @@ const FAULTS: &str = "\
     emergency_time = 0 > emergency_time = 20 | 1000 | - | 3 | cycles 3/emergency 0/stops 0/front 184/least 999816/ | 0 | -
     - | 1000 | - | 1 | - | 9 | sdm: not drivable: emergency time/";
 
-#[test]
-fn a_fault_leaves_a_prefix_of_the_summary(rt: HostRuntime) -> Result<(), Fail> {
-    let alloc = rt.alloc();
-    for line in FAULTS.lines() {
-        let fields = fields_of(alloc, line)?;
-        let [changes, step, reads, writes, out, code, told] = fields.as_slice() else {
-            return Err("no row".into());
-        };
-        let streams = Streams {
-            step,
-            failing_reads: reads,
-            failing_writes: writes,
-            failing_lines: "-",
-        };
-        let part = part_of(alloc, changes)?;
-        let answer = answer_over(alloc, "drive 7 3", &part, &streams)?;
-        expect(&rt, alloc, line, &answer, out, code, told)?;
-    }
-    Ok(())
+fn is_prefix(alloc: Global, line: &str) -> bool {
+    let [
+        changes,
+        step,
+        failing_reads,
+        failing_writes,
+        out,
+        code,
+        told,
+    ] = fields_of(line, 7);
+    let case = Case {
+        step,
+        failing_reads,
+        failing_writes,
+        ..Case::of("drive 7 3", out, code, told)
+    };
+    let mut input = Vec::new(alloc);
+    put_part(changes, &mut input) && is_answered(alloc, case, &input)
 }
 
 #[test]
-fn a_drive_has_its_outcome_with_ample_memory(rt: HostRuntime) -> Result<(), Fail> {
-    let alloc = rt.alloc();
-    let words = words_of(alloc, "drive 7 3")?;
-    let drivable = part_of(alloc, "emergency_time = 0 > emergency_time = 20")?;
-    assert_eq!(rt; outcome_of(alloc, &words, &drivable), Outcome::Done);
-    let undrivable = outcome_of(alloc, &words, BASE_PART.as_bytes());
-    assert_eq!(rt; undrivable.code(), 9);
-    Ok(())
+fn a_fault_leaves_a_prefix_of_the_summary(rt: HostRuntime) {
+    for line in FAULTS.lines() {
+        assert!(rt; is_prefix(rt.alloc(), line), "{line}");
+    }
+}
+
+fn is_done(alloc: Global) -> bool {
+    let mut input = Vec::new(alloc);
+    put_part("emergency_time = 0 > emergency_time = 20", &mut input)
+        && outcome_of_words(alloc, "drive 7 3", &input) == Some(Outcome::Done)
+}
+
+#[test]
+fn a_drive_has_its_outcome_with_ample_memory(rt: HostRuntime) {
+    assert!(rt; is_done(rt.alloc()));
+    let undrivable = outcome_of_words(rt.alloc(), "drive 7 3", BASE_PART.as_bytes());
+    assert_eq!(rt; undrivable.map(|outcome| outcome.code()), Some(9));
 }

@@ -1,9 +1,12 @@
 //! Journeys of `flat`, worked by hand, and faults at chosen calls.
 
-use super::{Streams, answer_of, answer_over, expect, fields_of};
+ghost use Rattle.sdm_supervisor.specs.FlatLines.{IsFlatLine, line_at};
+
+use crate::tests::inputs::{fields_of, put_bytes};
+use crate::tests::runs::{Case, is_answered};
 use sdm_num::{Place, Speed};
 use sdm_supervisor::{CycleFault, Flat, FlatRow};
-use std::test::Fail;
+use std::alloc::Global;
 
 /// words | input | rows | code | line
 const JOURNEYS: &str = "\
@@ -35,18 +38,17 @@ const JOURNEYS: &str = "\
     flat 5 0 | 0,-10000000,138888/0,-193000000,1/ | 0,-192898766,0,1/ | 7 | sdm: bad event 2: line/
     flat 400 10000000 | 0,99999999,1/0,100000000,0/ | 0,99999999,1,0/0,100000000,1,0/ | 0 | -";
 
+fn has_rows(alloc: Global, line: &str) -> bool {
+    let [words, text, rows, code, told, ..] = fields_of(line, 5);
+    let mut input = Vec::new(alloc);
+    put_bytes(text, &mut input) && is_answered(alloc, Case::of(words, rows, code, told), &input)
+}
+
 #[test]
-fn each_journey_has_its_rows_and_its_end(rt: HostRuntime) -> Result<(), Fail> {
-    let alloc = rt.alloc();
+fn each_journey_has_its_rows_and_its_end(rt: HostRuntime) {
     for line in JOURNEYS.lines() {
-        let fields = fields_of(alloc, line)?;
-        let [words, input, rows, code, told] = fields.as_slice() else {
-            return Err("no row".into());
-        };
-        let answer = answer_of(alloc, words, input)?;
-        expect(&rt, alloc, line, &answer, rows, code, told)?;
+        assert!(rt; has_rows(rt.alloc(), line), "{line}");
     }
-    Ok(())
 }
 
 /// step | failing reads | failing calls of out | failing writes of the line | rows | code | line
@@ -72,50 +74,76 @@ const FAULTS: &str = "\
     1 | - | 1 | 1 | - | 3 | -
     1 | - | - | 1 | 0,800000,1,0/5,800000,0,1/ | 0 | -";
 
-#[test]
-fn a_fault_ends_the_program_where_it_comes(rt: HostRuntime) -> Result<(), Fail> {
-    let alloc = rt.alloc();
-    for line in FAULTS.lines() {
-        let fields = fields_of(alloc, line)?;
-        let [step, reads, writes, lines, rows, code, told] = fields.as_slice() else {
-            return Err("no row".into());
-        };
-        let streams = Streams {
-            step,
-            failing_reads: reads,
-            failing_writes: writes,
-            failing_lines: lines,
-        };
-        let input = b"0,799990,20000\n5,800010,20000\n";
-        let answer = answer_over(alloc, "flat 100 100000", input, &streams)?;
-        expect(&rt, alloc, line, &answer, rows, code, told)?;
-    }
-    Ok(())
+fn is_ended(alloc: Global, line: &str) -> bool {
+    let [
+        step,
+        failing_reads,
+        failing_writes,
+        failing_lines,
+        rows,
+        code,
+        told,
+    ] = fields_of(line, 7);
+    let case = Case {
+        step,
+        failing_reads,
+        failing_writes,
+        failing_lines,
+        ..Case::of("flat 100 100000", rows, code, told)
+    };
+    is_answered(alloc, case, b"0,799990,20000\n5,800010,20000\n")
 }
 
 #[test]
-fn a_time_that_goes_back_changes_nothing(rt: HostRuntime) -> Result<(), Fail> {
-    let mut flat = Flat::begin(rt.alloc(), 100, 100_000)?;
-    let past = Place::of_mm(800_010);
-    let speed = Speed::of_mm_s(20_000);
-    let row = FlatRow {
+fn a_fault_ends_the_program_where_it_comes(rt: HostRuntime) {
+    for line in FAULTS.lines() {
+        assert!(rt; is_ended(rt.alloc(), line), "{line}");
+    }
+}
+
+/// Whether the supervisor of one curve gives this row.
+fn gives(flat: &mut Flat, time: u32, front: Place, speed: Speed, row: FlatRow) -> bool
+    requires { IsFlatLine (line_at time front speed) }
+{
+    flat.cycle(time, front, speed) == Ok(row)
+}
+
+/// Past the EBI, at a time before, and then within it.
+fn refuses_time_back(flat: &mut Flat) -> bool {
+    let past = FlatRow {
         time: 10,
         ebi: 800_000,
         covered: false,
         eb: true,
     };
-    assert_eq!(rt; flat.cycle(10, past, speed), Ok(row));
-    let refused = CycleFault::TimeBack { last: 10, time: 9 };
-    assert_eq!(rt; flat.cycle(9, Place::of_mm(0), Speed::new(0)), Err(refused));
     let held = FlatRow {
         time: 10,
         ebi: 887_500,
         covered: true,
         eb: true,
     };
-    assert_eq!(rt;
-        flat.cycle(10, Place::of_mm(810_000), Speed::of_mm_s(15_000)),
-        Ok(held)
-    );
-    Ok(())
+    let refused = CycleFault::TimeBack { last: 10, time: 9 };
+    gives(
+        flat,
+        10,
+        Place::of_mm(800_010),
+        Speed::of_mm_s(20_000),
+        past,
+    ) && flat.cycle(9, Place::of_mm(0), Speed::new(0)) == Err(refused)
+        && gives(
+            flat,
+            10,
+            Place::of_mm(810_000),
+            Speed::of_mm_s(15_000),
+            held,
+        )
+}
+
+#[test]
+fn a_time_that_goes_back_changes_nothing(rt: HostRuntime) {
+    let refused = match Flat::begin(rt.alloc(), 100, 100_000) {
+        Ok(mut flat) => refuses_time_back(&mut flat),
+        Err(_) => false,
+    };
+    assert!(rt; refused);
 }

@@ -1,11 +1,10 @@
 //! Data parts as texts of version 2. The texts were written by hand: a table's keys in the order of their letters,
 //! the tables in it after them.
 
-use super::{Streams, answer_over, answer_to, base_and, expect, fields_of, part_of};
+use crate::tests::inputs::{fields_of, put, put_base, put_part};
+use crate::tests::runs::{Case, is_answered, put_answer};
 use sdm_data::{BASE_PART, REALISTIC_PART};
 use std::alloc::Global;
-use std::process::Abort;
-use std::test::Fail;
 
 /// The base data: what they leave out is left out, but for `release` and `delayed`.
 const BASE_TEXT: &str = r#"version = 2
@@ -248,65 +247,64 @@ normal = 40
 service = 50
 "#;
 
-/// What `upgrade` writes for a part; no fault is told.
-fn upgraded(rt: &impl Abort, alloc: Global, part: &[u8]) -> Result<Vec<u8>, Fail> {
-    let answer = answer_to(alloc, "upgrade", part)?;
-    assert_eq!(rt; answer.code, 0);
-    assert!(rt; answer.err.is_empty());
-    Ok(answer.out)
+/// Whether a part becomes this text.
+fn becomes(alloc: Global, part: &str, text: &str) -> bool {
+    is_answered(alloc, Case::of("upgrade", text, "0", "-"), part.as_bytes())
 }
 
-/// A part becomes this text, which becomes itself and has no dividing line.
-fn becomes(rt: &impl Abort, alloc: Global, part: &str, text: &str) -> Result<(), Fail> {
-    let out = upgraded(rt, alloc, part.as_bytes())?;
-    assert!(rt; out.as_slice() == text.as_bytes(), "{text}");
-    assert!(rt; text.lines().all(|line| line != "%%"), "{text}");
-    let again = upgraded(rt, alloc, text.as_bytes())?;
-    assert!(rt; again.as_slice() == text.as_bytes(), "{text}");
-    Ok(())
+/// Whether a part becomes this text, which becomes itself and has no dividing line.
+fn is_upgraded(alloc: Global, part: &str, text: &str) -> bool {
+    becomes(alloc, part, text)
+        && text.lines().all(|line| line != "%%")
+        && becomes(alloc, text, text)
 }
 
 #[test]
-fn data_of_each_version_become_their_text(rt: HostRuntime) -> Result<(), Fail> {
-    becomes(&rt, rt.alloc(), BASE_PART, BASE_TEXT)?;
-    becomes(&rt, rt.alloc(), REALISTIC_PART, REALISTIC_TEXT)?;
-    becomes(&rt, rt.alloc(), WHOLE_PART, WHOLE_TEXT)
+fn data_of_each_version_become_their_text(rt: HostRuntime) {
+    assert!(rt; is_upgraded(rt.alloc(), BASE_PART, BASE_TEXT));
+    assert!(rt; is_upgraded(rt.alloc(), REALISTIC_PART, REALISTIC_TEXT));
+    assert!(rt; is_upgraded(rt.alloc(), WHOLE_PART, WHOLE_TEXT));
 }
 
-/// A journey over a part, of one record, has this row.
-fn runs(
-    rt: &impl Abort,
-    alloc: Global,
-    part: &[u8],
-    record: &[u8],
-    row: &[u8],
-) -> Result<(), Fail> {
-    let mut input = part.to_vec(alloc)?;
-    input.extend_from_slice(record)?;
-    let answer = answer_to(alloc, "run", &input)?;
-    assert_eq!(rt; answer.code, 0);
-    assert!(rt; answer.out.as_slice() == row);
-    Ok(())
+/// Whether a journey over a part, of one record, has this row.
+fn has_row(alloc: Global, part: &str, record: &[u8], row: &str) -> bool {
+    let mut input = Vec::new(alloc);
+    put(part.as_bytes(), &mut input)
+        && put(record, &mut input)
+        && is_answered(alloc, Case::of("run", row, "0", "-"), &input)
 }
 
 #[test]
-fn an_upgraded_journey_has_the_same_rows(rt: HostRuntime) -> Result<(), Fail> {
-    let record = b"%%\nread,0,3300000,3295000,3305000,40000,0,500\n";
-    let row = b"0,C,N,0,0,0,1,160,3987048,3827048,3747048,3667048,3307048\n";
-    runs(&rt, rt.alloc(), REALISTIC_PART.as_bytes(), record, row)?;
-    runs(&rt, rt.alloc(), REALISTIC_TEXT.as_bytes(), record, row)
+fn an_upgraded_journey_has_the_same_rows(rt: HostRuntime) {
+    let record = b"%%\nread,0,3300000,3295000,3305000,40000,0,500\n".as_slice();
+    let row = "0,C,N,0,0,0,1,160,3987048,3827048,3747048,3667048,3307048/";
+    assert!(rt; has_row(rt.alloc(), REALISTIC_PART, record, row));
+    assert!(rt; has_row(rt.alloc(), REALISTIC_TEXT, record, row));
 }
 
-/// Gradients of version 1, with 9 percent of rotating mass: 0.91 m/s² on the fall, in either version.
+/// What the base data have otherwise: a fall, and 9 percent of rotating mass, so that on the fall there are 0.91 m/s².
+const FALL: &str =
+    "rotating_mass = 0 > rotating_mass = 9; [[track.speed]] > [[track.gradient]]/start = 0/grad = -10/[[track.speed]]";
+
+/// Adds the data with the fall, upgraded, and a reading after them.
+fn put_upgraded_fall(alloc: Global, part: &mut Vec<u8>, input: &mut Vec<u8>) -> bool {
+    put_part(FALL, part)
+        && put_answer(alloc, "upgrade", part, input)
+        && put(b"%%\nread,0,500000,500000,500000,20000,0,0\n", input)
+}
+
+fn is_fall_the_same(alloc: Global) -> bool {
+    let row = "0,C,N,0,0,0,1,160,780219,780219,740219,700219,520219/";
+    let mut part = Vec::new(alloc);
+    let mut input = Vec::new(alloc);
+    put_upgraded_fall(alloc, &mut part, &mut input)
+        && is_answered(alloc, Case::of("run", row, "0", "-"), &input)
+}
+
+/// The row is that of version 1.
 #[test]
-fn an_upgraded_fall_is_the_same(rt: HostRuntime) -> Result<(), Fail> {
-    let fall =
-        "rotating_mass = 0 > rotating_mass = 9; [[track.speed]] > [[track.gradient]]/start = 0/grad = -10/[[track.speed]]";
-    let part = part_of(rt.alloc(), fall)?;
-    let upgraded = upgraded(&rt, rt.alloc(), &part)?;
-    let record = b"%%\nread,0,500000,500000,500000,20000,0,0\n";
-    let row = b"0,C,N,0,0,0,1,160,780219,780219,740219,700219,520219\n";
-    runs(&rt, rt.alloc(), &upgraded, record, row)
+fn an_upgraded_fall_is_the_same(rt: HostRuntime) {
+    assert!(rt; is_fall_the_same(rt.alloc()));
 }
 
 /// after the base data | code | line
@@ -319,32 +317,23 @@ const REFUSED: &str = "\
     [[track.gradient]]/start = 0/grad = 81/ | 5 | sdm: bad data: value track.gradient[1].grad/
     [[track.adhesion]]/start = 10/end = 10/ | 5 | sdm: bad data: value track.adhesion[1].end/";
 
-#[test]
-fn what_is_no_data_part_is_refused(rt: HostRuntime) -> Result<(), Fail> {
-    let alloc = rt.alloc();
-    for line in REFUSED.lines() {
-        let fields = fields_of(alloc, line)?;
-        let [after, code, told] = fields.as_slice() else {
-            return Err("no row".into());
-        };
-        let answer = answer_to(alloc, "upgrade", &base_and(alloc, after)?)?;
-        expect(&rt, alloc, line, &answer, "-", code, told)?;
-    }
-    Ok(())
+fn is_refused(alloc: Global, line: &str) -> bool {
+    let [after, code, told, ..] = fields_of(line, 3);
+    let mut input = Vec::new(alloc);
+    put_base(after, &mut input) && is_answered(alloc, Case::of("upgrade", "-", code, told), &input)
 }
 
 #[test]
-fn no_data_part_lacks_its_version(rt: HostRuntime) -> Result<(), Fail> {
-    let answer = answer_to(rt.alloc(), "upgrade", b"")?;
-    expect(
-        &rt,
-        rt.alloc(),
-        "",
-        &answer,
-        "-",
-        "5",
-        "sdm: bad data: missing version/",
-    )
+fn what_is_no_data_part_is_refused(rt: HostRuntime) {
+    for line in REFUSED.lines() {
+        assert!(rt; is_refused(rt.alloc(), line), "{line}");
+    }
+}
+
+#[test]
+fn no_data_part_lacks_its_version(rt: HostRuntime) {
+    let empty = Case::of("upgrade", "-", "5", "sdm: bad data: missing version/");
+    assert!(rt; is_answered(rt.alloc(), empty, b""));
 }
 
 /// step | failing reads | failing calls of out | bytes of the text that out took | code | line
@@ -357,33 +346,30 @@ const FAULTS: &str = "\
     1000 | - | 3 | all | 0 | -";
 
 /// The first bytes of the text of the base data, so many as a field says.
-fn prefix_of(taken: &str) -> Result<&'static [u8], Fail> {
-    let whole = BASE_TEXT.as_bytes();
-    let count = match taken {
-        "all" => whole.len(),
-        _ => taken.parse::<usize>()?,
+fn prefix_of(taken: &str) -> Option<&'static str> {
+    match taken {
+        "all" => Some(BASE_TEXT),
+        _ => BASE_TEXT.get(..taken.parse::<usize>().ok()?),
+    }
+}
+
+fn is_prefix(alloc: Global, line: &str) -> bool {
+    let [step, failing_reads, failing_writes, taken, code, told, ..] = fields_of(line, 6);
+    let Some(out) = prefix_of(taken) else {
+        return false;
     };
-    Ok(whole.get(..count).ok_or("no such prefix")?)
+    let case = Case {
+        step,
+        failing_reads,
+        failing_writes,
+        ..Case::of("upgrade", out, code, told)
+    };
+    is_answered(alloc, case, BASE_PART.as_bytes())
 }
 
 #[test]
-fn a_fault_leaves_a_prefix_of_the_text(rt: HostRuntime) -> Result<(), Fail> {
-    let alloc = rt.alloc();
+fn a_fault_leaves_a_prefix_of_the_text(rt: HostRuntime) {
     for line in FAULTS.lines() {
-        let fields = fields_of(alloc, line)?;
-        let [step, reads, writes, taken, code, told] = fields.as_slice() else {
-            return Err("no row".into());
-        };
-        let streams = Streams {
-            step,
-            failing_reads: reads,
-            failing_writes: writes,
-            failing_lines: "-",
-        };
-        let mut answer = answer_over(alloc, "upgrade", BASE_PART.as_bytes(), &streams)?;
-        assert!(rt; answer.out.as_slice() == prefix_of(taken)?, "{line}");
-        answer.out.clear();
-        expect(&rt, alloc, line, &answer, "-", code, told)?;
+        assert!(rt; is_prefix(rt.alloc(), line), "{line}");
     }
-    Ok(())
 }
