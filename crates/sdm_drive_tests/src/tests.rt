@@ -28,7 +28,7 @@ fn begin(alloc: Global, data: Option<Journey>, seed: u16) -> Option<Result<Drive
 
 // ---- rows
 
-/// Whether the next step leaves the train at a front end in grains with a speed in notches, with no command and no stop.
+/// Whether the next step leaves the train at a front end in grains, with a speed in notches, no command and no stop.
 fn steps_to(drive: &mut Drive, front: i64, speed: u32) -> bool {
     if drive.steps() >= 100_000 {
         return false;

@@ -9,7 +9,7 @@ use std::alloc::Global;
 const BAND: &str =
     "[[train.band]]/emergency = 80/service = 80/normal = 80/kdry = 1000/kwet = 1000/kn_up = 0/kn_down = 0/";
 
-/// Adds the bands after the first, where there are so many with it. Each but the last ends 18 km/h above the one before.
+/// Adds the bands after the first, if there are so many with it. Each but the last ends 18 km/h above the one before.
 fn put_further_bands(alloc: Global, count: u16, into: &mut Vec<u8>) -> bool {
     for i in 1..count {
         if !put_bytes(BAND, into) {
