@@ -84,3 +84,6 @@ one_of_short (x ∷ xs) (suc i) name all is = let rest : list_all is_short xs �
 pub name_is_short : (section : Section) (key : ℕ) (name : List ℕ) → key_name section key ≡ Some name → length name ≤ 25
 name_is_short section zero name is = cc
 name_is_short section (suc i) name is = one_of_short (key_names section) i name (all_short section) is
+
+-- the path of a key, whichever section it is in, and how long its name may be
+pub ruleset paths = (key_path_without_name, key_path_of_root, key_path_below, name_is_short)

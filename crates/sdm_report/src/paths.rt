@@ -60,7 +60,7 @@ pub fn put_section_path(section: Section, index: u32, into: &mut RowBuf)
 
 /// Puts the path of a key: of one of root its name alone, and the section's path alone where the number names no key.
 /// At most 54 bytes. (own)
-#[tactic(auto, using(crate::proofs::KeyPaths::key_path_without_name, crate::proofs::KeyPaths::key_path_of_root, crate::proofs::KeyPaths::key_path_below, crate::proofs::KeyPaths::name_is_short))]
+#[tactic(auto, using(crate::proofs::KeyPaths::paths))]
 pub fn put_key_path(section: Section, index: u32, key: u8, into: &mut RowBuf)
     requires room { length into.old + 54 ≤ ROW_BYTES }
     ensures text { into.new ≡ into.old ++ key_path section index key }

@@ -62,7 +62,8 @@ module _ (c : goal.After-deref) where
   after = to_z-of_z w32 c.cell-cell.result (search (rules, ints)) ∙ c.cell-cell.ensures
 
   -- they end at the EOA or the LOA, and the min safe front end may be past the EOA
-  end_is : c.match-self.end ≡ (end_of c.self.inside.authority, is_past_end c.self.inside.authority c.args.reading.now.min)
+  end_is : c.match-self.end
+      ≡ (end_of c.self.inside.authority, is_past_end c.self.inside.authority c.args.reading.now.min)
   end_is = elim c.match-self.branch [
     | in-Stop w ↦ rw (w.in-Stop.is, ← w.min_mm.ensures) (search rules)
     | in-Limit w ↦ w.end-is ∙ rw w.in-Limit.is refl

@@ -89,7 +89,8 @@ first_put c few = elim c.if-first-lt10.branch [
 leading_put : (c : Joined-leading-ge100) →
     c.if-first-lt10.self ≡ c.if-n-lt0.self ++ decimal c.if-leading-lt100.first →
     (100 ≤ c.if-n-lt10000.leading → c.if-leading-lt100.first ≡ c.if-n-lt10000.leading / 100) →
-    (c.if-n-lt10000.leading < 100 → c.if-leading-lt100.first ≡ c.if-n-lt10000.leading) → c.if-n-lt10000.leading < 10_000 →
+    (c.if-n-lt10000.leading < 100 → c.if-leading-lt100.first ≡ c.if-n-lt10000.leading) →
+    c.if-n-lt10000.leading < 10_000 →
     c.if-leading-ge100.self ≡ c.if-n-lt0.self ++ decimal c.if-n-lt10000.leading
 leading_put c put great small few = elim c.if-leading-ge100.branch [
   | then-leading-ge100 w ↦ rw (
@@ -110,7 +111,8 @@ returns-then-n-ge-NINE_DIGITS-clause-short c = number_is_short _ _ c.args.n c.ra
 pub byte-requires-then-first-lt10 : goal.byte-requires-then-first-lt10
 byte-requires-then-first-lt10 c =
     let at = (goal.at.byte-requires-then-first-lt10 c).Joined-leading-lt100 in
-    omega (arith, digits_fit at, leading_fits at, first_fits at, length_one c.if-leading-lt100.first c.if-first-lt10.true)
+    let one = length_one c.if-leading-lt100.first c.if-first-lt10.true in
+    omega (arith, digits_fit at, leading_fits at, first_fits at, one)
 
 pub text-requires : goal.text-requires
 text-requires c =
