@@ -8,7 +8,8 @@ use Rattle.sdm_events.proofs.events.event_of.Goals as goal
 
 pub returns-in_default-clause-value : goal.returns-in_default-clause-value
 unfolding event_of
-returns-in_default-clause-value c = rw (no_fields (fields_of c.args.fields.now) _ c.get.ensures.value c.in_default.is) refl
+returns-in_default-clause-value c =
+    rw (no_fields (fields_of c.args.fields.now) _ c.get.ensures.value c.in_default.is) refl
 
 pub returns-then-eq-clause-value : goal.returns-then-eq-clause-value
 unfolding event_of
