@@ -111,10 +111,12 @@ fn take_record<O: Sink>(
     match event_of(fields).map_err(EventCause::Form)? {
         Event::Read(reading) => match supervisor.cycle(&reading) {
             Ok(row) => {
-                return Ok(match teller.tell(alloc, &reading, &row, supervisor, text, out) {
-                    Ok(after) => Taken::Told(after),
-                    Err(ended) => Taken::Cut(ended),
-                });
+                return Ok(
+                    match teller.tell(alloc, &reading, &row, supervisor, text, out) {
+                        Ok(after) => Taken::Told(after),
+                        Err(ended) => Taken::Cut(ended),
+                    },
+                );
             }
             Err(CycleFault::TimeBack { last, time }) => {
                 return Err(EventCause::TimeBack { last, time });

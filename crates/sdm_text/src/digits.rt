@@ -42,7 +42,11 @@ impl RowBuf {
         let n = n as usize;
         // what is left without the last four digits, and of this without the last two, where there are more
         let leading = if n < 10_000 { n } else { n / 10_000 };
-        let first = if leading < 100 { leading } else { leading / 100 };
+        let first = if leading < 100 {
+            leading
+        } else {
+            leading / 100
+        };
         if first < 10 {
             self.byte(b'0' + first as u8);
         } else {
