@@ -1,12 +1,11 @@
 -- The kept falls ahead of a front end and the kept end are the targets of the definitions.
-use Rattle.std.proofs.Common.{◌≡◌, ◌≤◌, ℕ, suc, ℤ, pos, Bool, true, false, List, [], ◌∷◌, ◌++◌, map, All, ◌∙◌, refl}
-use Rattle.std.proofs.Common.{arith, sym, subst}
-use Rattle.std.proofs.lemmas.Int.{ints}
+use Rattle.std.proofs.Common.{◌≡◌, ℕ, suc, ℤ, pos, Bool, true, false, List, [], ◌∷◌, ◌++◌, map, All, ◌∙◌, refl, sym}
+use Rattle.std.proofs.Common.{arith, int_lt}
 use Rattle.sdm_rules.specs.declared.authorities.Authority.{Authority}
 use Rattle.sdm_rules.specs.declared.authorities.Authority.TheVariants.{Stop, Limit}
 use Rattle.sdm_rules.specs.Cells.{cell_of}
 use Rattle.sdm_rules.specs.Data.{TrainAndTrack}
-use Rattle.sdm_rules.specs.Ranges.{longest_track}
+use Rattle.sdm_rules.specs.Supervision.{is_past_end}
 use Rattle.sdm_rules.specs.Targets.{end_of, ends_of, targets_of}
 use Rattle.sdm_targets.specs.Lists.{falls_past}
 use Rattle.sdm_braking.specs.declared.kept_ends.KeptEnd.{KeptEnd}
@@ -35,14 +34,18 @@ ends_kept d (Stop eoa svl release) (KeptLimit l) h = absurd h
 ends_kept d (Limit loa speed) (KeptStop e s) h = absurd h
 ends_kept d (Limit loa speed) (KeptLimit l) h = h.kept
 
--- an EOA that is kept lies on the longest track
-pub eoa_on_track : (d : TrainAndTrack) (a : Authority) (e : KeptEnd) (eoa svl release : ℕ) → a ≡ Stop eoa svl release →
-    IsKeptEnd d a e → eoa ≤ longest_track
-eoa_on_track d a e eoa svl release is h = on_track e (subst (λ (a : Authority). IsKeptEnd d a e) is h)
-  where
-    on_track : (e : KeptEnd) → IsKeptEnd d (Stop eoa svl release) e → eoa ≤ longest_track
-    on_track (KeptStop e s) h = omega (arith, ints, (rw h.0.at at h.0.kept.target.on_track))
-    on_track (KeptLimit l) h = absurd h
+-- whether there is an EOA that is kept, and a front end is past it
+abbrev pub is_past_eoa : KeptEnd → ℤ → Bool
+is_past_eoa (KeptStop e s) front = int_lt e.target.place front
+is_past_eoa (KeptLimit l) front = false
+
+-- there the front end is past the end of the authority, and nowhere else
+pub past_eoa : (d : TrainAndTrack) (a : Authority) (e : KeptEnd) (front : ℤ) → IsKeptEnd d a e →
+    is_past_eoa e front ≡ is_past_end a front
+past_eoa d (Stop eoa svl release) (KeptStop e s) front h = λ i. int_lt (h.0.at i).place front
+past_eoa d (Stop eoa svl release) (KeptLimit l) front h = absurd h
+past_eoa d (Limit loa speed) (KeptStop e s) front h = absurd h
+past_eoa d (Limit loa speed) (KeptLimit l) front h = refl
 
 -- the kept falls ahead and the kept end make the targets of the definitions
 pub targets_are : (d : TrainAndTrack) (p : ℤ → ℕ) (a : Authority) (ks : List KeptFallData) (e : KeptEnd)

@@ -27,10 +27,10 @@ ghost use Rattle.sdm_laws.specs.SupervisionLaws.{IsPassedUpwards};
 mod within;
 
 use crate::sight::Sight;
-use sdm_braking::{Braking, Kept};
+use sdm_braking::{Braking, Kept, KeptEnd};
 use sdm_curve::Curve;
 use sdm_national::National;
-use sdm_num::{Place, Reading};
+use sdm_num::Reading;
 use sdm_rules::{
     CycleFault, LimitName, OpenFault, RestrictFault, Restriction, RevokeFault, Row, Shown,
     TripFault,
@@ -269,16 +269,19 @@ impl Supervisor {
         prove!(reading.time() <= 100_000_000);
         let front = reading.max_mm();
         let cell = front.cell();
-        // past the EOA, where there is one, by the min safe front end (SUBSET-026-3 3.13.10; own)
-        let (end, past_end) = match self.authority {
-            Authority::Stop { eoa, .. } => (eoa, Place::of_cm_from_0(eoa) < reading.min_mm()),
-            Authority::Limit { loa, .. } => (loa, false),
+        let end = match self.authority {
+            Authority::Stop { eoa, .. } => eoa,
+            Authority::Limit { loa, .. } => loa,
         };
         Sight {
             braking: &self.braking,
             reading,
             ceiling_kmh: self.profile.lowest(reading.min_mm().cell(), cell),
-            past_end,
+            // past the EOA, where there is one, by the min safe front end (SUBSET-026-3 3.13.10; own)
+            past_end: match &*self.kept.end {
+                KeptEnd::Stop { eoa, .. } => eoa.target.place < reading.min_mm(),
+                KeptEnd::Limit { .. } => false,
+            },
             // (SUBSET-026-3 3.13.10.5)
             release_kmh: match self.kept.release {
                 Some(release) if release.start.is_passed_by(front) => Some(release.speed_kmh),

@@ -1,15 +1,12 @@
--- The table has each pair of digits at its number: all hundred entries are looked at.
-use Rattle.std.proofs.Common.{◌≡◌, ℕ, zero, suc, ◌-◌, ◌<◌, Bool, true, ◌&&◌, [], get_or, eq-zero-or-pos, inl, inr, refl}
-use Rattle.std.proofs.Common.{arith}
-use Rattle.std.specs.Str.{bytes_eq}
-use Rattle.std.proofs.lemmas.Bool.{and_parts}
-use Rattle.std.proofs.lemmas.Slice.Eq.{bytes_eq-Decides}
-use Rattle.itoa.proofs.Decimal.{pair}
+-- The table has each pair of digits at twice its number: all hundred entries are looked at.
+use Rattle.std.proofs.Common.{◌≡◌, ℕ, zero, suc, ◌+◌, ◌-◌, ◌*◌, ◌/◌, ◌%◌, ◌<◌, Bool, true, ◌&&◌, eqb, get_or}
+use Rattle.std.proofs.Common.{eq-zero-or-pos, inl, inr, refl, arith}
+use Rattle.std.proofs.lemmas.Bool.{and_parts, eqb-true}
 use Rattle.sdm_text.specs.declared.digits.TheConstants.{PAIRS}
 
 -- the entry of a number below 100 is its two digits
 abbrev is_entry : ℕ → Bool
-is_entry p = bytes_eq (get_or PAIRS p []) (pair p)
+is_entry p = eqb (get_or PAIRS (2 * p) 0) (48 + p / 10) && eqb (get_or PAIRS (2 * p + 1) 0) (48 + p % 10)
 
 -- so is each entry below that of n
 abbrev are_entries : ℕ → Bool
@@ -27,5 +24,7 @@ entry_below (suc n) p all lt =
     ]
 
 -- the entry of p in the table
-pub pair_at : (p : ℕ) → p < 100 → get_or PAIRS p [] ≡ pair p
-pair_at p lt = (bytes_eq-Decides (get_or PAIRS p []) (pair p)).0 (entry_below 100 p refl lt)
+pub pair_at : (p : ℕ) → p < 100 → (get_or PAIRS (2 * p) 0 ≡ 48 + p / 10) × (get_or PAIRS (2 * p + 1) 0 ≡ 48 + p % 10)
+pair_at p lt =
+    let parts = and_parts _ _ (entry_below 100 p refl lt) in
+    (eqb-true _ _ parts.0, eqb-true _ _ parts.1)

@@ -8,17 +8,9 @@ use crate::rows::{ROW_BYTES, RowBuf};
 use itoa::write_digits;
 
 /// The digits of 0 to 99, two each. (own)
-static PAIRS: [[u8; 2]; 100] = [
-    *b"00", *b"01", *b"02", *b"03", *b"04", *b"05", *b"06", *b"07", *b"08", *b"09", *b"10", *b"11",
-    *b"12", *b"13", *b"14", *b"15", *b"16", *b"17", *b"18", *b"19", *b"20", *b"21", *b"22", *b"23",
-    *b"24", *b"25", *b"26", *b"27", *b"28", *b"29", *b"30", *b"31", *b"32", *b"33", *b"34", *b"35",
-    *b"36", *b"37", *b"38", *b"39", *b"40", *b"41", *b"42", *b"43", *b"44", *b"45", *b"46", *b"47",
-    *b"48", *b"49", *b"50", *b"51", *b"52", *b"53", *b"54", *b"55", *b"56", *b"57", *b"58", *b"59",
-    *b"60", *b"61", *b"62", *b"63", *b"64", *b"65", *b"66", *b"67", *b"68", *b"69", *b"70", *b"71",
-    *b"72", *b"73", *b"74", *b"75", *b"76", *b"77", *b"78", *b"79", *b"80", *b"81", *b"82", *b"83",
-    *b"84", *b"85", *b"86", *b"87", *b"88", *b"89", *b"90", *b"91", *b"92", *b"93", *b"94", *b"95",
-    *b"96", *b"97", *b"98", *b"99",
-];
+static PAIRS: [u8; 200] =
+    *b"0001020304050607080910111213141516171819202122232425262728293031323334353637383940414243444546474849\
+    5051525354555657585960616263646566676869707172737475767778798081828384858687888990919293949596979899";
 
 /// Numbers below this have at most eight digits. (own)
 const NINE_DIGITS: u64 = 100_000_000;
@@ -36,29 +28,48 @@ impl RowBuf {
             self.byte(b'-');
         }
         let n = n.unsigned_abs();
-        if n >= NINE_DIGITS {
-            return self.many(n);
-        }
-        let n = n as usize;
-        // what is left without the last four digits, and of this without the last two, where there are more
-        let leading = if n < 10_000 { n } else { n / 10_000 };
-        let first = if leading < 100 {
-            leading
+        if n < 10_000 {
+            self.up_to_four(n);
+        } else if n < NINE_DIGITS {
+            self.up_to_four(n / 10_000);
+            let last = n % 10_000;
+            self.two(last / 100);
+            self.two(last % 100);
         } else {
-            leading / 100
-        };
-        if first < 10 {
-            self.byte(b'0' + first as u8);
+            self.many(n);
+        }
+    }
+
+    /// Puts a number of at most four digits.
+    #[inline(always)]
+    fn up_to_four(&mut self, n: u64)
+        requires few { n < 10_000 }
+        requires room { length self.old + length (decimal n) ≤ ROW_BYTES }
+        ensures { self.new ≡ self.old ++ decimal n }
+    {
+        if n < 10 {
+            self.byte(b'0' + n as u8);
+        } else if n < 100 {
+            self.two(n);
+        } else if n < 1_000 {
+            self.byte(b'0' + (n / 100) as u8);
+            self.two(n % 100);
         } else {
-            self.text(&PAIRS[first]);
+            self.two(n / 100);
+            self.two(n % 100);
         }
-        if leading >= 100 {
-            self.text(&PAIRS[leading % 100]);
-        }
-        if n >= 10_000 {
-            self.text(&PAIRS[n / 100 % 100]);
-            self.text(&PAIRS[n % 100]);
-        }
+    }
+
+    /// Puts two digits, the first of which may be a zero.
+    #[inline(always)]
+    fn two(&mut self, n: u64)
+        requires few { n < 100 }
+        requires room { length self.old + 2 ≤ ROW_BYTES }
+        ensures { self.new ≡ self.old ++ (48 + n / 10) ∷ (48 + n % 10) ∷ [] }
+    {
+        let from = 2 * n as usize;
+        self.byte(PAIRS[from]);
+        self.byte(PAIRS[from + 1]);
     }
 
     /// Puts a number of any count of digits. Few numbers of a row have more than eight.

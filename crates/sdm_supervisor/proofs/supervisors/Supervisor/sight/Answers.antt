@@ -1,6 +1,6 @@
 -- Each part of what is seen is that of the definitions, by the clause of the call that found it.
 use Rattle.std.proofs.Common.{◌≡◌, min, map, ◌++◌, ◌∙◌, ap, refl, sym, subst, is_some, Option, true, false, to_z, of_z}
-use Rattle.std.proofs.Common.{w32, rules, arith, ℕ, Bool}
+use Rattle.std.proofs.Common.{w32, rules}
 use Rattle.std.proofs.lemmas.Int.{ints, to_z-of_z}
 use Rattle.std.specs.Int.{int_gap}
 use Rattle.sdm_rules.specs.Cells.{cell_of, lowest}
@@ -16,15 +16,15 @@ use Rattle.sdm_supervisor.proofs.CycleLaws.{is_open}
 use Rattle.sdm_braking.proofs.ReleaseLaws.{release_speed_at, release_speed_at_is, release_speed_in_range}
 use Rattle.sdm_supervisor.proofs.FindLaws.{seen_is}
 use Rattle.sdm_supervisor.proofs.WithinLaws.{released_at}
-use Rattle.sdm_braking.proofs.WalkLaws.{ends_kept, eoa_on_track, targets_are}
+use Rattle.sdm_braking.proofs.WalkLaws.{ends_kept, is_past_eoa, past_eoa, targets_are}
 use Rattle.sdm_supervisor.proofs.supervisors.Supervisor.sight.Goals as goal
 use Rattle.sdm_supervisor.proofs.supervisors.Supervisor.sight.Goals.{in-Some, in_default-2, in_default}
-use Rattle.sdm_supervisor.proofs.supervisors.Supervisor.sight.Goals.{in-Stop, in-Limit}
+use Rattle.sdm_supervisor.proofs.supervisors.Supervisor.sight.Goals.{in-Stop, in-Limit, in-Stop-deref, in-Limit-deref}
 
-module _ (c : goal.After-deref) where
+module _ (c : goal.After-deref-2) where
   -- the cell of the min safe front end
   back : to_z w32 (of_z w32 c.cell.result) ≡ cell_of c.args.reading.now.min
-  back = to_z-of_z w32 c.cell.result (search (rules, ints)) ∙ c.cell.ensures ∙ ap cell_of c.min_mm-2.ensures
+  back = to_z-of_z w32 c.cell.result (search (rules, ints)) ∙ c.cell.ensures ∙ ap cell_of c.min_mm.ensures
 
   -- the cell of the max safe front end
   front : to_z w32 (of_z w32 c.cell-cell.result) ≡ cell_of c.args.reading.now.max
@@ -61,26 +61,36 @@ module _ (c : goal.After-deref) where
   after : to_z w32 (of_z w32 c.cell-cell.result) ≡ cell_of c.max_mm-front.result
   after = to_z-of_z w32 c.cell-cell.result (search (rules, ints)) ∙ c.cell-cell.ensures
 
-  -- they end at the EOA or the LOA, and the min safe front end may be past the EOA
-  end_is : c.match-self.end
-      ≡ (end_of c.self.inside.authority, is_past_end c.self.inside.authority c.args.reading.now.min)
+  -- they end at the EOA or the LOA
+  end_is : c.match-self.end ≡ end_of c.self.inside.authority
   end_is = elim c.match-self.branch [
-    | in-Stop w ↦ rw (w.in-Stop.is, ← w.min_mm.ensures) (search rules)
+    | in-Stop w ↦ w.end-is ∙ rw w.in-Stop.is refl
     | in-Limit w ↦ w.end-is ∙ rw w.in-Limit.is refl
   ]
 
   -- the end of the authority is read out of its box, for its targets
-  end_seen : IsKeptEnd c.self.inside.braking c.self.inside.authority c.deref.result.now
-  end_seen = rw c.deref.ensures c.self.invariant.kept.end
+  end_seen : IsKeptEnd c.self.inside.braking c.self.inside.authority c.deref-2.result.now
+  end_seen = rw c.deref-2.ensures c.self.invariant.kept.end
+
+  -- the min safe front end is past the EOA that is kept, where one is
+  end_passed : c.match-deref.result ≡ is_past_end c.self.inside.authority c.args.reading.now.min
+  end_passed =
+      let kept : c.match-deref.result ≡ is_past_eoa c.deref.result.now c.args.reading.now.min =
+      elim c.match-deref.branch [
+        | in-Stop-deref w ↦ rw (w.in-Stop-deref.is, ← w.min_mm-in-Stop-deref.ensures) (search rules)
+        | in-Limit-deref w ↦ w.result-is ∙ rw w.in-Limit-deref.is refl
+      ] in
+      kept ∙ past_eoa c.self.inside.braking c.self.inside.authority c.deref.result.now c.args.reading.now.min
+      (rw c.deref.ensures c.self.invariant.kept.end)
 
   -- the falls ahead and the end make the targets of the definitions
-  targets : map target_of c.ahead.result ++ targets_in c.deref.result.now (is_some c.match-self-2.result)
+  targets : map target_of c.ahead.result ++ targets_in c.deref-2.result.now (is_some c.match-self-2.result)
       ≡ targets_of (mrsp_of c.self.inside.profile) c.self.inside.authority c.args.reading.now.max
       (is_some (release_of c.self.inside.braking c.self.inside.authority c.args.reading.now.max))
   targets =
       targets_are c.self.inside.braking (mrsp_of c.self.inside.profile) c.self.inside.authority
-      c.ahead.result c.deref.result.now _ c.max_mm-front.result c.match-self.end.0
-      (is_some c.match-self-2.result) after (ap (λ (x : ℕ × Bool). x.0) end_is)
+      c.ahead.result c.deref-2.result.now _ c.max_mm-front.result c.match-self.end
+      (is_some c.match-self-2.result) after end_is
       (c.ahead.ensures.each c.self.inside.braking c.self.invariant.kept.falls.each)
       (c.ahead.ensures.falls (mrsp_of c.self.inside.profile) c.self.invariant.kept.falls.falls) end_seen
       ∙ (λ k. targets_of (mrsp_of c.self.inside.profile) c.self.inside.authority (c.max_mm-front.ensures k)
@@ -96,16 +106,12 @@ module _ (c : goal.After-deref) where
       ceiling_kmh = c.lowest.result;
       est = c.args.reading.now.est;
       front = c.args.reading.now.max;
-      targets = map target_of c.ahead.result ++ targets_in c.deref.result.now (is_some c.match-self-2.result);
-      past_end = c.match-self.end.1;
+      targets = map target_of c.ahead.result ++ targets_in c.deref-2.result.now (is_some c.match-self-2.result);
+      past_end = c.match-deref.result;
       release = c.match-self-2.result;
       in_use = c.is_service_in_use.result;
     };
   }
-
-pub of_cm_from_0-requires : goal.of_cm_from_0-requires
-of_cm_from_0-requires c =
-    omega (arith, eoa_on_track c.self.inside.braking _ _ _ _ _ c.in-Stop.is c.self.invariant.kept.end)
 
 pub lowest-requires : goal.lowest-requires
 lowest-requires c = search (rules, ints)
@@ -117,7 +123,7 @@ invariant_of-result c = record {
       (release_speed_in_range c.self.inside.braking c.self.inside.authority c.self.inside.kept.release
       c.max_mm-front.result c.self.invariant.kept.release);
   falls = c.ahead.ensures.each c.self.inside.braking c.self.invariant.kept.falls.each;
-  end = rw c.deref.ensures
+  end = rw c.deref-2.ensures
       (ends_kept c.self.inside.braking c.self.inside.authority c.self.inside.kept.end.value c.self.invariant.kept.end);
 }
 
@@ -126,7 +132,7 @@ returns-clause-seen c =
     subst (λ (s : Supervision). seen c ≡ seen_at s c.args.reading.now) c.self.view_is
     (seen_is c.self.inside.braking c.self.inside.authority c.self.inside.profile c.self.inside.last_time
     c.self.inside.held c.args.reading.now (seen c).situation c.self.invariant.profile
-    refl (ceiling c) refl refl (targets c) (ap (λ (x : ℕ × Bool). x.1) (end_is c))
+    refl (ceiling c) refl refl (targets c) (end_passed c)
     (in_release_monitoring c) c.is_service_in_use.ensures.value)
 
 pub returns-clause-accepted : goal.returns-clause-accepted
