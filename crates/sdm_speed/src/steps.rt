@@ -26,7 +26,7 @@ pub struct Step {
 /// A speed in km/h for every cell: one before the first step, and steps whose starts rise.
 #[derive(Debug, Drop)]
 pub struct Steps {
-    pub before: u16,
+    before: u16,
     pub list: Vec<Step>,
     ghost rises: { AreRising list.items } by { AreRising-prop list.items },
 }
@@ -151,7 +151,7 @@ impl Steps {
     }
 
     /// The speed up to where the step at this index starts.
-    fn speed_to(&self, i: usize) -> u16
+    pub fn speed_to(&self, i: usize) -> u16
         requires { i ≤ length self.now.list.items }
         ensures { result ≡ speed_to self.now.before self.now.list.items i }
     {
