@@ -36,7 +36,6 @@ impl Nearest {
                 permitted,
             };
         };
-        // By grains: with `<` of places a reading costs some 100 instructions more on the greatest data.
         Nearest {
             ebi: match (nearest.ebi, ebi) {
                 (None, _) => ebi,
