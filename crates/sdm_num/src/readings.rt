@@ -93,7 +93,7 @@ impl Estimate {
         if speed > Speed::of_kmh(TOP_KMH as u16) || under > Speed::of_mm_s(MOST_UNDER_MM_S) {
             return None;
         }
-        if !is_acceleration(accel) {
+        if accel < -300 || accel > 300 {
             return None;
         }
         Some(Estimate {
@@ -134,20 +134,6 @@ impl Estimate {
     }
 }
 
-/// The front ends are in order and on the track or near it.
-fn are_front_ends(min_mm: i32, est_mm: i32, max_mm: i32) -> bool
-    ensures { IsTrue result ↔ (negsuc 9_999_999 ≤ℤ min_mm) × (min_mm ≤ℤ est_mm) × (est_mm ≤ℤ max_mm)
-        × (max_mm ≤ℤ pos 110_000_000) }
-{
-    -10_000_000 <= min_mm && min_mm <= est_mm && est_mm <= max_mm && max_mm <= 110_000_000
-}
-
-fn is_acceleration(accel: i16) -> bool
-    ensures { IsTrue result ↔ (negsuc 299 ≤ℤ accel) × (accel ≤ℤ pos 300) }
-{
-    -300 <= accel && accel <= 300
-}
-
 impl Reading {
     /// The reading of these numbers; None exactly where one of them is out of its range.
     // In line a caller's own tests of the ranges serve, and the reading is written once, where it is wanted.
@@ -167,10 +153,10 @@ impl Reading {
         if time > 100_000_000 || speed_mm_s > 138_888 || under_mm_s > MOST_UNDER_MM_S {
             return None;
         }
-        if !are_front_ends(min_mm, est_mm, max_mm) {
+        if min_mm < -10_000_000 || est_mm < min_mm || max_mm < est_mm || max_mm > 110_000_000 {
             return None;
         }
-        if !is_acceleration(accel) {
+        if accel < -300 || accel > 300 {
             return None;
         }
         Some(Reading {
