@@ -1,5 +1,5 @@
 -- The number of digits in a row, digit by digit; and the first field of a line that begins with some and then a comma.
-use Rattle.std.proofs.Common.{◌≡◌, ℕ, zero, suc, ◌+◌, ◌-◌, ◌*◌, ◌<◌, ◌≤◌, ◌^◌, pos, true, false, eqb, List, [], ◌∷◌}
+use Rattle.std.proofs.Common.{◌≡◌, ℕ, zero, suc, ◌+◌, ◌*◌, ◌%◌, ◌<◌, ◌≤◌, ◌^◌, pos, true, false, eqb, List, [], ◌∷◌}
 use Rattle.std.proofs.Common.{Some, length, length-take, take, drop, get_or, refl, ap, lit<, add-one, arith}
 use Rattle.std.proofs.Math.Nat.{pow-le-pow_right, pow-suc}
 use Rattle.std.proofs.lemmas.Bool.{and_from, and_parts, false≢true, le-leb, ne_eqb}
@@ -30,22 +30,24 @@ pub record IsRead (ds : List ℕ) (i n : ℕ) : Type 0 where
 pub none_read : (ds : List ℕ) → IsRead ds 0 0
 none_read ds = record { digits = refl; writes = refl; small = omega arith }
 
--- one more digit
-module _ (ds : List ℕ) (i n c d : ℕ) (within : i < length ds) (read : c ≡ get_or ds i 0)
-    (digit : (is_ascii_digit c ≡ true) × (d ≡ c - 48)) where
-  -- the next byte is the digit `d`
-  here : digit_value (get_or ds i 0) ≡ d
-  here = let is = digit.0 in let value = digit.1 in rw (← read, value) (grind (arith, nat_tests))
+-- a byte less `0`, which wraps below it: at most 9 where the byte is a digit, and then the digit's value
+digit_at_most_9 : (b : ℕ) → b < 256 → (b + 208) % 256 ≤ 9 →
+    (is_ascii_digit b ≡ true) × (digit_value b ≡ (b + 208) % 256)
+digit_at_most_9 b fits small =
+    let least : 48 ≤ b = omega arith in
+    let most : b ≤ 57 = omega arith in
+    (grind (arith, nat_tests), grind (arith, nat_tests))
 
-  small_digit : d < 10
-  small_digit = let is = digit.0 in let value = digit.1 in grind (arith, nat_tests)
-
-  pub one_more : (j m : ℕ) → j ≡ i + 1 → m ≡ 10 * n + d → IsRead ds i n → IsRead ds j m
-  one_more j m next is before = rw (next, is) (record {
-    digits = rw (list_all_more is_ascii_digit ds i 0 within) (and_from _ _ before.digits (rw (← read) digit.0));
-    writes = rw (digits_value_more 10 ds i within, here, ← before.writes) (omega arith);
-    small = let fits = before.small in rw add-one (omega (arith, pow-suc 10 i, small_digit));
-  })
+-- one more digit, which the next byte less `0` is
+pub one_more : (ds : List ℕ) (i n d j m : ℕ) → i < length ds → get_or ds i 0 < 256 → d ≡ (get_or ds i 0 + 208) % 256 →
+    d ≤ 9 → j ≡ i + 1 → m ≡ 10 * n + d → IsRead ds i n → IsRead ds j m
+one_more ds i n d j m within fits less small next is before =
+    let digit = digit_at_most_9 (get_or ds i 0) fits (rw less at small) in
+    rw (next, is) (record {
+      digits = rw (list_all_more is_ascii_digit ds i 0 within) (and_from _ _ before.digits digit.0);
+      writes = rw (digits_value_more 10 ds i within, digit.1, ← less, ← before.writes) (omega arith);
+      small = let few = before.small in rw add-one (omega (arith, pow-suc 10 i));
+    })
 
 -- ---- digits and then a comma
 

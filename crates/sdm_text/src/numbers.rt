@@ -3,7 +3,6 @@
 
 ghost use Rattle.std.specs.Prelude.{◌≡◌, ◌^◌, ◌-◌, ◌<◌, ◌≤◌, ◌≤ℤ◌, pos, false, true, IfOk, IfErr, IfSome, IfNone};
 ghost use Rattle.std.specs.Prelude.{Some, None, if◌then◌else◌};
-ghost use Rattle.std.specs.Char.{is_ascii_digit};
 ghost use Rattle.std.specs.Str.Parse.{digits_value};
 ghost use Rattle.sdm_text.specs.FirstNumbers.{BeginsWithNoNumberIn, BeginsWithNumber, BeginsWithNumberIn};
 ghost use Rattle.sdm_rules.specs.Numbers.{is_digits, most_digits, read_int};
@@ -47,7 +46,7 @@ pub fn natural_in(field: &[u8], least: u32, greatest: u32) -> Result<u32, FieldF
 }
 
 /// The number that 1 to 18 digits write; none for other bytes. Digits are read in pairs, after the first of an odd
-/// count.
+/// count. A byte less `0` is more than 9 where it is no digit: one below `0` wraps.
 #[inline(always)]
 fn magnitude(digits: &[u8]) -> Option<u64>
     ensures value { result ≡ if is_digits digits.now then Some (digits_value 10 digits.now) else None }
@@ -57,30 +56,24 @@ fn magnitude(digits: &[u8]) -> Option<u64>
         return None;
     }
     let mut at = digits.len() % 2;
-    let mut number = if at == 1 { digit_of(digits[0]) } else { 0 };
+    let mut number = if at == 1 {
+        u64::from(digits[0].wrapping_sub(b'0'))
+    } else {
+        0
+    };
     if number > 9 {
         return None;
     }
     while at < digits.len() {
-        let tens = digit_of(digits[at]);
-        let ones = digit_of(digits[at + 1]);
+        let tens = digits[at].wrapping_sub(b'0');
+        let ones = digits[at + 1].wrapping_sub(b'0');
         if tens > 9 || ones > 9 {
             return None;
         }
-        number = 100 * number + 10 * tens + ones;
+        number = 100 * number + u64::from(10 * tens + ones);
         at += 2;
     }
     Some(number)
-}
-
-/// The digit that a byte writes, and more than 9 where it writes none: a byte below `0` wraps, so that a caller needs
-/// one test.
-#[inline]
-pub(crate) fn digit_of(byte: u8) -> u64
-    ensures digit { result ≤ 9 → (is_ascii_digit byte ≡ true) × (result ≡ byte - 48) }
-    ensures none { 9 < result → is_ascii_digit byte ≡ false }
-{
-    u64::from(byte).wrapping_sub(u64::from(b'0'))
 }
 
 /// The number of the first field of a line, from `least` to `greatest`, and the line after the comma that ends the
@@ -119,7 +112,7 @@ fn split_digits(line: &[u8]) -> Option<(u64, &[u8])>
     let prefix = &line[..line.len().min(MOST_DIGITS + 1)];
     let mut number = 0u64;
     for (count, byte) in prefix.iter().enumerate() {
-        let digit = digit_of(*byte);
+        let digit = byte.wrapping_sub(b'0');
         if digit > 9 {
             return if *byte == b',' && count > 0 {
                 Some((number, &line[count + 1..]))
@@ -127,7 +120,7 @@ fn split_digits(line: &[u8]) -> Option<(u64, &[u8])>
                 None
             };
         }
-        number = 10 * number + digit;
+        number = 10 * number + u64::from(digit);
     }
     None
 }

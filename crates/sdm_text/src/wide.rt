@@ -5,7 +5,6 @@ ghost use Rattle.std.specs.Prelude.{◌≡◌, ◌+◌, ◌≤◌, ◌++◌, len
 ghost use Rattle.std.specs.Str.Parse.{digits_value};
 ghost use Rattle.sdm_rules.specs.Numbers.{is_digits_of, most_wide_digits, read_wide};
 
-use crate::numbers::digit_of;
 use crate::rows::{ROW_BYTES, RowBuf};
 use itoa::Buffer;
 use sdm_rules::FieldFault;
@@ -37,7 +36,7 @@ fn wide_magnitude(digits: &[u8]) -> Option<u128>
     }
     let mut number = 0u128;
     for (count, byte) in digits.iter().enumerate() {
-        let digit = digit_of(*byte);
+        let digit = byte.wrapping_sub(b'0');
         if digit > 9 {
             return None;
         }

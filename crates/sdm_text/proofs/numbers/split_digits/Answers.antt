@@ -1,6 +1,6 @@
 -- As many digits as are looked at fit, also one more than a number has.
-use Rattle.std.proofs.Common.{◌≡◌, ◌+◌, ◌-◌, length, length-drop, length-take, take, drop, refl, arith}
-use Rattle.std.proofs.lemmas.List.{take_all}
+use Rattle.std.proofs.Common.{◌≡◌, ◌+◌, ◌-◌, ◌<◌, length, length-drop, length-take, take, drop, refl, arith}
+use Rattle.std.proofs.lemmas.List.{get_or-take, take_all}
 use Rattle.sdm_rules.specs.Numbers.{most_digits}
 use Rattle.sdm_text.proofs.NumberDigits.{below_greater_power, begins_with_digits, one_more}
 use Rattle.sdm_text.proofs.numbers.split_digits.Goals as goal
@@ -20,10 +20,15 @@ overflow_add-number c = omega (
 )
 
 pub loop-count-preserved : goal.loop-count-preserved
-loop-count-preserved c = record {
-  read = one_more _ _ _ _ _ c.loop-count-test.true refl
-      (c.digit_of-digit.ensures.digit c.if-digit-gt9.false) _ _ refl refl c.loop-count.invariant.read;
-}
+loop-count-preserved c =
+    let line = c.args.line.now in
+    let at = c.loop-count.count in
+    let within : at < c.min.result = omega (arith, c.loop-count-test.true, length-take c.min.result line) in
+    record {
+      read = one_more _ _ _ _ _ _ c.loop-count-test.true
+          (rw (get_or-take c.min.result line at 0 within) (omega (arith, c.type_inv.line at)))
+          c.from.ensures (rw c.from.ensures c.if-digit-gt9.false) refl refl c.loop-count.invariant.read;
+    }
 
 pub returns-then-count-gt0-clause-number : goal.returns-then-count-gt0-clause-number
 returns-then-count-gt0-clause-number c =

@@ -1,5 +1,5 @@
 -- As many digits as a wide number has fit.
-use Rattle.std.proofs.Common.{◌∙◌, refl, arith}
+use Rattle.std.proofs.Common.{refl, arith}
 use Rattle.sdm_text.proofs.NumberDigits.{below_greater_power, one_more}
 use Rattle.sdm_text.proofs.wide.wide_magnitude.Goals as goal
 
@@ -10,7 +10,7 @@ pub overflow_add-number : goal.overflow_add-number
 overflow_add-number c = omega (arith, below_greater_power _ _ 37 c.loop-count.invariant.read.small (omega arith))
 
 pub loop-count-preserved : goal.loop-count-preserved
-loop-count-preserved c = let digit = c.digit_of-digit.ensures.digit c.if-digit-gt9.false in record {
-  read = one_more _ _ _ _ _ c.loop-count-test.true refl
-      (digit.0, c.from.ensures ∙ digit.1) _ _ refl refl c.loop-count.invariant.read;
+loop-count-preserved c = record {
+  read = one_more _ _ _ _ _ _ c.loop-count-test.true (omega (arith, c.type_inv.digits c.loop-count.count))
+      c.from.ensures (rw c.from.ensures c.if-digit-gt9.false) refl refl c.loop-count.invariant.read;
 }
