@@ -279,11 +279,13 @@ impl Profile {
         ensures value { result ≡ lowest min (mrsp_of self.now) from (int_gap from to) }
         ensures in_range { IsLimit result }
     {
-        // the speed of the first cell, and of each step past its start that begins at or before the last; `speed_to` is
-        // a call, since its body here costs a reading 9 instructions more
+        // the speed of the first cell, and of each step past its start that begins at or before the last
         let steps = &self.steps.list;
         let begun = steps.partition_point(|step| step.start <= from);
-        let mut lowest = self.steps.speed_to(begun);
+        let mut lowest = match begun {
+            0 => self.steps.before,
+            _ => steps[begun - 1].speed,
+        };
         for step in &steps[begun..] {
             if to < step.start {
                 return lowest;

@@ -26,7 +26,7 @@ pub struct Step {
 /// A speed in km/h for every cell: one before the first step, and steps whose starts rise.
 #[derive(Debug, Drop)]
 pub struct Steps {
-    before: u16,
+    pub before: u16,
     pub list: Vec<Step>,
     ghost rises: { AreRising list.items } by { AreRising-prop list.items },
 }

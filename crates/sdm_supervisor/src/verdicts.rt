@@ -10,7 +10,8 @@ ghost use Rattle.sdm_supervisor.specs.Verdicts.{IsSaid, IsVerdictOf};
 
 use crate::nearest::Nearest;
 use crate::sight::Sight;
-use sdm_braking::{AskedEstimate, Braking, KeptEnd, KeptTarget, SpeedLimits};
+use sdm_braking::{AskedEstimate, Braking, KeptEnd, KeptTarget};
+use sdm_ceiling::Margins;
 use sdm_num::{Place, Reading, Speed};
 use sdm_rules::Triggers;
 use sdm_targets::TargetKind;
@@ -117,13 +118,14 @@ impl Verdict {
             KeptEnd::Limit { loa } => said.add(sight.braking, &asked, sight.reading, loa),
         }
         let v_est = sight.reading.speed_mm_s();
-        // No margin makes the ceiling lower. (SUBSET-026-3 3.13.10.3)
-        if Speed::of_kmh(sight.ceiling_kmh) < v_est {
-            let ceiling = SpeedLimits::of_kmh(sight.ceiling_kmh);
+        // V_est > V_MRSP + dV, where no margin dV makes the ceiling lower (SUBSET-026-3 3.13.10.3)
+        let v_mrsp = Speed::of_kmh(sight.ceiling_kmh);
+        if v_mrsp < v_est {
+            let dv = Margins::of_kmh(sight.ceiling_kmh);
             said.triggers.over = true;
-            said.triggers.warn |= ceiling.warning < v_est;
-            said.triggers.serv |= ceiling.sbi < v_est;
-            said.triggers.emer |= ceiling.ebi < v_est;
+            said.triggers.warn |= v_mrsp.plus(dv.warning) < v_est;
+            said.triggers.serv |= v_mrsp.plus(dv.sbi) < v_est;
+            said.triggers.emer |= v_mrsp.plus(dv.ebi) < v_est;
         }
         // (SUBSET-026-3 3.13.10.5)
         if let Some(kmh) = sight.release_kmh {

@@ -1,7 +1,7 @@
 -- The first step that starts past the last cell ends the search; the others lower the speed. The steps that are kept
 -- give the MRSP.
 use Rattle.std.proofs.Common.{◌≡◌, ◌≤ℤ◌, ◌<ℤ◌, ◌+◌, ◌-◌, ◌+ℤ◌, pos, List, length, get_or, take, drop, min}
-use Rattle.std.proofs.Common.{int_le, w32, to_z, of_z, sym, ◌∙◌, arith, rules}
+use Rattle.std.proofs.Common.{int_le, w32, to_z, of_z, suc, ap, sym, ◌∙◌, arith, rules}
 use Rattle.std.specs.Int.{int_gap}
 use Rattle.std.proofs.lemmas.Int.{ints, to_z-of_z}
 use Rattle.std.proofs.lemmas.List.{drop_more, drop_all, take_rest}
@@ -9,16 +9,16 @@ use Rattle.std.proofs.lemmas.List.Sorted.{IsPartitionPoint-from_clause}
 use Rattle.sdm_num.proofs.Comparisons.{le_of, not_le_of, lt_of, not_lt_of}
 use Rattle.sdm_rules.specs.Cells.{lowest}
 use Rattle.sdm_speed.specs.declared.steps.Step.{Step}
-use Rattle.sdm_speed.specs.Steps.{ArePartedAt}
+use Rattle.sdm_speed.specs.Steps.{ArePartedAt, speed_to}
 use Rattle.sdm_speed.specs.Profiles.{mrsp_of}
 use Rattle.sdm_speed.specs.Zones.{IsLimit}
-use Rattle.sdm_speed.proofs.StepLaws.{begun_parted, none}
+use Rattle.sdm_speed.proofs.StepLaws.{begun_parted, none, speed_to_next}
 use Rattle.sdm_speed.proofs.ZoneLaws.{int_gap_is}
 use Rattle.sdm_speed.proofs.LowestLaws.{lowest_end, lowest_on, lowest_past, lowest_to}
 use Rattle.sdm_speed.proofs.MrspLaws.{lowest_in_range}
 use Rattle.sdm_speed.proofs.KeptLaws.{kept_mrsp, mrsp_in_range}
 use Rattle.sdm_speed.proofs.profiles.Profile.lowest.Goals as goal
-use Rattle.sdm_speed.proofs.profiles.Profile.lowest.Goals.{After-deref-2}
+use Rattle.sdm_speed.proofs.profiles.Profile.lowest.Goals.{After-deref-2, in-0, in_default}
 
 module _ (c : goal.After-deref-2) where
   -- the steps past those that start at the first cell or before it
@@ -45,13 +45,27 @@ module _ (c : goal.After-deref-2) where
             omega (arith, ints);
       })
 
-  -- from the speed of the last of them the search leads to the lowest MRSP of the cells
-  whole : lowest_to c.speed_to-lowest.result rest c.args.to
+  -- the search begins with the speed of the last of them
+  begins : c.match-begun.lowest
+      ≡ speed_to c.self.inside.steps.before c.self.inside.steps.list.items c.partition_point-begun.result
+  begins =
+      let steps = c.self.inside.steps in
+      elim c.match-begun.branch [
+        | in-0 w ↦ rw w.in-0.is w.lowest-is
+        | in_default w ↦
+            let before = c.partition_point-begun.result - 1 in
+            let one_before : c.partition_point-begun.result ≡ suc before = omega arith in
+            rw one_before (w.lowest-is ∙ ap (λ (s : Step). s.speed) w.index.ensures
+            ∙ sym (speed_to_next steps.before steps.list.items before w.index.result.now (omega arith)))
+      ]
+
+  -- from there it leads to the lowest MRSP of the cells
+  whole : lowest_to c.match-begun.lowest rest c.args.to
       ≡ lowest min (mrsp_of c.args.self.now) c.args.from (int_gap c.args.from c.args.to)
   whole =
       let steps = c.self.inside.steps in
       rw (
-        c.speed_to-lowest.ensures,
+        begins,
         take_rest,
         c.deref-2.ensures.value,
         ← c.self.view_is,

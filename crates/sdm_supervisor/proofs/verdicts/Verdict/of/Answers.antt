@@ -63,17 +63,20 @@ returns c =
     ] in
     let v = c.speed_mm_s-v_est.ensures in
     let is_above : c.lt.result ≡ above_ceiling s no_margin =
-    above c.lt.ensures (c.of_kmh.ensures ∙ omega arith) v in
+    above c.lt.ensures (c.of_kmh-v_mrsp.ensures ∙ omega arith) v in
     let with_its_ceiling : c.if-lt.said ≡ with_ceiling s first = elim c.if-lt.branch [
       | then-lt w ↦
           let t = first.triggers in
-          let ceiling = w.of_kmh-ceiling.ensures in
+          let dv = w.of_kmh-dv.ensures in
+          let warning = rw (c.of_kmh-v_mrsp.ensures, dv.warning) at w.plus.ensures in
+          let sbi = rw (c.of_kmh-v_mrsp.ensures, dv.sbi) at w.plus-2.ensures in
+          let ebi = rw (c.of_kmh-v_mrsp.ensures, dv.ebi) at w.plus-3.ensures in
           w.said-is ∙ (λ k. record first {
             triggers = record {
               over = (sym (or-true t.over) ∙ (λ i. t.over || (sym w.if-lt.true ∙ is_above) i)) k;
-              warn = t.warn || above w.lt-then-lt.ensures ceiling.warning v k;
-              serv = t.serv || above w.lt-then-lt-2.ensures ceiling.sbi v k;
-              emer = t.emer || above w.lt-then-lt-3.ensures ceiling.ebi v k;
+              warn = t.warn || above w.lt-then-lt.ensures warning v k;
+              serv = t.serv || above w.lt-then-lt-2.ensures sbi v k;
+              emer = t.emer || above w.lt-then-lt-3.ensures ebi v k;
             };
           })
       | else-lt w ↦ w.said-is ∙ no_ceiling s (sym is_above ∙ w.if-lt.false) first
