@@ -5,7 +5,6 @@ ghost use Rattle.std.specs.Prelude.{◌≡◌, ◌+◌, ◌/◌, ◌%◌, ◌<�
 ghost use Rattle.std.specs.Fmt.{signed_decimal};
 
 use crate::rows::{ROW_BYTES, RowBuf};
-use itoa::write_digits;
 
 /// The digits of 0 to 99, two each. (own)
 static PAIRS: [u8; 200] =
@@ -36,7 +35,7 @@ impl RowBuf {
             self.two(last / 100);
             self.two(last % 100);
         } else {
-            self.many(n);
+            self.wide(u128::from(n));
         }
     }
 
@@ -70,16 +69,5 @@ impl RowBuf {
         let from = 2 * n as usize;
         self.byte(PAIRS[from]);
         self.byte(PAIRS[from + 1]);
-    }
-
-    /// Puts a number of any count of digits. Few numbers of a row have more than eight.
-    #[inline(never)]
-    fn many(&mut self, n: u64)
-        requires { length self.old + length (decimal n) ≤ ROW_BYTES }
-        ensures { self.new ≡ self.old ++ decimal n }
-    {
-        let mut text = [0u8; 20];
-        let start = write_digits(n, &mut text, 20);
-        self.text(&text[start..]);
     }
 }

@@ -47,6 +47,8 @@ fn wide_magnitude(digits: &[u8]) -> Option<u128>
 
 impl RowBuf {
     /// Puts a wide number in decimal digits with no leading zeros: at most 39 bytes.
+    // Out of line, `number` stays small where it puts nine digits or more by this: few numbers of a row have so many.
+    #[inline(never)]
     pub fn wide(&mut self, n: u128)
         requires { length self.old + length (decimal n) ≤ ROW_BYTES }
         ensures { self.new ≡ self.old ++ decimal n }
