@@ -2,5 +2,5 @@ pub mod AcceptedTracks
 pub mod StepLaws
 pub mod LowestLaws
 pub mod LowLaws
-pub mod WindowLaws
+pub mod SweepLaws
 pub mod SegmentLaws

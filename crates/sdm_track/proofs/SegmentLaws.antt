@@ -1,27 +1,19 @@
--- The segments made so far, as the window moves on: they are right for every cell before the window's next change, and
--- end with the value there. Where the lowest gradient changes, a segment more keeps this; where it does not, they
--- stay.
-use Rattle.std.proofs.Common.{◌≡◌, ◌≢◌, ℕ, ℤ, pos, List, [], ◌∷◌, ◌++◌, length, get_or, All, ◌+◌, ◌-◌, ◌<◌, ◌≤◌, ◌-ℤ◌}
-use Rattle.std.proofs.Common.{◌≤ℤ◌, ◌<ℤ◌, inl, inr, refl, sym, ap, ◌∙◌, arith, length-append}
-use Rattle.std.specs.Int.{int_min}
+-- The segments made so far, as a sweep moves on: they are right up to its cell, and go on with the gradient there. Where
+-- the gradient changes, a segment more keeps this; where it does not, they stay.
+use Rattle.std.proofs.Common.{◌≡◌, ◌≢◌, ℕ, ℤ, pos, List, [], ◌∷◌, ◌++◌, length, get_or, All, ◌+◌, ◌-◌, ◌*◌, ◌<◌, ◌≤◌, ◌≤ℤ◌}
+use Rattle.std.proofs.Common.{◌<ℤ◌, inl, inr, refl, sym, ap, ◌∙◌, arith, length-append}
 use Rattle.std.proofs.lemmas.Int.{ints, by_lt_z}
 use Rattle.std.proofs.lemmas.Bool.{cases_lt}
+use Rattle.std.proofs.lemmas.List.{get_or_default}
 use Rattle.std.proofs.Math.ListN.{get_or-append}
 use Rattle.std.proofs.Math.Seq.{get_or-append_seam}
 use Rattle.sdm_rules.specs.declared.data.Gradient.{Gradient}
-use Rattle.sdm_rules.specs.Cells.{lowest}
-use Rattle.sdm_rules.specs.Decelerations.{track_gradient}
-use Rattle.sdm_rules.specs.Ranges.{longest_track, longest_train}
-use Rattle.sdm_track.specs.declared.window.Window.{Window}
+use Rattle.sdm_rules.specs.Ranges.{most_gradients}
 use Rattle.sdm_track.specs.declared.under_train.Segment.{Segment}
-use Rattle.sdm_track.specs.Steps.{IsFromZero, IsRising, LiesIn}
-use Rattle.sdm_track.specs.Ranges.{AreGradients}
-use Rattle.sdm_track.specs.Windows.{gradient_start, level, IsUnder, IsBeforeChange, IsNext, IsLowestEntry}
-use Rattle.sdm_track.specs.Segments.{IsSegment, AreSegments, segment_gradient}
-use Rattle.sdm_track.proofs.StepLaws.{lies_on, value_is, value_before, value_from}
-use Rattle.sdm_track.proofs.LowestLaws.{lowest_is, int_min_lower}
-use Rattle.sdm_track.proofs.LowLaws.{low_of_first}
-use Rattle.sdm_track.proofs.WindowLaws.{lowest_under}
+use Rattle.sdm_track.specs.Steps.{IsRising, LiesIn}
+use Rattle.sdm_track.specs.Sweeps.{Swept, IsSameBefore, IsSameUntil, IsSameFrom, gradient_under}
+use Rattle.sdm_track.specs.Segments.{IsSegment, AreSegments, GoOnWith, segment_gradient}
+use Rattle.sdm_track.proofs.StepLaws.{value_is, value_before, value_from}
 
 -- ---- the segment in which a cell lies
 
@@ -34,46 +26,23 @@ read_is list i c s rise lies is =
 
 -- ---- a list of segments, as one more is added
 
--- the segments end at or before the cell `at`, with the value `value`
-pub record EndsWith (out : List Segment) (at value : ℤ) : Type 0 where
-  pub some : 1 ≤ length out
-  pub each : All IsSegment out
-  pub from_zero : IsFromZero (λ s. s.start) out
-  pub rise : IsRising (λ s. s.start) out
-  pub differ : (i : ℕ) (d : Segment) → i + 1 < length out → (get_or out i d).value ≢ (get_or out (i + 1) d).value
-  pub begun : (i : ℕ) (d : Segment) → i < length out → (get_or out i d).start ≤ℤ at
-  pub last : (d : Segment) → (get_or out (length out - 1) d).value ≡ value
-  pub on : (c : ℤ) → at ≤ℤ c → segment_gradient out c ≡ value
-
--- one segment, from 0
-ends_first : (s : Segment) → s.start ≡ pos 0 → IsSegment s → EndsWith (s ∷ []) (pos 0) s.value
-ends_first s is in_range = record {
-  some = omega arith;
-  each = λ i d l. (let e : i ≡ 0 = omega arith in rw e in_range);
-  from_zero = record { first = λ d some. is };
-  rise = record { rises = λ i j d l m. absurd (omega arith) };
-  differ = λ i d l. absurd (omega arith);
-  begun = λ i d l. (let e : i ≡ 0 = omega arith in rw e (omega (arith, ints)));
-  last = λ d. refl;
-  on = λ c l. refl;
+-- where the last segment has the gradient, the segments go on
+pub goes_on_same : (out : List Segment) (s last : Segment) → AreSegments out → All (λ t. t.start <ℤ s.start) out →
+    last ≡ get_or out (length out - 1) last → last.value ≡ s.value → GoOnWith s out out
+goes_on_same out s last h later is same = record {
+  before = λ c l. refl;
+  after = λ c l. value_is (λ s. s.start) (λ s. s.value) out (length out - 1) c last (pos 0) h.rise (record {
+    known = omega (arith, h.some);
+    begun = λ d p. (let b = later (length out - 1) d (omega (arith, h.some)) in omega (arith, ints));
+    goes_on = record { before = λ d m. absurd (omega arith) };
+  }) ∙ ap (λ (t : Segment). t.value) (sym is) ∙ same;
+  begun = λ i d l. (let b = later i d l in omega (arith, ints));
+  by_one = omega arith;
 }
 
--- what ends at a cell ends at a later one
-ends_on : (out : List Segment) (at to value : ℤ) → EndsWith out at value → at ≤ℤ to → EndsWith out to value
-ends_on out at to value h le = record {
-  some = h.some;
-  each = h.each;
-  from_zero = h.from_zero;
-  rise = h.rise;
-  differ = h.differ;
-  begun = λ i d l. (let s = h.begun i d l in omega (arith, ints));
-  last = h.last;
-  on = λ c l. h.on c (omega (arith, ints));
-}
-
-module _ (out : List Segment) (s : Segment) (at value : ℤ) (h : EndsWith out at value) (later : at <ℤ s.start)
-    (in_range : IsSegment s)
-    (new : value ≢ s.value) where
+module _ (out : List Segment) (s last : Segment) (h : AreSegments out) (later : All (λ t. t.start <ℤ s.start) out)
+    (in_range : IsSegment s) (room : length out + 1 < 2 * most_gradients)
+    (is : last ≡ get_or out (length out - 1) last) (new : last.value ≢ s.value) where
   -- the segments before stay as they were
   old_at : (i : ℕ) (d : Segment) → i < length out → get_or (out ++ s ∷ []) i d ≡ get_or out i d
   old_at i d l = get_or-append out (s ∷ []) d i l
@@ -84,10 +53,15 @@ module _ (out : List Segment) (s : Segment) (at value : ℤ) (h : EndsWith out a
   longer : length (out ++ s ∷ []) ≡ length out + 1
   longer = length-append out (s ∷ [])
 
-  -- one segment more, with another value
-  ends_more : EndsWith (out ++ s ∷ []) s.start s.value
-  ends_more = record {
+  -- the last one before
+  last_at : (i : ℕ) (d : Segment) → i ≡ length out - 1 → get_or out i d ≡ last
+  last_at i d e = rw e (get_or_default out (length out - 1) d last (omega (arith, h.some)) ∙ sym is)
+
+  -- one segment more, with another gradient
+  pub segments_more : AreSegments (out ++ s ∷ [])
+  segments_more = record {
     some = omega (arith, longer);
+    few = omega (arith, longer, room);
     each = λ i d l. elim (cases_lt i (length out)) [
       | inl lt ↦ rw (old_at i d lt) (h.each i d lt)
       | inr ge ↦ rw (new_at i d (omega (arith, longer))) in_range
@@ -96,174 +70,101 @@ module _ (out : List Segment) (s : Segment) (at value : ℤ) (h : EndsWith out a
     rise = record {
       rises = λ i j d l m. elim (cases_lt j (length out)) [
         | inl lt ↦ rw (old_at i d (omega arith), old_at j d lt) (h.rise.rises i j d l lt)
-        | inr ge ↦ (let b = h.begun i d (omega (arith, longer))
-            in rw (old_at i d (omega (arith, longer)), new_at j d (omega (arith, longer))) (omega (arith, ints)))
+        | inr ge ↦ rw (old_at i d (omega (arith, longer)), new_at j d (omega (arith, longer)))
+            (later i d (omega (arith, longer)))
       ];
     };
     differ = λ i d m. elim (cases_lt (i + 1) (length out)) [
       | inl lt ↦ rw (old_at i d (omega arith), old_at (i + 1) d lt) (h.differ i d lt)
-      | inr ge ↦ (let k : i ≡ length out - 1 = omega (arith, longer)
-          in rw (new_at (i + 1) d (omega (arith, longer)), old_at i d (omega (arith, longer)), k, h.last d) new)
+      | inr ge ↦ rw (
+        new_at (i + 1) d (omega (arith, longer)),
+        old_at i d (omega (arith, longer)),
+        last_at i d (omega (arith, longer)),
+      ) new
     ];
+  }
+
+  -- its gradient holds from its start on
+  pub goes_on_more : GoOnWith s out (out ++ s ∷ [])
+  goes_on_more = record {
+    before = λ c l. value_before (λ s. s.start) (λ s. s.value) out s c (pos 0) h.some l;
+    after = λ c l. value_from (λ s. s.start) (λ s. s.value) out s c (pos 0) h.some l;
     begun = λ i d l. elim (cases_lt i (length out)) [
-      | inl lt ↦ (let b = h.begun i d lt in rw (old_at i d lt) (omega (arith, ints)))
+      | inl lt ↦ (let b = later i d lt in rw (old_at i d lt) (omega (arith, ints)))
       | inr ge ↦ rw (new_at i d (omega (arith, longer))) (omega (arith, ints))
     ];
-    last = λ d. ap (λ (x : Segment). x.value) (new_at _ d (omega (arith, longer)));
-    on = λ c l. value_from (λ s. s.start) (λ s. s.value) out s c (pos 0) h.some l;
+    by_one = omega (arith, longer);
   }
 
--- ---- the gradients under the train
+-- ---- the segments of a sweep
 
--- the gradient of a front end in a cell
-abbrev gradient_under : List Gradient → ℕ → ℤ → ℤ
-gradient_under entries length_cm c = lowest int_min (track_gradient entries) (c -ℤ pos length_cm) length_cm
+-- the segments made so far are right up to the cell of the sweep, and go on with the gradient there
+pub record IsSoFar (entries : List Gradient) (length_cm : ℕ) (s : Swept) (out : List Segment) : Type 0 where
+  pub entries_are : s.entries ≡ entries
+  pub length_is : s.length_cm ≡ length_cm
+  pub segments : AreSegments out
+  pub begun : All (λ t. t.start ≤ℤ s.at) out
+  pub right : (c : ℤ) → c ≤ℤ s.at → segment_gradient out c ≡ gradient_under entries length_cm c
+  pub goes_on : (c : ℤ) → s.at ≤ℤ c → segment_gradient out c ≡ gradient_under entries length_cm s.at
+  pub few : length out + s.left ≤ 2 * (length entries - 1) + 1
 
--- of the segments made so far: the window lies under the train, they are right before its next change and end there
-pub record IsSoFar (entries : List Gradient) (length_cm : ℕ) (w : Window) (out : List Segment)
-    (value : ℤ) : Type 0 where
-  pub window : 0 < length entries → IsUnder entries length_cm w
-  pub not_before : pos 0 ≤ℤ w.at
-  pub right : (c : ℤ) → IsBeforeChange entries length_cm w c →
-      segment_gradient out c ≡ gradient_under entries length_cm c
-  pub ends : EndsWith out w.at value
-  pub few : length out ≤ w.rear + w.front + 1
-  pub rear_known : w.rear ≤ length entries - 1
-  pub front_known : w.front ≤ length entries - 1
-
--- from the window's place to its next change the gradient is the window's lowest
-under_window : (entries : List Gradient) (length_cm : ℕ) (w : Window) (grad c : ℤ) → IsRising gradient_start entries →
-    IsUnder entries length_cm w →
-    IsLowestEntry entries w.rear (w.front + 1) grad → w.at ≤ℤ c → IsBeforeChange entries length_cm w c →
-    gradient_under entries length_cm c ≡ grad
-under_window entries length_cm w grad c rise u h le before =
-    lowest_under entries length_cm w.rear w.front c grad rise
-    (lies_on gradient_start entries w.rear (w.at -ℤ pos length_cm) (c -ℤ pos length_cm) u.rear
-    (omega (arith, ints)) before.rear)
-    (lies_on gradient_start entries w.front w.at c u.front le before.front) h
-
--- the first window, at cell 0
-abbrev pub first_window : Window
-first_window = record { rear = 0; front = 0; at = pos 0 }
-
--- before the first change the gradient is that of the first entry; level without entries
-under_first : (entries : List Gradient) (length_cm : ℕ) → IsRising gradient_start entries → (c : ℤ) →
-    IsBeforeChange entries length_cm first_window c →
-    gradient_under entries length_cm c ≡ (get_or entries 0 level).grad
-under_first [] length_cm rise c before = lowest_is (λ a b. a ≤ℤ b) int_min int_min_lower (track_gradient [])
-    (c -ℤ pos length_cm) c length_cm (pos 0) (omega (arith, ints)) (record {
-      none_below = λ d a b. omega (arith, ints);
-      at = c;
-      from_first = omega (arith, ints);
-      to_last = omega (arith, ints);
-      reached = refl;
-    })
-under_first (x ∷ xs) length_cm rise c before =
-    lowest_under (x ∷ xs) length_cm 0 0 c x.grad rise
-    (record { known = omega arith; begun = λ d p. absurd (omega arith); goes_on = before.rear })
-    (record { known = omega arith; begun = λ d p. absurd (omega arith); goes_on = before.front })
-    (record { index = 0; lowest = (low_of_first (x ∷ xs)).0; reached = refl })
-
-module _ (entries : List Gradient) (length_cm : ℕ) (gradients : AreGradients (pos longest_track) entries) where
-  -- the cells up to cell 0 lie in the first entry
-  lies_in_first : (c : ℤ) → 0 < length entries → c ≤ℤ pos 0 → LiesIn gradient_start entries 0 c
-  lies_in_first c some le = record {
-    known = some;
-    begun = λ d p. absurd (omega arith);
-    goes_on = record {
-      before = λ d m. (let r = gradients.rise.rises 0 1 d (omega arith) m in let z =
-          gradients.from_zero.first d some in omega (arith, ints));
+module _ (entries : List Gradient) (length_cm : ℕ) where
+  -- the first segment, from cell 0
+  pub so_far_first : (s : Swept) (first : Segment) →
+      s ≡ record { entries = entries; length_cm = length_cm; at = pos 0; left = 2 * (length entries - 1) } →
+      IsSameBefore s →
+      first ≡ record { start = s.at; value = gradient_under s.entries s.length_cm s.at } → IsSegment first →
+      IsSoFar entries length_cm s (first ∷ [])
+  so_far_first s first begins before is in_range = let here = rw begins at is in rw (begins, here) (record {
+    entries_are = refl;
+    length_is = refl;
+    segments = record {
+      some = omega arith;
+      few = omega arith;
+      each = λ i d l. (let e : i ≡ 0 = omega arith in rw e (rw here at in_range));
+      from_zero = record { first = λ d some. refl };
+      rise = record { rises = λ i j d l m. absurd (omega arith) };
+      differ = λ i d l. absurd (omega arith);
     };
-  }
-
-  -- the first segment
-  pub so_far_first : (out : List Segment) (s : Segment) (value : ℤ) → out ≡ s ∷ [] → s.start ≡ pos 0 →
-      s.value ≡ value → value ≡ (get_or entries 0 level).grad → IsSegment s →
-      IsSoFar entries length_cm first_window out value
-  so_far_first out s value made is v grad in_range = rw (made, ← v) (record {
-    window = λ some. record {
-      front = lies_in_first (pos 0) some (omega (arith, ints));
-      rear = lies_in_first (pos 0 -ℤ pos length_cm) some (omega (arith, ints));
-      ordered = omega arith;
-    };
-    not_before = omega (arith, ints);
-    right = λ c before. v ∙ grad ∙ sym (under_first entries length_cm gradients.rise c before);
-    ends = ends_first s is in_range;
+    begun = λ i d l. (let e : i ≡ 0 = omega arith in rw e (omega (arith, ints)));
+    right = λ c l. sym ((rw begins at before).same c l);
+    goes_on = λ c l. refl;
     few = omega arith;
-    rear_known = omega arith;
-    front_known = omega arith;
   })
 
-  -- the window moves on to the next change
-  module _ (old new : Window) (out : List Segment) (value grad : ℤ) (made : IsSoFar entries length_cm old out value)
-      (next : IsNext entries length_cm old new)
-      (lowest_there : IsLowestEntry entries new.rear (new.front + 1) grad) where
-    -- both ends of the window lie among the entries
-    rear_in : new.rear ≤ length entries - 1
-    rear_in = omega (arith, next.under.rear.known)
+  module _ (s : Swept) (out : List Segment) (made : IsSoFar entries length_cm s out) where
+    -- they are right as long as the gradient stays
+    right_on : (c : ℤ) → (s.at ≤ℤ c → gradient_under s.entries s.length_cm c ≡ gradient_under s.entries s.length_cm s.at) →
+        segment_gradient out c ≡ gradient_under entries length_cm c
+    right_on c same = by_lt_z c s.at
+        (λ (lt : c <ℤ s.at). made.right c (omega (arith, ints)))
+        (λ (le : s.at ≤ℤ c). made.goes_on c le ∙ sym (rw (made.entries_are, made.length_is) at (same le)))
 
-    front_in : new.front ≤ length entries - 1
-    front_in = omega (arith, next.under.front.known)
-
-    -- the segment that the window's lowest gradient gives
-    pub next_segment : length_cm ≤ longest_train → IsSegment (record { start = new.at; value = grad })
-    next_segment short =
-        let entry = gradients.each lowest_there.index level
-        (omega (arith, lowest_there.lowest.to_front, next.under.front.known)) in
+    -- the sweep moves on to a later cell, from which on the segments go on with the gradient there
+    pub so_far_on : (to : Swept) (next : Segment) (more : List Segment) → to.entries ≡ s.entries →
+        to.length_cm ≡ s.length_cm → s.at <ℤ to.at → to.left < s.left → IsSameUntil s to.at →
+        next ≡ record { start = to.at; value = gradient_under to.entries to.length_cm to.at } →
+        GoOnWith next out more → AreSegments more → IsSoFar entries length_cm to more
+    so_far_on to next more entries_stay train_stays later fewer same is h segments =
+        let entries_are = entries_stay ∙ made.entries_are in
+        let length_is = train_stays ∙ made.length_is in
+        let start_is : next.start ≡ to.at = ap (λ (t : Segment). t.start) is in
+        let value_is : next.value ≡ gradient_under entries length_cm to.at =
+        rw (entries_are, length_is) at (ap (λ (t : Segment). t.value) is) in
         record {
-          not_before = (let a = made.not_before in let b = next.later in omega (arith, ints));
-          not_past = (let a = next.on_track in omega (arith, ints));
-          downhill = rw lowest_there.reached at entry.downhill;
-          uphill = rw lowest_there.reached at entry.uphill;
+          entries_are = entries_are;
+          length_is = length_is;
+          segments = segments;
+          begun = rw start_is at h.begun;
+          right = λ c l.
+              by_lt_z c to.at
+              (λ (lt : c <ℤ to.at). h.before c (rw start_is lt) ∙ right_on c (λ le. same.same c le lt))
+              (λ (le : to.at ≤ℤ c). let e : c ≡ to.at = omega (arith, ints) in
+              h.after c (rw start_is le) ∙ value_is ∙ ap (gradient_under entries length_cm) (sym e));
+          goes_on = λ c l. h.after c (rw start_is l) ∙ value_is;
+          few = omega (arith, made.few, fewer, h.by_one);
         }
 
-    -- another gradient there: a segment more
-    pub so_far_more : (more : List Segment) (s : Segment) → more ≡ out ++ s ∷ [] → s.start ≡ new.at → s.value ≡ grad →
-        IsSegment s → value ≢ grad →
-        IsSoFar entries length_cm new more grad
-    so_far_more more s added is v in_range other = rw added (record {
-      window = λ some. next.under;
-      not_before = (let a = made.not_before in let b = next.later in omega (arith, ints));
-      right = λ c before.
-          by_lt_z c new.at
-          (λ (lt : c <ℤ new.at). value_before (λ s. s.start) (λ s. s.value) out s c (pos 0) made.ends.some
-          (omega (arith, ints)) ∙ made.right c (next.nearest c lt))
-          (λ (le : new.at ≤ℤ c).
-          value_from (λ s. s.start) (λ s. s.value) out s c (pos 0) made.ends.some (omega (arith, ints)) ∙ v
-          ∙ sym (under_window entries length_cm new grad c gradients.rise next.under lowest_there le before));
-      ends = rw (← is, ← v) (ends_more out s old.at value made.ends
-          (let after = next.later in omega (arith, ints)) in_range (λ e. other (e ∙ v)));
-      few = omega (arith, made.few, next.moves, length-append out (s ∷ []));
-      rear_known = rear_in;
-      front_known = front_in;
-    })
-
-    -- the same gradient: the segments stay
-    pub so_far_on : value ≡ grad → IsSoFar entries length_cm new out value
-    so_far_on same = record {
-      window = λ some. next.under;
-      not_before = (let a = made.not_before in let b = next.later in omega (arith, ints));
-      right = λ c before.
-          by_lt_z c new.at
-          (λ (lt : c <ℤ new.at). made.right c (next.nearest c lt))
-          (λ (le : new.at ≤ℤ c).
-          let after = next.later in
-          made.ends.on c (omega (arith, ints)) ∙ same
-          ∙ sym (under_window entries length_cm new grad c gradients.rise next.under lowest_there le before));
-      ends = ends_on out old.at new.at value made.ends (let after = next.later in omega (arith, ints));
-      few = omega (arith, made.few, next.moves);
-      rear_known = rear_in;
-      front_known = front_in;
-    }
-
-  -- so all segments are within their ranges
-  pub are_segments : (w : Window) (out : List Segment) (value : ℤ) → IsSoFar entries length_cm w out value →
-      AreSegments out
-  are_segments w out value made = record {
-    some = made.ends.some;
-    few = omega (arith, made.few, made.rear_known, made.front_known, gradients.few);
-    each = made.ends.each;
-    from_zero = made.ends.from_zero;
-    rise = made.ends.rise;
-    differ = made.ends.differ;
-  }
+    -- once it stays for good they are right for every cell
+    pub so_far_all : IsSameFrom s → (c : ℤ) → segment_gradient out c ≡ gradient_under entries length_cm c
+    so_far_all same c = right_on c (same.same c)

@@ -1,4 +1,5 @@
 pub mod Steps
 pub mod Ranges
-pub mod Windows
+pub mod Lows
+pub mod Sweeps
 pub mod Segments

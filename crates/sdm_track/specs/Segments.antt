@@ -1,6 +1,6 @@
 -- The gradients under a train as segments: stretches of cells of the front end in which they stay the same (own form
 -- of SUBSET-026-3 3.13.4.2).
-use Rattle.std.specs.Prelude.{◌≢◌, ℕ, ℤ, pos, neg_ℤ, List, All, length, slice_index_or, ◌+◌, ◌*◌, ◌<◌, ◌≤◌, ◌+ℤ◌, ◌≤ℤ◌}
+use Rattle.std.specs.Prelude.{◌≡◌, ◌≢◌, ℕ, ℤ, pos, neg_ℤ, List, All, length, slice_index_or, ◌+◌, ◌*◌, ◌<◌, ◌≤◌, ◌+ℤ◌, ◌≤ℤ◌}
 use Rattle.std.specs.Prelude.{◌<ℤ◌}
 use Rattle.sdm_rules.specs.Cells.{value_at}
 use Rattle.sdm_rules.specs.Ranges.{steepest, most_gradients, longest_track, longest_train}
@@ -29,3 +29,10 @@ pub record AreSegments (segments : List Segment) : Type 0 where
   pub rise : IsRising (λ s. s.start) segments
   pub differ : (i : ℕ) (d : Segment) → i + 1 < length segments →
       (slice_index_or segments i d).value ≢ (slice_index_or segments (i + 1) d).value
+
+-- the segments `new` are `old` up to the segment's start, and from there on have its gradient
+pub record GoOnWith (s : Segment) (old new : List Segment) : Type 0 where
+  pub before : (c : ℤ) → c <ℤ s.start → segment_gradient new c ≡ segment_gradient old c
+  pub after : (c : ℤ) → s.start ≤ℤ c → segment_gradient new c ≡ s.value
+  pub begun : All (λ t. t.start ≤ℤ s.start) new
+  pub by_one : length new ≤ length old + 1

@@ -3,10 +3,9 @@
 #![tactic(auto)]
 
 mod entries;
-mod lows;
+mod sweep;
 mod tracks;
 mod under_train;
-mod window;
 
 pub use sdm_rules::{Area, Gradient, Section, SpeedStep, TrackFault};
 pub use tracks::Track;

@@ -2,19 +2,18 @@
 //! end stays the same make a segment, so that a curve meets few changes.
 
 ghost use Rattle.std.specs.Prelude.{◌≡◌, ℕ, ℤ, pos, neg_ℤ, ◌+◌, ◌-◌, ◌*◌, ◌<◌, ◌≤◌, ◌+ℤ◌, ◌-ℤ◌, ◌≤ℤ◌, ◌<ℤ◌, length};
-ghost use Rattle.std.specs.Prelude.{slice_get, slice_index_or, Some, IfOk};
+ghost use Rattle.std.specs.Prelude.{slice_get, Some, All, IfOk, OnOk};
 ghost use Rattle.std.specs.Int.{int_min};
 ghost use Rattle.std.specs.Option.{option_map};
 ghost use Rattle.sdm_rules.specs.Cells.{lowest};
 ghost use Rattle.sdm_rules.specs.Decelerations.{track_gradient};
-ghost use Rattle.sdm_rules.specs.Ranges.{steepest, longest_track, longest_train};
+ghost use Rattle.sdm_rules.specs.Ranges.{steepest, longest_track, longest_train, most_gradients};
 ghost use Rattle.sdm_track.specs.Steps.{LiesIn};
 ghost use Rattle.sdm_track.specs.Ranges.{AreGradients};
-ghost use Rattle.sdm_track.specs.Windows.{level};
-ghost use Rattle.sdm_track.specs.Segments.{IsSegment, AreSegments, segment_gradient};
+ghost use Rattle.sdm_track.specs.Sweeps.{gradient_under};
+ghost use Rattle.sdm_track.specs.Segments.{IsSegment, AreSegments, GoOnWith, segment_gradient};
 
-use crate::lows::Lows;
-use crate::window::Window;
+use crate::sweep::Sweep;
 use sdm_num::NoMemory;
 use sdm_rules::Gradient;
 use std::alloc::Global;
@@ -30,14 +29,18 @@ pub struct Segment {
 }
 
 impl Segment {
-    fn new(start: i64, value: i64) -> Segment
-        requires { IsSegment (record { start = start; value = value }) }
-        ensures value { result ≡ record { start = start; value = value } }
+    /// From the cell of a sweep on, the gradient there.
+    fn at(sweep: &Sweep<'_>) -> Segment
+        requires { sweep.now.length_cm ≤ longest_train }
+        ensures value { result ≡ record {
+          start = sweep.now.at;
+          value = gradient_under sweep.now.entries sweep.now.length_cm sweep.now.at;
+        } }
         ensures in_range { IsSegment result }
     {
         Segment {
-            start: start as i32,
-            value: value as i16,
+            start: sweep.at() as i32,
+            value: sweep.lowest() as i16,
         }
     }
 }
@@ -102,14 +105,19 @@ impl Segments {
     }
 }
 
-/// The gradient of the first entry; level without entries.
-fn first_gradient(entries: &[Gradient]) -> i64
-    ensures { result ≡ (slice_index_or entries.now 0 level).grad }
+/// Adds a segment past the start of the last one, unless the last one has its gradient and so goes on.
+fn add(list: &mut Vec<Segment>, segment: Segment) -> Result<(), NoMemory>
+    requires before { AreSegments list.old.items }
+    requires segment { IsSegment segment }
+    requires later { All (λ s. s.start <ℤ segment.start) list.old.items }
+    requires room { length list.old.items + 1 < 2 * most_gradients }
+    ensures value { OnOk result (GoOnWith segment list.old.items list.new.items) }
+    ensures in_range { OnOk result (AreSegments list.new.items) }
 {
-    match entries.first() {
-        Some(first) => first.grad,
-        None => 0,
+    if list[list.len() - 1].value != segment.value {
+        list.push(segment)?;
     }
+    Ok(())
 }
 
 /// The lowest gradients of the cells from the rear end to the front end of a train of this length in cm.
@@ -125,23 +133,11 @@ pub fn compensated(
         segment_gradient segments c ≡ lowest int_min (track_gradient entries.now) (c -ℤ pos length_cm) length_cm) }
     ensures in_range { IfOk result (λ segments. AreSegments segments) }
 {
+    let mut sweep = Sweep::begin(alloc, entries, length_cm)?;
     let mut list = Vec::new(alloc);
-    let mut window = Window {
-        rear: 0,
-        front: 0,
-        at: 0,
-    };
-    let mut lows = Lows::of_first(alloc, entries.len())?;
-    let mut value = first_gradient(entries);
-    list.push(Segment::new(window.at, value))?;
-    while window.rear + 1 < entries.len() {
-        let next = window.next(entries, length_cm);
-        let lowest = lows.follow(entries, window, next)?;
-        window = next;
-        if lowest != value {
-            list.push(Segment::new(window.at, lowest))?;
-            value = lowest;
-        }
+    list.push(Segment::at(&sweep))?;
+    while sweep.next() {
+        add(&mut list, Segment::at(&sweep))?;
     }
     Ok(Segments { list })
 }
