@@ -30,7 +30,7 @@ pub record AreSegments (segments : List Segment) : Type 0 where
   pub differ : (i : ℕ) (d : Segment) → i + 1 < length segments →
       (slice_index_or segments i d).value ≢ (slice_index_or segments (i + 1) d).value
 
--- the segments `new` are `old` up to the segment's start, and from there on have its gradient
+-- the segments `new` are `old` up to the segment's start, and from there on have its gradient (own)
 pub record GoOnWith (s : Segment) (old new : List Segment) : Type 0 where
   pub before : (c : ℤ) → c <ℤ s.start → segment_gradient new c ≡ segment_gradient old c
   pub after : (c : ℤ) → s.start ≤ℤ c → segment_gradient new c ≡ s.value
