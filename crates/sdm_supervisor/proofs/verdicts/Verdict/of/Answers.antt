@@ -69,8 +69,8 @@ returns c =
           let t = first.triggers in
           let dv = w.of_kmh-dv.ensures in
           let warning = rw (c.of_kmh-v_mrsp.ensures, dv.warning) at w.plus.ensures in
-          let sbi = rw (c.of_kmh-v_mrsp.ensures, dv.sbi) at w.plus-2.ensures in
-          let ebi = rw (c.of_kmh-v_mrsp.ensures, dv.ebi) at w.plus-3.ensures in
+          let sbi = rw (c.of_kmh-v_mrsp.ensures, dv.sbi) at w.plus-then-lt.ensures in
+          let ebi = rw (c.of_kmh-v_mrsp.ensures, dv.ebi) at w.plus-then-lt-2.ensures in
           w.said-is ∙ (λ k. record first {
             triggers = record {
               over = (sym (or-true t.over) ∙ (λ i. t.over || (sym w.if-lt.true ∙ is_above) i)) k;
@@ -84,7 +84,7 @@ returns c =
     let t = c.if-lt.said.triggers in
     let with_its_release : c.match-sight-2.said ≡ with_release s c.if-lt.said = elim c.match-sight-2.branch [
       | in-Some w ↦
-          let is_above = above w.lt-is_above.ensures w.of_kmh-in-Some.ensures v in
+          let is_above = above w.lt-is_above.ensures w.of_kmh.ensures v in
           rw w.in-Some.is (w.said-is ∙ (λ k. record c.if-lt.said {
             triggers = record t { over = t.over || is_above k; emer = t.emer || is_above k };
           }))
