@@ -9,7 +9,7 @@ use Rattle.std.proofs.lemmas.Bool.{cases_lt}
 use Rattle.std.proofs.lemmas.List.{get_or_push, length_push}
 use Rattle.std.proofs.lemmas.Option.{slice_get_read, slice_get-get_or}
 use Rattle.sdm_rules.specs.declared.data.Gradient.{Gradient}
-use Rattle.sdm_track.specs.Lows.{grad_at, IsLowestAt, AreLows, ends_below}
+use Rattle.sdm_track.specs.Sweeps.{grad_at, IsLowestAt, AreLows, ends_below}
 
 -- ---- an entry comes in: which lows are kept
 

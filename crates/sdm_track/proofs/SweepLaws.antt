@@ -1,20 +1,19 @@
 -- The lowest gradient of the cells under a train is the lowest of the entries under it: each cell there lies in one of
 -- them, and each of them has a cell there. It stays until the next change.
 use Rattle.std.proofs.Common.{◌≡◌, ℕ, ℤ, pos, List, length, get_or, ◌+◌, ◌<◌, ◌≤◌, ◌-ℤ◌, ◌≤ℤ◌, ◌<ℤ◌, inl, inr}
-use Rattle.std.proofs.Common.{[], ◌∷◌, ◌^◌, w64, to_z, of_z, refl, sym, ◌∙◌, arith}
-use Rattle.std.specs.Int.{int_min}
+use Rattle.std.proofs.Common.{[], ◌∷◌, refl, sym, ◌∙◌, arith}
 use Rattle.std.proofs.lemmas.Int.{ints}
 use Rattle.std.proofs.lemmas.Bool.{cases_lt}
 use Rattle.std.proofs.lemmas.List.{get_or_default}
 use Rattle.sdm_rules.specs.declared.data.Gradient.{Gradient}
 use Rattle.sdm_rules.specs.Decelerations.{track_gradient}
 use Rattle.sdm_rules.specs.Ranges.{longest_track}
-use Rattle.sdm_track.specs.Steps.{IsRising, LiesIn, IsBeforeNext, IsUpToNext}
+use Rattle.sdm_track.specs.Steps.{IsRising, LiesIn, IsBeforeNext}
 use Rattle.sdm_track.specs.Ranges.{AreGradients}
-use Rattle.sdm_track.specs.Lows.{level, grad_at, IsLowestAt, AreLows}
-use Rattle.sdm_track.specs.Sweeps.{gradient_start, gradient_under, still_left, IsUnder, IsFirstChange, IsSweep}
-use Rattle.sdm_track.proofs.StepLaws.{found, lies_in_order, lies_at_start, lies_on, value_is}
-use Rattle.sdm_track.proofs.LowestLaws.{IsLowest, lowest_is, int_min_lower}
+use Rattle.sdm_track.specs.Sweeps.{level, grad_at, IsLowestAt, AreLows}
+use Rattle.sdm_track.specs.Sweeps.{gradient_start, gradient_under, still_left, IsUnder, IsUpToNext, IsFirstChange, IsSweep}
+use Rattle.sdm_track.proofs.StepLaws.{found, later_start, lies_in_order, lies_at_start, lies_on, value_is}
+use Rattle.sdm_track.proofs.LowestLaws.{IsLowest, lowest_is}
 use Rattle.sdm_track.proofs.LowLaws.{low_of_first}
 
 -- ---- the lowest gradient under the train
@@ -34,13 +33,10 @@ module _ (entries : List Gradient) (rear front : ℕ) (back at : ℤ) (rise : Is
   has_cell k low high = elim (cases_lt rear k) [
     | inl lt ↦ (
         let known : k < length entries = omega (arith, in_front.known) in
-        let over = in_rear.goes_on.before level (omega arith) in
         record {
           at = (get_or entries k level).start;
-          from_back = elim (cases_lt (rear + 1) k) [
-            | inl l ↦ (let r = rise.rises (rear + 1) k level l known in omega (arith, ints))
-            | inr g ↦ (let e : k ≡ rear + 1 = omega arith in rw e (omega (arith, ints)))
-          ];
+          from_back = (let past = later_start gradient_start entries rear k level back rise in_rear lt known in
+              omega (arith, ints));
           to_front = elim (cases_lt k front) [
             | inl l ↦ (let r = rise.rises k front level l in_front.known in let begun =
                 in_front.begun level (omega arith) in omega (arith, ints))
@@ -54,7 +50,7 @@ module _ (entries : List Gradient) (rear front : ℕ) (back at : ℤ) (rise : Is
 
   -- the lowest of the entries is the lowest of the cells
   lowest_cell : (low : ℕ) → IsLowestAt entries rear (front + 1) low →
-      IsLowest (λ a b. a ≤ℤ b) (track_gradient entries) back at (grad_at entries low)
+      IsLowest (track_gradient entries) back at (grad_at entries low)
   lowest_cell low h =
       let cell = has_cell low h.from_rear (omega (arith, h.to_front)) in
       record {
@@ -79,7 +75,7 @@ pub gradient_is : (entries : List Gradient) (length_cm rear front : ℕ) (cell :
     gradient_under entries length_cm cell ≡ grad_at entries (get_or lows 0 d)
 gradient_is entries length_cm rear front cell [] d rise under ordered lows = absurd (omega arith)
 gradient_is [] length_cm rear front cell (low ∷ more) d rise under ordered lows =
-    lowest_is (λ a b. a ≤ℤ b) int_min int_min_lower (track_gradient []) (cell -ℤ pos length_cm) cell length_cm (pos 0)
+    lowest_is (track_gradient []) (cell -ℤ pos length_cm) cell length_cm (pos 0)
     (omega (arith, ints)) (record {
       none_below = λ c a b. omega (arith, ints);
       at = cell;
@@ -89,11 +85,15 @@ gradient_is [] length_cm rear front cell (low ∷ more) d rise under ordered low
     })
 gradient_is (x ∷ xs) length_cm rear front cell (low ∷ more) d rise under ordered lows =
     let here = under (omega arith) in
-    lowest_is (λ a b. a ≤ℤ b) int_min int_min_lower (track_gradient (x ∷ xs)) (cell -ℤ pos length_cm) cell length_cm _
+    lowest_is (track_gradient (x ∷ xs)) (cell -ℤ pos length_cm) cell length_cm _
     (omega (arith, ints)) (lowest_cell (x ∷ xs) rear front (cell -ℤ pos length_cm) cell rise (omega (arith, ints))
     here.behind here.ahead low lows.0)
 
 -- ---- up to the next change
+
+-- no way back from a cell
+pub no_back : (cell : ℕ) → pos cell -ℤ pos 0 ≡ pos cell
+no_back cell = omega (arith, ints)
 
 module _ (entries : List Gradient) (length_cm rear front : ℕ) (at : ℤ) (lows : List ℕ) (room : ℕ)
     (sweep : IsSweep entries length_cm rear front at lows room) where
@@ -140,31 +140,19 @@ module _ (entries : List Gradient) (length_cm rear front : ℕ) (at : ℤ) (lows
           before = λ d m. rw (get_or_default entries (front + 1) d level m) (let b = first.by_front m in omega (arith, ints));
         })
 
-    -- the cell of the rear end there fits a word
-    pub back_is : (back : ℤ) → back ≡ pos length_cm → length_cm < 2 ^ 32 →
-        to_z w64 (of_z w64 (to_z w64 (of_z w64 change) -ℤ to_z w64 (of_z w64 back))) ≡ change -ℤ pos length_cm
-    back_is back is short =
-        let a = sweep.not_before in
-        let l = later in
-        let within = (sweep.gradients.each (rear + 1) level more).on_track in
-        let b = first.by_rear in
-        let change_is : to_z w64 (of_z w64 change) ≡ change = omega (arith, ints) in
-        let length_is : to_z w64 (of_z w64 (pos length_cm)) ≡ pos length_cm = omega (arith, ints) in
-        rw (is, change_is, length_is) (omega (arith, ints))
-
-    -- there each end lies in its entry or the next one
-    pub near_rear : IsUpToNext gradient_start entries rear (change -ℤ pos length_cm)
-    near_rear = (let under = sweep.under (omega arith) in record {
+    -- there each end lies in its entry or where the next one starts
+    pub near_rear : IsUpToNext entries rear (change -ℤ pos length_cm)
+    near_rear = (let under = sweep.under (omega arith) in let l = later in let b = first.by_rear in record {
       known = omega arith;
-      begun = λ d p. (let b = under.behind.begun d p in let l = later in omega (arith, ints));
-      up_to = λ d m. rw (get_or_default entries (rear + 1) d level m) (let b = first.by_rear in omega (arith, ints));
+      begun = λ p. (let begun = under.behind.begun level p in omega (arith, ints));
+      up_to = λ m. omega (arith, ints);
     })
 
-    pub near_front : IsUpToNext gradient_start entries front change
-    near_front = (let under = sweep.under (omega arith) in record {
+    pub near_front : IsUpToNext entries front change
+    near_front = (let under = sweep.under (omega arith) in let l = later in record {
       known = under.ahead.known;
-      begun = λ d p. (let b = under.ahead.begun d p in let l = later in omega (arith, ints));
-      up_to = λ d m. rw (get_or_default entries (front + 1) d level m) (first.by_front m);
+      begun = λ p. (let begun = under.ahead.begun level p in omega (arith, ints));
+      up_to = first.by_front;
     })
 
     -- the rear end lies in no later entry than the front end

@@ -10,7 +10,7 @@ ghost use Rattle.sdm_rules.specs.Decelerations.{track_gradient};
 ghost use Rattle.sdm_rules.specs.Ranges.{steepest, longest_track, longest_train, most_gradients};
 ghost use Rattle.sdm_track.specs.Steps.{LiesIn};
 ghost use Rattle.sdm_track.specs.Ranges.{AreGradients};
-ghost use Rattle.sdm_track.specs.Sweeps.{gradient_under};
+ghost use Rattle.sdm_track.specs.Sweeps.{gradient_at};
 ghost use Rattle.sdm_track.specs.Segments.{IsSegment, AreSegments, GoOnWith, segment_gradient};
 
 use crate::sweep::Sweep;
@@ -34,7 +34,7 @@ impl Segment {
         requires { sweep.now.length_cm ≤ longest_train }
         ensures value { result ≡ record {
           start = sweep.now.at;
-          value = gradient_under sweep.now.entries sweep.now.length_cm sweep.now.at;
+          value = gradient_at sweep.now sweep.now.at;
         } }
         ensures in_range { IsSegment result }
     {

@@ -1,7 +1,7 @@
 -- The lows that are kept so far.
 use Rattle.std.proofs.Common.{◌≡◌, ℕ, ◌<◌, ◌≤◌, All, length}
 use Rattle.std.specs.VecDeque.{deque_capacity}
-use Rattle.sdm_track.specs.Lows.{grad_at, AreLows}
+use Rattle.sdm_track.specs.Sweeps.{grad_at, AreLows}
 use Rattle.sdm_track.proofs.LowLaws.{AreKept}
 use Rattle.sdm_track.proofs.sweep.take_in.Given as goal
 

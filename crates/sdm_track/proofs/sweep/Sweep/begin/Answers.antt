@@ -10,4 +10,4 @@ invariant_of-result c =
     (omega (arith, c.in_ok-lows.ensures.exact, c.in_ok-push_back.ensures.capacity)))
 
 pub returns-clause-before : goal.returns-clause-before
-returns-clause-before c = record { same = same_before c.args.entries.now c.args.length_cm c.requires }
+returns-clause-before c = same_before c.args.entries.now c.args.length_cm c.requires
