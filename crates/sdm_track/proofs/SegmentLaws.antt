@@ -1,7 +1,7 @@
--- The segments made so far, as a sweep moves on: they are right up to its cell, and go on with the gradient there. Where
--- the gradient changes, a segment more keeps this; where it does not, they stay.
-use Rattle.std.proofs.Common.{◌≡◌, ◌≢◌, ℕ, ℤ, pos, List, [], ◌∷◌, ◌++◌, length, get_or, All, ◌+◌, ◌-◌, ◌*◌, ◌<◌, ◌≤◌, ◌≤ℤ◌}
-use Rattle.std.proofs.Common.{◌<ℤ◌, inl, inr, refl, sym, ap, ◌∙◌, arith, length-append}
+-- The segments made so far, as a sweep moves on: they are right up to its cell, and go on with the gradient there.
+-- Where the gradient changes, a segment more keeps this; where it does not, they stay.
+use Rattle.std.proofs.Common.{◌≡◌, ◌≢◌, ℕ, ℤ, pos, List, [], ◌∷◌, ◌++◌, length, get_or, All, ◌+◌, ◌-◌, ◌*◌, ◌<◌, ◌≤◌}
+use Rattle.std.proofs.Common.{◌≤ℤ◌, ◌<ℤ◌, inl, inr, refl, sym, ap, ◌∙◌, arith, length-append}
 use Rattle.std.proofs.lemmas.Int.{ints, by_lt_z}
 use Rattle.std.proofs.lemmas.Bool.{cases_lt}
 use Rattle.std.proofs.lemmas.List.{get_or_default}
@@ -134,7 +134,7 @@ module _ (entries : List Gradient) (length_cm : ℕ) where
 
   module _ (s : Swept) (out : List Segment) (made : IsSoFar entries length_cm s out) where
     -- they are right as long as the gradient stays
-    right_on : (c : ℤ) → (s.at ≤ℤ c → gradient_under s.entries s.length_cm c ≡ gradient_under s.entries s.length_cm s.at) →
+    right_on : (c : ℤ) → (s.at ≤ℤ c → gradient_at s c ≡ gradient_at s s.at) →
         segment_gradient out c ≡ gradient_under entries length_cm c
     right_on c same = by_lt_z c s.at
         (λ (lt : c <ℤ s.at). made.right c (omega (arith, ints)))
@@ -142,9 +142,10 @@ module _ (entries : List Gradient) (length_cm : ℕ) where
 
     -- the sweep moves on to a later cell, from which on the segments go on with the gradient there
     pub so_far_on : (to : Swept) (next : Segment) (more : List Segment) → to.entries ≡ s.entries →
-        to.length_cm ≡ s.length_cm → s.at <ℤ to.at → to.left < s.left → ((c : ℤ) → s.at ≤ℤ c → c <ℤ to.at → gradient_at s c ≡ gradient_at s s.at) →
-        next ≡ record { start = to.at; value = gradient_at to to.at } →
-        GoOnWith next out more → AreSegments more → IsSoFar entries length_cm to more
+        to.length_cm ≡ s.length_cm → s.at <ℤ to.at → to.left < s.left →
+        ((c : ℤ) → s.at ≤ℤ c → c <ℤ to.at → gradient_at s c ≡ gradient_at s s.at) →
+        next ≡ record { start = to.at; value = gradient_at to to.at } → GoOnWith next out more → AreSegments more →
+        IsSoFar entries length_cm to more
     so_far_on to next more entries_stay train_stays later fewer same is h segments =
         let entries_are = entries_stay ∙ made.entries_are in
         let length_is = train_stays ∙ made.length_is in
@@ -166,5 +167,6 @@ module _ (entries : List Gradient) (length_cm : ℕ) where
         }
 
     -- once it stays for good they are right for every cell
-    pub so_far_all : ((c : ℤ) → s.at ≤ℤ c → gradient_at s c ≡ gradient_at s s.at) → (c : ℤ) → segment_gradient out c ≡ gradient_under entries length_cm c
+    pub so_far_all : ((c : ℤ) → s.at ≤ℤ c → gradient_at s c ≡ gradient_at s s.at) → (c : ℤ) →
+        segment_gradient out c ≡ gradient_under entries length_cm c
     so_far_all same c = right_on c (same c)

@@ -1,6 +1,6 @@
-//! The lowest gradient under a train, as its front end sweeps over the track from one change to the next. Of the entries
-//! under the train only the lows are kept, each of which is below every later one: the first of them is the lowest, and
-//! each entry comes and goes once, so that the time is about linear in the entries.
+//! The lowest gradient under a train, as its front end sweeps over the track from one change to the next. Of the
+//! entries under the train only the lows are kept, each of which is below every later one. The first of them is the
+//! lowest, and each entry comes and goes once, so that the time is about linear in the entries.
 
 ghost use Rattle.std.specs.Prelude.{◌≡◌, ℕ, ℤ, pos, neg_ℤ, ◌+◌, ◌-◌, ◌*◌, ◌<◌, ◌≤◌, ◌+ℤ◌, ◌-ℤ◌, ◌≤ℤ◌, ◌<ℤ◌};
 ghost use Rattle.std.specs.Prelude.{true, false, All, length, IfOk};
@@ -91,15 +91,17 @@ fn end_below(lows: &VecDeque<usize>, entries: &[Gradient], index: usize) -> bool
     }
 }
 
-/// Takes in the entry at `index`, in place of the lows of those before that are not below it.
-fn take_in(lows: &mut VecDeque<usize>, entries: &[Gradient], index: usize)
-    requires entry { index < length entries.now }
-    requires earlier { All (λ low. low < index) lows.old.items }
-    requires room { length lows.old.items < deque_capacity lows.old }
-    ensures lows { (rear : ℕ) → rear ≤ index → AreLows entries.now rear index lows.old.items →
-        AreLows entries.now rear (index + 1) lows.new.items }
+/// Takes the entry after the old ones in among their lows, in place of those that are not below it.
+#[tactic(auto, using(crate::proofs::LowLaws::comes_in_last))]
+fn take_in(lows: &mut VecDeque<usize>, entries: &[Gradient], old: Range<usize>)
+    requires entry { old.end < length entries.now }
+    requires lows { AreLows entries.now old.start old.end lows.old.items }
+    requires room { length entries.now ≤ deque_capacity lows.old }
+    requires some { old.start < old.end }
+    ensures lows { AreLows entries.now old.start (old.end + 1) lows.new.items }
     ensures room { deque_capacity lows.new ≡ deque_capacity lows.old }
 {
+    let index = old.end;
     while !end_below(lows, entries, index) {
         lows.pop_back();
     }
@@ -107,7 +109,6 @@ fn take_in(lows: &mut VecDeque<usize>, entries: &[Gradient], index: usize)
 }
 
 /// The lows of the new entries in place of those of the old ones: at most one comes in, and at most one goes.
-#[tactic(auto, using(crate::proofs::LowLaws::lows_known, crate::proofs::LowLaws::lows_few))]
 fn follow(lows: &mut VecDeque<usize>, entries: &[Gradient], old: Range<usize>, new: Range<usize>)
     requires known { new.end ≤ length entries.now }
     requires lows { AreLows entries.now old.start old.end lows.old.items }
@@ -122,7 +123,7 @@ fn follow(lows: &mut VecDeque<usize>, entries: &[Gradient], old: Range<usize>, n
     ensures room { deque_capacity lows.new ≡ deque_capacity lows.old }
 {
     if old.end < new.end {
-        take_in(lows, entries, old.end);
+        take_in(lows, entries, old);
     }
     if lows[0] < new.start {
         lows.pop_front();
@@ -131,6 +132,7 @@ fn follow(lows: &mut VecDeque<usize>, entries: &[Gradient], old: Range<usize>, n
 
 impl<'a> Sweep<'a> {
     /// The front end in cell 0. Takes room for the lows; want of memory is the only error.
+    #[tactic(auto, using(crate::proofs::SweepLaws::sweep_first, crate::proofs::SweepLaws::same_before))]
     pub fn begin(
         alloc: Global,
         entries: &'a [Gradient],
@@ -178,6 +180,7 @@ impl<'a> Sweep<'a> {
     }
 
     /// Moves the front end on to the next cell where an entry comes or goes; false where there is none any more.
+    #[tactic(auto, using(crate::proofs::SweepLaws::moves_on))]
     pub fn next(&mut self) -> bool
         ensures entries { self.new.entries ≡ self.old.entries }
         ensures train { self.new.length_cm ≡ self.old.length_cm }

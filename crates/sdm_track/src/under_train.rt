@@ -106,6 +106,7 @@ impl Segments {
 }
 
 /// Adds a segment past the start of the last one, unless the last one has its gradient and so goes on.
+#[tactic(auto, using(crate::proofs::SegmentLaws::goes_on_more))]
 fn add(list: &mut Vec<Segment>, segment: Segment) -> Result<(), NoMemory>
     requires before { AreSegments list.old.items }
     requires segment { IsSegment segment }
@@ -121,6 +122,7 @@ fn add(list: &mut Vec<Segment>, segment: Segment) -> Result<(), NoMemory>
 }
 
 /// The lowest gradients of the cells from the rear end to the front end of a train of this length in cm.
+#[tactic(auto, using(crate::proofs::SegmentLaws::so_far_first, crate::proofs::SegmentLaws::so_far_all))]
 pub fn compensated(
     alloc: Global,
     entries: &[Gradient],
