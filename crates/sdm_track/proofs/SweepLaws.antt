@@ -185,7 +185,6 @@ module _ (entries : List Gradient) (length_cm rear front : ℕ) (at : ℤ) (lows
         length entries ≤ to_room → IsSweep entries length_cm to_rear to_front change to_lows to_room
     sweep_on to_rear to_front to_lows to_room behind ahead lows_are enough = record {
       gradients = sweep.gradients;
-      not_before = (let a = sweep.not_before in let l = later in omega (arith, ints));
       not_past = (let a = (sweep.gradients.each (rear + 1) level more).on_track in let l = first.by_rear in
           omega (arith, ints));
       under = λ some. record { behind = behind; ahead = ahead };
@@ -219,7 +218,6 @@ module _ (entries : List Gradient) (length_cm : ℕ) (gradients : AreGradients (
       IsSweep entries length_cm 0 0 (pos 0) lows room
   sweep_first lows room is enough = rw is (record {
     gradients = gradients;
-    not_before = omega (arith, ints);
     not_past = omega (arith, ints);
     under = under_first (pos 0) (omega (arith, ints));
     ordered = omega arith;

@@ -84,7 +84,6 @@ pub record IsUpToNext (entries : List Gradient) (i : ℕ) (cell : ℤ) : Type 0 
 pub record IsSweep (entries : List Gradient) (length_cm rear front : ℕ) (at : ℤ) (lows : List ℕ)
     (room : ℕ) : Type 0 where
   pub gradients : AreGradients (pos longest_track) entries
-  pub not_before : pos 0 ≤ℤ at
   pub not_past : at <ℤ (pos longest_track +ℤ pos length_cm)
   pub under : 0 < length entries → IsUnder entries length_cm rear front at
   pub ordered : rear ≤ front

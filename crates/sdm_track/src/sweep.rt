@@ -23,13 +23,13 @@ use std::ops::Range;
 pub struct Sweep<'a> {
     entries: &'a [Gradient],
     length_cm: u32,
-    /// The entry in which the rear end lies.
+    /// The index of the entry in which the rear end lies.
     rear: usize,
-    /// The entry in which the front end lies.
+    /// The index of the entry in which the front end lies.
     front: usize,
     /// The cell of the front end.
     at: u64,
-    /// The entries from the rear end to the front end that are below every later one.
+    /// The indices of the entries from the rear one to the front one that are below every later one.
     lows: VecDeque<usize>,
 }
 
@@ -65,7 +65,7 @@ fn first_change(entries: &[Gradient], length_cm: u32, rear: usize, front: usize)
     leaves
 }
 
-/// The entry in which the cell `back` cm before a cell lies, which is in the entry at `index` or where the next starts.
+/// The entry in which the cell `back` cm before a cell lies: the one at `index`, or the next where it starts there.
 fn entry_at(entries: &[Gradient], index: usize, cell: u64, back: u32) -> usize
     requires gradients { AreGradients (pos longest_track) entries.now }
     requires near { IsUpToNext entries.now index (pos cell -ℤ pos back) }
