@@ -9,7 +9,7 @@ use Rattle.std.proofs.lemmas.Bool.{cases_lt}
 use Rattle.std.proofs.lemmas.List.{get_or_push, length_push}
 use Rattle.std.proofs.lemmas.Option.{slice_get_read, slice_get-get_or}
 use Rattle.sdm_rules.specs.declared.data.Gradient.{Gradient}
-use Rattle.sdm_track.specs.Lows.{grad_at, IsLowestAt, AreLows, ends_below}
+use Rattle.sdm_track.specs.Sweeps.{grad_at, IsLowestAt, AreLows, ends_below}
 
 -- ---- an entry comes in: which lows are kept
 
@@ -24,20 +24,20 @@ pub all_kept : (entries : List Gradient) (grad : ℤ) (i j : ℕ) (indices : Lis
 all_kept entries grad i j [] h = λ k l m. absurd (omega arith)
 all_kept entries grad i j (index ∷ more) h = (h.0, all_kept entries grad (index + 1) j more h.1)
 
--- each of the lows is one of the entries
-pub lows_known : (entries : List Gradient) (i j n : ℕ) (indices : List ℕ) → j ≤ n → AreLows entries i j indices →
-    All (λ low. low < n) indices
-lows_known entries i j n [] within h k d l = absurd (omega arith)
-lows_known entries i j n (index ∷ more) within h zero d l = omega (arith, h.0.to_front)
-lows_known entries i j n (index ∷ more) within h (suc k) d l =
-    lows_known entries (index + 1) j n more within h.1 k d (omega arith)
+-- each of them is one of the entries
+pub kept_known : (entries : List Gradient) (grad : ℤ) (i j : ℕ) (indices : List ℕ) →
+    AreKept entries grad i j indices → All (λ low. low < j) indices
+kept_known entries grad i j [] h k d l = absurd (omega arith)
+kept_known entries grad i j (index ∷ more) h zero d l = omega (arith, h.0.to_front)
+kept_known entries grad i j (index ∷ more) h (suc k) d l =
+    kept_known entries grad (index + 1) j more h.1 k d (omega arith)
 
 -- so they are no more than these
-pub lows_few : (entries : List Gradient) (i j : ℕ) (indices : List ℕ) → i ≤ j → AreLows entries i j indices →
-    length indices + i ≤ j
-lows_few entries i j [] some h = omega arith
-lows_few entries i j (index ∷ more) some h =
-    omega (arith, h.0.from_rear, lows_few entries (index + 1) j more (omega (arith, h.0.to_front)) h.1)
+pub kept_few : (entries : List Gradient) (grad : ℤ) (i j : ℕ) (indices : List ℕ) → i ≤ j →
+    AreKept entries grad i j indices → length indices + i ≤ j
+kept_few entries grad i j [] some h = omega arith
+kept_few entries grad i j (index ∷ more) some h =
+    omega (arith, h.0.from_rear, kept_few entries grad (index + 1) j more (omega (arith, h.0.to_front)) h.1)
 
 -- the last one goes where it is not below the new entry
 kept_less : (entries : List Gradient) (grad : ℤ) (i j last : ℕ) (indices : List ℕ) → grad ≤ℤ grad_at entries last →
@@ -114,6 +114,9 @@ pub comes_in : (entries : List Gradient) (i j : ℕ) (indices : List ℕ) → i 
     AreLows entries i (j + 1) (indices ++ j ∷ [])
 comes_in entries i j indices some low h =
     low_added entries i j indices some (λ k d. ends_low entries indices j k d low) h
+
+-- how the lows change as an entry comes in
+pub ruleset comes_in_last = (all_kept, kept_few, goes, comes_in)
 
 -- ---- the first entry
 

@@ -1,7 +1,7 @@
--- The segments made so far, as a sweep moves on: they are right up to its cell, and go on with the gradient there. Where
--- the gradient changes, a segment more keeps this; where it does not, they stay.
-use Rattle.std.proofs.Common.{◌≡◌, ◌≢◌, ℕ, ℤ, pos, List, [], ◌∷◌, ◌++◌, length, get_or, All, ◌+◌, ◌-◌, ◌*◌, ◌<◌, ◌≤◌, ◌≤ℤ◌}
-use Rattle.std.proofs.Common.{◌<ℤ◌, inl, inr, refl, sym, ap, ◌∙◌, arith, length-append}
+-- The segments made so far, as a sweep moves on: they are right up to its cell, and go on with the gradient there.
+-- Where the gradient changes, a segment more keeps this; where it does not, they stay.
+use Rattle.std.proofs.Common.{◌≡◌, ◌≢◌, ℕ, ℤ, pos, List, [], ◌∷◌, ◌++◌, length, get_or, All, ◌+◌, ◌-◌, ◌*◌, ◌<◌, ◌≤◌}
+use Rattle.std.proofs.Common.{◌≤ℤ◌, ◌<ℤ◌, inl, inr, refl, sym, ap, ◌∙◌, arith, length-append}
 use Rattle.std.proofs.lemmas.Int.{ints, by_lt_z}
 use Rattle.std.proofs.lemmas.Bool.{cases_lt}
 use Rattle.std.proofs.lemmas.List.{get_or_default}
@@ -11,7 +11,7 @@ use Rattle.sdm_rules.specs.declared.data.Gradient.{Gradient}
 use Rattle.sdm_rules.specs.Ranges.{most_gradients}
 use Rattle.sdm_track.specs.declared.under_train.Segment.{Segment}
 use Rattle.sdm_track.specs.Steps.{IsRising, LiesIn}
-use Rattle.sdm_track.specs.Sweeps.{Swept, IsSameBefore, IsSameUntil, IsSameFrom, gradient_under}
+use Rattle.sdm_track.specs.Sweeps.{Swept, gradient_at, gradient_under}
 use Rattle.sdm_track.specs.Segments.{IsSegment, AreSegments, GoOnWith, segment_gradient}
 use Rattle.sdm_track.proofs.StepLaws.{value_is, value_before, value_from}
 
@@ -112,8 +112,8 @@ module _ (entries : List Gradient) (length_cm : ℕ) where
   -- the first segment, from cell 0
   pub so_far_first : (s : Swept) (first : Segment) →
       s ≡ record { entries = entries; length_cm = length_cm; at = pos 0; left = 2 * (length entries - 1) } →
-      IsSameBefore s →
-      first ≡ record { start = s.at; value = gradient_under s.entries s.length_cm s.at } → IsSegment first →
+      ((c : ℤ) → c ≤ℤ pos 0 → gradient_at s c ≡ gradient_at s (pos 0)) →
+      first ≡ record { start = s.at; value = gradient_at s s.at } → IsSegment first →
       IsSoFar entries length_cm s (first ∷ [])
   so_far_first s first begins before is in_range = let here = rw begins at is in rw (begins, here) (record {
     entries_are = refl;
@@ -127,14 +127,14 @@ module _ (entries : List Gradient) (length_cm : ℕ) where
       differ = λ i d l. absurd (omega arith);
     };
     begun = λ i d l. (let e : i ≡ 0 = omega arith in rw e (omega (arith, ints)));
-    right = λ c l. sym ((rw begins at before).same c l);
+    right = λ c l. sym ((rw begins at before) c l);
     goes_on = λ c l. refl;
     few = omega arith;
   })
 
   module _ (s : Swept) (out : List Segment) (made : IsSoFar entries length_cm s out) where
     -- they are right as long as the gradient stays
-    right_on : (c : ℤ) → (s.at ≤ℤ c → gradient_under s.entries s.length_cm c ≡ gradient_under s.entries s.length_cm s.at) →
+    right_on : (c : ℤ) → (s.at ≤ℤ c → gradient_at s c ≡ gradient_at s s.at) →
         segment_gradient out c ≡ gradient_under entries length_cm c
     right_on c same = by_lt_z c s.at
         (λ (lt : c <ℤ s.at). made.right c (omega (arith, ints)))
@@ -142,9 +142,10 @@ module _ (entries : List Gradient) (length_cm : ℕ) where
 
     -- the sweep moves on to a later cell, from which on the segments go on with the gradient there
     pub so_far_on : (to : Swept) (next : Segment) (more : List Segment) → to.entries ≡ s.entries →
-        to.length_cm ≡ s.length_cm → s.at <ℤ to.at → to.left < s.left → IsSameUntil s to.at →
-        next ≡ record { start = to.at; value = gradient_under to.entries to.length_cm to.at } →
-        GoOnWith next out more → AreSegments more → IsSoFar entries length_cm to more
+        to.length_cm ≡ s.length_cm → s.at <ℤ to.at → to.left < s.left →
+        ((c : ℤ) → s.at ≤ℤ c → c <ℤ to.at → gradient_at s c ≡ gradient_at s s.at) →
+        next ≡ record { start = to.at; value = gradient_at to to.at } → GoOnWith next out more → AreSegments more →
+        IsSoFar entries length_cm to more
     so_far_on to next more entries_stay train_stays later fewer same is h segments =
         let entries_are = entries_stay ∙ made.entries_are in
         let length_is = train_stays ∙ made.length_is in
@@ -158,7 +159,7 @@ module _ (entries : List Gradient) (length_cm : ℕ) where
           begun = rw start_is at h.begun;
           right = λ c l.
               by_lt_z c to.at
-              (λ (lt : c <ℤ to.at). h.before c (rw start_is lt) ∙ right_on c (λ le. same.same c le lt))
+              (λ (lt : c <ℤ to.at). h.before c (rw start_is lt) ∙ right_on c (λ le. same c le lt))
               (λ (le : to.at ≤ℤ c). let e : c ≡ to.at = omega (arith, ints) in
               h.after c (rw start_is le) ∙ value_is ∙ ap (gradient_under entries length_cm) (sym e));
           goes_on = λ c l. h.after c (rw start_is l) ∙ value_is;
@@ -166,5 +167,6 @@ module _ (entries : List Gradient) (length_cm : ℕ) where
         }
 
     -- once it stays for good they are right for every cell
-    pub so_far_all : IsSameFrom s → (c : ℤ) → segment_gradient out c ≡ gradient_under entries length_cm c
-    so_far_all same c = right_on c (same.same c)
+    pub so_far_all : ((c : ℤ) → s.at ≤ℤ c → gradient_at s c ≡ gradient_at s s.at) → (c : ℤ) →
+        segment_gradient out c ≡ gradient_under entries length_cm c
+    so_far_all same c = right_on c (same c)

@@ -1,76 +1,67 @@
 -- The lowest gradient of the cells under a train is the lowest of the entries under it: each cell there lies in one of
 -- them, and each of them has a cell there. It stays until the next change.
 use Rattle.std.proofs.Common.{◌≡◌, ℕ, ℤ, pos, List, length, get_or, ◌+◌, ◌<◌, ◌≤◌, ◌-ℤ◌, ◌≤ℤ◌, ◌<ℤ◌, inl, inr}
-use Rattle.std.proofs.Common.{[], ◌∷◌, ◌^◌, w64, to_z, of_z, refl, sym, ◌∙◌, arith}
-use Rattle.std.specs.Int.{int_min}
+use Rattle.std.proofs.Common.{[], ◌∷◌, refl, sym, ap, ◌∙◌, arith}
 use Rattle.std.proofs.lemmas.Int.{ints}
 use Rattle.std.proofs.lemmas.Bool.{cases_lt}
 use Rattle.std.proofs.lemmas.List.{get_or_default}
 use Rattle.sdm_rules.specs.declared.data.Gradient.{Gradient}
 use Rattle.sdm_rules.specs.Decelerations.{track_gradient}
 use Rattle.sdm_rules.specs.Ranges.{longest_track}
-use Rattle.sdm_track.specs.Steps.{IsRising, LiesIn, IsBeforeNext, IsUpToNext}
+use Rattle.sdm_track.specs.Steps.{IsRising, LiesIn, IsBeforeNext}
 use Rattle.sdm_track.specs.Ranges.{AreGradients}
-use Rattle.sdm_track.specs.Lows.{level, grad_at, IsLowestAt, AreLows}
-use Rattle.sdm_track.specs.Sweeps.{gradient_start, gradient_under, still_left, IsUnder, IsFirstChange, IsSweep}
-use Rattle.sdm_track.proofs.StepLaws.{found, lies_in_order, lies_at_start, lies_on, value_is}
-use Rattle.sdm_track.proofs.LowestLaws.{IsLowest, lowest_is, int_min_lower}
+use Rattle.sdm_track.specs.Sweeps.{level, grad_at, IsLowestAt, AreLows, gradient_start, gradient_under, still_left}
+use Rattle.sdm_track.specs.Sweeps.{IsUnder, IsUpToNext, IsFirstChange, IsSweep}
+use Rattle.sdm_track.proofs.StepLaws.{found, later_start, lies_in_order, lies_at_start, lies_on, value_is}
+use Rattle.sdm_track.proofs.LowestLaws.{IsLowest, lowest_is}
 use Rattle.sdm_track.proofs.LowLaws.{low_of_first}
 
 -- ---- the lowest gradient under the train
 
--- an entry has a cell from `back` to `front`
-record HasCell (entries : List Gradient) (back front : ℤ) (k : ℕ) : Type 0 where
-  at : ℤ
-  from_back : back ≤ℤ at
-  to_front : at ≤ℤ front
-  lies : LiesIn gradient_start entries k at
-
 module _ (entries : List Gradient) (rear front : ℕ) (back at : ℤ) (rise : IsRising gradient_start entries)
     (long : back ≤ℤ at)
     (in_rear : LiesIn gradient_start entries rear back) (in_front : LiesIn gradient_start entries front at) where
-  -- the rear entry has the rear cell, each other one its first cell
-  has_cell : (k : ℕ) → rear ≤ k → k ≤ front → HasCell entries back at k
-  has_cell k low high = elim (cases_lt rear k) [
-    | inl lt ↦ (
-        let known : k < length entries = omega (arith, in_front.known) in
-        let over = in_rear.goes_on.before level (omega arith) in
-        record {
-          at = (get_or entries k level).start;
-          from_back = elim (cases_lt (rear + 1) k) [
-            | inl l ↦ (let r = rise.rises (rear + 1) k level l known in omega (arith, ints))
-            | inr g ↦ (let e : k ≡ rear + 1 = omega arith in rw e (omega (arith, ints)))
-          ];
-          to_front = elim (cases_lt k front) [
-            | inl l ↦ (let r = rise.rises k front level l in_front.known in let begun =
-                in_front.begun level (omega arith) in omega (arith, ints))
-            | inr g ↦ (let e : k ≡ front = omega arith in rw e (in_front.begun level (omega arith)))
-          ];
-          lies = lies_at_start gradient_start entries k level _ rise known refl;
-        })
-    | inr ge ↦ (let e : k ≡ rear =
-        omega arith in rw e (record { at = back; from_back = omega (arith, ints); to_front = long; lies = in_rear }))
-  ]
+  -- no cell is below the lowest of the entries
+  none_below_low : (low : ℕ) → IsLowestAt entries rear (front + 1) low → (c : ℤ) → back ≤ℤ c → c ≤ℤ at →
+      grad_at entries low ≤ℤ track_gradient entries c
+  none_below_low low h c a b =
+      let here = found gradient_start entries c (omega (arith, in_rear.known)) in
+      let above = lies_in_order gradient_start entries rear here.index level back c rise in_rear here.lies a in
+      let below = lies_in_order gradient_start entries here.index front level c at rise here.lies in_front b in
+      rw (value_is gradient_start (λ e. e.grad) entries here.index c level (pos 0) rise here.lies)
+      (h.none_below here.index above (omega (arith, below)))
 
-  -- the lowest of the entries is the lowest of the cells
+  -- a cell that lies in it has its gradient: the rear cell in the rear entry, in another one its first cell
   lowest_cell : (low : ℕ) → IsLowestAt entries rear (front + 1) low →
-      IsLowest (λ a b. a ≤ℤ b) (track_gradient entries) back at (grad_at entries low)
+      IsLowest (track_gradient entries) back at (grad_at entries low)
   lowest_cell low h =
-      let cell = has_cell low h.from_rear (omega (arith, h.to_front)) in
-      record {
-        none_below = λ c a b.
-            let here = found gradient_start entries c (omega (arith, in_rear.known)) in
-            let above : rear ≤ here.index = lies_in_order gradient_start entries rear here.index level back c rise
-            in_rear here.lies a in
-            let below : here.index
-            ≤ front = lies_in_order gradient_start entries here.index front level c at rise here.lies in_front b in
-            rw (value_is gradient_start (λ e. e.grad) entries here.index c level (pos 0) rise here.lies)
-            (h.none_below here.index above (omega arith));
-        at = cell.at;
-        from_first = cell.from_back;
-        to_last = cell.to_front;
-        reached = value_is gradient_start (λ e. e.grad) entries low cell.at level (pos 0) rise cell.lies;
-      }
+      let value = λ (c : ℤ) (lies : LiesIn gradient_start entries low c).
+      value_is gradient_start (λ e. e.grad) entries low c level (pos 0) rise lies in
+      elim (cases_lt rear low) [
+        | inl lt ↦ (
+            let known : low < length entries = omega (arith, h.to_front, in_front.known) in
+            let past = later_start gradient_start entries rear low level back rise in_rear lt known in
+            let begun = in_front.begun level (omega (arith, h.to_front)) in
+            record {
+              none_below = none_below_low low h;
+              at = (get_or entries low level).start;
+              from_first = omega (arith, ints);
+              to_last = elim (cases_lt low front) [
+                | inl l ↦ (let r = rise.rises low front level l in_front.known in omega (arith, ints))
+                | inr g ↦ (let e : low ≡ front = omega (arith, h.to_front) in rw e begun)
+              ];
+              reached = value _ (lies_at_start gradient_start entries low level _ rise known refl);
+            })
+        | inr ge ↦ (
+            let e : rear ≡ low = omega (arith, h.from_rear) in
+            record {
+              none_below = none_below_low low h;
+              at = back;
+              from_first = omega (arith, ints);
+              to_last = long;
+              reached = value back (rw e at in_rear);
+            })
+      ]
 
 -- so the gradient of a front end is that of the first low of the entries in which its cells lie
 pub gradient_is : (entries : List Gradient) (length_cm rear front : ℕ) (cell : ℤ) (lows : List ℕ) (d : ℕ) →
@@ -79,7 +70,7 @@ pub gradient_is : (entries : List Gradient) (length_cm rear front : ℕ) (cell :
     gradient_under entries length_cm cell ≡ grad_at entries (get_or lows 0 d)
 gradient_is entries length_cm rear front cell [] d rise under ordered lows = absurd (omega arith)
 gradient_is [] length_cm rear front cell (low ∷ more) d rise under ordered lows =
-    lowest_is (λ a b. a ≤ℤ b) int_min int_min_lower (track_gradient []) (cell -ℤ pos length_cm) cell length_cm (pos 0)
+    lowest_is (track_gradient []) (cell -ℤ pos length_cm) cell length_cm (pos 0)
     (omega (arith, ints)) (record {
       none_below = λ c a b. omega (arith, ints);
       at = cell;
@@ -89,14 +80,23 @@ gradient_is [] length_cm rear front cell (low ∷ more) d rise under ordered low
     })
 gradient_is (x ∷ xs) length_cm rear front cell (low ∷ more) d rise under ordered lows =
     let here = under (omega arith) in
-    lowest_is (λ a b. a ≤ℤ b) int_min int_min_lower (track_gradient (x ∷ xs)) (cell -ℤ pos length_cm) cell length_cm _
+    lowest_is (track_gradient (x ∷ xs)) (cell -ℤ pos length_cm) cell length_cm _
     (omega (arith, ints)) (lowest_cell (x ∷ xs) rear front (cell -ℤ pos length_cm) cell rise (omega (arith, ints))
     here.behind here.ahead low lows.0)
 
 -- ---- up to the next change
 
+-- no way back from a cell
+pub no_back : (cell : ℕ) → pos cell -ℤ pos 0 ≡ pos cell
+no_back cell = omega (arith, ints)
+
 module _ (entries : List Gradient) (length_cm rear front : ℕ) (at : ℤ) (lows : List ℕ) (room : ℕ)
     (sweep : IsSweep entries length_cm rear front at lows room) where
+  -- the gradient there is that of the first low
+  pub first_low : (low : ℕ) → low ≡ get_or lows 0 low → gradient_under entries length_cm at ≡ grad_at entries low
+  first_low low is = gradient_is entries length_cm rear front at lows low sweep.gradients.rise sweep.under sweep.ordered
+      sweep.lows_are ∙ ap (grad_at entries) (sym is)
+
   -- as long as neither end comes to its next entry, the gradient stays
   same_on : (c : ℤ) → at ≤ℤ c →
       (0 < length entries → IsBeforeNext gradient_start entries rear (c -ℤ pos length_cm)) →
@@ -105,8 +105,8 @@ module _ (entries : List Gradient) (length_cm rear front : ℕ) (at : ℤ) (lows
   same_on c le behind ahead =
       gradient_is entries length_cm rear front c lows 0 sweep.gradients.rise
       (λ some. record {
-        behind = lies_on gradient_start entries rear (at -ℤ pos length_cm) (c -ℤ pos length_cm) (sweep.under some).behind
-            (omega (arith, ints)) (behind some);
+        behind = lies_on gradient_start entries rear (at -ℤ pos length_cm) (c -ℤ pos length_cm)
+            (sweep.under some).behind (omega (arith, ints)) (behind some);
         ahead = lies_on gradient_start entries front at c (sweep.under some).ahead le (ahead some);
       }) sweep.ordered sweep.lows_are
       ∙ sym (gradient_is entries length_cm rear front at lows 0 sweep.gradients.rise sweep.under sweep.ordered
@@ -134,37 +134,25 @@ module _ (entries : List Gradient) (length_cm rear front : ℕ) (at : ℤ) (lows
         gradient_under entries length_cm c ≡ gradient_under entries length_cm at
     same_until c le lt = same_on c le
         (λ some. record {
-          before = λ d m. rw (get_or_default entries (rear + 1) d level m) (let b = first.by_rear in omega (arith, ints));
+          before = λ d m. (let b = first.by_rear in rw (get_or_default entries _ d level m) (omega (arith, ints)));
         })
         (λ some. record {
-          before = λ d m. rw (get_or_default entries (front + 1) d level m) (let b = first.by_front m in omega (arith, ints));
+          before = λ d m. (let b = first.by_front m in rw (get_or_default entries _ d level m) (omega (arith, ints)));
         })
 
-    -- the cell of the rear end there fits a word
-    pub back_is : (back : ℤ) → back ≡ pos length_cm → length_cm < 2 ^ 32 →
-        to_z w64 (of_z w64 (to_z w64 (of_z w64 change) -ℤ to_z w64 (of_z w64 back))) ≡ change -ℤ pos length_cm
-    back_is back is short =
-        let a = sweep.not_before in
-        let l = later in
-        let within = (sweep.gradients.each (rear + 1) level more).on_track in
-        let b = first.by_rear in
-        let change_is : to_z w64 (of_z w64 change) ≡ change = omega (arith, ints) in
-        let length_is : to_z w64 (of_z w64 (pos length_cm)) ≡ pos length_cm = omega (arith, ints) in
-        rw (is, change_is, length_is) (omega (arith, ints))
-
-    -- there each end lies in its entry or the next one
-    pub near_rear : IsUpToNext gradient_start entries rear (change -ℤ pos length_cm)
-    near_rear = (let under = sweep.under (omega arith) in record {
+    -- there each end lies in its entry or where the next one starts
+    pub near_rear : IsUpToNext entries rear (change -ℤ pos length_cm)
+    near_rear = (let under = sweep.under (omega arith) in let l = later in let b = first.by_rear in record {
       known = omega arith;
-      begun = λ d p. (let b = under.behind.begun d p in let l = later in omega (arith, ints));
-      up_to = λ d m. rw (get_or_default entries (rear + 1) d level m) (let b = first.by_rear in omega (arith, ints));
+      begun = λ p. (let begun = under.behind.begun level p in omega (arith, ints));
+      up_to = λ m. omega (arith, ints);
     })
 
-    pub near_front : IsUpToNext gradient_start entries front change
-    near_front = (let under = sweep.under (omega arith) in record {
+    pub near_front : IsUpToNext entries front change
+    near_front = (let under = sweep.under (omega arith) in let l = later in record {
       known = under.ahead.known;
-      begun = λ d p. (let b = under.ahead.begun d p in let l = later in omega (arith, ints));
-      up_to = λ d m. rw (get_or_default entries (front + 1) d level m) (first.by_front m);
+      begun = λ p. (let begun = under.ahead.begun level p in omega (arith, ints));
+      up_to = first.by_front;
     })
 
     -- the rear end lies in no later entry than the front end
@@ -192,12 +180,11 @@ module _ (entries : List Gradient) (length_cm rear front : ℕ) (at : ℤ) (lows
 
     -- what the sweep keeps there
     pub sweep_on : (to_rear to_front : ℕ) (to_lows : List ℕ) (to_room : ℕ) →
-        LiesIn gradient_start entries to_rear (change -ℤ pos length_cm) → LiesIn gradient_start entries to_front change →
-        AreLows entries to_rear (to_front + 1) to_lows → length entries ≤ to_room →
-        IsSweep entries length_cm to_rear to_front change to_lows to_room
+        LiesIn gradient_start entries to_rear (change -ℤ pos length_cm) →
+        LiesIn gradient_start entries to_front change → AreLows entries to_rear (to_front + 1) to_lows →
+        length entries ≤ to_room → IsSweep entries length_cm to_rear to_front change to_lows to_room
     sweep_on to_rear to_front to_lows to_room behind ahead lows_are enough = record {
       gradients = sweep.gradients;
-      not_before = (let a = sweep.not_before in let l = later in omega (arith, ints));
       not_past = (let a = (sweep.gradients.each (rear + 1) level more).on_track in let l = first.by_rear in
           omega (arith, ints));
       under = λ some. record { behind = behind; ahead = ahead };
@@ -206,6 +193,9 @@ module _ (entries : List Gradient) (length_cm rear front : ℕ) (at : ℤ) (lows
       lows_are = lows_are;
       enough = enough;
     }
+
+-- how a sweep moves on to the next change
+pub ruleset moves_on = (near_rear, near_front, no_back, ordered_on, later, fewer_left, sweep_on)
 
 -- ---- the first cell
 
@@ -224,17 +214,17 @@ module _ (entries : List Gradient) (length_cm : ℕ) (gradients : AreGradients (
       record { behind = in_first _ (omega (arith, ints)); ahead = in_first c le }
 
   -- so a sweep begins there
-  pub sweep_first : (room : ℕ) → length entries ≤ room → IsSweep entries length_cm 0 0 (pos 0) (0 ∷ []) room
-  sweep_first room enough = record {
+  pub sweep_first : (lows : List ℕ) (room : ℕ) → lows ≡ 0 ∷ [] → length entries ≤ room →
+      IsSweep entries length_cm 0 0 (pos 0) lows room
+  sweep_first lows room is enough = rw is (record {
     gradients = gradients;
-    not_before = omega (arith, ints);
     not_past = omega (arith, ints);
     under = under_first (pos 0) (omega (arith, ints));
     ordered = omega arith;
     known = omega arith;
     lows_are = low_of_first entries;
     enough = enough;
-  }
+  })
 
   -- and the gradient before is that in cell 0
   pub same_before : (c : ℤ) → c ≤ℤ pos 0 →

@@ -1,5 +1,4 @@
 pub mod Steps
 pub mod Ranges
-pub mod Lows
 pub mod Sweeps
 pub mod Segments

@@ -1,7 +1,7 @@
 -- The gradients under a train as segments: stretches of cells of the front end in which they stay the same (own form
 -- of SUBSET-026-3 3.13.4.2).
-use Rattle.std.specs.Prelude.{◌≡◌, ◌≢◌, ℕ, ℤ, pos, neg_ℤ, List, All, length, slice_index_or, ◌+◌, ◌*◌, ◌<◌, ◌≤◌, ◌+ℤ◌, ◌≤ℤ◌}
-use Rattle.std.specs.Prelude.{◌<ℤ◌}
+use Rattle.std.specs.Prelude.{◌≡◌, ◌≢◌, ℕ, ℤ, pos, neg_ℤ, List, All, length, slice_index_or, ◌+◌, ◌*◌, ◌<◌, ◌≤◌, ◌+ℤ◌}
+use Rattle.std.specs.Prelude.{◌≤ℤ◌, ◌<ℤ◌}
 use Rattle.sdm_rules.specs.Cells.{value_at}
 use Rattle.sdm_rules.specs.Ranges.{steepest, most_gradients, longest_track, longest_train}
 use Rattle.sdm_track.specs.declared.under_train.Segment.{Segment}

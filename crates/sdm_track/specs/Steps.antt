@@ -20,9 +20,3 @@ pub record LiesIn {E : Type 0} (start : E → ℤ) (steps : List E) (i : ℕ) (c
   pub known : i < length steps
   pub begun : (d : E) → 0 < i → start (slice_index_or steps i d) ≤ℤ cell
   pub goes_on : IsBeforeNext start steps i cell
-
--- the cell lies in the step `i`, or it is the first of the next one
-pub record IsUpToNext {E : Type 0} (start : E → ℤ) (steps : List E) (i : ℕ) (cell : ℤ) : Type 0 where
-  pub known : i < length steps
-  pub begun : (d : E) → 0 < i → start (slice_index_or steps i d) ≤ℤ cell
-  pub up_to : (d : E) → i + 1 < length steps → cell ≤ℤ start (slice_index_or steps (i + 1) d)

@@ -10,7 +10,7 @@ ghost use Rattle.sdm_rules.specs.Decelerations.{track_gradient};
 ghost use Rattle.sdm_rules.specs.Ranges.{steepest, longest_track, longest_train, most_gradients};
 ghost use Rattle.sdm_track.specs.Steps.{LiesIn};
 ghost use Rattle.sdm_track.specs.Ranges.{AreGradients};
-ghost use Rattle.sdm_track.specs.Sweeps.{gradient_under};
+ghost use Rattle.sdm_track.specs.Sweeps.{gradient_at};
 ghost use Rattle.sdm_track.specs.Segments.{IsSegment, AreSegments, GoOnWith, segment_gradient};
 
 use crate::sweep::Sweep;
@@ -34,7 +34,7 @@ impl Segment {
         requires { sweep.now.length_cm ≤ longest_train }
         ensures value { result ≡ record {
           start = sweep.now.at;
-          value = gradient_under sweep.now.entries sweep.now.length_cm sweep.now.at;
+          value = gradient_at sweep.now sweep.now.at;
         } }
         ensures in_range { IsSegment result }
     {
@@ -106,6 +106,7 @@ impl Segments {
 }
 
 /// Adds a segment past the start of the last one, unless the last one has its gradient and so goes on.
+#[tactic(auto, using(crate::proofs::SegmentLaws::goes_on_more))]
 fn add(list: &mut Vec<Segment>, segment: Segment) -> Result<(), NoMemory>
     requires before { AreSegments list.old.items }
     requires segment { IsSegment segment }
@@ -121,6 +122,7 @@ fn add(list: &mut Vec<Segment>, segment: Segment) -> Result<(), NoMemory>
 }
 
 /// The lowest gradients of the cells from the rear end to the front end of a train of this length in cm.
+#[tactic(auto, using(crate::proofs::SegmentLaws::so_far_first, crate::proofs::SegmentLaws::so_far_all))]
 pub fn compensated(
     alloc: Global,
     entries: &[Gradient],

@@ -1,16 +1,13 @@
 -- The lows that are kept so far.
-use Rattle.std.proofs.Common.{◌≡◌, ℕ, ◌<◌, ◌≤◌, All, length}
+use Rattle.std.proofs.Common.{◌≡◌, length}
 use Rattle.std.specs.VecDeque.{deque_capacity}
-use Rattle.sdm_track.specs.Lows.{grad_at, AreLows}
+use Rattle.sdm_track.specs.Sweeps.{grad_at}
 use Rattle.sdm_track.proofs.LowLaws.{AreKept}
 use Rattle.sdm_track.proofs.sweep.take_in.Given as goal
 
 abbrev pub invariant-loop-lows : goal.invariant-loop-lows
 invariant-loop-lows l = record {
-  kept : (rear : ℕ) → AreLows l.entries rear l.index l.fn.lows.items →
-      AreKept l.entries (grad_at l.entries l.index) rear l.index l.lows.items;
-  earlier : All (λ low. low < l.index) l.lows.items;
-  few : length l.lows.items ≤ length l.fn.lows.items;
+  kept : AreKept l.entries (grad_at l.entries l.index) l.fn.old.start l.index l.lows.items;
   room : deque_capacity l.lows ≡ deque_capacity l.fn.lows;
 }
 

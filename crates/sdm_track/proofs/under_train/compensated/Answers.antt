@@ -2,13 +2,8 @@
 use Rattle.std.proofs.Common.{arith, refl, ap}
 use Rattle.std.proofs.lemmas.Int.{ints}
 use Rattle.sdm_track.specs.declared.under_train.Segment.{Segment}
-use Rattle.sdm_track.proofs.SegmentLaws.{so_far_first, so_far_on, so_far_all}
+use Rattle.sdm_track.proofs.SegmentLaws.{so_far_on}
 use Rattle.sdm_track.proofs.under_train.compensated.Goals as goal
-
-pub loop-list-init : goal.loop-list-init
-loop-list-init c = rw (c.in_ok-push.ensures.items, c.new-list.ensures.items)
-    (so_far_first c.args.entries.now c.args.length_cm _ _ c.in_ok-sweep.ensures.begun c.in_ok-sweep.ensures.before
-    c.at.ensures.value c.at.ensures.in_range)
 
 pub add-requires-clause-later : goal.add-requires-clause-later
 add-requires-clause-later c = λ k d l.
@@ -16,20 +11,9 @@ add-requires-clause-later c = λ k d l.
     let later = c.loop-list-test.ensures.later refl in
     rw (ap (λ (s : Segment). s.start) c.at-in-loop-list.ensures.value) (omega (arith, ints))
 
-pub add-requires-clause-room : goal.add-requires-clause-room
-add-requires-clause-room c =
-    omega (arith, c.loop-list.invariant.few, c.loop-list-test.ensures.fewer refl, c.requires.gradients.few)
-
-pub loop-list-smaller : goal.loop-list-smaller
-loop-list-smaller c = c.loop-list-test.ensures.fewer refl
-
 pub loop-list-preserved : goal.loop-list-preserved
 loop-list-preserved c =
     let next = c.loop-list-test.ensures in
     so_far_on c.args.entries.now c.args.length_cm _ _ c.loop-list.invariant _ _ _ next.entries next.train
     (next.later refl) (next.fewer refl) (next.same refl) c.at-in-loop-list.ensures.value c.in_ok-add.ensures.value
     c.in_ok-add.ensures.in_range
-
-pub returns-clause-value : goal.returns-clause-value
-returns-clause-value c = so_far_all c.args.entries.now c.args.length_cm _ _ c.loop-list.invariant
-    (c.loop-list-test.ensures.last refl)
