@@ -16,42 +16,17 @@ const MOST_DIGITS: usize = 18;
 /// The number of a field, from `lo` to `hi`. Leading zeros are accepted, and `-0` is 0. The field is NotNumber where
 /// it isn't an optional minus sign and 1 to 18 digits, and OutOfRange where its number is below `lo` or above `hi`.
 /// (own)
-// In line, the loop over records reads its seven numbers a reading with no call. Digits are read in pairs, after the
-// first of an odd count. A byte less `0` is more than 9 where it is no digit: one below `0` wraps.
+// In line, with what it calls, the loop over records reads its seven numbers a reading with no call.
 #[inline(always)]
 #[tactic(auto, unfolding(sdm_rules::specs::Numbers::read_int))]
 pub fn read_int(field: &[u8], lo: i64, hi: i64) -> Result<i64, FieldFault>
     ensures value { result ≡ read_int field.now lo hi }
     ensures range { IfOk result (λ n. (lo ≤ℤ n) × (n ≤ℤ hi)) }
 {
-    let (is_negative, digits) = match field {
-        [b'-', digits @ ..] => (true, digits),
-        digits => (false, digits),
+    let number = match field {
+        [b'-', digits @ ..] => -(magnitude(digits).ok_or(FieldFault::NotNumber)? as i64),
+        digits => magnitude(digits).ok_or(FieldFault::NotNumber)? as i64,
     };
-    if digits.is_empty() || digits.len() > MOST_DIGITS {
-        return Err(FieldFault::NotNumber);
-    }
-    let mut at = digits.len() % 2;
-    let first = if at == 1 {
-        digits[0].wrapping_sub(b'0')
-    } else {
-        0
-    };
-    if first > 9 {
-        return Err(FieldFault::NotNumber);
-    }
-    let mut magnitude = u64::from(first);
-    while at < digits.len() {
-        let tens = digits[at].wrapping_sub(b'0');
-        let ones = digits[at + 1].wrapping_sub(b'0');
-        if tens > 9 || ones > 9 {
-            return Err(FieldFault::NotNumber);
-        }
-        magnitude = 100 * magnitude + u64::from(10 * tens + ones);
-        at += 2;
-    }
-    let magnitude = magnitude as i64;
-    let number = if is_negative { -magnitude } else { magnitude };
     if lo <= number && number <= hi {
         Ok(number)
     } else {
@@ -68,6 +43,37 @@ pub fn natural_in(field: &[u8], least: u32, greatest: u32) -> Result<u32, FieldF
 {
     let number = read_int(field, i64::from(least), i64::from(greatest))?;
     Ok(number as u32)
+}
+
+/// The number that 1 to 18 digits write; none for other bytes. Digits are read in pairs, after the first of an odd
+/// count. A byte less `0` is more than 9 where it is no digit: one below `0` wraps.
+#[inline(always)]
+fn magnitude(digits: &[u8]) -> Option<u64>
+    ensures value { result ≡ if is_digits digits.now then Some (digits_value 10 digits.now) else None }
+    ensures fits { IfSome result (λ n. n < 10 ^ most_digits) }
+{
+    if digits.is_empty() || digits.len() > MOST_DIGITS {
+        return None;
+    }
+    let mut at = digits.len() % 2;
+    let mut number = if at == 1 {
+        u64::from(digits[0].wrapping_sub(b'0'))
+    } else {
+        0
+    };
+    if number > 9 {
+        return None;
+    }
+    while at < digits.len() {
+        let tens = digits[at].wrapping_sub(b'0');
+        let ones = digits[at + 1].wrapping_sub(b'0');
+        if tens > 9 || ones > 9 {
+            return None;
+        }
+        number = 100 * number + u64::from(10 * tens + ones);
+        at += 2;
+    }
+    Some(number)
 }
 
 /// The number of the first field of a line, from `least` to `greatest`, and the line after the comma that ends the
