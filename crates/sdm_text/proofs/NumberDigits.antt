@@ -30,23 +30,27 @@ pub record IsRead (ds : List ℕ) (i n : ℕ) : Type 0 where
 pub none_read : (ds : List ℕ) → IsRead ds 0 0
 none_read ds = record { digits = refl; writes = refl; small = omega arith }
 
--- a byte less `0`, which wraps below it: at most 9 where the byte is a digit, and then the digit's value
-digit_at_most_9 : (b : ℕ) → b < 256 → (b + 208) % 256 ≤ 9 →
-    (is_ascii_digit b ≡ true) × (digit_value b ≡ (b + 208) % 256)
+-- a byte less `0`, which wraps below it, in 64 bits
+abbrev pub less_zero : ℕ → ℕ
+less_zero b = (b + 18_446_744_073_709_551_568) % 2 ^ 64
+
+-- it is at most 9 where the byte is a digit, and then the digit's value
+digit_at_most_9 : (b : ℕ) → b < 256 → less_zero b ≤ 9 → (is_ascii_digit b ≡ true) × (digit_value b ≡ less_zero b)
 digit_at_most_9 b fits small =
     let least : 48 ≤ b = omega arith in
     let most : b ≤ 57 = omega arith in
     (grind (arith, nat_tests), grind (arith, nat_tests))
 
--- one more digit, which the next byte less `0` is
-pub one_more : (ds : List ℕ) (i n d j m : ℕ) → i < length ds → get_or ds i 0 < 256 → d ≡ (get_or ds i 0 + 208) % 256 →
-    d ≤ 9 → j ≡ i + 1 → m ≡ 10 * n + d → IsRead ds i n → IsRead ds j m
-one_more ds i n d j m within fits less small next is before =
-    let digit = digit_at_most_9 (get_or ds i 0) fits (rw less at small) in
-    rw (next, is) (record {
+-- one more digit, which the next byte is
+pub one_more : (ds : List ℕ) (i n b j m : ℕ) → i < length ds → get_or ds i 0 < 256 → b ≡ get_or ds i 0 →
+    less_zero b ≤ 9 → j ≡ i + 1 → m ≡ 10 * n + less_zero b → IsRead ds i n → IsRead ds j m
+one_more ds i n b j m within fits of small next is before =
+    let few = rw of at small in
+    let digit = digit_at_most_9 (get_or ds i 0) fits few in
+    rw (next, is, of) (record {
       digits = rw (list_all_more is_ascii_digit ds i 0 within) (and_from _ _ before.digits digit.0);
-      writes = rw (digits_value_more 10 ds i within, digit.1, ← less, ← before.writes) (omega arith);
-      small = let few = before.small in rw add-one (omega (arith, pow-suc 10 i));
+      writes = rw (digits_value_more 10 ds i within, digit.1, ← before.writes) (omega arith);
+      small = let fewer = before.small in rw add-one (omega (arith, pow-suc 10 i));
     })
 
 -- ---- digits and then a comma

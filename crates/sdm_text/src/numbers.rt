@@ -13,6 +13,9 @@ use sdm_rules::FieldFault;
 /// The most digits of a number. (own)
 const MOST_DIGITS: usize = 18;
 
+/// The byte `0`. A byte less it, which wraps where it is below it, is at most 9 exactly where it is a digit. (own)
+pub(crate) const ZERO: u64 = b'0' as u64;
+
 /// The number of a field, from `lo` to `hi`. Leading zeros are accepted, and `-0` is 0. The field is NotNumber where
 /// it isn't an optional minus sign and 1 to 18 digits, and OutOfRange where its number is below `lo` or above `hi`.
 /// (own)
@@ -46,7 +49,7 @@ pub fn natural_in(field: &[u8], least: u32, greatest: u32) -> Result<u32, FieldF
 }
 
 /// The number that 1 to 18 digits write; none for other bytes. Digits are read in pairs, after the first of an odd
-/// count. A byte less `0` is more than 9 where it is no digit: one below `0` wraps.
+/// count.
 #[inline(always)]
 fn magnitude(digits: &[u8]) -> Option<u64>
     ensures value { result ≡ if is_digits digits.now then Some (digits_value 10 digits.now) else None }
@@ -57,7 +60,7 @@ fn magnitude(digits: &[u8]) -> Option<u64>
     }
     let mut at = digits.len() % 2;
     let mut number = if at == 1 {
-        u64::from(digits[0].wrapping_sub(b'0'))
+        u64::from(digits[0]).wrapping_sub(ZERO)
     } else {
         0
     };
@@ -65,12 +68,12 @@ fn magnitude(digits: &[u8]) -> Option<u64>
         return None;
     }
     while at < digits.len() {
-        let tens = digits[at].wrapping_sub(b'0');
-        let ones = digits[at + 1].wrapping_sub(b'0');
+        let tens = u64::from(digits[at]).wrapping_sub(ZERO);
+        let ones = u64::from(digits[at + 1]).wrapping_sub(ZERO);
         if tens > 9 || ones > 9 {
             return None;
         }
-        number = 100 * number + u64::from(10 * tens + ones);
+        number = 100 * number + 10 * tens + ones;
         at += 2;
     }
     Some(number)
@@ -112,7 +115,7 @@ fn split_digits(line: &[u8]) -> Option<(u64, &[u8])>
     let prefix = &line[..line.len().min(MOST_DIGITS + 1)];
     let mut number = 0u64;
     for (count, byte) in prefix.iter().enumerate() {
-        let digit = byte.wrapping_sub(b'0');
+        let digit = u64::from(*byte).wrapping_sub(ZERO);
         if digit > 9 {
             return if *byte == b',' && count > 0 {
                 Some((number, &line[count + 1..]))
@@ -120,7 +123,7 @@ fn split_digits(line: &[u8]) -> Option<(u64, &[u8])>
                 None
             };
         }
-        number = 10 * number + u64::from(digit);
+        number = 10 * number + digit;
     }
     None
 }

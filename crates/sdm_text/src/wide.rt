@@ -5,6 +5,7 @@ ghost use Rattle.std.specs.Prelude.{◌≡◌, ◌+◌, ◌≤◌, ◌++◌, len
 ghost use Rattle.std.specs.Str.Parse.{digits_value};
 ghost use Rattle.sdm_rules.specs.Numbers.{is_digits_of, most_wide_digits, read_wide};
 
+use crate::numbers::ZERO;
 use crate::rows::{ROW_BYTES, RowBuf};
 use itoa::Buffer;
 use sdm_rules::FieldFault;
@@ -36,7 +37,7 @@ fn wide_magnitude(digits: &[u8]) -> Option<u128>
     }
     let mut number = 0u128;
     for (count, byte) in digits.iter().enumerate() {
-        let digit = byte.wrapping_sub(b'0');
+        let digit = u64::from(*byte).wrapping_sub(ZERO);
         if digit > 9 {
             return None;
         }

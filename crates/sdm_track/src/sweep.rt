@@ -160,7 +160,7 @@ impl<'a> Sweep<'a> {
     }
 
     /// The cell of the front end, in cm.
-    pub fn at(&self) -> u64
+    pub fn cell(&self) -> u64
         ensures value { pos result ≡ self.now.at }
         ensures not_past { pos result <ℤ (pos longest_track +ℤ pos self.now.length_cm) }
     {

@@ -30,7 +30,7 @@ pub struct Segment {
 
 impl Segment {
     /// From the cell of a sweep on, the gradient there.
-    fn at(sweep: &Sweep<'_>) -> Segment
+    fn of_sweep(sweep: &Sweep<'_>) -> Segment
         requires { sweep.now.length_cm ≤ longest_train }
         ensures value { result ≡ record {
           start = sweep.now.at;
@@ -39,7 +39,7 @@ impl Segment {
         ensures in_range { IsSegment result }
     {
         Segment {
-            start: sweep.at() as i32,
+            start: sweep.cell() as i32,
             value: sweep.lowest() as i16,
         }
     }
@@ -137,9 +137,9 @@ pub fn compensated(
 {
     let mut sweep = Sweep::begin(alloc, entries, length_cm)?;
     let mut list = Vec::new(alloc);
-    list.push(Segment::at(&sweep))?;
+    list.push(Segment::of_sweep(&sweep))?;
     while sweep.next() {
-        add(&mut list, Segment::at(&sweep))?;
+        add(&mut list, Segment::of_sweep(&sweep))?;
     }
     Ok(Segments { list })
 }

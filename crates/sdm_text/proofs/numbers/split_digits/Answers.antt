@@ -27,7 +27,7 @@ loop-count-preserved c =
     record {
       read = one_more _ _ _ _ _ _ c.loop-count-test.true
           (rw (get_or-take c.min.result line at 0 within) (omega (arith, c.type_inv.line at)))
-          c.from.ensures (rw c.from.ensures c.if-digit-gt9.false) refl refl c.loop-count.invariant.read;
+          c.from-digit.ensures c.if-digit-gt9.false refl refl c.loop-count.invariant.read;
     }
 
 pub returns-then-count-gt0-clause-number : goal.returns-then-count-gt0-clause-number

@@ -12,5 +12,5 @@ overflow_add-number c = omega (arith, below_greater_power _ _ 37 c.loop-count.in
 pub loop-count-preserved : goal.loop-count-preserved
 loop-count-preserved c = record {
   read = one_more _ _ _ _ _ _ c.loop-count-test.true (omega (arith, c.type_inv.digits c.loop-count.count))
-      c.from.ensures (rw c.from.ensures c.if-digit-gt9.false) refl refl c.loop-count.invariant.read;
+      c.from-digit.ensures c.if-digit-gt9.false refl (omega (arith, c.from.ensures)) c.loop-count.invariant.read;
 }
