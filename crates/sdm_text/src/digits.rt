@@ -27,27 +27,35 @@ impl RowBuf {
             self.byte(b'-');
         }
         let n = n.unsigned_abs();
-        if n >= NINE_DIGITS {
-            self.wide(u128::from(n));
-            return;
-        }
-        // Up to four digits come first; four more are put behind them where there are so many.
-        let first = if n < 10_000 { n } else { n / 10_000 };
-        if first < 10 {
-            self.byte(b'0' + first as u8);
-        } else if first < 100 {
-            self.two(first);
-        } else if first < 1_000 {
-            self.byte(b'0' + (first / 100) as u8);
-            self.two(first % 100);
-        } else {
-            self.two(first / 100);
-            self.two(first % 100);
-        }
-        if n >= 10_000 {
+        if n < 10_000 {
+            self.up_to_four(n);
+        } else if n < NINE_DIGITS {
+            self.up_to_four(n / 10_000);
             let last = n % 10_000;
             self.two(last / 100);
             self.two(last % 100);
+        } else {
+            self.wide(u128::from(n));
+        }
+    }
+
+    /// Puts a number of at most four digits.
+    #[inline(always)]
+    fn up_to_four(&mut self, n: u64)
+        requires few { n < 10_000 }
+        requires room { length self.old + length (decimal n) ≤ ROW_BYTES }
+        ensures { self.new ≡ self.old ++ decimal n }
+    {
+        if n < 10 {
+            self.byte(b'0' + n as u8);
+        } else if n < 100 {
+            self.two(n);
+        } else if n < 1_000 {
+            self.byte(b'0' + (n / 100) as u8);
+            self.two(n % 100);
+        } else {
+            self.two(n / 100);
+            self.two(n % 100);
         }
     }
 
