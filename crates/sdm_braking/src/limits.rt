@@ -1,10 +1,12 @@
 //! The supervision limits of a target of a journey, by an estimate. A target is an EOA, which the service brake
 //! supervises on an SBD, or one of the others, which the emergency brake supervises on an EBD. (SUBSET-026-3 3.13.9.3)
 
-ghost use Rattle.std.specs.Prelude.{◌≡◌, ◌≤◌, Option, Some};
+ghost use Rattle.std.specs.Prelude.{◌≡◌, ◌≤◌, not, true};
+ghost use Rattle.std.specs.Option.{option_map_or};
 ghost use Rattle.sdm_rules.specs.Limits.{computed, limits_of};
 ghost use Rattle.sdm_rules.specs.Targets.{target_speed};
-ghost use Rattle.sdm_limits.specs.Sides.{AreNear, place_where, places_of};
+ghost use Rattle.sdm_rules.specs.Triggers.{is_past};
+ghost use Rattle.sdm_limits.specs.Sides.{AreNear, places_of};
 ghost use Rattle.sdm_braking.specs.Asked.{IsAsked};
 ghost use Rattle.sdm_braking.specs.KeptCurves.{IsKeptTarget};
 
@@ -12,7 +14,7 @@ use crate::asked::AskedEstimate;
 use crate::braking::Braking;
 use crate::kept_targets::KeptTarget;
 use sdm_limits::{Limits, limits_at};
-use sdm_num::Early;
+use sdm_num::Place;
 use sdm_targets::TargetKind;
 
 impl Braking {
@@ -46,22 +48,24 @@ impl Braking {
         }
     }
 
-    /// The EBI of a target by V_bec and D_bec for it, which may be faster than the train: on it no guidance curve
-    /// bears, and an EOA has none. (SUBSET-026-3 3.13.9.3.2)
+    /// Whether a front end is at or before the EBI of a target by V_bec and D_bec for it, which may be faster than the
+    /// train: on its EBI no guidance curve bears. An EOA has none, and no front end is past it. (SUBSET-026-3
+    /// 3.13.9.3.2)
     #[tactic(auto, unfolding(sdm_rules::specs::Limits::limits_of))]
-    pub fn ebi(&self, asked: &AskedEstimate, kept: &KeptTarget) -> Option<Early>
+    pub fn is_before_ebi(&self, asked: &AskedEstimate, kept: &KeptTarget, front: Place) -> bool
         requires asked { IsAsked self.now asked.now }
         requires kept { IsKeptTarget self.now kept.now }
-        ensures { place_where result ≡ (limits_of computed self.now asked.now.estimate kept.now.target).ebi }
+        ensures { result ≡ option_map_or (λ ebi. not (is_past 0 front ebi))
+            (limits_of computed self.now asked.now.estimate kept.now.target).ebi true }
     {
         match kept.target.kind {
             TargetKind::Mrsp | TargetKind::Loa | TargetKind::Svl => {
                 let reaction = asked.build_up.reaction(kept.speeds.permitted);
                 let safe = self.safe();
                 let place = kept.brake.place_asked(safe, &safe.asked(reaction.v_bec));
-                Some(place.less(reaction.d_bec))
+                !place.less(reaction.d_bec).is_passed_by(front)
             }
-            TargetKind::Eoa => None,
+            TargetKind::Eoa => true,
         }
     }
 }

@@ -1,19 +1,17 @@
 -- One more target behind the others. A target above the train's speed only says whether it is covered, since no margin
 -- makes its speed lower; and one whose indication limit is not passed says nothing, since that is the first of its
 -- limits.
-use Rattle.std.proofs.Common.{◌≡◌, ℕ, ℤ, pos, ◌+ℤ◌, ◌*ℤ◌, ◌≤ℤ◌, ◌<ℤ◌, Bool, true, false, not, ◌||◌, ◌&&◌, nat_lt, List}
+use Rattle.std.proofs.Common.{◌≡◌, ℕ, ℤ, ◌<ℤ◌, Bool, true, false, not, ◌||◌, ◌&&◌, nat_lt, List}
 use Rattle.std.proofs.Common.{[], ◌∷◌, ◌++◌, ◌+◌, ◌≤◌, ◌<◌, Option, Some, None, refl, ap, subst, sym, ◌∙◌, arith}
 use Rattle.std.proofs.Common.{is_lt, nat_cmp}
 use Rattle.std.specs.Prelude.{IsTrue, ◌↔◌}
 use Rattle.std.specs.List.{list_all, list_any}
 use Rattle.std.specs.Option.{option_map_or}
-use Rattle.std.proofs.lemmas.Bool.{false≢true, le-ltb}
+use Rattle.std.proofs.lemmas.Bool.{le-ltb}
 use Rattle.std.proofs.lemmas.List.Folds.{list_all-append, list_any-append}
 use Rattle.std.proofs.Math.Bool.{and-false, and-true, or-false, or-true}
-use Rattle.std.proofs.lemmas.Int.{by_lt_z, ints}
 use Rattle.sdm_num.specs.Bounds.{Bound}
-use Rattle.sdm_num.specs.Fractions.{Fraction, whole}
-use Rattle.sdm_num.proofs.Comparisons.{lt_is, not_lt_is}
+use Rattle.sdm_num.specs.Fractions.{Fraction}
 use Rattle.sdm_num.specs.Units.{notches}
 use Rattle.sdm_num.specs.Readings.{Estimate}
 use Rattle.sdm_rules.specs.declared.targets.Target.{Target}
@@ -29,6 +27,7 @@ use Rattle.sdm_rules.specs.Triggers.{front_for, is_past, no_margin, passes, pass
 use Rattle.sdm_limits.specs.declared.limits.Limits.{Limits}
 use Rattle.sdm_limits.specs.Sides.{place_where, places_of}
 use Rattle.sdm_braking.specs.declared.speeds.SpeedLimits.{SpeedLimits}
+use Rattle.sdm_limits.proofs.Passed.{past_of}
 use Rattle.sdm_braking.specs.KeptCurves.{AreSpeedsOf}
 use Rattle.sdm_supervisor.specs.declared.nearest.Nearest.{Nearest}
 use Rattle.sdm_supervisor.specs.declared.verdicts.Verdict.{Verdict}
@@ -89,18 +88,6 @@ module _ (v : ℕ) (est max : ℤ) (t : Target) where
   ebi_not_reached None ahead = refl
   ebi_not_reached (Some ebi) ahead = not_reached ebi_margin ebi ahead
 
--- whether a front end is past a limit, by a test of both
-pub past_of : {b : Bool} {at front x : ℤ} {limit : Fraction} → (IsTrue b ↔ (at <ℤ front)) → front ≡ x →
-    whole at ≡ limit → b ≡ is_past 0 x limit
-past_of {b} {at} {front} is of behind = test b is ∙ (λ k. is_past 0 (of k) (behind k))
-  where
-    test : (b : Bool) → (IsTrue b ↔ (at <ℤ front)) → b ≡ is_past 0 front (whole at)
-    test true is = sym (lt_is at (pos 1 *ℤ (front +ℤ pos 0)) (omega (arith, ints, is.0 refl)))
-    test false is =
-        by_lt_z at front
-        (λ (l : at <ℤ front). absurd (false≢true (is.1 l)))
-        (λ (le : front ≤ℤ at). sym (not_lt_is at (pos 1 *ℤ (front +ℤ pos 0)) (omega (arith, ints))))
-
 module _ (d : TrainAndTrack) (max : ℤ) (e : Estimate) (t : Target) where
   -- whether a target with this EBI is covered
   abbrev by_ebi : Option Fraction → Bool
@@ -125,6 +112,12 @@ pub covered_where_met : (max : ℤ) (met : Bool) (ebi : Option Fraction) → met
     option_map_or (λ e. not (is_past 0 max e) || met) ebi true ≡ true
 covered_where_met max met None is = refl
 covered_where_met max met (Some e) is = rw is (or-true (not (is_past 0 max e)))
+
+-- another one is covered where the front end is at or before its EBI, if it has one
+pub covered_unmet : (max : ℤ) (met : Bool) (ebi : Option Fraction) → false ≡ met →
+    option_map_or (λ e. not (is_past 0 max e)) ebi true ≡ option_map_or (λ e. not (is_past 0 max e) || met) ebi true
+covered_unmet max met None is = refl
+covered_unmet max met (Some e) is = sym (or-false (not (is_past 0 max e))) ∙ (λ k. not (is_past 0 max e) || is k)
 
 -- a target whose EBI is not passed is covered; the EOA has none
 covered_yet : (d : TrainAndTrack) (e : Estimate) (est max : ℤ) (t : Target) (kind : TargetKind) (met : Bool) →

@@ -4,8 +4,6 @@ use Rattle.std.proofs.Common.{◌≡◌, ℕ, ℤ, Bool, Option, Some, None, tru
 use Rattle.std.proofs.Common.{◌<ℤ◌, if◌then◌else◌}
 use Rattle.std.specs.Prelude.{IsTrue, ◌↔◌}
 use Rattle.std.specs.Option.{option_map_or}
-use Rattle.sdm_num.specs.Bounds.{Bound}
-use Rattle.sdm_num.specs.Fractions.{Fraction}
 use Rattle.sdm_num.specs.Readings.{Estimate, OdometerReading, estimate_of}
 use Rattle.sdm_rules.specs.declared.authorities.Authority.{Authority}
 use Rattle.sdm_rules.specs.declared.authorities.Authority.TheVariants.{Stop, Limit}
@@ -16,33 +14,23 @@ use Rattle.sdm_rules.specs.Supervision.{Supervision, release_of}
 use Rattle.sdm_rules.specs.Targets.{svl_target}
 use Rattle.sdm_rules.specs.Triggers.{is_past}
 use Rattle.sdm_rules.specs.Within.{is_before_svl, is_within, is_within_svl}
-use Rattle.sdm_limits.specs.Sides.{place_of, place_where}
 use Rattle.sdm_braking.specs.declared.kept_ends.KeptEnd.TheVariants.{Stop as KeptStop, Limit as KeptLimit}
 use Rattle.sdm_braking.specs.declared.kept_targets.KeptTarget.{KeptTarget}
 use Rattle.sdm_braking.specs.declared.releases.Release.{Release}
 use Rattle.sdm_braking.specs.KeptCurves.{IsKeptAt, IsKeptEnd}
 use Rattle.sdm_braking.specs.Releases.{IsReleaseOf}
 use Rattle.sdm_braking.proofs.ReleaseLaws.{release_speed_at, release_speed_at_is}
-use Rattle.sdm_supervisor.proofs.PassedLaws.{past_of}
+use Rattle.sdm_limits.proofs.Passed.{past_of}
 
--- the EBI of a kept target for the estimate of a reading is that of the SvL, where this is the target
-pub ebi_of : (d : TrainAndTrack) (r : OdometerReading) (e : Estimate) (t : Target) (cm : ℕ) (ebi : Option Bound) →
-    place_where ebi ≡ (limits_of computed d e t).ebi → e ≡ estimate_of r → t ≡ svl_target cm →
-    place_where ebi ≡ (limits_of computed d (estimate_of r) (svl_target cm)).ebi
-ebi_of d r e t cm ebi is of_reading at = is ∙ (λ k. (limits_of computed d (of_reading k) (at k)).ebi)
-
--- a front end is at or before an EBI that was found
-pub before_found : (ebi : Option Bound) (limit : Option Fraction) (front : ℤ) (found : Bound) (passed : Bool) →
-    ebi ≡ Some found → place_where ebi ≡ limit → passed ≡ is_past 0 front (place_of found) →
-    not passed ≡ option_map_or (λ e. not (is_past 0 front e)) limit false
-before_found ebi limit front found passed some is past =
-    ap not past ∙ ap (λ e. option_map_or (λ l. not (is_past 0 front l)) e false) (sym (ap place_where some) ∙ is)
-
--- and where there is none, it is not
-pub before_none : (ebi : Option Bound) (limit : Option Fraction) (front : ℤ) → ebi ≡ None → place_where ebi ≡ limit →
-    false ≡ option_map_or (λ e. not (is_past 0 front e)) limit false
-before_none ebi limit front none is =
-    ap (λ e. option_map_or (λ l. not (is_past 0 front l)) e false) (sym (ap place_where none) ∙ is)
+-- what is found of a kept SvL by the estimate of a reading; an SvL has an EBI, so nothing hangs on one without
+pub before_svl : (d : TrainAndTrack) (r : OdometerReading) (e : Estimate) (t : Target) (cm : ℕ) (front : ℤ)
+    (before : Bool) →
+    before ≡ option_map_or (λ ebi. not (is_past 0 front ebi)) (limits_of computed d e t).ebi true → front ≡ r.max →
+    e ≡ estimate_of r → t ≡ svl_target cm → before ≡ is_before_svl d r cm
+unfolding limits_of
+before_svl d r e t cm front before is at_max of_reading at =
+    is ∙ (λ k. option_map_or (λ ebi. not (is_past 0 (at_max k) ebi))
+    (limits_of computed d (of_reading k) (at k)).ebi true)
 
 -- the release speed that is kept counts where a front end is past the start of its monitoring
 pub released_at : (kept : Option Release) (release : Release) (front : ℤ) (passed : Bool) → kept ≡ Some release →

@@ -74,10 +74,7 @@ impl Verdict {
         // speed; another is covered where the max safe front end is at or before its EBI.
         if v_est < speeds.permitted {
             if self.covered && !asked.is_met_by_speed(kept) {
-                self.covered = match braking.ebi(asked, kept) {
-                    Some(ebi) => !ebi.is_passed_by(max),
-                    None => true,
-                };
+                self.covered = braking.is_before_ebi(asked, kept, max);
             }
             return;
         }

@@ -27,10 +27,7 @@ fn is_before_svl(braking: &Braking, reading: &Reading, svl: &KeptTarget) -> bool
         result ≡ is_before_svl braking.now reading.now cm }
 {
     let asked = braking.asked(reading.estimate());
-    match braking.ebi(&asked, svl) {
-        Some(ebi) => !ebi.is_passed_by(reading.max_mm()),
-        None => false,
-    }
+    braking.is_before_ebi(&asked, svl, reading.max_mm())
 }
 
 impl Supervisor {

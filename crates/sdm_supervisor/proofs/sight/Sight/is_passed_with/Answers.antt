@@ -6,7 +6,7 @@ use Rattle.sdm_rules.specs.Targets.{with_margin}
 use Rattle.sdm_rules.specs.Triggers.{front_for}
 use Rattle.sdm_limits.specs.Sides.{place_of, place_where}
 use Rattle.sdm_supervisor.specs.Sights.{limit_named, margin_of, passes_target}
-use Rattle.sdm_supervisor.proofs.PassedLaws.{past_of}
+use Rattle.sdm_limits.proofs.Passed.{past_of}
 use Rattle.sdm_supervisor.proofs.ShownLaws.{above, passed_now, speed_is}
 use Rattle.sdm_supervisor.proofs.sight.Sight.is_passed_with.Goals as goal
 

@@ -1,34 +1,36 @@
 -- Above the train's speed a target only says whether it is covered, and up to its indication limit only where its
 -- limits lie. Past that each limit is passed as the profile says, by the speed and the place that are kept or found
 -- for it.
-use Rattle.std.proofs.Common.{◌≡◌, Bool, not, ◌&&◌, ◌||◌, ◌∙◌, ap, refl, sym, arith}
+use Rattle.std.proofs.Common.{◌≡◌, Bool, not, true, ◌&&◌, ◌||◌, ◌∙◌, ap, refl, sym, arith}
+use Rattle.std.specs.Option.{option_map_or}
 use Rattle.std.proofs.lemmas.Bool.Decides.{nat_tests}
 use Rattle.std.proofs.Math.Bool.{and-true, or-false}
 use Rattle.sdm_rules.specs.Limits.{computed, limits_of, v_bec_for}
 use Rattle.sdm_rules.specs.Supervision.{is_covered_for, is_met_by_speed}
 use Rattle.sdm_rules.specs.Targets.{foot_speed_of}
-use Rattle.sdm_rules.specs.Triggers.{passes_ebi}
+use Rattle.sdm_rules.specs.Triggers.{is_past, passes_ebi}
 use Rattle.sdm_limits.specs.Sides.{place_where}
-use Rattle.sdm_supervisor.proofs.PassedLaws.{covered_at, covered_where_met, covered_without, nothing_said, past_of}
+use Rattle.sdm_limits.proofs.Passed.{past_of}
+use Rattle.sdm_supervisor.proofs.PassedLaws.{covered_at, covered_unmet, covered_where_met, covered_without, nothing_said}
 use Rattle.sdm_supervisor.proofs.PassedLaws.{reached_said, slower_said}
 use Rattle.sdm_supervisor.proofs.VerdictLaws.{above}
 use Rattle.sdm_supervisor.proofs.verdicts.Verdict.add.Goals as goal
-use Rattle.sdm_supervisor.proofs.verdicts.Verdict.add.Goals.{in-Some, in-None, then-not-is_passed_by-2}
+use Rattle.sdm_supervisor.proofs.verdicts.Verdict.add.Goals.{then-not-is_passed_by-2}
 use Rattle.sdm_supervisor.proofs.verdicts.Verdict.add.Goals.{else-self-via-then-self+else-not-is_met_by_speed}
 use Rattle.sdm_supervisor.proofs.verdicts.Verdict.add.Goals.{else-not-is_passed_by-2, else-self-via-else-self}
 
-pub returns-after-ebi : goal.returns-after-ebi
-returns-after-ebi c ts is =
+pub returns-then-not-is_met_by_speed : goal.returns-then-not-is_met_by_speed
+returns-then-not-is_met_by_speed c ts is =
     let d = c.args.braking.now in
-    let covers = is_covered_for d c.args.reading.now.max c.args.asked.now.estimate c.args.kept.now.target in
+    let e = c.args.asked.now.estimate in
+    let max = c.args.reading.now.max in
+    let t = c.args.kept.now.target in
     let met = sym c.if-not-is_met_by_speed.true ∙ c.is_met_by_speed.ensures d c.requires.asked in
-    let covered : c.match-ebi.self ≡ covers = elim c.match-ebi.branch [
-      | in-Some w ↦
-          w.self-is ∙ sym (or-false (not w.is_passed_by.result))
-          ∙ covered_at _ _ _ _ c.ebi.ensures w.in-Some.is w.is_passed_by.ensures c.max_mm-max.ensures met
-      | in-None w ↦ w.self-is ∙ covered_without _ c.args.reading.now.max _ _ c.ebi.ensures w.in-None.is
-    ] in
-    slower_said is c.requires.kept.speeds (grind (arith, nat_tests)) (covered ∙ (λ k. sym c.if-self.true k && covers))
+    let before = c.is_before_ebi-self.ensures
+    ∙ (λ k. option_map_or (λ ebi. not (is_past 0 (c.max_mm-max.ensures k) ebi)) (limits_of computed d e t).ebi true) in
+    let covered = before ∙ covered_unmet max _ (limits_of computed d e t).ebi met in
+    slower_said is c.requires.kept.speeds (grind (arith, nat_tests))
+    (covered ∙ (λ k. sym c.if-self.true k && is_covered_for d max e t))
 
 pub returns-else-self : goal.returns-else-self
 returns-else-self c ts is =
@@ -49,7 +51,7 @@ returns-else-self c ts is =
 pub returns-then-not-is_passed_by : goal.returns-then-not-is_passed_by
 returns-then-not-is_passed_by c ts is =
     nothing_said is c.requires.kept.speeds (grind (arith, nat_tests)) c.limits-limits.ensures.places c.with.ensures
-    c.front_for-front.ensures c.is_passed_by-2.ensures c.if-not-is_passed_by.true
+    c.front_for-front.ensures c.is_passed_by.ensures c.if-not-is_passed_by.true
 
 pub returns-after-not-is_passed_by-2 : goal.returns-after-not-is_passed_by-2
 returns-after-not-is_passed_by-2 c ts is =
@@ -62,11 +64,11 @@ returns-after-not-is_passed_by-2 c ts is =
     let v = c.speed-v_est.ensures.value in
     let front = c.front_for-front.ensures in
     let places = c.limits-limits.ensures.places in
-    let emer = (λ k. above c.lt-in-Some-ebi.ensures s.ebi v k
-    && past_of c.is_passed_by-in-Some-ebi.ensures front refl k)
-    ∙ ap (passes_ebi e.speed r.est r.max 0 t) (sym (ap place_where c.in-Some-ebi.is) ∙ (λ k. (places k).ebi)) in
+    let emer = (λ k. above c.lt-in-Some.ensures s.ebi v k
+    && past_of c.is_passed_by-in-Some.ensures front refl k)
+    ∙ ap (passes_ebi e.speed r.est r.max 0 t) (sym (ap place_where c.in-Some.is) ∙ (λ k. (places k).ebi)) in
     let met = λ (m : Bool) (is : m ≡ is_met_by_speed t.kind (v_bec_for d e t) (foot_speed_of t)).
-    covered_at d r.max e t (λ k. (places k).ebi) c.in-Some-ebi.is c.is_passed_by-in-Some-ebi-2.ensures
+    covered_at d r.max e t (λ k. (places k).ebi) c.in-Some.is c.is_passed_by-in-Some-2.ensures
     c.max_mm-max.ensures is in
     let covered : c.if-not-is_passed_by-2.self ≡ is_covered_for d r.max e t = elim c.if-not-is_passed_by-2.branch [
       | then-not-is_passed_by-2 w ↦ w.self-is ∙ rw w.if-not-is_passed_by-2.true refl ∙ met _ refl
@@ -74,9 +76,9 @@ returns-after-not-is_passed_by-2 c ts is =
           w.self-is ∙ rw w.if-not-is_passed_by-2.false refl
           ∙ met _ (w.is_met_by_speed-else-not-is_passed_by-2.ensures d c.requires.asked)
     ] in
-    reached_said is s (grind (arith, nat_tests)) places c.with.ensures front c.is_passed_by-2.ensures
-    c.if-not-is_passed_by.false v c.lt-2.ensures c.is_passed_by-3.ensures c.lt-3.ensures c.is_passed_by-4.ensures
-    c.lt-4.ensures c.is_passed_by-5.ensures c.lt-5.ensures (λ k. p.triggers.emer || emer k)
+    reached_said is s (grind (arith, nat_tests)) places c.with.ensures front c.is_passed_by.ensures
+    c.if-not-is_passed_by.false v c.lt-2.ensures c.is_passed_by-2.ensures c.lt-3.ensures c.is_passed_by-3.ensures
+    c.lt-4.ensures c.is_passed_by-4.ensures c.lt-5.ensures (λ k. p.triggers.emer || emer k)
     (λ k. p.covered && covered k)
 
 pub returns-in_default : goal.returns-in_default
@@ -86,8 +88,8 @@ returns-in_default c ts is =
     let places = c.limits-limits.ensures.places in
     let none = sym (ap place_where c.in_default.is) ∙ (λ k. (places k).ebi) in
     reached_said is c.requires.kept.speeds (grind (arith, nat_tests)) places c.with.ensures c.front_for-front.ensures
-    c.is_passed_by-2.ensures c.if-not-is_passed_by.false c.speed-v_est.ensures.value c.lt-2.ensures
-    c.is_passed_by-3.ensures c.lt-3.ensures c.is_passed_by-4.ensures c.lt-4.ensures c.is_passed_by-5.ensures
+    c.is_passed_by.ensures c.if-not-is_passed_by.false c.speed-v_est.ensures.value c.lt-2.ensures
+    c.is_passed_by-2.ensures c.lt-3.ensures c.is_passed_by-3.ensures c.lt-4.ensures c.is_passed_by-4.ensures
     c.lt-5.ensures (sym (or-false p.triggers.emer) ∙ (λ k. p.triggers.emer
     || passes_ebi c.args.asked.now.estimate.speed r.est r.max 0 c.args.kept.now.target (none k)))
     (sym (and-true _) ∙ (λ k. p.covered && covered_without _ r.max _ _ (λ k. (places k).ebi) c.in_default.is k))
