@@ -281,9 +281,10 @@ impl Profile {
     {
         // the speed of the first cell, and of each step past its start that begins at or before the last
         let steps = &self.steps.list;
+        let before = self.steps.before;
         let begun = steps.partition_point(|step| step.start <= from);
         let mut lowest = match begun {
-            0 => self.steps.before,
+            0 => before,
             _ => steps[begun - 1].speed,
         };
         for step in &steps[begun..] {
