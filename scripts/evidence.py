@@ -68,9 +68,7 @@ def is_result(definition, clause):
 
 
 class Tests:
-    """The tests of all crates, by the functions that they call themselves; and those that scripts/shown-by.txt names.
-
-    A crate's tests stand in it, or in the crate of tests over it."""
+    """The tests of all crates, by the functions that they call themselves; and those that scripts/shown-by.txt names."""
 
     def __init__(self, graph):
         self.functions, self.tests = defaultdict(list), defaultdict(set)
@@ -79,8 +77,8 @@ class Tests:
                 self.functions[contract.crate()].append(contract)
         for crate in specs.crates():
             alone = Counter(contract.name for contract in self.functions[crate])
-            for tester in (crate, f"{crate}_tests"):
-                for name, text in tests_of(tester):
+            for tester, paths in files_of_tests(crate):
+                for name, text in tests_of(paths):
                     for contract in self.functions[crate]:
                         if is_called(contract, text, alone[contract.name] == 1):
                             self.tests[contract].add(f"{tester}::{name}")
@@ -120,10 +118,20 @@ def body(text, at):
     return body(text, closing(text, begins)) if clause[:1] in (["requires"], ["ensures"]) else begins
 
 
-def tests_of(crate):
-    """(name, text with that of its helpers) of each test of a crate."""
-    source, bodies, tests = CRATES / crate / "src", {}, []
-    for path in [source / "tests.rt", *sorted((source / "tests").glob("*.rt"))]:
+def files_of_tests(crate):
+    """Where the tests of a crate stand, by the crates that hold them: it itself, the crate of tests over it, and, in a crate of tests
+    over several, the file of its name."""
+    for tester in (crate, f"{crate}_tests"):
+        source = CRATES / tester / "src"
+        yield tester, [source / "tests.rt", *sorted((source / "tests").glob("*.rt"))]
+    for path in sorted(CRATES.glob(f"*_tests/src/tests/{crate.removeprefix('sdm_')}.rt")):
+        yield path.parents[2].name, [path]
+
+
+def tests_of(paths):
+    """(name, text with that of its helpers) of each test of these files."""
+    bodies, tests = {}, []
+    for path in paths:
         if path.exists():
             text = blanked(path.read_text(), "//")
             for match in TEST.finditer(text):

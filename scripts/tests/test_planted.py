@@ -35,7 +35,7 @@ PLANTED = [
         Fault(COMMANDS, r"^-- the last status was .*\n", "", "is_alarm has no comment"),
         Fault(COMMANDS, r"^(-- the traction cut-off: .*) \(SUBSET[^)]*\)$", r"\1", "cut_off_after has no source"),
         Fault("scripts/own-reasons.txt", r"^\S+/Commands\.antt: .*\n", "", "no reason for what is own in"),
-        Fault("scripts/shown-by.txt", " train_fault: sdm_train::", " train_fault: sdm_track::", "is no test of a function"),
+        Fault("scripts/shown-by.txt", " train_fault: sdm_base_tests::", " train_fault: sdm_limit_tests::", "is no test of a function"),
     ]),
     ("laboratory", [
         Fault("vectors/flat/curve/rows", r"\d$", "x", "changed: flat/curve/rows"),

@@ -66,6 +66,3 @@ pub fn dv_warning(kmh: u16) -> Speed
 {
     Margins::of_kmh(kmh).warning
 }
-
-#[cfg(test)]
-mod tests;

@@ -10,6 +10,3 @@ mod under;
 
 pub use maps::{expected, normal, safe, slope_map};
 pub use sdm_curve::{BandMap, CurveFault};
-
-#[cfg(test)]
-mod tests;

@@ -21,6 +21,3 @@ pub use sinks::Sink;
 pub use sources::Source;
 pub use standard::{BlockSink, StdSink, StdSource};
 pub use writing::write_piece;
-
-#[cfg(test)]
-mod tests;

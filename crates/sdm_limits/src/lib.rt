@@ -11,6 +11,3 @@ pub use limits::{Limits, ebd_limits, limits_at, sbd_limits};
 pub use reaction::{BuildUp, Reaction, reaction_of};
 pub use sdm_rules::{LimitName, Times};
 pub use times::{OfTrain, T_WARNING};
-
-#[cfg(test)]
-mod tests;

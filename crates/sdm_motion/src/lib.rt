@@ -10,6 +10,3 @@ mod steps;
 
 pub use motion::is_motion;
 pub use sdm_rules::{Phase, Point, Slice, Start};
-
-#[cfg(test)]
-mod tests;

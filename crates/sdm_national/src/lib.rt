@@ -6,6 +6,3 @@ mod values;
 
 pub use sdm_rules::{NationalFault, NationalFields};
 pub use values::National;
-
-#[cfg(test)]
-mod tests;

@@ -13,6 +13,3 @@ pub use memory::NoMemory;
 pub use places::{CELL, MILLIMETRE, Place};
 pub use readings::{Estimate, Reading};
 pub use speeds::{Speed, TOP_KMH};
-
-#[cfg(test)]
-mod tests;

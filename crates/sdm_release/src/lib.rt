@@ -6,6 +6,3 @@ mod start;
 
 pub use speed::release_speed;
 pub use start::release_start;
-
-#[cfg(test)]
-mod tests;

@@ -15,6 +15,3 @@ pub use outcome::{InputFault, Outcome};
 pub use outcome_lines::outcome_bytes;
 pub use row_lines::row_bytes;
 pub use sdm_rules::{DriveCause, EventCause};
-
-#[cfg(test)]
-mod tests;

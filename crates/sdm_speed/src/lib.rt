@@ -12,6 +12,3 @@ mod zones;
 pub use changes::Changed;
 pub use profiles::{MOST_RESTRICTIONS, Profile};
 pub use sdm_rules::{Fall, RestrictFault, Restriction, RevokeFault};
-
-#[cfg(test)]
-mod tests;

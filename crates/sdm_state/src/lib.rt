@@ -46,6 +46,3 @@ pub fn next(
         status,
     }
 }
-
-#[cfg(test)]
-mod tests;

@@ -10,6 +10,3 @@ pub use authorities::{check_authority, check_trip};
 pub use foot_speeds::foot_speed;
 pub use lists::{TargetList, end_of, targets_of};
 pub use sdm_rules::{Authority, AuthorityFault, Shown, Target, TargetKind, TripFault};
-
-#[cfg(test)]
-mod tests;

@@ -16,6 +16,3 @@ pub use numbers::{natural_in, read_int, split_number};
 pub use rows::{ROW_BYTES, RowBuf};
 pub use sdm_rules::{FieldFault, Section};
 pub use wide::read_wide;
-
-#[cfg(test)]
-mod tests;

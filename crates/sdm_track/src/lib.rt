@@ -10,6 +10,3 @@ mod under_train;
 pub use sdm_rules::{Area, Gradient, Section, SpeedStep, TrackFault};
 pub use tracks::Track;
 pub use under_train::Segments;
-
-#[cfg(test)]
-mod tests;

@@ -7,6 +7,3 @@ mod trains;
 
 pub use sdm_rules::{Band, TrainFault, TrainFields};
 pub use trains::Train;
-
-#[cfg(test)]
-mod tests;

@@ -2,8 +2,8 @@
 //! m/s is 54,000 notches; the distance between two speeds is the difference of their squares by twice the
 //! deceleration.
 
-use crate::{Phase, Point, Slice, Start, is_motion};
 use sdm_curve::{BandMap, is_map_data};
+use sdm_motion::{Phase, Point, Slice, Start, is_motion};
 use sdm_num::{Place, Speed};
 use std::alloc::Global;
 use std::test::Fail;
@@ -221,17 +221,17 @@ level | 16 | 0 19764235 1 0 1 0 | t 16 316227767 0 | 0 100000000621806289, 0 0";
 #[test]
 fn motions_are_told_from_what_no_train_does(rt: HostRuntime) -> Result<(), Fail> {
     let wrong = wrong_lines(rt.alloc(), MOTIONS, true)?;
-    assert_eq!(rt; wrong.len(), 0);
+    assert!(rt; wrong.len() == 0);
     let wrong = wrong_lines(rt.alloc(), NO_MOTIONS, false)?;
-    assert_eq!(rt; wrong.len(), 0);
+    assert!(rt; wrong.len() == 0);
     Ok(())
 }
 
 #[test]
 fn a_train_at_its_ebi_may_stop_exactly_at_the_svl(rt: HostRuntime) -> Result<(), Fail> {
     let wrong = wrong_lines(rt.alloc(), FROM_THE_EBI, true)?;
-    assert_eq!(rt; wrong.len(), 0);
+    assert!(rt; wrong.len() == 0);
     let wrong = wrong_lines(rt.alloc(), PAST_THE_SVL, false)?;
-    assert_eq!(rt; wrong.len(), 0);
+    assert!(rt; wrong.len() == 0);
     Ok(())
 }

@@ -1,7 +1,7 @@
 //! The clauses say of all values which are accepted and what is kept. Here the ranges stand as rows worked by hand, so
 //! that the definitions are tested too.
 
-use crate::{National, NationalFault, NationalFields};
+use sdm_national::{National, NationalFault, NationalFields};
 use sdm_rules::BASE_NATIONAL;
 
 fn key_refused(avadh: i64, adhesion_max: i64) -> Option<u8> {
@@ -31,22 +31,22 @@ fn each_reader_answers_its_own_field(rt: HostRuntime) {
             assert!(rt; false);
             return;
         };
-        assert_eq!(rt; national.avadh(), 20);
-        assert_eq!(rt; national.adhesion_max(), 70);
-        assert_eq!(rt; national.guidance(), guidance);
+        assert!(rt; national.avadh() == 20);
+        assert!(rt; national.adhesion_max() == 70);
+        assert!(rt; national.guidance() == guidance);
         assert!(rt; national.service_in_target());
-        assert_eq!(rt; national.early_release(), early_release);
-        assert_eq!(rt; national.inhibit_under_reading(), inhibit_under_reading);
+        assert!(rt; national.early_release() == early_release);
+        assert!(rt; national.inhibit_under_reading() == inhibit_under_reading);
     }
 }
 
 #[test]
 fn a_number_is_accepted_exactly_within_its_range(rt: HostRuntime) {
-    assert_eq!(rt; key_refused(0, 1), None);
-    assert_eq!(rt; key_refused(20, 400), None);
-    assert_eq!(rt; key_refused(-1, 1), Some(1));
-    assert_eq!(rt; key_refused(21, 1), Some(1));
-    assert_eq!(rt; key_refused(0, 0), Some(2));
-    assert_eq!(rt; key_refused(0, 401), Some(2));
-    assert_eq!(rt; key_refused(21, 0), Some(1));
+    assert!(rt; key_refused(0, 1).is_none());
+    assert!(rt; key_refused(20, 400).is_none());
+    assert!(rt; key_refused(-1, 1) == Some(1));
+    assert!(rt; key_refused(21, 1) == Some(1));
+    assert!(rt; key_refused(0, 0) == Some(2));
+    assert!(rt; key_refused(0, 401) == Some(2));
+    assert!(rt; key_refused(21, 0) == Some(1));
 }

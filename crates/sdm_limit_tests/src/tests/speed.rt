@@ -1,6 +1,6 @@
 //! Profiles worked by hand: each line asks the profile that the lines before it have made.
 
-use crate::{Profile, Restriction};
+use sdm_speed::{Profile, Restriction};
 use sdm_track::{SpeedStep, Track};
 use std::alloc::Global;
 use std::process::Abort;
@@ -298,7 +298,7 @@ fn ask(rt: &impl Abort, alloc: Global, table: &str) -> Result<(), Fail> {
             None => {
                 let (asked, expected) = line.split_once(" = ").ok_or("no answer")?;
                 let found = answer(alloc, &mut profile, asked)?;
-                assert_eq!(rt; found.as_str(), expected, "{line}");
+                assert!(rt; found.as_str() == expected, "{line}");
             }
         }
     }

@@ -1,10 +1,10 @@
 //! The clauses say of all trains which are accepted and what is kept. Here the ranges and the order of the rules stand
 //! as rows worked by hand, so that the definitions are tested too.
 
-use crate::{Band, Train, TrainFields};
+use crate::tests::words::number;
 use sdm_rules::{BASE_BAND, BASE_TRAIN, MOST_BANDS};
+use sdm_train::{Band, Train, TrainFields};
 use std::alloc::{AllocError, Global};
-use std::test::Fail;
 
 #[test]
 fn each_reader_answers_its_own_field(rt: HostRuntime) {
@@ -29,20 +29,15 @@ fn each_reader_answers_its_own_field(rt: HostRuntime) {
         assert!(rt; false);
         return;
     };
-    assert_eq!(rt; (one.length(), two.length()), (10_000, 20_000));
-    assert_eq!(rt; two.max_speed(), 160);
-    assert_eq!(rt; one.rotating_mass(), Some(0));
-    assert_eq!(rt; two.rotating_mass(), None);
-    assert_eq!(rt; two.traction_cutoff_time(), 20);
+    assert!(rt; one.length() == 10_000 && two.length() == 20_000);
+    assert!(rt; two.max_speed() == 160);
+    assert!(rt; one.rotating_mass() == Some(0) && two.rotating_mass().is_none());
+    assert!(rt; two.traction_cutoff_time() == 20);
     assert!(rt; !one.traction_cutoff_interface() && two.traction_cutoff_interface());
-    assert_eq!(rt; two.emergency_time(), 30);
-    assert_eq!(rt; two.service_time(), 40);
+    assert!(rt; two.emergency_time() == 30 && two.service_time() == 40);
     assert!(rt; one.service_brake() && !two.service_brake());
-    assert_eq!(rt; one.band_count(), 1);
-    assert_eq!(rt; *one.band(0), BASE_BAND);
-    assert_eq!(rt; two.band_count(), 2);
-    assert_eq!(rt; *two.band(0), low);
-    assert_eq!(rt; *two.band(1), BASE_BAND);
+    assert!(rt; one.band_count() == 1 && *one.band(0) == BASE_BAND);
+    assert!(rt; two.band_count() == 2 && *two.band(0) == low && *two.band(1) == BASE_BAND);
 }
 
 /// The bands of these upper speeds, `-` for none.
@@ -51,7 +46,7 @@ fn set_uppers(fields: &mut TrainFields, uppers: &str) -> Result<(), &'static str
     for (i, word) in uppers.split_whitespace().enumerate() {
         let upper = match word {
             "-" => None,
-            _ => Some(word.parse::<i64>().map_err(|_| "no number")?),
+            _ => Some(number(word)?),
         };
         if i < MOST_BANDS {
             fields.bands[i].upper = upper;
@@ -63,7 +58,9 @@ fn set_uppers(fields: &mut TrainFields, uppers: &str) -> Result<(), &'static str
 
 /// The fields of a row: the upper speeds, a semicolon, and each number that differs, after its key.
 fn fields_of(row: &str) -> Result<TrainFields, &'static str> {
-    let (uppers, numbers) = row.split_once(';').ok_or("no semicolon")?;
+    let Some((uppers, numbers)) = row.split_once(';') else {
+        return Err("no semicolon");
+    };
     let mut fields = BASE_TRAIN;
     set_uppers(&mut fields, uppers)?;
     set_numbers(&mut fields, numbers)?;
@@ -73,8 +70,10 @@ fn fields_of(row: &str) -> Result<TrainFields, &'static str> {
 fn set_numbers(fields: &mut TrainFields, numbers: &str) -> Result<(), &'static str> {
     let mut words = numbers.split_whitespace();
     while let Some(key) = words.next() {
-        let number = words.next().ok_or("no number")?;
-        if !fields.set(key, number.parse::<i64>().map_err(|_| "no number")?) {
+        let Some(word) = words.next() else {
+            return Err("no number");
+        };
+        if !fields.set(key, number(word)?) {
             return Err("no such key");
         }
     }
@@ -159,11 +158,16 @@ value of key 1 in band 3: 100 100 501 -;
 order of band 2: 100 100 90;";
 
 #[test]
-fn the_first_rule_that_is_broken_is_named(rt: HostRuntime) -> Result<(), Fail> {
+fn the_first_rule_that_is_broken_is_named(rt: HostRuntime) -> Result<(), &'static str> {
     for line in OUTCOMES.lines() {
-        let (want, row) = line.split_once(": ").ok_or("no outcome")?;
-        let found = outcome(rt.alloc(), fields_of(row)?)?;
-        assert_eq!(rt; found.as_str(), want, "{row}");
+        let Some((want, row)) = line.split_once(": ") else {
+            return Err("no outcome");
+        };
+        let fields = fields_of(row)?;
+        let Ok(found) = outcome(rt.alloc(), fields) else {
+            return Err("no memory");
+        };
+        assert!(rt; found.as_str() == want, "{found} for {row}");
     }
     Ok(())
 }

@@ -4,7 +4,7 @@
 ghost use Rattle.sdm_rules.specs.Slopes.{meaning_of};
 ghost use Rattle.sdm_curve.specs.Made.{IsMadeFrom};
 
-use crate::{BandMap, Curve, CurveFault, is_map_data};
+use sdm_curve::{BandMap, Curve, CurveFault, is_map_data};
 use sdm_num::{Place, Speed};
 use std::alloc::Global;
 use std::process::Abort;
@@ -31,7 +31,7 @@ fn a_slope_below_5_cm_s2_is_too_weak(rt: HostRuntime) {
         cell: 0,
         slope: 9_999_999_999,
     };
-    assert_eq!(rt; made.err(), Some(fault));
+    assert!(rt; made.err() == Some(fault));
     let made = map_of(&rt, rt.alloc(), 100, &[], &[0], &[10_000_000_000]);
     assert!(rt; made.is_ok());
 }
@@ -48,7 +48,7 @@ fn sixteen_times_the_least_slope_is_the_most(rt: HostRuntime) {
         least: 10_000_000_000,
         greatest: 160_000_000_001,
     };
-    assert_eq!(rt; made.err(), Some(fault));
+    assert!(rt; made.err() == Some(fault));
 }
 
 /// Upper speeds of 1 m/s, 2 m/s and so on: the first of them are those of a map of one band more.
@@ -85,7 +85,7 @@ fn assert_most(rt: &impl Abort, alloc: Global, bands: usize, greatest: i64) {
         least: 10_000_000_000,
         greatest: greatest + 1,
     };
-    assert_eq!(rt; made.err(), Some(fault));
+    assert!(rt; made.err() == Some(fault));
 }
 
 #[test]
@@ -120,7 +120,7 @@ fn a_weak_slope_is_told_before_a_varied_band(rt: HostRuntime) {
         cell: 10,
         slope: -7,
     };
-    assert_eq!(rt; made.err(), Some(fault));
+    assert!(rt; made.err() == Some(fault));
 }
 
 #[test]
@@ -135,13 +135,13 @@ fn a_map_keeps_what_was_handed_in(rt: HostRuntime) -> Result<(), CurveFault> {
         250_000_000_000,
     ];
     let map = map_of(&rt, rt.alloc(), 109, &uppers, &[0, 80_000], &slopes)?;
-    assert_eq!(rt; map.q(), 109);
-    assert_eq!(rt; map.bands(), 3);
-    assert_eq!(rt; map.segments(), 2);
-    assert_eq!(rt; map.upper(1), Speed::of_kmh(72));
-    assert_eq!(rt; map.start(1), 80_000);
-    assert_eq!(rt; map.slope(1, 0), 220_000_000_000);
-    assert_eq!(rt; map.slope(2, 1), 250_000_000_000);
+    assert!(rt; map.q() == 109);
+    assert!(rt; map.bands() == 3);
+    assert!(rt; map.segments() == 2);
+    assert!(rt; map.upper(1) == Speed::of_kmh(72));
+    assert!(rt; map.start(1) == 80_000);
+    assert!(rt; map.slope(1, 0) == 220_000_000_000);
+    assert!(rt; map.slope(2, 1) == 250_000_000_000);
     Ok(())
 }
 
@@ -154,7 +154,7 @@ struct Cells(i32, i32, i64);
 fn assert_greatest(rt: &impl Abort, map: &BandMap, cases: &[Cells]) {
     for case in cases {
         assert!(rt; case.0 <= case.1);
-        assert_eq!(rt; map.greatest(case.0, case.1), case.2);
+        assert!(rt; map.greatest(case.0, case.1) == case.2);
     }
 }
 
@@ -217,11 +217,11 @@ fn assert_places(rt: &impl Abort, map: &BandMap, cases: &[Case]) {
         let curve = curve_of(rt, map, case.0, case.1);
         assert!(rt; case.2 <= 20_000_000);
         let asked = map.asked(Speed::new(case.2));
-        assert_eq!(rt; asked.speed().notches(), case.2);
+        assert!(rt; asked.speed().notches() == case.2);
         let place = curve.place(map, Speed::new(case.2));
-        assert_eq!(rt; place.at().grains(), case.3);
+        assert!(rt; place.at().grains() == case.3);
         assert!(rt; place.slack() <= 286_331_153);
-        assert_eq!(rt; curve.place_asked(map, &asked), place);
+        assert!(rt; curve.place_asked(map, &asked) == place);
     }
 }
 
@@ -430,6 +430,6 @@ fn a_million_places_among_a_million_segments(rt: HostRuntime) -> Result<(), Curv
         assert!(rt; at < last);
         last = at;
     }
-    assert_eq!(rt; last, 4_000 * METRE);
+    assert!(rt; last == 4_000 * METRE);
     Ok(())
 }

@@ -3,8 +3,8 @@
 ghost use Rattle.std.specs.Prelude.{IfOk};
 ghost use Rattle.sdm_limits.specs.Ranges.{AreTimes, IsGuide};
 
-use crate::{OfTrain, Reaction, Times, ebd_limits, reaction_of, sbd_limits};
 use sdm_curve::{BandMap, Curve, CurveFault};
+use sdm_limits::{OfTrain, Reaction, Times, ebd_limits, reaction_of, sbd_limits};
 use sdm_num::{Early, Place, Speed};
 use std::alloc::Global;
 use std::process::Abort;
@@ -83,9 +83,8 @@ fn a_cut_off_with_an_interface_begins_at_the_warning(rt: HostRuntime) -> Result<
             bs: natural(line, 7)?,
             indication: natural(line, 8)?,
         };
-        assert_eq!(rt;
-            Times::of(cut_off, interface, emergency, service, in_use),
-            expected,
+        assert!(rt;
+            Times::of(cut_off, interface, emergency, service, in_use) == expected,
             "at {line}"
         );
     }
@@ -138,7 +137,7 @@ fn the_train_gains_speed_until_its_brake_works(rt: HostRuntime) -> Result<(), Fa
             accel as i16,
             Speed::of_kmh(target as u16),
         );
-        assert_eq!(rt; reaction, expected, "at {line}");
+        assert!(rt; reaction == expected, "at {line}");
     }
     Ok(())
 }
@@ -149,8 +148,8 @@ fn times_of_a_train_are_times_of_its_reaction(rt: HostRuntime) {
     let times = Times::of(10, false, 30, 0, true);
     let none = Speed::of_mm_s(0);
     let reaction = reaction_of(&times, Speed::of_mm_s(20_000), none, 50, none);
-    assert_eq!(rt; reaction.v_bec.notches(), 1_150_200);
-    assert_eq!(rt; reaction.d_bec, 33_507_000_000_000);
+    assert!(rt; reaction.v_bec.notches() == 1_150_200);
+    assert!(rt; reaction.d_bec == 33_507_000_000_000);
 }
 
 // ---- limits
@@ -209,8 +208,8 @@ fn limits_lie_before_the_place_of_the_curve(rt: HostRuntime) -> Result<(), Fail>
         let on_ebd = ebd_limits(&map, &ebd, guide, &times, v, &reaction);
         let on_sbd = sbd_limits(&map, &sbd, guide, &times, v);
         let ebi = on_ebd.ebi.map(|e| e.at());
-        assert_eq!(rt; ebi, Some(Place::of_mm(number(line, 8)?)), "at {line}");
-        assert_eq!(rt; on_sbd.ebi, None);
+        assert!(rt; ebi == Some(Place::of_mm(number(line, 8)?)), "at {line}");
+        assert!(rt; on_sbd.ebi == None);
         let found = [
             on_ebd.sbi,
             on_ebd.warning,
@@ -222,9 +221,8 @@ fn limits_lie_before_the_place_of_the_curve(rt: HostRuntime) -> Result<(), Fail>
             on_sbd.indication,
         ];
         for (i, limit) in found.iter().enumerate() {
-            assert_eq!(rt;
-                limit.at(),
-                Place::of_mm(number(line, 9 + i)?),
+            assert!(rt;
+                limit.at() == Place::of_mm(number(line, 9 + i)?),
                 "{i} at {line}"
             );
         }

@@ -1,10 +1,10 @@
 //! Authorities, foot speeds and lists of targets, worked by hand.
 
-use crate::{
-    Authority, Target, TargetKind, TargetList, check_authority, check_trip, foot_speed, targets_of,
-};
 use sdm_num::Place;
 use sdm_speed::{Profile, Restriction};
+use sdm_targets::{
+    Authority, Target, TargetKind, TargetList, check_authority, check_trip, foot_speed, targets_of,
+};
 use sdm_track::{SpeedStep, Track};
 use std::alloc::Global;
 use std::test::Fail;
@@ -59,7 +59,7 @@ fn the_first_fault_of_an_authority_is_named(rt: HostRuntime) -> Result<(), Fail>
             Ok(()) => format!(in rt.alloc(); "accepted")?,
             Err(fault) => format!(in rt.alloc(); "{fault}")?,
         };
-        assert_eq!(rt; found.as_str(), expected, "{line}");
+        assert!(rt; found.as_str() == expected, "{line}");
     }
     Ok(())
 }
@@ -87,7 +87,7 @@ fn a_trip_lies_from_the_eoa_to_the_svl(rt: HostRuntime) -> Result<(), Fail> {
             Ok(()) => format!(in rt.alloc(); "accepted")?,
             Err(fault) => format!(in rt.alloc(); "{fault}")?,
         };
-        assert_eq!(rt; found.as_str(), expected, "{line}");
+        assert!(rt; found.as_str() == expected, "{line}");
     }
     Ok(())
 }
@@ -123,9 +123,8 @@ fn the_foot_lies_a_margin_above_the_target_speed(rt: HostRuntime) -> Result<(), 
             speed: speed(words.next())?,
         };
         assert!(rt; target.speed <= 500);
-        assert_eq!(rt;
-            foot_speed(&target).notches(),
-            number(words.next())?,
+        assert!(rt;
+            foot_speed(&target).notches() == number(words.next())?,
             "{line}"
         );
     }
@@ -233,7 +232,7 @@ fn targets_are_the_falls_ahead_and_the_end(rt: HostRuntime) -> Result<(), Fail> 
         let (text, expected) = line.split_once(" = ").ok_or("no targets")?;
         fill(rt.alloc(), text, &mut list)?;
         let found = told(rt.alloc(), list.get())?;
-        assert_eq!(rt; found.as_str(), expected, "{line}");
+        assert!(rt; found.as_str() == expected, "{line}");
     }
     Ok(())
 }

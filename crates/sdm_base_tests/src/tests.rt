@@ -1,0 +1,10 @@
+mod ceiling;
+mod io;
+mod national;
+mod num;
+mod report;
+mod state;
+mod text;
+mod track;
+mod train;
+mod words;

@@ -1,0 +1,7 @@
+mod curve;
+mod decel;
+mod limits;
+mod motion;
+mod release;
+mod speed;
+mod targets;
