@@ -8,7 +8,7 @@ mod braking;
 mod falls_ahead;
 pub mod kept;
 mod kept_ends;
-pub mod kept_falls;
+mod kept_falls;
 mod kept_targets;
 mod limits;
 mod releases;

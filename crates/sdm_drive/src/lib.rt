@@ -5,7 +5,7 @@ mod drives;
 mod faults;
 pub mod laws;
 mod odometers;
-pub mod orders;
+mod orders;
 pub mod rows;
 mod summaries;
 mod trains;

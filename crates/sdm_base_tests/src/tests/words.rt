@@ -16,11 +16,9 @@ pub fn columns<'a>(line: &'a str) -> [&'a str; MOST_COLUMNS] {
 
 /// The columns of a line of a table, without the spaces around them.
 pub fn fields<'a>(line: &'a str) -> [&'a str; MOST_COLUMNS] {
-    let mut found = [""; MOST_COLUMNS];
-    for (i, column) in line.split('|').enumerate() {
-        if i < MOST_COLUMNS {
-            found[i] = column.trim();
-        }
+    let mut found = columns(line);
+    for i in 0..MOST_COLUMNS {
+        found[i] = found[i].trim();
     }
     found
 }

@@ -12,8 +12,8 @@ use std::alloc::Global;
 // In each table: map | time, front, speed, accelerations, times and place of the claim | place, energy of marks.
 //
 /// From 20 m/s at 800 m to 1000 m, and with the front end at the first mark; a mark that stands twice; a brake that
-/// takes 1 s to build up while the train gains 0.4 m/s; both energies on the border of two bands, of which the upper one
-/// has one slope on the way; a train that stands past its place.
+/// takes 1 s to build up while the train gains 0.4 m/s; both energies on the border of two bands, of which the upper
+/// one has one slope on the way; a train that stands past its place.
 const HOLD: &str = "\
 level | 0 431994600000000 1080000 0 0 0 0 540000000000000 | 432000000000000 583200000000000000000000000, 540000000000000 0
 level | 0 432000000000000 1080000 0 0 0 0 540000000000000 | 432000000000000 583200000000000000000000000, 540000000000000 0

@@ -5,10 +5,10 @@ use sdm_num::Speed;
 use sdm_text::{natural_in, read_int};
 use std::alloc::Global;
 
-/// Maps: name | q | upper speeds | first cell and slopes of each segment. `level`: 1 m/s². `parts`: up to 36 km/h 1 m/s²
-/// and from 100 m on 0.5 m/s², above it 1 m/s². `realistic`: a train of two bands on a way down between 2 km and 4.2 km.
-/// `two` and `ten` have two and ten bands; of `two` some segments differ in one of them alone. Of `alike` the second
-/// segment is as the first.
+/// Maps: name | q | upper speeds | first cell and slopes of each segment. `level`: 1 m/s². `parts`: up to 36 km/h
+/// 1 m/s² and from 100 m on 0.5 m/s², above it 1 m/s². `realistic`: a train of two bands on a way down between 2 km and
+/// 4.2 km. `two` and `ten` have two and ten bands; of `two` some segments differ in one of them alone. Of `alike` the
+/// second segment is as the first.
 const MAPS: &str = "\
 level | 100 |  | 0 200000000000
 parts | 100 | 540000 | 0 200000000000 200000000000, 10000 100000000000 200000000000

@@ -94,8 +94,8 @@ fn begun(alloc: Global) -> Option<Lender>
     opened(alloc, accepted(data)?, authority)
 }
 
-/// Takes a restriction to 80 km/h from 500 m to 600 m, until the train's end has left it at 700 m; whether the curves are
-/// then its own.
+/// Takes a restriction to 80 km/h from 500 m to 600 m, until the train's end has left it at 700 m; whether the curves
+/// are then its own.
 fn is_restricted_by(supervisor: &mut Supervisor, map: &BandMap) -> bool
     requires { meaning_of map.now ≡ slopes_of Safe supervisor.old.train_and_track }
     ensures { meaning_of map.now ≡ slopes_of Safe supervisor.new.train_and_track }

@@ -1,7 +1,7 @@
 //! The greatest data: 512 gradients, 128 speeds and twice 64 areas on 100 km of track, a train of ten speed bands, each
-//! with a reduced emergency deceleration, and 32 restrictions. All but the first speed lie from 2 km to 99 km, and every
-//! band brakes with 1 m/s² on level track with its special brake: so before an EOA at 1 km, and before one at 100 km,
-//! the limits are those that 20 m/s have on the track of the base data.
+//! with a reduced emergency deceleration, and 32 restrictions. All but the first speed lie from 2 km to 99 km, and
+//! every band brakes with 1 m/s² on level track with its special brake: so before an EOA at 1 km, and before one at
+//! 100 km, the limits are those that 20 m/s have on the track of the base data.
 
 ghost use Rattle.std.specs.Prelude.{◌≤◌};
 

@@ -11,8 +11,8 @@ use Rattle.sdm_rules.specs.Targets.{foot_speed_of}
 use Rattle.sdm_rules.specs.Triggers.{is_past, passes_ebi}
 use Rattle.sdm_limits.specs.Sides.{place_where}
 use Rattle.sdm_limits.proofs.Passed.{past_of}
-use Rattle.sdm_supervisor.proofs.PassedLaws.{covered_at, covered_unmet, covered_where_met, covered_without, nothing_said}
-use Rattle.sdm_supervisor.proofs.PassedLaws.{reached_said, slower_said}
+use Rattle.sdm_supervisor.proofs.PassedLaws.{covered_at, covered_unmet, covered_where_met, covered_without}
+use Rattle.sdm_supervisor.proofs.PassedLaws.{nothing_said, reached_said, slower_said}
 use Rattle.sdm_supervisor.proofs.VerdictLaws.{above}
 use Rattle.sdm_supervisor.proofs.verdicts.Verdict.add.Goals as goal
 use Rattle.sdm_supervisor.proofs.verdicts.Verdict.add.Goals.{then-not-is_passed_by-2}
