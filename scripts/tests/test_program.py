@@ -116,6 +116,23 @@ class Answers(OverACopy):
                 copies.marked_as_it_is(self.top)
                 self.assertIn("another table", self.told("scripts/check-upgrade"))
 
+    def test_a_worked_run_that_is_answered_otherwise_is_told(self):
+        self.assertRegex(self.told("scripts/check-worked", "check", status=0), "worked: [1-9][0-9]* passed, 0 failed")
+        copies.alter(self.top, "worked/check.txt", r"0,no/ \| 0", "0,yes/ | 0")
+        copies.alter(self.top, "worked/check.txt", r"- \| 7 \| sdm: bad event 5", "- | 5 | sdm: bad event 5")
+        copies.alter(self.top, "worked/check.txt", "bad event 6: line/", "bad event 6/")
+        told = self.told("scripts/check-worked", "check")
+        for part in ("    worked   0,yes\n    program  0,no", "the code differs", "the fault line differs", "3 failed"):
+            self.assertIn(part, told)
+
+    def test_worked_runs_that_can_not_be_read_are_told(self):
+        copies.alter(self.top, "worked/check.txt", r" \| 0,no/", "")
+        self.assertIn("has 5 fields and not 6", self.told("scripts/check-worked", "check"))
+        copies.alter(self.top, "worked/base.toml", "^svl = .*\n", "")
+        self.assertIn("base.toml has no line `svl = 100000`", self.told("scripts/check-worked", "display"))
+        (self.top / "worked/trial.txt").write_text("# none\n")
+        self.assertIn("trial has no run", self.told("scripts/check-worked", "trial"))
+
     def test_certificates_that_are_answered_by_yes_pass(self):
         self.assertRegex(self.told("scripts/check-certificates", status=0), "certificates: [1-9][0-9]* passed, 0 failed")
 

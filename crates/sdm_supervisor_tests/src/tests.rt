@@ -14,6 +14,7 @@
 mod calculated;
 mod curves;
 mod data;
+mod flats;
 mod greatest;
 mod journeys;
 mod modelled;

@@ -3,12 +3,12 @@
 use sdm_data::BASE_PART;
 
 /// The fields of a line of a table, and empty ones after them; all are empty where they aren't so many.
-pub fn fields_of<'a>(line: &'a str, count: usize) -> [&'a str; 7] {
+pub fn fields_of<'a>(line: &'a str, between: char, count: usize) -> [&'a str; 7] {
     let mut fields = [""; 7];
-    if line.split('|').count() != count {
+    if line.split(between).count() != count {
         return fields;
     }
-    let mut words = line.split('|');
+    let mut words = line.split(between);
     for i in 0..7usize {
         fields[i] = words.next().unwrap_or("").trim();
     }
@@ -19,7 +19,6 @@ pub fn fields_of<'a>(line: &'a str, count: usize) -> [&'a str; 7] {
 fn byte_of(sign: u8) -> u8 {
     match sign {
         b'/' => b'\n',
-        b'~' => b'\r',
         other => other,
     }
 }
@@ -50,11 +49,6 @@ pub fn put_bytes(field: &str, into: &mut Vec<u8>) -> bool {
     true
 }
 
-/// Adds bytes as they are; false where no memory is left.
-pub fn put(bytes: &[u8], into: &mut Vec<u8>) -> bool {
-    into.extend_from_slice(bytes).is_ok()
-}
-
 /// A line of the base data, as some changes have it: each is a line, `>` and what stands in its place.
 fn changed<'a>(line: &'a str, changes: &'a str) -> &'a str {
     for change in changes.split(';') {
@@ -70,22 +64,9 @@ fn changed<'a>(line: &'a str, changes: &'a str) -> &'a str {
 /// Adds the base data with changes.
 pub fn put_part(changes: &str, into: &mut Vec<u8>) -> bool {
     for line in BASE_PART.lines() {
-        if !put_bytes(changed(line, changes), into) {
-            return false;
-        }
-        if !put(b"\n", into) {
+        if !put_bytes(changed(line, changes), into) || into.push(b'\n').is_err() {
             return false;
         }
     }
     true
-}
-
-/// Adds the input of a journey over the base data with changes.
-pub fn put_journey(changes: &str, records: &str, into: &mut Vec<u8>) -> bool {
-    put_part(changes, into) && put(b"%%\n", into) && put_bytes(records, into)
-}
-
-/// Adds the base data with what a field writes after them.
-pub fn put_base(after: &str, into: &mut Vec<u8>) -> bool {
-    put(BASE_PART.as_bytes(), into) && put_bytes(after, into)
 }

@@ -1,52 +1,34 @@
 //! Runs of the program over memory, judged by the fields of a table.
 
-use crate::tests::inputs::{are_bytes_of, put};
+use crate::tests::inputs::{are_bytes_of, fields_of};
 use sdm_io::{MemSink, MemSource};
 use sdm_num::NoMemory;
 use sdm_run::{Outcome, outcome_of, sdm_main};
 use std::alloc::Global;
 
-/// A run as a line of a table writes it: its words, the bytes that its streams move at once, their calls that fail; and
-/// what it comes to: what out takes, the code, and what the fault stream takes.
+/// A run as a line of a table writes it: its words, and what its streams do; and what it comes to: what out takes, the
+/// code, and what the fault stream takes.
 #[derive(Clone, Copy)]
 pub struct Case<'a> {
     pub words: &'a str,
-    pub step: &'a str,
-    pub failing_reads: &'a str,
-    pub failing_writes: &'a str,
-    pub failing_lines: &'a str,
+    pub calls: &'a str,
     pub out: &'a str,
     pub code: &'a str,
     pub told: &'a str,
 }
 
-impl<'a> Case<'a> {
-    /// Over streams that never fail.
-    pub fn of(words: &'a str, out: &'a str, code: &'a str, told: &'a str) -> Case<'a> {
-        Case {
-            words,
-            step: "1000",
-            failing_reads: "-",
-            failing_writes: "-",
-            failing_lines: "-",
-            out,
-            code,
-            told,
-        }
-    }
-}
-
-/// The words and the calls of a run, read from its fields.
+/// The words of a run, the bytes that its streams move at once and their calls that fail, read from its fields.
 #[derive(Drop)]
 struct Plan {
     words: Vec<String>,
+    step: usize,
     reads: Vec<u32>,
     writes: Vec<u32>,
     lines: Vec<u32>,
 }
 
 /// Adds the words that a field writes, with spaces between them; false where no memory is left.
-pub fn put_words(alloc: Global, field: &str, words: &mut Vec<String>) -> bool {
+fn put_words(alloc: Global, field: &str, words: &mut Vec<String>) -> bool {
     for word in field.split_whitespace() {
         if word != "-" && !put_word(alloc, word, words) {
             return false;
@@ -79,11 +61,17 @@ fn put_number(word: &str, numbers: &mut Vec<u32>) -> bool {
     }
 }
 
+/// Adds what a case says of its words and its streams; false where a number isn't one, or no memory is left.
 fn put_plan(alloc: Global, case: &Case, plan: &mut Plan) -> bool {
+    let [step, reads, writes, lines, ..] = fields_of(case.calls, ';', 4);
+    let Ok(step) = step.parse::<usize>() else {
+        return false;
+    };
+    plan.step = step;
     put_words(alloc, case.words, &mut plan.words)
-        && put_numbers(case.failing_reads, &mut plan.reads)
-        && put_numbers(case.failing_writes, &mut plan.writes)
-        && put_numbers(case.failing_lines, &mut plan.lines)
+        && put_numbers(reads, &mut plan.reads)
+        && put_numbers(writes, &mut plan.writes)
+        && put_numbers(lines, &mut plan.lines)
 }
 
 /// A source and two sinks.
@@ -94,8 +82,8 @@ struct Streams {
     err: MemSink,
 }
 
-fn streams_of(alloc: Global, bytes: &[u8], step: usize, plan: &Plan) -> Result<Streams, NoMemory> {
-    let step = step.max(1);
+fn streams_of(alloc: Global, bytes: &[u8], plan: &Plan) -> Result<Streams, NoMemory> {
+    let step = plan.step.max(1);
     Ok(Streams {
         input: MemSource::new(alloc, bytes, step, &plan.reads)?,
         out: MemSink::new(alloc, 1_000_000, step, &plan.writes)?,
@@ -124,19 +112,17 @@ fn is_run(alloc: Global, words: &[String], streams: &mut Streams, case: &Case) -
 }
 
 fn is_run_by(alloc: Global, plan: &Plan, case: &Case, bytes: &[u8]) -> bool {
-    let Ok(step) = case.step.parse::<usize>() else {
-        return false;
-    };
-    match streams_of(alloc, bytes, step, plan) {
+    match streams_of(alloc, bytes, plan) {
         Ok(mut streams) => is_run(alloc, &plan.words, &mut streams, case),
         Err(_) => false,
     }
 }
 
-/// No words, and no call that fails.
+/// No words, a byte at once, and no call that fails.
 fn empty(alloc: Global) -> Plan {
     Plan {
         words: Vec::new(alloc),
+        step: 1,
         reads: Vec::new(alloc),
         writes: Vec::new(alloc),
         lines: Vec::new(alloc),
@@ -147,24 +133,6 @@ fn empty(alloc: Global) -> Plan {
 pub fn is_answered(alloc: Global, case: Case, bytes: &[u8]) -> bool {
     let mut plan = empty(alloc);
     put_plan(alloc, &case, &mut plan) && is_run_by(alloc, &plan, &case, bytes)
-}
-
-/// Adds what out takes of a run that is done and tells no fault; false where it isn't, or no memory is left.
-fn put_done(alloc: Global, plan: &Plan, bytes: &[u8], into: &mut Vec<u8>) -> bool {
-    match streams_of(alloc, bytes, 1000, plan) {
-        Ok(mut streams) => {
-            code_over(alloc, &plan.words, &mut streams) == 0
-                && streams.err.bytes().is_empty()
-                && put(streams.out.bytes(), into)
-        }
-        Err(_) => false,
-    }
-}
-
-/// Adds what words answer to an input.
-pub fn put_answer(alloc: Global, words: &str, bytes: &[u8], into: &mut Vec<u8>) -> bool {
-    let mut plan = empty(alloc);
-    put_words(alloc, words, &mut plan.words) && put_done(alloc, &plan, bytes, into)
 }
 
 /// The outcome of words over bytes; none where no memory is left for the words.
