@@ -379,6 +379,7 @@ int main(void) {
     check(sdm_layout() == SDM_LAYOUT, "it is that of sdm.h", "the layout");
     refuse_data("", "sdm: bad data: missing version\n");
     refuse_data("version = ", "sdm: bad data: not TOML\n");
+    refuse_data("version = 1\n", "sdm: bad data: missing train\n");
     if (fail_allocations(journey.data, journey.data_bytes, "the data of the input") == SDM_DONE)
         misuse_supervisor(&journey);
     journey_free(&journey);

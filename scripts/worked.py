@@ -16,14 +16,14 @@ sys.path.insert(0, str(TOP / "tools"))
 from laboratory.cases import Case, difference  # noqa: E402
 from laboratory.program import Fault, Result, add_program, built, run  # noqa: E402
 
-REPEATED = re.compile(r"\{(.*?)\}\*(\d+)")
+REPEATED = re.compile(r"\((.*?)\)\*(\d+)")
 SHOWN = 160  # of a longer line no more is shown
 
 
 def repeated(found):
-    """A text so many times, with the number of each, from 0 on, where it has a #."""
+    """A text so many times, with the number of each, from 1 on, where it has a #."""
     text, count = found[1], int(found[2])
-    return "".join(text.replace("#", str(number)) for number in range(count)) if "#" in text else text * count
+    return "".join(text.replace("#", str(number + 1)) for number in range(count)) if "#" in text else text * count
 
 
 def signs(field):
@@ -31,14 +31,22 @@ def signs(field):
     return "" if field == "-" else REPEATED.sub(repeated, field).replace("/", "\n").replace("~", "\r")
 
 
+def replaced(lines, old, new):
+    """The lines, with another text for each that is the old one; where none is, in the first place where it stands in one."""
+    if old in lines:
+        return [new if line == old else line for line in lines]
+    number = next((number for number, line in enumerate(lines) if old in line), None)
+    if number is None:
+        raise Fault(f"no line is or has `{old}`.")
+    return [*lines[:number], lines[number].replace(old, new, 1), *lines[number + 1:]]
+
+
 def changed(name, changes):
-    """The text of a file, each of whose lines that a change names is another."""
+    """The text of a file with changes."""
     lines = (WORKED / name).read_text().splitlines()
     for change in changes:
         old, new = (side.strip() for side in change.split(">"))
-        if old not in lines:
-            raise Fault(f"{name} has no line `{old}`.")
-        lines = [signs(new) if line == old else line for line in lines]
+        lines = replaced(lines, old, signs(new))
     return "".join(f"{line}\n" for line in lines)
 
 
@@ -54,8 +62,12 @@ def case_of(name, line):
     if len(fields) != 6:
         raise Fault(f"{name} has {len(fields)} fields and not 6.")
     words, data, after, rows, code, err = fields
-    given = text_of(data) + signs(after)
-    return Case(name, words.split() if words != "-" else [], given.encode(), Result(text_of(rows), signs(err), int(code)))
+    try:
+        given = text_of(data) + signs(after)
+        due = Result(text_of(rows), signs(err), int(code))
+    except Fault as why:
+        raise Fault(f"{name}: {why}") from None
+    return Case(name, words.split() if words != "-" else [], given.encode(), due)
 
 
 def cases_of(table):

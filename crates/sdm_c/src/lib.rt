@@ -213,6 +213,3 @@ pub extern "C" fn sdm_close(alloc: Global, h: &mut Handle)
             .into_box(alloc);
     }
 }
-
-#[cfg(test)]
-mod tests;
