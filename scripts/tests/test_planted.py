@@ -25,7 +25,7 @@ PARTS = {
     "believed": SPECS,
     "clauses": ["docs", "scripts"],
     "crates": ["docs", "scripts", "crates.txt"],
-    "definitions": [*SPECS, "crates/*/proofs/*"],
+    "definitions": [*SPECS, "crates/*/proofs/*Cases.antt"],
     "laboratory": ["examples", "scripts", "tools", "vectors/make", "vectors/maker", "vectors/data", "vectors/flat"],
     "links": [":!vectors/*/*/*"],
     "pictures": ["examples/approach", "examples/flat", "scripts", "tools"],
