@@ -32,6 +32,8 @@ PARTS = {
     "plot": ["examples", "scripts", "tools"],
 }
 
+TWO_GROUPS = 'GROUPS = {name: GROUPS[name] for name in ["data", "flat"]}\n\n\n'
+
 STALE = "stale, run scripts/"
 DEFINITIONS, COMMANDS = "docs/DEFINITIONS.md", "crates/sdm_rules/specs/Commands.antt"
 PLANTED = [
@@ -85,7 +87,7 @@ def copied(script: str) -> Iterator[Path]:
     """A copy for a check, in which vectors/make has no more groups than the copy."""
     with copies.a_copy(PARTS[script]) as top:
         if script == "laboratory":
-            copies.alter(top, "vectors/make", "^def files_of", 'GROUPS = {each: GROUPS[each] for each in ["data", "flat"]}\n\n\n\\g<0>')
+            copies.alter(top, "vectors/make", "^(?=def files_of)", TWO_GROUPS)
         yield top
 
 
