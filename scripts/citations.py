@@ -6,6 +6,7 @@ docs/DEFINITIONS.md (scripts/definitions.py) and the list of scripts/believed st
 
 import re
 from collections import defaultdict
+from functools import cache
 
 import specs
 from specs import CRATES
@@ -102,6 +103,12 @@ def imports(text):
     return names, aliases
 
 
+@cache
+def imported(path):
+    """What a file imports."""
+    return imports(path.read_text())
+
+
 def cited_in(text, names, aliases):
     """The (file, name) of every name in a text that an import or the file itself explains."""
     found = {key for name, key in names.items() if "◌" in name and f" {name.strip('◌')} " in text}
@@ -181,11 +188,13 @@ class Graph:
     def __init__(self):
         self.definitions = {}
         self.names = {}
+        self.own = defaultdict(dict)  # file -> the names that it defines itself
         for path in specs.all_spec_files():
             for definition in specs.definitions(path):
                 self.definitions[definition.key()] = definition
                 for name in [definition.name, *definition.constructors()]:
                     self.names[(path, name)] = definition.key()
+                    self.own[path][name] = (path, name)
         self.below = {key: self.cited_by(key) for key in self.definitions}
         self.above = defaultdict(list)
         for key, cited in self.below.items():
@@ -198,23 +207,20 @@ class Graph:
             for key, clauses in self.cited_by_contract(contract).items():
                 self.citers[key].append((contract, clauses))
 
-    def resolved(self, text, path, own):
-        """The definitions and types that a text of a file names; `own` are the names that the file itself defines."""
-        names, aliases = imports(path.read_text())
-        names.update(own)
-        return {self.names.get(key, key) for key in cited_in(text, names, aliases)}
+    def resolved(self, text, path):
+        """The definitions and types that a text of a file names."""
+        names, aliases = imported(path)
+        return {self.names.get(key, key) for key in cited_in(text, names | self.own[path], aliases)}
 
     def cited_by(self, key):
-        path = key[0]
-        own = {name: (path, name) for file, name in self.names if file == path}
-        return self.resolved(blanked(self.definitions[key].text, "--"), path, own)
+        return self.resolved(blanked(self.definitions[key].text, "--"), key[0])
 
     def cited_by_contract(self, contract):
         """key -> the clauses of a contract that name it."""
         found = defaultdict(list)
         parameters = contract.parameters()
         for kind, text in contract.clauses:
-            for key in self.resolved(text, contract.path, {}):
+            for key in self.resolved(text, contract.path):
                 if key[1] not in parameters:
                     found[key].append((kind, text))
         return found

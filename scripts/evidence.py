@@ -79,8 +79,9 @@ class Tests:
             alone = Counter(contract.name for contract in self.functions[crate])
             for tester, paths in files_of_tests(crate):
                 for name, text in tests_of(paths):
+                    calls = set(CALL.findall(text))
                     for contract in self.functions[crate]:
-                        if is_called(contract, text, alone[contract.name] == 1):
+                        if is_called(contract, text, calls, alone[contract.name] == 1):
                             self.tests[contract].add(f"{tester}::{name}")
         self.named = specs.noted(SHOWN_BY)
 
@@ -141,10 +142,10 @@ def tests_of(paths):
         yield name, " ".join(bodies[helper] for helper in sorted(closure({name}, bodies)))
 
 
-def is_called(contract, text, is_alone):
-    """Whether a text calls a function by its path, or as a method whose name no other function of the crate has, of a type that the
-    text names."""
-    if (contract.owner, contract.name) in CALL.findall(text):
+def is_called(contract, text, calls, is_alone):
+    """Whether a text, with its calls by a path, calls a function so, or as a method whose name no other function of the crate has,
+    of a type that the text names."""
+    if (contract.owner, contract.name) in calls:
         return True
     is_method = bool(contract.owner) and f".{contract.name}(" in text
     return is_method and is_alone and bool(re.search(rf"\b{contract.owner}\b", text))

@@ -8,6 +8,7 @@ crates/sdm_onboard or in c/. Links to other hosts are not followed.
 import re
 import subprocess
 import sys
+from functools import cache
 from urllib.parse import unquote
 
 from pages import told
@@ -28,6 +29,7 @@ def pages():
     return [ROOT / name for name in sorted(names) if (ROOT / name).exists()]
 
 
+@cache
 def anchors(page):
     """The anchors of a page's headings, as the forge makes them."""
     found = {}

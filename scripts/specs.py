@@ -4,6 +4,7 @@ scripts/citations.py finds what cites them, scripts/definitions.py writes them i
 """
 
 import re
+from functools import cache
 from pathlib import Path
 
 ROOT = Path(__file__).resolve().parent.parent
@@ -47,10 +48,10 @@ def crates_with_libraries(top=ROOT):
             yield name.split()[0], below.split()
 
 
+@cache
 def crates():
     """The crates in the order of crates.txt."""
-    for name, _ in crates_with_libraries():
-        yield name
+    return [name for name, _ in crates_with_libraries()]
 
 
 def spec_files(crate):
@@ -64,10 +65,10 @@ def spec_files(crate):
             yield library.parent / (found.group(1) + ".antt")
 
 
+@cache
 def all_spec_files():
     """The spec files of all crates."""
-    for crate in crates():
-        yield from spec_files(crate)
+    return [path for crate in crates() for path in spec_files(crate)]
 
 
 def noted(path):
@@ -76,6 +77,7 @@ def noted(path):
     return dict(line.split(": ", 1) for line in lines)
 
 
+@cache
 def head_of(path):
     """The comment at the head of a file."""
     head = []
@@ -112,14 +114,16 @@ def comment_above(lines, i):
     return " ".join(found)
 
 
+@cache
 def definitions(path):
     """The public definitions of a file, in order."""
     lines = path.read_text().splitlines()
-    found = list(starts(lines))
+    found, made = list(starts(lines)), []
     ends = [i for i, _ in found[1:]] + [len(lines)]
     for (i, name), end in zip(found, ends):
         text = "\n".join(re.sub(r"--.*", "", line) for line in lines[i:end])
-        yield Definition(path, name, i + 1, comment_above(lines, i), text)
+        made.append(Definition(path, name, i + 1, comment_above(lines, i), text))
+    return made
 
 
 def source_of(comment):

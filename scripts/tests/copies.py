@@ -1,5 +1,6 @@
 """Copies of the repository, in which faults are planted, and a program that stands in for the built one there."""
 
+import compileall
 import os
 import re
 import shutil
@@ -11,40 +12,39 @@ from pathlib import Path
 from typing import Iterator
 
 TOP = Path(__file__).resolve().parents[2]
-JOURNEY = re.compile(r"vectors/\w+/[\w-]+/")
 SECONDS = 300  # the longest that a script may take
+
+# The model, with what Python compiles of it beside it: else each of its starts, of which there are hundreds, would compile it anew.
+SCRATCH = tempfile.TemporaryDirectory()
+MODEL = shutil.copytree(TOP / "tools" / "model", Path(SCRATCH.name) / "model")
+compileall.compile_dir(MODEL, quiet=1)
 
 
 @contextmanager
-def a_copy(with_vectors: bool = False) -> Iterator[Path]:
-    """A copy of the files that are kept, as a repository of its own; with the journeys of vectors/ where they are asked for."""
-    words = ["git", "-C", str(TOP), "ls-files", "-z", "--cached", "--others", "--exclude-standard"]
+def a_copy(parts: list[str]) -> Iterator[Path]:
+    """A copy of the files that are kept of some parts of the repository, as a repository of its own. Parts are told as to git; the
+    whole takes seconds to copy, so a copy has what the script under test reads."""
+    words = ["git", "-C", str(TOP), "ls-files", "-z", "--cached", "--others", "--exclude-standard", "--", *parts]
     names = subprocess.run(words, check=True, capture_output=True, text=True).stdout.split("\0")
     with tempfile.TemporaryDirectory() as scratch:
         top = Path(scratch)
         for name in filter(None, names):
-            if (TOP / name).is_file() and (with_vectors or not JOURNEY.match(name)):
+            if (TOP / name).is_file():
                 (top / name).parent.mkdir(parents=True, exist_ok=True)
-                shutil.copy2(TOP / name, top / name)
+                shutil.copy(TOP / name, top / name)
         subprocess.run(["git", "init", "-q", str(top)], check=True)
         yield top
 
 
 def ended(top: Path, *words: str, path: str | None = None) -> tuple[int, str]:
-    """The exit status of a script of a copy, and all that it told."""
-    more = {"PATH": path} if path else {}
+    """The exit status of a script of a copy, and all that it told. On the path that it has by itself, the Python of these tests
+    comes first: there `python3` may be a script that looks for it."""
+    path = path or f"{Path(sys.executable).parent}:{os.environ['PATH']}"
     done = subprocess.run(
-        [str(top / words[0]), *words[1:]], cwd=top, env={**os.environ, **more}, stdin=subprocess.DEVNULL,
+        [str(top / words[0]), *words[1:]], cwd=top, env={**os.environ, "PATH": path}, stdin=subprocess.DEVNULL,
         stdout=subprocess.PIPE, stderr=subprocess.STDOUT, text=True, errors="replace", timeout=SECONDS, check=False,
     )
     return done.returncode, done.stdout
-
-
-def keep_examples(top: Path, names: set[str]) -> None:
-    """Takes all other examples out of a copy, so that a script has less to do."""
-    for example in (top / "examples").iterdir():
-        if example.is_dir() and example.name not in names:
-            shutil.rmtree(example)
 
 
 def alter(top: Path, file: str, pattern: str, new: str) -> None:
@@ -58,9 +58,8 @@ def alter(top: Path, file: str, pattern: str, new: str) -> None:
 def stand_in(top: Path, filtered: str = "cat", status: str = "", name: str = "crates/sdm/out/sdm") -> None:
     """A program in a copy that does as the model of this repository, its rows through a filter, or with another exit status."""
     built = top / name
-    built.parent.mkdir(exist_ok=True)
-    model = f"{sys.executable} -B {TOP / 'tools' / 'model'}"
-    built.write_text(f'#!/bin/bash\n{model} "$@" | {filtered}\nexit ${{PIPESTATUS[0]}}{status}\n')
+    built.parent.mkdir(parents=True, exist_ok=True)
+    built.write_text(f'#!/bin/bash\n{sys.executable} -S -B {MODEL} "$@" | {filtered}\nexit ${{PIPESTATUS[0]}}{status}\n')
     built.chmod(0o755)
 
 

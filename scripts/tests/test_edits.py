@@ -21,6 +21,8 @@ CAUSES = {"by_a_requires": "a requires", "by_a_sum": "safety", "by_what_is_reach
 
 
 class Edits(OverACopy):
+    parts = ["crates.txt", "crates/sdm_state/must-fail", "scripts"]
+
     def test_each_cause_is_told(self):
         folder = self.top / "crates/sdm_state/must-fail"
         shutil.rmtree(folder)

@@ -3,7 +3,9 @@
 import os
 import unittest
 from concurrent.futures import ThreadPoolExecutor
-from typing import NamedTuple
+from contextlib import contextmanager
+from pathlib import Path
+from typing import Iterator, NamedTuple
 
 from . import copies
 
@@ -16,6 +18,21 @@ class Fault(NamedTuple):
     new: str
     told: str
 
+
+# What the copies for a check have of the repository: what it reads.
+SPECS = ["docs", "scripts", "crates.txt", "crates/*/src/*", "crates/*/specs/*"]
+PARTS = {
+    "believed": SPECS,
+    "clauses": ["docs", "scripts"],
+    "crates": ["docs", "scripts", "crates.txt"],
+    "definitions": [*SPECS, "crates/*/proofs/*Cases.antt"],
+    "laboratory": ["examples", "scripts", "tools", "vectors/make", "vectors/maker", "vectors/data", "vectors/flat"],
+    "links": [":!vectors/*/*/*"],
+    "pictures": ["examples/approach", "examples/flat", "scripts", "tools"],
+    "plot": ["examples", "scripts", "tools"],
+}
+
+TWO_GROUPS = 'GROUPS = {name: GROUPS[name] for name in ["data", "flat"]}\n\n\n'
 
 STALE = "stale, run scripts/"
 DEFINITIONS, COMMANDS = "docs/DEFINITIONS.md", "crates/sdm_rules/specs/Commands.antt"
@@ -65,12 +82,19 @@ PLANTED = [
 ]
 
 
+@contextmanager
+def copied(script: str) -> Iterator[Path]:
+    """A copy for a check, in which vectors/make has no more groups than the copy."""
+    with copies.a_copy(PARTS[script]) as top:
+        if script == "laboratory":
+            copies.alter(top, "vectors/make", "^(?=def files_of)", TWO_GROUPS)
+        yield top
+
+
 def tried(planted: tuple[str, list[Fault]]) -> tuple[int, str]:
     """How a check ends over a copy with faults."""
     script, faults = planted
-    with copies.a_copy(with_vectors=script == "laboratory") as top:
-        if script == "pictures":
-            copies.keep_examples(top, {"approach", "flat"})
+    with copied(script) as top:
         for fault in faults:
             copies.alter(top, fault.file, fault.pattern, fault.new)
         return copies.ended(top, f"scripts/check-{script}")

@@ -13,13 +13,22 @@ sys.path[:0] = [str(copies.TOP / "vectors"), str(copies.TOP / "tools")]
 from maker.misreadings import MISREADINGS  # noqa: E402
 
 EXAMPLE = "examples/approach"
-KEPT_EXAMPLES = {"approach", "flat", "realistic", "refused-data", "refused-record"}  # for the stand-in is slow
-MADE = ["scripts/check-model", "--seed", "10", "--journeys", "10"]  # in 17 the speed is that of the ceiling
+MADE = ["scripts/check-model", "--seed", "10", "--journeys", "10"]
+AT_THE_CEILING = ["scripts/check-model", "--seed", "17", "--journeys", "1"]  # there the speed is that of the ceiling
+
+
+def examples(*names: str) -> list[str]:
+    """Parts of a copy: some examples, for the stand-in is slow."""
+    return [f"examples/{name}" for name in names]
 
 
 class OverACopy(unittest.TestCase):
+    """Each test over a copy of some parts of the repository, in which a program has few sources."""
+
+    parts = [".ci", "HANDLES", "bench", "crates.txt", "crates/sdm", "crates/sdm_rules/specs", "scripts", "tools"]
+
     def setUp(self):
-        copy = copies.a_copy()
+        copy = copies.a_copy(self.parts)
         self.top = copy.__enter__()
         self.addCleanup(copy.__exit__, None, None, None)
 
@@ -72,11 +81,12 @@ class Marks(OverACopy):
 
 
 class Answers(OverACopy):
+    parts = [*OverACopy.parts, *examples("approach", "flat", "realistic", "refused-data", "refused-record")]
+
     def setUp(self):
         super().setUp()
         copies.stand_in(self.top)
         copies.marked_as_it_is(self.top)
-        copies.keep_examples(self.top, KEPT_EXAMPLES)
 
     def test_a_program_that_does_as_the_model_passes(self):
         self.assertIn("0 failed", self.told("scripts/examples", status=0))
@@ -104,7 +114,7 @@ class Answers(OverACopy):
         copies.stand_in(self.top, "sed 's/,C,/,T,/'")
         copies.marked_as_it_is(self.top)
         self.assertRegex(self.told("scripts/examples"), "the rows differ")
-        self.assertRegex(self.told(*MADE), r"row \d+ differs")
+        self.assertRegex(self.told(*AT_THE_CEILING), r"row \d+ differs")
 
     def test_an_upgrade_that_loses_nothing_passes(self):
         self.assertRegex(self.told("scripts/check-upgrade", status=0), "upgrade: [1-9][0-9]* passed, 0 failed")
@@ -146,7 +156,7 @@ class Answers(OverACopy):
     def test_a_model_that_differs_from_the_program_is_told(self):
         module, text, misread = next(each for each in MISREADINGS if each[0] == "triggers")
         copies.alter(self.top, f"tools/model/{module}.py", re.escape(text), misread.replace("\\", r"\\"))
-        self.assertRegex(self.told(*MADE), r"row \d+ differs")
+        self.assertRegex(self.told(*AT_THE_CEILING), r"row \d+ differs")
 
 
 CALLS = ["open", "cycle", "end", "end_calculated", "limit", "restrict", "revoke", "display"]
@@ -157,11 +167,12 @@ CLOSED = "unsigned sdm_layout(void) { return 1; }\nvoid sdm_close(void *h) { (vo
 class Replays(OverACopy):
     """The C side, over a stand-in for the program, for replay, and for the library."""
 
+    parts = [*OverACopy.parts, "c", *examples("approach", "display", "refused-data", "refused-record")]
+
     def setUp(self):
         super().setUp()
         copies.stand_in(self.top)
         copies.marked_as_it_is(self.top)
-        copies.keep_examples(self.top, {"approach", "display", "refused-data", "refused-record"})
 
     def library(self, more: str = "") -> str:
         """A library whose every call answers that there is no supervisor, with more code in it."""
@@ -208,6 +219,8 @@ class Replays(OverACopy):
 
 
 class Gate(OverACopy):
+    parts = [*OverACopy.parts, *examples("approach")]
+
     def test_a_check_that_is_gone_or_in_no_list_is_told(self):
         (self.top / "scripts/check-more").write_text("exit 0\n")
         self.assertIn("> scripts/check-more", self.told(".ci/run"))
@@ -221,7 +234,6 @@ class Gate(OverACopy):
                 path.unlink()
             copies.stand_in(self.top)
             copies.marked_as_it_is(self.top)
-            copies.keep_examples(self.top, {"approach"})
             with self.subTest(script):
                 self.assertIn("has no test", self.told(script, *(["--journeys", "1"] if "model" in script else [])))
 
