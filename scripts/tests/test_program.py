@@ -81,7 +81,7 @@ class Marks(OverACopy):
 
 
 class Answers(OverACopy):
-    parts = [*OverACopy.parts, *examples("approach", "flat", "realistic", "refused-data", "refused-record")]
+    parts = [*OverACopy.parts, *examples("approach", "flat", "realistic", "refused-data", "refused-record"), "worked"]
 
     def setUp(self):
         super().setUp()
