@@ -1,9 +1,11 @@
-//! Whole data parts, read to their values, and the first rule that is broken, as tables of text. The clauses say that
-//! code and definition agree; the rows show that both mean what the profile wants. Every expected value is worked by
-//! hand.
+//! Whole data parts, read to their values, and the first rule that is broken, as tables of text; records and generated
+//! journeys in files of their own. The clauses say that code and definition agree; the rows show that both mean what
+//! the profile wants. Every expected value is worked by hand.
 
 mod data_parts;
+mod events;
 mod faults;
+mod trial;
 mod versions;
 
 use self::data_parts::{
@@ -37,17 +39,17 @@ a/%%%/b|-|three signs
 a/%/%/b|-|two lines of one sign
 a/%%__/b|-|two CR";
 
-/// The bytes of an input of the table.
-fn input_of(alloc: Global, text: &str) -> Result<Vec<u8>, AllocError> {
-    let mut input = Vec::new(alloc);
-    for byte in text.bytes() {
-        input.push(match byte {
-            b'/' => b'\n',
-            b'_' => b'\r',
-            other => other,
+/// The bytes of a text of a table: `/` stands for LF, `_` for CR, and any other character for the byte of its number.
+fn bytes_of(alloc: Global, text: &str) -> Result<Vec<u8>, Fail> {
+    let mut bytes = Vec::new(alloc);
+    for c in text.chars() {
+        bytes.push(match c {
+            '/' => b'\n',
+            '_' => b'\r',
+            other => u8::try_from(other).map_err(|_| "no byte")?,
         })?;
     }
-    Ok(input)
+    Ok(bytes)
 }
 
 /// The ends of the dividing line, as the table tells them.
@@ -62,7 +64,7 @@ fn ends_of(alloc: Global, input: &[u8]) -> Result<String, AllocError> {
 fn the_first_line_of_two_percent_signs_divides(rt: HostRuntime) -> Result<(), Fail> {
     for line in INPUTS.lines() {
         let mut words = line.split('|');
-        let input = input_of(rt.alloc(), words.next().ok_or("no input")?)?;
+        let input = bytes_of(rt.alloc(), words.next().ok_or("no input")?)?;
         let ends = ends_of(rt.alloc(), &input)?;
         assert_eq!(rt; ends.as_str(), words.next().ok_or("no ends")?, "{line}");
     }
@@ -271,9 +273,13 @@ fn first_missed<'a>(
     Ok(None)
 }
 
+/// Version 1 writes gradients in per mille and lacks two keys; version 2 writes them in tenths and has all keys.
 #[test]
-fn version_1_writes_gradients_in_per_mille_and_lacks_two_keys(rt: HostRuntime) -> Result<(), Fail> {
-    assert_eq!(rt; first_missed(rt.alloc(), SHORT, VERSION_ONE)?, None);
+fn each_version_has_its_unit_of_gradients_and_its_keys(rt: HostRuntime) -> Result<(), Fail> {
+    let alloc = rt.alloc();
+    assert_eq!(rt; first_missed(alloc, SHORT, VERSION_ONE)?, None);
+    let short = short_in_two(alloc)?;
+    assert_eq!(rt; first_missed(alloc, &short, VERSION_TWO)?, None);
     Ok(())
 }
 
@@ -282,39 +288,28 @@ fn short_in_two(alloc: Global) -> Result<String, &'static str> {
     changed(alloc, SHORT, "version = 1 ~ version = 2")
 }
 
-#[test]
-fn version_2_writes_gradients_in_tenths_and_has_all_keys(rt: HostRuntime) -> Result<(), Fail> {
-    let short = short_in_two(rt.alloc())?;
-    assert_eq!(rt; first_missed(rt.alloc(), &short, VERSION_TWO)?, None);
-    Ok(())
-}
-
-/// `REALISTIC_PART` in version 2.
-fn realistic_in_two(alloc: Global) -> Result<String, &'static str> {
-    let text = changed(alloc, REALISTIC_PART, "version = 1 ~ version = 2")?;
-    changed(alloc, &text, "grad = -5 ~ grad = -50")
-}
-
-#[test]
-fn both_versions_write_the_same_realistic_data(rt: HostRuntime) -> Result<(), Fail> {
-    let text = realistic_in_two(rt.alloc())?;
-    expect(&rt, rt.alloc(), &text, REALISTIC_DATA, "realistic")
-}
+/// What `REALISTIC_PART` has otherwise in version 2.
+const REALISTIC_IN_TWO: &str = "version = 1 ~ version = 2 & grad = -5 ~ grad = -50";
 
 #[test]
 fn both_versions_write_the_same_data(rt: HostRuntime) -> Result<(), Fail> {
-    let short = short_in_two(rt.alloc())?;
+    let alloc = rt.alloc();
+    let realistic = text_of(alloc, REALISTIC_PART, REALISTIC_IN_TWO)?;
+    expect(&rt, alloc, &realistic, REALISTIC_DATA, "realistic")?;
+    let short = short_in_two(alloc)?;
     for change in SAME_DATA.lines() {
         if !change.is_empty() {
-            let text = text_of(rt.alloc(), &short, change)?;
-            expect(&rt, rt.alloc(), &text, SHORT_DATA, change)?;
+            let text = text_of(alloc, &short, change)?;
+            expect(&rt, alloc, &text, SHORT_DATA, change)?;
         }
     }
     Ok(())
 }
 
 #[test]
-fn a_byte_order_mark_is_passed_over_in_a_document_alone(rt: HostRuntime) -> Result<(), Fail> {
+fn a_document_is_utf8_and_it_alone_may_begin_with_a_byte_order_mark(
+    rt: HostRuntime,
+) -> Result<(), Fail> {
     assert_eq!(rt; split(b"\xef\xbb\xbf%%\n"), None);
     expect(
         &rt,
@@ -322,11 +317,8 @@ fn a_byte_order_mark_is_passed_over_in_a_document_alone(rt: HostRuntime) -> Resu
         "\u{feff}version = 1\n",
         "Missing Root 0 2",
         "mark",
-    )
-}
-
-#[test]
-fn bytes_that_are_no_utf8_are_no_document(rt: HostRuntime) {
+    )?;
     let comment = read_document(rt.alloc(), b"version = 1 # \xff\n");
     assert!(rt; matches!(comment, Err(DocumentFault::NotToml)));
+    Ok(())
 }

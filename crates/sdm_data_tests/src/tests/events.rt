@@ -1,12 +1,17 @@
-//! What a record is, and which event it writes, worked by hand.
+//! What a record is, and which event it writes, worked by hand. In a table's texts `/` stands for LF, `_` for CR, and any
+//! other character for the byte of its number.
 
-use crate::{Authority, ByteRecord, Event, Records, event_of};
-use sdm_num::Reading;
+use crate::tests::bytes_of;
+use sdm_events::{ByteRecord, Event, Records, event_of};
 use std::alloc::Global;
 use std::test::Fail;
 
-/// A reading as its time in ds, its front ends in grains, its speeds in notches and its acceleration in cm/s².
-fn shown_reading(alloc: Global, reading: Reading) -> Result<String, Fail> {
+/// An event as its fields; a reading as its time in ds, its front ends in grains, its speeds in notches and its
+/// acceleration in cm/s².
+fn shown(alloc: Global, event: Event) -> Result<String, Fail> {
+    let Event::Read(reading) = event else {
+        return Ok(format!(in alloc; "{event:?}")?);
+    };
     let time = reading.time();
     let est = reading.est_mm().grains();
     let min = reading.min_mm().grains();
@@ -17,47 +22,17 @@ fn shown_reading(alloc: Global, reading: Reading) -> Result<String, Fail> {
     Ok(format!(in alloc; "read {time} {est} {min} {max} {speed} {accel} {under}")?)
 }
 
-fn shown_authority(alloc: Global, authority: Authority) -> Result<String, Fail> {
-    match authority {
-        Authority::Stop { eoa, svl, release } => {
-            Ok(format!(in alloc; "end {eoa} {svl} {release}")?)
-        }
-        Authority::Limit { loa, speed } => Ok(format!(in alloc; "limit {loa} {speed}")?),
-    }
-}
-
-/// An event as the word of its kind and its numbers in order.
-fn shown(alloc: Global, event: Event) -> Result<String, Fail> {
-    match event {
-        Event::Read(reading) => shown_reading(alloc, reading),
-        Event::Authority(authority) => shown_authority(alloc, authority),
-        Event::Calculated { eoa, svl, trip } => {
-            Ok(format!(in alloc; "endcalc {eoa} {svl} {trip}")?)
-        }
-        Event::Restrict(r) => {
-            let (id, start, end, speed, delayed) = (r.id, r.start, r.end, r.speed, r.delayed);
-            Ok(format!(in alloc; "restrict {id} {start} {end} {speed} {delayed}")?)
-        }
-        Event::Revoke { id } => Ok(format!(in alloc; "revoke {id}")?),
-    }
-}
-
-/// The event that a record writes, or its fault.
-fn answer(alloc: Global, record: &ByteRecord) -> Result<String, Fail> {
-    match event_of(record) {
-        Ok(event) => shown(alloc, event),
-        Err(fault) => Ok(format!(in alloc; "{fault}")?),
-    }
-}
-
-/// The answer to the first record of a text.
-fn first_answer(alloc: Global, text: &[u8]) -> Result<String, Fail> {
+/// The event that the first record of a text writes, or its fault; of an empty text, which has no record, that of a
+/// record without fields.
+fn answer(alloc: Global, text: &[u8]) -> Result<String, Fail> {
     let mut records = Records::begin(alloc, text);
     let mut record = ByteRecord::new(alloc);
-    if records.next(&mut record)? {
-        answer(alloc, &record)
-    } else {
-        Err("no record")?
+    if records.next(&mut record)? == text.is_empty() {
+        return Err("a record is wanting, or one too many".into());
+    }
+    match event_of(&record) {
+        Ok(event) => shown(alloc, event),
+        Err(fault) => Ok(format!(in alloc; "{fault}")?),
     }
 }
 
@@ -87,8 +62,8 @@ read,0,0,0,0,0, 1,0 = field 7: not a number
 read,0,0,0,0,0,0 = field count
 read,0,0,0,0,0,0,0,0 = field count
 read = field count
-end,0,0,0 = end 0 0 0
-end,10000000,9999999,500 = end 10000000 9999999 500
+end,0,0,0 = Authority(Stop { eoa: 0, svl: 0, release: 0 })
+end,10000000,9999999,500 = Authority(Stop { eoa: 10000000, svl: 9999999, release: 500 })
 end,-1,0,0 = field 2: out of range
 end,10000001,0,0 = field 2: out of range
 end,0,-1,0 = field 3: out of range
@@ -97,8 +72,8 @@ end,0,0,-1 = field 4: out of range
 end,0,0,501 = field 4: out of range
 end,80000,80000 = field count
 end,80000,80000,0,0 = field count
-endcalc,0,0,0 = endcalc 0 0 0
-endcalc,10000000,9999999,10000000 = endcalc 10000000 9999999 10000000
+endcalc,0,0,0 = Calculated { eoa: 0, svl: 0, trip: 0 }
+endcalc,10000000,9999999,10000000 = Calculated { eoa: 10000000, svl: 9999999, trip: 10000000 }
 endcalc,-1,0,0 = field 2: out of range
 endcalc,10000001,0,0 = field 2: out of range
 endcalc,0,-1,0 = field 3: out of range
@@ -108,16 +83,16 @@ endcalc,0,0,10000001 = field 4: out of range
 endcalc,0,0,x = field 4: not a number
 endcalc,80000,80000 = field count
 endcalc,80000,80000,80000,0 = field count
-limit,0,1 = limit 0 1
-limit,10000000,500 = limit 10000000 500
+limit,0,1 = Authority(Limit { loa: 0, speed: 1 })
+limit,10000000,500 = Authority(Limit { loa: 10000000, speed: 500 })
 limit,-1,60 = field 2: out of range
 limit,10000001,60 = field 2: out of range
 limit,100000,0 = field 3: out of range
 limit,100000,501 = field 3: out of range
 limit,100000 = field count
 limit,100000,60,0 = field count
-restrict,0,0,1,1,0 = restrict 0 0 1 1 false
-restrict,65535,10000000,9999999,500,1 = restrict 65535 10000000 9999999 500 true
+restrict,0,0,1,1,0 = Restrict(Restriction { id: 0, start: 0, end: 1, speed: 1, delayed: false })
+restrict,65535,10000000,9999999,500,1 = Restrict(Restriction { id: 65535, start: 10000000, end: 9999999, speed: 500, delayed: true })
 restrict,-1,0,0,80,0 = field 2: out of range
 restrict,65536,0,0,80,0 = field 2: out of range
 restrict,1,-1,0,80,0 = field 3: out of range
@@ -131,8 +106,8 @@ restrict,1,0,0,80,2 = field 6: out of range
 restrict,1,0,0,80,true = field 6: not a number
 restrict,1,50000,60000,80 = field count
 restrict,1,50000,60000,80,1,0 = field count
-revoke,0 = revoke 0
-revoke,00065535 = revoke 65535
+revoke,0 = Revoke { id: 0 }
+revoke,00065535 = Revoke { id: 65535 }
 revoke,-1 = field 2: out of range
 revoke,65536 = field 2: out of range
 revoke,1000000000000000000 = field 2: not a number
@@ -148,32 +123,23 @@ read,0,x = field count
 read,0,x,0,y,0,0,0 = field 3: not a number
 limit,10000001,0 = field 2: out of range
 restrict,1,0,0,501,2 = field 5: out of range
-\"revoke\",\"1\" = revoke 1";
+\"revoke\",\"1\" = Revoke { id: 1 }
+\u{ff},1 = unknown kind
+limit,100000,\u{c3}( = field 3: not a number
+ = unknown kind";
 
 #[test]
 fn a_record_is_its_event_or_names_its_first_fault(rt: HostRuntime) -> Result<(), Fail> {
     let alloc = rt.alloc();
     for line in EVENTS.lines() {
-        let (record, expected) = line.split_once(" = ").ok_or("no answer")?;
-        let found = first_answer(alloc, record.as_bytes())?;
-        assert_eq!(rt; found.as_str(), expected, "{line}");
+        let (text, expected) = line.split_once(" = ").ok_or("no answer")?;
+        let found = answer(alloc, &bytes_of(alloc, text)?)?;
+        assert!(rt; found.as_str() == expected, "{line} {found}");
     }
     Ok(())
 }
 
-#[test]
-fn fields_of_any_bytes_are_read(rt: HostRuntime) -> Result<(), Fail> {
-    let alloc = rt.alloc();
-    let kind = first_answer(alloc, b"\xff,1")?;
-    assert_eq!(rt; kind.as_str(), "unknown kind");
-    let number = first_answer(alloc, b"limit,100000,\xc3\x28")?;
-    assert_eq!(rt; number.as_str(), "field 3: not a number");
-    let no_field = answer(alloc, &ByteRecord::new(alloc))?;
-    assert_eq!(rt; no_field.as_str(), "unknown kind");
-    Ok(())
-}
-
-/// The records of a text, each field before a '|' and each record before a '/'.
+/// The records of a text, each field before a '|' and each record before a ';'. After the end no record comes.
 fn shown_records(alloc: Global, text: &[u8]) -> Result<Vec<u8>, Fail> {
     let mut records = Records::begin(alloc, text);
     let mut record = ByteRecord::new(alloc);
@@ -183,47 +149,42 @@ fn shown_records(alloc: Global, text: &[u8]) -> Result<Vec<u8>, Fail> {
             shown.extend_from_slice(field)?;
             shown.push(b'|')?;
         }
-        shown.push(b'/')?;
+        shown.push(b';')?;
+    }
+    if records.next(&mut record)? {
+        return Err("a record after the end".into());
     }
     Ok(shown)
 }
 
-#[test]
-fn a_record_is_what_csv_takes_for_one(rt: HostRuntime) -> Result<(), Fail> {
-    let alloc = rt.alloc();
-    let rows: [(&[u8], &[u8]); 17] = [
-        (b"", b""),
-        (b"\n\r\n\r\r\n", b""),
-        (b"a,b\n\nc\r\n\r\nd", b"a|b|/c|/d|/"),
-        (b"a\rb\r\rc", b"a|/b|/c|/"),
-        (b"a,b,\n,c\n,\n", b"a|b||/|c|/||/"),
-        (b" a , b \n", b" a | b |/"),
-        (b"\"a\",1\n", b"a|1|/"),
-        (b"\"a\n,\r\n\"\"b\",1\n", b"a\n,\r\n\"b|1|/"),
-        (b"a\"b,c\"\n", b"a\"b|c\"|/"),
-        (b"\"a\"b,1\n", b"ab|1|/"),
-        (b"\"a,1\nb", b"a,1\nb|/"),
-        (b"\"\"\n", b"|/"),
-        (b"\"", b"|/"),
-        (b"\xef\xbb\xbfa,1\n", b"a|1|/"),
-        (b"a\n\xef\xbb\xbfb\n", b"a|/\xef\xbb\xbfb|/"),
-        (b"\xff\x00,1\n#a\n", b"\xff\x00|1|/#a|/"),
-        (b"a\n1,2,3\nb,c", b"a|/1|2|3|/b|c|/"),
-    ];
-    for (text, expected) in &rows {
-        let found = shown_records(alloc, text)?;
-        assert!(rt; found.as_slice() == *expected, "{text:?} {found:?}");
-    }
-    Ok(())
-}
+/// Texts, and their records.
+const RECORDS: &str = "\
+=
+/_/__/=
+a,b//c_/_/d=a|b|;c|;d|;
+a_b__c=a|;b|;c|;
+a,b,/,c/,/=a|b||;|c|;||;
+ a , b /= a | b |;
+\"a\",1/=a|1|;
+\"a/,_/\"\"b\",1/=a/,_/\"b|1|;
+a\"b,c\"/=a\"b|c\"|;
+\"a\"b,1/=ab|1|;
+\"a,1/b=a,1/b|;
+\"\"/=|;
+\"=|;
+\u{ef}\u{bb}\u{bf}a,1/=a|1|;
+a/\u{ef}\u{bb}\u{bf}b/=a|;\u{ef}\u{bb}\u{bf}b|;
+\u{ff}\0,1/#a/=\u{ff}\0|1|;#a|;
+a/1,2,3/b,c=a|;1|2|3|;b|c|;
+revoke,1=revoke|1|;";
 
 #[test]
-fn after_the_end_no_record_comes(rt: HostRuntime) -> Result<(), Fail> {
+fn records_are_those_of_csv_and_none_comes_after_the_end(rt: HostRuntime) -> Result<(), Fail> {
     let alloc = rt.alloc();
-    let mut records = Records::begin(alloc, b"revoke,1");
-    let mut record = ByteRecord::new(alloc);
-    assert_eq!(rt; records.next(&mut record), Ok(true));
-    assert_eq!(rt; records.next(&mut record), Ok(false));
-    assert_eq!(rt; records.next(&mut record), Ok(false));
+    for line in RECORDS.lines() {
+        let (text, expected) = line.split_once('=').ok_or("no records")?;
+        let found = shown_records(alloc, &bytes_of(alloc, text)?)?;
+        assert!(rt; found == bytes_of(alloc, expected)?, "{line} {found:?}");
+    }
     Ok(())
 }
