@@ -2,25 +2,9 @@
 //! other character for the byte of its number.
 
 use crate::tests::bytes_of;
-use sdm_events::{ByteRecord, Event, Records, event_of};
-use std::alloc::Global;
+use sdm_events::{ByteRecord, Records, event_of};
+use std::alloc::{AllocError, Global};
 use std::test::Fail;
-
-/// An event as its fields; a reading as its time in ds, its front ends in grains, its speeds in notches and its
-/// acceleration in cm/s².
-fn shown(alloc: Global, event: Event) -> Result<String, Fail> {
-    let Event::Read(reading) = event else {
-        return Ok(format!(in alloc; "{event:?}")?);
-    };
-    let time = reading.time();
-    let est = reading.est_mm().grains();
-    let min = reading.min_mm().grains();
-    let max = reading.max_mm().grains();
-    let speed = reading.speed_mm_s().notches();
-    let accel = reading.accel();
-    let under = reading.under_mm_s().notches();
-    Ok(format!(in alloc; "read {time} {est} {min} {max} {speed} {accel} {under}")?)
-}
 
 /// The event that the first record of a text writes, or its fault; of an empty text, which has no record, that of a
 /// record without fields.
@@ -31,17 +15,17 @@ fn answer(alloc: Global, text: &[u8]) -> Result<String, Fail> {
         return Err("a record is wanting, or one too many".into());
     }
     match event_of(&record) {
-        Ok(event) => shown(alloc, event),
+        Ok(event) => Ok(format!(in alloc; "{event:?}")?),
         Err(fault) => Ok(format!(in alloc; "{fault}")?),
     }
 }
 
 /// Records, and their events or faults. A millimetre has 540,000,000 grains, a millimetre a second 54 notches.
 const EVENTS: &str = "\
-read,0,0,0,0,0,0,0 = read 0 0 0 0 0 0 0
-read,5,20,10,30,1,-1,2 = read 5 10800000000 5400000000 16200000000 54 -1 108
-read,100000000,110000000,110000000,110000000,138888,300,10000 = read 100000000 59400000000000000 59400000000000000 59400000000000000 7499952 300 540000
-read,0,-10000000,-10000000,-10000000,0,-300,0 = read 0 -5400000000000000 -5400000000000000 -5400000000000000 0 -300 0
+read,0,0,0,0,0,0,0 = Read(Reading { time: 0, est: Place { grains: 0 }, min: Place { grains: 0 }, max: Place { grains: 0 }, speed: Speed { notches: 0 }, accel: 0, under: Speed { notches: 0 } })
+read,5,20,10,30,1,-1,2 = Read(Reading { time: 5, est: Place { grains: 10800000000 }, min: Place { grains: 5400000000 }, max: Place { grains: 16200000000 }, speed: Speed { notches: 54 }, accel: -1, under: Speed { notches: 108 } })
+read,100000000,110000000,110000000,110000000,138888,300,10000 = Read(Reading { time: 100000000, est: Place { grains: 59400000000000000 }, min: Place { grains: 59400000000000000 }, max: Place { grains: 59400000000000000 }, speed: Speed { notches: 7499952 }, accel: 300, under: Speed { notches: 540000 } })
+read,0,-10000000,-10000000,-10000000,0,-300,0 = Read(Reading { time: 0, est: Place { grains: -5400000000000000 }, min: Place { grains: -5400000000000000 }, max: Place { grains: -5400000000000000 }, speed: Speed { notches: 0 }, accel: -300, under: Speed { notches: 0 } })
 read,-1,0,0,0,0,0,0 = field 2: out of range
 read,100000001,0,0,0,0,0,0 = field 2: out of range
 read,0,-10000001,-10000001,0,0,0,0 = field 3: out of range
@@ -139,17 +123,23 @@ fn a_record_is_its_event_or_names_its_first_fault(rt: HostRuntime) -> Result<(),
     Ok(())
 }
 
-/// The records of a text, each field before a '|' and each record before a ';'. After the end no record comes.
+/// Puts each field of a record before a '|', and a ';' behind the last.
+fn put_fields(record: &ByteRecord, into: &mut Vec<u8>) -> Result<(), AllocError> {
+    for field in record {
+        into.extend_from_slice(field)?;
+        into.push(b'|')?;
+    }
+    into.push(b';')?;
+    Ok(())
+}
+
+/// The records of a text, one behind the other. After the end no record comes.
 fn shown_records(alloc: Global, text: &[u8]) -> Result<Vec<u8>, Fail> {
     let mut records = Records::begin(alloc, text);
     let mut record = ByteRecord::new(alloc);
     let mut shown = Vec::new(alloc);
     'records: while records.next(&mut record)? {
-        for field in &record {
-            shown.extend_from_slice(field)?;
-            shown.push(b'|')?;
-        }
-        shown.push(b';')?;
+        put_fields(&record, &mut shown)?;
     }
     if records.next(&mut record)? {
         return Err("a record after the end".into());
@@ -157,7 +147,7 @@ fn shown_records(alloc: Global, text: &[u8]) -> Result<Vec<u8>, Fail> {
     Ok(shown)
 }
 
-/// Texts, and their records.
+/// Texts, and their records: each field before a '|', and each record before a ';'.
 const RECORDS: &str = "\
 =
 /_/__/=
