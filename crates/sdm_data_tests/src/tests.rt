@@ -1,22 +1,15 @@
-//! Whole data parts, read to their values, and the first rule that is broken, as tables of text. The clauses say that
-//! code and definition agree; the rows show that both mean what the profile wants. Every expected value is worked by
-//! hand.
+//! Where the data part ends, and each call that reads or writes data once; records and generated journeys in files of
+//! their own. What data parts hold, and the first rule that each breaks, are runs of the built program, in worked/. Every
+//! expected value is worked by hand.
 
-mod data_parts;
-mod faults;
-mod versions;
+mod events;
+mod trial;
 
-use self::data_parts::{
-    DISTINCT, DISTINCT_DATA, DISTINCT_DATA_OF_TWO, DISTINCT_OF_TWO, PLAIN_DATA, REALISTIC_DATA,
-};
-use self::faults::{AREA, BAND, FAULTS, SHORT};
-use self::versions::{SAME_DATA, SHORT_DATA, VERSION_ONE, VERSION_TWO};
 use sdm_data::{
-    At, BASE_PART, DataFault, DocumentFault, JourneyData, REALISTIC_PART, data_of, read_document,
-    split,
+    BASE_PART, DataFault, DocumentFault, JourneyData, data_of, law_of_tables, read_document, split,
+    table_of, text_of,
 };
 use std::alloc::{AllocError, Global};
-use std::process::Abort;
 use std::test::Fail;
 
 /// An input with `/` for LF and `_` for CR; the ends of its dividing line, `-` where it has none; what the case shows.
@@ -37,17 +30,17 @@ a/%%%/b|-|three signs
 a/%/%/b|-|two lines of one sign
 a/%%__/b|-|two CR";
 
-/// The bytes of an input of the table.
-fn input_of(alloc: Global, text: &str) -> Result<Vec<u8>, AllocError> {
-    let mut input = Vec::new(alloc);
-    for byte in text.bytes() {
-        input.push(match byte {
-            b'/' => b'\n',
-            b'_' => b'\r',
-            other => other,
+/// The bytes of a text of a table: `/` stands for LF, `_` for CR, and any other character for the byte of its number.
+fn bytes_of(alloc: Global, text: &str) -> Result<Vec<u8>, Fail> {
+    let mut bytes = Vec::new(alloc);
+    for c in text.chars() {
+        bytes.push(match c {
+            '/' => b'\n',
+            '_' => b'\r',
+            other => u8::try_from(other).map_err(|_| "no byte")?,
         })?;
     }
-    Ok(input)
+    Ok(bytes)
 }
 
 /// The ends of the dividing line, as the table tells them.
@@ -62,271 +55,55 @@ fn ends_of(alloc: Global, input: &[u8]) -> Result<String, AllocError> {
 fn the_first_line_of_two_percent_signs_divides(rt: HostRuntime) -> Result<(), Fail> {
     for line in INPUTS.lines() {
         let mut words = line.split('|');
-        let input = input_of(rt.alloc(), words.next().ok_or("no input")?)?;
+        let input = bytes_of(rt.alloc(), words.next().ok_or("no input")?)?;
         let ends = ends_of(rt.alloc(), &input)?;
         assert_eq!(rt; ends.as_str(), words.next().ok_or("no ends")?, "{line}");
     }
     Ok(())
 }
 
-/// What a text comes to: its data, or the fault that is told.
-fn outcome(alloc: Global, text: &str) -> Result<String, AllocError> {
-    let table = match read_document(alloc, text.as_bytes()) {
-        Ok(table) => table,
-        Err(DocumentFault::NotToml) => return String::from_str(alloc, "not TOML"),
-        Err(DocumentFault::Memory) => return Err(AllocError),
+/// The data of a document with its table, if it has both.
+fn read(alloc: Global, document: &[u8]) -> Option<JourneyData> {
+    let table = read_document(alloc, document).ok()?;
+    data_of(alloc, &table).ok()
+}
+
+/// Whether the text of version 2 of these data is read to the same lengths.
+fn is_written(alloc: Global, data: &JourneyData) -> bool {
+    let Ok(text) = text_of(alloc, data) else {
+        return false;
     };
-    match data_of(alloc, &table) {
-        Ok(data) => told_data(alloc, &data),
-        Err(fault) => told_fault(alloc, fault),
+    match read(alloc, text.as_bytes()) {
+        Some(read) => read.train.length() == 10_000 && read.track.length_cm() == 200_000,
+        None => false,
     }
 }
 
-fn told_data(alloc: Global, data: &JourneyData) -> Result<String, AllocError> {
-    let mut text = String::new(alloc);
-    told_train(alloc, data, &mut text)?;
-    told_national(alloc, data, &mut text)?;
-    told_track(alloc, data, &mut text)?;
-    let authority = &data.authority;
-    text.push_str(&format!(in alloc; "{authority:?}\n")?)?;
-    Ok(text)
-}
-
-/// Length, greatest speed, rotating mass, cut-off time and interface, emergency and service time, service brake; the
-/// bands.
-fn told_train(alloc: Global, data: &JourneyData, text: &mut String) -> Result<(), AllocError> {
-    let train = &data.train;
-    let (length, max_speed, mass) = (train.length(), train.max_speed(), train.rotating_mass());
-    let (time, interface) = (
-        train.traction_cutoff_time(),
-        train.traction_cutoff_interface(),
-    );
-    let (emergency, service) = (train.emergency_time(), train.service_time());
-    let brake = train.service_brake();
-    text.push_str(&format!(in alloc;
-        "train {length} {max_speed} {mass:?} {time} {interface} {emergency} {service} {brake}\n"
-    )?)?;
-    for i in 0..train.band_count() {
-        let band = train.band(i as usize);
-        text.push_str(&format!(in alloc; "{band:?}\n")?)?;
+fn are_read_and_written(alloc: Global) -> bool {
+    match read(alloc, BASE_PART.as_bytes()) {
+        Some(data) => is_written(alloc, &data) && table_of(alloc, &data).is_ok(),
+        None => false,
     }
-    Ok(())
-}
-
-/// Avadh, adhesion, and the four flags in their order.
-fn told_national(alloc: Global, data: &JourneyData, text: &mut String) -> Result<(), AllocError> {
-    let national = &data.national;
-    let (avadh, adhesion) = (national.avadh(), national.adhesion_max());
-    let (guidance, service) = (national.guidance(), national.service_in_target());
-    let (early, inhibit) = (national.early_release(), national.inhibit_under_reading());
-    text.push_str(&format!(in alloc;
-        "national {avadh} {adhesion} {guidance} {service} {early} {inhibit}\n"
-    )?)
-}
-
-/// The length and the lists.
-fn told_track(alloc: Global, data: &JourneyData, text: &mut String) -> Result<(), AllocError> {
-    let track = &data.track;
-    let length = track.length_cm();
-    text.push_str(&format!(in alloc; "track {length}\n")?)?;
-    for i in 0..track.gradient_count() {
-        let gradient = track.gradient(i);
-        text.push_str(&format!(in alloc; "{gradient:?}\n")?)?;
-    }
-    for i in 0..track.speed_count() {
-        let speed = track.speed(i);
-        text.push_str(&format!(in alloc; "{speed:?}\n")?)?;
-    }
-    for i in 0..track.area_count() {
-        let area = track.area(i);
-        text.push_str(&format!(in alloc; "{area:?}\n")?)?;
-    }
-    for i in 0..track.no_special_count() {
-        let area = track.no_special(i);
-        text.push_str(&format!(in alloc; "no_special {area:?}\n")?)?;
-    }
-    Ok(())
-}
-
-fn told_fault(alloc: Global, fault: DataFault) -> Result<String, AllocError> {
-    match fault {
-        DataFault::Missing(at) => told_at(alloc, "Missing", at),
-        DataFault::WrongKind(at) => told_at(alloc, "WrongKind", at),
-        DataFault::Value(at) => told_at(alloc, "Value", at),
-        DataFault::UnknownKey { section, index } => {
-            format!(in alloc; "UnknownKey {section:?} {index}")
-        }
-        DataFault::Train(fault) => format!(in alloc; "Train {fault:?}"),
-        DataFault::National(fault) => format!(in alloc; "National {fault:?}"),
-        DataFault::Track(fault) => format!(in alloc; "Track {fault:?}"),
-        DataFault::Memory => Err(AllocError),
-    }
-}
-
-/// A fault with the section, the index and the number of its key.
-fn told_at(alloc: Global, fault: &str, at: At) -> Result<String, AllocError> {
-    let (section, index, key) = (at.section, at.index, at.key);
-    format!(in alloc; "{fault} {section:?} {index} {key}")
-}
-
-/// A text comes to what is expected of it; `case` is told where it doesn't.
-fn expect(
-    rt: &impl Abort,
-    alloc: Global,
-    text: &str,
-    expected: &str,
-    case: &str,
-) -> Result<(), Fail> {
-    let found = outcome(alloc, text)?;
-    assert_eq!(rt; found.as_str(), expected, "{case}");
-    Ok(())
 }
 
 #[test]
-fn data_parts_are_read_to_their_values(rt: HostRuntime) -> Result<(), Fail> {
+fn base_data_are_read_and_written_with_ample_memory(rt: HostRuntime) {
+    assert!(rt; are_read_and_written(rt.alloc()));
+    law_of_tables();
+}
+
+/// The fault of a document that is read to a table.
+fn fault_of(alloc: Global, document: &[u8]) -> Option<DataFault> {
+    let table = read_document(alloc, document).ok()?;
+    data_of(alloc, &table).err()
+}
+
+#[test]
+fn a_document_is_utf8_and_it_alone_may_begin_with_a_byte_order_mark(rt: HostRuntime) {
     let alloc = rt.alloc();
-    expect(&rt, alloc, BASE_PART, PLAIN_DATA, "base")?;
-    expect(&rt, alloc, REALISTIC_PART, REALISTIC_DATA, "realistic")?;
-    expect(&rt, alloc, DISTINCT, DISTINCT_DATA, "version 1")?;
-    expect(
-        &rt,
-        alloc,
-        DISTINCT_OF_TWO,
-        DISTINCT_DATA_OF_TWO,
-        "version 2",
-    )
-}
-
-/// 65 areas, one more than a list may have.
-fn put_areas(text: &mut String) -> Result<(), AllocError> {
-    for _ in 0..65 {
-        text.push_str(AREA)?;
-    }
-    Ok(())
-}
-
-/// The text of a row: line feeds, bands and areas in their places.
-fn written_out(alloc: Global, short: &str) -> Result<String, AllocError> {
-    let mut text = String::new(alloc);
-    for c in short.chars() {
-        match c {
-            ';' => text.push('\n')?,
-            '$' => text.push_str(BAND)?,
-            '@' => text.push_str(&format!(in alloc; "{{{BAND}}}")?)?,
-            '#' => put_areas(&mut text)?,
-            other => text.push(other)?,
-        }
-    }
-    Ok(text)
-}
-
-/// The text with one change, `old ~ new`, at the first place where the old stands.
-fn changed(alloc: Global, text: &str, change: &str) -> Result<String, &'static str> {
-    let (old, new) = change.split_once('~').ok_or("no change")?;
-    let (before, after) = text.split_once(old.trim()).ok_or("nothing to change")?;
-    let new = new.trim();
-    format!(in alloc; "{before}{new}{after}").map_err(|_| "memory")
-}
-
-/// The text that a row tells of: changes to this one, or a text of its own.
-fn text_of(alloc: Global, base: &str, changes: &str) -> Result<String, &'static str> {
-    if let Some(text) = changes.trim().strip_prefix("text:") {
-        return written_out(alloc, text).map_err(|_| "memory");
-    }
-    let mut text = String::from_str(alloc, base).map_err(|_| "memory")?;
-    for change in changes.split('&') {
-        text = changed(alloc, &text, change)?;
-    }
-    written_out(alloc, &text).map_err(|_| "memory")
-}
-
-#[test]
-fn the_first_rule_that_is_broken_is_named(rt: HostRuntime) -> Result<(), Fail> {
-    for row in FAULTS.lines() {
-        let Some((fault, changes)) = row.split_once('|') else {
-            continue;
-        };
-        let text = text_of(rt.alloc(), SHORT, changes)?;
-        expect(&rt, rt.alloc(), &text, fault.trim(), row)?;
-    }
-    Ok(())
-}
-
-/// The first row of a table whose text does not come to the line that the row begins with.
-fn first_missed<'a>(
-    alloc: Global,
-    base: &str,
-    rows: &'a str,
-) -> Result<Option<&'a str>, &'static str> {
-    for row in rows.lines() {
-        let Some((line, changes)) = row.split_once('|') else {
-            continue;
-        };
-        let text = text_of(alloc, base, changes)?;
-        let found = outcome(alloc, &text).map_err(|_| "memory")?;
-        if !found.lines().any(|other| other == line.trim()) {
-            return Ok(Some(row));
-        }
-    }
-    Ok(None)
-}
-
-#[test]
-fn version_1_writes_gradients_in_per_mille_and_lacks_two_keys(rt: HostRuntime) -> Result<(), Fail> {
-    assert_eq!(rt; first_missed(rt.alloc(), SHORT, VERSION_ONE)?, None);
-    Ok(())
-}
-
-/// `SHORT` in version 2.
-fn short_in_two(alloc: Global) -> Result<String, &'static str> {
-    changed(alloc, SHORT, "version = 1 ~ version = 2")
-}
-
-#[test]
-fn version_2_writes_gradients_in_tenths_and_has_all_keys(rt: HostRuntime) -> Result<(), Fail> {
-    let short = short_in_two(rt.alloc())?;
-    assert_eq!(rt; first_missed(rt.alloc(), &short, VERSION_TWO)?, None);
-    Ok(())
-}
-
-/// `REALISTIC_PART` in version 2.
-fn realistic_in_two(alloc: Global) -> Result<String, &'static str> {
-    let text = changed(alloc, REALISTIC_PART, "version = 1 ~ version = 2")?;
-    changed(alloc, &text, "grad = -5 ~ grad = -50")
-}
-
-#[test]
-fn both_versions_write_the_same_realistic_data(rt: HostRuntime) -> Result<(), Fail> {
-    let text = realistic_in_two(rt.alloc())?;
-    expect(&rt, rt.alloc(), &text, REALISTIC_DATA, "realistic")
-}
-
-#[test]
-fn both_versions_write_the_same_data(rt: HostRuntime) -> Result<(), Fail> {
-    let short = short_in_two(rt.alloc())?;
-    for change in SAME_DATA.lines() {
-        if !change.is_empty() {
-            let text = text_of(rt.alloc(), &short, change)?;
-            expect(&rt, rt.alloc(), &text, SHORT_DATA, change)?;
-        }
-    }
-    Ok(())
-}
-
-#[test]
-fn a_byte_order_mark_is_passed_over_in_a_document_alone(rt: HostRuntime) -> Result<(), Fail> {
-    assert_eq!(rt; split(b"\xef\xbb\xbf%%\n"), None);
-    expect(
-        &rt,
-        rt.alloc(),
-        "\u{feff}version = 1\n",
-        "Missing Root 0 2",
-        "mark",
-    )
-}
-
-#[test]
-fn bytes_that_are_no_utf8_are_no_document(rt: HostRuntime) {
-    let comment = read_document(rt.alloc(), b"version = 1 # \xff\n");
+    assert!(rt; split(b"\xef\xbb\xbf%%\n").is_none());
+    let marked = fault_of(alloc, b"\xef\xbb\xbfversion = 1\n");
+    assert!(rt; matches!(marked, Some(DataFault::Missing(_))));
+    let comment = read_document(alloc, b"version = 1 # \xff\n");
     assert!(rt; matches!(comment, Err(DocumentFault::NotToml)));
 }

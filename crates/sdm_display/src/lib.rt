@@ -10,6 +10,3 @@ pub use display_lines::display_bytes;
 pub use displays::display_of;
 pub use sdm_rules::{Display, LimitName, Shown, TargetKind};
 pub use speeds::{Passed, greatest};
-
-#[cfg(test)]
-mod tests;

@@ -6,9 +6,9 @@ ghost use Rattle.std.specs.Prelude.{◌≤◌};
 
 mod journeys;
 
-use journeys::{Journey, base, realistic, short, stop};
+use journeys::{Journey, base, short, stop};
 use sdm_drive::{Drive, DriveFault, Summary, driven};
-use sdm_rules::{Authority, AuthorityFault, OpenFault};
+use sdm_rules::Authority;
 use sdm_text::RowBuf;
 use std::alloc::Global;
 
@@ -28,44 +28,36 @@ fn begin(alloc: Global, data: Option<Journey>, seed: u16) -> Option<Result<Drive
 
 // ---- rows
 
-/// Whether the next step leaves the train at a front end in grains, with a speed in notches, no command and no stop.
-fn steps_to(drive: &mut Drive, front: i64, speed: u32) -> bool {
-    if drive.steps() >= 100_000 {
-        return false;
+/// The front end in grains and the speed in notches after each of the first steps from 7. Their accelerations are −19,
+/// 39 and 30 cm/s²: the train stands, goes 48.75 mm to 195 mm/s, and 135 mm more to 345 mm/s.
+const STEPS: [(i64, u32); 3] = [(0, 0), (26_325_000_000, 10_530), (99_225_000_000, 18_630)];
+
+/// Whether the next steps leave the train so, with no command and no stop.
+fn steps_so(drive: &mut Drive) -> bool {
+    for (front, speed) in STEPS {
+        if drive.steps() >= 100_000 {
+            return false;
+        }
+        let row = drive.step();
+        let is_there = row.front.grains() == front && row.speed.notches() == speed;
+        if !is_there || row.stops != 0 || row.row.held.eb {
+            return false;
+        }
     }
-    let row = drive.step();
-    row.front.grains() == front
-        && row.speed.notches() == speed
-        && row.stops == 0
-        && !row.row.held.eb
+    drive.steps() == 3
 }
 
-fn steps_thrice(drive: &mut Drive) -> bool {
-    steps_to(drive, 0, 0)
-        && steps_to(drive, 26_325_000_000, 10_530)
-        && steps_to(drive, 99_225_000_000, 18_630)
-        && drive.steps() == 3
-}
-
-/// The accelerations of the first steps from 7 are −19, 39 and 30 cm/s²: the train stands, goes 48.75 mm to 195 mm/s,
-/// and 135 mm more to 345 mm/s.
 #[test]
 fn a_train_is_driven_by_its_numbers(rt: HostRuntime) {
     let data = base(rt.alloc(), 20, stop(100_000, 100_000));
     let driven = match begin(rt.alloc(), data, 7) {
-        Some(Ok(mut drive)) => steps_thrice(&mut drive),
+        Some(Ok(mut drive)) => steps_so(&mut drive),
         _ => false,
     };
     assert!(rt; driven);
 }
 
 // ---- summaries
-
-fn is_said(summary: &Summary, text: &str) -> bool {
-    let mut said = RowBuf::new();
-    summary.put(&mut said);
-    said.bytes() == text.as_bytes()
-}
 
 /// Whether the summary of so many steps over data is a text.
 fn is_summed_up(alloc: Global, data: Option<Journey>, seed: u16, cycles: u32, text: &str) -> bool
@@ -89,83 +81,71 @@ fn is_summed_up(alloc: Global, data: Option<Journey>, seed: u16, cycles: u32, te
     }
 }
 
+fn is_said(summary: &Summary, text: &str) -> bool {
+    let mut said = RowBuf::new();
+    summary.put(&mut said);
+    said.bytes() == text.as_bytes()
+}
+
 #[test]
-fn a_train_whose_svl_is_at_its_front_end_stands(rt: HostRuntime) {
+fn drives_have_their_summaries(rt: HostRuntime) {
+    let alloc = rt.alloc();
+    // a train whose SvL is at its front end stands
     let text = "cycles 1000\nemergency 0\nstops 0\nfront 0\nleast 0\n";
-    let data = base(rt.alloc(), 20, stop(0, 0));
-    assert!(rt; is_summed_up(rt.alloc(), data, 7, 1_000, text));
-}
-
-#[test]
-fn three_steps_are_summed_up(rt: HostRuntime) {
+    let data = base(alloc, 20, stop(0, 0));
+    assert!(rt; is_summed_up(alloc, data, 7, 1_000, text));
+    // no step, and three
+    let text = "cycles 0\nemergency 0\nstops 0\nfront 0\nleast 1000000\n";
+    let data = base(alloc, 20, stop(100_000, 100_000));
+    assert!(rt; is_summed_up(alloc, data, 7, 0, text));
     let text = "cycles 3\nemergency 0\nstops 0\nfront 184\nleast 999816\n";
-    let data = base(rt.alloc(), 20, stop(100_000, 100_000));
-    assert!(rt; is_summed_up(rt.alloc(), data, 7, 3, text));
-    let nothing = "cycles 0\nemergency 0\nstops 0\nfront 0\nleast 1000000\n";
-    let data = base(rt.alloc(), 20, stop(100_000, 100_000));
-    assert!(rt; is_summed_up(rt.alloc(), data, 7, 0, nothing));
-}
-
-#[test]
-fn a_hundred_thousand_steps_over_realistic_data(rt: HostRuntime) {
-    let text = "cycles 100000\nemergency 99417\nstops 2\nfront 5016932\nleast 33068\n";
-    assert!(rt; is_summed_up(rt.alloc(), realistic(rt.alloc()), 7, 100_000, text));
-}
-
-#[test]
-fn a_train_stops_often_on_a_short_track(rt: HostRuntime) {
+    let data = base(alloc, 20, stop(100_000, 100_000));
+    assert!(rt; is_summed_up(alloc, data, 7, 3, text));
+    // a train stops often on a short track
     let text = "cycles 300\nemergency 68\nstops 13\nfront 27025\nleast 3145\n";
-    assert!(rt; is_summed_up(rt.alloc(), short(rt.alloc()), 47_880, 300, text));
+    assert!(rt; is_summed_up(alloc, short(alloc), 47_880, 300, text));
 }
 
 // ---- refusals
 
-fn is_text(alloc: Global, fault: DriveFault, text: &str) -> bool {
-    match format!(in alloc; "{fault}") {
-        Ok(said) => said.as_str() == text,
+/// Whether a drive over the base data with another authority and another build-up time of the emergency brake, in ds,
+/// is begun, or refused by this fault with its text.
+fn begins_as(alloc: Global, authority: Authority, emergency_time: i64, answer: &str) -> bool {
+    let told = match begin(alloc, base(alloc, emergency_time, authority), 7) {
+        Some(Ok(_)) => return answer == "begun",
+        Some(Err(fault)) => format!(in alloc; "{fault:?}: {fault}"),
+        None => return false,
+    };
+    match told {
+        Ok(told) => told.as_str() == answer,
         Err(_) => false,
     }
 }
 
-/// Whether the base data are refused with another authority and another build-up time of the emergency brake, in ds, by
-/// this fault and its text.
-fn is_refused(
-    alloc: Global,
-    authority: Authority,
-    emergency_time: i64,
-    fault: DriveFault,
-    text: &str,
-) -> bool {
-    let found = match begin(alloc, base(alloc, emergency_time, authority), 7) {
-        Some(Err(found)) => found,
-        _ => return false,
-    };
-    found == fault && is_text(alloc, fault, text)
-}
-
 #[test]
 fn a_drive_is_refused_by_its_first_fault(rt: HostRuntime) {
-    let alloc = rt.alloc();
     let limit = Authority::Limit {
         loa: 100_000,
         speed: 40,
     };
-    assert!(rt; is_refused(alloc, limit, 0, DriveFault::NoStop, "no stop"));
     let release = Authority::Stop {
         eoa: 100_000,
         svl: 100_000,
         release: 40,
     };
-    let has_release = DriveFault::HasRelease { speed: 40 };
-    assert!(rt; is_refused(alloc, release, 0, has_release, "release speed 40"));
     let beyond = stop(100_000, 200_001);
-    let short_build = DriveFault::ShortBuild { time: 4 };
-    assert!(rt; is_refused(alloc, beyond, 4, short_build, "emergency time 4"));
-    let beyond_track = DriveFault::Open(OpenFault::BadAuthority(AuthorityFault::BeyondTrack));
-    assert!(rt; is_refused(alloc, beyond, 5, beyond_track, "beyond track"));
-    let begun = match begin(alloc, base(alloc, 5, stop(100_000, 100_000)), 7) {
-        Some(Ok(_)) => true,
-        _ => false,
-    };
-    assert!(rt; begun);
+    let open = stop(100_000, 100_000);
+    let rows: [(Authority, i64, &str); 5] = [
+        (limit, 0, "NoStop: no stop"),
+        (release, 0, "HasRelease { speed: 40 }: release speed 40"),
+        (beyond, 4, "ShortBuild { time: 4 }: emergency time 4"),
+        (beyond, 5, "Open(BadAuthority(BeyondTrack)): beyond track"),
+        (open, 5, "begun"),
+    ];
+    for (authority, emergency_time, answer) in rows {
+        assert!(rt;
+            begins_as(rt.alloc(), authority, emergency_time, answer),
+            "{answer}"
+        );
+    }
 }

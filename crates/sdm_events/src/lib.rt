@@ -8,6 +8,3 @@ pub use csv::ByteRecord;
 pub use events::event_of;
 pub use sdm_rules::{Authority, Event, EventFault, FieldFault, Restriction};
 pub use stream::Records;
-
-#[cfg(test)]
-mod tests;

@@ -6,7 +6,8 @@
 //! `uppers` has the upper speeds of all bands but the last, `bands` what each band has. Its records follow in the form
 //! of the product's input, each with its answer: the row as the product prints it, a fault, or `taken`. `up to` with
 //! an identity stands for as many restrictions alike as bring the identities up to that one, `come and go` with a
-//! number for so many restrictions alike, each revoked before the next.
+//! number for so many restrictions alike, each revoked before the next. `display` and `within` ask of a reading what is
+//! shown of it, and whether it is within the SvL.
 //!
 //! A test owns its data and supervisors in one function and judges them in another, which takes them by reference: the
 //! proof of a function counts what each of its exits drops.
@@ -14,6 +15,7 @@
 mod calculated;
 mod curves;
 mod data;
+mod display;
 mod flats;
 mod greatest;
 mod journeys;
@@ -31,7 +33,6 @@ use modelled::MODELLED;
 use openings::{data_of, is_opened_as, opened};
 use records::answers;
 use sdm_supervisor::Supervisor;
-use shown::{is_shown_at_standstill, is_shown_before_the_end};
 use std::alloc::Global;
 use std::process::Abort;
 
@@ -144,16 +145,4 @@ fn the_greatest_data_have_rows(rt: HostRuntime) {
         None => false,
     };
     assert!(rt; went);
-}
-
-/// What is shown over the base data with the EOA and the SvL at 1000 m.
-#[test]
-fn what_is_shown_is_as_it_was_worked_by_hand(rt: HostRuntime) {
-    let shown = match opened(rt.alloc(), data_of(rt.alloc(), "")) {
-        Some(supervisor) => {
-            is_shown_before_the_end(&supervisor) && is_shown_at_standstill(&supervisor)
-        }
-        None => false,
-    };
-    assert!(rt; shown);
 }

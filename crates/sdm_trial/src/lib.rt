@@ -10,6 +10,3 @@ pub use journeys::{law_of_trial, trial_data};
 pub use readings::{Readings, trial_reading};
 pub use sdm_data::JourneyData;
 pub use summaries::Summary;
-
-#[cfg(test)]
-mod tests;

@@ -3,6 +3,7 @@
 ghost use Rattle.std.specs.Prelude.{◌≤◌, IfSome};
 
 use crate::tests::data::{authority, natural, small};
+use sdm_display::{Display, display_bytes, display_of};
 use sdm_num::Reading;
 use sdm_report::row_bytes;
 use sdm_rules::Row;
@@ -21,7 +22,7 @@ fn acceleration(word: Option<&str>) -> Option<i16> {
     word?.parse::<i16>().ok()
 }
 
-pub fn reading(fields: &str) -> Option<Reading> {
+fn reading(fields: &str) -> Option<Reading> {
     let mut words = fields.split(',');
     let time = natural(words.next())?;
     let est = place(words.next())?;
@@ -57,6 +58,13 @@ fn restriction(fields: &str) -> Option<Restriction>
 fn is_row(row: &Row, text: &str) -> bool {
     let mut line = RowBuf::new();
     row_bytes(row, &mut line);
+    line.bytes().strip_suffix(b"\n") == Some(text.as_bytes())
+}
+
+/// Whether what is shown of a reading is this text, as the product prints it, but for the line feed.
+pub fn is_displayed(display: &Display, text: &str) -> bool {
+    let mut line = RowBuf::new();
+    display_bytes(display, &mut line);
     line.bytes().strip_suffix(b"\n") == Some(text.as_bytes())
 }
 
@@ -181,6 +189,22 @@ fn revokes(alloc: Global, supervisor: &mut Supervisor, fields: &str, answer: &st
     }
 }
 
+/// Whether this is shown of a reading.
+fn displays(supervisor: &Supervisor, fields: &str, answer: &str) -> bool {
+    match reading(fields) {
+        Some(reading) => is_displayed(&display_of(supervisor, &reading), answer),
+        None => false,
+    }
+}
+
+/// Whether a reading is within the SvL or not, as an answer says.
+fn is_within(supervisor: &Supervisor, fields: &str, answer: &str) -> bool {
+    match reading(fields) {
+        Some(reading) => supervisor.within_svl(&reading) == (answer == "true"),
+        None => false,
+    }
+}
+
 /// Whether a supervisor answers this to a record.
 pub fn answers(alloc: Global, supervisor: &mut Supervisor, record: &str, answer: &str) -> bool {
     let Some((kind, fields)) = record.split_once(',') else {
@@ -193,6 +217,8 @@ pub fn answers(alloc: Global, supervisor: &mut Supervisor, record: &str, answer:
         "restrict" => restricts(alloc, supervisor, fields, answer),
         "up to" => answer == "taken" && restricts_all(supervisor, fields),
         "come and go" => answer == "taken" && restricts_and_revokes(supervisor, fields),
+        "display" => displays(supervisor, fields, answer),
+        "within" => is_within(supervisor, fields, answer),
         "revoke" => revokes(alloc, supervisor, fields, answer),
         _ => false,
     }

@@ -1,62 +1,63 @@
 //! What a supervisor tells a driver, at readings that were worked by hand.
 
-ghost use Rattle.std.specs.Prelude.{◌≤◌};
-ghost use Rattle.sdm_num.specs.Readings.{IsReading};
-
+use crate::tests::data::base;
+use crate::tests::openings::opened;
 use sdm_num::Reading;
 use sdm_rules::{LimitName, Shown};
 use sdm_supervisor::Supervisor;
 use sdm_targets::TargetKind;
 
-/// A reading at 0 ds with three equal front ends, no acceleration and no under-reading.
-pub fn at(front_mm: i32, speed_mm_s: u32) -> Option<Reading> {
-    Reading::new(0, front_mm, front_mm, front_mm, speed_mm_s, 0, 0)
-}
-
-/// Whether a limit is passed at one more than a speed in km/h, and not at it.
-fn is_speed_of(supervisor: &Supervisor, reading: &Reading, name: LimitName, kmh: u16) -> bool
-    requires reading { IsReading reading.now }
-    requires speed { kmh ≤ 499 }
-{
-    !supervisor.would_pass(reading, name, kmh) && supervisor.would_pass(reading, name, kmh + 1)
-}
-
-/// Whether the limits as speeds in km/h are these.
-fn are_speeds(
+/// Whether each limit is passed at one more than its speed in km/h and not at it, and the target that counts is this.
+fn is_shown(
     supervisor: &Supervisor,
     reading: &Reading,
-    permitted: u16,
-    sbi: u16,
-    ebi: u16,
-) -> bool
-    requires reading { IsReading reading.now }
-    requires permitted { permitted ≤ 499 }
-    requires sbi { sbi ≤ 499 }
-    requires ebi { ebi ≤ 499 }
-{
-    is_speed_of(supervisor, reading, LimitName::Permitted, permitted)
-        && is_speed_of(supervisor, reading, LimitName::Sbi, sbi)
-        && is_speed_of(supervisor, reading, LimitName::Ebi, ebi)
+    speeds: [(LimitName, u16); 3],
+    target: Option<Shown>,
+) -> bool {
+    for (name, kmh) in speeds {
+        if kmh > 499 || supervisor.would_pass(reading, name, kmh) {
+            return false;
+        }
+        if !supervisor.would_pass(reading, name, kmh + 1) {
+            return false;
+        }
+    }
+    supervisor.shown(reading) == target
 }
 
-/// 200.01 m before the EOA, at 20 m/s: 59.4 km/h are permitted, and the brakes come at 72 km/h and a bit.
-pub fn is_shown_before_the_end(supervisor: &Supervisor) -> bool {
-    let Some(reading) = at(799_990, 20_000) else {
+/// Over the base data with the EOA at 1000 m. At 20 m/s and 200.01 m before it, 59.4 km/h are permitted, and the brakes
+/// come at 72 km/h and a bit; to a train that stands 100 m before it no target is slower.
+fn is_as_by_hand(supervisor: &Supervisor) -> bool {
+    let Some(before) = Reading::new(0, 799_990, 799_990, 799_990, 20_000, 0, 0) else {
         return false;
     };
-    are_speeds(supervisor, &reading, 59, 72, 72)
-        && supervisor.shown(&reading)
-            == Some(Shown {
-                kind: TargetKind::Eoa,
-                distance: 200_010,
-            })
-        && supervisor.release() == 0
+    let Some(standing) = Reading::new(0, 900_000, 900_000, 900_000, 0, 0, 0) else {
+        return false;
+    };
+    let end = Shown {
+        kind: TargetKind::Eoa,
+        distance: 200_010,
+    };
+    let at_20_m_s = [
+        (LimitName::Permitted, 59),
+        (LimitName::Sbi, 72),
+        (LimitName::Ebi, 72),
+    ];
+    let at_standstill = [
+        (LimitName::Permitted, 38),
+        (LimitName::Sbi, 50),
+        (LimitName::Ebi, 50),
+    ];
+    supervisor.release() == 0
+        && is_shown(supervisor, &before, at_20_m_s, Some(end))
+        && is_shown(supervisor, &standing, at_standstill, None)
 }
 
-/// Standing 100 m before the EOA no target is slower.
-pub fn is_shown_at_standstill(supervisor: &Supervisor) -> bool {
-    let Some(reading) = at(900_000, 0) else {
-        return false;
+#[test]
+fn what_is_shown_is_as_it_was_worked_by_hand(rt: HostRuntime) {
+    let shown = match opened(rt.alloc(), Some(base(rt.alloc()))) {
+        Some(supervisor) => is_as_by_hand(&supervisor),
+        None => false,
     };
-    are_speeds(supervisor, &reading, 38, 50, 50) && supervisor.shown(&reading).is_none()
+    assert!(rt; shown);
 }
