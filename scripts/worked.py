@@ -31,13 +31,13 @@ def signs(field):
     return "" if field == "-" else REPEATED.sub(repeated, field).replace("/", "\n").replace("~", "\r")
 
 
-def replaced(lines, old, new):
-    """The lines, with another text for each that is the old one; where none is, in the first place where it stands in one."""
+def replaced(name, lines, old, new):
+    """The lines of a file, with another text for each that is the old one; where none is, in the first place where it stands in one."""
     if old in lines:
         return [new if line == old else line for line in lines]
     number = next((number for number, line in enumerate(lines) if old in line), None)
     if number is None:
-        raise Fault(f"no line is or has `{old}`.")
+        raise Fault(f"{name} has no `{old}`.")
     return [*lines[:number], lines[number].replace(old, new, 1), *lines[number + 1:]]
 
 
@@ -46,7 +46,7 @@ def changed(name, changes):
     lines = (WORKED / name).read_text().splitlines()
     for change in changes:
         old, new = (side.strip() for side in change.split(">"))
-        lines = replaced(lines, old, signs(new))
+        lines = replaced(name, lines, old, signs(new))
     return "".join(f"{line}\n" for line in lines)
 
 

@@ -139,7 +139,7 @@ class Answers(OverACopy):
         copies.alter(self.top, "worked/check.txt", r" \| 0,no/", "")
         self.assertIn("has 5 fields and not 6", self.told("scripts/check-worked", "check"))
         copies.alter(self.top, "worked/base.toml", "^svl = .*\n", "")
-        self.assertIn("base.toml has no line `svl = 100000`", self.told("scripts/check-worked", "display"))
+        self.assertIn("base.toml has no `svl = 100000`", self.told("scripts/check-worked", "display"))
         (self.top / "worked/trial.txt").write_text("# none\n")
         self.assertIn("trial has no run", self.told("scripts/check-worked", "trial"))
 
