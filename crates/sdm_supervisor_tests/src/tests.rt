@@ -13,9 +13,11 @@
 //! proof of a function counts what each of its exits drops.
 
 mod calculated;
+mod certificates;
 mod curves;
 mod data;
 mod display;
+mod drives;
 mod flats;
 mod greatest;
 mod journeys;

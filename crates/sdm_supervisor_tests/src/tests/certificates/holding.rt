@@ -2,8 +2,8 @@
 //! metre is 540,000,000,000 grains and 1 m/s is 54,000 notches; the square of 1 m/s then has an energy of
 //! 1,458,000,000,000,000,000,000,000.
 
-use crate::tests::claims::{Line, claim, line_of, read_marks};
-use crate::tests::maps::map_named;
+use crate::tests::certificates::claims::{Line, claim, line_of, read_marks};
+use crate::tests::certificates::maps::map_named;
 use sdm_certify::holds;
 use sdm_curve::BandMap;
 use sdm_rules::Mark;

@@ -1,7 +1,7 @@
 //! Certificates of readings.
 
-use crate::tests::claims::{claim, line_of, read_marks};
-use crate::tests::made::MADE;
+use crate::tests::certificates::claims::{claim, line_of, read_marks};
+use crate::tests::certificates::made::MADE;
 use sdm_certify::{Certificate, certificate_of};
 use sdm_national::National;
 use sdm_num::Reading;

@@ -1,7 +1,7 @@
 //! Maps, claims, marks and answers as lines of text.
 
-use crate::tests::checked::is_answered;
-use crate::tests::maps::map_named;
+use crate::tests::certificates::checked::is_answered;
+use crate::tests::certificates::maps::map_named;
 use sdm_certify::{Answer, answer_line, claim_line, map_line, map_lines, mark_line};
 use sdm_curve::BandMap;
 use sdm_num::{Place, Speed};

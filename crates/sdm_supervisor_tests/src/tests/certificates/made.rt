@@ -2,8 +2,8 @@
 
 ghost use Rattle.sdm_rules.specs.Certificates.{IsClaimInRange};
 
-use crate::tests::claims::{claim, line_of, read_marks};
-use crate::tests::maps::map_named;
+use crate::tests::certificates::claims::{claim, line_of, read_marks};
+use crate::tests::certificates::maps::map_named;
 use sdm_certify::{Marks, holds, marks_of};
 use sdm_curve::BandMap;
 use sdm_rules::{Claim, Mark};
