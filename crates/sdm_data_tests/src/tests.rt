@@ -9,6 +9,7 @@ use sdm_data::{
     BASE_PART, DataFault, DocumentFault, JourneyData, data_of, law_of_tables, read_document, split,
     table_of, text_of,
 };
+use sdm_rules::{At, Section};
 use std::alloc::{AllocError, Global};
 use std::test::Fail;
 
@@ -92,6 +93,13 @@ fn base_data_are_read_and_written_with_ample_memory(rt: HostRuntime) {
     law_of_tables();
 }
 
+/// `train`, the second key of a document.
+const ROOT_TRAIN: At = At {
+    section: Section::Root,
+    index: 0,
+    key: 2,
+};
+
 /// The fault of a document that is read to a table.
 fn fault_of(alloc: Global, document: &[u8]) -> Option<DataFault> {
     let table = read_document(alloc, document).ok()?;
@@ -103,7 +111,7 @@ fn a_document_is_utf8_and_it_alone_may_begin_with_a_byte_order_mark(rt: HostRunt
     let alloc = rt.alloc();
     assert!(rt; split(b"\xef\xbb\xbf%%\n").is_none());
     let marked = fault_of(alloc, b"\xef\xbb\xbfversion = 1\n");
-    assert!(rt; matches!(marked, Some(DataFault::Missing(_))));
+    assert!(rt; marked == Some(DataFault::Missing(ROOT_TRAIN)));
     let comment = read_document(alloc, b"version = 1 # \xff\n");
     assert!(rt; matches!(comment, Err(DocumentFault::NotToml)));
 }

@@ -1,7 +1,8 @@
 //! Readings, data and summaries of generated journeys, worked by hand.
 
+use sdm_data::JourneyData;
 use sdm_num::Reading;
-use sdm_rules::{Held, Row, State, Status};
+use sdm_rules::{Authority, Gradient, Held, Row, State, Status};
 use sdm_text::RowBuf;
 use sdm_trial::{Readings, Summary, trial_data, trial_reading};
 
@@ -26,13 +27,32 @@ fn readings_of_cycles_after_7(rt: HostRuntime) {
     assert!(rt; trial_reading(7, 100_000).time() == 500_000);
 }
 
+/// The data of the trial: 5 ‰ down from 2 km on, with the EOA at 5000 m.
+fn are_of_the_trial(data: &JourneyData) -> bool {
+    let falling = Gradient {
+        start: 200_000,
+        grad: -50,
+    };
+    let end = Authority::Stop {
+        eoa: 500_000,
+        svl: 505_000,
+        release: 0,
+    };
+    data.train.length() == 20_000
+        && data.train.band_count() == 2
+        && data.national.adhesion_max() == 70
+        && data.track.gradient_count() == 3
+        && *data.track.gradient(1) == falling
+        && data.authority == end
+}
+
 #[test]
 fn data_with_ample_memory(rt: HostRuntime) {
-    let lengths = match trial_data(rt.alloc()) {
-        Ok(data) => Some((data.train.length(), data.track.length_cm())),
-        Err(_) => None,
+    let found = match trial_data(rt.alloc()) {
+        Ok(data) => are_of_the_trial(&data),
+        Err(_) => false,
     };
-    assert!(rt; lengths == Some((20_000, 600_000)));
+    assert!(rt; found);
 }
 
 /// A row with these flags and this EBI place.
