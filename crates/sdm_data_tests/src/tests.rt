@@ -1,6 +1,6 @@
 //! Where the data part ends, and each call that reads or writes data once; records and generated journeys in files of
-//! their own. What data parts hold, and the first rule that each breaks, are runs of the built program, in worked/. Every
-//! expected value is worked by hand.
+//! their own. What data parts hold, and the first rule that each breaks, are runs of the built program, in worked/.
+//! Every expected value is worked by hand.
 
 mod events;
 mod trial;

@@ -1,5 +1,5 @@
-//! What a record is, and which event it writes, worked by hand. In a table's texts `/` stands for LF, `_` for CR, and any
-//! other character for the byte of its number.
+//! What a record is, and which event it writes, worked by hand. In a table's texts `/` stands for LF, `_` for CR, and
+//! any other character for the byte of its number.
 
 use crate::tests::bytes_of;
 use sdm_events::{ByteRecord, Records, event_of};

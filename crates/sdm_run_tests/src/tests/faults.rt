@@ -1,7 +1,7 @@
 //! Runs over streams that fail, or that move few bytes at once. The lines of a table have the words, what the base data
-//! have otherwise (or `none`, where there are none), what follows them, what the streams do, what out takes, the code, and
-//! what the fault stream takes. What the streams do: so many bytes at once; the reads, the calls of out and the writes of
-//! the fault line that fail, by their numbers.
+//! have otherwise (or `none`, where there are none), what follows them, what the streams do, what out takes, the code,
+//! and what the fault stream takes. What the streams do: so many bytes at once; the reads, the calls of out and the
+//! writes of the fault line that fail, by their numbers.
 
 /// The rows before a refused record are written, and out is flushed after the last, where there is one.
 pub const RUN: &str = "\

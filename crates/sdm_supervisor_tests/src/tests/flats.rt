@@ -1,4 +1,5 @@
-//! The supervisor of one curve, at a time that goes back. Its rows and its other refusals are runs of `flat`, in worked/.
+//! The supervisor of one curve, at a time that goes back. Its rows and its other refusals are runs of `flat`, in
+//! worked/.
 
 ghost use Rattle.sdm_supervisor.specs.FlatLines.{IsFlatLine, line_at};
 
