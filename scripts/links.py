@@ -1,6 +1,6 @@
 """Checks the pages of the repository: every relative link and picture leads to a file or folder in it, every anchor to a heading;
-what README shows to paste is the input of examples/approach, with its rows; and the code that docs/INTEGRATION.md shows stands in
-crates/sdm_onboard or in c/. Links to other hosts are not followed.
+the inputs that README and docs/FORMATS.md show are those of examples/, with their rows; and the code that docs/INTEGRATION.md shows
+stands in crates/sdm_onboard or in c/. Links to other hosts are not followed.
 
     scripts/check-links
 """
@@ -19,6 +19,10 @@ CODE = re.compile(r"`[^`\n]*`")
 LINK = re.compile(r"\]\(\s*<?([^)\s>]+)>?(?:\s+\"[^\"]*\")?\s*\)")
 HEADING = re.compile(r"^#{1,6}\s+(.*?)\s*#*$", re.M)
 SHOWN_CODE = {"rust": "crates/sdm_onboard/src/*.rt", "c": "c/*.c", "ada": "c/ada/*.adb"}  # where docs/INTEGRATION.md has it from
+SHOWN_EXAMPLES = [  # a page, the folder of examples/ that it shows, and how it shows the input
+    ("README.md", "approach", "<<'END'\n{}END\n"),
+    ("docs/FORMATS.md", "every-key", "```toml\n{}```\n"),
+]
 ELSEWHERE = re.compile(r"^[a-z][a-z0-9+.-]*:", re.I)
 
 
@@ -67,13 +71,14 @@ def links_of(page):
 
 
 def example_faults():
-    """Where README's example isn't the folder's."""
-    text = (ROOT / "README.md").read_text()
-    example = ROOT / "examples" / "approach"
-    shown = {"input": f"<<'END'\n{(example / 'input').read_text()}END\n", "rows": f"```\n{(example / 'rows').read_text()}```\n"}
-    for name, lines in shown.items():
-        if lines not in text:
-            yield f"README.md: its example has not the {name} of examples/approach"
+    """Where a page's example isn't the folder's."""
+    for page, name, before in SHOWN_EXAMPLES:
+        text = (ROOT / page).read_text()
+        example = ROOT / "examples" / name
+        shown = {"input": before.format((example / "input").read_text()), "rows": f"```\n{(example / 'rows').read_text()}```\n"}
+        for what, lines in shown.items():
+            if lines not in text:
+                yield f"{page}: its example has not the {what} of examples/{name}"
 
 
 def code_faults():
