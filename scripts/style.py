@@ -1,0 +1,55 @@
+"""Checks the style of the pages: words that have a plainer one, and sentences that are too long. Tables, code and what scripts write
+into docs/DEFINITIONS.md aren't read.
+
+    scripts/check-style
+"""
+
+import re
+import sys
+from pathlib import Path
+
+from links import CODE, FENCE, pages
+from pages import told
+from specs import ROOT
+
+MOST_WORDS = 45  # in a sentence
+SKIPPED = {"docs/DEFINITIONS.md", "vectors/MUTANTS.md"}  # written by scripts
+PLAINER = {  # a pattern, and what to write in its place
+    r"(?:is|are|was|were|be) told": "says, gives, reports",
+    r"tells? of": "describes",
+    r"want of|for want": "refused memory, runs out of memory, lack",
+    r"(?:is|are) wanting": "is missing",
+    r"(?:is|a) free answer|answer is free": "is not excluded",
+    r"of (?:one|his|her|its|their|anybody)(?:'s)? own making": "generated",
+    r"in the place of": "instead of",
+    r"as (?:many|much|long) as one likes": "any number",
+    r"anew": "again",
+    r"who(?:ever)? (?:calls|runs|relies|looks|links|changes|works|asks|hands)": "a caller, a user",
+}
+SENTENCE = re.compile(r"(?<=[.!?])\s+")
+UNREAD = re.compile(r"^(?:    |\||#|<!--|!\[)")
+TARGET = re.compile(r"\]\([^)]*\)")
+
+
+def lines_of(page: Path) -> list[tuple[int, str]]:
+    """The lines of prose of a page with their numbers, each piece of code as one word."""
+    text = FENCE.sub(lambda block: re.sub(r"[^\n]", "", block.group()), page.read_text())
+    read = enumerate(text.splitlines(), 1)
+    return [(number, TARGET.sub("]", CODE.sub("code", line)).replace("*", "")) for number, line in read if not UNREAD.match(line)]
+
+
+def faults_of(line: str) -> list[str]:
+    """What is wrong with a line."""
+    words = [f"{found.group()!r}: write {plain}" for word, plain in PLAINER.items() for found in re.finditer(rf"\b(?:{word})\b", line, re.I)]
+    counts = [(len(sentence.split()), sentence) for sentence in SENTENCE.split(line)]
+    return words + [f"{count} words in a sentence: {sentence[:60]}" for count, sentence in counts if count > MOST_WORDS]
+
+
+def main() -> int:
+    lines = [(page.relative_to(ROOT), *line) for page in pages() if str(page.relative_to(ROOT)) not in SKIPPED for line in lines_of(page)]
+    faults = [f"{page}:{number}: {fault}" for page, number, line in lines for fault in faults_of(line)]
+    return told("style", len(lines), faults)
+
+
+if __name__ == "__main__":
+    sys.exit(main())
