@@ -1,6 +1,6 @@
 """Checks the pages of the repository: every relative link and picture leads to a file or folder in it, every anchor to a heading;
-the inputs that README and docs/FORMATS.md show are those of examples/, with their rows; and the code that docs/INTEGRATION.md shows
-stands in crates/sdm_onboard or in c/. Links to other hosts are not followed.
+the inputs that README and docs/FORMATS.md show are those of examples/, with their rows; and the code that docs/INTEGRATION.md
+and docs/FROM-C.md show stands in crates/sdm_onboard or in c/. Links to other hosts are not followed.
 
     scripts/check-links
 """
@@ -18,7 +18,11 @@ FENCE = re.compile(r"^(```|~~~).*?^\1\s*$", re.M | re.S)
 CODE = re.compile(r"`[^`\n]*`")
 LINK = re.compile(r"\]\(\s*<?([^)\s>]+)>?(?:\s+\"[^\"]*\")?\s*\)")
 HEADING = re.compile(r"^#{1,6}\s+(.*?)\s*#*$", re.M)
-SHOWN_CODE = {"rust": "crates/sdm_onboard/src/*.rt", "c": "c/*.c", "ada": "c/ada/*.adb"}  # where docs/INTEGRATION.md has it from
+SHOWN_CODE = [  # a page, the language of code that it shows, and where that is from
+    ("docs/INTEGRATION.md", "rust", "crates/sdm_onboard/src/*.rt"),
+    ("docs/FROM-C.md", "c", "c/*.c"),
+    ("docs/FROM-C.md", "ada", "c/ada/*.adb"),
+]
 SHOWN_EXAMPLES = [  # a page, the folder of examples/ that it shows, and how it shows the input
     ("README.md", "approach", "<<'END'\n{}END\n"),
     ("docs/FORMATS.md", "every-key", "```toml\n{}```\n"),
@@ -82,16 +86,15 @@ def example_faults():
 
 
 def code_faults():
-    """Where code of docs/INTEGRATION.md isn't that of the programs that it shows."""
-    text = (ROOT / "docs" / "INTEGRATION.md").read_text()
-    for language, files in SHOWN_CODE.items():
+    """Where code that a page shows isn't that of the programs that it shows."""
+    for page, language, files in SHOWN_CODE:
         sources = [path.read_text() for path in ROOT.glob(files)]
-        blocks = re.findall(rf"^```{language}\n(.*?)^```$", text, re.M | re.S)
+        blocks = re.findall(rf"^```{language}\n(.*?)^```$", (ROOT / page).read_text(), re.M | re.S)
         for block in blocks:
             if not any(block in source for source in sources):
-                yield f"docs/INTEGRATION.md: {files} has no such code: {block.splitlines()[0].strip()}"
+                yield f"{page}: {files} has no such code: {block.splitlines()[0].strip()}"
         if not blocks:
-            yield f"docs/INTEGRATION.md: it shows no code of {files}"
+            yield f"{page}: it shows no code of {files}"
 
 
 def link_faults(links):
