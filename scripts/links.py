@@ -1,5 +1,5 @@
-"""Checks the pages of the repository: every relative link and picture leads to a file or folder in it, every anchor to a heading;
-the inputs that README and docs/FORMATS.md show are those of examples/, with their rows; and the code that docs/INTEGRATION.md
+"""Checks the pages of the repository: every relative link and picture leads to a file or folder in it, every anchor to a heading or to
+a line; the inputs that README and docs/FORMATS.md show are those of examples/, with their rows; and the code that docs/INTEGRATION.md
 and docs/FROM-C.md show stands in crates/sdm_onboard or in c/. Links to other hosts are not followed.
 
     scripts/check-links
@@ -17,6 +17,7 @@ from specs import ROOT
 FENCE = re.compile(r"^(```|~~~).*?^\1\s*$", re.M | re.S)
 CODE = re.compile(r"`[^`\n]*`")
 LINK = re.compile(r"\]\(\s*<?([^)\s>]+)>?(?:\s+\"[^\"]*\")?\s*\)")
+LINE = re.compile(r"L(\d+)")  # the anchor of a line of a file
 HEADING = re.compile(r"^#{1,6}\s+(.*?)\s*#*$", re.M)
 SHOWN_CODE = [  # a page, the language of code that it shows, and where that is from
     ("docs/INTEGRATION.md", "rust", "crates/sdm_onboard/src/*.rt"),
@@ -59,6 +60,9 @@ def fault_of(page, target):
         return "leads out of the repository"
     if not to.exists():
         return "leads nowhere"
+    line = LINE.fullmatch(anchor)
+    if line and to.suffix != ".md":
+        return None if int(line[1]) <= len(to.read_text().splitlines()) else "has no such line"
     if anchor and (to.suffix != ".md" or anchor not in anchors(to)):
         return "has no such heading"
     return None

@@ -30,6 +30,8 @@ PARTS = {
     "links": [":!vectors/*/*/*"],
     "pictures": ["examples/approach", "examples/flat", "scripts", "tools"],
     "plot": ["examples", "scripts", "tools"],
+    "style": ["README.md", "docs", "scripts"],
+    "traces": [*SPECS, "README.md", "crates/*/proofs/*Cases.antt", "crates/*/must-fail/*"],
 }
 
 TWO_GROUPS = 'GROUPS = {name: GROUPS[name] for name in ["data", "flat"]}\n\n\n'
@@ -67,6 +69,8 @@ PLANTED = [
         Fault("c/onboard.c", r"if \(row->eb \|\|", "if (", "c/*.c has no such code: static struct orders"),
         Fault("README.md", "^5,T,X,1,1,1", "5,T,X,1,1,0", "has not the rows of examples/approach"),
         Fault("examples/approach/input", "^length = 10000$", "length = 10001", "has not the input of examples/approach"),
+        Fault("examples/every-key/input", "^length = 10000 ", "length = 10001 ", "has not the input of examples/every-key"),
+        Fault("docs/TRACES.md", r"supervisors\.rt#L\d+\)$", "supervisors.rt#L99999)", "supervisors.rt#L99999 has no such line"),
     ]),
     ("pictures", [
         Fault("examples/approach/rows", "^10,T,X,0,0,1,1,160,887500", "10,T,X,0,0,1,1,160,887000", "approach: the picture is stale"),
@@ -79,6 +83,17 @@ PLANTED = [
         Fault("examples/drive/input", "^emergency_time = 20$", "emergency_time = 21", "failed: its true train lies in its places"),
         Fault("examples/certificate-checked/input", "^mark,378", "mark,379", "failed: marks and ways lie in their places"),
     ]),
+    ("style", [
+        Fault("docs/SAFETY.md", "^(## What is claimed)$", r"\1\n\nA limit is told.", "'is told': write says"),
+        Fault("docs/SAFETY.md", "^(## What is not claimed)$", r"\1\n\n" + "A word " * 23 + "at last.", "48 words in a sentence: A word"),
+    ]),
+    ("traces", [
+        Fault("README.md", r" <!-- trace: stop -->", "", "no sentence of README's promise has the mark stop"),
+        Fault("scripts/traces.toml", r"law_of_machines", "law_of_machine", "order: no law sdm_laws::law_of_machine"),
+        Fault("scripts/traces.toml", r"Supervisor::cycle gaps", "Supervisor::cycle gap", "gaps: sdm_supervisor::Supervisor::cycle has no clause gap"),
+        Fault("crates/sdm_ceiling/must-fail/ebi_margin_not_capped.edit", r"\A#.*\n", "", "ebi_margin_not_capped has no line"),
+    ]),
+    ("traces", [Fault("crates/sdm_rules/specs/Stop.antt", r"\A", "-- one line more\n", STALE)]),
 ]
 
 
