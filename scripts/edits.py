@@ -6,11 +6,12 @@ from collections.abc import Iterator
 from dataclasses import dataclass
 from pathlib import Path
 
-from citations import Contract, contracts
+from citations import Contract, contracts, sources
 from specs import CRATES
 
 MARK = re.compile(r"^# refused-by: (.*)$", re.M)
-REFUSAL = re.compile(r"\b(?:\./)?(src/[\w/]+\.rt):(\d+):\d+: [^(]*\(`([\w-]+)`")
+IN_CODE = re.compile(r"\b(src/[\w/]+\.rt):(\d+):\d+: [^(]*\(`([\w-]+)`")
+IN_PROOF = re.compile(r"\bproofs/([\w/]+)/Answers\.antt:\d+:\d+: error: `([\w-]+)`")
 ENSURES = re.compile(r"\bensures\s+(\w*)\s*\{")
 
 
@@ -56,14 +57,23 @@ def line_at(contract: Contract, place: int) -> int:
 
 def refuser(crate: str, said: str) -> str:
     """The clause from which a refusal came, as marks name it; nothing where the prover doesn't say so of a function."""
-    found = REFUSAL.search(said)
-    path = CRATES / crate / found.group(1) if found else None
-    if not path or not path.exists():
-        return ""
-    line, goal = int(found.group(2)), found.group(3)
-    inside = [each for each in contracts(path) if each.is_function() and line_at(each, each.span[0]) <= line <= line_at(each, each.span[1])]
+    functions = [each for path in sources(crate) for each in contracts(path) if each.is_function()]
+    in_code, in_proof = IN_CODE.search(said), IN_PROOF.search(said)
+    if in_code:
+        path, line, goal = CRATES / crate / in_code[1], int(in_code[2]), in_code[3]
+        inside = [each for each in functions if each.path == path and has_line(each, line)]
+    elif in_proof:
+        way, goal = in_proof[1].split("/"), in_proof[2]
+        inside = [each for each in functions if each.name == way[-1] and each.owner in ("", *way[-2:-1])]
+    else:
+        inside, goal = [], ""
     if not inside:
         return ""
     clause = goal.rsplit("-", 1)[-1]
     is_named = clause in {name for name, _ in clauses_of(inside[-1])}
     return f"{named(inside[-1])} {clause}" if is_named else named(inside[-1])
+
+
+def has_line(contract: Contract, line: int) -> bool:
+    """Whether a line of its file is in a contract."""
+    return line_at(contract, contract.span[0]) <= line <= line_at(contract, contract.span[1])

@@ -107,10 +107,10 @@ class Places:
         if not contract:
             raise Gone(f"no function {function}")
         lines = dict(clauses_of(contract))
-        if clause not in lines:
-            raise Gone(f"{function} has no clause {clause or 'without a name'}")
+        if clause and clause not in lines:
+            raise Gone(f"{function} has no clause {clause}")
         shown = f"`{clause}` of `{function}`" if clause else f"`{function}`"
-        return link(shown, contract.path, lines[clause])
+        return link(shown, contract.path, lines.get(clause, line_at(contract, contract.span[0])))
 
     def law(self, name: str) -> str:
         """The links to a law and to its statement."""
