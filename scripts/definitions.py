@@ -29,7 +29,7 @@ PARTS = [
     (
         "What the top call reaches",
         "The contract of `sdm_main` names these definitions, or reaches them through others. Whoever relies on the program relies on "
-        "them. [ASSUMPTIONS.md](ASSUMPTIONS.md#the-files-to-believe) counts their lines.",
+        "them. [BELIEVED.md](BELIEVED.md) counts their lines, command by command.",
     ),
     (
         "What inner contracts and laws cite",

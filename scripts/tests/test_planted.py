@@ -22,7 +22,7 @@ class Fault(NamedTuple):
 # What the copies for a check have of the repository: what it reads.
 SPECS = ["docs", "scripts", "crates.txt", "crates/*/src/*", "crates/*/specs/*"]
 PARTS = {
-    "believed": SPECS,
+    "believed": [*SPECS, "c/*.h"],
     "clauses": ["docs", "scripts"],
     "crates": ["docs", "scripts", "crates.txt"],
     "definitions": [*SPECS, "crates/*/proofs/*Cases.antt"],
@@ -40,7 +40,7 @@ STALE = "stale, run scripts/"
 DEFINITIONS, COMMANDS = "docs/DEFINITIONS.md", "crates/sdm_rules/specs/Commands.antt"
 PLANTED = [
     # the check, and the faults that are planted at once
-    ("believed", [Fault("docs/ASSUMPTIONS.md", r"^(\| `crates/\S+/specs/\S+` \| )\d+", r"\g<1>7", STALE)]),
+    ("believed", [Fault("docs/BELIEVED.md", r"^(\| `\S+/specs/\S+` \| )\d+", r"\g<1>7", STALE)]),
     ("believed", [Fault(COMMANDS, r"\Z", "-- one line more\n", STALE)]),
     ("clauses", [Fault("docs/SAFETY.md", r"^\| 3\.13\.10 .*\n", "", STALE)]),
     ("clauses", [Fault(DEFINITIONS, r"\| as 3\.13\.10 \|", "| as 3.13.11 |", STALE)]),
