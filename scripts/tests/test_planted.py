@@ -65,7 +65,7 @@ PLANTED = [
     ("laboratory", [Fault("tools/why", "The program's row is the same", "It is the same", "FAIL: test_the_program_s_row")]),
     ("links", [
         Fault("docs/SAFETY.md", r"\(PROMISES\.md\)", "(PROMISE.md)", "PROMISE.md leads nowhere"),
-        Fault("docs/ASSUMPTIONS.md", "^## The files to believe", "## The believed files", "has no such heading"),
+        Fault("docs/ASSUMPTIONS.md", "^## What `covered` promises", "## What a covered row promises", "has no such heading"),
         Fault("c/onboard.c", r"if \(row->eb \|\|", "if (", "c/*.c has no such code: static struct orders"),
         Fault("README.md", "^5,T,X,1,1,1", "5,T,X,1,1,0", "has not the rows of examples/approach"),
         Fault("examples/approach/input", "^length = 10000$", "length = 10001", "has not the input of examples/approach"),
