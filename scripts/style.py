@@ -1,5 +1,5 @@
-"""Checks the style of the pages: words that have a plainer one, and sentences that are too long. Tables, code and pages that scripts
-write aren't read.
+"""Checks the style of the pages: words that have a plainer one, sentences that are too long, and versions and dates on a page that says
+what is. Of words and sentences tables and code aren't read, and pages that scripts write not at all.
 
     scripts/check-style
 """
@@ -26,6 +26,8 @@ PLAINER = {  # a pattern, and what to write in its place
     r"anew": "again",
     r"who(?:ever)? (?:calls|runs|relies|looks|links|changes|works|asks|hands)": "a caller, a user",
 }
+DATED = {"CHANGELOG.md", "README.md", "bench/README.md", "docs/RELEASES.md"}  # may name a version or a date
+DATE = re.compile(r"\b0\.\d+\.\d+\b|\b20\d\d-\d\d-\d\d\b")
 SENTENCE = re.compile(r"(?<=[.!?;])\s+")
 UNREAD = re.compile(r"^(?:    |\||#|<!--|!\[)")
 TARGET = re.compile(r"\]\([^)]*\)")
@@ -45,10 +47,18 @@ def faults_of(line: str) -> list[str]:
     return words + [f"{count} words in a sentence: {sentence[:60]}" for count, sentence in counts if count > MOST_WORDS]
 
 
+def dates_of(page: Path) -> list[tuple[int, str]]:
+    """The versions and dates that a page names, with their lines."""
+    lines = enumerate(page.read_text().splitlines(), 1)
+    return [(number, f"{found.group()!r}: only {', '.join(sorted(DATED))} name it") for number, line in lines for found in DATE.finditer(line)]
+
+
 def main() -> int:
-    lines = [(page.relative_to(ROOT), *line) for page in pages() if str(page.relative_to(ROOT)) not in SKIPPED for line in lines_of(page)]
-    faults = [f"{page}:{number}: {fault}" for page, number, line in lines for fault in faults_of(line)]
-    return told("style", len(lines), faults)
+    read = [page for page in pages() if str(page.relative_to(ROOT)) not in SKIPPED]
+    lines = [(page, number, line) for page in read for number, line in lines_of(page)]
+    found = [(page, number, fault) for page, number, line in lines for fault in faults_of(line)]
+    found += [(page, *dated) for page in read if str(page.relative_to(ROOT)) not in DATED for dated in dates_of(page)]
+    return told("style", len(lines), [f"{page.relative_to(ROOT)}:{number}: {fault}" for page, number, fault in found])
 
 
 if __name__ == "__main__":

@@ -86,6 +86,7 @@ PLANTED = [
     ("style", [
         Fault("docs/SAFETY.md", "^(## What is claimed)$", r"\1\n\nA limit is told.", "'is told': write says"),
         Fault("docs/SAFETY.md", "^(## What is not claimed)$", r"\1\n\n" + "A word " * 23 + "at last.", "48 words in a sentence: A word"),
+        Fault("docs/FORMATS.md", "^## Commands$", "## Commands of 0.12.1", "'0.12.1': only CHANGELOG.md"),
     ]),
     ("traces", [
         Fault("README.md", r" <!-- trace: stop -->", "", "no sentence of README's promise has the mark stop"),
