@@ -1,6 +1,7 @@
 """Checks the pages of the repository: every relative link and picture leads to a file or folder in it, every anchor to a heading or to
 a line; the inputs that README and docs/FORMATS.md show are those of examples/, with their rows; and the code that docs/INTEGRATION.md
-and docs/FROM-C.md show stands in crates/sdm_onboard or in c/. Links to other hosts are not followed.
+and docs/FROM-C.md show stands in crates/sdm_onboard or in c/; docs/LABORATORY.md shows what tools/compare prints. Links to other hosts
+are not followed.
 
     scripts/check-links
 """
@@ -28,6 +29,8 @@ SHOWN_EXAMPLES = [  # a page, the folder of examples/ that it shows, and how it 
     ("README.md", "approach", "<<'END'\n{}END\n"),
     ("docs/FORMATS.md", "every-key", "```toml\n{}```\n"),
 ]
+COMPARED = ["tools/compare", *(f"examples/interventions/{name}" for name in ("rows", "recording.csv")),
+            "--mapping", "examples/interventions/mapping.toml", "--mm", "2", "--ds", "5"]  # what docs/LABORATORY.md shows a run of
 ELSEWHERE = re.compile(r"^[a-z][a-z0-9+.-]*:", re.I)
 
 
@@ -101,6 +104,17 @@ def code_faults():
             yield f"{page}: it shows no code of {files}"
 
 
+def output_faults():
+    """Where docs/LABORATORY.md shows another comparison than the tool prints, or another mapping."""
+    text = (ROOT / "docs" / "LABORATORY.md").read_text()
+    printed = subprocess.run(COMPARED, cwd=ROOT, capture_output=True, text=True, check=False).stdout
+    shown = {"the command": " ".join(COMPARED), "its output": "".join(f"    {line}".rstrip() + "\n" for line in printed.splitlines()),
+             "its mapping": f"```toml\n{(ROOT / COMPARED[4]).read_text()}```\n"}
+    for what, lines in shown.items():
+        if not printed or lines not in text:
+            yield f"docs/LABORATORY.md: it doesn't show {what} of tools/compare as it is"
+
+
 def link_faults(links):
     """What is wrong with links, each a page, a line and where it leads."""
     for page, number, target in links:
@@ -111,7 +125,7 @@ def link_faults(links):
 
 def main():
     links = [(page, number, target) for page in pages() for number, target in links_of(page)]
-    return told("links", len(links), [*example_faults(), *code_faults(), *link_faults(links)])
+    return told("links", len(links), [*example_faults(), *code_faults(), *output_faults(), *link_faults(links)])
 
 
 if __name__ == "__main__":

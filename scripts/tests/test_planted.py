@@ -70,6 +70,7 @@ PLANTED = [
         Fault("README.md", "^5,T,X,1,1,1", "5,T,X,1,1,0", "has not the rows of examples/approach"),
         Fault("examples/approach/input", "^length = 10000$", "length = 10001", "has not the input of examples/approach"),
         Fault("examples/every-key/input", "^length = 10000 ", "length = 10001 ", "has not the input of examples/every-key"),
+        Fault("examples/interventions/recording.csv", "^13000;", "13100;", "it doesn't show its output of tools/compare as it is"),
         Fault("docs/TRACES.md", r"supervisors\.rt#L\d+\)$", "supervisors.rt#L99999)", "supervisors.rt#L99999 has no such line"),
     ]),
     ("pictures", [
