@@ -17,7 +17,8 @@ use Rattle.sdm_formats.specs.Text.{row_text}
 use Rattle.sdm_formats.specs.declared.faults.DriveCause.TheVariants.{ShortBuild}
 use Rattle.sdm_formats.specs.Input.{Data, Undrivable, Refused, BadEvent}
 use Rattle.sdm_formats.specs.FaultLines.{end_line, fault_line, data_text, open_text, cause_text, form_text, field_text}
-use Rattle.sdm_formats.specs.FaultLines.{train_text, track_text, kind_text, section_path, list_path, key_path, key_names}
+use Rattle.sdm_formats.specs.FaultLines.{train_text, track_text, kind_text, section_path, list_path, key_path}
+use Rattle.sdm_formats.specs.FaultLines.{key_names}
 
 a_row : row_text (record {
   time = 0;
