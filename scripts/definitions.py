@@ -28,7 +28,7 @@ REASONS = ROOT / "scripts" / "own-reasons.txt"
 PARTS = [
     (
         "What the top call reaches",
-        "The contract of `sdm_main` names these definitions, or reaches them through others. Whoever relies on the program relies on "
+        "The contract of `sdm_main` names these definitions, or reaches them through others. The program rests on "
         "them. [BELIEVED.md](BELIEVED.md) counts their lines, command by command.",
     ),
     (

@@ -1,5 +1,5 @@
 """Checks the style of the pages: words that have a plainer one, sentences that are too long, and versions and dates on a page that says
-what is. Of words and sentences tables and code aren't read, and pages that scripts write not at all.
+what is. Of words and sentences tables and code aren't read, and what scripts write not at all.
 
     scripts/check-style
 """
@@ -13,7 +13,8 @@ from pages import told
 from specs import ROOT
 
 MOST_WORDS = 40  # in a sentence, or in a part of it up to a semicolon
-SKIPPED = {"docs/DEFINITIONS.md", "docs/TRACES.md", "vectors/MUTANTS.md"}  # written by scripts
+SKIPPED = {"vectors/MUTANTS.md"}  # written by a script
+WRITTEN = re.compile(r"^<!-- The \w+ from here on .*?(?=^<!-- The \w+ ends? here|\Z)", re.M | re.S)  # a part that a script writes
 PLAINER = {  # a pattern, and what to write in its place
     r"(?:is|are|was|were|be) told": "says, gives, reports",
     r"tells? of": "describes",
@@ -35,9 +36,11 @@ TARGET = re.compile(r"\]\([^)]*\)")
 
 def lines_of(page: Path) -> list[tuple[int, str]]:
     """The lines of prose of a page with their numbers, each piece of code as one word."""
-    text = FENCE.sub(lambda block: re.sub(r"[^\n]", "", block.group()), page.read_text())
+    text = page.read_text()
+    for unread in (WRITTEN, FENCE):
+        text = unread.sub(lambda part: re.sub(r"[^\n]", "", part.group()), text)
     read = enumerate(text.splitlines(), 1)
-    return [(number, TARGET.sub("]", CODE.sub("code", line)).replace("*", "")) for number, line in read if not UNREAD.match(line)]
+    return [(number, TARGET.sub("]", CODE.sub("code", line)).replace("*", "")) for number, line in read if line.strip() and not UNREAD.match(line)]
 
 
 def faults_of(line: str) -> list[str]:
