@@ -1,6 +1,7 @@
-"""Lists the files that must be believed for a contract to be worth something, by what is claimed: for each command of the program, for
-who calls the supervisor from Rattle, and for who calls it from C. It follows names from the clauses of the claim over every definition
-and type that they reach. A definition by equations over the commands counts for a command with its own equations alone.
+"""Lists the files that must be believed for a contract to be worth something, by what is claimed: for each command
+of the program, for callers of the supervisor from Rattle, and for callers from C. It follows names from the
+clauses of the claim over every definition and type that they reach. A definition by equations over the commands
+counts for a command with its own equations alone.
 
     scripts/believed          prints the tables of docs/BELIEVED.md
     scripts/believed write    puts them between their marks there
@@ -29,8 +30,16 @@ PART = Part(
     "scripts/believed write",
 )
 
-COMMANDS = {"run": "Run", "display": "Display", "flat": "Flat", "trial": "Trial", "upgrade": "Upgrade", "drive": "Drive",
-            "certify": "Certify", "check": "Check"}  # each with its constructor in the definitions
+COMMANDS = {
+    "run": "Run",
+    "display": "Display",
+    "flat": "Flat",
+    "trial": "Trial",
+    "upgrade": "Upgrade",
+    "drive": "Drive",
+    "certify": "Certify",
+    "check": "Check",
+}  # each with its constructor in the definitions
 COMMAND = (CRATES / "sdm_run" / "src" / "words.rt", "Command")
 MEANINGS = ("Value", "view")  # the ghost members that say what a value of a type is
 Key = tuple[Path, str]
@@ -38,9 +47,9 @@ Key = tuple[Path, str]
 
 @dataclass(frozen=True)
 class Claim:
-    """What someone relies on: the calls, as (crate, owner, name), whose clauses count; the owners, as (crate, name), all of whose
-    clauses do; the types whose values the clauses speak of; and the files that are read for these, each with what counts in it. Of a
-    command of the program it has the constructor."""
+    """What someone relies on: the calls, as (crate, owner, name), whose clauses count; the owners, as (crate, name),
+    all of whose clauses do; the types whose values the clauses speak of; and the files that are read for these, each
+    with what counts in it. Of a command of the program it has the constructor."""
 
     name: str
     calls: list[tuple[str, str, str]]
@@ -73,13 +82,26 @@ PROGRAM = of_program("any command", "")
 SUPERVISOR = Claim(
     "supervisor",
     calls=[("sdm_supervisor", "Supervisor", name) for name in ("begin", "cycle", "authority", "restrict", "revoke")]
-    + [("sdm_num", "Reading", "new"), ("sdm_train", "Train", "new"), ("sdm_national", "National", "new"), ("sdm_track", "Track", "new")],
+    + [
+        ("sdm_num", "Reading", "new"),
+        ("sdm_train", "Train", "new"),
+        ("sdm_national", "National", "new"),
+        ("sdm_track", "Track", "new"),
+    ],
     values=[
-        ("sdm_supervisor", "Supervisor"), ("sdm_num", "Reading"), ("sdm_num", "Place"), ("sdm_num", "Speed"),
-        ("sdm_train", "Train"), ("sdm_national", "National"), ("sdm_track", "Track"),
+        ("sdm_supervisor", "Supervisor"),
+        ("sdm_num", "Reading"),
+        ("sdm_num", "Place"),
+        ("sdm_num", "Speed"),
+        ("sdm_train", "Train"),
+        ("sdm_national", "National"),
+        ("sdm_track", "Track"),
     ],
     edge=[
-        ("sdm_supervisor/src/supervisors.rt", "the value of a `Supervisor`; the clauses of `begin`, `cycle`, `authority`, `restrict`, `revoke`"),
+        (
+            "sdm_supervisor/src/supervisors.rt",
+            "the value of a `Supervisor`; the clauses of `begin`, `cycle`, `authority`, `restrict`, `revoke`",
+        ),
         ("sdm_num/src/readings.rt", "the value of a `Reading`, and the clause of `Reading::new`"),
         ("sdm_num/src/places.rt", "the value of a `Place`"),
         ("sdm_num/src/speeds.rt", "the value of a `Speed`"),
@@ -91,8 +113,21 @@ SUPERVISOR = Claim(
 
 C = Claim(
     "C",
-    calls=[("sdm_c", "", name) for name in ("sdm_layout", "sdm_open", "sdm_cycle", "sdm_end", "sdm_end_calculated", "sdm_limit",
-                                            "sdm_restrict", "sdm_revoke", "sdm_display", "sdm_close")],
+    calls=[
+        ("sdm_c", "", name)
+        for name in (
+            "sdm_layout",
+            "sdm_open",
+            "sdm_cycle",
+            "sdm_end",
+            "sdm_end_calculated",
+            "sdm_limit",
+            "sdm_restrict",
+            "sdm_revoke",
+            "sdm_display",
+            "sdm_close",
+        )
+    ],
     edge=[
         ("sdm_c/src/lib.rt", "the clauses of each call; their bodies are proved"),
         ("sdm_c/src/structs.rt", "the structs as C has them: their layout is trusted"),
@@ -182,12 +217,20 @@ class Believed:
     def type_files(self, claim: Claim) -> list[Path]:
         """The source files that declare types and constants of the definitions, but for those of the edge."""
         edge = {CRATES / path for path, _ in claim.edge}
-        return [path for path in sorted(self.reached[claim.name]) if path.suffix == ".rt" and path.exists() and path not in edge]
+        return [
+            path
+            for path in sorted(self.reached[claim.name])
+            if path.suffix == ".rt" and path.exists() and path not in edge
+        ]
 
     def toolchain(self, claim: Claim) -> list[str]:
         """The modules of the toolchain's library that the definitions of a claim stand on."""
         paths = self.reached[claim.name]
-        return sorted(path.relative_to(CRATES).with_suffix("").as_posix() for path in paths if CRATES in path.parents and not path.exists())
+        return sorted(
+            path.relative_to(CRATES).with_suffix("").as_posix()
+            for path in paths
+            if CRATES in path.parents and not path.exists()
+        )
 
     def definition_lines(self, claim: Claim) -> int:
         """The lines of the definitions that count for a claim, with their comments."""
@@ -202,7 +245,8 @@ class Believed:
         cells = [f"{len(paths)}: {sum(map(lines_of, paths)):,}" for paths in (edge, definitions, types)]
         names = sum(len(self.counted(claim, path)) for path in definitions)
         files = len(edge) + len(definitions) + len(types)
-        return f"| {shown(claim)} | {files} | {cells[0]} | {cells[1]} | {names}: {self.definition_lines(claim):,} | {cells[2]} |"
+        counted = f"{names}: {self.definition_lines(claim):,}"
+        return f"| {shown(claim)} | {files} | {cells[0]} | {cells[1]} | {counted} | {cells[2]} |"
 
     def definition_row(self, path: Path) -> str:
         """The line of a spec file: how many of its definitions count for each claim."""
@@ -220,7 +264,10 @@ class Believed:
         heads = f"| File | Lines | {' | '.join(shown(claim) for claim in CLAIMS)} |\n|---|---|{'---|' * len(CLAIMS)}"
         types = sorted({path for claim in CLAIMS for path in self.type_files(claim)})
         out = ["", "## By claim", ""]
-        out += ["| Claim | Files | Edge, files: lines | Specs, files: lines | Definitions that count: their lines | Types, files: lines |"]
+        out += [
+            "| Claim | Files | Edge, files: lines | Specs, files: lines | Definitions that count: their lines "
+            "| Types, files: lines |"
+        ]
         out += ["|---|---|---|---|---|---|", *map(self.summary, [PROGRAM, *CLAIMS])]
         out += ["", "## Clauses and code of the edge"]
         for title, claim in (("Every command", PROGRAM), ("From Rattle", SUPERVISOR), ("From C", C)):
@@ -230,7 +277,10 @@ class Believed:
         out += ["", "## Types and constants that the definitions speak of", "", heads, *map(self.type_row, types)]
         modules = sorted({module for claim in CLAIMS for module in self.toolchain(claim)})
         out += ["", "## The toolchain's library", "", "The definitions stand on these modules:", ""]
-        out += [f"- `{each}`: {', '.join(claim.name for claim in CLAIMS if each in self.toolchain(claim))}" for each in modules]
+        out += [
+            f"- `{each}`: {', '.join(claim.name for claim in CLAIMS if each in self.toolchain(claim))}"
+            for each in modules
+        ]
         return "\n".join([*out, ""]) + "\n"
 
     def names(self, claim: Claim) -> str:

@@ -1,5 +1,5 @@
-"""Writes the table of crates of docs/ARCHITECTURE.md: the crates in the order of crates.txt. What a crate does is written by hand in
-that table, and is kept.
+"""Writes the table of crates of docs/ARCHITECTURE.md: the crates in the order of crates.txt. What a crate does is
+written by hand in that table, and is kept.
 
     scripts/crates          prints the table
     scripts/crates write    puts it between its marks in docs/ARCHITECTURE.md

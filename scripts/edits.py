@@ -1,5 +1,6 @@
-"""Reads the must-fail edits, and which clause refuses each: a line `# refused-by: CRATE::[TYPE::]FUNCTION [CLAUSE]` of its file, which
-`rt` passes over. scripts/try-edits holds the lines against what the prover says, docs/TRACES.md links them."""
+"""Reads the must-fail edits, and which clause refuses each: a line `# refused-by: CRATE::[TYPE::]FUNCTION [CLAUSE]`
+of its file, which `rt` passes over. scripts/try-edits holds the lines against what the prover says, docs/TRACES.md
+links them."""
 
 import re
 from collections.abc import Iterator

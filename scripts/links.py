@@ -1,7 +1,7 @@
-"""Checks the pages of the repository: every relative link and picture leads to a file or folder in it, every anchor to a heading or to
-a line; the inputs that README and docs/FORMATS.md show are those of examples/, with their rows; and the code that docs/INTEGRATION.md
-and docs/FROM-C.md show stands in crates/sdm_onboard or in c/; docs/LABORATORY.md shows what tools/compare prints. Links to other hosts
-are not followed.
+"""Checks the pages of the repository: every relative link and picture leads to a file or folder in it, every anchor
+to a heading or to a line; the inputs that README and docs/FORMATS.md show are those of examples/, with their rows;
+and the code that docs/INTEGRATION.md and docs/FROM-C.md show stands in crates/sdm_onboard or in c/;
+docs/LABORATORY.md shows what tools/compare prints. Links to other hosts are not followed.
 
     scripts/check-links
 """
@@ -9,6 +9,7 @@ are not followed.
 import re
 import subprocess
 import sys
+from collections.abc import Iterator
 from functools import cache
 from urllib.parse import unquote
 
@@ -29,8 +30,16 @@ SHOWN_EXAMPLES = [  # a page, the folder of examples/ that it shows, and how it 
     ("README.md", "approach", "<<'END'\n{}END\n"),
     ("docs/FORMATS.md", "every-key", "```toml\n{}```\n"),
 ]
-COMPARED = ["tools/compare", *(f"examples/interventions/{name}" for name in ("rows", "recording.csv")),
-            "--mapping", "examples/interventions/mapping.toml", "--mm", "2", "--ds", "5"]  # what docs/LABORATORY.md shows a run of
+COMPARED = [
+    "tools/compare",
+    *(f"examples/interventions/{name}" for name in ("rows", "recording.csv")),
+    "--mapping",
+    "examples/interventions/mapping.toml",
+    "--mm",
+    "2",
+    "--ds",
+    "5",
+]  # what docs/LABORATORY.md shows a run of
 ELSEWHERE = re.compile(r"^[a-z][a-z0-9+.-]*:", re.I)
 
 
@@ -81,18 +90,21 @@ def links_of(page):
                     yield number, target
 
 
-def example_faults():
+def example_faults() -> Iterator[str]:
     """Where a page's example isn't the folder's."""
     for page, name, before in SHOWN_EXAMPLES:
         text = (ROOT / page).read_text()
         example = ROOT / "examples" / name
-        shown = {"input": before.format((example / "input").read_text()), "rows": f"```\n{(example / 'rows').read_text()}```\n"}
+        shown = {
+            "input": before.format((example / "input").read_text()),
+            "rows": f"```\n{(example / 'rows').read_text()}```\n",
+        }
         for what, lines in shown.items():
             if lines not in text:
                 yield f"{page}: its example has not the {what} of examples/{name}"
 
 
-def code_faults():
+def code_faults() -> Iterator[str]:
     """Where code that a page shows isn't that of the programs that it shows."""
     for page, language, files in SHOWN_CODE:
         sources = [path.read_text() for path in ROOT.glob(files)]
@@ -104,12 +116,15 @@ def code_faults():
             yield f"{page}: it shows no code of {files}"
 
 
-def output_faults():
+def output_faults() -> Iterator[str]:
     """Where docs/LABORATORY.md shows another comparison than the tool prints, or another mapping."""
     text = (ROOT / "docs" / "LABORATORY.md").read_text()
     printed = subprocess.run(COMPARED, cwd=ROOT, capture_output=True, text=True, check=False).stdout
-    shown = {"the command": " ".join(COMPARED), "its output": "".join(f"    {line}".rstrip() + "\n" for line in printed.splitlines()),
-             "its mapping": f"```toml\n{(ROOT / COMPARED[4]).read_text()}```\n"}
+    shown = {
+        "the command": " ".join(COMPARED),
+        "its output": "".join(f"    {line}".rstrip() + "\n" for line in printed.splitlines()),
+        "its mapping": f"```toml\n{(ROOT / COMPARED[4]).read_text()}```\n",
+    }
     for what, lines in shown.items():
         if not printed or lines not in text:
             yield f"docs/LABORATORY.md: it doesn't show {what} of tools/compare as it is"

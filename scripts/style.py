@@ -1,5 +1,5 @@
-"""Checks the style of the pages: words that have a plainer one, sentences that are too long, and versions and dates on a page that says
-what is. Of words and sentences tables and code aren't read, and what scripts write not at all.
+"""Checks the style of the pages: words that have a plainer one, sentences that are too long, and versions and dates
+on a page that says what is. Of words and sentences tables and code aren't read, and what scripts write not at all.
 
     scripts/check-style
 """
@@ -14,7 +14,9 @@ from specs import ROOT
 
 MOST_WORDS = 40  # in a sentence, or in a part of it up to a semicolon
 SKIPPED = {"vectors/MUTANTS.md"}  # written by a script
-WRITTEN = re.compile(r"^<!-- The \w+ from here on .*?(?=^<!-- The \w+ ends? here|\Z)", re.M | re.S)  # a part that a script writes
+WRITTEN = re.compile(
+    r"^<!-- The \w+ from here on .*?(?=^<!-- The \w+ ends? here|\Z)", re.M | re.S
+)  # a part that a script writes
 PLAINER = {  # a pattern, and what to write in its place
     r"(?:is|are|was|were|be) told": "says, gives, reports",
     r"tells? of": "describes",
@@ -40,12 +42,20 @@ def lines_of(page: Path) -> list[tuple[int, str]]:
     for unread in (WRITTEN, FENCE):
         text = unread.sub(lambda part: re.sub(r"[^\n]", "", part.group()), text)
     read = enumerate(text.splitlines(), 1)
-    return [(number, TARGET.sub("]", CODE.sub("code", line)).replace("*", "")) for number, line in read if line.strip() and not UNREAD.match(line)]
+    return [
+        (number, TARGET.sub("]", CODE.sub("code", line)).replace("*", ""))
+        for number, line in read
+        if line.strip() and not UNREAD.match(line)
+    ]
 
 
 def faults_of(line: str) -> list[str]:
     """What is wrong with a line."""
-    words = [f"{found.group()!r}: write {plain}" for word, plain in PLAINER.items() for found in re.finditer(rf"\b(?:{word})\b", line, re.I)]
+    words = [
+        f"{found.group()!r}: write {plain}"
+        for word, plain in PLAINER.items()
+        for found in re.finditer(rf"\b(?:{word})\b", line, re.I)
+    ]
     counts = [(len(sentence.split()), sentence) for sentence in SENTENCE.split(line)]
     return words + [f"{count} words in a sentence: {sentence[:60]}" for count, sentence in counts if count > MOST_WORDS]
 
@@ -53,7 +63,11 @@ def faults_of(line: str) -> list[str]:
 def dates_of(page: Path) -> list[tuple[int, str]]:
     """The versions and dates that a page names, with their lines."""
     lines = enumerate(page.read_text().splitlines(), 1)
-    return [(number, f"{found.group()!r}: only {', '.join(sorted(DATED))} name it") for number, line in lines for found in DATE.finditer(line)]
+    return [
+        (number, f"{found.group()!r}: only {', '.join(sorted(DATED))} name it")
+        for number, line in lines
+        for found in DATE.finditer(line)
+    ]
 
 
 def main() -> int:

@@ -1,6 +1,7 @@
-"""Writes docs/TRACES.md: for each sentence of README's promise its clauses and laws, their definitions, cases that show these, the
-must-fail edits that break them with the clause that refuses each, and the wrong definitions that were tried. scripts/traces.toml says
-which, by the ids of README's marks `<!-- trace: ID -->`; this script finds where each stands, and fails where one is gone.
+"""Writes docs/TRACES.md: for each sentence of README's promise its clauses and laws, their definitions, cases that
+show these, the must-fail edits that break them with the clause that refuses each, and the wrong definitions that
+were tried. scripts/traces.toml says which, by the ids of README's marks `<!-- trace: ID -->`; this script finds
+where each stands, and fails where one is gone.
 
     scripts/traces          prints the page's part
     scripts/traces write    puts it into docs/TRACES.md
@@ -65,7 +66,11 @@ def promise() -> list[tuple[str, list[str]]]:
 
 def from_docs(sentence: str) -> str:
     """A sentence of README with its links as they are from docs/."""
-    return re.sub(r"\]\((?![a-z]+:)(#|docs/)?", lambda found: {"#": "](../README.md#", "docs/": "]("}.get(found[1], "](../"), sentence)
+    return re.sub(
+        r"\]\((?![a-z]+:)(#|docs/)?",
+        lambda found: {"#": "](../README.md#", "docs/": "]("}.get(found[1], "](../"),
+        sentence,
+    )
 
 
 def link(text: str, path: Path, line: int = 0) -> str:
@@ -74,7 +79,7 @@ def link(text: str, path: Path, line: int = 0) -> str:
 
 
 def declared(name: str, file: str, pattern: str, comment: str) -> str:
-    """The link to what a file FILE.NAME of some crate declares; of the files, and of the declaration, the form is given."""
+    """The link to NAME in a file FILE of some crate; the form of the files and of the declaration is given."""
     stem, _, word = name.partition(".")
     for path in sorted(CRATES.glob(f"*/{file.format(stem)}")):
         text = blanked(path.read_text(), comment)
@@ -117,9 +122,15 @@ class Places:
         contract = self.functions.get(name)
         if not contract:
             raise Gone(f"no law {name}")
-        stated = sorted(key for key in self.graph.cited_by_contract(contract) if key in self.graph.definitions and key[1][:1].isupper())
+        stated = sorted(
+            key
+            for key in self.graph.cited_by_contract(contract)
+            if key in self.graph.definitions and key[1][:1].isupper()
+        )
         statements = [link(f"`{key[1]}`", key[0], self.graph.definitions[key].line) for key in stated]
-        return link(f"`{name}`", contract.path, line_at(contract, contract.span[0])) + (f": {', '.join(statements)}" if statements else "")
+        return link(f"`{name}`", contract.path, line_at(contract, contract.span[0])) + (
+            f": {', '.join(statements)}" if statements else ""
+        )
 
     def definition(self, name: str) -> Definition:
         """The definition FILE.NAME, whose file stands in one crate."""
@@ -151,7 +162,9 @@ def lines_of(trace: Trace, places: Places) -> list[str]:
     out += [f"- Law: {places.law(name)}" for name in trace.laws]
     for name in trace.definitions:
         found = places.definition(name)
-        out.append(f"- Definition: {link(f'`{found.name}`', found.path, found.line)}, {specs.meaning_of(found.comment)}")
+        out.append(
+            f"- Definition: {link(f'`{found.name}`', found.path, found.line)}, {specs.meaning_of(found.comment)}"
+        )
     out += [f"- Type: {places.type(name)}" for name in trace.types]
     out += [f"- Case: {places.case(name)}" for name in trace.cases]
     out += [f"- Edit: {places.edit(name)}" for name in trace.edits]
@@ -168,7 +181,9 @@ def listed(traces: dict[str, Trace], faults: list[str]) -> str:
     places, out, seen = Places(), [], set()
     for number, (sentence, ids) in enumerate(promise(), 1):
         out += ["", f"## Sentence {number}", "", f"> {from_docs(sentence)}"]
-        faults += [] if ids else [f"README.md: its promise has a sentence without `<!-- trace: ID -->`: {sentence[:50]}"]
+        faults += (
+            [] if ids else [f"README.md: its promise has a sentence without `<!-- trace: ID -->`: {sentence[:50]}"]
+        )
         for each in ids:
             if each not in traces:
                 faults.append(f"README.md: scripts/traces.toml has no trace {each}")
@@ -178,7 +193,11 @@ def listed(traces: dict[str, Trace], faults: list[str]) -> str:
                 out += ["", f"**{traces[each].says}**", "", *lines_of(traces[each], places)]
             except Gone as gone:
                 faults.append(f"scripts/traces.toml: {each}: {gone}")
-    faults += [f"scripts/traces.toml: no sentence of README's promise has the mark {each}" for each in traces if each not in seen]
+    faults += [
+        f"scripts/traces.toml: no sentence of README's promise has the mark {each}"
+        for each in traces
+        if each not in seen
+    ]
     return "\n".join([*out, ""]) + "\n"
 
 
