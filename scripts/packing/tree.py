@@ -1,0 +1,74 @@
+"""All files of a release below a prefix, with their modes and times."""
+
+import os
+import posixpath
+import shutil
+from concurrent.futures import ThreadPoolExecutor
+from pathlib import Path
+
+from . import archive, bill, library, web
+from .facts import TOP, Built, Release, filled, ran
+from .places import place_of
+
+
+def packed_files() -> list[str]:
+    """The files of the repository that are packed, by their paths in it."""
+    names = ran("git", "ls-files", "-z").decode().split("\0")
+    return [name for name in names if name and place_of(name) is not None]
+
+
+def copy_file(release: Release, name: str, prefix: Path) -> None:
+    """Copies a file of the repository to its place; a page becomes HTML."""
+    to = prefix / place_of(name)
+    to.parent.mkdir(parents=True, exist_ok=True)
+    if name.endswith(".md"):
+        to.write_bytes(web.page(release, name, (TOP / name).read_bytes()))
+    else:
+        shutil.copyfile(TOP / name, to)
+
+
+def copy_files(release: Release, prefix: Path) -> None:
+    """Copies what the repository has, some at a time, since pandoc takes a while for each page."""
+    with ThreadPoolExecutor() as threads:
+        for _ in threads.map(lambda name: copy_file(release, name, prefix), packed_files()):
+            pass
+
+
+def write_libraries(release: Release, built: Built, prefix: Path, root: str, libraries: str, scratch: Path) -> None:
+    """Writes the libraries with what pkg-config and CMake read of them. The root is where pkg-config finds the prefix."""
+    into = prefix / libraries
+    for folder in (into / "pkgconfig", into / "cmake" / "sdm"):
+        folder.mkdir(parents=True)
+    library.make_static(release, built, scratch, into)
+    library.make_shared(release, built, scratch, into)
+    (into / "pkgconfig" / "sdm.pc").write_text(filled("sdm.pc", prefix=root, libraries=libraries, version=release.version))
+    (into / "cmake" / "sdm" / "sdm-config.cmake").write_text(filled(
+        "sdm-config.cmake", to_headers=posixpath.relpath("include", libraries), shared_name=release.shared_name))
+    (into / "cmake" / "sdm" / "sdm-config-version.cmake").write_text(
+        filled("sdm-config-version.cmake", version=release.version))
+
+
+def build_record(release: Release, built: Built) -> str:
+    """What a release was built from, in lines."""
+    return (f"version {release.version}\ncommit {release.commit}\nsources {release.sources}\nkit {release.kit}\n"
+            f"program {archive.sum_of(built.program)}\nlibrary {archive.sum_of(built.library)}\n")
+
+
+def write(release: Release, built: Built, prefix: Path, root: str, libraries: str, scratch: Path) -> None:
+    """Writes all files below a prefix that is empty, but its checksums: the libraries go to a folder below it."""
+    (prefix / "bin").mkdir(parents=True)
+    shutil.copyfile(built.program, prefix / "bin" / "sdm")
+    copy_files(release, prefix)
+    write_libraries(release, built, prefix, root, libraries, scratch)
+    (prefix / "share" / "doc" / "sdm" / "BUILD").write_text(build_record(release, built))
+    web.check_links(prefix)
+    bill.write(release, prefix)
+
+
+def settle(release: Release, top: Path) -> None:
+    """Gives each file below a folder the mode and the time that it has in every release of a commit."""
+    for path in [top, *top.rglob("*")]:
+        if not path.is_symlink():
+            is_open = path.is_dir() or path.parent.name == "bin"
+            path.chmod(0o755 if is_open else 0o644)
+        os.utime(path, (release.epoch, release.epoch), follow_symlinks=False)

@@ -1,0 +1,33 @@
+"""Packs a release: the archive, the Debian package and their checksums, twice in two folders, and only where both are the same."""
+
+import filecmp
+import shutil
+import tempfile
+from pathlib import Path
+
+from . import archive, debian
+from .facts import Built, Fault, Release
+
+
+def pack_once(release: Release, built: Built, into: Path) -> list[Path]:
+    """Writes what is packed into a folder that is empty; the paths."""
+    packed = []
+    for write in (archive.write, debian.write):
+        with tempfile.TemporaryDirectory(prefix="sdm-packing-") as scratch:
+            packed.append(write(release, built, Path(scratch), into))
+    sums = into / archive.SUMS
+    sums.write_text("".join(f"{archive.sum_of(path)}  {path.name}\n" for path in packed))
+    return [*packed, sums]
+
+
+def pack(release: Release, built: Built, into: Path) -> list[Path]:
+    """Writes what is packed into a folder, in the place of what it has; a fault, where a second time gives other bytes."""
+    with tempfile.TemporaryDirectory() as one, tempfile.TemporaryDirectory() as other:
+        packed = pack_once(release, built, Path(one))
+        again = pack_once(release, built, Path(other))
+        for first, second in zip(packed, again, strict=True):
+            if not filecmp.cmp(first, second, shallow=False):
+                raise Fault(f"{first.name} has other bytes when it is packed again.")
+        shutil.rmtree(into, ignore_errors=True)
+        into.mkdir(parents=True)
+        return [Path(shutil.copy(path, into)) for path in packed]
