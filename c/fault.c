@@ -370,6 +370,15 @@ static void misuse_supervisor(const struct journey *journey) {
     check(heap_test_counts().held == 0, "closing gives all memory back", "the supervisors");
 }
 
+/* Each status has a text of its own, and so has a number that is none. */
+static void tell_statuses(void) {
+    for (uint32_t one = SDM_DONE; one <= SDM_UNKNOWN_ID + 1; one++)
+        for (uint32_t other = SDM_DONE; other < one; other++)
+            check(strcmp(sdm_status_text(one), sdm_status_text(other)) != 0, "it is its own", "the text of a status");
+    check(strcmp(sdm_status_text(SDM_UNKNOWN_ID + 1), sdm_status_text(UINT32_MAX)) == 0, "it is that of no status",
+          "the text of a number that is none");
+}
+
 int main(void) {
     struct journey journey;
     if (journey_read(stdin, &journey) != JOURNEY_READ) {
@@ -377,6 +386,7 @@ int main(void) {
         return 64;
     }
     check(sdm_layout() == SDM_LAYOUT, "it is that of sdm.h", "the layout");
+    tell_statuses();
     refuse_data("", "sdm: bad data: missing version\n");
     refuse_data("version = ", "sdm: bad data: not TOML\n");
     refuse_data("version = 1\n", "sdm: bad data: missing train\n");

@@ -14,6 +14,7 @@ from dataclasses import dataclass
 import specs
 from citations import Graph
 from pages import Part
+from piped import end
 from specs import CRATES, ROOT
 
 PART = Part(
@@ -161,4 +162,4 @@ def listed():
 
 
 if __name__ == "__main__":
-    sys.exit(PART.main(sys.argv[1:], listed(), []))
+    end(lambda: PART.main(sys.argv[1:], listed(), []))

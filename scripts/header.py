@@ -46,7 +46,7 @@ def opening(header: str) -> list[str]:
 
 def layout(header: str) -> int:
     """The number of the layout."""
-    return int(re.search(r"^#define SDM_LAYOUT (\d+)u$", header, re.M)[1])
+    return int(re.findall(r"^#define SDM_LAYOUT (\d+)u$", header, re.M)[0])
 
 
 def statuses(header: str) -> dict[str, int]:

@@ -12,6 +12,7 @@ from functools import cache
 from urllib.parse import unquote
 
 from pages import told
+from piped import end
 from specs import ROOT
 
 FENCE = re.compile(r"^(```|~~~).*?^\1\s*$", re.M | re.S)
@@ -103,4 +104,4 @@ def main():
 
 
 if __name__ == "__main__":
-    sys.exit(main())
+    end(main)

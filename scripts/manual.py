@@ -14,6 +14,7 @@ from typing import Iterator
 
 import header
 from pages import Part, told
+from piped import end
 from specs import ROOT
 
 COMMANDS = ROOT / "docs" / "commands.toml"
@@ -37,7 +38,7 @@ class Command:
 
 def version() -> str:
     """The version: that of the first heading of CHANGELOG.md that has one."""
-    return re.search(r"^## (\d+\.\d+\.\d+)$", (ROOT / "CHANGELOG.md").read_text(), re.M)[1]
+    return str(re.findall(r"^## (\d+\.\d+\.\d+)$", (ROOT / "CHANGELOG.md").read_text(), re.M)[0])
 
 
 def commands() -> list[Command]:
@@ -178,4 +179,4 @@ def main(words: list[str]) -> int:
 
 
 if __name__ == "__main__":
-    sys.exit(main(sys.argv[1:]))
+    end(lambda: main(sys.argv[1:]))

@@ -13,8 +13,9 @@ import time
 
 import header
 import manual
-from packing.facts import TOP, Built, Fault, Release, ran
+from packing.facts import TOP, Fault, Release, ran
 from packing.work import pack
+from piped import end
 
 PROGRAM = TOP / "crates" / "sdm" / "out" / "sdm"
 LIBRARY = TOP / "crates" / "sdm_c" / "out" / "libsdm_c.a"
@@ -50,7 +51,7 @@ def release() -> None:
     mark = mark_of_program()
     build_library()
     begun = time.monotonic()
-    for path in pack(facts(manual.version(), mark), Built(PROGRAM, LIBRARY), DIST):
+    for path in pack(facts(manual.version(), mark), PROGRAM, LIBRARY, DIST):
         print(f"{path.relative_to(TOP)}: {path.stat().st_size:,} bytes")
     print(f"packed twice, with the same bytes, in {time.monotonic() - begun:.0f} s")
     print((DIST / "SHA256SUMS").read_text(), end="")
@@ -69,4 +70,4 @@ def main(words: list[str]) -> int:
 
 
 if __name__ == "__main__":
-    sys.exit(main(sys.argv[1:]))
+    end(lambda: main(sys.argv[1:]))

@@ -15,6 +15,7 @@ sys.path.insert(0, str(TOP / "tools"))
 
 from laboratory.cases import Case, difference  # noqa: E402
 from laboratory.program import Fault, Result, add_program, built, run  # noqa: E402
+from piped import end  # noqa: E402
 
 REPEATED = re.compile(r"\((.*?)\)\*(\d+)")
 SHOWN = 160  # of a longer line no more is shown
@@ -106,4 +107,4 @@ def main(args):
 
 
 if __name__ == "__main__":
-    sys.exit(main(sys.argv[1:]))
+    end(lambda: main(sys.argv[1:]))

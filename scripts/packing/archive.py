@@ -4,7 +4,7 @@ import hashlib
 from pathlib import Path
 
 from . import tree
-from .facts import Built, Release, filled, ran
+from .facts import Contents, Release, filled, ran
 
 SUMS = "SHA256SUMS"
 
@@ -20,10 +20,10 @@ def sums(top: Path) -> str:
     return "".join(f"{sum_of(path)}  {path.relative_to(top).as_posix()}\n" for path in files)
 
 
-def write(release: Release, built: Built, scratch: Path, into: Path) -> Path:
+def write(release: Release, contents: Contents, scratch: Path, into: Path) -> Path:
     """Writes the archive into a folder; its path."""
     top = scratch / release.name
-    tree.write(release, built, top, "${pcfiledir}/../..", "lib", scratch)
+    tree.write(release, contents, top, "${pcfiledir}/../..", "lib", scratch)
     (top / "README").write_text(filled("README", version=release.version))
     (top / SUMS).write_text(sums(top))
     tree.settle(release, top)

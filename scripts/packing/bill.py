@@ -7,7 +7,7 @@ from datetime import datetime, timezone
 from pathlib import Path
 from typing import Any
 
-from .facts import TOP, Release, ran
+from .facts import Contents, Release, ran
 
 NAME = "sdm.spdx.json"
 UNKNOWN = "NOASSERTION"  # what SPDX says where nothing is claimed
@@ -40,10 +40,10 @@ def package(name: str, version: str, **more: Any) -> dict[str, Any]:
     }
 
 
-def crates_linked() -> list[str]:
+def crates_linked(contents: Contents) -> list[str]:
     """The crates of the toolchain that crates.txt names for what is packed, directly or by a crate below, beside std."""
     below = {}
-    for line in (TOP / "crates.txt").read_text().splitlines():
+    for line in (contents.files / "crates.txt").read_text().splitlines():
         if line and not line.startswith("#"):
             name, _, names = line.partition(":")
             below[name.split()[0]] = names.split()
@@ -61,7 +61,7 @@ def tool_of(name: str) -> str:
     return ran(name, "--version").decode().splitlines()[0]
 
 
-def bill(release: Release, prefix: Path) -> dict[str, Any]:
+def bill(release: Release, contents: Contents, prefix: Path) -> dict[str, Any]:
     """The bill of all files below a prefix."""
     files = [file_of(prefix, path) for path in sorted(prefix.rglob("*")) if path.is_file() and not path.is_symlink()]
     sums = "".join(sorted(file["checksums"][0]["checksumValue"] for file in files))
@@ -70,7 +70,7 @@ def bill(release: Release, prefix: Path) -> dict[str, Any]:
         packageVerificationCode={"packageVerificationCodeValue": hashlib.sha1(sums.encode()).hexdigest()},
         licenseInfoFromFiles=[UNKNOWN], primaryPackagePurpose="APPLICATION")
     kit = package("rattle-kit", release.kit)
-    linked = [package(f"rattle-crate-{name}", release.kit) for name in crates_linked()]
+    linked = [package(f"rattle-crate-{name}", release.kit) for name in crates_linked(contents)]
     compiler = package("gcc", tool_of("cc"))
     c_library = package("glibc", "that of the system where it runs")
     relations = [("SPDXRef-DOCUMENT", "DESCRIBES", whole)]
@@ -93,8 +93,8 @@ def bill(release: Release, prefix: Path) -> dict[str, Any]:
     }
 
 
-def write(release: Release, prefix: Path) -> None:
+def write(release: Release, contents: Contents, prefix: Path) -> None:
     """Writes the bill of all files that are below a prefix before it."""
     to = prefix / "share" / "doc" / "sdm" / NAME
-    text = json.dumps(bill(release, prefix), indent=1)
+    text = json.dumps(bill(release, contents, prefix), indent=1)
     to.write_text(text + "\n")

@@ -6,7 +6,7 @@ from email.utils import formatdate
 from pathlib import Path
 
 from . import archive, tree
-from .facts import Built, Release, filled, ran
+from .facts import Contents, Release, filled, ran
 
 LIBRARIES = "lib/x86_64-linux-gnu"
 
@@ -48,12 +48,12 @@ def write_control(release: Release, work: Path, root: Path) -> None:
         into=work, epoch=release.epoch)
 
 
-def write(release: Release, built: Built, scratch: Path, into: Path) -> Path:
+def write(release: Release, contents: Contents, scratch: Path, into: Path) -> Path:
     """Writes the package into a folder; its path."""
     work, root = scratch / "debian-source", scratch / "debian-root"
     work.mkdir()
     write_source(release, work)
-    tree.write(release, built, root / "usr", "/usr", LIBRARIES, scratch)
+    tree.write(release, contents, root / "usr", "/usr", LIBRARIES, scratch)
     write_documents(release, work, root / "usr")
     write_control(release, work, root)
     tree.settle(release, root)

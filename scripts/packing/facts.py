@@ -15,11 +15,12 @@ class Fault(Exception):
 
 
 @dataclass(frozen=True)
-class Built:
-    """What is packed: the program, and the library that the crate sdm_c is built to."""
+class Contents:
+    """What is packed: the program, the library that the crate sdm_c is built to, and a folder with the files of the commit."""
 
     program: Path
     library: Path
+    files: Path
 
 
 @dataclass(frozen=True)

@@ -2,6 +2,8 @@
 
 from pathlib import PurePosixPath
 
+from .facts import Fault
+
 PAGES = "share/doc/sdm/html"
 WHOLE = {  # these files
     "c/sdm.h": "include/sdm.h",
@@ -19,7 +21,7 @@ def is_below(path: str, folder: str) -> bool:
     return path == folder or path.startswith(folder + "/")
 
 
-def place_of(path: str) -> str | None:
+def place_or_none(path: str) -> str | None:
     """Where a file or folder of the repository stands below the prefix; none, where it isn't packed."""
     if any(is_below(path, folder) for folder in LEFT_OUT):
         return None
@@ -33,3 +35,11 @@ def place_of(path: str) -> str | None:
         if is_below(path, folder):
             return place + path.removeprefix(folder)
     return None
+
+
+def place_of(path: str) -> str:
+    """Where a file stands that is packed."""
+    place = place_or_none(path)
+    if place is None:
+        raise Fault(f"{path} has no place in what is packed.")
+    return place

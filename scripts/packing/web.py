@@ -9,7 +9,7 @@ from typing import Any
 from urllib.parse import quote, unquote
 
 from .facts import TEMPLATES, Fault, Release, ran
-from .places import place_of
+from .places import place_of, place_or_none
 
 ELSEWHERE = re.compile(r"^[a-z][a-z0-9+.-]*:", re.I)
 
@@ -19,7 +19,7 @@ def target_of(page: str, target: str) -> str | None:
     if ELSEWHERE.match(target) or target.startswith("#"):
         return target
     path, mark, anchor = target.partition("#")
-    place = place_of(posixpath.normpath(posixpath.join(posixpath.dirname(page), unquote(path))))
+    place = place_or_none(posixpath.normpath(posixpath.join(posixpath.dirname(page), unquote(path))))
     if place is None:
         return None
     return quote(posixpath.relpath(place, posixpath.dirname(place_of(page)))) + mark + anchor

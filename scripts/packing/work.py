@@ -6,25 +6,36 @@ import tempfile
 from pathlib import Path
 
 from . import archive, debian
-from .facts import Built, Fault, Release
+from .facts import Contents, Fault, Release, ran
 
 
-def pack_once(release: Release, built: Built, into: Path) -> list[Path]:
+def files_of(release: Release, into: Path) -> Path:
+    """Writes the files of the release's commit into a folder that is made."""
+    into.mkdir()
+    ran("tar", "--extract", f"--directory={into}", given=ran("git", "archive", "--format=tar", release.commit))
+    return into
+
+
+def pack_once(release: Release, program: Path, library: Path, into: Path) -> list[Path]:
     """Writes what is packed into a folder that is empty; the paths."""
     packed = []
-    for write in (archive.write, debian.write):
-        with tempfile.TemporaryDirectory(prefix="sdm-packing-") as scratch:
-            packed.append(write(release, built, Path(scratch), into))
+    with tempfile.TemporaryDirectory(prefix="sdm-packing-") as name:
+        scratch = Path(name)
+        contents = Contents(program, library, files_of(release, scratch / "commit"))
+        for write in (archive.write, debian.write):
+            place = scratch / write.__module__
+            place.mkdir()
+            packed.append(write(release, contents, place, into))
     sums = into / archive.SUMS
     sums.write_text("".join(f"{archive.sum_of(path)}  {path.name}\n" for path in packed))
     return [*packed, sums]
 
 
-def pack(release: Release, built: Built, into: Path) -> list[Path]:
+def pack(release: Release, program: Path, library: Path, into: Path) -> list[Path]:
     """Writes what is packed into a folder, in the place of what it has; a fault, where a second time gives other bytes."""
     with tempfile.TemporaryDirectory() as one, tempfile.TemporaryDirectory() as other:
-        packed = pack_once(release, built, Path(one))
-        again = pack_once(release, built, Path(other))
+        packed = pack_once(release, program, library, Path(one))
+        again = pack_once(release, program, library, Path(other))
         for first, second in zip(packed, again, strict=True):
             if not filecmp.cmp(first, second, shallow=False):
                 raise Fault(f"{first.name} has other bytes when it is packed again.")

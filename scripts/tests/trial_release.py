@@ -12,7 +12,7 @@ sys.path.insert(0, str(Path(__file__).resolve().parents[1]))
 
 import manual  # noqa: E402
 import release  # noqa: E402
-from packing.facts import Built, Fault, Release  # noqa: E402
+from packing.facts import Fault, Release  # noqa: E402
 from packing.work import pack  # noqa: E402
 
 
@@ -28,7 +28,7 @@ def main(words: list[str]) -> int:
         return 2
     program, library, into = (Path(word).resolve() for word in words)
     try:
-        for path in pack(trial_facts(), Built(program, library), into):
+        for path in pack(trial_facts(), program, library, into):
             print(path)
     except Fault as why:
         print(f"trial_release: {why}", file=sys.stderr)
