@@ -1,5 +1,6 @@
-"""What c/sdm.h declares: the layout, the calls with their comments, the statuses, the structs. The header is written so plainly that
-lines tell it: a call begins at the start of a line, its comment stands right above it, and a struct ends with a brace alone."""
+"""What c/sdm.h declares: the layout, the calls with their comments, the statuses, the structs. The header is written so
+plainly that lines tell it: a call begins at the start of a line, its comment stands right above it, and a struct ends
+with a brace alone."""
 
 import re
 from dataclasses import dataclass
@@ -35,13 +36,14 @@ def joined(comment: str) -> str:
 def calls(header: str) -> list[Call]:
     """The calls, in their order."""
     return [
-        Call(found[3], found[2], joined(found[1]), f"SDM_MUST_CHECK {found[2]}" in header) for found in CALL.finditer(header)
+        Call(found[3], found[2], joined(found[1]), f"SDM_MUST_CHECK {found[2]}" in header)
+        for found in CALL.finditer(header)
     ]
 
 
 def opening(header: str) -> list[str]:
     """The paragraphs of the comment with which the header begins."""
-    return [joined(part) for part in re.split(r"^ \*$", header[len("/*"):header.index("*/")], flags=re.M)]
+    return [joined(part) for part in re.split(r"^ \*$", header[len("/*") : header.index("*/")], flags=re.M)]
 
 
 def layout(header: str) -> int:
@@ -51,8 +53,8 @@ def layout(header: str) -> int:
 
 def statuses(header: str) -> dict[str, int]:
     """Each status, without the SDM_ before its name, with its number."""
-    listed = header[header.index("enum sdm_status {"):]
-    return {name: int(number) for name, number in STATUS.findall(listed[:listed.index("};")])}
+    listed = header[header.index("enum sdm_status {") :]
+    return {name: int(number) for name, number in STATUS.findall(listed[: listed.index("};")])}
 
 
 def types(header: str) -> list[str]:

@@ -1,5 +1,5 @@
-"""Writes the manual: the parts of docs/sdm.1 that docs/commands.toml has, docs/sdm.h.3 from c/sdm.h, and the version of both from
-CHANGELOG.md.
+"""Writes the manual: the parts of docs/sdm.1 that docs/commands.toml has, docs/sdm.h.3 from c/sdm.h, and the version of
+both from CHANGELOG.md.
 
     scripts/manual help     prints the commands, as `sdm help` is to print them
     scripts/manual write    writes both pages
@@ -43,7 +43,9 @@ def version() -> str:
 
 def commands() -> list[Command]:
     """The commands, in their order."""
-    return [Command(**{**each, "long": each["long"].strip()}) for each in tomllib.loads(COMMANDS.read_text())["command"]]
+    return [
+        Command(**{**each, "long": each["long"].strip()}) for each in tomllib.loads(COMMANDS.read_text())["command"]
+    ]
 
 
 # ---- roff
@@ -60,7 +62,7 @@ def marked(text: str) -> str:
     parts, done = [], 0
     for found in MARKUP.finditer(text):
         font, inner = ("B", found[1]) if found[1] is not None else ("I", found[2])
-        parts += [escaped(text[done:found.start()]), f"\\f{font}{escaped(inner)}\\fR"]
+        parts += [escaped(text[done : found.start()]), f"\\f{font}{escaped(inner)}\\fR"]
         done = found.end()
     return "".join([*parts, escaped(text[done:])])
 
@@ -94,17 +96,25 @@ def statuses() -> Iterator[str]:
         yield item(str(each["code"]), each["means"])
 
 
+def head_of_program_page() -> str:
+    """docs/sdm.1 up to its synopsis."""
+    summary = tomllib.loads(COMMANDS.read_text())["summary"]
+    name = f".SH NAME\nsdm \\- {escaped(summary)}\n.SH SYNOPSIS\n"
+    return title_of("sdm") + name + "".join(f"{line}\n" for line in synopsis())
+
+
+def part_named(name: str) -> Part:
+    """A part of docs/sdm.1, between its marks."""
+    begin = f'.\\" {name}: written by {WRITER} from docs/commands.toml'
+    return Part("manual", PROGRAM_PAGE, begin, f'.\\" {name}: end', WRITER)
+
+
 def parts_of_program_page() -> list[tuple[Part, str]]:
     """The parts of docs/sdm.1 that are written, with their texts."""
-    summary = tomllib.loads(COMMANDS.read_text())["summary"]
-    texts = {
-        "title": title_of("sdm") + f".SH NAME\nsdm \\- {escaped(summary)}\n.SH SYNOPSIS\n" + "".join(f"{line}\n" for line in synopsis()),
-        "commands": "".join(item(command.name, command.long) for command in commands()),
-        "statuses": "".join(statuses()),
-    }
     return [
-        (Part("manual", PROGRAM_PAGE, f'.\\" {name}: written by {WRITER} from docs/commands.toml', f'.\\" {name}: end', WRITER), text)
-        for name, text in texts.items()
+        (part_named("title"), head_of_program_page()),
+        (part_named("commands"), "".join(item(command.name, command.long) for command in commands())),
+        (part_named("statuses"), "".join(statuses())),
     ]
 
 
@@ -122,18 +132,22 @@ def header_page() -> str:
     calls = header.calls(text)
     prototypes = "".join(f"{escaped(call.prototype)}\n" for call in calls)
     types = "\n".join(f"{escaped(each)}\n" for each in header.types(text))
-    return "".join([
-        f'.\\" written by {WRITER} from c/sdm.h\n',
-        title_of("sdm.h"),
-        ".SH NAME\nsdm.h \\- ETCS speed and distance monitoring for C\n",
-        f".SH SYNOPSIS\n.nf\n.B #include <sdm.h>\n.PP\n{prototypes}.fi\n.PP\nLink with \\fB\\-lsdm\\fR; "
-        "\\fBpkg\\-config \\-\\-cflags \\-\\-libs sdm\\fR and CMake's \\fBfind_package(sdm)\\fR tell the words.\n",
-        ".SH DESCRIPTION\n" + ".PP\n".join(f"{escaped(each)}\n" for each in header.opening(text)),
-        ".SH CALLS\nThe text of each call ends with what it answers but SDM_DONE, in the order in which that is looked for.\n",
-        "".join(of_call(call) for call in calls),
-        f".SH TYPES\n.nf\n{types}.fi\n",
-        ".SH SEE ALSO\n.BR sdm (1);\nthe page INTEGRATION, \"From C\", beside the package's other pages, for the duties of the caller.\n",
-    ])
+    return "".join(
+        [
+            f'.\\" written by {WRITER} from c/sdm.h\n',
+            title_of("sdm.h"),
+            ".SH NAME\nsdm.h \\- ETCS speed and distance monitoring for C\n",
+            f".SH SYNOPSIS\n.nf\n.B #include <sdm.h>\n.PP\n{prototypes}.fi\n.PP\nLink with \\fB\\-lsdm\\fR; "
+            "\\fBpkg\\-config \\-\\-cflags \\-\\-libs sdm\\fR and CMake's \\fBfind_package(sdm)\\fR tell the words.\n",
+            ".SH DESCRIPTION\n" + ".PP\n".join(f"{escaped(each)}\n" for each in header.opening(text)),
+            ".SH CALLS\nThe text of each call ends with what it answers but SDM_DONE, in the order in which that is looked "
+            "for.\n",
+            "".join(of_call(call) for call in calls),
+            f".SH TYPES\n.nf\n{types}.fi\n",
+            '.SH SEE ALSO\n.BR sdm (1);\nthe page INTEGRATION, "From C", beside the package\'s other pages, for the duties '
+            "of the caller.\n",
+        ]
+    )
 
 
 # ---- the words
@@ -158,7 +172,9 @@ def faults_of_header_page() -> list[str]:
 def faults_of_readme() -> list[str]:
     """Where README.md names another version."""
     named = re.search(r"^Version (\d+\.\d+\.\d+) ", (ROOT / "README.md").read_text(), re.M)
-    return [] if named and named[1] == version() else [f"README.md: it doesn't begin a line with `Version {version()} `"]
+    return (
+        [] if named and named[1] == version() else [f"README.md: it doesn't begin a line with `Version {version()} `"]
+    )
 
 
 def main(words: list[str]) -> int:

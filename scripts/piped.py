@@ -1,4 +1,5 @@
-"""How a script ends that prints: a reader that closes the pipe ends it without a word, as the system ends other programs."""
+"""How a script ends that prints: a reader that closes the pipe ends it without a word, as the system ends other
+programs."""
 
 import os
 import signal

@@ -2,10 +2,10 @@
 
     scripts/release
 
-It takes a clean work tree alone; the program alone that scripts/program marked as built, proved, from these sources; and the library
-for C as `rt lib` proves and builds it now. It packs twice, in two folders, and leaves dist/ as it was where the bytes differ.
-`scripts/setup release` installs what it needs. docs/LIBRARY.md has what is packed, scripts/check-release tries it.
-"""
+It takes a clean work tree alone; the program alone that scripts/program marked as built, proved, from these sources;
+and the library for C as `rt lib` proves and builds it now. It packs twice, in two folders, and leaves dist/ as it was
+where the bytes differ. `scripts/setup release` installs what it needs. docs/LIBRARY.md has what is packed,
+scripts/check-release tries it."""
 
 import subprocess
 import sys

@@ -1,4 +1,4 @@
-/* Looks at no answer of any call of sdm.h that answers a status: scripts/check-c asks that a compiler warns of each of these lines. */
+/* Looks at no answer of any call of sdm.h that answers a status: scripts/check-c asks that a compiler warns of each. */
 #include "../c/sdm.h"
 
 void look_at_nothing(struct sdm *h, struct sdm_line *line, const struct sdm_reading *reading, struct sdm_row *row,

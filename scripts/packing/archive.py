@@ -22,8 +22,19 @@ def sums(top: Path) -> str:
 
 def pack_folder(release: Release, top: Path, to: Path) -> None:
     """Writes a folder, of settled files, as a tar file that tells nothing of where, when and by whom it was made."""
-    tar = ran("tar", "--create", "--file=-", "--format=gnu", "--sort=name", f"--mtime=@{release.epoch}", "--owner=0", "--group=0",
-              "--numeric-owner", f"--directory={top.parent}", top.name)
+    tar = ran(
+        "tar",
+        "--create",
+        "--file=-",
+        "--format=gnu",
+        "--sort=name",
+        f"--mtime=@{release.epoch}",
+        "--owner=0",
+        "--group=0",
+        "--numeric-owner",
+        f"--directory={top.parent}",
+        top.name,
+    )
     to.write_bytes(ran("gzip", "-9", "--no-name", given=tar))
 
 

@@ -1,4 +1,4 @@
-"""The bill of materials, in SPDX 2.3: the files of a release, what was linked into them, and by what they were built."""
+"""The bill of materials, in SPDX 2.3: the files of a release, what was linked into them, and what built them."""
 
 import hashlib
 import json
@@ -22,7 +22,10 @@ def file_of(prefix: Path, path: Path) -> dict[str, Any]:
     """A file of the release."""
     name = path.relative_to(prefix).as_posix()
     return {
-        "SPDXID": "SPDXRef-File-" + re.sub(r"[^A-Za-z0-9.-]", "-", name) + "-" + hashlib.sha1(name.encode()).hexdigest()[:8],
+        "SPDXID": "SPDXRef-File-"
+        + re.sub(r"[^A-Za-z0-9.-]", "-", name)
+        + "-"
+        + hashlib.sha1(name.encode()).hexdigest()[:8],
         "fileName": f"./{name}",
         "checksums": [{"algorithm": kind.upper(), "checksumValue": digest(kind, path)} for kind in ("sha1", "sha256")],
         "licenseConcluded": UNKNOWN,
@@ -34,14 +37,20 @@ def file_of(prefix: Path, path: Path) -> dict[str, Any]:
 def package(name: str, version: str, **more: Any) -> dict[str, Any]:
     """A package, of which no license is claimed."""
     return {
-        "SPDXID": "SPDXRef-Package-" + re.sub(r"[^A-Za-z0-9.-]", "-", name), "name": name, "versionInfo": version,
-        "downloadLocation": UNKNOWN, "filesAnalyzed": False, "licenseConcluded": UNKNOWN, "licenseDeclared": UNKNOWN,
-        "copyrightText": UNKNOWN, **more,
+        "SPDXID": "SPDXRef-Package-" + re.sub(r"[^A-Za-z0-9.-]", "-", name),
+        "name": name,
+        "versionInfo": version,
+        "downloadLocation": UNKNOWN,
+        "filesAnalyzed": False,
+        "licenseConcluded": UNKNOWN,
+        "licenseDeclared": UNKNOWN,
+        "copyrightText": UNKNOWN,
+        **more,
     }
 
 
 def crates_linked(contents: Contents) -> list[str]:
-    """The crates of the toolchain that crates.txt names for what is packed, directly or by a crate below, beside std."""
+    """The crates of the toolchain that crates.txt names for what is packed, or for a crate below, and std."""
     below = {}
     for line in (contents.files / "crates.txt").read_text().splitlines():
         if line and not line.startswith("#"):
@@ -66,9 +75,14 @@ def bill(release: Release, contents: Contents, prefix: Path) -> dict[str, Any]:
     files = [file_of(prefix, path) for path in sorted(prefix.rglob("*")) if path.is_file() and not path.is_symlink()]
     sums = "".join(sorted(file["checksums"][0]["checksumValue"] for file in files))
     whole = package(
-        "sdm", release.version, filesAnalyzed=True, sourceInfo=f"commit {release.commit}, sources {release.sources}",
+        "sdm",
+        release.version,
+        filesAnalyzed=True,
+        sourceInfo=f"commit {release.commit}, sources {release.sources}",
         packageVerificationCode={"packageVerificationCodeValue": hashlib.sha1(sums.encode()).hexdigest()},
-        licenseInfoFromFiles=[UNKNOWN], primaryPackagePurpose="APPLICATION")
+        licenseInfoFromFiles=[UNKNOWN],
+        primaryPackagePurpose="APPLICATION",
+    )
     kit = package("rattle-kit", release.kit)
     linked = [package(f"rattle-crate-{name}", release.kit) for name in crates_linked(contents)]
     compiler = package("gcc", tool_of("cc"))
@@ -78,7 +92,10 @@ def bill(release: Release, contents: Contents, prefix: Path) -> dict[str, Any]:
     relations += [(whole["SPDXID"], "DYNAMIC_LINK", c_library)]
     built = [(tool["SPDXID"], "BUILD_TOOL_OF", whole) for tool in (kit, compiler)]
     return {
-        "spdxVersion": "SPDX-2.3", "dataLicense": "CC0-1.0", "SPDXID": "SPDXRef-DOCUMENT", "name": release.name,
+        "spdxVersion": "SPDX-2.3",
+        "dataLicense": "CC0-1.0",
+        "SPDXID": "SPDXRef-DOCUMENT",
+        "name": release.name,
         "documentNamespace": f"https://spdx.org/spdxdocs/{release.name}-{release.commit}",
         "creationInfo": {
             "created": datetime.fromtimestamp(release.epoch, timezone.utc).strftime("%Y-%m-%dT%H:%M:%SZ"),

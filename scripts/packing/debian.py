@@ -1,5 +1,5 @@
-"""The Debian package of a release, by Debian's own tools: dpkg-shlibdeps tells what it depends on, dpkg-gensymbols and dpkg-gencontrol
-write what dpkg reads, dpkg-deb packs it."""
+"""The Debian package of a release, by Debian's own tools: dpkg-shlibdeps tells what it depends on, dpkg-gensymbols and
+dpkg-gencontrol write what dpkg reads, dpkg-deb packs it."""
 
 import hashlib
 from email.utils import formatdate
@@ -36,16 +36,38 @@ def write_control(release: Release, work: Path, root: Path) -> None:
     control = root / "DEBIAN"
     control.mkdir()
     usr, libraries = root / "usr", root / "usr" / LIBRARIES
-    depends = ran("dpkg-shlibdeps", "-O", f"-e{usr / 'bin' / 'sdm'}", f"-e{libraries / release.shared_name}", into=work).decode().strip()
+    depends = (
+        ran("dpkg-shlibdeps", "-O", f"-e{usr / 'bin' / 'sdm'}", f"-e{libraries / release.shared_name}", into=work)
+        .decode()
+        .strip()
+    )
     (control / "shlibs").write_text(f"libsdm {release.layout} sdm (>= {release.version})\n")
     (control / "triggers").write_text("activate-noawait ldconfig\n")
-    ran("dpkg-gensymbols", "-psdm", f"-v{release.version}", f"-P{root}", f"-e{libraries / release.shared_name}",
-        f"-O{control / 'symbols'}", into=work)
+    ran(
+        "dpkg-gensymbols",
+        "-psdm",
+        f"-v{release.version}",
+        f"-P{root}",
+        f"-e{libraries / release.shared_name}",
+        f"-O{control / 'symbols'}",
+        into=work,
+    )
     files = sorted(path for path in usr.rglob("*") if path.is_file() and not path.is_symlink())
     (control / "md5sums").write_text(
-        "".join(f"{hashlib.md5(path.read_bytes()).hexdigest()}  {path.relative_to(root).as_posix()}\n" for path in files))
-    ran("dpkg-gencontrol", "-psdm", f"-P{root}", f"-V{depends}", f"-O{control / 'control'}", f"-f{work / 'files'}",
-        into=work, epoch=release.epoch)
+        "".join(
+            f"{hashlib.md5(path.read_bytes()).hexdigest()}  {path.relative_to(root).as_posix()}\n" for path in files
+        )
+    )
+    ran(
+        "dpkg-gencontrol",
+        "-psdm",
+        f"-P{root}",
+        f"-V{depends}",
+        f"-O{control / 'control'}",
+        f"-f{work / 'files'}",
+        into=work,
+        epoch=release.epoch,
+    )
 
 
 def write(release: Release, contents: Contents, scratch: Path, into: Path) -> Path:

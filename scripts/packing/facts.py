@@ -16,7 +16,8 @@ class Fault(Exception):
 
 @dataclass(frozen=True)
 class Contents:
-    """What is packed: the program, the library that the crate sdm_c is built to, and a folder with the files of the commit."""
+    """What is packed: the program, the library that the crate sdm_c is built to, and a folder with the files of the
+    commit."""
 
     program: Path
     library: Path
@@ -48,7 +49,8 @@ class Release:
 
 
 def ran(*words: str | Path, into: Path | None = None, epoch: int | None = None, given: bytes | None = None) -> bytes:
-    """What a command prints, run in a folder; with an epoch the time that its files are to have. A fault where it fails."""
+    """What a command prints, run in a folder; with an epoch the time that its files are to have. A fault where it
+    fails."""
     more = {} if epoch is None else {"SOURCE_DATE_EPOCH": str(epoch)}
     environment = {**os.environ, "LC_ALL": "C.UTF-8", "TZ": "UTC", **more}
     try:

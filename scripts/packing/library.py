@@ -1,6 +1,6 @@
-"""libsdm.a and libsdm.so: the library that the crate sdm_c is built to, with the texts of statuses and a heap over malloc, which a
-program that defines a heap of its own leaves out. The shared library has the calls of c/sdm.h, each with the version of the
-layout, and shows nothing else."""
+"""libsdm.a and libsdm.so: the library that the crate sdm_c is built to, with the texts of statuses and a heap over
+malloc, which a program that defines a heap of its own leaves out. The shared library has the calls of c/sdm.h, each
+with the version of the layout, and shows nothing else."""
 
 from pathlib import Path
 
@@ -26,8 +26,8 @@ def objects(contents: Contents, scratch: Path) -> list[Path]:
 
 
 def make_static(release: Release, contents: Contents, scratch: Path, into: Path) -> None:
-    """Writes libsdm.a: the crate's code as one object that shows the calls alone and asks for a heap, and the others each by itself,
-    so that a program's own heap takes the place of that over malloc."""
+    """Writes libsdm.a: the crate's code as one object that shows the calls alone and asks for a heap, and the others
+    each by itself, so that a program's own heap takes the place of that over malloc."""
     whole, keep = scratch / "sdm.o", scratch / "keep"
     keep.write_text("".join(f"{call}\n" for call in release.calls))
     ran("ld", "-r", "-o", whole, "--whole-archive", contents.library)
@@ -39,7 +39,19 @@ def make_shared(release: Release, contents: Contents, scratch: Path, into: Path)
     """Writes libsdm.so under the name of its layout, and a link to it under the name without."""
     script = scratch / "sdm.map"
     script.write_text(version_script(release))
-    ran("cc", "-shared", "-nostartfiles", "-o", into / release.shared_name, f"-Wl,-soname,{release.shared_name}", f"-Wl,--version-script={script}",
-        "-Wl,-z,defs,-z,relro,-z,now,--gc-sections,--strip-all", "-static-libgcc",
-        "-Wl,--whole-archive", contents.library, "-Wl,--no-whole-archive", *objects(contents, scratch))
+    ran(
+        "cc",
+        "-shared",
+        "-nostartfiles",
+        "-o",
+        into / release.shared_name,
+        f"-Wl,-soname,{release.shared_name}",
+        f"-Wl,--version-script={script}",
+        "-Wl,-z,defs,-z,relro,-z,now,--gc-sections,--strip-all",
+        "-static-libgcc",
+        "-Wl,--whole-archive",
+        contents.library,
+        "-Wl,--no-whole-archive",
+        *objects(contents, scratch),
+    )
     (into / "libsdm.so").symlink_to(release.shared_name)

@@ -12,7 +12,8 @@ WHOLE = {  # these files
     "docs/sdm.1": "share/man/man1/sdm.1",
     "docs/sdm.h.3": "share/man/man3/sdm.h.3",
 }
-FOLDERS = {"c": "share/sdm/c", "examples": "share/sdm/examples", "vectors": "share/sdm/vectors"}  # and what is in them, but:
+# These folders, with what is in them, but what is left out.
+FOLDERS = {"c": "share/sdm/c", "examples": "share/sdm/examples", "vectors": "share/sdm/vectors"}
 LEFT_OUT = ["tools", "c/.clang-format", "vectors/make", "vectors/maker", "vectors/mutants"]
 
 

@@ -34,24 +34,32 @@ def copy_files(release: Release, files: Path, prefix: Path) -> None:
             pass
 
 
-def write_libraries(release: Release, contents: Contents, prefix: Path, root: str, libraries: str, scratch: Path) -> None:
-    """Writes the libraries with what pkg-config and CMake read of them. The root is where pkg-config finds the prefix."""
+def write_libraries(
+    release: Release, contents: Contents, prefix: Path, root: str, libraries: str, scratch: Path
+) -> None:
+    """Writes the libraries, with what pkg-config and CMake read of them. The root is pkg-config's name of the prefix."""
     into = prefix / libraries
     for folder in (into / "pkgconfig", into / "cmake" / "sdm"):
         folder.mkdir(parents=True)
     library.make_static(release, contents, scratch, into)
     library.make_shared(release, contents, scratch, into)
-    (into / "pkgconfig" / "sdm.pc").write_text(filled("sdm.pc", prefix=root, libraries=libraries, version=release.version))
-    (into / "cmake" / "sdm" / "sdm-config.cmake").write_text(filled(
-        "sdm-config.cmake", to_headers=posixpath.relpath("include", libraries), shared_name=release.shared_name))
+    (into / "pkgconfig" / "sdm.pc").write_text(
+        filled("sdm.pc", prefix=root, libraries=libraries, version=release.version)
+    )
+    (into / "cmake" / "sdm" / "sdm-config.cmake").write_text(
+        filled("sdm-config.cmake", to_headers=posixpath.relpath("include", libraries), shared_name=release.shared_name)
+    )
     (into / "cmake" / "sdm" / "sdm-config-version.cmake").write_text(
-        filled("sdm-config-version.cmake", version=release.version))
+        filled("sdm-config-version.cmake", version=release.version)
+    )
 
 
 def build_record(release: Release, contents: Contents) -> str:
     """What a release was built from, in lines."""
-    return (f"version {release.version}\ncommit {release.commit}\nsources {release.sources}\nkit {release.kit}\n"
-            f"program {archive.sum_of(contents.program)}\nlibrary {archive.sum_of(contents.library)}\n")
+    return (
+        f"version {release.version}\ncommit {release.commit}\nsources {release.sources}\nkit {release.kit}\n"
+        f"program {archive.sum_of(contents.program)}\nlibrary {archive.sum_of(contents.library)}\n"
+    )
 
 
 def write(release: Release, contents: Contents, prefix: Path, root: str, libraries: str, scratch: Path) -> None:

@@ -1,4 +1,5 @@
-"""The pages as HTML, by pandoc. A link leads where its target stands below the prefix; one to what isn't packed becomes plain text."""
+"""The pages as HTML, by pandoc. A link leads where its target stands below the prefix; one to what isn't packed becomes
+plain text."""
 
 import json
 import posixpath
@@ -44,7 +45,9 @@ def title_of(document: dict[str, Any], page: str) -> str:
     """The text of a page's first heading."""
     for block in document["blocks"]:
         if block["t"] == "Header":
-            return "".join(each["c"] if each["t"] == "Str" else " " for each in block["c"][2] if each["t"] in ("Str", "Space"))
+            return "".join(
+                each["c"] if each["t"] == "Str" else " " for each in block["c"][2] if each["t"] in ("Str", "Space")
+            )
     return page
 
 
@@ -52,9 +55,16 @@ def page(release: Release, name: str, text: bytes) -> bytes:
     """A page, told by its path in the repository, as HTML."""
     document = linked(name, json.loads(ran("pandoc", "--from=gfm", "--to=json", given=text)))
     return ran(
-        "pandoc", "--from=json", "--to=html5", "--standalone", f"--template={TEMPLATES / 'page.html'}",
-        f"--metadata=pagetitle:{title_of(document, name)}", f"--metadata=version:{release.version}",
-        f"--metadata=commit:{release.commit}", given=json.dumps(document).encode())
+        "pandoc",
+        "--from=json",
+        "--to=html5",
+        "--standalone",
+        f"--template={TEMPLATES / 'page.html'}",
+        f"--metadata=pagetitle:{title_of(document, name)}",
+        f"--metadata=version:{release.version}",
+        f"--metadata=commit:{release.commit}",
+        given=json.dumps(document).encode(),
+    )
 
 
 class Links(HTMLParser):

@@ -1,4 +1,5 @@
-"""Packs a release: the archive, the Debian package and their checksums, twice in two folders, and only where both are the same."""
+"""Packs a release: the archive, the Debian package and their checksums, twice in two folders, and only where both are
+the same."""
 
 import filecmp
 import shutil
@@ -32,7 +33,7 @@ def pack_once(release: Release, program: Path, library: Path, into: Path) -> lis
 
 
 def pack(release: Release, program: Path, library: Path, into: Path) -> list[Path]:
-    """Writes what is packed into a folder, in the place of what it has; a fault, where a second time gives other bytes."""
+    """Packs into a folder, in the place of what it has; a fault, where a second time gives other bytes."""
     with tempfile.TemporaryDirectory() as one, tempfile.TemporaryDirectory() as other:
         packed = pack_once(release, program, library, Path(one))
         again = pack_once(release, program, library, Path(other))

@@ -19,7 +19,9 @@ class Piped(unittest.TestCase):
     def ended(self, main: str, lines_read: int) -> tuple[int, str]:
         """How a script ends of which some lines are read, and what it tells of an error."""
         words = [sys.executable, "-B", "-c", PRINTS.format(main=main)]
-        with subprocess.Popen(words, cwd=copies.TOP, stdout=subprocess.PIPE, stderr=subprocess.PIPE, text=True) as script:
+        with subprocess.Popen(
+            words, cwd=copies.TOP, stdout=subprocess.PIPE, stderr=subprocess.PIPE, text=True
+        ) as script:
             for _ in range(lines_read):
                 script.stdout.readline()
             script.stdout.close()
@@ -41,7 +43,9 @@ class Piped(unittest.TestCase):
     def test_scripts_that_print_much_end_so(self):
         for words in (["scripts/believed"], ["scripts/clauses"], ["scripts/manual", "help"], ["scripts/count-lines"]):
             with self.subTest(words[0]):
-                with subprocess.Popen(words, cwd=copies.TOP, stdout=subprocess.PIPE, stderr=subprocess.PIPE, text=True) as script:
+                with subprocess.Popen(
+                    words, cwd=copies.TOP, stdout=subprocess.PIPE, stderr=subprocess.PIPE, text=True
+                ) as script:
                     script.stdout.close()
                     script.wait(120)
                     self.assertEqual(script.stderr.read(), "")

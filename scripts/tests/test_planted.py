@@ -28,6 +28,7 @@ PARTS = {
     "definitions": [*SPECS, "crates/*/proofs/*Cases.antt"],
     "laboratory": ["examples", "scripts", "tools", "vectors/make", "vectors/maker", "vectors/data", "vectors/flat"],
     "links": [":!vectors/*/*/*"],
+    "manual": ["CHANGELOG.md", "README.md", "c/sdm.h", "docs/commands.toml", "docs/sdm.1", "docs/sdm.h.3", "scripts"],
     "pictures": ["examples/approach", "examples/flat", "scripts", "tools"],
     "plot": ["examples", "scripts", "tools"],
 }
@@ -68,6 +69,12 @@ PLANTED = [
         Fault("README.md", "^5,T,X,1,1,1", "5,T,X,1,1,0", "has not the rows of examples/approach"),
         Fault("examples/approach/input", "^length = 10000$", "length = 10001", "has not the input of examples/approach"),
     ]),
+    ("manual", [
+        Fault("docs/commands.toml", "1 to 1000", "1 to 1001", STALE),
+        Fault("c/sdm.h", "Judges a reading", "Takes a reading", "docs/sdm.h.3: stale"),
+    ]),
+    ("manual", [Fault("CHANGELOG.md", r"^## (?=\d)", "## 99.0.0\n\n## ", "README.md: it doesn't begin a line with `Version 99.0.0 `")]),
+    ("manual", [Fault("docs/sdm.1", r"^\.SH DATA PART$", ".SH DATA PART\n.XY", "macro 'XY' not defined")]),
     ("pictures", [
         Fault("examples/approach/rows", "^10,T,X,0,0,1,1,160,887500", "10,T,X,0,0,1,1,160,887000", "approach: the picture is stale"),
         Fault("examples/flat/README.md", r"picture\.svg", "other.svg", "flat: its page doesn't show"),
@@ -110,7 +117,7 @@ class Checks(unittest.TestCase):
                         self.assertIn(fault.told, told)
 
     def test_each_check_has_two_faults(self):
-        elsewhere = {"model", "upgrade", "certificates", "worked", "c", "refused", "scripts"}  # test_program.py, all five; by hand; these tests
+        elsewhere = {"model", "upgrade", "certificates", "worked", "c", "refused", "scripts", "release"}  # test_program.py, all five; by hand
         names = {path.name.removeprefix("check-") for path in (copies.TOP / "scripts").glob("check-*")} - elsewhere
         few = {name for name in names if sum(len(faults) for script, faults in PLANTED if script == name) < 2}
         self.assertEqual(few, set())

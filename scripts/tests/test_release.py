@@ -1,6 +1,6 @@
-"""What is packed: the libraries show the calls of the header and nothing else, links lead where their targets stand, an archive has the
-same bytes wherever it is made, and only a marked program and a clean work tree are packed. Over stand-ins, with nothing that a gate
-lacks; scripts/check-release tries the whole."""
+"""What is packed: the libraries show the calls of the header and nothing else, links lead where their targets stand, an
+archive has the same bytes wherever it is made, and only a marked program and a clean work tree are packed. Over
+stand-ins, with nothing that a gate lacks; scripts/check-release tries the whole."""
 
 import subprocess
 import sys
@@ -18,7 +18,9 @@ from packing.facts import Contents, Fault, Release  # noqa: E402
 
 TEXT = header.text()
 CALLS = tuple(call.name for call in header.calls(TEXT))
-RELEASE = Release("1.2.3", "c0ffee", 1_700_000_000, "A Builder <builder@example.org>", "kit", "sum", header.layout(TEXT), CALLS)
+RELEASE = Release(
+    "1.2.3", "c0ffee", 1_700_000_000, "A Builder <builder@example.org>", "kit", "sum", header.layout(TEXT), CALLS
+)
 ANSWERS = "".join(f"unsigned {call}(void) {{ return helper(); }}\n" for call in CALLS if call != "sdm_status_text")
 MORE = "unsigned helper(void); unsigned helper(void) { return 1; }\n"
 
@@ -44,7 +46,11 @@ class Scratch(unittest.TestCase):
 
 class Header(unittest.TestCase):
     def test_each_declaration_is_a_call(self):
-        declared = [line for line in TEXT.splitlines() if line.startswith(("uint32_t sdm", "SDM_MUST", "void sdm", "const char"))]
+        declared = [
+            line
+            for line in TEXT.splitlines()
+            if line.startswith(("uint32_t sdm", "SDM_MUST", "void sdm", "const char"))
+        ]
         self.assertEqual(len(declared), len(CALLS))
 
     def test_each_answer_that_is_a_status_must_be_checked(self):
@@ -59,7 +65,9 @@ class Header(unittest.TestCase):
         self.assertEqual(len(header.statuses(TEXT)), 16)
 
     def test_the_binding_is_of_the_headers_layout(self):
-        self.assertIn(f"Layout_Of_Binding : constant Word := {header.layout(TEXT)};", (copies.TOP / "c/ada/sdm.ads").read_text())
+        self.assertIn(
+            f"Layout_Of_Binding : constant Word := {header.layout(TEXT)};", (copies.TOP / "c/ada/sdm.ads").read_text()
+        )
 
 
 class Libraries(Scratch):
@@ -72,8 +80,12 @@ class Libraries(Scratch):
 
     def test_the_shared_library_shows_the_calls_with_their_version(self):
         library.make_shared(RELEASE, self.contents, self.folder("scratch"), self.folder("lib"))
-        shown = printed("nm", "--dynamic", "--defined-only", "--with-symbol-versions", self.top / "lib" / "libsdm.so").split()[2::3]
-        self.assertEqual(sorted(shown), sorted([f"SDM_{RELEASE.layout}", *(f"{call}@@SDM_{RELEASE.layout}" for call in CALLS)]))
+        shown = printed(
+            "nm", "--dynamic", "--defined-only", "--with-symbol-versions", self.top / "lib" / "libsdm.so"
+        ).split()[2::3]
+        self.assertEqual(
+            sorted(shown), sorted([f"SDM_{RELEASE.layout}", *(f"{call}@@SDM_{RELEASE.layout}" for call in CALLS)])
+        )
         dynamic = printed("readelf", "--dynamic", self.top / "lib" / "libsdm.so.1")
         self.assertIn("[libsdm.so.1]", dynamic)
         self.assertEqual(dynamic.count("(NEEDED)"), 1)
@@ -81,9 +93,13 @@ class Libraries(Scratch):
 
     def test_the_static_library_shows_the_calls_and_a_heap_of_its_own_file(self):
         library.make_static(RELEASE, self.contents, self.folder("scratch"), self.folder("lib"))
-        lines = printed("nm", "--extern-only", "--defined-only", "--format=just-symbols", self.top / "lib" / "libsdm.a").split()
-        self.assertEqual({line for line in lines if not line.endswith(":")},
-                         {*CALLS, "rattle_alloc", "rattle_realloc", "rattle_dealloc"})
+        lines = printed(
+            "nm", "--extern-only", "--defined-only", "--format=just-symbols", self.top / "lib" / "libsdm.a"
+        ).split()
+        self.assertEqual(
+            {line for line in lines if not line.endswith(":")},
+            {*CALLS, "rattle_alloc", "rattle_realloc", "rattle_dealloc"},
+        )
         self.assertIn("heap_malloc.o", printed("ar", "t", self.top / "lib" / "libsdm.a").split())
 
     def test_a_library_that_asks_for_more_than_libc_is_not_linked(self):
@@ -97,10 +113,16 @@ class Libraries(Scratch):
 class Pages(Scratch):
     def test_what_is_packed_has_a_place(self):
         for path, place in {
-            "README.md": "share/doc/sdm/html/index.html", "docs/FORMATS.md": "share/doc/sdm/html/docs/FORMATS.html",
-            "c/sdm.h": "include/sdm.h", "c/onboard.c": "share/sdm/c/onboard.c", "examples": "share/sdm/examples",
-            "vectors/run/x/input": "share/sdm/vectors/run/x/input", "crates/sdm/src/main.rt": None, "tools/README.md": None,
-            "vectors/maker/x.py": None, "cargo/x": None,
+            "README.md": "share/doc/sdm/html/index.html",
+            "docs/FORMATS.md": "share/doc/sdm/html/docs/FORMATS.html",
+            "c/sdm.h": "include/sdm.h",
+            "c/onboard.c": "share/sdm/c/onboard.c",
+            "examples": "share/sdm/examples",
+            "vectors/run/x/input": "share/sdm/vectors/run/x/input",
+            "crates/sdm/src/main.rt": None,
+            "tools/README.md": None,
+            "vectors/maker/x.py": None,
+            "cargo/x": None,
         }.items():
             self.assertEqual(places.place_or_none(path), place)
 
@@ -110,7 +132,8 @@ class Pages(Scratch):
             ("docs/INTEGRATION.md", "../README.md", "../index.html"),
             ("docs/INTEGRATION.md", "../c/sdm.h", "../../../../../include/sdm.h"),
             ("examples/approach/README.md", "rows", "../../../../../sdm/examples/approach/rows"),
-            ("README.md", "#an-example", "#an-example"), ("README.md", "https://example.org", "https://example.org"),
+            ("README.md", "#an-example", "#an-example"),
+            ("README.md", "https://example.org", "https://example.org"),
             ("README.md", "crates/sdm_onboard/src/main.rt", None),
         ]:
             self.assertEqual(web.target_of(page, target), to)
@@ -123,8 +146,10 @@ class Pages(Scratch):
     def test_a_link_that_leads_nowhere_is_told(self):
         (self.top / "index.html").write_text('<a href="other.html#part">a</a><a href="#here">b</a><h1 id="here">c</h1>')
         (self.top / "other.html").write_text('<h1 id="another">d</h1><img src="gone.svg">')
-        self.assertEqual(web.faults_of_links(self.top), [
-            "index.html: other.html#part leads nowhere", "other.html: gone.svg leads nowhere"])
+        self.assertEqual(
+            web.faults_of_links(self.top),
+            ["index.html: other.html#part leads nowhere", "other.html: gone.svg leads nowhere"],
+        )
         with self.assertRaisesRegex(Fault, "leads nowhere"):
             web.check_links(self.top)
         self.assertEqual(web.faults_of_links(self.folder("empty")), ["there is no page"])
@@ -139,10 +164,15 @@ class Bills(Scratch):
         sums = {each["algorithm"]: each["checksumValue"] for each in told["files"][0]["checksums"]}
         self.assertEqual(sums["SHA256"], printed("sha256sum", self.top / "prefix/bin/sdm").split()[0])
         named = {package["name"] for package in told["packages"]}
-        self.assertLessEqual({"sdm", "rattle-kit", "rattle-crate-std", "rattle-crate-toml", "rattle-crate-csv", "glibc"}, named)
+        self.assertLessEqual(
+            {"sdm", "rattle-kit", "rattle-crate-std", "rattle-crate-toml", "rattle-crate-csv", "glibc"}, named
+        )
         self.assertFalse({name for name in named if name.startswith("rattle-crate-sdm")})
         known = {"SPDXRef-DOCUMENT", *(each["SPDXID"] for each in [*told["packages"], *told["files"]])}
-        self.assertLessEqual({each for line in told["relationships"] for each in (line["spdxElementId"], line["relatedSpdxElement"])}, known)
+        self.assertLessEqual(
+            {each for line in told["relationships"] for each in (line["spdxElementId"], line["relatedSpdxElement"])},
+            known,
+        )
 
 
 class Bytes(Scratch):
@@ -164,7 +194,12 @@ class Bytes(Scratch):
         self.assertRegex(listed, r"-rwxr-xr-x 0/0 +7 2023-11-14 \d\d:\d\d sdm-1.2.3-x86_64-linux/bin/sdm\n")
         self.assertRegex(listed, r"-rw-r--r-- 0/0 +4 2023-11-14 \d\d:\d\d sdm-1.2.3-x86_64-linux/page\n")
         printed("tar", "--extract", "--directory", self.top, "--file", self.top / "one.tar.gz")
-        checked = subprocess.run(["sha256sum", "--check", "--strict", archive.SUMS], cwd=self.top / RELEASE.name, capture_output=True, text=True)
+        checked = subprocess.run(
+            ["sha256sum", "--check", "--strict", archive.SUMS],
+            cwd=self.top / RELEASE.name,
+            capture_output=True,
+            text=True,
+        )
         self.assertEqual((checked.returncode, checked.stdout), (0, "bin/sdm: OK\npage: OK\n"))
 
 

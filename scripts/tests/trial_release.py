@@ -1,5 +1,5 @@
-"""Packs files that nobody proved, to try the packing by. What comes out is named `VERSION~unmarked`, so that nobody takes it for a
-release: scripts/release packs nothing but a marked program and a library that `rt lib` built.
+"""Packs files that nobody proved, to try the packing by. What comes out is named `VERSION~unmarked`, so that nobody
+takes it for a release: scripts/release packs nothing but a marked program and a library that `rt lib` built.
 
     python3 -B scripts/tests/trial_release.py PROGRAM LIBRARY FOLDER
 """
