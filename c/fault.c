@@ -48,18 +48,6 @@ static bool is_closed(struct sdm h) {
     return is_same_handle(h, closed);
 }
 
-static bool is_same_place(struct sdm_place one, struct sdm_place other) {
-    return one.mm == other.mm && one.is_some == other.is_some;
-}
-
-static bool is_same_row(const struct sdm_row *one, const struct sdm_row *other) {
-    return one->time_ds == other->time_ds && one->state == other->state && one->status == other->status &&
-           one->tco == other->tco && one->sb == other->sb && one->eb == other->eb && one->covered == other->covered &&
-           one->ceiling_kmh == other->ceiling_kmh && is_same_place(one->ebi, other->ebi) &&
-           is_same_place(one->sbi, other->sbi) && is_same_place(one->warning, other->warning) &&
-           is_same_place(one->permitted, other->permitted) && is_same_place(one->indication, other->indication);
-}
-
 /* Whether all bytes of an output are still what `unwritten` made of them. */
 static bool is_unwritten(const void *output, size_t bytes) {
     const uint8_t *at = (const uint8_t *)output;
@@ -272,7 +260,7 @@ static void compare(struct sdm *h, struct sdm *twin, const struct event *reading
     unwritten(&twins_row, sizeof twins_row);
     check_answer(event_take(h, reading, &row), SDM_DONE, what);
     check_answer(event_take(twin, reading, &twins_row), SDM_DONE, what);
-    check(is_same_row(&row, &twins_row), "the next row is as that of a supervisor that wasn't misused", what);
+    check(row_is_same(&row, &twins_row), "the next row is as that of a supervisor that wasn't misused", what);
 }
 
 /* Takes as many restrictions as may be, and refuses one more. */

@@ -58,6 +58,9 @@ struct sdm_reading event_reading(const struct event *event);
 /* Hands an event to the supervisor and answers what it answers. The row is that of a reading. */
 SDM_MUST_CHECK uint32_t event_take(struct sdm *h, const struct event *event, struct sdm_row *row);
 
+/* Whether two rows say the same. */
+bool row_is_same(const struct sdm_row *one, const struct sdm_row *other);
+
 #ifdef __cplusplus
 }
 #endif
