@@ -7,6 +7,8 @@ places      what stands where below a prefix
 web         the pages as HTML
 bill        the bill of materials, in SPDX
 tree        all files below a prefix
-archive     the tar file, and checksums
+archive     the tar file
+sums        checksums
+work        all of it, twice
 debian      the Debian package
 """

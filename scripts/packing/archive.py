@@ -1,23 +1,9 @@
-"""The tar file of a release, and checksums."""
+"""The tar file of a release."""
 
-import hashlib
 from pathlib import Path
 
-from . import tree
+from . import bill, sums, tree
 from .facts import Contents, Release, filled, ran
-
-SUMS = "SHA256SUMS"
-
-
-def sum_of(path: Path) -> str:
-    """The checksum of a file's bytes."""
-    return hashlib.sha256(path.read_bytes()).hexdigest()
-
-
-def sums(top: Path) -> str:
-    """The checksums of all files below a folder, as sha256sum writes them, but of the checksums themselves."""
-    files = sorted(path for path in top.rglob("*") if path.is_file() and not path.is_symlink() and path.name != SUMS)
-    return "".join(f"{sum_of(path)}  {path.relative_to(top).as_posix()}\n" for path in files)
 
 
 def pack_folder(release: Release, top: Path, to: Path) -> None:
@@ -43,7 +29,8 @@ def write(release: Release, contents: Contents, scratch: Path, into: Path) -> Pa
     top, packed = scratch / release.name, into / f"{release.name}.tar.gz"
     tree.write(release, contents, top, "${pcfiledir}/../..", "lib", scratch)
     (top / "README").write_text(filled("README", version=release.version))
-    (top / SUMS).write_text(sums(top))
+    bill.write(release, contents, top)
+    (top / sums.NAME).write_text(sums.of_files_below(top))
     tree.settle(release, top)
     pack_folder(release, top, packed)
     return packed

@@ -7,9 +7,10 @@ from datetime import datetime, timezone
 from pathlib import Path
 from typing import Any
 
+from . import sums
 from .facts import Contents, Release, ran
 
-NAME = "sdm.spdx.json"
+PLACE = "share/doc/sdm/sdm.spdx.json"
 UNKNOWN = "NOASSERTION"  # what SPDX says where nothing is claimed
 
 
@@ -70,48 +71,61 @@ def tool_of(name: str) -> str:
     return ran(name, "--version").decode().splitlines()[0]
 
 
-def bill(release: Release, contents: Contents, prefix: Path) -> dict[str, Any]:
-    """The bill of all files below a prefix."""
-    files = [file_of(prefix, path) for path in sorted(prefix.rglob("*")) if path.is_file() and not path.is_symlink()]
-    sums = "".join(sorted(file["checksums"][0]["checksumValue"] for file in files))
-    whole = package(
+def whole_of(release: Release, files: list[dict[str, Any]]) -> dict[str, Any]:
+    """The release as a package of its files."""
+    digests = "".join(sorted(file["checksums"][0]["checksumValue"] for file in files))
+    code = {
+        "packageVerificationCodeValue": hashlib.sha1(digests.encode()).hexdigest(),
+        "packageVerificationCodeExcludedFiles": [f"./{PLACE}", f"./{sums.NAME}", f"./share/doc/sdm/{sums.NAME}"],
+    }
+    return package(
         "sdm",
         release.version,
         filesAnalyzed=True,
         sourceInfo=f"commit {release.commit}, sources {release.sources}",
-        packageVerificationCode={"packageVerificationCodeValue": hashlib.sha1(sums.encode()).hexdigest()},
+        packageVerificationCode=code,
         licenseInfoFromFiles=[UNKNOWN],
         primaryPackagePurpose="APPLICATION",
     )
-    kit = package("rattle-kit", release.kit)
+
+
+def relations(one: dict[str, Any], kind: str, others: list[dict[str, Any]]) -> list[dict[str, str]]:
+    """How a part of the bill stands to others."""
+    return [
+        {"spdxElementId": one["SPDXID"], "relationshipType": kind, "relatedSpdxElement": other["SPDXID"]}
+        for other in others
+    ]
+
+
+def bill(release: Release, contents: Contents, prefix: Path) -> dict[str, Any]:
+    """The bill of all files below a prefix."""
+    files = [file_of(prefix, path) for path in sorted(prefix.rglob("*")) if path.is_file() and not path.is_symlink()]
+    whole, kit, compiler = whole_of(release, files), package("rattle-kit", release.kit), package("gcc", tool_of("cc"))
     linked = [package(f"rattle-crate-{name}", release.kit) for name in crates_linked(contents)]
-    compiler = package("gcc", tool_of("cc"))
     c_library = package("glibc", "that of the system where it runs")
-    relations = [("SPDXRef-DOCUMENT", "DESCRIBES", whole)]
-    relations += [(whole["SPDXID"], "STATIC_LINK", each) for each in [*linked, compiler]]
-    relations += [(whole["SPDXID"], "DYNAMIC_LINK", c_library)]
-    built = [(tool["SPDXID"], "BUILD_TOOL_OF", whole) for tool in (kit, compiler)]
-    return {
+    created = datetime.fromtimestamp(release.epoch, timezone.utc).strftime("%Y-%m-%dT%H:%M:%SZ")
+    document = {
         "spdxVersion": "SPDX-2.3",
         "dataLicense": "CC0-1.0",
         "SPDXID": "SPDXRef-DOCUMENT",
         "name": release.name,
         "documentNamespace": f"https://spdx.org/spdxdocs/{release.name}-{release.commit}",
-        "creationInfo": {
-            "created": datetime.fromtimestamp(release.epoch, timezone.utc).strftime("%Y-%m-%dT%H:%M:%SZ"),
-            "creators": ["Tool: sdm-scripts-release"],
-        },
+        "creationInfo": {"created": created, "creators": ["Tool: sdm-scripts-release"]},
         "packages": [whole, kit, *linked, compiler, c_library],
         "files": files,
-        "relationships": [
-            {"spdxElementId": one, "relationshipType": kind, "relatedSpdxElement": other["SPDXID"]}
-            for one, kind, other in [*relations, *built, *((whole["SPDXID"], "CONTAINS", file) for file in files)]
-        ],
     }
+    document["relationships"] = [
+        *relations(document, "DESCRIBES", [whole]),
+        *relations(whole, "STATIC_LINK", [*linked, compiler]),
+        *relations(whole, "DYNAMIC_LINK", [c_library]),
+        *relations(kit, "BUILD_TOOL_OF", [whole]),
+        *relations(compiler, "BUILD_TOOL_OF", [whole]),
+        *relations(whole, "CONTAINS", files),
+    ]
+    return document
 
 
 def write(release: Release, contents: Contents, prefix: Path) -> None:
     """Writes the bill of all files that are below a prefix before it."""
-    to = prefix / "share" / "doc" / "sdm" / NAME
     text = json.dumps(bill(release, contents, prefix), indent=1)
-    to.write_text(text + "\n")
+    (prefix / PLACE).write_text(text + "\n")

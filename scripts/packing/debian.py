@@ -5,10 +5,11 @@ import hashlib
 from email.utils import formatdate
 from pathlib import Path
 
-from . import archive, tree
+from . import bill, sums, tree
 from .facts import Contents, Release, filled, ran
 
 LIBRARIES = "lib/x86_64-linux-gnu"
+DOCUMENTS = "share/doc/sdm"
 
 
 def write_source(release: Release, work: Path) -> None:
@@ -21,14 +22,13 @@ def write_source(release: Release, work: Path) -> None:
 
 def write_documents(release: Release, work: Path, usr: Path) -> None:
     """Writes what Debian asks for beside the files, and packs the pages of man."""
-    documents = usr / "share" / "doc" / "sdm"
+    documents = usr / DOCUMENTS
     (documents / "copyright").write_text(filled("copyright", author=release.author))
     packed = ran("gzip", "-9", "--no-name", given=(work / "debian" / "changelog").read_bytes())
     (documents / "changelog.gz").write_bytes(packed)
     for page in sorted((usr / "share" / "man").rglob("*.[0-9]")):
         page.with_name(page.name + ".gz").write_bytes(ran("gzip", "-9", "--no-name", given=page.read_bytes()))
         page.unlink()
-    (documents / archive.SUMS).write_text(archive.sums(usr))
 
 
 def write_control(release: Release, work: Path, root: Path) -> None:
@@ -77,6 +77,8 @@ def write(release: Release, contents: Contents, scratch: Path, into: Path) -> Pa
     write_source(release, work)
     tree.write(release, contents, root / "usr", "/usr", LIBRARIES, scratch)
     write_documents(release, work, root / "usr")
+    bill.write(release, contents, root / "usr")
+    (root / "usr" / DOCUMENTS / sums.NAME).write_text(sums.of_files_below(root / "usr"))
     write_control(release, work, root)
     tree.settle(release, root)
     packed = into / f"sdm_{release.version}_amd64.deb"

@@ -6,7 +6,7 @@ import shutil
 from concurrent.futures import ThreadPoolExecutor
 from pathlib import Path
 
-from . import archive, bill, library, web
+from . import library, sums, web
 from .facts import Contents, Release, filled
 from .places import place_of, place_or_none
 
@@ -58,19 +58,18 @@ def build_record(release: Release, contents: Contents) -> str:
     """What a release was built from, in lines."""
     return (
         f"version {release.version}\ncommit {release.commit}\nsources {release.sources}\nkit {release.kit}\n"
-        f"program {archive.sum_of(contents.program)}\nlibrary {archive.sum_of(contents.library)}\n"
+        f"program {sums.sum_of(contents.program)}\nlibrary {sums.sum_of(contents.library)}\n"
     )
 
 
 def write(release: Release, contents: Contents, prefix: Path, root: str, libraries: str, scratch: Path) -> None:
-    """Writes all files below a prefix that is empty, but its checksums: the libraries go to a folder below it."""
+    """Writes the files that each release has below an empty prefix; the libraries go to a folder below it."""
     (prefix / "bin").mkdir(parents=True)
     shutil.copyfile(contents.program, prefix / "bin" / "sdm")
     copy_files(release, contents.files, prefix)
     write_libraries(release, contents, prefix, root, libraries, scratch)
     (prefix / "share" / "doc" / "sdm" / "BUILD").write_text(build_record(release, contents))
     web.check_links(prefix)
-    bill.write(release, contents, prefix)
 
 
 def settle(release: Release, top: Path) -> None:

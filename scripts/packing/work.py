@@ -6,7 +6,7 @@ import shutil
 import tempfile
 from pathlib import Path
 
-from . import archive, debian
+from . import archive, debian, sums
 from .facts import Contents, Fault, Release, ran
 
 
@@ -27,9 +27,9 @@ def pack_once(release: Release, program: Path, library: Path, into: Path) -> lis
             place = scratch / write.__module__
             place.mkdir()
             packed.append(write(release, contents, place, into))
-    sums = into / archive.SUMS
-    sums.write_text("".join(f"{archive.sum_of(path)}  {path.name}\n" for path in packed))
-    return [*packed, sums]
+    checksums = into / sums.NAME
+    checksums.write_text(sums.of_files_below(into))
+    return [*packed, checksums]
 
 
 def pack(release: Release, program: Path, library: Path, into: Path) -> list[Path]:

@@ -13,7 +13,7 @@ from . import copies
 sys.path.insert(0, str(copies.TOP / "scripts"))
 
 import header  # noqa: E402
-from packing import archive, bill, library, places, tree, web  # noqa: E402
+from packing import archive, bill, library, places, sums, tree, web  # noqa: E402
 from packing.facts import Contents, Fault, Release  # noqa: E402
 
 TEXT = header.text()
@@ -161,8 +161,8 @@ class Bills(Scratch):
         (self.top / "prefix/bin/link").symlink_to("sdm")
         told = bill.bill(RELEASE, Contents(Path(), Path(), copies.TOP), self.top / "prefix")
         self.assertEqual([file["fileName"] for file in told["files"]], ["./bin/sdm"])
-        sums = {each["algorithm"]: each["checksumValue"] for each in told["files"][0]["checksums"]}
-        self.assertEqual(sums["SHA256"], printed("sha256sum", self.top / "prefix/bin/sdm").split()[0])
+        digests = {each["algorithm"]: each["checksumValue"] for each in told["files"][0]["checksums"]}
+        self.assertEqual(digests["SHA256"], printed("sha256sum", self.top / "prefix/bin/sdm").split()[0])
         named = {package["name"] for package in told["packages"]}
         self.assertLessEqual(
             {"sdm", "rattle-kit", "rattle-crate-std", "rattle-crate-toml", "rattle-crate-csv", "glibc"}, named
@@ -183,7 +183,7 @@ class Bytes(Scratch):
         (top / "bin" / "sdm").write_text("program")
         (top / "page").write_text("text")
         (top / "page").chmod(0o600 if name == "one" else 0o666)
-        (top / archive.SUMS).write_text(archive.sums(top))
+        (top / sums.NAME).write_text(sums.of_files_below(top))
         tree.settle(RELEASE, top)
         archive.pack_folder(RELEASE, top, self.top / f"{name}.tar.gz")
         return (self.top / f"{name}.tar.gz").read_bytes()
@@ -195,7 +195,7 @@ class Bytes(Scratch):
         self.assertRegex(listed, r"-rw-r--r-- 0/0 +4 2023-11-14 \d\d:\d\d sdm-1.2.3-x86_64-linux/page\n")
         printed("tar", "--extract", "--directory", self.top, "--file", self.top / "one.tar.gz")
         checked = subprocess.run(
-            ["sha256sum", "--check", "--strict", archive.SUMS],
+            ["sha256sum", "--check", "--strict", sums.NAME],
             cwd=self.top / RELEASE.name,
             capture_output=True,
             text=True,
