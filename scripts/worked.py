@@ -99,6 +99,8 @@ def main(args):
         program = built(words.program)
         tables = words.table or sorted(path.stem for path in WORKED.glob("*.txt"))
         answers = [differs(program, case) for table in tables for case in cases_of(table)]
+    except BrokenPipeError:
+        raise
     except (Fault, OSError) as why:
         print(f"check-worked: {why}", file=sys.stderr)
         return 1

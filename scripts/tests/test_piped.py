@@ -40,8 +40,9 @@ class Piped(unittest.TestCase):
         self.assertEqual(self.ended("def main():\n    sys.exit(4)", 0), (4, ""))
         self.assertEqual(self.ended("def main():\n    sys.exit('why')", 0), (1, "why\n"))
 
-    def test_scripts_that_print_much_end_so(self):
-        for words in (["scripts/believed"], ["scripts/clauses"], ["scripts/manual", "help"], ["scripts/count-lines"]):
+    def test_scripts_end_so(self):
+        differs = ["scripts/check-worked", "words", "--program", "/bin/true"]
+        for words in (["scripts/believed"], ["scripts/clauses"], ["scripts/manual", "help"], differs):
             with self.subTest(words[0]):
                 with subprocess.Popen(
                     words, cwd=copies.TOP, stdout=subprocess.PIPE, stderr=subprocess.PIPE, text=True
