@@ -271,7 +271,7 @@ class Gate(OverACopy):
         tools = self.top / "tools-there"
         tools.mkdir()
         self.assertIn("rt, the toolchain's command", self.set_up(tools, {}))
-        there = dict.fromkeys(["rt", "gnuplot", "parallel", "cc", "valgrind"], "exit 0") | {"python3": "echo Python 3.9; exit 1"}
+        there = dict.fromkeys(["rt", "gnuplot", "parallel", "groff", "cc", "valgrind"], "exit 0") | {"python3": "echo Python 3.9; exit 1"}
         self.assertIn("Python from 3.11 on is needed", self.set_up(tools, there))
 
     def set_up(self, folder: Path, programs: dict[str, str]) -> str:
