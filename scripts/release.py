@@ -7,6 +7,7 @@ and the library for C as `rt lib` proves and builds it now. It packs twice, in t
 where the bytes differ. `scripts/setup release` installs what it needs. docs/LIBRARY.md has what is packed,
 scripts/check-release tries it."""
 
+import os
 import subprocess
 import sys
 import time
@@ -32,7 +33,9 @@ def mark_of_program() -> dict[str, str]:
 
 def build_library() -> None:
     """Proves and builds the library for C, over what earlier checks kept."""
-    if subprocess.run(["rt", "lib"], cwd=TOP / "crates" / "sdm_c", stdout=subprocess.DEVNULL).returncode:
+    environment = {name: value for name, value in os.environ.items() if name != "RT_BACKEND"}  # so that LLVM compiles
+    words = ["rt", "lib"]
+    if subprocess.run(words, cwd=TOP / "crates" / "sdm_c", env=environment, stdout=subprocess.DEVNULL).returncode:
         raise Fault("`rt lib` failed, so there is no library to pack.")
 
 
