@@ -20,6 +20,7 @@ from pathlib import Path
 import specs
 from citations import Contract, Graph, blanked, imported
 from pages import Part
+from piped import end
 from specs import CRATES, ROOT
 
 PART = Part(
@@ -323,4 +324,4 @@ def main(words: list[str]) -> int:
 
 
 if __name__ == "__main__":
-    sys.exit(main(sys.argv[1:]))
+    end(lambda: main(sys.argv[1:]))

@@ -10,6 +10,7 @@ import re
 import sys
 
 from pages import Part
+from piped import end
 from specs import ROOT, crates
 
 PART = Part(
@@ -45,4 +46,4 @@ def wordless():
 
 
 if __name__ == "__main__":
-    sys.exit(PART.main(sys.argv[1:], listed(), wordless()))
+    end(lambda: PART.main(sys.argv[1:], listed(), wordless()))

@@ -14,6 +14,7 @@ import specs
 from citations import Graph
 from evidence import Cases, Tests
 from pages import Part, told
+from piped import end
 from specs import ROOT, meaning_of, source_from
 
 PART = Part(
@@ -205,4 +206,4 @@ def main(words):
 
 
 if __name__ == "__main__":
-    sys.exit(main(sys.argv[1:]))
+    end(lambda: main(sys.argv[1:]))

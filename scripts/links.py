@@ -14,6 +14,7 @@ from functools import cache
 from urllib.parse import unquote
 
 from pages import told
+from piped import end
 from specs import ROOT
 
 FENCE = re.compile(r"^(```|~~~).*?^\1\s*$", re.M | re.S)
@@ -144,4 +145,4 @@ def main():
 
 
 if __name__ == "__main__":
-    sys.exit(main())
+    end(main)

@@ -1,6 +1,6 @@
-"""Writes docs/TRACES.md: for each sentence of README's promise its clauses and laws, their definitions, cases that
+"""Writes docs/TRACES.md: for each sentence of README's promise, and each marked one of PROMISES, its clauses and laws, their definitions, cases that
 show these, the must-fail edits that break them with the clause that refuses each, and the wrong definitions that
-were tried. scripts/traces.toml says which, by the ids of README's marks `<!-- trace: ID -->`; this script finds
+were tried. scripts/traces.toml says which, by the ids of the marks `<!-- trace: ID -->`; this script finds
 where each stands, and fails where one is gone.
 
     scripts/traces          prints the page's part
@@ -31,6 +31,7 @@ PART = Part(
 )
 TABLE = ROOT / "scripts" / "traces.toml"
 WRONG = ROOT / "docs" / "WRONG-DEFINITIONS.md"
+PROMISES = ROOT / "docs" / "PROMISES.md"
 MARK = re.compile(r"<!-- trace: ([\w, -]+) -->")
 
 
@@ -53,14 +54,28 @@ class Gone(Exception):
     """Something that scripts/traces.toml names isn't there."""
 
 
+def ids_in(line: str) -> list[str]:
+    """The ids of a line's marks."""
+    return [each.strip() for mark in MARK.findall(line) for each in mark.split(",")]
+
+
 def promise() -> list[tuple[str, list[str]]]:
-    """The sentences of README's promise, each with the ids of its marks."""
+    """The sentences of README's promise, each with the ids of its marks, and their links as they are from docs/."""
     section = (ROOT / "README.md").read_text().partition("\n## The promise\n")[2].partition("\n## ")[0]
     found = []
     for line in section.splitlines():
-        ids = [each.strip() for mark in MARK.findall(line) for each in mark.split(",")]
+        ids = ids_in(line)
         if ids or line.startswith("- "):
-            found.append((MARK.sub("", line).removeprefix("- ").strip(), ids))
+            found.append((from_docs(MARK.sub("", line).removeprefix("- ").strip()), ids))
+    return found
+
+
+def more_promised() -> list[tuple[str, list[str]]]:
+    """The marked sentences of PROMISES: each is what stands between its mark and the end of the sentence before."""
+    found = []
+    for line in PROMISES.read_text().splitlines():
+        for each in MARK.finditer(line):
+            found.append((re.split(r"\. (?=[A-Z])", line[: each.start()].strip())[-1], ids_in(each[0])))
     return found
 
 
@@ -179,8 +194,8 @@ def lines_of(trace: Trace, places: Places) -> list[str]:
 def listed(traces: dict[str, Trace], faults: list[str]) -> str:
     """The traces in Markdown, by README's sentences; what is wrong with them is added to faults."""
     places, out, seen = Places(), [], set()
-    for number, (sentence, ids) in enumerate(promise(), 1):
-        out += ["", f"## Sentence {number}", "", f"> {from_docs(sentence)}"]
+    for number, (sentence, ids) in enumerate([*promise(), *more_promised()], 1):
+        out += ["", f"## Sentence {number}", "", f"> {sentence}"]
         faults += (
             [] if ids else [f"README.md: its promise has a sentence without `<!-- trace: ID -->`: {sentence[:50]}"]
         )
@@ -194,7 +209,7 @@ def listed(traces: dict[str, Trace], faults: list[str]) -> str:
             except Gone as gone:
                 faults.append(f"scripts/traces.toml: {each}: {gone}")
     faults += [
-        f"scripts/traces.toml: no sentence of README's promise has the mark {each}"
+        f"scripts/traces.toml: no sentence has the mark {each}"
         for each in traces
         if each not in seen
     ]

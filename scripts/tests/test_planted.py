@@ -28,6 +28,7 @@ PARTS = {
     "definitions": [*SPECS, "crates/*/proofs/*Cases.antt"],
     "laboratory": ["examples", "scripts", "tools", "vectors/make", "vectors/maker", "vectors/data", "vectors/flat"],
     "links": [":!vectors/*/*/*"],
+    "manual": ["CHANGELOG.md", "README.md", "c/sdm.h", "docs/commands.toml", "docs/sdm.1", "docs/sdm.h.3", "scripts"],
     "pictures": ["examples/approach", "examples/flat", "scripts", "tools"],
     "plot": ["examples", "scripts", "tools"],
     "style": ["README.md", "docs", "scripts"],
@@ -73,6 +74,12 @@ PLANTED = [
         Fault("examples/interventions/recording.csv", "^13000;", "13100;", "it doesn't show its output of tools/compare as it is"),
         Fault("docs/TRACES.md", r"supervisors\.rt#L\d+\)$", "supervisors.rt#L99999)", "supervisors.rt#L99999 has no such line"),
     ]),
+    ("manual", [
+        Fault("docs/commands.toml", "1 to 1000", "1 to 1001", STALE),
+        Fault("c/sdm.h", "Judges a reading", "Takes a reading", "docs/sdm.h.3: stale"),
+    ]),
+    ("manual", [Fault("CHANGELOG.md", r"^## (?=\[\d)", "## [99.0.0]\n\n## ", "README.md: it doesn't begin a line with `Version 99.0.0 `")]),
+    ("manual", [Fault("docs/sdm.1", r"^\.SH DATA PART$", ".SH DATA PART\n.XY", "macro 'XY' not defined")]),
     ("pictures", [
         Fault("examples/approach/rows", "^10,T,X,0,0,1,1,160,887500", "10,T,X,0,0,1,1,160,887000", "approach: the picture is stale"),
         Fault("examples/flat/README.md", r"picture\.svg", "other.svg", "flat: its page doesn't show"),
@@ -90,7 +97,7 @@ PLANTED = [
         Fault("docs/FORMATS.md", "^## Commands$", "## Commands of 0.12.1", "'0.12.1': only CHANGELOG.md"),
     ]),
     ("traces", [
-        Fault("README.md", r" <!-- trace: stop -->", "", "no sentence of README's promise has the mark stop"),
+        Fault("README.md", r" <!-- trace: order -->", "", "no sentence has the mark order"),
         Fault("scripts/traces.toml", r"law_of_machines", "law_of_machine", "order: no law sdm_laws::law_of_machine"),
         Fault("scripts/traces.toml", r"Supervisor::cycle gaps", "Supervisor::cycle gap", "gaps: sdm_supervisor::Supervisor::cycle has no clause gap"),
         Fault("crates/sdm_ceiling/must-fail/ebi_margin_not_capped.edit", r"\A#.*\n", "", "ebi_margin_not_capped has no line"),
@@ -127,7 +134,7 @@ class Checks(unittest.TestCase):
                         self.assertIn(fault.told, told)
 
     def test_each_check_has_two_faults(self):
-        elsewhere = {"model", "upgrade", "certificates", "worked", "c", "refused", "scripts"}  # test_program.py, all five; by hand; these tests
+        elsewhere = {"model", "upgrade", "certificates", "worked", "c", "refused", "scripts", "release"}  # test_program.py, all five; by hand
         names = {path.name.removeprefix("check-") for path in (copies.TOP / "scripts").glob("check-*")} - elsewhere
         few = {name for name in names if sum(len(faults) for script, faults in PLANTED if script == name) < 2}
         self.assertEqual(few, set())
