@@ -13,6 +13,7 @@ pub mod display;
 pub mod faults;
 mod generator;
 pub mod keys;
+pub mod limits;
 pub mod motions;
 mod ranges;
 pub mod records;
@@ -34,6 +35,7 @@ pub use faults::{
     TripFault,
 };
 pub use generator::next_number;
+pub use limits::LimitKind;
 pub use motions::{Phase, Point, Slice, Start};
 pub use ranges::{
     LONGEST_TRACK_CM, LONGEST_TRAIN_CM, MOST_RECORDS, STEEPEST, TOP_KMH, first_refused, is_within,
