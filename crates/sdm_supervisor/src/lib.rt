@@ -9,6 +9,7 @@ mod shown;
 mod sight;
 mod supervisors;
 mod verdicts;
+mod walks;
 
 pub use flat::Flat;
 pub use sdm_rules::{CycleFault, FlatRow, OpenFault, Row, SlopeKind};
