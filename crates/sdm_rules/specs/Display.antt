@@ -40,7 +40,7 @@ kind_of Permitted = kinds.Permitted
 kind_of Sbi = kinds.Sbi
 kind_of Ebi = kinds.Ebi
 
--- the release speed counts as the limit: as the permitted speed and as the EBI (SUBSET-026-3 3.13.10.5; own)
+-- the release speed counts as the limit: as the permitted speed and as the EBI (SUBSET-026-3 3.13.10.5)
 abbrev pub counts_release : LimitName → Bool
 counts_release Permitted = true
 counts_release Sbi = false
