@@ -7,7 +7,8 @@ ghost use Rattle.std.specs.Prelude.{◌≡◌, ◌/◌, ◌^◌, ◌≤◌};
 /// The bits of a word past its first two.
 const PAST_TWO: u32 = 62;
 
-/// The reciprocal of a divisor: 2⁶⁴ divided by it, where the point of the divisor stands behind its first two bits.
+/// The reciprocal of a divisor, as 2⁶⁴ parts of 1. The divisor is taken with its point behind its first two bits, so
+/// from 2 up to 4.
 pub fn reciprocal_of(divisor: u64) -> u64
     requires low { 2 ≤ divisor }
     requires high { divisor ≤ 2 ^ 62 }
@@ -16,8 +17,9 @@ pub fn reciprocal_of(divisor: u64) -> u64
     (((1 << shift) << 64) / u128::from(divisor)) as u64
 }
 
-/// `n / divisor`. With the divisor's reciprocal the guess is the quotient or one less where the quotient is below 2⁶¹, as
-/// it is for every place within 10¹⁸ grains; where the guess is neither, the processor divides.
+/// `n / divisor`. With the divisor's reciprocal the guess is the quotient, or one less, wherever the quotient is below
+/// 2⁶¹, so for each place within 10¹⁸ grains; no clause says that, and nothing rests on it. Where the guess is neither,
+/// the processor divides.
 // In line: a place is asked for each target of a reading.
 #[inline(always)]
 pub fn quotient(n: u128, divisor: u64, reciprocal: u64) -> u128

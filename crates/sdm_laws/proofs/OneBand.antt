@@ -1,5 +1,5 @@
--- Arcs of one speed band: the energy of a distance, the walk that uses it up, the track seen from its other side, places
--- in common steps, and the levels of arcs.
+-- Arcs of one speed band: the energy of a distance, the walk that uses it up, places in common steps, arcs back and
+-- ahead, and their levels.
 pub mod Totals
 pub mod Cells
 pub mod Energy

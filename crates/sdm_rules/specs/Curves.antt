@@ -4,8 +4,8 @@
 --     5 * 10^12 * q * (change of the squared speed) = 27 * slope * distance
 -- with squares in squared notches and the distance in grains. Below its foot speed a curve runs on past the foot (own).
 -- For a scale `s`, places are in 1/s grain and squares in 1/s squared notch; the curves of the train have s = 1.
-use Rattle.std.specs.Prelude.{ℕ, zero, suc, ℤ, unsigned_abs, pos, neg_ℤ, List, [], ◌∷◌, ◌+◌, ◌-◌, ◌*◌, ◌+ℤ◌, ◌*ℤ◌, nat_le}
-use Rattle.std.specs.Prelude.{nat_lt, slice_index, if◌then◌else◌}
+use Rattle.std.specs.Prelude.{ℕ, zero, suc, ℤ, unsigned_abs, pos, neg_ℤ, List, [], ◌∷◌, ◌+◌, ◌-◌, ◌*◌, ◌+ℤ◌, ◌*ℤ◌}
+use Rattle.std.specs.Prelude.{nat_le, nat_lt, slice_index, if◌then◌else◌}
 use Rattle.std.specs.Int.{int_div_euclid}
 use Rattle.sdm_num.specs.Fractions.{Fraction, floor, whole}
 use Rattle.sdm_num.specs.Units.{centimetre}
@@ -70,19 +70,19 @@ upper_square slopes scale band = scale * (slice_index slopes.uppers band * slice
 
 -- the band of a square, by the bands' upper speeds: the first band whose upper square is not below it, else the last
 -- (own)
-abbrev pub band_in : ℕ → List ℕ → ℕ → ℕ
-band_in scale [] square = 0
-band_in scale (upper ∷ uppers) square =
-    if nat_lt (scale * (upper * upper)) square then suc (band_in scale uppers square) else 0
+abbrev pub band_of_square : ℕ → List ℕ → ℕ → ℕ
+band_of_square scale [] square = 0
+band_of_square scale (upper ∷ uppers) square =
+    if nat_lt (scale * (upper * upper)) square then suc (band_of_square scale uppers square) else 0
 
 -- where a curve comes into a band: a place with its square (own)
 pub record Corner : Type 0 where
   pub place : Fraction
   pub square : ℕ
 
--- The corner of a band that lies `n` bands from the foot's band `own`, whose corner is the foot. Any other is on the arc
--- of the next band towards `own`, where this has the square of the border between both; `round` is applied to the place
--- (own).
+-- The corner of a band that lies `n` bands from the foot's band `own`, whose corner is the foot. Any other lies on the
+-- arc of the next band towards `own`, where this has the square of the border between both; `round` is applied to its
+-- place (own).
 unfoldable pub corner : (Fraction → Fraction) → Slopes → ℕ → Corner → ℕ → ℕ → ℕ → Corner
 corner round slopes scale foot own zero band = foot
 corner round slopes scale foot own (suc n) band =
@@ -93,11 +93,11 @@ corner round slopes scale foot own (suc n) band =
 
 -- the place where the curve from a foot, in grains, with a foot speed, in notches, has a square of speed: on the arc of
 -- the square's band through the band's corner; `round` is applied to it (SUBSET-026-3 3.13.8.3 to 3.13.8.5; own form)
-unfoldable pub place : (Fraction → Fraction) → Slopes → ℕ → ℤ → ℕ → ℕ → Fraction
-place round slopes scale foot foot_speed square =
+unfoldable pub place_at : (Fraction → Fraction) → Slopes → ℕ → ℤ → ℕ → ℕ → Fraction
+place_at round slopes scale foot foot_speed square =
     let start : Corner = record { place = whole (pos scale *ℤ foot); square = scale * (foot_speed * foot_speed) } in
-    let own = band_in scale slopes.uppers start.square in
-    let band = band_in scale slopes.uppers square in
+    let own = band_of_square scale slopes.uppers start.square in
+    let band = band_of_square scale slopes.uppers square in
     let from = corner round slopes scale start own ((own - band) + (band - own)) band in
     round (arc slopes scale band from.place from.square square)
 
@@ -111,16 +111,16 @@ to_grain x = whole (floor x)
 
 -- the exact place of a square of speed on a curve, at a scale (own)
 unfoldable pub exact_at : Slopes → ℕ → ℤ → ℕ → ℕ → Fraction
-exact_at slopes scale foot foot_speed square = place as_is slopes scale foot foot_speed square
+exact_at slopes scale foot foot_speed square = place_at as_is slopes scale foot foot_speed square
 
 -- the exact place, in grains, of a speed in notches on a curve (SUBSET-026-3 3.13.8.3 to 3.13.8.5; own form)
 unfoldable pub exact : Slopes → ℤ → ℕ → ℕ → Fraction
 exact slopes foot foot_speed speed = exact_at slopes 1 foot foot_speed (speed * speed)
 
--- the stepped place, in grains, of a speed in notches on a curve: rounded down to a grain at each corner, and at the end
--- (own)
+-- the stepped place, in grains, of a speed in notches on a curve: each corner but the foot is rounded down to a grain,
+-- and so is the place itself (own)
 unfoldable pub stepped : Slopes → ℤ → ℕ → ℕ → ℤ
-stepped slopes foot foot_speed speed = floor (place to_grain slopes 1 foot foot_speed (speed * speed))
+stepped slopes foot foot_speed speed = floor (place_at to_grain slopes 1 foot foot_speed (speed * speed))
 
 -- how early in grains a stepped place can be after `n` bands, from one that is `e` early: each band multiplies by at
 -- most the variation `k` of its slopes, and rounding adds less than a grain (own)

@@ -10,7 +10,7 @@ use Rattle.sdm_num.specs.Bounds.{mm_below}
 use Rattle.sdm_rules.specs.Cells.{place_of_cell}
 use Rattle.sdm_rules.specs.Slopes.{Slopes, SlopeMap, meaning_of}
 use Rattle.sdm_rules.specs.Curves.{cell_at, cell_start, back, arc_back, exact_at, exact, stepped, as_is, to_grain}
-use Rattle.sdm_rules.specs.Curves.{place, corner}
+use Rattle.sdm_rules.specs.Curves.{place_at, corner}
 use Rattle.sdm_laws.proofs.OneBand.BothWays.{arc_is_back}
 use Rattle.sdm_laws.proofs.BrakeCurves.CurveOrder.{floor_whole}
 use Rattle.sdm_rules.specs.Supervision.{whole_mm}
@@ -67,8 +67,8 @@ same_arc decel x change =
 
 -- with one band the place of a speed is the end of one arc back from a foot with speed 0
 one_arc : (round : Fraction → Fraction) (on : Slopes) (f : ℤ) (v : ℕ) → on.uppers ≡ [] →
-    place round on 1 f 0 (v * v) ≡ round (arc_back on 1 0 (whole (pos 1 *ℤ f)) (v * v - 0))
-unfolding place corner
+    place_at round on 1 f 0 (v * v) ≡ round (arc_back on 1 0 (whole (pos 1 *ℤ f)) (v * v - 0))
+unfolding place_at corner
 one_arc round on f v one = rw one (ap round (arc_is_back on 1 0 (whole (pos 1 *ℤ f)) 0 (v * v) (omega arith)))
 
 -- so is the stepped place, rounded down

@@ -4,7 +4,7 @@ use Rattle.std.proofs.lemmas.Bool.{cases_lt}
 use Rattle.std.proofs.lemmas.Nat.{mul-le}
 use Rattle.std.proofs.Math.Nat.{mul-le-mul_left}
 use Rattle.sdm_rules.specs.Slopes.{Slopes, IsUsable}
-use Rattle.sdm_rules.specs.Curves.{upper_square, band_in}
+use Rattle.sdm_rules.specs.Curves.{upper_square, band_of_square}
 use Rattle.sdm_rules.specs.Motion.{IsInBand, lower_square}
 
 -- the band is the first whose upper square is not below the square
@@ -13,18 +13,19 @@ record IsBand (s : ℕ) (vs : List ℕ) (z band : ℕ) : Type 0 where
   above : (i : ℕ) → i < band → s * (get_or vs i 0 * get_or vs i 0) < z
   below : band < length vs → z ≤ s * (get_or vs band 0 * get_or vs band 0)
 
-band_next : (s v : ℕ) (vs : List ℕ) (z : ℕ) → s * (v * v) < z → band_in s (v ∷ vs) z ≡ suc (band_in s vs z)
+band_next : (s v : ℕ) (vs : List ℕ) (z : ℕ) → s * (v * v) < z →
+    band_of_square s (v ∷ vs) z ≡ suc (band_of_square s vs z)
 band_next s v vs z lt = search rules
 
-band_here : (s v : ℕ) (vs : List ℕ) (z : ℕ) → z ≤ s * (v * v) → band_in s (v ∷ vs) z ≡ 0
+band_here : (s v : ℕ) (vs : List ℕ) (z : ℕ) → z ≤ s * (v * v) → band_of_square s (v ∷ vs) z ≡ 0
 band_here s v vs z le = search rules
 
-band-is : (s : ℕ) (vs : List ℕ) (z : ℕ) → IsBand s vs z (band_in s vs z)
+band-is : (s : ℕ) (vs : List ℕ) (z : ℕ) → IsBand s vs z (band_of_square s vs z)
 band-is s [] z = record { known = omega arith; above = λ i l. absurd (omega arith); below = λ l. absurd (omega arith) }
 band-is s (v ∷ vs) z = elim (cases_lt (s * (v * v)) z) [
   | inl lt ↦ (let h = band-is s vs z in rw (band_next s v vs z lt) record {
     known = omega (arith, h.known);
-    above = past s v vs z (band_in s vs z) lt h.above;
+    above = past s v vs z (band_of_square s vs z) lt h.above;
     below = λ l. h.below (omega arith);
   })
   | inr ge ↦ rw (band_here s v vs z ge)
@@ -39,7 +40,7 @@ band-is s (v ∷ vs) z = elim (cases_lt (s * (v * v)) z) [
 
 -- the band of a square
 abbrev pub band_at : Slopes → ℕ → ℕ → ℕ
-band_at on s z = band_in s on.uppers z
+band_at on s z = band_of_square s on.uppers z
 
 pub in_its_band : (on : Slopes) (s z : ℕ) → IsInBand on s (band_at on s z) z
 in_its_band on s z =

@@ -5,7 +5,7 @@ use Rattle.std.proofs.Common.{sym, ◌∙◌, inl, inr}
 use Rattle.std.proofs.lemmas.Bool.{cases_lt}
 use Rattle.sdm_num.specs.Fractions.{Fraction, whole}
 use Rattle.sdm_rules.specs.Slopes.{Slopes, IsUsable}
-use Rattle.sdm_rules.specs.Curves.{upper_square, Corner, arc, corner, place}
+use Rattle.sdm_rules.specs.Curves.{upper_square, Corner, arc, corner, place_at}
 use Rattle.sdm_rules.specs.Motion.{IsInBand}
 use Rattle.sdm_laws.proofs.OneBand.BothWays.{arc_pos, arc_none}
 use Rattle.sdm_laws.proofs.BrakeCurves.Bands.{band_at, in_its_band, band_rises, border_above, border_below}
@@ -121,8 +121,8 @@ own_of on s w = band_at on s (s * (w * w))
 
 -- the place of a square is that in its band
 pub place_is : (round : Fraction → Fraction) (on : Slopes) (s : ℕ) (f : ℤ) (w z : ℕ) →
-    place round on s f w z ≡ place_in round on s (foot_at s f w) (own_of on s w) (band_at on s z) z
-unfolding place
+    place_at round on s f w z ≡ place_in round on s (foot_at s f w) (own_of on s w) (band_at on s z) z
+unfolding place_at
 place_is round on s f w z = refl
 
 -- the corners of a curve are places
@@ -139,8 +139,8 @@ pub joined : (round : Fraction → Fraction) (on : Slopes) (s : ℕ) (Joined : F
     Joined (round (arc on s band x u z)) z (round (arc on s band x u z')) z') →
     ((x : Fraction) → round (round x) ≡ round x) → ((x : Fraction) → 0 < x.m → 0 < (round x).m) →
     IsUsable on → 0 < s → (f : ℤ) (w z' z : ℕ) → z' ≤ z →
-    Joined (place round on s f w z) z (place round on s f w z') z'
-unfolding place
+    Joined (place_at round on s f w z) z (place_at round on s f w z') z'
+unfolding place_at
 joined round on s Joined goes_on in_band stays kept usable s_pos f w z' z le =
     between round on s (foot_at s f w) (own_of on s w) Joined goes_on in_band usable stays
     (at_pos round on s usable s_pos kept f w) (band_at on s z') (band_at on s z) z' z (band_rises on s z' z le)

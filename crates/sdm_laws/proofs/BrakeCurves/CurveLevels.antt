@@ -5,7 +5,7 @@ use Rattle.std.proofs.lemmas.Bool.{cases_lt}
 use Rattle.std.proofs.lemmas.Int.{ints, by_lt_z}
 use Rattle.sdm_num.specs.Fractions.{Fraction, IsSame, whole, floor}
 use Rattle.sdm_rules.specs.Slopes.{Slopes, IsUsable}
-use Rattle.sdm_rules.specs.Curves.{grain_energy, to_grain, as_is, upper_square, arc, place, stepped, exact_at}
+use Rattle.sdm_rules.specs.Curves.{grain_energy, to_grain, as_is, upper_square, arc, place_at, stepped, exact_at}
 use Rattle.sdm_rules.specs.Motion.{IsInBand}
 use Rattle.sdm_laws.specs.Levels.{nearest, corner_level, IsLastAtMost, IsSteppedCurve, IsExactCurve, exact_level}
 use Rattle.sdm_laws.specs.CurveLaws.{KeepsLevels}
@@ -33,8 +33,9 @@ unfolding stepped
 stepped_curve on f w usable = record { foot = stepped_foot on f w; level = levels }
   where
     levels : (band v : ℕ) → IsInBand on 1 band (v * v) → IsLastAtMost on band
-        (corner_level on w (λ v. floor (place to_grain on 1 f w (v * v))) band +ℤ neg_ℤ (pos (grain_energy on (v * v))))
-        (floor (place to_grain on 1 f w (v * v)))
+        (corner_level on w (λ v. floor (place_at to_grain on 1 f w (v * v))) band
+        +ℤ neg_ℤ (pos (grain_energy on (v * v))))
+        (floor (place_at to_grain on 1 f w (v * v)))
     levels band v h =
         let corner = at to_grain on 1 (foot_at 1 f w) (own_of on 1 w) band in
         let c = nearest on band w in
@@ -45,10 +46,10 @@ stepped_curve on f w usable = record { foot = stepped_foot on f w; level = level
         (corner_is to_grain on 1 usable (omega arith) grain_stays grain_wholes f w (λ x h. omega arith) band h.known) in
         let here = place_any to_grain on 1 usable (omega arith) grain_stays grain_wholes f w (λ x h. omega arith) band
         (v * v) h in
-        let last = arc_last on band (floor (place to_grain on 1 f w (c * c))) (c * c) (v * v)
+        let last = arc_last on band (floor (place_at to_grain on 1 f w (c * c))) (c * c) (v * v)
         (usable.positive band h.known) in
-        let value : floor (place to_grain on 1 f w (v * v))
-        ≡ floor (arc on 1 band (whole (floor (place to_grain on 1 f w (c * c)))) (c * c) (v * v)) =
+        let value : floor (place_at to_grain on 1 f w (v * v))
+        ≡ floor (arc on 1 band (whole (floor (place_at to_grain on 1 f w (c * c)))) (c * c) (v * v)) =
         ap floor (sym here) ∙ (floor_whole _ ∙ rw (from, square, whole_place on f w (c * c)) refl) in
         rw value last
 

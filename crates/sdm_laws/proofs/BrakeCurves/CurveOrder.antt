@@ -6,7 +6,7 @@ use Rattle.sdm_num.specs.Fractions.{Fraction, IsAtMost, IsBefore, floor, whole}
 use Rattle.sdm_num.proofs.Floors.{floor_is, floor_low, floor_high, scale-<_cancel}
 use Rattle.sdm_num.proofs.Order.{at_most_in, at_most_out, at_most_trans}
 use Rattle.sdm_rules.specs.Slopes.{Slopes, IsUsable}
-use Rattle.sdm_rules.specs.Curves.{as_is, to_grain, arc, place, exact_at, stepped}
+use Rattle.sdm_rules.specs.Curves.{as_is, to_grain, arc, place_at, exact_at, stepped}
 use Rattle.sdm_rules.specs.Motion.{IsInBand}
 use Rattle.sdm_laws.specs.CurveLaws.{IsAtFoot}
 use Rattle.sdm_laws.proofs.OneBand.Arcs.{arc_from, arc_to}
@@ -67,8 +67,8 @@ grain_stays x = ap whole (floor_whole (floor x))
 
 -- a stepped place is whole
 pub whole_place : (on : Slopes) (f : ℤ) (w z : ℕ) →
-    whole (floor (place to_grain on 1 f w z)) ≡ place to_grain on 1 f w z
-unfolding place
+    whole (floor (place_at to_grain on 1 f w z)) ≡ place_at to_grain on 1 f w z
+unfolding place_at
 whole_place on f w z = grain_stays _
 
 -- the stepped place of a greater speed is not past that of a lesser one
@@ -91,8 +91,8 @@ stepped_falls on f w v' v usable le =
 
 -- with any rounding the place of the foot's square is the foot, rounded, on any slopes
 place_foot : (round : Fraction → Fraction) (on : Slopes) (s : ℕ) (f : ℤ) (w : ℕ) →
-    place round on s f w (s * (w * w)) ≡ round (whole (pos s *ℤ f))
-unfolding place
+    place_at round on s f w (s * (w * w)) ≡ round (whole (pos s *ℤ f))
+unfolding place_at
 place_foot round on s f w =
     rw (corner_own round on s (foot_at s f w) (own_of on s w)) (ap round (arc_none on s (own_of on s w) _ _))
 
@@ -107,7 +107,7 @@ unfolding stepped
 stepped_foot on f w =
     let one : w * w ≡ 1 * (w * w) = omega arith in
     let foot : pos 1 *ℤ f ≡ f = omega (arith, ints) in
-    ap (λ (z : ℕ). floor (place to_grain on 1 f w z)) one
+    ap (λ (z : ℕ). floor (place_at to_grain on 1 f w z)) one
     ∙ (ap floor (place_foot to_grain on 1 f w) ∙ (floor_whole _ ∙ (floor_whole _ ∙ foot)))
 
 -- at its foot speed a curve is at its foot, exact and stepped

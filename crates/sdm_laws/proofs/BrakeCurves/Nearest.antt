@@ -7,7 +7,7 @@ use Rattle.std.proofs.Math.Nat.{mul-le-mul_left, mul-lt-mul_of_pos_left}
 use Rattle.sdm_num.specs.Fractions.{Fraction, whole}
 use Rattle.sdm_rules.specs.Slopes.{Slopes, IsUsable}
 use Rattle.sdm_rules.specs.Motion.{IsInBand}
-use Rattle.sdm_rules.specs.Curves.{Corner, place}
+use Rattle.sdm_rules.specs.Curves.{Corner, place_at}
 use Rattle.sdm_laws.specs.Levels.{nearest, lower_speed}
 use Rattle.sdm_laws.proofs.OneBand.BothWays.{arc_none}
 use Rattle.sdm_laws.proofs.BrakeCurves.Bands.{band_at, in_its_band, border_above, border_below, past_lower}
@@ -160,7 +160,7 @@ module _ (round : Fraction → Fraction) (on : Slopes) (s : ℕ) (usable : IsUsa
   IsOne y u x v = (v ≤ u) × (u ≡ v → y ≡ x)
 
   pub place_any : ((x : Fraction) → 0 < x.m → 0 < (round x).m) → (band z : ℕ) → IsInBand on s band z →
-      place_in round on s (foot_at s f w) own band z ≡ place round on s f w z
+      place_in round on s (foot_at s f w) own band z ≡ place_at round on s f w z
   place_any kept band z h =
       (between round on s (foot_at s f w) own IsOne
       (λ y x z u v w h k. (
@@ -173,9 +173,9 @@ module _ (round : Fraction → Fraction) (on : Slopes) (s : ℕ) (usable : IsUsa
 
   -- the place of the band's square that is nearest to the foot's
   pub corner_is : ((x : Fraction) → 0 < x.m → 0 < (round x).m) → (band : ℕ) → band ≤ length on.uppers →
-      (corner_of band).place ≡ place round on s f w (s * (nearest on band w * nearest on band w))
+      (corner_of band).place ≡ place_at round on s f w (s * (nearest on band w * nearest on band w))
   corner_is kept band known =
       let h = is_corner band known in
       sym h.rounded
       ∙ (ap round (sym (arc_none on s band _ _)) ∙ (place_any kept band (corner_of band).square h.inside
-      ∙ ap (place round on s f w) h.square))
+      ∙ ap (place_at round on s f w) h.square))

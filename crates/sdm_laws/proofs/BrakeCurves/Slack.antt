@@ -11,7 +11,7 @@ use Rattle.sdm_num.proofs.Ints.{scale-+ℤ}
 use Rattle.sdm_num.proofs.Floors.{floor_low, floor_high}
 use Rattle.sdm_num.proofs.Order.{at_most_trans, at_most_in}
 use Rattle.sdm_rules.specs.Slopes.{Slopes, IsUsable, bands_of, most_bands}
-use Rattle.sdm_rules.specs.Curves.{as_is, to_grain, slack_after, most_slack, place, exact_at, exact, stepped}
+use Rattle.sdm_rules.specs.Curves.{as_is, to_grain, slack_after, most_slack, place_at, exact_at, exact, stepped}
 use Rattle.sdm_laws.specs.CurveLaws.{slack_of, IsRounded}
 use Rattle.sdm_laws.proofs.OneBand.CommonSteps.{IsPastBy, past_more}
 use Rattle.sdm_laws.proofs.OneBand.BothWays.{over}
@@ -63,11 +63,11 @@ slack_apart k some = record {
 
 -- how far the stepped place is from the exact one
 place_past : (on : Slopes) (f : ℤ) (w v : ℕ) → IsUsable on →
-    IsPastBy (place as_is on 1 f w (v * v)) (to_grain (place to_grain on 1 f w (v * v)))
+    IsPastBy (place_at as_is on 1 f w (v * v)) (to_grain (place_at to_grain on 1 f w (v * v)))
     (slack_of (bands_of on.uppers))
 place_past on f w v h =
     let fair = usable_fair on h in
-    rw (whole_place on f w (v * v)) (rw (over_one (place to_grain on 1 f w (v * v))) at
+    rw (whole_place on f w (v * v)) (rw (over_one (place_at to_grain on 1 f w (v * v))) at
     (place_near on 1 1 _ to_grain _ (omega arith) (omega arith) fair (slack_apart _ fair.some) f w (v * v) (v * v)
     (omega arith)))
 

@@ -8,7 +8,7 @@ use Rattle.std.proofs.Math.Nat.{mul-le-mul_left, mul-lt-mul_of_pos_left}
 use Rattle.sdm_num.specs.Fractions.{Fraction, whole}
 use Rattle.sdm_num.proofs.Ints.{scales}
 use Rattle.sdm_rules.specs.Slopes.{Slopes, IsUsable, bands_of, variation}
-use Rattle.sdm_rules.specs.Curves.{as_is, Corner, arc, place, band_in}
+use Rattle.sdm_rules.specs.Curves.{as_is, Corner, arc, place_at, band_of_square}
 use Rattle.sdm_laws.proofs.OneBand.Energy.{IsPositive, IsEven}
 use Rattle.sdm_laws.proofs.OneBand.CommonSteps.{IsPastBy, factor_right, past_more}
 use Rattle.sdm_laws.proofs.OneBand.BothWays.{over, arc_past}
@@ -43,7 +43,7 @@ pub record IsApartAfter (k v : ℕ) (round : Fraction → Fraction) (apart : ℕ
       IsPastBy x (over k (round x')) (apart (suc n))
 
 -- at another scale the band is the same
-band_scaled : (k s : ℕ) (vs : List ℕ) (z : ℕ) → 0 < k → band_in (k * s) vs (k * z) ≡ band_in s vs z
+band_scaled : (k s : ℕ) (vs : List ℕ) (z : ℕ) → 0 < k → band_of_square (k * s) vs (k * z) ≡ band_of_square s vs z
 band_scaled k s [] z k_pos = refl
 band_scaled k s (v ∷ vs) z k_pos = elim (cases_lt (s * (v * v)) z) [
   | inl lt ↦ (let lt' : (k * s) * (v * v) < k * z = omega (arith, mul-lt-mul_of_pos_left lt k_pos) in
@@ -104,7 +104,7 @@ module _ (on : Slopes) (s k v : ℕ) (round : Fraction → Fraction) (apart : �
 
   -- so the places of one square are near
   pub place_near : (z z' : ℕ) → z' ≡ k * z →
-      IsPastBy (place as_is on s f w z) (over k (place round on (k * s) f w z')) (apart (bands_of on.uppers))
+      IsPastBy (place_at as_is on s f w z) (over k (place_at round on (k * s) f w z')) (apart (bands_of on.uppers))
   place_near z z' z_is =
       let own = own_of on s w in
       let band = band_at on s z in

@@ -8,7 +8,8 @@ overflow_sub-shift c = zeros_fit c.args.divisor c.requires.low c.requires.high
 
 pub returns : goal.returns
 returns c =
-    let parts = guessed_rest c.args.n c.args.divisor c.from-3.result c.from-2.result _ (omega arith) (guess_fits _ c.from.result _ (omega arith) c.from-2.ensures)
+    let parts = guessed_rest c.args.n c.args.divisor c.from-3.result c.from-2.result _ (omega arith)
+    (guess_fits _ c.from.result _ (omega arith) c.from-2.ensures)
     c.requires.high c.from-3.ensures refl (omega arith) in
     c.from-6.ensures ∙ (elim c.if-is_less.branch [
       | then-is_less w ↦ w.from-is ∙ sym c.from-2.ensures ∙ quotient_is c.args.n c.args.divisor c.from-2.result _ parts
