@@ -63,9 +63,9 @@ LawOfFoot = (on : Slopes) (f : ℤ) (w : ℕ) → IsAtFoot on f w
 
 -- exact places are a curve by the physics, so are stepped ones, and no other whole grains are
 pub record KeepsLevels (on : Slopes) (f : ℤ) (w : ℕ) : Type 0 where
-  pub exact : (s : ℕ) → 0 < s → IsExactCurve on s f w (exact_at on s f w)
-  pub stepped : IsSteppedCurve on f w (stepped on f w)
-  pub only : (place : ℕ → ℤ) → IsSteppedCurve on f w place → (v : ℕ) → place v ≡ stepped on f w v
+  pub exact_curve : (s : ℕ) → 0 < s → IsExactCurve on s f w (exact_at on s f w)
+  pub stepped_curve : IsSteppedCurve on f w (stepped on f w)
+  pub no_other : (place : ℕ → ℤ) → IsSteppedCurve on f w place → (v : ℕ) → place v ≡ stepped on f w v
 
 -- On usable slopes every curve keeps one level in each band, and that fixes its stepped places.
 abbrev pub LawOfLevels : Type 0

@@ -122,7 +122,7 @@ module _ (on : Slopes) (f : ℤ) (w : ℕ) (usable : IsUsable on) (p q : ℕ →
 -- exact places and stepped ones, and no other
 pub levels_kept : (on : Slopes) (f : ℤ) (w : ℕ) → IsUsable on → KeepsLevels on f w
 levels_kept on f w usable = record {
-  exact = λ s s_pos. exact_curve on s f w usable s_pos;
-  stepped = stepped_curve on f w usable;
-  only = λ place is v. one_curve on f w usable place (stepped on f w) is (stepped_curve on f w usable) v;
+  exact_curve = λ s s_pos. exact_curve on s f w usable s_pos;
+  stepped_curve = stepped_curve on f w usable;
+  no_other = λ place is v. one_curve on f w usable place (stepped on f w) is (stepped_curve on f w usable) v;
 }
