@@ -4,5 +4,3 @@ pub mod CurveLaws
 pub mod MotionLaws
 pub mod SupervisionLaws
 pub mod PrintedLimits
-pub mod FlatLaws
-pub mod RunLaws

@@ -14,7 +14,7 @@ use Rattle.sdm_rules.specs.Curves.{place_at, corner}
 use Rattle.sdm_laws.proofs.OneBand.BothWays.{arc_is_back}
 use Rattle.sdm_laws.proofs.BrakeCurves.CurveOrder.{floor_whole}
 use Rattle.sdm_rules.specs.Supervision.{whole_mm}
-use Rattle.sdm_rules.specs.Flat.{FlatSupervision, FlatLine, flat_slopes, flat_row, flat_after}
+use Rattle.sdm_formats.specs.Flat.{FlatSupervision, FlatLine, flat_slopes, flat_row, flat_after}
 use Rattle.sdm_curve.specs.Maps.{map_data, handed_in, MapData}
 use Rattle.sdm_supervisor.specs.Flats.{flat_map}
 
