@@ -1,15 +1,13 @@
 -- The places of a curve keep one level in each band, and no other stepped places do from its foot.
-use Rattle.std.proofs.Common.{◌≡◌, ℕ, ℤ, suc, pos, neg_ℤ, length, get_or, ◌+◌, ◌-◌, ◌*◌, ◌<◌, ◌≤◌, ◌+ℤ◌, ◌≤ℤ◌, ◌<ℤ◌, ap}
+use Rattle.std.proofs.Common.{◌≡◌, ℕ, ℤ, suc, pos, neg_ℤ, length, get_or, ◌+◌, ◌-◌, ◌*◌, ◌<◌, ◌≤◌, ◌+ℤ◌, ap}
 use Rattle.std.proofs.Common.{arith, refl, sym, ◌∙◌, inl, inr}
 use Rattle.std.proofs.lemmas.Bool.{cases_lt}
-use Rattle.std.proofs.lemmas.Int.{ints, by_lt_z}
 use Rattle.sdm_num.specs.Fractions.{Fraction, IsSame, whole, floor}
 use Rattle.sdm_rules.specs.Slopes.{Slopes, IsUsable}
 use Rattle.sdm_rules.specs.Curves.{grain_energy, to_grain, as_is, upper_square, arc, place_at, stepped, exact_at}
 use Rattle.sdm_rules.specs.Motion.{IsInBand}
 use Rattle.sdm_laws.specs.Levels.{nearest, corner_level, IsLastAtMost, IsSteppedCurve, IsExactCurve, exact_level}
 use Rattle.sdm_laws.specs.CurveLaws.{KeepsLevels}
-use Rattle.sdm_laws.proofs.OneBand.Energy.{IsPositive}
 use Rattle.sdm_laws.proofs.OneBand.Arcs.{Arc}
 use Rattle.sdm_laws.proofs.OneBand.Integrals.{last_unique}
 use Rattle.sdm_laws.proofs.OneBand.Levels.{arc_last, arc_level, energy_sum}

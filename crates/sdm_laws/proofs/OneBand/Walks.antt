@@ -1,11 +1,10 @@
 -- The walk back through the cells of one band uses up just the energy that it is asked for: each whole cell takes its
 -- share, and the last arc the rest.
 use Rattle.std.proofs.Common.{◌≡◌, ℕ, ℤ, zero, suc, pos, neg_ℤ, ◌+◌, ◌-◌, ◌*◌, ◌<◌, ◌≤◌, ◌+ℤ◌, ◌*ℤ◌, unsigned_abs, ap}
-use Rattle.std.proofs.Common.{add_comm, arith, rules, refl, ◌∙◌, inl, inr}
+use Rattle.std.proofs.Common.{arith, rules, refl, ◌∙◌, inl, inr}
 use Rattle.std.proofs.lemmas.Int.{ints}
 use Rattle.std.proofs.lemmas.Bool.{cases_lt}
 use Rattle.std.proofs.Math.Nat.{mul-le-mul_left, mul-pos}
-use Rattle.sdm_num.specs.Units.{centimetre}
 use Rattle.sdm_num.specs.Fractions.{Fraction}
 use Rattle.sdm_num.proofs.Ints.{scale-+ℤ}
 use Rattle.sdm_rules.specs.Slopes.{Slopes}

@@ -1,7 +1,7 @@
-use Rattle.std.proofs.Common.{◌≡◌, ◌+◌, ◌*◌, ◌∙◌, sym, refl, arith}
+use Rattle.std.proofs.Common.{◌∙◌, sym, refl, arith}
 use Rattle.sdm_curve.proofs.Quotients.{guess_fits, zeros_fit, guessed_rest, quotient_is, quotient_is_more}
 use Rattle.sdm_curve.proofs.reciprocals.quotient.Goals as goal
-use Rattle.sdm_curve.proofs.reciprocals.quotient.Goals.{then-is_less, else-is_less, After-from-6}
+use Rattle.sdm_curve.proofs.reciprocals.quotient.Goals.{then-is_less, else-is_less}
 
 pub overflow_sub-shift : goal.overflow_sub-shift
 overflow_sub-shift c = zeros_fit c.args.divisor c.requires.low c.requires.high
