@@ -1,4 +1,5 @@
 pub mod Energy
+pub mod Levels
 pub mod CurveLaws
 pub mod MotionLaws
 pub mod SupervisionLaws
