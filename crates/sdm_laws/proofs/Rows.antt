@@ -13,4 +13,5 @@ pub mod FlatFacts
 pub mod CalculatedRelease
 pub mod Passing
 pub mod Headline
+pub mod Falls
 pub mod Journeys

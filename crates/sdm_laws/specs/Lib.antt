@@ -2,6 +2,7 @@ pub mod Energy
 pub mod CurveLaws
 pub mod MotionLaws
 pub mod SupervisionLaws
+pub mod Falls
 pub mod PrintedLimits
 pub mod FlatLaws
 pub mod RunLaws

@@ -2,9 +2,14 @@
 //! that is refused changes nothing in the supervisor; what it asked is missing there, so the brake is commanded until
 //! it is there.
 
-ghost use Rattle.std.specs.Prelude.{◌≡◌, ◌⊎◌, IsTrue, OnOk, IfOk, false};
-ghost use Rattle.sdm_rules.specs.declared.commands.State.TheVariants.{R};
+ghost use Rattle.std.specs.Prelude.{◌≡◌, ◌⊎◌, IsTrue, OnOk, OnErr, IfOk};
+ghost use Rattle.sdm_ride.specs.declared.happenings.Happening.{Happening};
+ghost use Rattle.sdm_ride.specs.declared.happenings.Happening.TheVariants.{Overdue as MissingReading, Record};
+ghost use Rattle.sdm_ride.specs.Moments.{by_rows};
+ghost use Rattle.sdm_ride.specs.Orders.{GoesOn};
+ghost use Rattle.sdm_rules.specs.declared.records.Event.TheVariants as record_kinds;
 ghost use Rattle.sdm_rules.specs.Supervision.{after_authority, after_reading, after_restriction, after_revocation};
+ghost use Rattle.sdm_onboard.specs.Messages.{Takes, computer_of};
 
 use crate::messages::{Message, Odometry};
 use crate::orders::Orders;
@@ -80,8 +85,11 @@ impl Onboard {
         self.orders
     }
 
-    /// Takes a message.
-    pub fn take(&mut self, message: &Message) -> News {
+    /// Takes a message: the supervisor goes on as in a ride, and where the ride counts an order of the emergency brake,
+    /// the brake stands at the interface.
+    pub fn take(&mut self, message: &Message) -> News
+        ensures { (h : Happening) × Takes self.old message.now h self.new }
+    {
         match message {
             Message::Odometry(odometry) => self.take_odometry(odometry),
             Message::Overdue => self.overdue(),
