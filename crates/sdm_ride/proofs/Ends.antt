@@ -28,7 +28,7 @@ use Rattle.sdm_ride.specs.declared.happenings.Happening.TheVariants.{Record, Unr
 use Rattle.sdm_ride.specs.Moments.{Judging, Moment, Promise, after, after_record, after_taken, aged, by_free_rows}
 use Rattle.sdm_ride.specs.Moments.{by_rows, by_svl, is_release, moments, promise_after}
 use Rattle.sdm_ride.specs.Rides.{point_of}
-use Rattle.sdm_ride.specs.RideLaws.{AreKeptByOrders, EndsBy, IsByItsSvl, IsNeverPast, KeepsPromise, LawOfPlaces}
+use Rattle.sdm_ride.specs.RideLaws.{AreKeptByOrders, EndsBy, IsAsCovered, IsAsFree, IsByItsSvl, IsNeverPast, KeepsPromise, LawOfPlaces}
 use Rattle.sdm_ride.specs.RideLaws.{Promised, StaysBeforeByOrders, since_promised}
 use Rattle.sdm_ride.proofs.Promises.{mapped, next_promise}
 use Rattle.sdm_ride.proofs.Orders.{rides}
@@ -225,7 +225,7 @@ stays_before j what orders_else kept stops w s place m hs s_pos holds h =
 -- the law of places
 pub places : LawOfPlaces
 places = record {
-  rows = stays_before by_rows _ rows_else rides.rows (λ s under r x h. h.stops);
-  free_rows = stays_before by_free_rows _ free_rows_else rides.free_rows (λ s under r x h. h.covered.stops);
-  svl = stays_before by_svl _ svl_else rides.svl (λ s under r x h. h);
+  rows = stays_before by_rows IsAsCovered rows_else rides.rows (λ s under r x h. h.stops);
+  free_rows = stays_before by_free_rows IsAsFree free_rows_else rides.free_rows (λ s under r x h. h.covered.stops);
+  svl = stays_before by_svl IsByItsSvl svl_else rides.svl (λ s under r x h. h);
 }

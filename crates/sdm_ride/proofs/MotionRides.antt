@@ -1,7 +1,7 @@
 -- A motion as a ride: a slice is as many ticks as it has time, the greatest acceleration first; its braking is one tick.
 -- A slice without time may lose speed, so the ride is at least as fast, until it loses the rest where it stands.
 use Rattle.std.proofs.Common.{◌≡◌, ℕ, ℤ, zero, suc, pos, negsuc, List, [], ◌∷◌, ◌++◌, ◌+◌, ◌-◌, ◌*◌, ◌<◌, ◌≤◌, ◌+ℤ◌}
-use Rattle.std.proofs.Common.{◌≤ℤ◌, Some, true, refl, subst, sym, ap, ◌∙◌, arith, inl, inr}
+use Rattle.std.proofs.Common.{◌≤ℤ◌, None, Some, true, refl, subst, sym, ap, ◌∙◌, arith, inl, inr}
 use Rattle.std.specs.Int.{int_gap}
 use Rattle.std.specs.Prelude.{All}
 use Rattle.std.proofs.lemmas.Bool.{cases_lt}

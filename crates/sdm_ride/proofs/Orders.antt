@@ -19,7 +19,7 @@ use Rattle.sdm_ride.specs.declared.happenings.Happening.TheVariants.{Record, Unr
 use Rattle.sdm_ride.specs.Moments.{Judging, Moment, Promise, after, after_record, after_taken, aged, ordered}
 use Rattle.sdm_ride.specs.Moments.{by_free_rows, by_rows, by_svl, promise_after}
 use Rattle.sdm_ride.specs.Rides.{Delays, HoldsDelays, IsByClock, IsByOrders, IsRide, MayHappen}
-use Rattle.sdm_ride.specs.RideLaws.{AreKeptByClock, AreKeptByOrders, LawOfRides, Promised}
+use Rattle.sdm_ride.specs.RideLaws.{AreKeptByClock, AreKeptByOrders, IsAsCovered, IsAsFree, IsByItsSvl, LawOfRides, Promised}
 use Rattle.sdm_ride.proofs.Promises.{mapped, timed_rides}
 
 -- ---- what an order does in time
@@ -217,7 +217,7 @@ kept_by_orders j what timed w s m hs s_pos start holds ride =
 -- the law of rides
 pub rides : LawOfRides
 rides = record {
-  rows = kept_by_orders by_rows _ timed_rides.rows;
-  free_rows = kept_by_orders by_free_rows _ timed_rides.free_rows;
-  svl = kept_by_orders by_svl _ timed_rides.svl;
+  rows = kept_by_orders by_rows IsAsCovered timed_rides.rows;
+  free_rows = kept_by_orders by_free_rows IsAsFree timed_rides.free_rows;
+  svl = kept_by_orders by_svl IsByItsSvl timed_rides.svl;
 }

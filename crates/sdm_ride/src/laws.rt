@@ -27,7 +27,6 @@ pub fn law_of_svl_orders()
 
 /// Each motion that a reading's promise speaks of ends where a ride by the clock does, so rides are no less than the
 /// motions.
-#[tactic(auto, using(crate::proofs::MotionRides::motion_rides))]
 pub fn law_of_motion_rides()
     ensures { LawOfMotionRides }
 {}
