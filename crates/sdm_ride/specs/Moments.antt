@@ -33,11 +33,11 @@ is_release R = true
 abbrev pub is_ordered : Row → Bool
 is_ordered row = row.held.eb || (not row.covered && not (is_release row.state))
 
--- by the rows: a covered one gives a promise (own)
+-- by the rows: a covered one gives a promise, and the emergency brake is ordered as the row asks (own)
 abbrev pub by_rows : Judging
 by_rows = record { promises = λ s r. (row_of s r).covered; orders = λ s r. is_ordered (row_of s r) }
 
--- by the free rows: a covered one without emergency command gives a promise (own)
+-- by the free rows: a covered one without emergency command gives a promise, and orders are those by the rows (own)
 abbrev pub by_free_rows : Judging
 by_free_rows = record {
   promises = λ s r. (row_of s r).covered && not (row_of s r).held.eb;

@@ -36,20 +36,22 @@ abbrev pub IsByItsSvl : Promised
 IsByItsSvl s under r x =
     (eoa svl release : ℕ) → under.authority ≡ Stop eoa svl release → IsBy s (place_of_cell (pos svl)) x
 
--- and at or past each speed target of the reading the speed is at most its foot speed (own)
+-- the point is as a covered row promises: at or before the SvL, and at or past each speed target of the reading with at
+-- most its foot speed (own)
 pub record IsAsCovered (s : ℕ) (under : Supervision) (r : OdometerReading) (x : Point) : Type 0 where
   pub stops : IsByItsSvl s under r x
   pub meets : (t : Target) → Contains (situation_of under r).targets t → IsSpeedTarget t →
       KeepsTo s t.place (foot_speed_of t) x
 
--- and at or past each fall that isn't behind the min safe front end, at most its foot speed with the allowance (own)
+-- the point is as a free row promises: as a covered one does, and at or past each fall that isn't behind the min safe
+-- front end with at most its foot speed and the allowance (own)
 pub record IsAsFree (s : ℕ) (under : Supervision) (r : OdometerReading) (x : Point) : Type 0 where
   pub covered : IsAsCovered s under r x
   pub falls : (cell : ℤ) → IsFallAhead under r cell →
       KeepsTo s (place_of_cell cell)
       (foot_speed_of (fall_at (profile_of under) cell) + allowance under.train_and_track r cell) x
 
--- where a promise stands, it is true of the train (own)
+-- where a promise stands, what was promised is true of the train (own)
 abbrev pub KeepsPromise : Promised → ℕ → Moment → Type 0
 KeepsPromise what s m = (c : Promise) → m.promise ≡ Some c → what s c.under c.reading (point_of m)
 
