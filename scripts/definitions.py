@@ -33,8 +33,8 @@ PARTS = [
     ),
     (
         "What inner contracts and laws cite",
-        "These are not needed to say what the program does: they are how one crate tells the next what it computes, or how the laws of "
-        "`sdm_laws` are stated. A mistake in one of them would make a proof above it fail, and could not make a wrong program pass. "
+        "These are not needed to say what the program does: they are how one crate tells the next what it computes, or how laws "
+        "are stated. A mistake in one of them would make a proof above it fail, and could not make a wrong program pass. "
         "Whoever relies on a law by its name relies on its statement here. All are own unless a clause is named.",
     ),
 ]

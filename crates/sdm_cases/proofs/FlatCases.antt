@@ -4,9 +4,9 @@ use Rattle.std.specs.Prelude.{pos, true, false, Some, None, codes}
 use Rattle.std.specs.Fmt.{digits}
 use Rattle.sdm_rules.specs.declared.faults.EventCause.TheVariants.{Line}
 use Rattle.sdm_rules.specs.Curves.{exact, stepped, exact_at, place_at, arc_back, back, arc_forward, forward}
-use Rattle.sdm_rules.specs.Input.{BadEvent}
-use Rattle.sdm_rules.specs.Numbers.{read_int}
-use Rattle.sdm_rules.specs.Flat.{flat_opening, flat_row, flat_after, flat_line, flat_text, flat_output}
+use Rattle.sdm_formats.specs.Input.{BadEvent}
+use Rattle.sdm_formats.specs.Numbers.{read_int}
+use Rattle.sdm_formats.specs.Flat.{flat_opening, flat_row, flat_after, flat_line, flat_text, flat_output}
 
 -- at 2 m/s the curve is 2 m before the end; a tenth of a millimetre past it is an emergency
 past_the_curve : flat_row (flat_opening 100 1_000) (record {

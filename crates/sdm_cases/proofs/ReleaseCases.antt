@@ -16,12 +16,12 @@ use Rattle.sdm_rules.specs.Stop.{IsMotionOn}
 use Rattle.sdm_rules.specs.Curves.{place_at, stepped, exact, exact_at, arc_back, back}
 use Rattle.sdm_rules.specs.Data.{TrainAndTrack}
 use Rattle.sdm_rules.specs.Decelerations.{slope_at, slopes_of}
-use Rattle.sdm_rules.specs.Flat.{flat_slopes}
 use Rattle.sdm_rules.specs.Limits.{computed}
 use Rattle.sdm_rules.specs.Reaction.{reaction_start, reaction_times}
 use Rattle.sdm_rules.specs.Records.{step, trip_fault}
 use Rattle.sdm_rules.specs.Release.{IsReleaseSpeed, calculated, fits, greatest_up_to, trip_start}
 use Rattle.sdm_rules.specs.Supervision.{Supervision}
+use Rattle.sdm_formats.specs.Flat.{flat_slopes}
 use Rattle.sdm_cases.proofs.Journeys.{plain_band, plain_national, plain_train_and_track, reading_at}
 use Rattle.sdm_cases.proofs.StopCases.{at_800_m, before_braking, braked_line, braking, reading_at_760_m}
 use Rattle.sdm_cases.proofs.StopCases.{stops_at_the_svl}

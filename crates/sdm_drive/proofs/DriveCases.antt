@@ -26,7 +26,7 @@ use Rattle.sdm_rules.specs.Supervision.{Supervision, after_reading, commands_in,
 use Rattle.sdm_rules.specs.Supervision.{row_in, situation_of, state_in}
 use Rattle.sdm_rules.specs.Opening.{IsAcceptedKind, IsStrong, IsEven}
 use Rattle.sdm_rules.specs.Within.{is_within_svl}
-use Rattle.sdm_rules.specs.Trial.{next_number}
+use Rattle.sdm_formats.specs.Trial.{next_number}
 use Rattle.sdm_drive.specs.declared.orders.Orders.{Orders}
 use Rattle.sdm_drive.specs.declared.rows.DriveRow.{DriveRow}
 use Rattle.sdm_drive.specs.Drive.{Drive, after_braking, after_braking_with, after_driving, after_ds}

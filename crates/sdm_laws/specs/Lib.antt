@@ -4,5 +4,3 @@ pub mod MotionLaws
 pub mod SupervisionLaws
 pub mod Falls
 pub mod PrintedLimits
-pub mod FlatLaws
-pub mod RunLaws

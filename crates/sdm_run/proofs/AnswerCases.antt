@@ -9,17 +9,17 @@ use Rattle.std.proofs.lemmas.Int.{ints}
 use Rattle.std.specs.Prelude.{IsTrue, codes}
 use Rattle.sdm_rules.specs.declared.faults.EventCause.TheVariants.{Line}
 use Rattle.sdm_rules.specs.Curves.{exact, stepped, exact_at, place_at, arc_back, back, arc_forward, forward}
-use Rattle.sdm_rules.specs.Flat.{Output, StopsByFlatEnd, flat_after, flat_line, flat_opening, flat_output, flat_row}
-use Rattle.sdm_rules.specs.Flat.{flat_slopes, flat_start}
 use Rattle.sdm_rules.specs.Headline.{AreTurnsSafe, IsRecordSafe, IsRowSafe}
-use Rattle.sdm_rules.specs.Input as ends
 use Rattle.sdm_rules.specs.Motion.{IsInBand}
-use Rattle.sdm_rules.specs.Numbers.{read_int}
 use Rattle.sdm_rules.specs.Records.{Turn, rows_of, step}
 use Rattle.sdm_rules.specs.Stop.{IsMotionOn}
 use Rattle.sdm_rules.specs.Supervision.{opening, row_of}
-use Rattle.sdm_rules.specs.Trial.{reading_in_cycle, summary_text, trial_authority, trial_journey, trial_output}
-use Rattle.sdm_rules.specs.Trial.{trial_train_and_track}
+use Rattle.sdm_formats.specs.Flat.{Output, StopsByFlatEnd, flat_after, flat_line, flat_opening, flat_output, flat_row}
+use Rattle.sdm_formats.specs.Flat.{flat_slopes, flat_start}
+use Rattle.sdm_formats.specs.Input as ends
+use Rattle.sdm_formats.specs.Numbers.{read_int}
+use Rattle.sdm_formats.specs.Trial.{reading_in_cycle, summary_text, trial_authority, trial_journey, trial_output}
+use Rattle.sdm_formats.specs.Trial.{trial_train_and_track}
 use Rattle.sdm_report.specs.declared.outcome.Outcome.TheVariants.{Done, ReadFault, WriteFault, BadEvent, Memory}
 use Rattle.sdm_run.specs.Answers.{AreWholeLines, IsAnswer, IsComplete}
 use Rattle.sdm_run.specs.Commands.{AreJourneyTurnsSafe, AreTrialRowsSafe}

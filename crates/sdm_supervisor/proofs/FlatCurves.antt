@@ -12,7 +12,7 @@ use Rattle.sdm_rules.specs.Slopes.{Slopes, SlopeMap, meaning_of}
 use Rattle.sdm_rules.specs.Curves.{cell_at, cell_start, back, arc_back, exact_at, exact, stepped, as_is, to_grain}
 use Rattle.sdm_laws.proofs.BrakeCurves.BandSteps.{place_up}
 use Rattle.sdm_rules.specs.Supervision.{whole_mm}
-use Rattle.sdm_rules.specs.Flat.{FlatSupervision, FlatLine, flat_slopes, flat_row, flat_after}
+use Rattle.sdm_formats.specs.Flat.{FlatSupervision, FlatLine, flat_slopes, flat_row, flat_after}
 use Rattle.sdm_curve.specs.Maps.{map_data, handed_in, MapData}
 use Rattle.sdm_supervisor.specs.Flats.{flat_map}
 

@@ -1,7 +1,7 @@
 -- The laws of the flat supervisor, as statements (own).
 use Rattle.std.specs.Prelude.{ℕ, IsTrue, ◌<◌}
 use Rattle.sdm_rules.specs.Slopes.{IsUsable}
-use Rattle.sdm_rules.specs.Flat.{FlatSupervision, FlatLine, flat_slopes, flat_row, KeepsFlatOrder, StopsByFlatEnd}
+use Rattle.sdm_formats.specs.Flat.{FlatSupervision, FlatLine, flat_slopes, flat_row, KeepsFlatOrder, StopsByFlatEnd}
 
 -- the slopes of a level track are usable
 abbrev pub LawOfFlatSlopes : Type 0

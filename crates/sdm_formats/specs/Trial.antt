@@ -12,10 +12,10 @@ use Rattle.sdm_rules.specs.declared.records.Event.{Event}
 use Rattle.sdm_rules.specs.declared.records.Event.TheVariants as record_kinds
 use Rattle.sdm_rules.specs.declared.rows.Row.{Row}
 use Rattle.sdm_rules.specs.Data.{TrainAndTrack, TrackData, TrainData}
-use Rattle.sdm_rules.specs.Flat.{Output}
-use Rattle.sdm_rules.specs.Input.{end_of_journey}
 use Rattle.sdm_rules.specs.Records.{Journey, event_at, journey_from, rows_of}
 use Rattle.sdm_rules.specs.Supervision.{opening}
+use Rattle.sdm_formats.specs.Flat.{Output}
+use Rattle.sdm_formats.specs.Input.{end_of_journey}
 
 -- the next number of the generator
 abbrev pub next_number : ℕ → ℕ

@@ -8,7 +8,6 @@ use Rattle.sdm_num.specs.Fractions.{Fraction}
 use Rattle.sdm_rules.specs.declared.faults.FieldFault.{FieldFault}
 use Rattle.sdm_rules.specs.declared.faults.EventCause.TheVariants.{Line}
 use Rattle.sdm_rules.specs.declared.faults.CycleFault.{CycleFault}
-use Rattle.sdm_rules.specs.declared.rows.FlatRow.{FlatRow}
 use Rattle.sdm_rules.specs.declared.motions.Start.{Start}
 use Rattle.sdm_rules.specs.Cells.{place_of_cell}
 use Rattle.sdm_rules.specs.Slopes.{Slopes}
@@ -17,11 +16,12 @@ use Rattle.sdm_rules.specs.Triggers.{is_past}
 use Rattle.sdm_rules.specs.Supervision.{whole_mm}
 use Rattle.sdm_rules.specs.Machines.{InOrder}
 use Rattle.sdm_rules.specs.Records.{time_fault}
-use Rattle.sdm_rules.specs.Numbers.{read_int}
-use Rattle.sdm_rules.specs.Lines.{lines_of, comma_fields}
 use Rattle.sdm_rules.specs.Stop.{StopsBy}
-use Rattle.sdm_rules.specs.Input.{End, Done, BadEvent}
-use Rattle.sdm_rules.specs.Text.{flag_text, text_line}
+use Rattle.sdm_formats.specs.declared.flat_rows.FlatRow.{FlatRow}
+use Rattle.sdm_formats.specs.Numbers.{read_int}
+use Rattle.sdm_formats.specs.Lines.{lines_of, comma_fields}
+use Rattle.sdm_formats.specs.Input.{End, Done, BadEvent}
+use Rattle.sdm_formats.specs.Text.{flag_text, text_line}
 
 -- ---- the curve
 

@@ -1,7 +1,7 @@
 //! The numbers of made journeys, each of which follows from the one before.
 
 ghost use Rattle.std.specs.Prelude.{◌≡◌};
-ghost use Rattle.sdm_rules.specs.Trial.{next_number};
+ghost use Rattle.sdm_formats.specs.Trial.{next_number};
 
 /// The number after this one. (own)
 // In line: a trial makes one at each reading.

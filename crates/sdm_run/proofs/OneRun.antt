@@ -3,20 +3,16 @@ use Rattle.std.proofs.Common.{◌≡◌, ℕ, Bool, true, false, nat_lt, List, [
 use Rattle.std.proofs.Common.{refl, inl, inr}
 use Rattle.std.specs.Prelude.{◌⊎◌, MatchBool, Result, Ok, Err}
 use Rattle.sdm_rules.specs.declared.authorities.Authority.{Authority}
-use Rattle.sdm_rules.specs.declared.faults.DataFault.{DataFault}
 use Rattle.sdm_rules.specs.declared.faults.OpenFault.{OpenFault}
 use Rattle.sdm_rules.specs.Data.{TrainAndTrack}
 use Rattle.sdm_rules.specs.Records.{Turn}
 use Rattle.sdm_rules.specs.Opening.{IsAccepted, IsOpenFault}
-use Rattle.sdm_rules.specs.Input.{Reader, End, TooLong, NoSplit, Toml, Data, Refused, end_of_journey, journey_of}
-use Rattle.sdm_rules.specs.Input.{IsAfterData, IsAfterDocument, IsAfterDivision, most_bytes}
-use Rattle.sdm_laws.specs.RunLaws.{LawOfOpening, HasOneRun}
+use Rattle.sdm_formats.specs.declared.faults.DataFault.{DataFault}
+use Rattle.sdm_formats.specs.Input.{Reader, End, TooLong, NoSplit, Toml, Data, Refused, end_of_journey, journey_of}
+use Rattle.sdm_formats.specs.Input.{IsAfterData, IsAfterDocument, IsAfterDivision, most_bytes}
 use Rattle.sdm_laws.proofs.Openings.Decided.{decided}
 use Rattle.sdm_laws.proofs.Openings.OneFault.{not_both, one_fault}
-
--- of all data and authorities the opening is either accepted or has one first fault
-pub opening_decided : LawOfOpening
-opening_decided d a = record { decided = decided d a; not_both = not_both d a; one_fault = one_fault d a }
+use Rattle.sdm_run.specs.RunLaws.{HasOneRun}
 
 -- there are turns and an end with P, and no others
 abbrev Meaning : (List Turn → End → Type 0) → Type 0

@@ -4,8 +4,6 @@ use Rattle.std.specs.Prelude.{◌≡◌, ◌⊎◌, MatchBool, nat_lt, ℕ, List
 use Rattle.std.specs.Prelude.{take, drop}
 use Rattle.sdm_rules.specs.declared.authorities.Authority.{Authority}
 use Rattle.sdm_rules.specs.declared.records.Event.{Event}
-use Rattle.sdm_rules.specs.declared.faults.DataFault.{DataFault}
-use Rattle.sdm_rules.specs.declared.faults.DriveCause.{DriveCause}
 use Rattle.sdm_rules.specs.declared.faults.EventFault.{EventFault}
 use Rattle.sdm_rules.specs.declared.faults.EventCause.{EventCause}
 use Rattle.sdm_rules.specs.declared.faults.OpenFault.{OpenFault}
@@ -13,6 +11,8 @@ use Rattle.sdm_rules.specs.Data.{TrainAndTrack}
 use Rattle.sdm_rules.specs.Supervision.{opening}
 use Rattle.sdm_rules.specs.Records.{Journey, Turn, event_at, journey_from}
 use Rattle.sdm_rules.specs.Opening.{IsAccepted, IsOpenFault}
+use Rattle.sdm_formats.specs.declared.faults.DataFault.{DataFault}
+use Rattle.sdm_formats.specs.declared.faults.DriveCause.{DriveCause}
 
 -- the most bytes of an input
 abbrev pub most_bytes : ℕ

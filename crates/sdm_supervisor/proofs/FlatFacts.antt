@@ -7,12 +7,12 @@ use Rattle.sdm_rules.specs.Cells.{place_of_cell}
 use Rattle.sdm_rules.specs.Curves.{stepped}
 use Rattle.sdm_rules.specs.Limits.{computed}
 use Rattle.sdm_rules.specs.Triggers.{is_past}
-use Rattle.sdm_rules.specs.Flat.{flat_slopes, flat_start, flat_row, flat_after}
-use Rattle.sdm_laws.specs.FlatLaws.{LawOfFlatSlopes, LawOfFlatMachines, LawOfFlatStop}
+use Rattle.sdm_formats.specs.Flat.{flat_slopes, flat_start, flat_row, flat_after}
 use Rattle.sdm_laws.proofs.Rows.Nearness.{exact_sooner, low_sooner}
 use Rattle.sdm_laws.proofs.BrakeCurves.CurveNearness.{near_on}
 use Rattle.sdm_laws.proofs.Rows.TriggerOrder.{same, or_implies, and_implies}
 use Rattle.sdm_laws.proofs.Rows.Stops.{stops_before}
+use Rattle.sdm_supervisor.specs.FlatLaws.{LawOfFlatSlopes, LawOfFlatMachines, LawOfFlatStop}
 
 -- the slope of a level track is usable
 pub flat_usable : LawOfFlatSlopes

@@ -1,46 +1,15 @@
-//! The base of made data: worked rows, tests and the made journeys name what they change of it.
+//! Numbers of base data set by the names of their keys, as the tables of tests tell them.
 
 ghost use Rattle.std.specs.Prelude.{◌≡◌, false};
 
-use crate::data::{Band, MOST_BANDS, NationalFields, TrainFields};
-use crate::keys;
+use sdm_rules::{Band, NationalFields, TrainFields, keys};
 
-/// A band whose brakes all give 1 m/s² on any rail.
-pub const BASE_BAND: Band = Band {
-    upper: None,
-    emergency: 100,
-    service: 100,
-    normal: 100,
-    kdry: 1000,
-    kwet: 1000,
-    kn_up: 0,
-    kn_down: 0,
-    emergency_reduced: None,
-};
-
-/// A train of 100 m with one band, which brakes at once, for 160 km/h.
-pub const BASE_TRAIN: TrainFields = TrainFields {
-    length: 10_000,
-    max_speed: 160,
-    rotating_mass: Some(0),
-    traction_cutoff_time: 0,
-    traction_cutoff_interface: false,
-    emergency_time: 0,
-    service_time: 0,
-    service_brake: true,
-    bands: [BASE_BAND; MOST_BANDS],
-    band_count: 1,
-};
-
-/// National values that permit the service brake alone.
-pub const BASE_NATIONAL: NationalFields = NationalFields {
-    avadh: 20,
-    adhesion_max: 70,
-    guidance: false,
-    service_in_target: true,
-    early_release: false,
-    inhibit_under_reading: false,
-};
+/// Data whose keys can be set by name.
+pub trait SetByKey {
+    /// Sets what a key of this name says; 1 stands for true. False where there is no such key.
+    fn set(&mut self, name: &str, number: i64) -> bool
+        ensures { result ≡ false → self.new ≡ self.old };
+}
 
 /// The number of a key by its name, if it is one of these.
 fn number_of(names: &[&str], name: &str) -> Option<u8> {
@@ -48,11 +17,8 @@ fn number_of(names: &[&str], name: &str) -> Option<u8> {
     u8::try_from(index).ok()?.checked_add(1)
 }
 
-impl Band {
-    /// Sets what a key of this name says; false where a band has no such key.
-    pub fn set(&mut self, name: &str, number: i64) -> bool
-        ensures { result ≡ false → self.new ≡ self.old }
-    {
+impl SetByKey for Band {
+    fn set(&mut self, name: &str, number: i64) -> bool {
         match number_of(&keys::BAND, name) {
             Some(keys::BAND_UPPER) => self.upper = Some(number),
             Some(keys::BAND_EMERGENCY) => self.emergency = number,
@@ -69,12 +35,9 @@ impl Band {
     }
 }
 
-impl TrainFields {
-    /// Sets what a key of this name says, of the train or else of its first band; 1 stands for true. False where there
-    /// is no such key.
-    pub fn set(&mut self, name: &str, number: i64) -> bool
-        ensures { result ≡ false → self.new ≡ self.old }
-    {
+impl SetByKey for TrainFields {
+    /// Of the train, or else of its first band.
+    fn set(&mut self, name: &str, number: i64) -> bool {
         match number_of(&keys::TRAIN, name) {
             Some(keys::TRAIN_LENGTH) => self.length = number,
             Some(keys::TRAIN_MAX_SPEED) => self.max_speed = number,
@@ -92,11 +55,8 @@ impl TrainFields {
     }
 }
 
-impl NationalFields {
-    /// Sets what a key of this name says; 1 stands for true. False where there is no such key.
-    pub fn set(&mut self, name: &str, number: i64) -> bool
-        ensures { result ≡ false → self.new ≡ self.old }
-    {
+impl SetByKey for NationalFields {
+    fn set(&mut self, name: &str, number: i64) -> bool {
         match number_of(&keys::NATIONAL, name) {
             Some(keys::NATIONAL_AVADH) => self.avadh = number,
             Some(keys::NATIONAL_ADHESION_MAX) => self.adhesion_max = number,

@@ -1,15 +1,15 @@
 //! The laws of the flat supervisor. Each function makes no call and only states its clause.
 
-ghost use Rattle.sdm_laws.specs.FlatLaws.{LawOfFlatMachines, LawOfFlatSlopes, LawOfFlatStop};
+ghost use Rattle.sdm_supervisor.specs.FlatLaws.{LawOfFlatMachines, LawOfFlatSlopes, LawOfFlatStop};
 
 /// The slopes of a level track are usable.
-#[tactic(auto, using(crate::proofs::Rows::FlatFacts::flat_usable))]
+#[tactic(auto, using(crate::proofs::FlatFacts::flat_usable))]
 pub fn law_of_flat_slopes()
     ensures { LawOfFlatSlopes }
 {}
 
 /// Over each line the three commands stay in order.
-#[tactic(auto, using(crate::proofs::Rows::FlatFacts::flat_machines))]
+#[tactic(auto, using(crate::proofs::FlatFacts::flat_machines))]
 pub fn law_of_flat_machines()
     ensures { LawOfFlatMachines }
 {}

@@ -5,7 +5,6 @@ use Rattle.sdm_rules.specs.declared.data.SlopeKind.{SlopeKind}
 use Rattle.sdm_rules.specs.declared.data.SlopeKind.TheVariants.{Safe, Expected, Normal}
 use Rattle.sdm_rules.specs.declared.faults.Section.{Section}
 use Rattle.sdm_rules.specs.declared.faults.Section.TheVariants as sections
-use Rattle.sdm_rules.specs.declared.faults.At.{At}
 use Rattle.sdm_rules.specs.declared.keys.TheConstants as keys
 use Rattle.sdm_rules.specs.declared.faults.TrainFault.{TrainFault}
 use Rattle.sdm_rules.specs.declared.faults.TrainFault.TheVariants as train_faults
@@ -13,8 +12,6 @@ use Rattle.sdm_rules.specs.declared.faults.NationalFault.{NationalFault}
 use Rattle.sdm_rules.specs.declared.faults.NationalFault.TheVariants as national_faults
 use Rattle.sdm_rules.specs.declared.faults.TrackFault.{TrackFault}
 use Rattle.sdm_rules.specs.declared.faults.TrackFault.TheVariants as track_faults
-use Rattle.sdm_rules.specs.declared.faults.DataFault.{DataFault}
-use Rattle.sdm_rules.specs.declared.faults.DataFault.TheVariants as data_faults
 use Rattle.sdm_rules.specs.declared.faults.AuthorityFault.{AuthorityFault}
 use Rattle.sdm_rules.specs.declared.faults.AuthorityFault.TheVariants.{SvlBeforeEoa, BeyondTrack, BadSpeed}
 use Rattle.sdm_rules.specs.declared.faults.RestrictFault.{RestrictFault}
@@ -25,13 +22,16 @@ use Rattle.sdm_rules.specs.declared.faults.FieldFault.{FieldFault}
 use Rattle.sdm_rules.specs.declared.faults.FieldFault.TheVariants.{NotNumber, OutOfRange}
 use Rattle.sdm_rules.specs.declared.faults.EventFault.{EventFault}
 use Rattle.sdm_rules.specs.declared.faults.EventFault.TheVariants as event_faults
-use Rattle.sdm_rules.specs.declared.faults.DriveCause.{DriveCause}
-use Rattle.sdm_rules.specs.declared.faults.DriveCause.TheVariants.{NoStop, HasRelease, ShortBuild}
 use Rattle.sdm_rules.specs.declared.faults.EventCause.{EventCause}
 use Rattle.sdm_rules.specs.declared.faults.EventCause.TheVariants as causes
 use Rattle.sdm_rules.specs.declared.faults.OpenFault.{OpenFault}
 use Rattle.sdm_rules.specs.declared.faults.OpenFault.TheVariants as open_faults
-use Rattle.sdm_rules.specs.Input.{End, Done, TooLong, NoSplit, Toml, Data, Undrivable, Refused, BadEvent}
+use Rattle.sdm_formats.specs.declared.faults.At.{At}
+use Rattle.sdm_formats.specs.declared.faults.DataFault.{DataFault}
+use Rattle.sdm_formats.specs.declared.faults.DataFault.TheVariants as data_faults
+use Rattle.sdm_formats.specs.declared.faults.DriveCause.{DriveCause}
+use Rattle.sdm_formats.specs.declared.faults.DriveCause.TheVariants.{NoStop, HasRelease, ShortBuild}
+use Rattle.sdm_formats.specs.Input.{End, Done, TooLong, NoSplit, Toml, Data, Undrivable, Refused, BadEvent}
 
 -- ---- keys of the data part
 

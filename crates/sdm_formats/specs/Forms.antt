@@ -9,8 +9,8 @@ use Rattle.sdm_rules.specs.declared.records.Event.TheVariants as record_kinds
 use Rattle.sdm_rules.specs.declared.faults.FieldFault.{FieldFault}
 use Rattle.sdm_rules.specs.declared.faults.EventFault.{EventFault}
 use Rattle.sdm_rules.specs.declared.faults.EventFault.TheVariants.{UnknownKind, FieldCount, Field}
-use Rattle.sdm_rules.specs.Numbers.{read_int}
 use Rattle.sdm_rules.specs.Ranges.{longest_track, top_kmh}
+use Rattle.sdm_formats.specs.Numbers.{read_int}
 
 -- the rest with the number of a column, or why that column is refused; columns count from 1, the kind being column 1
 abbrev pub with_number : ℕ → Result ℤ FieldFault → (ℤ → Result Event EventFault) → Result Event EventFault
