@@ -29,9 +29,10 @@ use Rattle.sdm_ride.specs.declared.happenings.Happening.TheVariants.{Record, Ove
 use Rattle.sdm_ride.specs.Moments.{Moment, Promise, after, by_rows, is_ordered, is_release, moments}
 use Rattle.sdm_ride.specs.Rides.{HoldsDelays, IsByOrders, IsRide, IsTick, MayHappen}
 use Rattle.sdm_ride.specs.RideLaws.{EndsBy, IsRideBefore, IsRideStart}
+use Rattle.sdm_ride.specs.MotionRides.{last_moment}
 use Rattle.sdm_cases.proofs.Journeys.{plain_band, plain_national, plain_train_and_track}
 use Rattle.sdm_cases.proofs.Openings.{opening_situation, situation_in, situation_with}
-use Rattle.sdm_cases.proofs.RideLine.{authority, braking_step, delays, delays_held, last_of, line_open, ride_line}
+use Rattle.sdm_cases.proofs.RideLine.{authority, braking_step, delays, delays_held, line_open, ride_line}
 use Rattle.sdm_cases.proofs.StopCases.{plain_slopes}
 
 abbrev line : TrainAndTrack
@@ -331,20 +332,21 @@ a_late_ride = (goes 2 (runs ∷ Overdue ∷ braked) (omega arith)
 
 -- ---- where they end
 
-from_the_start : (rest : List Happening) → (last_of start (from_first rest)).place
-    ≡ (last_of (moment later (pos 5_389_200_000_000) 10_800 0 3 (Some 2)) rest).place
+from_the_start : (rest : List Happening) → (last_moment by_rows start (from_first rest)).place
+    ≡ (last_moment by_rows (moment later (pos 5_389_200_000_000) 10_800 0 3 (Some 2)) rest).place
 unfolding after
 from_the_start rest =
-    ap (λ (m : Moment). (last_of m (runs ∷ Record (record_kinds.Read second) ∷ from_second rest)).place) to_first
-    ∙ ap (λ (m : Moment). (last_of m (from_second rest)).place) to_second
+    ap (λ (m : Moment).
+    (last_moment by_rows m (runs ∷ Record (record_kinds.Read second) ∷ from_second rest)).place) to_first
+    ∙ ap (λ (m : Moment). (last_moment by_rows m (from_second rest)).place) to_second
 
 -- the first at the SvL, to the grain
-stops_at_the_svl : (last_of start (from_first braked)).place ≡ pos 5_400_000_000_000
+stops_at_the_svl : (last_moment by_rows start (from_first braked)).place ≡ pos 5_400_000_000_000
 unfolding after
 stops_at_the_svl = from_the_start braked ∙ refl
 
 -- and the late one 2 cm past it: the times that were handed in must hold the delays
-passes_the_svl : (last_of start (from_first (runs ∷ Overdue ∷ braked))).place ≡ pos 5_410_800_000_000
+passes_the_svl : (last_moment by_rows start (from_first (runs ∷ Overdue ∷ braked))).place ≡ pos 5_410_800_000_000
 unfolding after
 passes_the_svl = from_the_start (runs ∷ Overdue ∷ braked) ∙ refl
 
@@ -352,7 +354,9 @@ passes_the_svl = from_the_start (runs ∷ Overdue ∷ braked) ∙ refl
 
 -- a promise of a reading that may gain 1 m/s², at 0.2 m/s
 abbrev gaining : Moment
-gaining = record start { promise = Some (record { under = before; reading = record first { accel = pos 100 }; age = 0 }) }
+gaining = record start {
+  promise = Some (record { under = before; reading = record first { accel = pos 100 }; age = 0 });
+}
 
 -- before an order works, the train gains that in a tick, which is more than the 0.4 m/s² that count after the cut-off
 gains_at_first : MayGoOn 1 gaining (Tick 16_200 13_500_000_000)

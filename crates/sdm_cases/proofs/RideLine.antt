@@ -16,9 +16,7 @@ use Rattle.sdm_rules.specs.Opening.{IsAcceptedKind, IsEven, IsOpen, IsStrong}
 use Rattle.sdm_rules.specs.Reaction.{reaction_times}
 use Rattle.sdm_rules.specs.Slopes.{Slopes}
 use Rattle.sdm_rules.specs.Supervision.{Supervision, opening}
-use Rattle.sdm_ride.specs.Moments.{Moment, after, by_rows}
 use Rattle.sdm_ride.specs.Rides.{Delays, HoldsDelays}
-use Rattle.sdm_ride.specs.declared.happenings.Happening.{Happening}
 use Rattle.sdm_cases.proofs.Journeys.{plain_band, plain_national, plain_train_and_track}
 use Rattle.sdm_cases.proofs.RowCases.{short_line}
 use Rattle.sdm_cases.proofs.StopCases.{a_step, plain_slope, plain_slopes}
@@ -74,7 +72,8 @@ safe_slopes service = ap (λ f. record { q = 100; uppers = []; slope = f })
 pub braking_step : (service : ℤ) (x y : Point) →
     BrakesAtLeast plain_slopes 200_000_000_000 x.place x.square y.place y.square →
     IsStep (slopes_of Safe (ride_line service)) 1 x y
-braking_step service x y brakes = subst (λ (on : Slopes). IsStep on 1 x y) (sym (safe_slopes service)) (a_step x y brakes)
+braking_step service x y brakes =
+    subst (λ (on : Slopes). IsStep on 1 x y) (sym (safe_slopes service)) (a_step x y brakes)
 
 -- ---- its times
 
@@ -92,10 +91,3 @@ delays_held service = record { traction = omega arith; emergency = omega arith }
 pub delays_not_held : (service : ℤ) → HoldsDelays (delays 2) (ride_line service) → ⊥
 unfolding ride_line plain_train_and_track plain_national reaction_times
 delays_not_held service h = let k = h.emergency in omega arith
-
--- ---- where a ride ends
-
--- the moment after all that happens
-abbrev pub last_of : Moment → List Happening → Moment
-last_of m [] = m
-last_of m (h ∷ hs) = last_of (after by_rows m h) hs

@@ -1,5 +1,5 @@
--- A ride that never comes to an order of the emergency brake: at 0.2 m/s the train is past the SBI, and its service brake
--- stops it 6 cm before the SvL. Each reading is covered, and none commands the emergency brake.
+-- A ride that never comes to an order of the emergency brake: at 0.2 m/s the train is past the SBI, and its service
+-- brake stops it 6 cm before the SvL. Each reading is covered, and none commands the emergency brake.
 use Rattle.std.proofs.Common.{◌≡◌, ℕ, ℤ, pos, Bool, true, false, List, [], ◌∷◌, ◌+◌, ◌*◌, ◌+ℤ◌, refl, subst, sym, ap}
 use Rattle.std.proofs.Common.{◌∙◌, arith}
 use Rattle.std.specs.Prelude.{All, Option, Some, None, if◌then◌else◌}
@@ -26,9 +26,10 @@ use Rattle.sdm_ride.specs.declared.happenings.Happening.{Happening}
 use Rattle.sdm_ride.specs.declared.happenings.Happening.TheVariants.{Record, Tick}
 use Rattle.sdm_ride.specs.Moments.{Moment, Promise, after, after_record, by_rows, is_ordered, moments, promise_after}
 use Rattle.sdm_ride.specs.Rides.{IsByOrders, IsRide, MayHappen}
+use Rattle.sdm_ride.specs.MotionRides.{last_moment}
 use Rattle.sdm_cases.proofs.Journeys.{plain_band, plain_national, plain_train_and_track, reading_at}
 use Rattle.sdm_cases.proofs.Openings.{situation_in, situation_with}
-use Rattle.sdm_cases.proofs.RideLine.{authority, delays, last_of, ride_line}
+use Rattle.sdm_cases.proofs.RideLine.{authority, delays, ride_line}
 
 -- ---- the readings
 
@@ -240,21 +241,23 @@ goes =
     (go at_second _ _ (Tick 5_400 8_100_000_000 ∷ from_third) after_second
     (λ promises. record { front = omega (arith, ints); speed = omega arith }) refl
     (go _ at_third _ from_third refl
-    (ticks (held_at 0 serviced) second (held_at 1 serviced) _ 10_800 5_400 8_100_000_000 refl (omega arith) (omega arith))
+    (ticks (held_at 0 serviced) second (held_at 1 serviced) _ 10_800 5_400 8_100_000_000 refl (omega arith)
+    (omega arith))
     refl
     (go at_third _ _ (Tick 0 2_700_000_000 ∷ Record (record_kinds.Read fourth) ∷ []) after_third
     (λ promises. record { front = omega (arith, ints); speed = omega arith }) refl
     (go _ at_fourth _ (Record (record_kinds.Read fourth) ∷ []) refl
-    (ticks (held_at 1 serviced) third (held_at 2 serviced) _ 5_400 0 2_700_000_000 refl (omega arith) (omega arith)) refl
+    (ticks (held_at 1 serviced) third (held_at 2 serviced) _ 5_400 0 2_700_000_000 refl (omega arith)
+    (omega arith)) refl
     (go at_fourth _ _ [] after_fourth
     (λ promises. record { front = omega (arith, ints); speed = omega arith }) refl
     (nothing_more at_the_end)))))))
 
 -- it ends 6 cm before the SvL, at standstill
-ends_before_the_svl : last_of start happenings ≡ at_the_end
+ends_before_the_svl : last_moment by_rows start happenings ≡ at_the_end
 unfolding after
 ends_before_the_svl =
-    ap (λ m. last_of m (Tick 10_800 10_800_000_000 ∷ from_second)) after_first
-    ∙ ap (λ m. last_of m (Tick 5_400 8_100_000_000 ∷ from_third)) after_second
-    ∙ ap (λ m. last_of m (Tick 0 2_700_000_000 ∷ Record (record_kinds.Read fourth) ∷ [])) after_third
+    ap (λ m. last_moment by_rows m (Tick 10_800 10_800_000_000 ∷ from_second)) after_first
+    ∙ ap (λ m. last_moment by_rows m (Tick 5_400 8_100_000_000 ∷ from_third)) after_second
+    ∙ ap (λ m. last_moment by_rows m (Tick 0 2_700_000_000 ∷ Record (record_kinds.Read fourth) ∷ [])) after_third
     ∙ after_fourth

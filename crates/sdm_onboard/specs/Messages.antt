@@ -38,10 +38,14 @@ IsFor (messages.Revocation id) h = h ≡ Record (record_kinds.Revoke id)
 abbrev pub computer_of : Onboard → Computer
 computer_of o = record { supervision = o.supervisor; emergency = o.orders.emergency }
 
--- with a message the computer goes on as the ride does (own)
+-- over a happening the computer goes on as the ride does, judged by the rows (own)
+abbrev pub Follows : Onboard → Happening → Onboard → Type 0
+Follows before h now = GoesOn by_rows (computer_of before) h (computer_of now)
+
+-- so it does with a message (own)
 pub record Takes (before : Onboard) (message : Message) (h : Happening) (now : Onboard) : Type 0 where
   pub is_for : IsFor message h
-  pub goes_on : GoesOn by_rows (computer_of before) h (computer_of now)
+  pub follows : Follows before h now
 
 -- between messages ticks pass, in which the computer stays as it is (own)
 abbrev pub IsOver : Onboard → Happening → Onboard → Type 0

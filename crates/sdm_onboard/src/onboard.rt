@@ -5,11 +5,9 @@
 ghost use Rattle.std.specs.Prelude.{◌≡◌, ◌⊎◌, IsTrue, OnOk};
 ghost use Rattle.sdm_ride.specs.declared.happenings.Happening.{Happening};
 ghost use Rattle.sdm_ride.specs.declared.happenings.Happening.TheVariants.{Overdue as MissingReading, Record};
-ghost use Rattle.sdm_ride.specs.Moments.{by_rows};
-ghost use Rattle.sdm_ride.specs.Orders.{GoesOn};
 ghost use Rattle.sdm_rules.specs.declared.records.Event.TheVariants as record_kinds;
 ghost use Rattle.sdm_onboard.specs.declared.messages.Message.TheVariants as messages;
-ghost use Rattle.sdm_onboard.specs.Messages.{Takes, computer_of};
+ghost use Rattle.sdm_onboard.specs.Messages.{Follows, Takes};
 
 use crate::messages::{Message, Odometry};
 use crate::orders::Orders;
@@ -122,7 +120,7 @@ impl Onboard {
 
     /// A refused reading changes nothing.
     fn judge(&mut self, reading: &Reading) -> Result<Row, CycleFault>
-        ensures goes_on { GoesOn by_rows (computer_of self.old) (Record (record_kinds.Read reading.now)) (computer_of self.new) }
+        ensures follows { Follows self.old (Record (record_kinds.Read reading.now)) self.new }
         ensures unsupervised { OnOk result (IsTrue self.old.is_authority_missing
             ⊎ IsTrue self.old.is_restriction_missing → IsTrue self.new.orders.emergency) }
     {
@@ -134,7 +132,7 @@ impl Onboard {
 
     /// The commands of the last row are too old to be relied on.
     fn overdue(&mut self) -> News
-        ensures { GoesOn by_rows (computer_of self.old) MissingReading (computer_of self.new) }
+        ensures { Follows self.old MissingReading self.new }
     {
         self.orders = Orders::BRAKE;
         News::Overdue
@@ -142,7 +140,7 @@ impl Onboard {
 
     /// The old authority stays in force where the new one is refused, and may be the longer or the faster one.
     fn take_authority(&mut self, authority: Authority) -> News
-        ensures goes_on { GoesOn by_rows (computer_of self.old) (Record (record_kinds.Authority authority)) (computer_of self.new) }
+        ensures follows { Follows self.old (Record (record_kinds.Authority authority)) self.new }
         ensures refused { result ≡ News.Taken
             ⊎ (IsTrue self.new.is_authority_missing × IsTrue self.new.orders.emergency) }
     {
@@ -188,7 +186,7 @@ impl Onboard {
 
     /// Where it is refused, the restriction stays in force, which brakes sooner and never later.
     fn revoke(&mut self, id: u16) -> News
-        ensures { GoesOn by_rows (computer_of self.old) (Record (record_kinds.Revoke id)) (computer_of self.new) }
+        ensures { Follows self.old (Record (record_kinds.Revoke id)) self.new }
     {
         match self.supervisor.revoke(id) {
             Ok(()) => News::Taken,

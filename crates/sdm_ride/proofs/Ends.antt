@@ -28,8 +28,8 @@ use Rattle.sdm_ride.specs.declared.happenings.Happening.TheVariants.{Record, Unr
 use Rattle.sdm_ride.specs.Moments.{Judging, Moment, Promise, after, after_record, after_taken, aged, by_free_rows}
 use Rattle.sdm_ride.specs.Moments.{by_rows, by_svl, is_release, moments, promise_after}
 use Rattle.sdm_ride.specs.Rides.{point_of}
-use Rattle.sdm_ride.specs.RideLaws.{AreKeptByOrders, EndsBy, IsAsCovered, IsAsFree, IsByItsSvl, IsNeverPast, KeepsPromise, LawOfPlaces}
-use Rattle.sdm_ride.specs.RideLaws.{Promised, StaysBeforeByOrders, since_promised}
+use Rattle.sdm_ride.specs.RideLaws.{AreKeptByOrders, EndsBy, IsAsCovered, IsAsFree, IsByItsSvl, IsNeverPast}
+use Rattle.sdm_ride.specs.RideLaws.{KeepsPromise, LawOfPlaces, Promised, StaysBeforeByOrders, since_promised}
 use Rattle.sdm_ride.proofs.Promises.{mapped, next_promise}
 use Rattle.sdm_ride.proofs.Orders.{rides}
 

@@ -1,5 +1,5 @@
--- A motion as a ride: a slice is as many ticks as it has time, the greatest acceleration first; its braking is one tick.
--- A slice without time may lose speed, so the ride is at least as fast, until it loses the rest where it stands.
+-- A motion as a ride: a slice is as many ticks as it has time, the greatest acceleration first; its braking is one
+-- tick. A slice without time may lose speed, so the ride is at least as fast, until it loses the rest where it stands.
 use Rattle.std.proofs.Common.{◌≡◌, ℕ, ℤ, zero, suc, pos, negsuc, List, [], ◌∷◌, ◌++◌, ◌+◌, ◌-◌, ◌*◌, ◌<◌, ◌≤◌, ◌+ℤ◌}
 use Rattle.std.proofs.Common.{◌≤ℤ◌, None, Some, true, refl, subst, sym, ap, ◌∙◌, arith, inl, inr}
 use Rattle.std.specs.Int.{int_gap}
@@ -172,7 +172,8 @@ module _ (j : Judging) (s : ℕ) (t under : Supervision) (r : OdometerReading) (
       let a = accel_in start phase in
       let slice : IsSlice a v x = subst (λ (k : Phase). IsSlice (accel_in start k) v x) (in_phase 0 x (omega arith))
       slices.0 in
-      let e : (p +ℤ pos x.length) +ℤ pos (distance_of xs) ≡ p +ℤ pos (x.length + distance_of xs) = omega (arith, ints) in
+      let e : (p +ℤ pos x.length) +ℤ pos (distance_of xs) ≡ p +ℤ pos (x.length + distance_of xs) =
+      omega (arith, ints) in
       slice_from a from till x.time p v w age silence x.to x.length may low (omega arith) faster slice.gains slice.moves
       (λ u age' silence' le is. phase_goes start phase from till xs (p +ℤ pos x.length) x.to u age' silence' may
       (λ k d lt. in_phase (suc k) d (omega arith)) slices.1 le (omega arith) (omega arith)

@@ -19,7 +19,8 @@ use Rattle.sdm_ride.specs.declared.happenings.Happening.TheVariants.{Record, Unr
 use Rattle.sdm_ride.specs.Moments.{Judging, Moment, Promise, after, after_record, after_taken, aged, ordered}
 use Rattle.sdm_ride.specs.Moments.{by_free_rows, by_rows, by_svl, promise_after}
 use Rattle.sdm_ride.specs.Rides.{Delays, HoldsDelays, IsByClock, IsByOrders, IsRide, MayHappen}
-use Rattle.sdm_ride.specs.RideLaws.{AreKeptByClock, AreKeptByOrders, IsAsCovered, IsAsFree, IsByItsSvl, LawOfRides, Promised}
+use Rattle.sdm_ride.specs.RideLaws.{AreKeptByClock, AreKeptByOrders, IsAsCovered, IsAsFree, IsByItsSvl, LawOfRides}
+use Rattle.sdm_ride.specs.RideLaws.{Promised}
 use Rattle.sdm_ride.proofs.Promises.{mapped, timed_rides}
 
 -- ---- what an order does in time
