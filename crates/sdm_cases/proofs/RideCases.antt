@@ -27,7 +27,7 @@ use Rattle.sdm_rules.specs.Triggers.{triggers_of}
 use Rattle.sdm_ride.specs.declared.happenings.Happening.{Happening}
 use Rattle.sdm_ride.specs.declared.happenings.Happening.TheVariants.{Record, Overdue, Tick}
 use Rattle.sdm_ride.specs.Moments.{Moment, Promise, after, by_rows, is_ordered, is_release, moments}
-use Rattle.sdm_ride.specs.Rides.{HoldsDelays, IsByOrders, IsRide, IsTick, MayHappen}
+use Rattle.sdm_ride.specs.Rides.{HoldsDelays, IsByOrders, IsRide, IsTick, IsTrueReading, MayHappen}
 use Rattle.sdm_ride.specs.RideLaws.{EndsBy, IsRideBefore, IsRideStart}
 use Rattle.sdm_ride.specs.MotionRides.{last_moment}
 use Rattle.sdm_cases.proofs.Journeys.{plain_band, plain_national, plain_train_and_track}
@@ -293,6 +293,11 @@ runs_on b p age o rest lt on =
     (go b (moment later q 10_800 1 (suc age) (Some (suc o))) (moment later q 10_800 0 (suc age) (Some (suc o))) Overdue
     rest refl tt ends_later on)
 
+-- the second reading is true, too
+second_told : IsTrueReading 1 (moment between (pos 5_367_600_000_000) 10_800 1 1 None) second
+unfolding after_reading ride_line plain_train_and_track plain_national second
+second_told = record { front = omega (arith, ints); speed = omega arith }
+
 -- from the start
 goes : (b : ℕ) (rest : List Happening) → 0 < b →
     Going b (moment later (pos 5_389_200_000_000) 10_800 0 3 (Some 2)) rest →
@@ -307,7 +312,7 @@ goes b rest b_pos on =
     refl (running b between (pos 5_356_800_000_000) 0 None (not_yet b)) ends_between
     (go b (moment between (pos 5_367_600_000_000) 10_800 1 1 None)
     (moment later (pos 5_367_600_000_000) 10_800 0 1 (Some 0)) (Record (record_kinds.Read second)) (from_second rest)
-    to_second (λ promises. record { front = omega (arith, ints); speed = omega arith }) ends_later
+    to_second (λ promises. second_told) ends_later
     (runs_on b (pos 5_367_600_000_000) 1 0 (runs ∷ Overdue ∷ rest) (omega arith)
     (runs_on b (pos 5_378_400_000_000) 2 1 rest (omega arith) on))))
 

@@ -1,7 +1,7 @@
 -- A ride that never comes to an order of the emergency brake: at 0.2 m/s the train is past the SBI, and its service
 -- brake stops it 6 cm before the SvL. Each reading is covered, and none commands the emergency brake.
 use Rattle.std.proofs.Common.{◌≡◌, ℕ, ℤ, pos, Bool, true, false, List, [], ◌∷◌, ◌+◌, ◌*◌, ◌+ℤ◌, refl, subst, sym, ap}
-use Rattle.std.proofs.Common.{◌∙◌, arith}
+use Rattle.std.proofs.Common.{◌∙◌, ◌≤◌, arith}
 use Rattle.std.specs.Prelude.{All, Option, Some, None, if◌then◌else◌}
 use Rattle.std.proofs.lemmas.Int.{ints}
 use Rattle.std.proofs.lemmas.Option.{none-some, same_Some}

@@ -96,11 +96,11 @@ unfoldable pub reading_at_760_m : OdometerReading
 reading_at_760_m = reading_at 0 (pos 410_400_000_000_000) 1_080_000
 
 -- 1 m/s² in the one band
-pub plain_slope : ℕ → ℤ → ℕ
+unfoldable pub plain_slope : ℕ → ℤ → ℕ
 plain_slope zero cell = 200_000_000_000
 plain_slope (suc band) cell = 0
 
-pub plain_slopes : Slopes
+unfoldable pub plain_slopes : Slopes
 plain_slopes = record { q = 100; uppers = []; slope = plain_slope }
 
 each_slope : (band : ℕ) (cell : ℤ) → unsigned_abs (slope_at Safe braked_line band cell) ≡ plain_slope band cell
