@@ -3,4 +3,5 @@ pub mod Levels
 pub mod CurveLaws
 pub mod MotionLaws
 pub mod SupervisionLaws
+pub mod Falls
 pub mod PrintedLimits
