@@ -59,7 +59,7 @@ inline std::optional<std::int64_t> place_mm(const sdm_place &place) noexcept {
 /* What was asked for, or why there is none, by the names of std::expected of C++23. Who asks for the one that isn't
  * there ends the program. */
 template <class T, class E> class [[nodiscard]] Expected {
-public:
+  public:
     Expected(T value) noexcept : either_(std::in_place_index<0>, std::move(value)) {}
 
     static Expected failed(E error) noexcept { return Expected(std::in_place_index<1>, std::move(error)); }
@@ -75,7 +75,7 @@ public:
 
     const E &error() const noexcept { return there(std::get_if<1>(&either_)); }
 
-private:
+  private:
     Expected(std::in_place_index_t<1> place, E error) noexcept : either_(place, std::move(error)) {}
 
     template <class V> static V &there(V *value) noexcept {
@@ -101,7 +101,7 @@ struct Refusal {
 
 /* A supervisor. It can be moved and not copied; one that was moved from answers closed. One thread at a time uses it. */
 class Supervisor {
-public:
+  public:
     /* Opens a supervisor over a data part in TOML, which is not kept. other_layout, or what sdm_open answers. */
     static Expected<Supervisor, Refusal> open(std::string_view data) noexcept {
         Refusal refusal = {Status::other_layout, {}};
@@ -165,7 +165,7 @@ public:
         return answered(sdm_display(&handle_, &reading, &display), display);
     }
 
-private:
+  private:
     Supervisor() noexcept = default;
 
     template <class T> static Expected<T, Status> answered(std::uint32_t status, const T &written) noexcept {

@@ -26,6 +26,7 @@ PARTS = {
     "clauses": ["docs", "scripts"],
     "crates": ["docs", "scripts", "crates.txt"],
     "definitions": [*SPECS, "crates/*/proofs/*Cases.antt"],
+    "interface": ["c/sdm.h", "c/ada/sdm.ads", "crates/sdm_c/src/*", "scripts"],
     "laboratory": ["examples", "scripts", "tools", "vectors/make", "vectors/maker", "vectors/data", "vectors/flat"],
     "links": [":!vectors/*/*/*"],
     "manual": ["CHANGELOG.md", "README.md", "c/sdm.h", "docs/commands.toml", "docs/sdm.1", "docs/sdm.h.3", "scripts"],
@@ -56,6 +57,13 @@ PLANTED = [
         Fault(COMMANDS, r"^(-- the traction cut-off: .*) \(SUBSET[^)]*\)$", r"\1", "cut_off_after has no source"),
         Fault("scripts/own-reasons.txt", r"^\S+/Commands\.antt: .*\n", "", "no reason for what is own in"),
         Fault("scripts/shown-by.txt", " train_fault: sdm_base_tests::", " train_fault: sdm_limit_tests::", "is no test of a function"),
+    ]),
+    ("interface", [
+        Fault("crates/sdm_c/src/statuses.rt", r"(const FULL: u32) = 12", r"\1 = 13", "crates/sdm_c/src: the status full: 13, in c/sdm.h 12"),
+        Fault("crates/sdm_c/src/codes.rt", "TargetKind::Eoa => 2", "TargetKind::Eoa => 3", "the code SDM_EOA: 3, in c/sdm.h 2"),
+        Fault("crates/sdm_c/src/lib.rt", "eoa_cm: u32, svl_cm: u32, release", "svl_cm: u32, eoa_cm: u32, release", "crates/sdm_c/src: the call sdm_end: "),
+        Fault("c/ada/sdm.ads", "LOA_Cm, Speed_Kmh : Word", "Speed_Kmh, LOA_Cm : Word", "c/ada/sdm.ads: the call sdm_limit: "),
+        Fault("c/ada/sdm.ads", "Tco, Sb, Eb", "Tco, Eb, Sb", "c/ada/sdm.ads: the fields of sdm_row: "),
     ]),
     ("laboratory", [
         Fault("vectors/flat/curve/rows", r"\d$", "x", "changed: flat/curve/rows"),

@@ -17,10 +17,11 @@ use Rattle.sdm_rules.specs.Curves.{exact, stepped, most_slack}
 use Rattle.sdm_rules.specs.Data.{TrainAndTrack, HasBands}
 use Rattle.sdm_rules.specs.Decelerations.{slopes_of}
 use Rattle.sdm_rules.specs.declared.targets.Target.{Target}
-use Rattle.sdm_rules.specs.Limits.{SupervisionLimits, computed, exact_places, limits_of, release_start}
+use Rattle.sdm_rules.specs.Limits.{SupervisionLimits, computed, exact_places, limit_in, limits_of, release_start}
 use Rattle.sdm_rules.specs.Supervision.{Supervision, opening, row_of, situation_of}
 use Rattle.sdm_rules.specs.Display.{passes_limit}
 use Rattle.sdm_rules.specs.declared.display.LimitName.{LimitName}
+use Rattle.sdm_rules.specs.declared.limits.LimitKind.{LimitKind}
 use Rattle.sdm_rules.specs.Machines.{Implies, KeepsOrder, InOrder, held_after}
 use Rattle.sdm_rules.specs.Records.{step, journey_from}
 use Rattle.sdm_rules.specs.Stop.{IsSafe}
@@ -73,11 +74,7 @@ AreJustBeforeIfAny (Some low) (Some x) = IsJustBefore low x
 
 -- each limit lies just before the other's (SUBSET-026-3 3.13.9.3)
 pub record AreLimitsJustBefore (low x : SupervisionLimits) : Type 0 where
-  pub ebi : AreJustBeforeIfAny low.ebi x.ebi
-  pub sbi : IsJustBefore low.sbi x.sbi
-  pub warning : IsJustBefore low.warning x.warning
-  pub permitted : IsJustBefore low.permitted x.permitted
-  pub indication : IsJustBefore low.indication x.indication
+  pub each : (kind : LimitKind) → AreJustBeforeIfAny (limit_in kind low) (limit_in kind x)
 
 -- each computed limit, and the computed start of release speed monitoring, is at most the exact one and less than a
 -- millimetre before it (SUBSET-026-3 3.13.9.3, 3.13.9.4)

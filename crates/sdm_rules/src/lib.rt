@@ -11,6 +11,7 @@ pub mod data;
 pub mod display;
 pub mod faults;
 pub mod keys;
+pub mod limits;
 pub mod motions;
 mod ranges;
 pub mod records;
@@ -29,6 +30,7 @@ pub use faults::{
     AuthorityFault, CycleFault, EventCause, EventFault, FieldFault, NationalFault, OpenFault,
     RestrictFault, RevokeFault, Section, TrackFault, TrainFault, TripFault,
 };
+pub use limits::LimitKind;
 pub use motions::{Phase, Point, Slice, Start};
 pub use ranges::{
     LONGEST_TRACK_CM, LONGEST_TRAIN_CM, MOST_RECORDS, STEEPEST, TOP_KMH, first_refused, is_within,

@@ -10,6 +10,7 @@ mod shown;
 mod sight;
 mod supervisors;
 mod verdicts;
+mod walks;
 
 pub use flat::Flat;
 pub use sdm_formats::FlatRow;
