@@ -16,12 +16,13 @@ class Fault(Exception):
 
 @dataclass(frozen=True)
 class Contents:
-    """What is packed: the program, the library that the crate sdm_c is built to, and a folder with the files of the
-    commit."""
+    """What is packed: the program, the library that the crate sdm_c is built to, and folders with the files of the commit
+    and with those that stand at the same places below each prefix."""
 
     program: Path
     library: Path
     files: Path
+    placed: Path
 
 
 @dataclass(frozen=True)

@@ -17,21 +17,26 @@ def packed_files(files: Path) -> list[str]:
     return [name for name in names if place_or_none(name) is not None]
 
 
-def copy_file(release: Release, files: Path, name: str, prefix: Path) -> None:
+def place_file(release: Release, contents: Contents, name: str) -> None:
     """Copies a file of the commit to its place; a page becomes HTML."""
-    to = prefix / place_of(name)
+    to = contents.placed / place_of(name)
     to.parent.mkdir(parents=True, exist_ok=True)
     if name.endswith(".md"):
-        to.write_bytes(web.page(release, name, (files / name).read_bytes()))
+        to.write_bytes(web.page(release, name, (contents.files / name).read_bytes()))
     else:
-        shutil.copyfile(files / name, to)
+        shutil.copyfile(contents.files / name, to)
 
 
-def copy_files(release: Release, files: Path, prefix: Path) -> None:
-    """Copies what the commit has, some at a time, since pandoc takes a while for each page."""
+def place_files(release: Release, contents: Contents) -> None:
+    """Puts the program and the files of the commit to their places, some at a time, since pandoc takes a while for each
+    page; and what says from what they were built."""
     with ThreadPoolExecutor() as threads:
-        for _ in threads.map(lambda name: copy_file(release, files, name, prefix), packed_files(files)):
+        for _ in threads.map(lambda name: place_file(release, contents, name), packed_files(contents.files)):
             pass
+    (contents.placed / "bin").mkdir()
+    shutil.copyfile(contents.program, contents.placed / "bin" / "sdm")
+    (contents.placed / "share" / "doc" / "sdm" / "BUILD").write_text(build_record(release, contents))
+    web.check_links(contents.placed)
 
 
 def write_libraries(
@@ -63,13 +68,9 @@ def build_record(release: Release, contents: Contents) -> str:
 
 
 def write(release: Release, contents: Contents, prefix: Path, root: str, libraries: str, scratch: Path) -> None:
-    """Writes the files that each release has below an empty prefix; the libraries go to a folder below it."""
-    (prefix / "bin").mkdir(parents=True)
-    shutil.copyfile(contents.program, prefix / "bin" / "sdm")
-    copy_files(release, contents.files, prefix)
+    """Writes the files that each release has below a new prefix; the libraries go to a folder below it."""
+    shutil.copytree(contents.placed, prefix)
     write_libraries(release, contents, prefix, root, libraries, scratch)
-    (prefix / "share" / "doc" / "sdm" / "BUILD").write_text(build_record(release, contents))
-    web.check_links(prefix)
 
 
 def settle(release: Release, top: Path) -> None:

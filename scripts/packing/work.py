@@ -6,7 +6,7 @@ import shutil
 import tempfile
 from pathlib import Path
 
-from . import archive, debian, sums
+from . import archive, debian, sums, tree
 from .facts import Contents, Fault, Release, ran
 
 
@@ -22,7 +22,8 @@ def pack_once(release: Release, program: Path, library: Path, into: Path) -> lis
     packed = []
     with tempfile.TemporaryDirectory(prefix="sdm-packing-") as name:
         scratch = Path(name)
-        contents = Contents(program, library, files_of(release, scratch / "commit"))
+        contents = Contents(program, library, files_of(release, scratch / "commit"), scratch / "placed")
+        tree.place_files(release, contents)
         for write in (archive.write, debian.write):
             place = scratch / write.__module__
             place.mkdir()

@@ -76,7 +76,7 @@ class Libraries(Scratch):
         (self.top / "calls.c").write_text(MORE + ANSWERS)
         printed("cc", "-fPIC", "-c", "-o", self.top / "calls.o", self.top / "calls.c")
         printed("ar", "rcsD", self.top / "libcalls.a", self.top / "calls.o")
-        self.contents = Contents(Path("/bin/true"), self.top / "libcalls.a", copies.TOP)
+        self.contents = Contents(Path("/bin/true"), self.top / "libcalls.a", copies.TOP, self.top)
 
     def test_the_shared_library_shows_the_calls_with_their_version(self):
         library.make_shared(RELEASE, self.contents, self.folder("scratch"), self.folder("lib"))
@@ -159,7 +159,7 @@ class Bills(Scratch):
     def test_the_bill_names_each_file_and_what_was_linked(self):
         (self.folder("prefix/bin") / "sdm").write_text("program")
         (self.top / "prefix/bin/link").symlink_to("sdm")
-        told = bill.bill(RELEASE, Contents(Path(), Path(), copies.TOP), self.top / "prefix")
+        told = bill.bill(RELEASE, Contents(Path(), Path(), copies.TOP, Path()), self.top / "prefix")
         self.assertEqual([file["fileName"] for file in told["files"]], ["./bin/sdm"])
         digests = {each["algorithm"]: each["checksumValue"] for each in told["files"][0]["checksums"]}
         self.assertEqual(digests["SHA256"], printed("sha256sum", self.top / "prefix/bin/sdm").split()[0])
