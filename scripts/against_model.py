@@ -25,6 +25,7 @@ from laboratory.program import Fault, Result, add_program, built, run  # noqa: E
 from model.certified import a_certify, a_check  # noqa: E402
 from model.journeys import a_drive, make  # noqa: E402
 from model.words import collect  # noqa: E402
+from piped import end  # noqa: E402
 
 GATE_JOURNEYS = 1000
 PROGRESS = 2000  # journeys between two lines of progress
@@ -120,4 +121,4 @@ def main(args):
 
 
 if __name__ == "__main__":
-    sys.exit(main(sys.argv[1:]))
+    end(lambda: main(sys.argv[1:]))

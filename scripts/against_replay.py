@@ -26,6 +26,7 @@ from model.journeys import specials  # noqa: E402
 from model.outcome import Outcome  # noqa: E402
 from model.records import records  # noqa: E402
 from model.words import MOST_BYTES  # noqa: E402
+from piped import end  # noqa: E402
 
 SHOWN = 3  # each so many seeds an input is given to `display` too
 NOT_TAKEN = Result("", "replay: the records have a quote, a blank line, a CR or a byte order mark\n", 64)
@@ -116,4 +117,4 @@ def main(args):
 
 
 if __name__ == "__main__":
-    sys.exit(main(sys.argv[1:]))
+    end(lambda: main(sys.argv[1:]))

@@ -14,6 +14,7 @@ import specs
 from citations import Graph
 from evidence import Cases, Tests
 from pages import Part, told
+from piped import end
 from specs import ROOT, meaning_of, source_from
 
 PART = Part(
@@ -28,8 +29,8 @@ REASONS = ROOT / "scripts" / "own-reasons.txt"
 PARTS = [
     (
         "What the top call reaches",
-        "The contract of `sdm_main` names these definitions, or reaches them through others. Whoever relies on the program relies on "
-        "them. [ASSUMPTIONS.md](ASSUMPTIONS.md#the-files-to-believe) counts their lines.",
+        "The contract of `sdm_main` names these definitions, or reaches them through others. The program rests on "
+        "them. [BELIEVED.md](BELIEVED.md) counts their lines, command by command.",
     ),
     (
         "What inner contracts and laws cite",
@@ -205,4 +206,4 @@ def main(words):
 
 
 if __name__ == "__main__":
-    sys.exit(main(sys.argv[1:]))
+    end(lambda: main(sys.argv[1:]))

@@ -19,6 +19,7 @@ sys.path.insert(0, str(TOP / "tools"))
 from laboratory.cases import cases_under  # noqa: E402
 from laboratory.program import Fault, Result, add_program, built, run  # noqa: E402
 from model.data import DIVIDING_LINE, data_of, read_document, table_of  # noqa: E402
+from piped import end  # noqa: E402
 
 BAD_DATA = 5
 
@@ -63,4 +64,4 @@ def main(args):
 
 
 if __name__ == "__main__":
-    sys.exit(main(sys.argv[1:]))
+    end(lambda: main(sys.argv[1:]))

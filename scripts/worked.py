@@ -15,6 +15,7 @@ sys.path.insert(0, str(TOP / "tools"))
 
 from laboratory.cases import Case, difference  # noqa: E402
 from laboratory.program import Fault, Result, add_program, built, run  # noqa: E402
+from piped import end  # noqa: E402
 
 REPEATED = re.compile(r"\((.*?)\)\*(\d+)")
 SHOWN = 160  # of a longer line no more is shown
@@ -98,6 +99,8 @@ def main(args):
         program = built(words.program)
         tables = words.table or sorted(path.stem for path in WORKED.glob("*.txt"))
         answers = [differs(program, case) for table in tables for case in cases_of(table)]
+    except BrokenPipeError:
+        raise
     except (Fault, OSError) as why:
         print(f"check-worked: {why}", file=sys.stderr)
         return 1
@@ -106,4 +109,4 @@ def main(args):
 
 
 if __name__ == "__main__":
-    sys.exit(main(sys.argv[1:]))
+    end(lambda: main(sys.argv[1:]))

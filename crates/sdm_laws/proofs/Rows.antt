@@ -12,4 +12,5 @@ pub mod WithinSvl
 pub mod CalculatedRelease
 pub mod Passing
 pub mod Headline
+pub mod Falls
 pub mod Journeys

@@ -1,6 +1,7 @@
 //! The laws of openings and of supervision: of every accepted supervision state and reading, and of every list of
 //! records. Each function makes no call and only states its clause.
 
+ghost use Rattle.sdm_laws.specs.Falls.{LawOfFalls};
 ghost use Rattle.sdm_laws.specs.PrintedLimits.{LawOfPrintedLimits};
 ghost use Rattle.sdm_laws.specs.SupervisionLaws.{IsKeptOpen, LawOfAcceptedSlopes, LawOfCeiling, LawOfCommand};
 ghost use Rattle.sdm_laws.specs.SupervisionLaws.{LawOfGaps, LawOfJourneys, LawOfLimits, LawOfMachines, LawOfNearness};
@@ -78,6 +79,12 @@ pub fn law_of_gaps()
 #[tactic(auto, using(crate::proofs::Rows::Ceiling::within_ceiling))]
 pub fn law_of_ceiling()
     ensures { LawOfCeiling }
+{}
+
+/// From a covered row without an emergency command every motion meets each fall of the speed profile that isn't behind
+/// the min safe front end: no fall drops out of the promise before the train has passed it.
+pub fn law_of_falls()
+    ensures { LawOfFalls }
 {}
 
 /// When release speed monitoring begins.

@@ -41,7 +41,7 @@ use Rattle.sdm_rules.specs.Supervision.{situation_of}
 use Rattle.sdm_rules.specs.Machines.{Implies}
 use Rattle.sdm_rules.specs.Opening.{HasAcceptedSlopes}
 use Rattle.sdm_laws.specs.SupervisionLaws.{LawOfPassing}
-use Rattle.sdm_laws.proofs.BrakeCurves.SteppedOrder.{stepped_falls}
+use Rattle.sdm_laws.proofs.BrakeCurves.CurveOrder.{stepped_falls}
 use Rattle.sdm_laws.proofs.Openings.AcceptedSlopes.{accepted_usable}
 use Rattle.sdm_laws.proofs.Rows.CalculatedRelease.{greatest_is}
 use Rattle.sdm_laws.proofs.Rows.Nearness.{at_most_sooner, less_order, lesser_order}

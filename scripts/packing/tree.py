@@ -1,0 +1,81 @@
+"""All files of a release below a prefix, with their modes and times."""
+
+import os
+import posixpath
+import shutil
+from concurrent.futures import ThreadPoolExecutor
+from pathlib import Path
+
+from . import library, sums, web
+from .facts import Contents, Release, filled
+from .places import place_of, place_or_none
+
+
+def packed_files(files: Path) -> list[str]:
+    """The files of a commit that are packed, by their paths in it."""
+    names = sorted(path.relative_to(files).as_posix() for path in files.rglob("*") if path.is_file())
+    return [name for name in names if place_or_none(name) is not None]
+
+
+def copy_file(release: Release, files: Path, name: str, prefix: Path) -> None:
+    """Copies a file of the commit to its place; a page becomes HTML."""
+    to = prefix / place_of(name)
+    to.parent.mkdir(parents=True, exist_ok=True)
+    if name.endswith(".md"):
+        to.write_bytes(web.page(release, name, (files / name).read_bytes()))
+    else:
+        shutil.copyfile(files / name, to)
+
+
+def copy_files(release: Release, files: Path, prefix: Path) -> None:
+    """Copies what the commit has, some at a time, since pandoc takes a while for each page."""
+    with ThreadPoolExecutor() as threads:
+        for _ in threads.map(lambda name: copy_file(release, files, name, prefix), packed_files(files)):
+            pass
+
+
+def write_libraries(
+    release: Release, contents: Contents, prefix: Path, root: str, libraries: str, scratch: Path
+) -> None:
+    """Writes the libraries, with what pkg-config and CMake read of them. The root is pkg-config's name of the prefix."""
+    into = prefix / libraries
+    for folder in (into / "pkgconfig", into / "cmake" / "sdm"):
+        folder.mkdir(parents=True)
+    library.make_static(release, contents, scratch, into)
+    library.make_shared(release, contents, scratch, into)
+    (into / "pkgconfig" / "sdm.pc").write_text(
+        filled("sdm.pc", prefix=root, libraries=libraries, version=release.version)
+    )
+    (into / "cmake" / "sdm" / "sdm-config.cmake").write_text(
+        filled("sdm-config.cmake", to_headers=posixpath.relpath("include", libraries), shared_name=release.shared_name)
+    )
+    (into / "cmake" / "sdm" / "sdm-config-version.cmake").write_text(
+        filled("sdm-config-version.cmake", version=release.version)
+    )
+
+
+def build_record(release: Release, contents: Contents) -> str:
+    """What a release was built from, in lines."""
+    return (
+        f"version {release.version}\ncommit {release.commit}\nsources {release.sources}\nkit {release.kit}\n"
+        f"program {sums.sum_of(contents.program)}\nlibrary {sums.sum_of(contents.library)}\n"
+    )
+
+
+def write(release: Release, contents: Contents, prefix: Path, root: str, libraries: str, scratch: Path) -> None:
+    """Writes the files that each release has below an empty prefix; the libraries go to a folder below it."""
+    (prefix / "bin").mkdir(parents=True)
+    shutil.copyfile(contents.program, prefix / "bin" / "sdm")
+    copy_files(release, contents.files, prefix)
+    write_libraries(release, contents, prefix, root, libraries, scratch)
+    (prefix / "share" / "doc" / "sdm" / "BUILD").write_text(build_record(release, contents))
+    web.check_links(prefix)
+
+
+def settle(release: Release, top: Path) -> None:
+    """Gives each file below a folder the mode and the time that it has in every release of a commit."""
+    for path in [top, *top.rglob("*")]:
+        if not path.is_symlink():
+            is_open = path.is_dir() or path.parent.name == "bin"
+            path.chmod(0o755 if is_open else 0o644)
+        os.utime(path, (release.epoch, release.epoch), follow_symlinks=False)
