@@ -81,7 +81,7 @@ impl Walk for Choosing {
             return;
         }
         let permitted = sight.braking.limits(asked, kept).permitted.at();
-        let is_earlier = match found {
+        let is_earlier = match &*found {
             Some(counting) => permitted.grains() < counting.permitted.grains(),
             None => true,
         };

@@ -19,7 +19,7 @@ returns-in-Some c ts is =
     let kind = c.args.self.now.kind in
     let limits = limits_of computed seen.train_and_track e t in
     let places = c.limits.ensures.places ∙ (λ k. limits_of computed (c.sight.view_is k).train_and_track e t) in
-    let speed = c.speed-2.ensures ∙ speed_is kind t c.args.kept.now.speeds c.requires.kept.speeds in
+    let speed = c.speed-else-found.ensures ∙ speed_is kind t c.args.kept.now.speeds c.requires.kept.speeds in
     let faster : with_margin (margin_of kind) t < e.speed =
     subst (λ (n : ℕ). n < e.speed) speed (grind (arith, nat_tests)) in
     let limit : limit_in kind limits ≡ Some (place_of c.in-Some.limit) =
