@@ -29,13 +29,13 @@ REASONS = ROOT / "scripts" / "own-reasons.txt"
 PARTS = [
     (
         "What the top call reaches",
-        "The contract of `sdm_main` names these definitions, or reaches them through others. Whoever relies on the program relies on "
-        "them. [ASSUMPTIONS.md](ASSUMPTIONS.md#the-files-to-believe) counts their lines.",
+        "The contract of `sdm_main` names these definitions, or reaches them through others. The program rests on "
+        "them. [BELIEVED.md](BELIEVED.md) counts their lines, command by command.",
     ),
     (
         "What inner contracts and laws cite",
-        "These are not needed to say what the program does: they are how one crate tells the next what it computes, or how the laws of "
-        "`sdm_laws` are stated. A mistake in one of them would make a proof above it fail, and could not make a wrong program pass. "
+        "These are not needed to say what the program does: they are how one crate tells the next what it computes, or how laws "
+        "are stated. A mistake in one of them would make a proof above it fail, and could not make a wrong program pass. "
         "Whoever relies on a law by its name relies on its statement here. All are own unless a clause is named.",
     ),
 ]

@@ -38,7 +38,7 @@ class Command:
 
 def version() -> str:
     """The version: that of the first heading of CHANGELOG.md that has one."""
-    return str(re.findall(r"^## (\d+\.\d+\.\d+)$", (ROOT / "CHANGELOG.md").read_text(), re.M)[0])
+    return str(re.findall(r"^## \[(\d+\.\d+\.\d+)\]", (ROOT / "CHANGELOG.md").read_text(), re.M)[0])
 
 
 def commands() -> list[Command]:

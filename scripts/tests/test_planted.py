@@ -22,15 +22,18 @@ class Fault(NamedTuple):
 # What the copies for a check have of the repository: what it reads.
 SPECS = ["docs", "scripts", "crates.txt", "crates/*/src/*", "crates/*/specs/*"]
 PARTS = {
-    "believed": SPECS,
+    "believed": [*SPECS, "c/*.h"],
     "clauses": ["docs", "scripts"],
     "crates": ["docs", "scripts", "crates.txt"],
     "definitions": [*SPECS, "crates/*/proofs/*Cases.antt"],
+    "interface": ["c/sdm.h", "c/ada/sdm.ads", "crates/sdm_c/src/*", "scripts"],
     "laboratory": ["examples", "scripts", "tools", "vectors/make", "vectors/maker", "vectors/data", "vectors/flat"],
     "links": [":!vectors/*/*/*"],
     "manual": ["CHANGELOG.md", "README.md", "c/sdm.h", "docs/commands.toml", "docs/sdm.1", "docs/sdm.h.3", "scripts"],
     "pictures": ["examples/approach", "examples/flat", "scripts", "tools"],
     "plot": ["examples", "scripts", "tools"],
+    "style": ["README.md", "docs", "scripts"],
+    "traces": [*SPECS, "README.md", "crates/*/proofs/*Cases.antt", "crates/*/must-fail/*"],
 }
 
 TWO_GROUPS = 'GROUPS = {name: GROUPS[name] for name in ["data", "flat"]}\n\n\n'
@@ -39,12 +42,12 @@ STALE = "stale, run scripts/"
 DEFINITIONS, COMMANDS = "docs/DEFINITIONS.md", "crates/sdm_rules/specs/Commands.antt"
 PLANTED = [
     # the check, and the faults that are planted at once
-    ("believed", [Fault("docs/ASSUMPTIONS.md", r"^(\| `crates/\S+/specs/\S+` \| )\d+", r"\g<1>7", STALE)]),
+    ("believed", [Fault("docs/BELIEVED.md", r"^(\| `\S+/specs/\S+` \| )\d+", r"\g<1>7", STALE)]),
     ("believed", [Fault(COMMANDS, r"\Z", "-- one line more\n", STALE)]),
     ("clauses", [Fault("docs/SAFETY.md", r"^\| 3\.13\.10 .*\n", "", STALE)]),
     ("clauses", [Fault(DEFINITIONS, r"\| as 3\.13\.10 \|", "| as 3.13.11 |", STALE)]),
-    ("crates", [Fault("crates.txt", "^sdm_limits: ", "sdm_limits: itoa ", STALE)]),
-    ("crates", [Fault("docs/ARCHITECTURE.md", r"^(\| `sdm_limits` \|)[^|]*\|", r"\1  |", "says nothing of what sdm_limits does")]),
+    ("crates", [Fault("crates.txt", "^sdm_limits: .*\n", "", STALE)]),
+    ("crates", [Fault("docs/ARCHITECTURE.md", r"^(\| `sdm_limits` \|)[^|]*\|$", r"\1  |", "says nothing of what sdm_limits does")]),
     ("crates", [Fault("docs/ARCHITECTURE.md", r"^<!-- The table ends here. -->\n", "", "puts its part are gone")]),
     ("definitions", [Fault(DEFINITIONS, r"^(\| `\w+` .*\n)(\| `\w+` .*\n)", r"\2\1", STALE)]),
     ("definitions", [Fault(DEFINITIONS, r"^Own because this is the program's interface\.\n", "", STALE)]),
@@ -55,6 +58,13 @@ PLANTED = [
         Fault("scripts/own-reasons.txt", r"^\S+/Commands\.antt: .*\n", "", "no reason for what is own in"),
         Fault("scripts/shown-by.txt", " train_fault: sdm_base_tests::", " train_fault: sdm_limit_tests::", "is no test of a function"),
     ]),
+    ("interface", [
+        Fault("crates/sdm_c/src/statuses.rt", r"(const FULL: u32) = 12", r"\1 = 13", "crates/sdm_c/src: the status full: 13, in c/sdm.h 12"),
+        Fault("crates/sdm_c/src/codes.rt", "TargetKind::Eoa => 2", "TargetKind::Eoa => 3", "the code SDM_EOA: 3, in c/sdm.h 2"),
+        Fault("crates/sdm_c/src/lib.rt", "eoa_cm: u32, svl_cm: u32, release", "svl_cm: u32, eoa_cm: u32, release", "crates/sdm_c/src: the call sdm_end: "),
+        Fault("c/ada/sdm.ads", "LOA_Cm, Speed_Kmh : Word", "Speed_Kmh, LOA_Cm : Word", "c/ada/sdm.ads: the call sdm_limit: "),
+        Fault("c/ada/sdm.ads", "Tco, Sb, Eb", "Tco, Eb, Sb", "c/ada/sdm.ads: the fields of sdm_row: "),
+    ]),
     ("laboratory", [
         Fault("vectors/flat/curve/rows", r"\d$", "x", "changed: flat/curve/rows"),
         Fault("vectors/flat/curve/err", r"\A", "sdm: bad words\n", "changed: flat/curve/err"),
@@ -64,16 +74,19 @@ PLANTED = [
     ("laboratory", [Fault("tools/why", "The program's row is the same", "It is the same", "FAIL: test_the_program_s_row")]),
     ("links", [
         Fault("docs/SAFETY.md", r"\(PROMISES\.md\)", "(PROMISE.md)", "PROMISE.md leads nowhere"),
-        Fault("docs/ASSUMPTIONS.md", "^## The files to believe", "## The believed files", "has no such heading"),
+        Fault("docs/ASSUMPTIONS.md", "^## What `covered` promises", "## What a covered row promises", "has no such heading"),
         Fault("c/onboard.c", r"if \(row->eb \|\|", "if (", "c/*.c has no such code: static struct orders"),
         Fault("README.md", "^5,T,X,1,1,1", "5,T,X,1,1,0", "has not the rows of examples/approach"),
         Fault("examples/approach/input", "^length = 10000$", "length = 10001", "has not the input of examples/approach"),
+        Fault("examples/every-key/input", "^length = 10000 ", "length = 10001 ", "has not the input of examples/every-key"),
+        Fault("examples/interventions/recording.csv", "^13000;", "13100;", "it doesn't show its output of tools/compare as it is"),
+        Fault("docs/TRACES.md", r"supervisors\.rt#L\d+\)$", "supervisors.rt#L99999)", "supervisors.rt#L99999 has no such line"),
     ]),
     ("manual", [
         Fault("docs/commands.toml", "1 to 1000", "1 to 1001", STALE),
         Fault("c/sdm.h", "Judges a reading", "Takes a reading", "docs/sdm.h.3: stale"),
     ]),
-    ("manual", [Fault("CHANGELOG.md", r"^## (?=\d)", "## 99.0.0\n\n## ", "README.md: it doesn't begin a line with `Version 99.0.0 `")]),
+    ("manual", [Fault("CHANGELOG.md", r"^## (?=\[\d)", "## [99.0.0]\n\n## ", "README.md: it doesn't begin a line with `Version 99.0.0 `")]),
     ("manual", [Fault("docs/sdm.1", r"^\.SH DATA PART$", ".SH DATA PART\n.XY", "macro 'XY' not defined")]),
     ("pictures", [
         Fault("examples/approach/rows", "^10,T,X,0,0,1,1,160,887500", "10,T,X,0,0,1,1,160,887000", "approach: the picture is stale"),
@@ -86,6 +99,18 @@ PLANTED = [
         Fault("examples/drive/input", "^emergency_time = 20$", "emergency_time = 21", "failed: its true train lies in its places"),
         Fault("examples/certificate-checked/input", "^mark,378", "mark,379", "failed: marks and ways lie in their places"),
     ]),
+    ("style", [
+        Fault("docs/SAFETY.md", "^(## What is claimed)$", r"\1\n\nA limit is told.", "'is told': write says"),
+        Fault("docs/SAFETY.md", "^(## What is not claimed)$", r"\1\n\n" + "A word " * 23 + "at last.", "48 words in a sentence: A word"),
+        Fault("docs/FORMATS.md", "^## Commands$", "## Commands of 0.12.1", "'0.12.1': only CHANGELOG.md"),
+    ]),
+    ("traces", [
+        Fault("README.md", r" <!-- trace: order -->", "", "no sentence has the mark order"),
+        Fault("scripts/traces.toml", r"law_of_machines", "law_of_machine", "order: no law sdm_laws::law_of_machine"),
+        Fault("scripts/traces.toml", r"Supervisor::cycle gaps", "Supervisor::cycle gap", "gaps: sdm_supervisor::Supervisor::cycle has no clause gap"),
+        Fault("crates/sdm_ceiling/must-fail/ebi_margin_not_capped.edit", r"\A#.*\n", "", "ebi_margin_not_capped has no line"),
+    ]),
+    ("traces", [Fault("crates/sdm_rules/specs/Stop.antt", r"\A", "-- one line more\n", STALE)]),
 ]
 
 
