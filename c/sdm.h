@@ -9,7 +9,7 @@
  * Units: times in tenths of a second (ds), places of the front end in millimetres, places of the track in centimetres,
  * speeds in km/h, those of a reading in mm/s. What the columns of a row mean: docs/FORMATS.md.
  *
- * Duties of the caller, which nothing checks: docs/INTEGRATION.md, "From C". C11 or later, or C++11 or later. */
+ * Duties of the caller, which nothing checks: docs/FROM-C.md. C11 or later, or C++11 or later. */
 #ifndef SDM_H
 #define SDM_H
 
@@ -144,7 +144,7 @@ struct sdm_display {
 };
 
 /* The comment of each call ends with what it answers but SDM_DONE, in the order in which that is looked for. Pointers
- * are valid and none of them null, as docs/INTEGRATION.md says. */
+ * are valid and none of them null, as docs/FROM-C.md says. */
 
 /* The number of the layout that the library was built for: SDM_LAYOUT, or the two don't belong together. */
 uint32_t sdm_layout(void);

@@ -2,7 +2,7 @@
  * is none. All of it stands in this header, over the calls of sdm.h, which says what each call does, its units and its
  * ranges. Nothing here throws or takes memory, and it compiles with -fno-exceptions and -fno-rtti.
  *
- * The duties of docs/INTEGRATION.md, "What C must keep", that are left to the caller here: 3, and 5 to 9. The namespace
+ * The duties of docs/FROM-C.md, "What C must keep", that are left to the caller here: 3, and 5 to 9. The namespace
  * isn't named sdm, since that is the handle of sdm.h. */
 #ifndef SDM_HPP
 #define SDM_HPP

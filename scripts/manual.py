@@ -144,8 +144,7 @@ def header_page() -> str:
             "for.\n",
             "".join(of_call(call) for call in calls),
             f".SH TYPES\n.nf\n{types}.fi\n",
-            '.SH SEE ALSO\n.BR sdm (1);\nthe page INTEGRATION, "From C", beside the package\'s other pages, for the duties '
-            "of the caller.\n",
+            ".SH SEE ALSO\n.BR sdm (1);\nthe page FROM-C, beside the other pages of a release, for the duties of the caller.\n",
         ]
     )
 

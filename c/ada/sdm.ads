@@ -1,5 +1,5 @@
 --  The static library from Ada: a binding to ../sdm.h, which says what each call does, its ranges and what it answers.
---  docs/INTEGRATION.md, "From C", has the duties of the caller, which nothing checks.
+--  docs/FROM-C.md has the duties of the caller, which nothing checks.
 
 with Interfaces;
 with Interfaces.C;
