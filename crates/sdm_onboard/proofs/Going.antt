@@ -1,15 +1,23 @@
 -- How a computer goes on with each kind of happening, over plain computers: what its supervisor answered, and what came
 -- of its order.
-use Rattle.std.proofs.Common.{◌≡◌, Bool, true, Option, Some, None, refl, subst, sym, ap, ◌∙◌}
+use Rattle.std.proofs.Common.{◌≡◌, ◌||◌, ℕ, Bool, true, Option, Some, None, refl, subst, sym, ap, ◌∙◌}
 use Rattle.std.specs.Prelude.{Result, Ok, Err}
 use Rattle.std.proofs.lemmas.Option.{none-some, same_Some}
 use Rattle.sdm_num.specs.Readings.{OdometerReading}
+use Rattle.sdm_rules.specs.declared.authorities.Authority.{Authority}
+use Rattle.sdm_rules.specs.declared.faults.AuthorityFault.{AuthorityFault}
 use Rattle.sdm_rules.specs.declared.faults.CycleFault.{CycleFault}
 use Rattle.sdm_rules.specs.declared.faults.EventCause.{EventCause}
+use Rattle.sdm_rules.specs.declared.faults.EventCause.TheVariants as causes
+use Rattle.sdm_rules.specs.declared.faults.RestrictFault.{RestrictFault}
+use Rattle.sdm_rules.specs.declared.faults.RevokeFault.{RevokeFault}
 use Rattle.sdm_rules.specs.declared.records.Event.{Event}
 use Rattle.sdm_rules.specs.declared.records.Event.TheVariants as record_kinds
-use Rattle.sdm_rules.specs.Records.{step, time_cause, time_fault, unless}
-use Rattle.sdm_rules.specs.Supervision.{Supervision, after_reading, row_of}
+use Rattle.sdm_rules.specs.declared.restrictions.Restriction.{Restriction}
+use Rattle.sdm_rules.specs.declared.rows.Row.{Row}
+use Rattle.sdm_rules.specs.Records.{authority_fault, restrict_fault, revoke_fault, step, time_cause, time_fault, unless}
+use Rattle.sdm_rules.specs.Supervision.{Supervision, after_authority, after_reading, after_restriction}
+use Rattle.sdm_rules.specs.Supervision.{after_revocation, row_of}
 use Rattle.sdm_ride.specs.declared.happenings.Happening.{Happening}
 use Rattle.sdm_ride.specs.declared.happenings.Happening.TheVariants.{Record, Unread, Overdue}
 use Rattle.sdm_ride.specs.Moments.{by_rows, is_ordered}
@@ -47,6 +55,12 @@ judged before now r in_time taken orders =
       stands = λ none _. absurd (none-some r (sym none ∙ ap (reading_if e) is));
     }
 
+-- the order of the row of a reading is that of the ride
+pub row_orders : (row row' : Row) (unsupervised emergency : Bool) →
+    emergency ≡ (is_ordered row || unsupervised) → row ≡ row' → is_ordered row' ≡ true → emergency ≡ true
+row_orders row row' unsupervised emergency is same orders =
+    is ∙ ap (λ b. b || unsupervised) (ap is_ordered same ∙ orders)
+
 -- a reading whose time goes back
 pub refused : (before now : Computer) (r : OdometerReading) (fault : CycleFault) →
     time_fault before.supervision.last_time r.time ≡ Some fault → now.supervision ≡ before.supervision →
@@ -56,6 +70,62 @@ unfolding step
 refused before now r fault back same stands =
     recorded before now (record_kinds.Read r) (Err (time_cause fault))
     (ap (λ f. unless time_cause f (after_reading before.supervision r)) back) same refl stands
+
+-- an authority that is taken, and one that is refused
+pub authority : (before now : Computer) (a : Authority) →
+    authority_fault before.supervision.train_and_track.track.length_cm a ≡ None →
+    now.supervision ≡ after_authority before.supervision a → (before.emergency ≡ true → now.emergency ≡ true) →
+    GoesOn by_rows before (Record (record_kinds.Authority a)) now
+unfolding step
+authority before now a none taken stands =
+    recorded before now (record_kinds.Authority a) (Ok (after_authority before.supervision a))
+    (ap (λ f. unless causes.Authority f (after_authority before.supervision a)) none) taken refl stands
+
+pub refused_authority : (before now : Computer) (a : Authority) (fault : AuthorityFault) →
+    authority_fault before.supervision.train_and_track.track.length_cm a ≡ Some fault →
+    now.supervision ≡ before.supervision → (before.emergency ≡ true → now.emergency ≡ true) →
+    GoesOn by_rows before (Record (record_kinds.Authority a)) now
+unfolding step
+refused_authority before now a fault is same stands =
+    recorded before now (record_kinds.Authority a) (Err (causes.Authority fault))
+    (ap (λ f. unless causes.Authority f (after_authority before.supervision a)) is) same refl stands
+
+-- a restriction
+pub restriction : (before now : Computer) (r : Restriction) →
+    restrict_fault before.supervision.train_and_track.track.length_cm before.supervision.restrictions r ≡ None →
+    now.supervision ≡ after_restriction before.supervision r → (before.emergency ≡ true → now.emergency ≡ true) →
+    GoesOn by_rows before (Record (record_kinds.Restrict r)) now
+unfolding step
+restriction before now r none taken stands =
+    recorded before now (record_kinds.Restrict r) (Ok (after_restriction before.supervision r))
+    (ap (λ f. unless causes.Restrict f (after_restriction before.supervision r)) none) taken refl stands
+
+pub refused_restriction : (before now : Computer) (r : Restriction) (fault : RestrictFault) →
+    restrict_fault before.supervision.train_and_track.track.length_cm before.supervision.restrictions r ≡ Some fault →
+    now.supervision ≡ before.supervision → (before.emergency ≡ true → now.emergency ≡ true) →
+    GoesOn by_rows before (Record (record_kinds.Restrict r)) now
+unfolding step
+refused_restriction before now r fault is same stands =
+    recorded before now (record_kinds.Restrict r) (Err (causes.Restrict fault))
+    (ap (λ f. unless causes.Restrict f (after_restriction before.supervision r)) is) same refl stands
+
+-- a revocation
+pub revocation : (before now : Computer) (id : ℕ) → revoke_fault before.supervision.restrictions id ≡ None →
+    now.supervision ≡ after_revocation before.supervision id → (before.emergency ≡ true → now.emergency ≡ true) →
+    GoesOn by_rows before (Record (record_kinds.Revoke id)) now
+unfolding step
+revocation before now id none taken stands =
+    recorded before now (record_kinds.Revoke id) (Ok (after_revocation before.supervision id))
+    (ap (λ f. unless causes.Revoke f (after_revocation before.supervision id)) none) taken refl stands
+
+pub refused_revocation : (before now : Computer) (id : ℕ) (fault : RevokeFault) →
+    revoke_fault before.supervision.restrictions id ≡ Some fault →
+    now.supervision ≡ before.supervision → (before.emergency ≡ true → now.emergency ≡ true) →
+    GoesOn by_rows before (Record (record_kinds.Revoke id)) now
+unfolding step
+refused_revocation before now id fault is same stands =
+    recorded before now (record_kinds.Revoke id) (Err (causes.Revoke fault))
+    (ap (λ f. unless causes.Revoke f (after_revocation before.supervision id)) is) same refl stands
 
 -- a record out of its form
 pub unread : (before now : Computer) → now.supervision ≡ before.supervision →

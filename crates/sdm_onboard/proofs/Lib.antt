@@ -1,2 +1,3 @@
-mod Going
-mod Runs
+pub mod Going
+pub mod Taking
+pub mod Runs

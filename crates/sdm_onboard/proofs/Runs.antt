@@ -22,9 +22,9 @@ over_tick c to length = record {
 goes_on : (o : Onboard) (h : Happening) (p : Onboard) → IsOver o h p → Follows o h p
 goes_on o h p (inl x) = x.1.follows
 goes_on o h p (inr x) =
-    subst (λ (h : Happening). Follows o h p) (sym x.2.2.0)
-    (subst (λ (q : Onboard). Follows o (Tick x.0 x.2.0) q) (sym x.2.2.1)
-    (over_tick (computer_of o) x.0 x.2.0))
+    subst (λ (h : Happening). Follows o h p) (sym x.2)
+    (subst (λ (q : Onboard). Follows o (Tick x.0 x.1) q) (sym x.3)
+    (over_tick (computer_of o) x.0 x.1))
 
 all_go_on : (o : Onboard) (hs : List Happening) (os : List Onboard) → IsRun o hs os →
     AllGoOn by_rows (computer_of o) hs (map computer_of os)

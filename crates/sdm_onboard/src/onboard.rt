@@ -4,7 +4,7 @@
 
 ghost use Rattle.std.specs.Prelude.{◌≡◌, ◌⊎◌, IsTrue, OnOk};
 ghost use Rattle.sdm_ride.specs.declared.happenings.Happening.{Happening};
-ghost use Rattle.sdm_ride.specs.declared.happenings.Happening.TheVariants.{Overdue as MissingReading, Record};
+ghost use Rattle.sdm_ride.specs.declared.happenings.Happening.TheVariants.{Record};
 ghost use Rattle.sdm_rules.specs.declared.records.Event.TheVariants as record_kinds;
 ghost use Rattle.sdm_onboard.specs.declared.messages.Message.TheVariants as messages;
 ghost use Rattle.sdm_onboard.specs.Messages.{Follows, Takes};
@@ -98,6 +98,7 @@ impl Onboard {
     }
 
     /// A reading that can't be judged leaves the train without supervision, so it brakes.
+    #[tactic(auto, using(crate::proofs::Taking::reading, crate::proofs::Taking::unread, crate::proofs::Taking::braked))]
     fn take_odometry(&mut self, odometry: &Odometry) -> News
         ensures { (h : Happening) × Takes self.old (messages.Odometry odometry.now) h self.new }
     {
@@ -131,8 +132,9 @@ impl Onboard {
     }
 
     /// The commands of the last row are too old to be relied on.
+    #[tactic(auto, using(crate::proofs::Taking::missing))]
     fn overdue(&mut self) -> News
-        ensures { Follows self.old MissingReading self.new }
+        ensures { (h : Happening) × Takes self.old messages.Overdue h self.new }
     {
         self.orders = Orders::BRAKE;
         News::Overdue
@@ -140,7 +142,7 @@ impl Onboard {
 
     /// The old authority stays in force where the new one is refused, and may be the longer or the faster one.
     fn take_authority(&mut self, authority: Authority) -> News
-        ensures follows { Follows self.old (Record (record_kinds.Authority authority)) self.new }
+        ensures takes { (h : Happening) × Takes self.old (messages.Authority authority) h self.new }
         ensures refused { result ≡ News.Taken
             ⊎ (IsTrue self.new.is_authority_missing × IsTrue self.new.orders.emergency) }
     {
@@ -157,6 +159,7 @@ impl Onboard {
         }
     }
 
+    #[tactic(auto, using(crate::proofs::Taking::braked))]
     fn take_restriction(&mut self, restriction: Restriction) -> News
         ensures takes { (h : Happening) × Takes self.old (messages.Restriction restriction) h self.new }
         ensures refused { result ≡ News.Taken
@@ -173,6 +176,7 @@ impl Onboard {
     }
 
     /// The supervisor asks its caller for a speed from 1 to 500 km/h.
+    #[tactic(auto, using(crate::proofs::Taking::unread_restriction))]
     fn restrict(&mut self, restriction: Restriction) -> Result<(), RestrictionFault>
         ensures { (h : Happening) × Takes self.old (messages.Restriction restriction) h self.new }
     {
@@ -186,7 +190,7 @@ impl Onboard {
 
     /// Where it is refused, the restriction stays in force, which brakes sooner and never later.
     fn revoke(&mut self, id: u16) -> News
-        ensures { Follows self.old (Record (record_kinds.Revoke id)) self.new }
+        ensures { (h : Happening) × Takes self.old (messages.Revocation id) h self.new }
     {
         match self.supervisor.revoke(id) {
             Ok(()) => News::Taken,

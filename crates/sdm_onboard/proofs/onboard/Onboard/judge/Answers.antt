@@ -1,0 +1,12 @@
+-- A reading that is judged orders what its row asks; one whose time goes back changes nothing.
+use Rattle.sdm_onboard.proofs.Going.{judged, refused, row_orders}
+use Rattle.sdm_onboard.proofs.onboard.Onboard.judge.Goals as goal
+
+pub returns-in_err-row-clause-follows : goal.returns-in_err-row-clause-follows
+returns-in_err-row-clause-follows c =
+    refused _ _ c.args.reading.now _ c.in_err-row.ensures.time_back c.in_err-row.ensures.unchanged (λ stood. stood)
+
+pub returns-clause-follows : goal.returns-clause-follows
+returns-clause-follows c =
+    judged _ _ c.args.reading.now c.in_ok-row.ensures.in_time c.in_ok-row.ensures.taken
+    (row_orders c.in_ok-row.row _ _ c.of-self.result.emergency c.of-self.ensures.emergency c.in_ok-row.ensures.row)
