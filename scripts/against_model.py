@@ -6,8 +6,8 @@
 
 The input of each third seed is given to `display` and to `certify` too, and each third seed makes a drive, and a text for
 `check`, besides. Of each difference it tells the input, the first row or line that differs, and both texts.
-`python3 tools/model/journeys.py input SEED` writes the journey of a seed, `drive SEED` its drive, and
-`python3 tools/model/certified.py SEED` its text for `check`.
+`tools/journeys input SEED` writes the journey of a seed, `drive SEED` its drive, and
+`tools/certified SEED` its text for `check`.
 """
 
 import argparse
@@ -18,13 +18,12 @@ import time
 from pathlib import Path
 
 TOP = Path(__file__).resolve().parents[1]
-sys.path.insert(0, str(TOP / "tools"))
 
-from laboratory.cases import Case, cases_under, difference  # noqa: E402
-from laboratory.program import Fault, Result, add_program, built, run  # noqa: E402
-from model.certified import a_certify, a_check  # noqa: E402
-from model.journeys import a_drive, make  # noqa: E402
-from model.words import collect  # noqa: E402
+from sdm.laboratory.cases import Case, cases_under, difference
+from sdm.laboratory.program import Fault, Result, add_program, built, run
+from sdm.model.certified import a_certify, a_check
+from sdm.model.journeys import a_drive, make
+from sdm.model.words import collect
 
 GATE_JOURNEYS = 1000
 PROGRESS = 2000  # journeys between two lines of progress
@@ -34,7 +33,7 @@ BESIDES = [("drive", a_drive), ("certify", a_certify), ("check", a_check)]
 
 def own_tests():
     """Whether the model passes its own tests."""
-    done = subprocess.run(["scripts/unit-tests", "tools", "model/tests"], cwd=TOP, capture_output=True, text=True)
+    done = subprocess.run(["scripts/unit-tests", "python", "tests/model"], cwd=TOP, capture_output=True, text=True)
     print("the model's own tests: " + (done.stdout.splitlines() or ["nothing was told"])[-1])
     if done.returncode:
         print(done.stdout)

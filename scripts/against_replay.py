@@ -16,16 +16,15 @@ import sys
 from pathlib import Path
 
 TOP = Path(__file__).resolve().parents[1]
-sys.path.insert(0, str(TOP / "tools"))
 
-from against_model import GATE_JOURNEYS, made  # noqa: E402
-from laboratory.cases import Case, cases_under, difference  # noqa: E402
-from laboratory.program import Fault, Result, add_program, built, run  # noqa: E402
-from model.data import split  # noqa: E402
-from model.journeys import specials  # noqa: E402
-from model.outcome import Outcome  # noqa: E402
-from model.records import records  # noqa: E402
-from model.words import MOST_BYTES  # noqa: E402
+from against_model import GATE_JOURNEYS, made
+from sdm.laboratory.cases import Case, cases_under, difference
+from sdm.laboratory.program import Fault, Result, add_program, built, run
+from sdm.model.data import split
+from sdm.model.journeys import specials
+from sdm.model.outcome import Outcome
+from sdm.model.records import records
+from sdm.model.words import MOST_BYTES
 
 SHOWN = 3  # each so many seeds an input is given to `display` too
 NOT_TAKEN = Result("", "replay: the records have a quote, a blank line, a CR or a byte order mark\n", 64)

@@ -11,10 +11,9 @@ import sys
 from pathlib import Path
 
 TOP = Path(__file__).resolve().parents[1]
-sys.path[:0] = [str(TOP / "bench"), str(TOP / "tools")]
 
-from inputs import AREAS, MAKERS, TRACK_CM  # noqa: E402
-from model.journeys import specials  # noqa: E402
+from inputs import AREAS, MAKERS, TRACK_CM
+from sdm.model.journeys import specials
 
 SEED = 1
 

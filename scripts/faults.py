@@ -3,11 +3,9 @@ scripts/try-faults. docs/ASSUMPTIONS.md says the same for assessors."""
 
 import os
 import subprocess
-import sys
 from dataclasses import dataclass
 from pathlib import Path
 
-sys.dont_write_bytecode = True
 
 ROOT = Path(__file__).resolve().parent.parent
 EXAMPLES = ROOT / "examples"

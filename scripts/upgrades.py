@@ -14,11 +14,10 @@ import tomllib
 from pathlib import Path
 
 TOP = Path(__file__).resolve().parents[1]
-sys.path.insert(0, str(TOP / "tools"))
 
-from laboratory.cases import cases_under  # noqa: E402
-from laboratory.program import Fault, Result, add_program, built, run  # noqa: E402
-from model.data import DIVIDING_LINE, data_of, read_document, table_of  # noqa: E402
+from sdm.laboratory.cases import cases_under
+from sdm.laboratory.program import Fault, Result, add_program, built, run
+from sdm.model.data import DIVIDING_LINE, data_of, read_document, table_of
 
 BAD_DATA = 5
 

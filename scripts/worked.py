@@ -11,10 +11,9 @@ from pathlib import Path
 
 TOP = Path(__file__).resolve().parents[1]
 WORKED = TOP / "worked"
-sys.path.insert(0, str(TOP / "tools"))
 
-from laboratory.cases import Case, difference  # noqa: E402
-from laboratory.program import Fault, Result, add_program, built, run  # noqa: E402
+from sdm.laboratory.cases import Case, difference
+from sdm.laboratory.program import Fault, Result, add_program, built, run
 
 REPEATED = re.compile(r"\((.*?)\)\*(\d+)")
 SHOWN = 160  # of a longer line no more is shown

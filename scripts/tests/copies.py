@@ -16,8 +16,9 @@ SECONDS = 300  # the longest that a script may take
 
 # The model, with what Python compiles of it beside it: else each of its starts, of which there are hundreds, would compile it anew.
 SCRATCH = tempfile.TemporaryDirectory()
-MODEL = shutil.copytree(TOP / "tools" / "model", Path(SCRATCH.name) / "model")
-compileall.compile_dir(MODEL, quiet=1)
+shutil.copytree(TOP / "python" / "sdm", Path(SCRATCH.name) / "sdm")
+compileall.compile_dir(SCRATCH.name, quiet=1)
+MODEL = f"PYTHONPATH={SCRATCH.name} {sys.executable} -S -B -m sdm.model"
 
 
 @contextmanager
@@ -59,7 +60,7 @@ def stand_in(top: Path, filtered: str = "cat", status: str = "", name: str = "cr
     """A program in a copy that does as the model of this repository, its rows through a filter, or with another exit status."""
     built = top / name
     built.parent.mkdir(parents=True, exist_ok=True)
-    built.write_text(f'#!/bin/bash\n{sys.executable} -S -B {MODEL} "$@" | {filtered}\nexit ${{PIPESTATUS[0]}}{status}\n')
+    built.write_text(f'#!/bin/bash\n{MODEL} "$@" | {filtered}\nexit ${{PIPESTATUS[0]}}{status}\n')
     built.chmod(0o755)
 
 
@@ -70,5 +71,5 @@ def mark(top: Path) -> tuple[int, str]:
 
 def marked_as_it_is(top: Path) -> None:
     """Marks the program of a copy, whatever it answers."""
-    code = "import laboratory.program as p; p.MARK.write_text(f'sources {p.sum_of_sources()}\\nprogram {p.sum_of(p.BUILT)}\\n')"
-    subprocess.run([sys.executable, "-B", "-c", code], cwd=top / "tools", check=True)
+    code = "import sdm.laboratory.program as p; p.MARK.write_text(f'sources {p.sum_of_sources()}\\nprogram {p.sum_of(p.BUILT)}\\n')"
+    subprocess.run([sys.executable, "-B", "-c", code], cwd=top / "python", check=True)

@@ -26,10 +26,10 @@ PARTS = {
     "clauses": ["docs", "scripts"],
     "crates": ["docs", "scripts", "crates.txt"],
     "definitions": [*SPECS, "crates/*/proofs/*Cases.antt"],
-    "laboratory": ["examples", "scripts", "tools", "vectors/make", "vectors/maker", "vectors/data", "vectors/flat"],
+    "laboratory": ["examples", "scripts", "tools", "python", "vectors/make", "vectors/maker", "vectors/data", "vectors/flat"],
     "links": [":!vectors/*/*/*"],
-    "pictures": ["examples/approach", "examples/flat", "scripts", "tools"],
-    "plot": ["examples", "scripts", "tools"],
+    "pictures": ["examples/approach", "examples/flat", "scripts", "tools", "python"],
+    "plot": ["examples", "scripts", "tools", "python"],
 }
 
 TWO_GROUPS = 'GROUPS = {name: GROUPS[name] for name in ["data", "flat"]}\n\n\n'
@@ -60,7 +60,7 @@ PLANTED = [
         Fault("vectors/data/version/code", "5", "6", "changed: data/version/code"),
         Fault("vectors/data/index", "^version\t.*\n", "", "changed: data/index"),
     ]),
-    ("laboratory", [Fault("tools/why", "The program's row is the same", "It is the same", "FAIL: test_the_program_s_row")]),
+    ("laboratory", [Fault("python/sdm/why.py", "The program's row is the same", "It is the same", "FAIL: test_the_program_s_row")]),
     ("links", [
         Fault("docs/SAFETY.md", r"\(PROMISES\.md\)", "(PROMISE.md)", "PROMISE.md leads nowhere"),
         Fault("docs/ASSUMPTIONS.md", "^## The files to believe", "## The believed files", "has no such heading"),
@@ -74,7 +74,7 @@ PLANTED = [
     ]),
     ("plot", [
         Fault("examples/approach/rows", "^10,T,X,0,0,1,1,160,887500", "10,T,X,0,0,1,1,160,880000", "failed: its marks lie in their places"),
-        Fault("tools/drawing/places.py", r"speed \(km/h\)", "speed (m/s)", "failed: the picture has the text 'speed (km/h)'"),
+        Fault("python/sdm/drawing/places.py", r"speed \(km/h\)", "speed (m/s)", "failed: the picture has the text 'speed (km/h)'"),
         Fault("examples/display/rows", "^760,72,", "760,73,", "failed: the speeds that are shown lie in their places"),
         Fault("examples/drive/input", "^emergency_time = 20$", "emergency_time = 21", "failed: its true train lies in its places"),
         Fault("examples/certificate-checked/input", "^mark,378", "mark,379", "failed: marks and ways lie in their places"),
@@ -87,7 +87,7 @@ def copied(script: str) -> Iterator[Path]:
     """A copy for a check, in which vectors/make has no more groups than the copy."""
     with copies.a_copy(PARTS[script]) as top:
         if script == "laboratory":
-            copies.alter(top, "vectors/make", "^(?=def files_of)", TWO_GROUPS)
+            copies.alter(top, "vectors/maker/files.py", "^(?=def files_of)", TWO_GROUPS)
         yield top
 
 

@@ -8,9 +8,7 @@ from pathlib import Path
 
 from . import copies
 
-sys.path[:0] = [str(copies.TOP / "vectors"), str(copies.TOP / "tools")]
-
-from maker.misreadings import MISREADINGS  # noqa: E402
+from maker.misreadings import MISREADINGS
 
 EXAMPLE = "examples/approach"
 MADE = ["scripts/check-model", "--seed", "10", "--journeys", "10"]
@@ -25,7 +23,7 @@ def examples(*names: str) -> list[str]:
 class OverACopy(unittest.TestCase):
     """Each test over a copy of some parts of the repository, in which a program has few sources."""
 
-    parts = [".ci", "HANDLES", "bench", "crates.txt", "crates/sdm", "crates/sdm_rules/specs", "scripts", "tools"]
+    parts = [".ci", "HANDLES", "bench", "crates.txt", "crates/sdm", "crates/sdm_rules/specs", "scripts", "tools", "python"]
 
     def setUp(self):
         copy = copies.a_copy(self.parts)
@@ -56,7 +54,8 @@ class Marks(OverACopy):
         """The gate runs where scripts/setup alone was run, which doesn't install them."""
         folder = self.top / "python-alone"
         folder.mkdir()
-        (folder / "python3").symlink_to(sys.executable)
+        for name, path in (("python3", sys.executable), ("bash", "/bin/bash"), ("dirname", "/usr/bin/dirname")):
+            (folder / name).symlink_to(path)
         self.assertIn("has no mark", copies.ended(self.top, "bench/run", path=str(folder))[1])
         copies.mark(self.top)
         self.assertIn("`scripts/setup tools` installs it", copies.ended(self.top, "bench/run", path=str(folder))[1])
@@ -164,7 +163,7 @@ class Answers(OverACopy):
 
     def test_a_model_that_differs_from_the_program_is_told(self):
         module, text, misread = next(each for each in MISREADINGS if each[0] == "triggers")
-        copies.alter(self.top, f"tools/model/{module}.py", re.escape(text), misread.replace("\\", r"\\"))
+        copies.alter(self.top, f"python/sdm/model/{module}.py", re.escape(text), misread.replace("\\", r"\\"))
         self.assertRegex(self.told(*AT_THE_CEILING), r"row \d+ differs")
 
 
@@ -193,7 +192,7 @@ class Replays(OverACopy):
     def compared(self, *filtered: str, status: int = 1) -> str:
         """What is told where replay does as the model, its rows through a filter or with another exit status."""
         copies.stand_in(self.top, *filtered, name="replay")
-        (self.top / "compare").write_text("#!/bin/bash\nexec python3 -B scripts/against_replay.py replay --examples\n")
+        (self.top / "compare").write_text("#!/bin/bash\nexec scripts/python scripts/against_replay.py replay --examples\n")
         (self.top / "compare").chmod(0o755)
         return self.told("compare", status=status)
 
@@ -238,7 +237,7 @@ class Gate(OverACopy):
         self.assertIn("< scripts/check-links", self.told(".ci/run"))
 
     def test_a_folder_without_tests_is_told(self):
-        for folder, script in (("tools/laboratory/tests", "scripts/check-laboratory"), ("tools/model/tests", "scripts/check-model")):
+        for folder, script in (("python/tests/laboratory", "scripts/check-laboratory"), ("python/tests/model", "scripts/check-model")):
             for path in (self.top / folder).glob("test_*.py"):
                 path.unlink()
             copies.stand_in(self.top)

@@ -1,4 +1,4 @@
-"""Misreadings of docs/PROFILE.md and docs/FORMATS.md, each as a change of one line of tools/model: module, text, misread text.
+"""Misreadings of docs/PROFILE.md and docs/FORMATS.md, each as a change of one line of python/sdm/model: module, text, misread text.
 
 `vectors/mutants` shows that vectors/ finds each of them.
 """
