@@ -6,10 +6,15 @@ or a PNG by its ending. WORDS are the words that `sdm` ran with: `run`, which is
 A journey that is refused midway is drawn up to there. What a picture shows, and how it is read, is in tools/README.md.
 """
 
+from __future__ import annotations
+
 import argparse
+import os
 import subprocess
 import sys
+from dataclasses import dataclass
 from pathlib import Path
+from typing import TYPE_CHECKING
 
 from sdm.drawing.certificate import check_journey
 from sdm.drawing.drive import drive_journey
@@ -21,6 +26,11 @@ from sdm.laboratory.program import Fault
 from sdm.laboratory.walk import read
 from sdm.model.outcome import Outcome
 from sdm.model.words import number_word
+from sdm.records import Data, input_of
+
+if TYPE_CHECKING:
+    from .arrays import Array
+    from .runs import Records
 
 TERMINALS = {".svg": "svg", ".png": "pngcairo fontscale 0.75"}
 ALL = (float("-inf"), float("inf"))
@@ -40,14 +50,14 @@ def write(path, picture):
         raise Fault(f"{path} can't be written: {why.strerror}.") from None
 
 
-def script_of(journey, words):
-    """The script for gnuplot: both panels, one above the other."""
+def script_of(journey, form, places=None, speeds=None):
+    """The script for gnuplot of a picture of a form, .svg or .png: both panels, one above the other."""
     lines = [
         "set encoding utf8",
-        f"set terminal {TERMINALS[Path(words.out).suffix]} size {WIDTH},{HEIGHT} font 'sans-serif,12' noenhanced background '#FFFFFF'",
+        f"set terminal {TERMINALS[form]} size {WIDTH},{HEIGHT} font 'sans-serif,12' noenhanced background '#FFFFFF'",
         "set multiplot; set tics nomirror; set border lw 0.8",
     ]
-    lines += place_panel(journey, height_of(journey) + BETWEEN, words.places, words.speeds) + strip_panel(journey) + ["unset multiplot"]
+    lines += place_panel(journey, height_of(journey) + BETWEEN, places, speeds) + strip_panel(journey) + ["unset multiplot"]
     return "\n".join(lines) + "\n"
 
 
@@ -68,6 +78,40 @@ def journey_of(words):
     if len(words.words) == 1:
         return JOURNEYS[words.words[0]](source, rows, words.times)
     return NUMBERED[words.words[0]][0](source, rows, *map(int, words.words[1:]), words.times)
+
+
+@dataclass(frozen=True)
+class Picture:
+    """A picture as SVG, which a notebook shows."""
+
+    svg: bytes
+
+    def _repr_svg_(self) -> str:
+        return self.svg.decode()
+
+    def save(self, path: str | os.PathLike[str]) -> None:
+        """Writes it to a file."""
+        Path(path).write_bytes(self.svg)
+
+
+def plot(
+    data: Data,
+    records: Records,
+    rows: Array | None = None,
+    *,
+    times: tuple[float, float] = ALL,
+    places: tuple[float, float] | None = None,
+    speeds: tuple[float, float] | None = None,
+) -> Picture:
+    """The picture of a journey: times in s, places in m and speeds in km/h draw a part of it. Where no rows are given, the journey is
+    run. Raises sdm.laboratory.program.Fault where the rows are not those of the records, and where gnuplot is missing."""
+    from .arrays import records_in, text
+    from .runs import run
+
+    held = records_in(records)
+    shown = run(data, held) if rows is None else rows
+    journey = run_journey(input_of(data, held), text(shown), times)
+    return Picture(drawn(script_of(journey, ".svg", places, speeds), f"sdm run: {len(journey.readings)} readings"))
 
 
 def words_of(args):
@@ -110,7 +154,8 @@ def main(args):
     try:
         journey = journey_of(words)
         title = f"{' '.join(['sdm', *words.words])}: {len(journey.readings)} readings"
-        write(words.out, drawn(script_of(journey, words), title))
+        script = script_of(journey, Path(words.out).suffix, words.places, words.speeds)
+        write(words.out, drawn(script, title))
         if journey.note:
             print(f"plot: {journey.note}; tools/why tells of a row why it is as the model has it.", file=sys.stderr)
     except Fault as why:

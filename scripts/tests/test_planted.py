@@ -110,7 +110,7 @@ class Checks(unittest.TestCase):
                         self.assertIn(fault.told, told)
 
     def test_each_check_has_two_faults(self):
-        elsewhere = {"model", "upgrade", "certificates", "worked", "c", "refused", "scripts"}  # test_program.py, all five; by hand; these tests
+        elsewhere = {"model", "upgrade", "certificates", "worked", "c", "library", "refused", "scripts"}  # test_program.py, all six; by hand; these tests
         names = {path.name.removeprefix("check-") for path in (copies.TOP / "scripts").glob("check-*")} - elsewhere
         few = {name for name in names if sum(len(faults) for script, faults in PLANTED if script == name) < 2}
         self.assertEqual(few, set())

@@ -225,6 +225,9 @@ class Replays(OverACopy):
     def test_a_library_that_answers_otherwise_is_told(self):
         self.assertIn("fault: not so of data that are refused", self.told("scripts/check-c", self.library()))
 
+    def test_a_shared_library_that_answers_otherwise_is_told(self):
+        self.assertIn("SdmError: the supervisor is closed", self.told("scripts/check-library", self.library()))
+
 
 class Gate(OverACopy):
     parts = [*OverACopy.parts, *examples("approach")]
@@ -249,7 +252,8 @@ class Gate(OverACopy):
         tools = self.top / "tools-there"
         tools.mkdir()
         self.assertIn("rt, the toolchain's command", self.set_up(tools, {}))
-        there = dict.fromkeys(["rt", "gnuplot", "parallel", "cc", "valgrind"], "exit 0") | {"python3": "echo Python 3.9; exit 1"}
+        installed = ["rt", "gnuplot", "parallel", "cc", "valgrind", "black", "flake8", "mypy", "shellcheck"]
+        there = dict.fromkeys(installed, "exit 0") | {"python3": "echo Python 3.9; exit 1"}
         self.assertIn("Python from 3.11 on is needed", self.set_up(tools, there))
 
     def set_up(self, folder: Path, programs: dict[str, str]) -> str:
@@ -257,7 +261,8 @@ class Gate(OverACopy):
         for name, does in programs.items():
             (folder / name).write_text(f"#!/bin/bash\n{does}\n")
             (folder / name).chmod(0o755)
-        (folder / "bash").exists() or (folder / "bash").symlink_to("/bin/bash")
+        for path in map(Path, ("/bin/bash", "/usr/bin/dirname")):
+            (folder / path.name).exists() or (folder / path.name).symlink_to(path)
         status, told = copies.ended(self.top, "scripts/setup", path=str(folder))
         self.assertEqual(status, 1, told)
         return told

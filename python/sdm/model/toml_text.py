@@ -1,4 +1,5 @@
 """Writes a table as TOML, plainly as the examples are or in odd spellings (FORMATS "The data part")."""
+import json
 
 
 class Raw(str):
@@ -21,12 +22,14 @@ def value_text(value, rng):
     if isinstance(value, int):
         return number(value, rng)
     if isinstance(value, str):
-        return f"'{value}'" if rng and rng.random() < .5 else f'"{value}"'
+        return f"'{value}'" if rng and rng.random() < .5 else json.dumps(value, ensure_ascii=False)
     many = rng is not None and rng.random() < .3
     blank, last = ("\n  ", rng.choice([",", ", # a comment", ""])) if many else (" ", "")
     if isinstance(value, list):
         inner = ("," + blank).join(value_text(each, rng) for each in value)
         return f"[{blank}{inner}{last if value else ''}{chr(10) if many else ''}]"
+    if not isinstance(value, dict):
+        raise TypeError(f"{value!r} has no form in a data part")
     inner = ", ".join(f"{key_text(key, rng)} = {value_text(each, rng)}" for key, each in value.items())
     return f"{{ {inner} }}"                    # on one line, as TOML 1.0 has it
 
