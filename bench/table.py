@@ -1,5 +1,6 @@
-"""Measures the built program over the standard inputs and prints a table in Markdown. It asserts nothing: an input that the
-program refuses, or a command that it doesn't know, is a note in the table. bench/README.md says what each column is."""
+"""Measures the built program over the standard inputs and prints a table in Markdown. It asserts nothing: an input that
+the program refuses, or a command that it doesn't know, is a note in the table. bench/README.md says what each column
+is."""
 
 import argparse
 import hashlib
@@ -13,10 +14,12 @@ import measure
 
 from sdm.laboratory.program import Fault, add_program, built, sum_of
 
+# fmt: off
 COLUMNS = [
     "Input", "Records", "Counted", "ns each", "Least ns", "A second", "Instructions each",
     "Peak memory, MiB", "Start-up, ms", "Start-up, instructions",
 ]
+# fmt: on
 
 BUSY = 1.5  # a load above this means that others ran beside the program
 
@@ -25,12 +28,21 @@ def options():
     """What the command line asks for."""
     parser = argparse.ArgumentParser(description="Measures the built program over the standard inputs.")
     add_program(parser)
-    parser.add_argument("--only", nargs="+", choices=list(inputs.MAKERS), metavar="INPUT", default=list(inputs.MAKERS),
-                        help="measure these inputs alone: " + ", ".join(inputs.MAKERS))
+    parser.add_argument(
+        "--only",
+        nargs="+",
+        choices=list(inputs.MAKERS),
+        metavar="INPUT",
+        default=list(inputs.MAKERS),
+        help="measure these inputs alone: " + ", ".join(inputs.MAKERS),
+    )
     parser.add_argument("--seed", type=int, default=1, help="what the inputs are made from; else 1")
     parser.add_argument("--runs", type=int, default=10, help="how often each input is timed; else 10 times")
-    parser.add_argument("--folder", type=Path,
-                        help="where inputs and profiles are kept; else they go to a scratch folder that is removed")
+    parser.add_argument(
+        "--folder",
+        type=Path,
+        help="where inputs and profiles are kept; else they go to a scratch folder that is removed",
+    )
     return parser.parse_args()
 
 
@@ -43,8 +55,9 @@ def stored(made, folder):
 
 
 def figures(made, whole, one, chosen, folder):
-    """The cells of an input's row after its counts. What one reading costs, or one record where none is a reading, is what the whole
-    input takes above the input with one, by those but that one, so that neither the start of the process nor the opening is in it."""
+    """The cells of an input's row after its counts. What one reading costs, or one record where none is a reading, is
+    what the whole input takes above the input with one, by those but that one, so that neither the start of the process
+    nor the opening is in it."""
     program, more = chosen.program, made.counted - 1
     mean, least = measure.times(program, made.words, whole, chosen.runs, folder)
     mean_of_one, least_of_one = measure.times(program, made.words_of_one, one, 5 * chosen.runs, folder)
@@ -54,8 +67,13 @@ def figures(made, whole, one, chosen, folder):
     seconds, least_seconds = (mean - mean_of_one) / more, (least - least_of_one) / more
     a_second = f"{1 / seconds:,.0f}" if seconds > 0 else "-"
     return [
-        f"{1e9 * seconds:,.0f}", f"{1e9 * least_seconds:,.0f}", a_second,
-        f"{(count - count_of_one) / more:,.0f}", f"{peak / 1024:.1f}", f"{1e3 * mean_of_one:.1f}", f"{count_of_one:,}",
+        f"{1e9 * seconds:,.0f}",
+        f"{1e9 * least_seconds:,.0f}",
+        a_second,
+        f"{(count - count_of_one) / more:,.0f}",
+        f"{peak / 1024:.1f}",
+        f"{1e3 * mean_of_one:.1f}",
+        f"{count_of_one:,}",
     ]
 
 
@@ -84,7 +102,9 @@ def measured(chosen, folder):
     busy = "; it was busy, so compare the instructions" if max(before, after) > BUSY else ""
     print(f"\n- Machine: {measure.machine()}; load {before:.1f} before and {after:.1f} after{busy}")
     print(f"- Commit {measure.commit()}; {measure.said(['rt', 'version'])}; program {sum_of(chosen.program)[:12]}")
-    print(f"- Inputs {', '.join(chosen.only)} of seed {chosen.seed}: {digest.hexdigest()[:12]}; {chosen.runs} runs each")
+    print(
+        f"- Inputs {', '.join(chosen.only)} of seed {chosen.seed}: {digest.hexdigest()[:12]}; {chosen.runs} runs each"
+    )
 
 
 def main():

@@ -4,11 +4,10 @@
     scripts/check-model --seed 5000 --journeys 9000 the journeys of the seeds 5000 to 13999 alone
     scripts/check-model --program PATH              another program than crates/sdm/out/sdm
 
-The input of each third seed is given to `display` and to `certify` too, and each third seed makes a drive, and a text for
-`check`, besides. Of each difference it tells the input, the first row or line that differs, and both texts.
-`tools/journeys input SEED` writes the journey of a seed, `drive SEED` its drive, and
-`tools/certified SEED` its text for `check`.
-"""
+The input of each third seed is given to `display` and to `certify` too, and each third seed makes a drive, and a text
+for `check`, besides. Of each difference it tells the input, the first row or line that differs, and both texts.
+`tools/journeys input SEED` writes the journey of a seed, `drive SEED` its drive, and `tools/certified SEED` its text
+for `check`. """
 
 import argparse
 import collections
@@ -17,17 +16,16 @@ import sys
 import time
 from pathlib import Path
 
-TOP = Path(__file__).resolve().parents[1]
-
 from sdm.laboratory.cases import Case, cases_under, difference
 from sdm.laboratory.program import Fault, Result, add_program, built, run
 from sdm.model.certified import a_certify, a_check
 from sdm.model.journeys import a_drive, make
 from sdm.model.words import collect
 
+TOP = Path(__file__).resolve().parents[1]
 GATE_JOURNEYS = 1000
 PROGRESS = 2000  # journeys between two lines of progress
-SHARE = 3  # each so many seeds an input is given to the other commands too, of which `display` costs the model more than `run`
+SHARE = 3  # each so many seeds an input is given to the other commands too; `display` costs the model more than `run`
 BESIDES = [("drive", a_drive), ("certify", a_certify), ("check", a_check)]
 
 
@@ -88,8 +86,13 @@ def compare(title, program, cases, count):
 def words_of(args):
     parser = argparse.ArgumentParser(prog="scripts/check-model", description=__doc__.split("\n\n")[0])
     parser.add_argument("--seed", type=int, metavar="N", help="made journeys alone, from this seed on")
-    parser.add_argument("--journeys", type=int, metavar="N", default=GATE_JOURNEYS,
-                        help=f"how many journeys are made, one a seed; {GATE_JOURNEYS} where it isn't said")
+    parser.add_argument(
+        "--journeys",
+        type=int,
+        metavar="N",
+        default=GATE_JOURNEYS,
+        help=f"how many journeys are made, one a seed; {GATE_JOURNEYS} where it isn't said",
+    )
     add_program(parser)
     return parser.parse_args(args)
 

@@ -1,21 +1,18 @@
 """Holds replay, the C program over the static library, against the built program: rows, fault line and exit status.
 
-    scripts/against_replay.py REPLAY                   over examples/, inputs at the limits of the formats, and the journeys
-                                                       that scripts/check-model makes
+    scripts/against_replay.py REPLAY                   over examples/, inputs at the limits of the formats, and the
+                                                       journeys that scripts/check-model makes
     scripts/against_replay.py REPLAY --examples        over examples/ alone
     scripts/against_replay.py REPLAY --program PATH    another program than crates/sdm/out/sdm
 
 replay takes plain records alone. Where those of an input aren't plain, it must say so and write nothing; it is then
-given the same records written plainly. The input of each third seed is given to `display` too.
-"""
+given the same records written plainly. The input of each third seed is given to `display` too. """
 
 import argparse
 import collections
 import subprocess
 import sys
 from pathlib import Path
-
-TOP = Path(__file__).resolve().parents[1]
 
 from against_model import GATE_JOURNEYS, made
 from sdm.laboratory.cases import Case, cases_under, difference
@@ -26,6 +23,7 @@ from sdm.model.outcome import Outcome
 from sdm.model.records import records
 from sdm.model.words import MOST_BYTES
 
+TOP = Path(__file__).resolve().parents[1]
 SHOWN = 3  # each so many seeds an input is given to `display` too
 NOT_TAKEN = Result("", "replay: the records have a quote, a blank line, a CR or a byte order mark\n", 64)
 BYTE_ORDER_MARK = b"\xef\xbb\xbf"
@@ -43,7 +41,7 @@ def parts(data):
         lines = split(data)[1]
     except Outcome:
         return data, b""
-    return data[:len(data) - len(lines)], lines
+    return data[: len(data) - len(lines)], lines
 
 
 def written_plain(lines):

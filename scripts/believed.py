@@ -1,6 +1,6 @@
-"""Lists the files that must be believed for a contract to be worth something: its own clauses, every definition and type that
-they reach, and what is trusted around it. There are two lists: for the program, whose top call is `sdm_main`, and for who
-calls the supervisor.
+"""Lists the files that must be believed for a contract to be worth something: its own clauses, every definition and
+type that they reach, and what is trusted around it. There are two lists: for the program, whose top call is `sdm_main`,
+and for who calls the supervisor.
 
     scripts/believed          prints the lists with line counts
     scripts/believed write    puts them between their marks in docs/ASSUMPTIONS.md
@@ -27,8 +27,9 @@ PART = Part(
 
 @dataclass(frozen=True)
 class Surface:
-    """What someone relies on: the calls, as (crate, owner, name), whose clauses count; the owners, as (crate, name), all of whose
-    clauses do; the types whose values the clauses speak of; and the files that are read for these, each with what counts in it."""
+    """What someone relies on: the calls, as (crate, owner, name), whose clauses count; the owners, as (crate, name),
+    all of whose clauses do; the types whose values the clauses speak of; and the files that are read for these, each
+    with what counts in it."""
 
     calls: list
     owners: list
@@ -52,14 +53,27 @@ PROGRAM = Surface(
 
 SUPERVISOR = Surface(
     calls=[("sdm_supervisor", "Supervisor", name) for name in ("begin", "cycle", "authority", "restrict", "revoke")]
-    + [("sdm_num", "Reading", "new"), ("sdm_train", "Train", "new"), ("sdm_national", "National", "new"), ("sdm_track", "Track", "new")],
+    + [
+        ("sdm_num", "Reading", "new"),
+        ("sdm_train", "Train", "new"),
+        ("sdm_national", "National", "new"),
+        ("sdm_track", "Track", "new"),
+    ],
     owners=[],
     values=[
-        ("sdm_supervisor", "Supervisor"), ("sdm_num", "Reading"), ("sdm_num", "Place"), ("sdm_num", "Speed"),
-        ("sdm_train", "Train"), ("sdm_national", "National"), ("sdm_track", "Track"),
+        ("sdm_supervisor", "Supervisor"),
+        ("sdm_num", "Reading"),
+        ("sdm_num", "Place"),
+        ("sdm_num", "Speed"),
+        ("sdm_train", "Train"),
+        ("sdm_national", "National"),
+        ("sdm_track", "Track"),
     ],
     edge=[
-        ("sdm_supervisor/src/supervisors.rt", "the value of a `Supervisor`; the clauses of `begin`, `cycle`, `authority`, `restrict` and `revoke`"),
+        (
+            "sdm_supervisor/src/supervisors.rt",
+            "the value of a `Supervisor`; the clauses of `begin`, `cycle`, `authority`, `restrict` and `revoke`",
+        ),
         ("sdm_num/src/readings.rt", "the value of a `Reading`, and the clause of `Reading::new`"),
         ("sdm_num/src/places.rt", "the value of a `Place`"),
         ("sdm_num/src/speeds.rt", "the value of a `Speed`"),
@@ -104,7 +118,13 @@ def lines_of(path):
 def table(title, rows):
     """A table of (file, lines, what of it)."""
     total = sum(lines for _, lines, _ in rows)
-    out = ["", f"**{title}**: {len(rows)} files, {total:,} lines.", "", "| File | Lines | What counts in it |", "|---|---|---|"]
+    out = [
+        "",
+        f"**{title}**: {len(rows)} files, {total:,} lines.",
+        "",
+        "| File | Lines | What counts in it |",
+        "|---|---|---|",
+    ]
     return out + [f"| `{path}` | {lines} | {what} |" for path, lines, what in rows]
 
 
@@ -132,13 +152,21 @@ def type_rows(reached, edge):
     for path in sorted(reached):
         if path.suffix == ".rt" and path.exists() and path not in edge:
             names = sorted(reached[path])
-            what = f"{len(names)} types" if len(names) > 7 else ", ".join(f"`{name}`" for name in names).replace("`TheConstants`", "its constants")
+            what = (
+                f"{len(names)} types"
+                if len(names) > 7
+                else ", ".join(f"`{name}`" for name in names).replace("`TheConstants`", "its constants")
+            )
             yield path.relative_to(ROOT), lines_of(path), what
 
 
 def toolchain(reached):
     """The modules of the toolchain's library that the definitions stand on."""
-    found = {path.relative_to(CRATES).with_suffix("").as_posix() for path in reached if CRATES in path.parents and not path.exists()}
+    found = {
+        path.relative_to(CRATES).with_suffix("").as_posix()
+        for path in reached
+        if CRATES in path.parents and not path.exists()
+    }
     return ", ".join(f"`{name}`" for name in sorted(found))
 
 

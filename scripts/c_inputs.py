@@ -10,11 +10,10 @@ import re
 import sys
 from pathlib import Path
 
-TOP = Path(__file__).resolve().parents[1]
-
 from inputs import AREAS, MAKERS, TRACK_CM
 from sdm.model.journeys import specials
 
+TOP = Path(__file__).resolve().parents[1]
 SEED = 1
 
 

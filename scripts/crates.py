@@ -1,5 +1,5 @@
-"""Writes the table of crates of docs/ARCHITECTURE.md: the crates in the order of crates.txt, and what each stands on. What a crate
-does is written by hand in that table, and is kept.
+"""Writes the table of crates of docs/ARCHITECTURE.md: the crates in the order of crates.txt, and what each stands on.
+What a crate does is written by hand in that table, and is kept.
 
     scripts/crates          prints the table
     scripts/crates write    puts it between its marks in docs/ARCHITECTURE.md
@@ -42,7 +42,11 @@ def listed():
 def wordless():
     """The crates of which the table says nothing."""
     does = words_of_crates()
-    return [f"the table says nothing of what {name} does" for name, _ in crates_with_libraries() if not does.get(name, "").strip()]
+    return [
+        f"the table says nothing of what {name} does"
+        for name, _ in crates_with_libraries()
+        if not does.get(name, "").strip()
+    ]
 
 
 if __name__ == "__main__":

@@ -1,6 +1,6 @@
-"""Checks the pages of the repository: every relative link and picture leads to a file or folder in it, every anchor to a heading;
-what README shows to paste is the input of examples/approach, with its rows; and the code that docs/INTEGRATION.md shows stands in
-crates/sdm_onboard or in c/. Links to other hosts are not followed.
+"""Checks the pages of the repository: every relative link and picture leads to a file or folder in it, every anchor to
+a heading; what README shows to paste is the input of examples/approach, with its rows; and the code that
+docs/INTEGRATION.md shows stands in crates/sdm_onboard or in c/. Links to other hosts are not followed.
 
     scripts/check-links
 """
@@ -18,7 +18,11 @@ FENCE = re.compile(r"^(```|~~~).*?^\1\s*$", re.M | re.S)
 CODE = re.compile(r"`[^`\n]*`")
 LINK = re.compile(r"\]\(\s*<?([^)\s>]+)>?(?:\s+\"[^\"]*\")?\s*\)")
 HEADING = re.compile(r"^#{1,6}\s+(.*?)\s*#*$", re.M)
-SHOWN_CODE = {"rust": "crates/sdm_onboard/src/*.rt", "c": "c/*.c", "ada": "c/ada/*.adb"}  # where docs/INTEGRATION.md has it from
+SHOWN_CODE = {
+    "rust": "crates/sdm_onboard/src/*.rt",
+    "c": "c/*.c",
+    "ada": "c/ada/*.adb",
+}  # where docs/INTEGRATION.md has it from
 ELSEWHERE = re.compile(r"^[a-z][a-z0-9+.-]*:", re.I)
 
 
@@ -70,7 +74,10 @@ def example_faults():
     """Where README's example isn't the folder's."""
     text = (ROOT / "README.md").read_text()
     example = ROOT / "examples" / "approach"
-    shown = {"input": f"<<'END'\n{(example / 'input').read_text()}END\n", "rows": f"```\n{(example / 'rows').read_text()}```\n"}
+    shown = {
+        "input": f"<<'END'\n{(example / 'input').read_text()}END\n",
+        "rows": f"```\n{(example / 'rows').read_text()}```\n",
+    }
     for name, lines in shown.items():
         if lines not in text:
             yield f"README.md: its example has not the {name} of examples/approach"

@@ -6,10 +6,10 @@
     scripts/program mark SOURCES   marks what `rt ci` built, if the sources still have the checksum that they had before
     scripts/program build          proves and builds it by `rt run`, where that wasn't done, and marks it
 
-The mark shows that the program, byte for byte, is the one that a proved build left, and that the sources were the same before
-the build, after it, and are now. It doesn't show that nobody changed them in between and put them back, nor that nobody wrote
-a mark by hand. Tests, definitions and proofs count as sources, so that a marked program is also proved by what lies here.
-"""
+The mark shows that the program, byte for byte, is the one that a proved build left, and that the sources were the same
+before the build, after it, and are now. It doesn't show that nobody changed them in between and put them back, nor that
+nobody wrote a mark by hand. Tests, definitions and proofs count as sources, so that a marked program is also proved by
+what lies here. """
 
 import os
 import subprocess

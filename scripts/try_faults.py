@@ -1,10 +1,10 @@
-"""Fails each call of the built program in turn, over some journeys, and prints a table of what came out. It is no part of the
-gate. What it shows is told in docs/ASSUMPTIONS.md.
+"""Fails each call of the built program in turn, over some journeys, and prints a table of what came out. It is no part
+of the gate. What it shows is told in docs/ASSUMPTIONS.md.
 
-In turn each allocation is refused; each read of the input, each write of rows and each write of a fault's line fails, moves one
-byte alone, and is interrupted. Rows are cut off after each of their bytes, or after some of them. Then the system itself fails
-calls: by strace, a full device, a closed pipe, a folder as input and closed streams. Every run must have ended as the clauses of
-`sdm_main` say; where one did not, that is told and the script fails."""
+In turn each allocation is refused; each read of the input, each write of rows and each write of a fault's line fails,
+moves one byte alone, and is interrupted. Rows are cut off after each of their bytes, or after some of them. Then the
+system itself fails calls: by strace, a full device, a closed pipe, a folder as input and closed streams. Every run must
+have ended as the clauses of `sdm_main` say; where one did not, that is told and the script fails."""
 
 import argparse
 import errno
@@ -23,8 +23,10 @@ TOOLS = ["cc", "strace"]
 
 CUTS = 500  # at how many places rows are cut off at most
 
+# fmt: off
 EXAMPLES = ["gradient-under-train", "realistic", "trial", "guidance", "refused-record", "refused-opening", "flat",
             "display", "upgrade", "drive", "certificate", "certificate-forged"]
+# fmt: on
 
 # what is faulted, the call and its file, the kind of fault, its error, what it may change
 IN_TURN = [
@@ -55,8 +57,11 @@ class Table:
         codes = Counter(ended.code for ended, _ in ends)
         wrong = [(ended, why) for ended, why in ends if why]
         self.calls += len(ends)
-        self.wrong += [f"{journey.name}, {fault}, call {number}: {why}: {ended}"
-                       for number, (ended, why) in enumerate(ends, 1) if why]
+        self.wrong += [
+            f"{journey.name}, {fault}, call {number}: {why}: {ended}"
+            for number, (ended, why) in enumerate(ends, 1)
+            if why
+        ]
         told = ", ".join(f"{code}: {count:,}" for code, count in sorted(codes.items()))
         print(f"| {journey.name} | {fault} | {len(ends):,} | {told} | {len(wrong)} |", flush=True)
 
@@ -71,10 +76,19 @@ def fail_in_turn(program, library, journey, table, folder):
         numbers = list(range(1, count + 1)) + ([0] if check is faults.unchanged else [])
         ends = []
         for number in numbers:
-            ended = faults.run(program, journey.words, journey.given, {
-                "LD_PRELOAD": str(library), "FAULT_CALL": call, "FAULT_FILE": str(file), "FAULT_KIND": kind,
-                "FAULT_ERROR": str(error), "FAULT_AT": str(number),
-            })
+            ended = faults.run(
+                program,
+                journey.words,
+                journey.given,
+                {
+                    "LD_PRELOAD": str(library),
+                    "FAULT_CALL": call,
+                    "FAULT_FILE": str(file),
+                    "FAULT_KIND": kind,
+                    "FAULT_ERROR": str(error),
+                    "FAULT_AT": str(number),
+                },
+            )
             ends.append((ended, check(journey, ended)))
         table.tell(journey, fault, ends)
 
@@ -84,10 +98,19 @@ def cut_off(program, library, journey, table):
     length = len(journey.whole.out)
     ends = []
     for kept in range(1, length, max(1, length // CUTS)):
-        ended = faults.run(program, journey.words, journey.given, {
-            "LD_PRELOAD": str(library), "FAULT_CALL": "write", "FAULT_FILE": "1", "FAULT_KIND": "cut",
-            "FAULT_ERROR": str(errno.ENOSPC), "FAULT_AT": str(kept),
-        })
+        ended = faults.run(
+            program,
+            journey.words,
+            journey.given,
+            {
+                "LD_PRELOAD": str(library),
+                "FAULT_CALL": "write",
+                "FAULT_FILE": "1",
+                "FAULT_KIND": "cut",
+                "FAULT_ERROR": str(errno.ENOSPC),
+                "FAULT_AT": str(kept),
+            },
+        )
         why = faults.write_failed(journey, ended)
         ends.append((ended, why or (None if len(ended.out) == kept else "out holds another count of bytes")))
     if ends:

@@ -1,8 +1,9 @@
-"""Runs the built program over a hundred thousand inputs that a fixed seed makes from examples/ and from bytes at random. It is no
-part of the gate.
+"""Runs the built program over a hundred thousand inputs that a fixed seed makes from examples/ and from bytes at
+random. It is no part of the gate.
 
-Each run must end by itself within a second of the processor's time with one of the codes; out must be whole lines of the command's
-form, and err empty or the one line of the code. An input that doesn't is kept in a folder, and the script fails."""
+Each run must end by itself within a second of the processor's time with one of the codes; out must be whole lines of
+the command's form, and err empty or the one line of the code. An input that doesn't is kept in a folder, and the script
+fails."""
 
 import argparse
 import os
@@ -16,30 +17,75 @@ from concurrent.futures import ThreadPoolExecutor
 from dataclasses import dataclass
 from pathlib import Path
 
-
-ROOT = Path(__file__).resolve().parent.parent
-
 from inputs import Numbers
 from sdm.laboratory.program import Fault, add_program, built
 
+ROOT = Path(__file__).resolve().parent.parent
 MOST_BYTES = 16_777_216
 SECONDS = 1.0  # the most of the processor's time that a run may take
 
 # The ends of the ranges of docs/FORMATS.md, of the integers of TOML, and one past each.
-ENDS = [0, 1, 5, 8, 20, 50, 80, 100, 300, 400, 500, 512, 800, 1_000, 10_000, 65_535, 100_000, 138_888, 150_000, 10_000_000,
-        100_000_000, 110_000_000, 2**31 - 1, 2**31, 2**32 - 1, 2**32, 10**17, 10**18 - 1, 2**63 - 1, 2**63, 2**64, 10**19]
+# fmt: off
+ENDS = [
+    0, 1, 5, 8, 20, 50, 80, 100, 300, 400, 500, 512, 800, 1_000, 10_000, 65_535, 100_000, 138_888, 150_000, 10_000_000,
+    100_000_000, 110_000_000, 2**31 - 1, 2**31, 2**32 - 1, 2**32, 10**17, 10**18 - 1, 2**63 - 1, 2**63, 2**64, 10**19,
+]
+# fmt: on
 
-PIECES = [b'"', b"'", b"\r", b"\n", b"\r\n", b"\0", b",", b",,", b"%%", b"%%\n", b" ", b"\t", b"=", b"[", b"]", b"[[", b"]]", b"{",
-          b"}", b"#", b".", b"-", b"+", b"_", b"1e5", b"0x", b"1.0", b"inf", b"true", b"false", b'"""', b"\xef\xbb\xbf", b"\xff",
-          b"\xc3\x28", b"\xed\xa0\x80", b"read,", b"end,", b"endcalc,", b"limit,", b"restrict,", b"revoke,",
-          b"[train]\n", b"\\u0000", b"1979-05-27T07:32:00Z"]
+PIECES = [
+    b'"',
+    b"'",
+    b"\r",
+    b"\n",
+    b"\r\n",
+    b"\0",
+    b",",
+    b",,",
+    b"%%",
+    b"%%\n",
+    b" ",
+    b"\t",
+    b"=",
+    b"[",
+    b"]",
+    b"[[",
+    b"]]",
+    b"{",
+    b"}",
+    b"#",
+    b".",
+    b"-",
+    b"+",
+    b"_",
+    b"1e5",
+    b"0x",
+    b"1.0",
+    b"inf",
+    b"true",
+    b"false",
+    b'"""',
+    b"\xef\xbb\xbf",
+    b"\xff",
+    b"\xc3\x28",
+    b"\xed\xa0\x80",
+    b"read,",
+    b"end,",
+    b"endcalc,",
+    b"limit,",
+    b"restrict,",
+    b"revoke,",
+    b"[train]\n",
+    b"\\u0000",
+    b"1979-05-27T07:32:00Z",
+]
 
 ROWS = {
     "run": rb"(\d+,[CTR],[NIOWX],[01],[01],[01],[01],\d+(,(-?\d+|-)){5}\n)*",
     "display": rb"(\d+(,\d+){4},(-,-|[MLES],\d+)\n)*",
     "flat": rb"(\d+,-?\d+,[01],[01]\n)*",
     "trial": rb"(rows \d+\ncovered \d+\nemergency \d+\nservice \d+\nebi -?\d+\n)?",
-    "certify": rb"(map(,\d+){3}\n(uppers(,\d+)+\n)?(seg,\d+(,\d+)+\n)+(claim,\d+,-?\d+(,\d+){7}\n(mark,-?\d+,\d+\n)+)*)?",
+    "certify": rb"(map(,\d+){3}\n(uppers(,\d+)+\n)?(seg,\d+(,\d+)+\n)+"
+    rb"(claim,\d+,-?\d+(,\d+){7}\n(mark,-?\d+,\d+\n)+)*)?",
     "check": rb"(\d+,(yes|no)\n)*",
     "drive": rb"(cycles \d+\nemergency \d+\nstops \d+\nfront \d+\nleast \d+\n)?",
     "upgrade": rb"(([a-z_]+ = (-?\d+|true|false|\"(end|limit)\")|\[[a-z]+\]|\[\[[a-z]+\.[a-z_]+\]\])?\n)*",
@@ -92,13 +138,13 @@ def cut(numbers, given):
 def dropped(numbers, given):
     """The bytes without a stretch of them."""
     start = numbers.draw(0, len(given))
-    return given[:start] + given[start + numbers.draw(1, 40):]
+    return given[:start] + given[start + numbers.draw(1, 40) :]
 
 
 def byte_changed(numbers, given):
     """The bytes with one of them another."""
     at = numbers.draw(0, max(len(given) - 1, 0))
-    return given[:at] + bytes([numbers.draw(0, 255)]) + given[at + 1:]
+    return given[:at] + bytes([numbers.draw(0, 255)]) + given[at + 1 :]
 
 
 def piece_put_in(numbers, given):
@@ -112,7 +158,7 @@ def line_doubled(numbers, given):
     lines = given.splitlines(keepends=True) or [b"\n"]
     at = numbers.draw(0, len(lines) - 1)
     count = [2, 2, 2, 10, 100, 1_000][numbers.draw(0, 5)]
-    return b"".join(lines[:at] + [lines[at]] * count + lines[at + 1:])
+    return b"".join(lines[:at] + [lines[at]] * count + lines[at + 1 :])
 
 
 def lines_swapped(numbers, given):
@@ -135,7 +181,7 @@ def number_changed(numbers, given):
         text = b"0" * numbers.draw(1, 30) + text
     if numbers.draw(0, 99) == 0:
         text = b"9" * numbers.draw(20, 5_000)
-    return given[: at.start()] + text + given[at.end():]
+    return given[: at.start()] + text + given[at.end() :]
 
 
 def line_lengthened(numbers, given):
@@ -144,14 +190,20 @@ def line_lengthened(numbers, given):
     return given[:at] + bytes([numbers.draw(0, 255)]) * numbers.draw(1_000, 60_000) + given[at:]
 
 
-CHANGES = [cut, dropped, byte_changed, byte_changed, piece_put_in, piece_put_in, line_doubled, lines_swapped, number_changed,
-           number_changed, number_changed, number_changed]
+# fmt: off
+CHANGES = [
+    cut, dropped, byte_changed, byte_changed, piece_put_in, piece_put_in, line_doubled, lines_swapped, number_changed,
+    number_changed, number_changed, number_changed,
+]
+# fmt: on
 
 
 def at_random(numbers):
     """Bytes at random, of any kind or of the signs that inputs are made of."""
     length = numbers.draw(0, 300)
-    signs = [bytes(range(256)), b"0123456789,-\n", b"read,0123456789\n\r\"%", b"[]={}.\"'#\n 019atruefls_-"][numbers.draw(0, 3)]
+    signs = [bytes(range(256)), b"0123456789,-\n", b'read,0123456789\n\r"%', b"[]={}.\"'#\n 019atruefls_-"][
+        numbers.draw(0, 3)
+    ]
     return bytes(signs[numbers.draw(0, len(signs) - 1)] for _ in range(length))
 
 
@@ -159,8 +211,21 @@ def words_changed(numbers, words):
     """The words, at times others."""
     if numbers.draw(0, 39):
         return words
-    kinds = [(), ("run", "run"), ("--help",), ("flat",), ("flat", "100"), ("trial", "7"), ("",), ("run\n",),
-             ("upgrade", "1"), ("display", "1"), ("drive", "7"), ("certify", "0"), ("check", "1")]
+    kinds = [
+        (),
+        ("run", "run"),
+        ("--help",),
+        ("flat",),
+        ("flat", "100"),
+        ("trial", "7"),
+        ("",),
+        ("run\n",),
+        ("upgrade", "1"),
+        ("display", "1"),
+        ("drive", "7"),
+        ("certify", "0"),
+        ("check", "1"),
+    ]
     if numbers.draw(0, 1):
         return kinds[numbers.draw(0, len(kinds) - 1)]
     ends = [str(end + numbers.draw(-1, 1)) for end in ENDS]
@@ -203,19 +268,28 @@ def made(number, chosen, found):
 
 
 def run(program, one, folder):
-    """Runs the program over files, so that no pipe can stand still: its status, what it wrote, and the seconds that it took."""
+    """Runs the program over files, so that no pipe can stand still: its status, what it wrote, and the seconds that it
+    took."""
     name = f"{threading.get_ident()}"
     paths = [folder / f"{name}-{what}" for what in ("given", "out", "err")]
     paths[0].write_bytes(one.given)
     write = os.O_WRONLY | os.O_CREAT | os.O_TRUNC
-    actions = [(os.POSIX_SPAWN_OPEN, 0, str(paths[0]), os.O_RDONLY, 0), (os.POSIX_SPAWN_OPEN, 1, str(paths[1]), write, 0o600),
-               (os.POSIX_SPAWN_OPEN, 2, str(paths[2]), write, 0o600)]
+    actions = [
+        (os.POSIX_SPAWN_OPEN, 0, str(paths[0]), os.O_RDONLY, 0),
+        (os.POSIX_SPAWN_OPEN, 1, str(paths[1]), write, 0o600),
+        (os.POSIX_SPAWN_OPEN, 2, str(paths[2]), write, 0o600),
+    ]
     child = os.posix_spawn(str(program), [str(program), *one.words], os.environ, file_actions=actions)
     timer = threading.Timer(60, os.kill, (child, 9))
     timer.start()
     _, status, used = os.wait4(child, 0)
     timer.cancel()
-    return os.waitstatus_to_exitcode(status), paths[1].read_bytes(), paths[2].read_bytes(), used.ru_utime + used.ru_stime
+    return (
+        os.waitstatus_to_exitcode(status),
+        paths[1].read_bytes(),
+        paths[2].read_bytes(),
+        used.ru_utime + used.ru_stime,
+    )
 
 
 def fault_of(one, code, out, err, seconds):
@@ -242,9 +316,13 @@ def options():
     add_program(parser)
     parser.add_argument("--count", type=int, default=100_000, help="how many inputs; else 100,000")
     parser.add_argument("--seed", type=int, default=1, help="what the inputs are made from; else 1")
-    parser.add_argument("--each-large", type=int, default=2_000, help="each such one has about 16 MiB; else each 2,000th")
+    parser.add_argument(
+        "--each-large", type=int, default=2_000, help="each such one has about 16 MiB; else each 2,000th"
+    )
     parser.add_argument("--jobs", type=int, default=4, help="how many runs at a time; else 4")
-    parser.add_argument("--keep", type=Path, default=Path("try-inputs-found"), help="where inputs that were wrong are kept")
+    parser.add_argument(
+        "--keep", type=Path, default=Path("try-inputs-found"), help="where inputs that were wrong are kept"
+    )
     return parser.parse_args()
 
 
@@ -283,8 +361,11 @@ def main():
     print("| Code | Runs |\n|---:|---:|")
     for code, count in sorted(codes.items()):
         print(f"| {code} | {count:,} |")
-    print(f"\n{sum(codes.values()):,} inputs of seed {chosen.seed}, {len(wrong)} wrong, in {time.monotonic() - began:,.0f} s; "
-          f"the slowest took {slowest[0]:.2f} s (input {slowest[1]})")
+    print(
+        f"\n{sum(codes.values()):,} inputs of seed {chosen.seed}, {len(wrong)} wrong, "
+        f"in {time.monotonic() - began:,.0f} s; "
+        f"the slowest took {slowest[0]:.2f} s (input {slowest[1]})"
+    )
     sys.exit(1 if wrong else 0)
 
 

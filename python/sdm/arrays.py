@@ -34,8 +34,8 @@ def rows_for(count: int) -> Array:
 def readings(**columns: Any) -> Array:
     """An array of readings from columns that have the names of sdm.Reading; accel_cm_s2 and under_mm_s may be left out.
 
-    TypeError where a column is missing, has another name or holds other than whole numbers; ValueError where they differ in
-    length; SdmError, OUT_OF_RANGE, where a number doesn't fit into its field."""
+    TypeError where a column is missing, has another name or holds other than whole numbers; ValueError where they
+    differ in length; SdmError, OUT_OF_RANGE, where a number doesn't fit into its field."""
     names = READING.names or ()
     given = {"accel_cm_s2": 0, "under_mm_s": 0} | columns
     if set(given) != set(names):

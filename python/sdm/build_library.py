@@ -1,5 +1,5 @@
-"""`python3 -m sdm.build_library [ARCHIVE [OUT]]`: makes the shared library that sdm.library takes of the proved static one, for which
-it is linked with the heap c/heap_malloc.c. It needs a C compiler, `cc`."""
+"""`python3 -m sdm.build_library [ARCHIVE [OUT]]`: makes the shared library that sdm.library takes of the proved static
+one, for which it is linked with the heap c/heap_malloc.c. It needs a C compiler, `cc`."""
 from __future__ import annotations
 
 import subprocess
@@ -15,7 +15,9 @@ ARCHIVE = TOP / "crates" / "sdm_c" / "out" / "libsdm_c.a"
 def build(archive: Path, out: Path) -> None:
     """Links an archive into a shared library. Raises OSError or CalledProcessError where that fails."""
     whole = ["-Wl,--whole-archive", str(archive), "-Wl,--no-whole-archive"]
-    subprocess.run(["cc", "-shared", "-fPIC", "-O2", "-o", str(out), str(TOP / "c" / "heap_malloc.c"), *whole], check=True)
+    subprocess.run(
+        ["cc", "-shared", "-fPIC", "-O2", "-o", str(out), str(TOP / "c" / "heap_malloc.c"), *whole], check=True
+    )
 
 
 def main(words: list[str]) -> int:

@@ -1,8 +1,7 @@
 """A supervisor over the shared library of c/sdm.h.
 
-It is called by ctypes, since that is part of every Python and needs no compiler where it runs. Many readings are judged by `map`
-over their addresses, without a step of Python for each.
-"""
+It is called by ctypes, since that is part of every Python and needs no compiler where it runs. Many readings are judged
+by `map` over their addresses, without a step of Python for each. """
 from __future__ import annotations
 
 import ctypes
@@ -26,8 +25,8 @@ if TYPE_CHECKING:
 
 LAYOUT = 1  # SDM_LAYOUT
 HERE = Path(__file__).resolve().parent
-# Where the library is looked for, after SDM_LIBRARY: where an installed package has it, where sdm.build_library puts it in the
-# repository, and what the system's loader finds.
+# Where the library is looked for, after SDM_LIBRARY: where an installed package has it, where sdm.build_library puts it
+# in the repository, and what the system's loader finds.
 PLACES = (HERE / "libsdm.so", HERE.parents[1] / "crates" / "sdm_c" / "out" / "libsdm.so")
 INSTALLED = "libsdm.so.1"
 
@@ -104,8 +103,8 @@ CALLS: dict[str, list[Any]] = {
 
 
 def load(path: str | os.PathLike[str] | None = None) -> ctypes.CDLL:
-    """The shared library: that of a path, or the first of SDM_LIBRARY, PLACES and the system's. Raises OSError where there is none,
-    and where it has another layout."""
+    """The shared library: that of a path, or the first of SDM_LIBRARY, PLACES and the system's. Raises OSError where
+    there is none, and where it has another layout."""
     named = path or os.environ.get("SDM_LIBRARY")
     return loaded(str(named) if named else next((str(place) for place in PLACES if place.is_file()), INSTALLED))
 
@@ -154,12 +153,12 @@ def row_of(struct: RowStruct) -> Row:
 class Supervisor:
     """A supervisor of a journey: open it over a data part, and hand it what comes in the order in which it comes.
 
-    Each call either does what it says, or raises SdmError with its status, or TypeError, and changes nothing. It may be used by
-    several threads, one call after the other; copies of it there are none.
-    """
+    Each call either does what it says, or raises SdmError with its status, or TypeError, and changes nothing. It may be
+    used by several threads, one call after the other; copies of it there are none."""
 
     def __init__(self, data: Data, library: ctypes.CDLL | None = None) -> None:
-        """Opens it over a data part (docs/FORMATS.md), a TOML text or a table. BAD_DATA and REFUSED carry the program's line."""
+        """Opens it over a data part (docs/FORMATS.md), a TOML text or a table. BAD_DATA and REFUSED carry the program's
+        line."""
         self._lock = threading.Lock()
         self._handle, line, text = Handle(), Line(), toml_of(data)
         self._library = library if library is not None else load()
@@ -188,10 +187,11 @@ class Supervisor:
         self._call("sdm_cycle", ctypes.addressof(given), row)
 
     def cycles(self, readings: Array) -> Array:
-        """Judges an array of readings, of the type sdm.arrays.READING, and answers as many rows, of the type sdm.arrays.ROW.
+        """Judges an array of readings, of the type sdm.arrays.READING, and answers as many rows, of the type
+        sdm.arrays.ROW.
 
-        TypeError where it has another type. Where a reading is refused, those before it were judged: SdmError has their rows as
-        `rows`, and so many are there."""
+        TypeError where it has another type. Where a reading is refused, those before it were judged: SdmError has their
+        rows as `rows`, and so many are there."""
         from .arrays import READING, rows_for, taken
 
         given = taken(readings, READING)
@@ -200,7 +200,9 @@ class Supervisor:
         first, into = given.ctypes.data, rows.ctypes.data
         left = iter(range(first, first + before * len(given), before))
         with self._lock:
-            statuses = map(self._library.sdm_cycle, repeat(self._at), left, range(into, into + after * len(given), after))
+            statuses = map(
+                self._library.sdm_cycle, repeat(self._at), left, range(into, into + after * len(given), after)
+            )
             status = next(filter(None, statuses), Status.DONE)
         if status != Status.DONE:
             done = len(given) - length_hint(left) - 1
@@ -251,7 +253,8 @@ class Supervisor:
         return None
 
     def take_all(self, records: Iterable[Record]) -> Array:
-        """Takes records one after the other: the rows of the readings. SdmError of one that is refused has the rows before it."""
+        """Takes records one after the other: the rows of the readings. SdmError of one that is refused has the rows
+        before it."""
         from .arrays import rows_for
 
         held = list(records)
@@ -282,7 +285,9 @@ class Supervisor:
     def __enter__(self) -> Supervisor:
         return self
 
-    def __exit__(self, kind: type[BaseException] | None, why: BaseException | None, trace: TracebackType | None) -> None:
+    def __exit__(
+        self, kind: type[BaseException] | None, why: BaseException | None, trace: TracebackType | None
+    ) -> None:
         self.close()
 
     def __del__(self) -> None:

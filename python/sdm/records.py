@@ -100,7 +100,8 @@ OF_MODEL: dict[type, type[Record]] = {
 
 
 def records_of(text: str | bytes) -> Iterator[Record]:
-    """The records of a text as the program takes it. ValueError, with the text of docs/FORMATS.md, at the first of another form."""
+    """The records of a text as the program takes it. ValueError, with the text of docs/FORMATS.md, at the first of
+    another form."""
     for number, fields in enumerate(model_records.records(text.encode() if isinstance(text, str) else text), 1):
         try:
             event = model_records.event_of(fields)
@@ -110,7 +111,8 @@ def records_of(text: str | bytes) -> Iterator[Record]:
 
 
 def toml_of(data: Data) -> bytes:
-    """The text of a data part (docs/FORMATS.md), of a table as tomllib reads one. Raises TypeError where it can't be written."""
+    """The text of a data part (docs/FORMATS.md), of a table as tomllib reads one. Raises TypeError where it can't be
+    written."""
     if isinstance(data, bytes):
         return data
     if isinstance(data, str):

@@ -52,8 +52,8 @@ TEXTS = {
 
 
 class SdmError(Exception):
-    """Why a call did nothing: its status, and what more is known of it; of data that are refused the program's line. Where it ended
-    a call for many records, `rows` are those of the readings before it."""
+    """Why a call did nothing: its status, and what more is known of it; of data that are refused the program's line.
+    Where it ended a call for many records, `rows` are those of the readings before it."""
 
     def __init__(self, status: Status, line: str = "", rows: Array | None = None) -> None:
         super().__init__(status, line)
@@ -122,7 +122,8 @@ class Row:
 
 @dataclass(frozen=True)
 class Display:
-    """What the driver can be shown of a reading: the greatest whole speeds at which a limit isn't passed, and the target that counts."""
+    """What the driver can be shown of a reading: the greatest whole speeds at which a limit isn't passed, and the
+    target that counts."""
 
     time_ds: int
     permitted_kmh: int

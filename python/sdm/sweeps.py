@@ -23,16 +23,16 @@ Measure = Callable[[Array], Mapping[str, Any]]
 
 
 def summary(rows: Array) -> dict[str, Any]:
-    """What a sweep tells of a journey where nothing else is asked for: in how many rows each command holds and how many are covered,
-    and the time of the first emergency brake command, None where there is none."""
+    """What a sweep tells of a journey where nothing else is asked for: in how many rows each command holds and how many
+    are covered, and the time of the first emergency brake command, None where there is none."""
     counts = {name: int(rows[name].sum()) for name in ("tco", "sb", "eb", "covered")}
     braked = rows["time_ds"][rows["eb"] == 1]
     return {"rows": len(rows), **counts, "first_eb_ds": int(braked[0]) if len(braked) else None}
 
 
 def varied(table: dict[str, Any], variation: Variation) -> dict[str, Any]:
-    """A data part with other values, each under its path: `train.band.0.emergency`. KeyError where a path leads nowhere; its last
-    key may be new."""
+    """A data part with other values, each under its path: `train.band.0.emergency`. KeyError where a path leads
+    nowhere; its last key may be new."""
     made = copy.deepcopy(table)
     for path, value in variation.items():
         *way, last = path.split(".")
@@ -82,9 +82,12 @@ def sweep(
 ) -> list[dict[str, Any]]:
     """Runs a journey for each variation of its data part: a dict for each, of which pandas.DataFrame makes a table.
 
-    `variations` are values by their paths, all combinations of which are run, or an iterable of single variations. `measure` makes
-    of the rows what is kept. It runs in so many processes, as many as there are processors where it isn't said."""
-    table = tomllib.loads(data if isinstance(data, str) else data.decode()) if isinstance(data, str | bytes) else dict(data)
+    `variations` are values by their paths, all combinations of which are run, or an iterable of single variations.
+    `measure` makes of the rows what is kept. It runs in so many processes, as many as there are processors where it
+    isn't said."""
+    table = (
+        tomllib.loads(data if isinstance(data, str) else data.decode()) if isinstance(data, str | bytes) else dict(data)
+    )
     held = records if isinstance(records, np.ndarray) else records_in(records)
     each, wanted = partial(outcome, table, held, measure), list(variations_of(variations))
     count = processes or len(os.sched_getaffinity(0))

@@ -26,10 +26,20 @@ PARTS = {
     "clauses": ["docs", "scripts"],
     "crates": ["docs", "scripts", "crates.txt"],
     "definitions": [*SPECS, "crates/*/proofs/*Cases.antt"],
-    "laboratory": ["examples", "scripts", "tools", "python", "vectors/make", "vectors/maker", "vectors/data", "vectors/flat"],
+    "laboratory": [
+        "examples",
+        "scripts",
+        "tools",
+        "python",
+        "vectors/make",
+        "vectors/maker",
+        "vectors/data",
+        "vectors/flat",
+    ],
     "links": [":!vectors/*/*/*"],
     "pictures": ["examples/approach", "examples/flat", "scripts", "tools", "python"],
     "plot": ["examples", "scripts", "tools", "python"],
+    "python": [".ci", "bench", "python", "scripts", "tools", "vectors/maker"],
 }
 
 TWO_GROUPS = 'GROUPS = {name: GROUPS[name] for name in ["data", "flat"]}\n\n\n'
@@ -43,42 +53,121 @@ PLANTED = [
     ("clauses", [Fault("docs/SAFETY.md", r"^\| 3\.13\.10 .*\n", "", STALE)]),
     ("clauses", [Fault(DEFINITIONS, r"\| as 3\.13\.10 \|", "| as 3.13.11 |", STALE)]),
     ("crates", [Fault("crates.txt", "^sdm_limits: ", "sdm_limits: itoa ", STALE)]),
-    ("crates", [Fault("docs/ARCHITECTURE.md", r"^(\| `sdm_limits` \|)[^|]*\|", r"\1  |", "says nothing of what sdm_limits does")]),
+    (
+        "crates",
+        [
+            Fault(
+                "docs/ARCHITECTURE.md",
+                r"^(\| `sdm_limits` \|)[^|]*\|",
+                r"\1  |",
+                "says nothing of what sdm_limits does",
+            )
+        ],
+    ),
     ("crates", [Fault("docs/ARCHITECTURE.md", r"^<!-- The table ends here. -->\n", "", "puts its part are gone")]),
     ("definitions", [Fault(DEFINITIONS, r"^(\| `\w+` .*\n)(\| `\w+` .*\n)", r"\2\1", STALE)]),
     ("definitions", [Fault(DEFINITIONS, r"^Own because this is the program's interface\.\n", "", STALE)]),
-    ("definitions", [
-        Fault(DEFINITIONS, r"^\| `is_released` .*\n", "", "no line for is_released"),
-        Fault(COMMANDS, r"^-- the last status was .*\n", "", "is_alarm has no comment"),
-        Fault(COMMANDS, r"^(-- the traction cut-off: .*) \(SUBSET[^)]*\)$", r"\1", "cut_off_after has no source"),
-        Fault("scripts/own-reasons.txt", r"^\S+/Commands\.antt: .*\n", "", "no reason for what is own in"),
-        Fault("scripts/shown-by.txt", " train_fault: sdm_base_tests::", " train_fault: sdm_limit_tests::", "is no test of a function"),
-    ]),
-    ("laboratory", [
-        Fault("vectors/flat/curve/rows", r"\d$", "x", "changed: flat/curve/rows"),
-        Fault("vectors/flat/curve/err", r"\A", "sdm: bad words\n", "changed: flat/curve/err"),
-        Fault("vectors/data/version/code", "5", "6", "changed: data/version/code"),
-        Fault("vectors/data/index", "^version\t.*\n", "", "changed: data/index"),
-    ]),
-    ("laboratory", [Fault("python/sdm/why.py", "The program's row is the same", "It is the same", "FAIL: test_the_program_s_row")]),
-    ("links", [
-        Fault("docs/SAFETY.md", r"\(PROMISES\.md\)", "(PROMISE.md)", "PROMISE.md leads nowhere"),
-        Fault("docs/ASSUMPTIONS.md", "^## The files to believe", "## The believed files", "has no such heading"),
-        Fault("c/onboard.c", r"if \(row->eb \|\|", "if (", "c/*.c has no such code: static struct orders"),
-        Fault("README.md", "^5,T,X,1,1,1", "5,T,X,1,1,0", "has not the rows of examples/approach"),
-        Fault("examples/approach/input", "^length = 10000$", "length = 10001", "has not the input of examples/approach"),
-    ]),
-    ("pictures", [
-        Fault("examples/approach/rows", "^10,T,X,0,0,1,1,160,887500", "10,T,X,0,0,1,1,160,887000", "approach: the picture is stale"),
-        Fault("examples/flat/README.md", r"picture\.svg", "other.svg", "flat: its page doesn't show"),
-    ]),
-    ("plot", [
-        Fault("examples/approach/rows", "^10,T,X,0,0,1,1,160,887500", "10,T,X,0,0,1,1,160,880000", "failed: its marks lie in their places"),
-        Fault("python/sdm/drawing/places.py", r"speed \(km/h\)", "speed (m/s)", "failed: the picture has the text 'speed (km/h)'"),
-        Fault("examples/display/rows", "^760,72,", "760,73,", "failed: the speeds that are shown lie in their places"),
-        Fault("examples/drive/input", "^emergency_time = 20$", "emergency_time = 21", "failed: its true train lies in its places"),
-        Fault("examples/certificate-checked/input", "^mark,378", "mark,379", "failed: marks and ways lie in their places"),
-    ]),
+    (
+        "definitions",
+        [
+            Fault(DEFINITIONS, r"^\| `is_released` .*\n", "", "no line for is_released"),
+            Fault(COMMANDS, r"^-- the last status was .*\n", "", "is_alarm has no comment"),
+            Fault(COMMANDS, r"^(-- the traction cut-off: .*) \(SUBSET[^)]*\)$", r"\1", "cut_off_after has no source"),
+            Fault("scripts/own-reasons.txt", r"^\S+/Commands\.antt: .*\n", "", "no reason for what is own in"),
+            Fault(
+                "scripts/shown-by.txt",
+                " train_fault: sdm_base_tests::",
+                " train_fault: sdm_limit_tests::",
+                "is no test of a function",
+            ),
+        ],
+    ),
+    (
+        "laboratory",
+        [
+            Fault("vectors/flat/curve/rows", r"\d$", "x", "changed: flat/curve/rows"),
+            Fault("vectors/flat/curve/err", r"\A", "sdm: bad words\n", "changed: flat/curve/err"),
+            Fault("vectors/data/version/code", "5", "6", "changed: data/version/code"),
+            Fault("vectors/data/index", "^version\t.*\n", "", "changed: data/index"),
+        ],
+    ),
+    (
+        "laboratory",
+        [Fault("python/sdm/why.py", "The program's row is the same", "It is the same", "FAIL: test_the_program_s_row")],
+    ),
+    (
+        "links",
+        [
+            Fault("docs/SAFETY.md", r"\(PROMISES\.md\)", "(PROMISE.md)", "PROMISE.md leads nowhere"),
+            Fault("docs/ASSUMPTIONS.md", "^## The files to believe", "## The believed files", "has no such heading"),
+            Fault("c/onboard.c", r"if \(row->eb \|\|", "if (", "c/*.c has no such code: static struct orders"),
+            Fault("README.md", "^5,T,X,1,1,1", "5,T,X,1,1,0", "has not the rows of examples/approach"),
+            Fault(
+                "examples/approach/input",
+                "^length = 10000$",
+                "length = 10001",
+                "has not the input of examples/approach",
+            ),
+        ],
+    ),
+    (
+        "pictures",
+        [
+            Fault(
+                "examples/approach/rows",
+                "^10,T,X,0,0,1,1,160,887500",
+                "10,T,X,0,0,1,1,160,887000",
+                "approach: the picture is stale",
+            ),
+            Fault("examples/flat/README.md", r"picture\.svg", "other.svg", "flat: its page doesn't show"),
+        ],
+    ),
+    (
+        "plot",
+        [
+            Fault(
+                "examples/approach/rows",
+                "^10,T,X,0,0,1,1,160,887500",
+                "10,T,X,0,0,1,1,160,880000",
+                "failed: its marks lie in their places",
+            ),
+            Fault(
+                "python/sdm/drawing/places.py",
+                r"speed \(km/h\)",
+                "speed (m/s)",
+                "failed: the picture has the text 'speed (km/h)'",
+            ),
+            Fault(
+                "examples/display/rows", "^760,72,", "760,73,", "failed: the speeds that are shown lie in their places"
+            ),
+            Fault(
+                "examples/drive/input",
+                "^emergency_time = 20$",
+                "emergency_time = 21",
+                "failed: its true train lies in its places",
+            ),
+            Fault(
+                "examples/certificate-checked/input",
+                "^mark,378",
+                "mark,379",
+                "failed: marks and ways lie in their places",
+            ),
+        ],
+    ),
+    (
+        "python",
+        [
+            Fault(
+                "python/sdm/why.py",
+                r"^def section\(title: str",
+                "def section(title: int",
+                'Argument 1 to "section" has',
+            ),
+            Fault("python/sdm/curves.py", "^import csv$", "import csv\nimport os", "F401 'os' imported but unused"),
+            Fault("scripts/unit-tests", r'^cd "\$1"', "cd $1", "SC2086"),
+            Fault("tools/why", r"^command\(", "command( ", "black lays it out otherwise"),
+        ],
+    ),
 ]
 
 
@@ -110,7 +199,16 @@ class Checks(unittest.TestCase):
                         self.assertIn(fault.told, told)
 
     def test_each_check_has_two_faults(self):
-        elsewhere = {"model", "upgrade", "certificates", "worked", "c", "library", "refused", "scripts"}  # test_program.py, all six; by hand; these tests
+        elsewhere = {
+            "model",
+            "upgrade",
+            "certificates",
+            "worked",
+            "c",
+            "library",
+            "refused",
+            "scripts",
+        }  # test_program.py, all six; by hand; these tests
         names = {path.name.removeprefix("check-") for path in (copies.TOP / "scripts").glob("check-*")} - elsewhere
         few = {name for name in names if sum(len(faults) for script, faults in PLANTED if script == name) < 2}
         self.assertEqual(few, set())

@@ -1,4 +1,5 @@
-"""The scripts over the built program take it only where its mark holds, and tell where it does otherwise than it should."""
+"""The scripts over the built program take it only where its mark holds, and tell where it does otherwise than it
+should."""
 
 import re
 import subprocess
@@ -23,7 +24,17 @@ def examples(*names: str) -> list[str]:
 class OverACopy(unittest.TestCase):
     """Each test over a copy of some parts of the repository, in which a program has few sources."""
 
-    parts = [".ci", "HANDLES", "bench", "crates.txt", "crates/sdm", "crates/sdm_rules/specs", "scripts", "tools", "python"]
+    parts = [
+        ".ci",
+        "HANDLES",
+        "bench",
+        "crates.txt",
+        "crates/sdm",
+        "crates/sdm_rules/specs",
+        "scripts",
+        "tools",
+        "python",
+    ]
 
     def setUp(self):
         copy = copies.a_copy(self.parts)
@@ -152,7 +163,9 @@ class Answers(OverACopy):
         self.assertIn("trial has no run", self.told("scripts/check-worked", "trial"))
 
     def test_certificates_that_are_answered_by_yes_pass(self):
-        self.assertRegex(self.told("scripts/check-certificates", status=0), "certificates: [1-9][0-9]* passed, 0 failed")
+        self.assertRegex(
+            self.told("scripts/check-certificates", status=0), "certificates: [1-9][0-9]* passed, 0 failed"
+        )
 
     def test_a_certificate_that_is_not_answered_by_yes_is_told(self):
         for filtered in ("sed 's/,yes$/,no/'", r"sed 's/^mark,\([0-9]*\),0$/mark,\11,0/'", "sed '/,yes$/d'"):
@@ -169,7 +182,8 @@ class Answers(OverACopy):
 
 CALLS = ["open", "cycle", "end", "end_calculated", "limit", "restrict", "revoke", "display"]
 CLOSED = "unsigned sdm_layout(void) { return 1; }\nvoid sdm_close(void *h) { (void)h; }\n" + "".join(
-    f"unsigned sdm_{call}(void *h) {{ (void)h; return 1; }}\n" for call in CALLS)
+    f"unsigned sdm_{call}(void *h) {{ (void)h; return 1; }}\n" for call in CALLS
+)
 
 
 class Replays(OverACopy):
@@ -192,7 +206,9 @@ class Replays(OverACopy):
     def compared(self, *filtered: str, status: int = 1) -> str:
         """What is told where replay does as the model, its rows through a filter or with another exit status."""
         copies.stand_in(self.top, *filtered, name="replay")
-        (self.top / "compare").write_text("#!/bin/bash\nexec scripts/python scripts/against_replay.py replay --examples\n")
+        (self.top / "compare").write_text(
+            "#!/bin/bash\nexec scripts/python scripts/against_replay.py replay --examples\n"
+        )
         (self.top / "compare").chmod(0o755)
         return self.told("compare", status=status)
 
@@ -240,7 +256,10 @@ class Gate(OverACopy):
         self.assertIn("< scripts/check-links", self.told(".ci/run"))
 
     def test_a_folder_without_tests_is_told(self):
-        for folder, script in (("python/tests/laboratory", "scripts/check-laboratory"), ("python/tests/model", "scripts/check-model")):
+        for folder, script in (
+            ("python/tests/laboratory", "scripts/check-laboratory"),
+            ("python/tests/model", "scripts/check-model"),
+        ):
             for path in (self.top / folder).glob("test_*.py"):
                 path.unlink()
             copies.stand_in(self.top)

@@ -108,7 +108,7 @@ def vectors():
     for name, kind, bands, track, authority, speeds in kinds():
         yield f"{name}-limits", f"I, P, W, SBI and EBI of {kind}, each a millimetre before, at and past", \
             limits(kind, bands, track, authority, speeds) if kind != "Eoa" else eoa_limits(bands, track, authority, speeds)
-        yield f"{name}-limits-with-times", f"the same with build-up and cut-off times, acceleration and under-reading", \
+        yield f"{name}-limits-with-times", "the same with build-up and cut-off times, acceleration and under-reading", \
             with_times(kind, bands, track, authority, speeds)
         weak = [bands[0] | {"normal": 40}]
         yield f"{name}-guidance", f"a guidance curve of {kind} where it has one, P and I by it, W and SBI not", \

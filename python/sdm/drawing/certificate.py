@@ -1,15 +1,19 @@
-"""A run of `check` as a picture shows it: the claims with their marks, as speeds over places, and the answers to them."""
+"""A run of `check` as a picture shows it: the claims with their marks, as speeds over places, and the answers to
+them."""
 
 import re
+from collections.abc import Iterable
 from math import isqrt
 
 from sdm.laboratory.program import Fault
-from sdm.model.certificates import until_it_works
+from sdm.model.certificates import Claim, Mark, until_it_works
 from sdm.model.checker import Lines, hold, is_accepted, read_claim, read_map
+from sdm.model.decelerations import Brake
 from sdm.model.outcome import Outcome
 from sdm.model.units import GRAINS_PER_MM, NOTCHES_PER_KM_H
 
-from .journey import End, Held, Journey, Reading, counted
+from .journey import counted
+from .values import End, Held, Journey, Line, Reading, SeriesData, Span
 from .sheet import BLACK, WHITE, Shade
 
 GRAINS_PER_M = 1000 * GRAINS_PER_MM
@@ -25,7 +29,7 @@ SERIES = {
 }
 
 
-def check_journey(source, text, times):
+def check_journey(source: bytes, text: str, times: Span) -> Journey:
     """The claims of a text of certificates as readings, with the answers that were given to them."""
     brake, claims, fault = claims_of(source)
     answers = answers_of(text)
@@ -41,17 +45,18 @@ def check_journey(source, text, times):
     return journey
 
 
-def answers_of(text):
+def answers_of(text: str) -> list[re.Match[str]]:
     """The lines of `check`, each as its time and its answer."""
     answers = []
     for number, line in enumerate(text.splitlines(), 1):
-        answers.append(FORM.fullmatch(line))
-        if answers[-1] is None:
+        answer = FORM.fullmatch(line)
+        if answer is None:
             raise Fault(f"Line {number} of the rows is no line of sdm check: {line!r}.")
+        answers.append(answer)
     return answers
 
 
-def claims_of(source):
+def claims_of(source: bytes) -> tuple[Brake, list[tuple[Claim, list[Mark]]], str]:
     """The map, the claims with their marks, and the fault of a line that ends them."""
     lines, claims = Lines(source), []
     try:
@@ -65,19 +70,28 @@ def claims_of(source):
     return brake, claims, ""
 
 
-def reading_of(brake, claim, marks, answer):
+def reading_of(brake: Brake, claim: Claim, marks: list[Mark], answer: re.Match[str]) -> Reading:
     """A claim as a reading, with the answer to it."""
     if int(answer[1]) != claim.time:
         raise Fault(f"The rows are not those of the input: an answer has the time {answer[1]}, its claim {claim.time}.")
     due = "yes" if is_accepted(brake) and hold(brake, claim, marks) else "no"
     front = claim.front / GRAINS_PER_M
     row = {"time": answer[1], "holds": answer[2]}
-    return Reading(claim.time / 10, front, front, front, claim.speed / NOTCHES_PER_KM_H, row, {}, differs="" if due == answer[2] else "1")
+    return Reading(
+        claim.time / 10,
+        front,
+        front,
+        front,
+        claim.speed / NOTCHES_PER_KM_H,
+        row,
+        {},
+        differs="" if due == answer[2] else "1",
+    )
 
 
-def ends_of(claims):
+def ends_of(claims: Iterable[Claim]) -> list[Held[End]]:
     """The SvL of each claim, once for as long as it stands unchanged."""
-    ends = []
+    ends: list[Held[End]] = []
     for n, claim in enumerate(claims):
         end = End("SvL", claim.svl / GRAINS_PER_M)
         if ends and ends[-1].what == end:
@@ -87,29 +101,32 @@ def ends_of(claims):
     return ends
 
 
-def point_of(brake, place, energy):
+def point_of(brake: Brake, place: int, energy: int) -> Span:
     """A place in m, and the speed of an energy in km/h."""
     return place / GRAINS_PER_M, isqrt(energy // (5 * 10**12 * brake.q)) / NOTCHES_PER_KM_H
 
 
-def claim_line(brake, claim, marks):
+def claim_line(brake: Brake, claim: Claim, marks: list[Mark]) -> Line:
     """From where the train is to where the brake works at the latest."""
     V_bec, D_bec = until_it_works(claim)
-    return [point_of(brake, claim.front, brake.square(claim.speed)), point_of(brake, claim.front + D_bec, brake.square(V_bec))]
+    return [
+        point_of(brake, claim.front, brake.square(claim.speed)),
+        point_of(brake, claim.front + D_bec, brake.square(V_bec)),
+    ]
 
 
-def way_line(brake, claim, marks):
+def way_line(brake: Brake, claim: Claim, marks: list[Mark]) -> Line:
     """From mark to mark, along which the energy falls evenly."""
     line = [point_of(brake, *marks[0])]
     for one, other in zip(marks, marks[1:]):
         way, lost = other.place - one.place, one.energy - other.energy
-        for left in range(POINTS - 1, -1, -1):                 # more of them to the end, where the speed falls soonest
+        for left in range(POINTS - 1, -1, -1):  # more of them to the end, where the speed falls soonest
             part = POINTS**2 - left**2
             line.append(point_of(brake, one.place + way * part // POINTS**2, one.energy - lost * part // POINTS**2))
     return line
 
 
-def mark_points(brake, claim, marks):
+def mark_points(brake: Brake, claim: Claim, marks: list[Mark]) -> Line:
     """The marks."""
     return [point_of(brake, *mark) for mark in marks]
 
@@ -117,7 +134,7 @@ def mark_points(brake, claim, marks):
 POINTS_OF = {"claims": claim_line, "ways": way_line, "marks": mark_points}
 
 
-def series_data(journey):
+def series_data(journey: Journey) -> SeriesData:
     """The data of the certificates, a break between two."""
     data = {}
     for name, lines in journey.certificates.items():
@@ -125,12 +142,15 @@ def series_data(journey):
     return data
 
 
-def series():
+def series() -> list[tuple[str, str, str]]:
     """The series of certificates: name, columns and style."""
     return [(name, "1:2", style) for name, (style, _) in SERIES.items()]
 
 
-def keys():
+def keys() -> list[tuple[str, str, str]]:
     """What the key says of them: name, style and title."""
-    shown = {"claims": SERIES["claims"][0], "ways": SERIES["ways"][0].replace("lines", "linespoints", 1) + " pt 5 ps 0.8"}
+    shown = {
+        "claims": SERIES["claims"][0],
+        "ways": SERIES["ways"][0].replace("lines", "linespoints", 1) + " pt 5 ps 0.8",
+    }
     return [(name, style, SERIES[name][1]) for name, style in shown.items()]

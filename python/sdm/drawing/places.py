@@ -1,19 +1,21 @@
 """The upper panel: speed over place, as the figures of SUBSET-026-3 3.13 show it, and the strip of the track below it.
 
-Each series has a dash and a mark of its own beside its colour. A mark of the train has the colour of its status, so that the
-upper panel and the strips are read together.
-"""
+Each series has a dash and a mark of its own beside its colour. A mark of the train has the colour of its status, so
+that the upper panel and the strips are read together. """
 
 import math
+from collections.abc import Callable, Iterable
 from dataclasses import dataclass, replace
+from typing import Any, Self
 
-from sdm.model.speeds import dV_ebi, dV_sbi, dV_warning
+from sdm.model.speeds import Zone, dV_ebi, dV_sbi, dV_warning
 from sdm.model.units import NOTCHES_PER_KM_H
 
 from . import certificate, display
 from .journey import CM_PER_M, highest, steps
-from .sheet import (ABOVE, BLACK, COMMAND, GREY, HEIGHT, LEFT, LETTER, LEVEL, PALE, RIGHT, SMALL, STATUSES, STRIP, WHITE, WIDTH,
-                    Shade, block, frame, label, rgb, seconds, spot, up)
+from .sheet import ABOVE, BLACK, COMMAND, GREY, HEIGHT, LEFT, LETTER, LEVEL, PALE, RIGHT, SMALL, STATUSES, STRIP, WHITE
+from .sheet import WIDTH, Shade, block, frame, label, rgb, seconds, spot, up
+from .values import Held, Journey, Line, Reading, SeriesData, Span
 
 # Limits and targets farther from the train than this many m, or than twice the distance that it runs, are left out.
 LEAST_REACH = 5000
@@ -45,7 +47,7 @@ COMMANDS = ("tco", "sb", "eb")
 MOST_CHANGES = 24  # of commands, that are named
 
 
-def place_panel(journey, low_edge, places=None, speeds=None):
+def place_panel(journey: Journey, low_edge: int, places: Span | None = None, speeds: Span | None = None) -> list[str]:
     """The panel's part of the script, above a height; for places and speeds of its own where they are given."""
     low, high = places or reach_of(journey)
     track = track_strip(journey, low, high, low_edge)
@@ -55,10 +57,16 @@ def place_panel(journey, low_edge, places=None, speeds=None):
     bottom, top = speeds or (0, highest(journey.readings))
     data = within_speeds(series_data(journey, low, high), top)
     lines = [line for name in data for line in block(name, data[name])]
-    lines += frame(low_edge, high_edge) + end_lines(journey) + label_lines(labels, high_edge) + change_lines(journey, (high - low) / (RIGHT - LEFT))
+    lines += (
+        frame(low_edge, high_edge)
+        + end_lines(journey)
+        + label_lines(labels, high_edge)
+        + change_lines(journey, (high - low) / (RIGHT - LEFT))
+    )
     lines += [
         f"set xrange [{low:.3f}:{high:.3f}]; set yrange [{bottom:.3f}:{top:.3f}]",
-        "set ylabel 'speed (km/h)' offset 0.5,0" + ("; set format x ''" if track else "; set xlabel 'place (m)' offset 0,0.4"),
+        "set ylabel 'speed (km/h)' offset 0.5,0"
+        + ("; set format x ''" if track else "; set xlabel 'place (m)' offset 0,0.4"),
         f"set grid lc rgb '{PALE}' lt 1 lw 0.6",
         f"set key at {spot(RIGHT + 10, high_edge - 2)} left top Left reverse samplen 3.2 spacing 1.2 {SMALL}",
     ]
@@ -68,27 +76,28 @@ def place_panel(journey, low_edge, places=None, speeds=None):
 
 # ---- the strip of the track
 
-def track_rows(journey, low, high):
+
+def track_rows(journey: Journey, low: float, high: float) -> list[str]:
     """The rows of the strip: what the track tells within these places."""
     is_within = lambda area: area[0] < high and area[1] > low
     within = [name for name, areas in areas_of(journey).items() if any(map(is_within, areas))]
     return ["gradient"] * any(grad for _, _, grad in journey.gradients) + within
 
 
-def areas_of(journey):
+def areas_of(journey: Journey) -> dict[str, list[Span]]:
     """The areas of each row, as pairs of m."""
     return dict(zip(AREAS, (journey.adhesion, journey.no_special)))
 
 
-def track_strip(journey, low, high, edge):
+def track_strip(journey: Journey, low: float, high: float, edge: int) -> list[str]:
     """The strip's part of the script, over the same places: gradients in per mille, areas of reduced adhesion, those
     without the special brake."""
     rows = track_rows(journey, low, high)
     if not rows:
         return []
     boxes, letters, scale = [], [], (RIGHT - LEFT) / (high - low)
-    colour = lambda grad: GRADES[(grad > 0) - (grad < 0)]
-    parts = [("gradient", start, end, f"{grad:g}", colour(grad)) for start, end, grad in journey.gradients]
+    grades = [(start, end, grad, GRADES[(grad > 0) - (grad < 0)]) for start, end, grad in journey.gradients]
+    parts = [("gradient", start, end, f"{grad:g}", colour) for start, end, grad, colour in grades]
     parts += [(name, start, end, *AREAS[name]) for name, areas in areas_of(journey).items() for start, end in areas]
     for row, start, end, text, shade in parts:
         start, end = max(start, low), min(end, high)
@@ -97,10 +106,17 @@ def track_strip(journey, low, high, edge):
             boxes.append(f"{start:.3f} {y} {start:.3f} {end:.3f} {y - 0.42:.2f} {y + 0.42:.2f} {rgb(shade)}")
             if (end - start) * scale > LETTER * len(text) + 4:
                 letters.append(f'{(start + end) / 2:.3f} {y} "{text}"')
-    names = ", ".join(f'"{"gradient (‰)" if row == "gradient" else row}" {len(rows) - k - 0.5}' for k, row in enumerate(rows))
+    names = ", ".join(
+        f'"{"gradient (‰)" if row == "gradient" else row}" {len(rows) - k - 0.5}' for k, row in enumerate(rows)
+    )
     lines = block("track", boxes) + (block("tracktext", letters) if letters else [])
-    lines += ["unset arrow; unset label; unset key; unset ylabel; unset grid; set format x; set xlabel 'place (m)' offset 0,0.4"]
-    lines += frame(edge, edge + STRIP * len(rows)) + [f"set yrange [0:{len(rows)}]; set ytics scale 0 {SMALL} ({names})"]
+    lines += [
+        "unset arrow; unset label; unset key; unset ylabel; unset grid; set format x; "
+        "set xlabel 'place (m)' offset 0,0.4"
+    ]
+    lines += frame(edge, edge + STRIP * len(rows)) + [
+        f"set yrange [0:{len(rows)}]; set ytics scale 0 {SMALL} ({names})"
+    ]
     series = ["$track using 1:2:3:4:5:6:7 with boxxyerror fs solid noborder lc rgb variable notitle"]
     series += [f"$tracktext using 1:2:3 with labels font ',10' tc rgb '{BLACK}' notitle"] if letters else []
     return lines + ["plot " + ", ".join(series)]
@@ -108,7 +124,8 @@ def track_strip(journey, low, high, edge):
 
 # ---- the places that are shown
 
-def reach_of(journey):
+
+def reach_of(journey: Journey) -> Span:
     """The places from and to which the picture reaches."""
     readings = journey.readings
     low, high = min(r.least for r in readings), max(r.most for r in readings)
@@ -123,6 +140,7 @@ def reach_of(journey):
 
 # ---- the labels above the plot
 
+
 @dataclass
 class Label:
     """A name above the plot, with a hair line down to its place in m. `line`, `start` and `end` are pixels."""
@@ -136,21 +154,21 @@ class Label:
     level: int = 0
 
     @property
-    def words(self):
+    def words(self) -> str:
         """The whole text."""
         return self.name + self.when
 
     @property
-    def width(self):
+    def width(self) -> float:
         """How wide the text is at most."""
         return LETTER * len(self.words)
 
     @property
-    def end(self):
+    def end(self) -> float:
         """Where the text ends."""
         return self.start + self.width
 
-    def free_of(self, other):
+    def free_of(self, other: Self) -> bool:
         """Whether neither of the two touches the other's text, with its own text or its hair line."""
         if self.level == other.level:
             return self.end + 8 <= other.start or other.end + 8 <= self.start
@@ -158,7 +176,7 @@ class Label:
         return not lower.start - 3 < upper.line < lower.end + 3
 
 
-def period(held, readings):
+def period(held: Held[Any], readings: list[Reading]) -> str:
     """When something counts, where that is not the whole journey."""
     since = seconds(readings[held.since].time) if held.since else ""
     if held.until == len(readings):
@@ -166,11 +184,12 @@ def period(held, readings):
     return f" {since} to {seconds(readings[held.until].time)} s".replace("  ", " ")
 
 
-def wanted_labels(journey, low, high):
+def wanted_labels(journey: Journey, low: float, high: float) -> list[Label]:
     """The labels of what ends an authority and of restrictions that come or go, the last ones in force first."""
-    scale, labels = (RIGHT - LEFT) / (high - low), []
+    scale = (RIGHT - LEFT) / (high - low)
+    labels: list[Label] = []
 
-    def label_of(name, held, place):
+    def label_of(name: str, held: Held[Any], place: float) -> Label:
         return Label(name, period(held, journey.readings), held.until, place, LEFT + (place - low) * scale)
 
     for held in sorted(journey.ends, key=lambda end: (-end.until, end.what.place)):
@@ -179,24 +198,26 @@ def wanted_labels(journey, low, high):
             last.name += ", " + wanted.name
         else:
             labels.append(wanted)
-    for held in journey.restrictions:
-        fields = fields_of(held.what, journey.profile, low, high)
-        if fields and period(held, journey.readings):
-            labels.append(label_of(f"{held.what.speed} km/h", held, (fields[0][0] + fields[-1][1]) / 2))
+    for zone in journey.restrictions:
+        fields = fields_of(zone.what, journey.profile, low, high)
+        if fields and period(zone, journey.readings):
+            labels.append(label_of(f"{zone.what.speed} km/h", zone, (fields[0][0] + fields[-1][1]) / 2))
     return sorted((at for at in labels if low <= at.place <= high), key=lambda at: (-at.until, -at.place))
 
 
-def placed(labels):
-    """The labels that find room: on few levels, or where this gives room to more of them, as stairs that rise to the left."""
+def placed(labels: list[Label]) -> list[Label]:
+    """The labels that find room: on few levels, or where this gives room to more of them, as stairs that rise to the
+    left."""
     low_first = placed_by(labels, lambda level, side: (level, side))
     stairs = placed_by(sorted(labels, key=lambda at: -at.line), lambda level, side: (side, level))
     return max(low_first, stairs, key=len)
 
 
-def placed_by(labels, order):
-    """The labels, each at the first place in an order where it touches none before it; side 0 is right of the hair line."""
+def placed_by(labels: list[Label], order: Callable[[int, int], tuple[int, int]]) -> list[Label]:
+    """The labels, each at the first place in an order where it touches none before it; side 0 is right of the hair
+    line."""
     spots = sorted(((level, side) for level in range(LEVELS) for side in (0, 1)), key=lambda spot: order(*spot))
-    done = []
+    done: list[Label] = []
     for wanted in labels:
         starts = (wanted.line + 4, wanted.line - wanted.width - 4)
         for level, side in spots:
@@ -207,7 +228,7 @@ def placed_by(labels, order):
     return done
 
 
-def label_lines(labels, edge):
+def label_lines(labels: list[Label], edge: int) -> list[str]:
     """The labels, each with its hair line."""
     lines = []
     for at in labels:
@@ -219,7 +240,7 @@ def label_lines(labels, edge):
     return lines
 
 
-def end_lines(journey):
+def end_lines(journey: Journey) -> list[str]:
     """The ends of authorities, as upright lines: dashed where another authority has taken their place."""
     lines = []
     for held in journey.ends:
@@ -230,9 +251,11 @@ def end_lines(journey):
     return lines
 
 
-def changes_of(journey, near):
+def changes_of(journey: Journey, near: float) -> list[tuple[float, list[str]]]:
     """Where commands come and go: places in m and what changes there, those as near as a label's height together."""
-    last, changes, obeyed = {}, [], ("eb",) if journey.true else COMMANDS
+    last: dict[str, bool] = {}
+    changes: list[tuple[float, list[str]]] = []
+    obeyed = ("eb",) if journey.true else COMMANDS
     for reading in journey.readings:
         now = {name: reading.row[name] == "1" for name in obeyed if name in reading.row}
         words = [f"{'+' if now[name] else '-'}{name}" for name in now if now[name] != last.get(name, False)]
@@ -244,20 +267,24 @@ def changes_of(journey, near):
     return changes
 
 
-def change_lines(journey, scale):
+def change_lines(journey: Journey, scale: float) -> list[str]:
     """A thin upright line where commands come and go, with their names; `scale` is the way of a pixel."""
     lines, changes = [], changes_of(journey, 13 * scale)
     for front, words in changes:
         x = f"{front:.3f}"
         lines.append(f"set arrow from {x},graph 0 to {x},graph 1 nohead lw 0.7 dt (1,3) lc rgb '#444444' back")
         if len(changes) <= MOST_CHANGES:
-            lines.append(f'set label "{" ".join(words)}" at {x},graph 0.02 left rotate by 90 offset -0.5,0 font \',9\' tc rgb \'#444444\' front')
+            lines.append(
+                f'set label "{" ".join(words)}" at {x},graph 0.02 left rotate by 90 offset -0.5,0 '
+                "font ',9' tc rgb '#444444' front"
+            )
     return lines
 
 
 # ---- the data of the series
 
-def series_data(journey, low, high):
+
+def series_data(journey: Journey, low: float, high: float) -> SeriesData:
     """The data of each series that the panel has, by name."""
     readings, differ = journey.readings, any(r.front < r.most for r in journey.readings)
     data = {
@@ -282,24 +309,26 @@ def series_data(journey, low, high):
     return {name: lines for name, lines in data.items() if lines}
 
 
-def within_speeds(data, top):
+def within_speeds(data: SeriesData, top: float) -> SeriesData:
     """The series that have a point below the highest speed of the picture."""
-    lowest = lambda name, lines: min(float(line.split()[4 if name == "restrictions" else 1]) for line in lines if line)
-    return {name: lines for name, lines in data.items() if lowest(name, lines) < top}
+    at = {name: 4 if name == "restrictions" else 1 for name in data}
+    lowest = {name: min(float(line.split()[at[name]]) for line in lines if line) for name, lines in data.items()}
+    return {name: lines for name, lines in data.items() if lowest[name] < top}
 
 
-def curve_lines(lines, low, high):
+def curve_lines(lines: list[Line], low: float, high: float) -> list[str]:
     """The data of whole curves, a break between two, without what lies far from the picture."""
-    width, found = high - low, []
+    width = high - low
+    found: list[str] = []
     for line in lines:
         points = [f"{x:.3f} {y:.3f}" for x, y in line if low - width <= x <= high + width]
         found += ([""] if found and points else []) + points
     return found
 
 
-def colour_of(reading):
-    """The colour of a reading's mark: that of its status, of `display` where its speed lies, of `flat` the emergency brake, of
-    `check` the answer."""
+def colour_of(reading: Reading) -> str:
+    """The colour of a reading's mark: that of its status, of `display` where its speed lies, of `flat` the emergency
+    brake, of `check` the answer."""
     if reading.shown:
         return display.ZONES[display.zone_of(reading)].colour
     row = reading.row
@@ -308,14 +337,15 @@ def colour_of(reading):
     return STATUSES[row["status"]].colour if "status" in row else COMMAND.get(row["eb"], Shade(WHITE)).colour
 
 
-def profile_lines(journey, low, high):
+def profile_lines(journey: Journey, low: float, high: float) -> list[str]:
     """The static speed profile, to be drawn in steps."""
     pairs = [(max(cm / CM_PER_M, low), kmh) for cm, kmh in steps(journey.profile) if cm / CM_PER_M < high]
     return [f"{x:.3f} {kmh}" for x, kmh in pairs + [(high, kmh) for _, kmh in pairs[-1:]]]
 
 
-def fields_of(zone, profile, low, high):
-    """The rectangles between the speed of a restriction and the static speed profile above it: from, to in m, km/h, km/h."""
+def fields_of(zone: Zone, profile: list[Zone], low: float, high: float) -> list[tuple[float, float, int, int]]:
+    """The rectangles between the speed of a restriction and the static speed profile above it: from, to in m, km/h,
+    km/h."""
     fields, pairs = [], steps(profile)
     for (cm, kmh), (next_cm, _) in zip(pairs, pairs[1:] + [(math.inf, 0)]):
         start = max(max(cm, zone.start) / CM_PER_M, low)
@@ -325,13 +355,13 @@ def fields_of(zone, profile, low, high):
     return fields
 
 
-def restriction_lines(journey, low, high):
+def restriction_lines(journey: Journey, low: float, high: float) -> list[str]:
     """The fields of all restrictions."""
     fields = [field for held in journey.restrictions for field in fields_of(held.what, journey.profile, low, high)]
     return [f"{start:.3f} {kmh} {start:.3f} {end:.3f} {speed} {kmh}" for start, end, speed, kmh in fields]
 
 
-def broken_lines(points):
+def broken_lines(points: Iterable[tuple[float | None, float | None]]) -> list[str]:
     """The data of points, broken where one has no place or no height."""
     lines = []
     for x, y in points:
@@ -344,30 +374,34 @@ def broken_lines(points):
 
 # ---- the series and the key
 
-def mark_size(count):
+
+def mark_size(count: int) -> float:
     """The size of marks: smaller where readings are many."""
     return 0.7 if count <= 60 else 0.4
 
 
-def limit_style(limit):
+def limit_style(limit: str) -> str:
     """The line of a limit's curve."""
     _, colour, dash, _ = LIMITS[limit]
     return f"lines lw 1.5 lc rgb '{colour}' dt {dash}"
 
 
-def mark_style(limit, count):
+def mark_style(limit: str, count: int) -> str:
     """The marks of a limit's places in the rows."""
     _, colour, _, mark = LIMITS[limit]
     return f"points lc rgb '{colour}' pt {mark} ps {mark_size(count)}"
 
 
-def drawn_series(data, count):
+def drawn_series(data: SeriesData, count: int) -> list[str]:
     """The series from back to front."""
     marks = mark_size(count)
     series = [
         ("restrictions", "1:2:3:4:5:6", f"boxxyerror lc rgb '{GREY}' fs solid 0.25 border lc rgb '{GREY}'"),
         ("ceiling", "1:2", "steps lw 4 lc rgb '#BBBBBB'"),
-        *(("over_" + limit, "1:2", f"steps lw 0.9 lc rgb '{LIMITS[limit][1]}' dt {LIMITS[limit][2]}") for limit in MARGINS),
+        *(
+            ("over_" + limit, "1:2", f"steps lw 0.9 lc rgb '{LIMITS[limit][1]}' dt {LIMITS[limit][2]}")
+            for limit in MARGINS
+        ),
         ("release", "1:2", "steps lw 4 lc rgb '#56B4E9'"),
         ("profile", "1:2", f"steps lw 1 lc rgb '{BLACK}'"),
         *display.series(),
@@ -385,13 +419,13 @@ def drawn_series(data, count):
     return [f"${name} using {using} with {style} notitle" for name, using, style in series if name in data]
 
 
-def train_of(journey):
+def train_of(journey: Journey) -> str:
     """What the key calls the marks of the train."""
     row = journey.readings[0].row
     return "claim" if "holds" in row else "train, by status" if "status" in row else "train"
 
 
-def key_of(data, train):
+def key_of(data: SeriesData, train: str) -> list[str]:
     """The lines of the key from top to bottom."""
     keys = [
         ("train", f"{'points' if train == 'claim' else 'linespoints lw 1.4'} pt 7 ps 0.8 lc rgb '{BLACK}'", train),
@@ -405,7 +439,14 @@ def key_of(data, train):
         ("profile", f"lines lw 1 lc rgb '{BLACK}'", "static profile"),
         ("restrictions", f"boxes lc rgb '{GREY}' fs solid 0.25 border lc rgb '{GREY}'", "restriction"),
         *(("curve_" + name, f"lines lw 0.8 lc rgb '{CURVES[name][1]}' dt (2,2)", CURVES[name][0]) for name in CURVES),
-        *((limit, limit_style(limit).replace("lines", "linespoints", 1) + f" pt {LIMITS[limit][3]} ps 0.7", LIMITS[limit][0]) for limit in LIMITS),
+        *(
+            (
+                limit,
+                limit_style(limit).replace("lines", "linespoints", 1) + f" pt {LIMITS[limit][3]} ps 0.7",
+                LIMITS[limit][0],
+            )
+            for limit in LIMITS
+        ),
     ]
     shown = {name.removeprefix("curve_") if name.removeprefix("curve_") in LIMITS else name for name in data}
     return [f"keyentry with {style} title '{title}'" for name, style, title in keys if name in shown]

@@ -2,8 +2,8 @@
 
 from dataclasses import dataclass
 
-# In pixels, from the lower left corner: the sides of both panels, the foot of the lower one, the height of a strip, the room
-# between the panels and above them.
+# In pixels, from the lower left corner: the sides of both panels, the foot of the lower one, the height of a strip, the
+# room between the panels and above them.
 WIDTH, HEIGHT = 900, 660
 LEFT, RIGHT = 116, 720
 FOOT, STRIP, BETWEEN, ABOVE = 62, 18, 58, 14
@@ -24,8 +24,8 @@ class Shade:
     name: str = ""
 
 
-# The bright colours are of Okabe and Ito's palette, which colour-blind readers tell apart; states and statuses go from light to
-# dark, so that they are told apart in grey too.
+# The bright colours are of Okabe and Ito's palette, which colour-blind readers tell apart; states and statuses go from
+# light to dark, so that they are told apart in grey too.
 STATES = {
     "C": Shade("#DCE9F5", name="ceiling speed"),
     "T": Shade("#56B4E9", name="target speed"),
@@ -42,42 +42,42 @@ TARGETS = {"EOA": "#E5D3EA", "SvL": "#F2D9C4", "LOA": "#D5E6C8", "fall": "#F6EFC
 COMMAND, COVERED = {"1": Shade("#444444")}, {"1": Shade("#009E73")}
 
 
-def rgb(colour):
+def rgb(colour: str) -> str:
     """A colour as the number that gnuplot reads from data."""
     return "0x" + colour[1:]
 
 
-def seconds(time):
+def seconds(time: float) -> str:
     """A time as a text."""
     return f"{time:.1f}".removesuffix(".0")
 
 
-def across(x):
+def across(x: float) -> str:
     """A pixel as a part of the picture's width."""
     return f"{x / WIDTH:.5f}"
 
 
-def up(y):
+def up(y: float) -> str:
     """A pixel as a part of the picture's height."""
     return f"{y / HEIGHT:.5f}"
 
 
-def spot(x, y):
+def spot(x: float, y: float) -> str:
     """A pixel as gnuplot's place on the sheet."""
     return f"screen {across(x)},{up(y)}"
 
 
-def block(name, lines):
+def block(name: str, lines: list[str]) -> list[str]:
     """Data of a script, under a name; an empty line breaks a series."""
     return [f"${name} << END", *lines, "END"]
 
 
-def label(words, x, y, rest):
+def label(words: str, x: float, y: float, rest: str) -> str:
     """A text that stands by itself, at a pixel."""
     return f'set label "{words}" at {spot(x, y)} {rest}'
 
 
-def frame(low, high):
+def frame(low: int, high: int) -> list[str]:
     """The room of a panel between two heights."""
     return [
         f"set lmargin at screen {across(LEFT)}; set rmargin at screen {across(RIGHT)}",

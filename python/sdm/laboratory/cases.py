@@ -5,15 +5,26 @@ goes to standard error, `code` the exit status. Where none of these three is the
 `upgrade` writes the table is due, and not its bytes.
 """
 import tomllib
-from collections import namedtuple
+from collections.abc import Iterable, Iterator, Sequence
+from pathlib import Path
+from typing import NamedTuple
 
 from .program import Fault, Result
 
-Case = namedtuple("Case", "name words data due")  # due is the Result that the files tell, None where they tell none
+
+class Case(NamedTuple):
+    """A journey; `due` is what the files tell, None where they tell nothing."""
+
+    name: str
+    words: list[str]
+    data: bytes
+    due: Result | None
+
+
 DUE = {"rows": "", "err": "", "code": "0"}  # the files that tell what is due, and what counts for one that is absent
 
 
-def text_of(path, absent):
+def text_of(path: Path, absent: str) -> str:
     """The text of a file, or what counts where there is none."""
     try:
         return path.read_bytes().decode(errors="replace")
@@ -21,7 +32,7 @@ def text_of(path, absent):
         return absent
 
 
-def due_of(folder):
+def due_of(folder: Path) -> Result | None:
     """The result that the files of a folder tell."""
     if not any((folder / name).exists() for name in DUE):
         return None
@@ -29,7 +40,7 @@ def due_of(folder):
     return Result(rows, err, int(code))
 
 
-def case_of(folder, name):
+def case_of(folder: Path, name: str) -> Case:
     """The journey of a folder."""
     try:
         words = text_of(folder / "args", "run\n").splitlines()
@@ -38,13 +49,13 @@ def case_of(folder, name):
         raise Fault(f"{folder} is no journey: {why}.") from None
 
 
-def cases_under(top):
+def cases_under(top: Path) -> list[Case]:
     """The journeys of all folders below a folder, by their paths."""
     folders = sorted(path.parent for path in top.rglob("input"))
     return [case_of(folder, str(folder.relative_to(top.parent))) for folder in folders]
 
 
-def values_of(value, path=""):
+def values_of(value: object, path: str = "") -> Iterator[str]:
     """A line for each value in a table, by its path, in the order of the names."""
     if isinstance(value, dict) and value:
         for name in sorted(value):
@@ -56,7 +67,7 @@ def values_of(value, path=""):
         yield f"{path} = {value!r}"
 
 
-def compared(words, rows):
+def compared(words: list[str], rows: str) -> list[str]:
     """The lines by which a text is compared: of what `upgrade` writes those of its table, so that it may be laid out
     in any way; the text itself where it has no table, or a dividing line stands in it."""
     lines = rows.split("\n")
@@ -68,10 +79,13 @@ def compared(words, rows):
     return lines
 
 
-def difference(names, one, other, words=("run",)):
+def difference(names: tuple[str, str], one: Result, other: Result, words: Sequence[str] = ("run",)) -> list[str]:
     """Where two results of some words differ first, in lines that show both texts under their names; none where they
     are the same."""
-    shown = lambda texts: [f"    {name:9}{text}" for name, text in zip(names, texts)]
+
+    def shown(texts: Iterable[object]) -> list[str]:
+        return [f"    {name:9}{text}" for name, text in zip(names, texts)]
+
     lines = compared(list(words), one.rows), compared(list(words), other.rows)
     for number, pair in enumerate(zip(*lines), 1):
         if pair[0] != pair[1]:

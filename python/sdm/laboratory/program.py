@@ -1,14 +1,15 @@
 """The program: which one is taken, whether it is of the sources that lie here, and what it makes of an input.
 
 Scripts and tools take `crates/sdm/out/sdm`, and only where its mark, `sdm.sources` beside it, has the checksum of these
-sources and that of the program. `scripts/program` writes the mark when the program was built. A program that is named by
-`--program` is taken as it is.
-"""
+sources and that of the program. `scripts/program` writes the mark when the program was built. A program that is named
+by `--program` is taken as it is. """
+import argparse
 import hashlib
 import os
 import subprocess
-from collections import namedtuple
+from collections.abc import Sequence
 from pathlib import Path
+from typing import NamedTuple
 
 TOP = Path(__file__).resolve().parents[3]
 CRATE = TOP / "crates" / "sdm"
@@ -17,7 +18,13 @@ MARK = CRATE / "out" / "sdm.sources"
 READ_BY_THE_PROVER = ["crates/*/src", "crates/*/specs", "crates/*/proofs"]
 PATIENCE = 120  # s, for one run
 
-Result = namedtuple("Result", "rows err code")  # what a run wrote, what it told of its end, and its exit status
+
+class Result(NamedTuple):
+    """What a run wrote, what it told of its end, and its exit status."""
+
+    rows: str
+    err: str
+    code: int
 
 
 class Fault(Exception):
@@ -25,7 +32,8 @@ class Fault(Exception):
 
 
 def sources() -> list[Path]:
-    """The files that a program is made of: all that the prover reads of the crates, and what says how they hang together."""
+    """The files that a program is made of: all that the prover reads of the crates, and what says how they hang
+    together."""
     folders = [folder for pattern in READ_BY_THE_PROVER for folder in TOP.glob(pattern)]
     files = [path for folder in folders for path in folder.rglob("*") if path.is_file()]
     return sorted([TOP / "crates.txt", TOP / "HANDLES", *files])
@@ -65,10 +73,15 @@ def fault_of_built() -> str | None:
     return None
 
 
-def add_program(parser):
+def add_program(parser: argparse.ArgumentParser) -> None:
     """The option that all tools have for another program than the built one."""
-    parser.add_argument("--program", type=Path, default=BUILT, metavar="PATH",
-                        help="the program to run, where it isn't crates/sdm/out/sdm")
+    parser.add_argument(
+        "--program",
+        type=Path,
+        default=BUILT,
+        metavar="PATH",
+        help="the program to run, where it isn't crates/sdm/out/sdm",
+    )
 
 
 def built(program: Path) -> Path:
@@ -82,7 +95,7 @@ def built(program: Path) -> Path:
     return program
 
 
-def run(program, words, data):
+def run(program: str | os.PathLike[str], words: Sequence[str], data: bytes) -> Result:
     """The result of the program for words and an input."""
     try:
         done = subprocess.run([program, *words], input=data, capture_output=True, timeout=PATIENCE)

@@ -1,21 +1,26 @@
 """`flat` (PROFILE "flat", FORMATS "flat"): one brake curve on level track."""
+from collections.abc import Iterator
+
 from .curves import BrakeCurve
 from .decelerations import Brake
 from .outcome import Outcome
 from .records import PLACE, SPEED, TIME, read_int
 from .units import GRAINS_PER_CM, GRAINS_PER_MM, NOTCHES_PER_MM_S, printed
 
-def numbers_of(line, before):
+
+def numbers_of(line: bytes, before: int) -> list[int] | None:
     """FORMATS "flat": time, front, speed of a line; None where it isn't of the form due, or its time goes back."""
-    numbers = [read_int(field) for field in line.split(b",")]
-    if len(numbers) != 3 or None in numbers or numbers[0] < before:
+    fields = line.split(b",")
+    numbers = [number for field in fields if (number := read_int(field)) is not None]
+    if not len(fields) == len(numbers) == 3 or numbers[0] < before:
         return None
     return numbers if all(a <= n <= b for n, (a, b) in zip(numbers, (TIME, PLACE, SPEED))) else None
 
-def flat_rows(A, END, data):
+
+def flat_rows(A: int, END: int, data: bytes) -> Iterator[str]:
     """PROFILE "flat": the rows of all lines, up to the first that is refused. LF alone ends a line."""
     end, time, eb = END * GRAINS_PER_CM, 0, False
-    brake = Brake("flat", 100, (), (), ((A * 2 * 10**9,),))           # A cm/s² with q = 100
+    brake = Brake("flat", 100, (), (), ((A * 2 * 10**9,),))  # A cm/s² with q = 100
     exact, stepped = BrakeCurve(brake, end, 0, exact=True), BrakeCurve(brake, end, 0)
     lines = data.split(b"\n")
     for number, line in enumerate(lines if lines[-1] else lines[:-1], 1):

@@ -16,6 +16,8 @@ import json
 import random
 import sys
 from pathlib import Path
+from random import Random
+from typing import Any
 
 from sdm.model.aimed import Maker
 from sdm.model.data import Limit, Stop, data_of
@@ -29,33 +31,43 @@ from sdm.model.toml_text import toml
 from sdm.model.units import GRAINS_PER_MM
 from sdm.model.words import collect
 
+from .data import Table
+from .records import Event
+
+# fmt: off
 KIND_OF = {Reading: "read", Stop: "end", Calculated: "endcalc", Limit: "limit", Restriction: "restrict",
            Revocation: "revoke"}
+# fmt: on
 
 
-def record(event):
+def record(event: Event) -> list[str]:
     return [KIND_OF[type(event)]] + [str(number) for number in event]
 
 
-def record_text(rng, fields, plain):
+def record_text(rng: Random, fields: list[str], plain: bool) -> str:
     """A record, in odd spellings where it isn't to be plain."""
-    if plain or rng.random() < .5:
+    if plain or rng.random() < 0.5:
         return ",".join(fields)
     odd = []
     for field in fields:
         how = rng.random()
-        if field.isdigit() and how < .2:
-            field = field.zfill(rng.choice([len(field) + 1, 18, 18]) if rng.random() < .98 else 19)
-        elif field == "0" and how < .5:
+        if field.isdigit() and how < 0.2:
+            field = field.zfill(rng.choice([len(field) + 1, 18, 18]) if rng.random() < 0.98 else 19)
+        elif field == "0" and how < 0.5:
             field = "-0"
-        odd.append(f'"{field}"' if rng.random() < .2 else field[:0] + '"' + field[:1] + '"' + field[1:]
-                   if rng.random() < .1 else field)
+        odd.append(
+            f'"{field}"'
+            if rng.random() < 0.2
+            else field[:0] + '"' + field[:1] + '"' + field[1:]
+            if rng.random() < 0.1
+            else field
+        )
     return ",".join(odd)
 
 
-def input_of(rng, document, records):
+def input_of(rng: Random, document: Table, records: list[list[str]]) -> bytes:
     """The bytes of an input: the data part, the dividing line, the records."""
-    plain = rng.random() < .6
+    plain = rng.random() < 0.6
     end = "\n" if plain else rng.choice(["\n", "\r\n"])
     text = toml(document, rng if not plain else None)
     lines = [record_text(rng, fields, plain) for fields in records]
@@ -66,37 +78,53 @@ def input_of(rng, document, records):
     return (text + "%%\n" + "".join(line + "\n" for line in lines)).encode()
 
 
-def a_journey(rng, version):
+def a_journey(rng: Random, version: int) -> tuple[str, bytes]:
     document, supervisor = an_open_document(rng, version)
     maker = Maker(rng, supervisor)
     records = [record(event) for event in maker.make(rng.randint(10, 22))]
     name = "journey"
-    if rng.random() < .3:
+    if rng.random() < 0.3:
         name, refused = spoilt_record(rng, supervisor, maker.time)
         records += [refused, record(maker.next_reading())]
     return name, input_of(rng, document, records)
 
 
-def a_grain_document(rng, version):
+def a_grain_document(rng: Random, version: int) -> Table:
     """Level track and bands of one deceleration: many exact limits are whole millimetres (PROFILE "Curves")."""
     document = a_document(rng, version)
     a, train = rng.choice([50, 70, 70, 100, 100, 90, 60]), document["train"]
-    slow = rng.choice([15, 24, 33, 60, 78])        # a target, with an upper speed between it and its foot speed
+    slow = rng.choice([15, 24, 33, 60, 78])  # a target, with an upper speed between it and its foot speed
     uppers = {*rng.sample(UPPERS[:12], rng.choice([0, 1, 2, 3] + [8] * (version - 1))), slow + rng.randint(1, 7)}
-    train |= {"max_speed": 300, "rotating_mass": rng.choice([0, 9]), "traction_cutoff_time": rng.choice([0, 0, 20]),
-              "emergency_time": rng.choice([0, 0, 20]), "service_time": rng.choice([0, 0, 40])}
+    train |= {
+        "max_speed": 300,
+        "rotating_mass": rng.choice([0, 9]),
+        "traction_cutoff_time": rng.choice([0, 0, 20]),
+        "emergency_time": rng.choice([0, 0, 20]),
+        "service_time": rng.choice([0, 0, 40]),
+    }
     band = {"emergency": a, "service": a, "normal": a, "kdry": 1000, "kwet": 1000, "kn_up": 0, "kn_down": 0}
     train["band"] = [{"upper": upper} | band for upper in sorted(uppers)] + [band]
     starts = (150_000, rng.choice([180_000, 250_000]))
-    document["track"] = {"length": 300_000, "speed": [{"start": 0, "speed": 300}] + [
-        {"start": start, "speed": rng.choice([15, 24, slow, slow, 120])} for start in starts]}
-    document["authority"] = rng.choice([{"kind": "end", "eoa": 200_000, "svl": rng.choice([200_000, 210_000]),
-                                         "release": rng.choice([0, 0, 9, 18, 36])},
-                                        {"kind": "limit", "loa": 200_000, "speed": slow}])
+    document["track"] = {
+        "length": 300_000,
+        "speed": [{"start": 0, "speed": 300}]
+        + [{"start": start, "speed": rng.choice([15, 24, slow, slow, 120])} for start in starts],
+    }
+    document["authority"] = rng.choice(
+        [
+            {
+                "kind": "end",
+                "eoa": 200_000,
+                "svl": rng.choice([200_000, 210_000]),
+                "release": rng.choice([0, 0, 9, 18, 36]),
+            },
+            {"kind": "limit", "loa": 200_000, "speed": slow},
+        ]
+    )
     return document
 
 
-def a_grain_journey(rng, version):
+def a_grain_journey(rng: Random, version: int) -> tuple[str, bytes]:
     """Readings at exact limits that are whole millimetres, and around the start of release speed monitoring."""
     document = a_grain_document(rng, version)
     supervisor = Supervisor(data_of(document))
@@ -105,18 +133,18 @@ def a_grain_journey(rng, version):
         if supervisor.commands.eb:
             maker.accel = maker.under = 0
             maker.add(maker.standing())
-        if rng.random() < .1:
+        if rng.random() < 0.1:
             maker.add(maker.a_calculated(200_000, rng.choice([210_000, 240_000])))
         start = release_start(supervisor.times, supervisor.curves, supervisor.authority)
-        if start is not None and rng.random() < .2:
+        if start is not None and rng.random() < 0.2:
             mm = -(-start // GRAINS_PER_MM) + rng.choice([-1, 0, 0, 1])
             maker.add(maker.reading(max_mm=mm, speed=rng.choice([1_000, maker.a_speed()])))
         else:
-            maker.add(maker.at_a_grain() if rng.random() < .8 else maker.at_a_place())
+            maker.add(maker.at_a_grain() if rng.random() < 0.8 else maker.at_a_place())
     return "grain", input_of(rng, document, [record(event) for event in maker.events])
 
 
-def a_full_journey(rng, version):
+def a_full_journey(rng: Random, version: int) -> tuple[str, bytes]:
     """As many restrictions as may be held, and one more, or one in place of another."""
     document, supervisor = an_open_document(rng, version)
     maker, length = Maker(rng, supervisor), supervisor.data.track.length
@@ -124,7 +152,7 @@ def a_full_journey(rng, version):
         a = rng.randrange(length)
         maker.add(Restriction(identity, a, rng.randint(a + 1, length), rng.choice(SPEEDS), rng.randint(0, 1)))
     maker.add(maker.next_reading())
-    if rng.random() < .5:
+    if rng.random() < 0.5:
         maker.add(Revocation(rng.choice(list(supervisor.restrictions))))
         maker.add(maker.next_reading())
         maker.add(Restriction(500, 0, 1, 5, 0))
@@ -133,28 +161,29 @@ def a_full_journey(rng, version):
     return "too many restrictions", input_of(rng, document, records + [record(last)])
 
 
-def refused_data(rng, version):
+def refused_data(rng: Random, version: int) -> tuple[str, bytes]:
     """One or two rules of the data part broken, or its text."""
     document, supervisor = an_open_document(rng, version)
     names = []
     for _ in range(rng.choice([1, 1, 2])):
         names.append(spoil_data(rng, document))
     data = input_of(rng, document, [["read", "0", "0", "0", "0", "0", "0", "0"]])
-    if rng.random() < .15:
+    if rng.random() < 0.15:
         name, data = spoil_text(rng, data)
         names.append(name)
     return "data: " + " and ".join(names), data
 
 
-def steep_gradients(rng, length, version):
+def steep_gradients(rng: Random, length: Any, version: Any) -> list[Table]:
     """A gradient that isn't steep downhill, and then some of any steepness."""
     unit = 1 if version == 1 else 10
     first = {"start": 0, "grad": rng.randint(-10 * unit, 80 * unit)}
-    return [first] + [{"start": start, "grad": a_grad(rng, 80, version)}
-                      for start in some_starts(rng, 3, length, 100)[1:]]
+    return [first] + [
+        {"start": start, "grad": a_grad(rng, 80, version)} for start in some_starts(rng, 3, length, 100)[1:]
+    ]
 
 
-def refused_opening(rng, version):
+def refused_opening(rng: Random, version: int) -> tuple[str, bytes]:
     """Slopes or authority at the border of what is refused, on both sides of it."""
     document, supervisor = an_open_document(rng, version)
     train, track, national = document["train"], document["track"], document["national"]
@@ -183,8 +212,12 @@ def refused_opening(rng, version):
         length = track["length"]
         eoa = rng.choice([0, length, length - 1])
         svl = rng.choice([eoa, eoa - 1, length, length + 1])
-        document["authority"] = rng.choice([{"kind": "end", "eoa": eoa, "svl": max(0, svl)},
-                                            {"kind": "limit", "loa": length + rng.choice([0, 1]), "speed": 30}])
+        document["authority"] = rng.choice(
+            [
+                {"kind": "end", "eoa": eoa, "svl": max(0, svl)},
+                {"kind": "limit", "loa": length + rng.choice([0, 1]), "speed": 30},
+            ]
+        )
     events = []
     try:
         supervisor = Supervisor(data_of(document))
@@ -194,7 +227,7 @@ def refused_opening(rng, version):
     return f"opening: {name}", input_of(rng, document, [record(event) for event in events])
 
 
-def flat(rng):
+def flat(rng: Random) -> tuple[list[str], str, bytes]:
     """Lines of `flat` on the curve, and one beside it, with faults of lines."""
     A, END = rng.choice([5, 70, 100, 400, rng.randint(5, 400)]), rng.choice([0, 100_000, rng.randint(0, 10_000_000)])
     lines, time = [], 0
@@ -204,80 +237,114 @@ def flat(rng):
         front = rng.choice([place, 10 * END]) + rng.choice([-1, 0, 0, 1, 1, 2])
         lines.append(f"{time},{min(max(front, -10_000_000), 110_000_000)},{speed}")
         time += rng.choice([0, 1, 5])
-    if rng.random() < .3:
-        lines.insert(rng.randint(0, len(lines)), rng.choice(
-            ["", "0,0", "0,0,0,0", "0,0,138889", "-1,0,0", "0,-10000001,0", "0, 0,0", '"0",0,0', "0,0,0\r", "0,+1,0",
-             "100000001,0,0", "0,110000001,0", "0,0,-1", "0,0,1.0"]))
+    if rng.random() < 0.3:
+        lines.insert(
+            rng.randint(0, len(lines)),
+            rng.choice(
+                [
+                    "",
+                    "0,0",
+                    "0,0,0,0",
+                    "0,0,138889",
+                    "-1,0,0",
+                    "0,-10000001,0",
+                    "0, 0,0",
+                    '"0",0,0',
+                    "0,0,0\r",
+                    "0,+1,0",
+                    "100000001,0,0",
+                    "0,110000001,0",
+                    "0,0,-1",
+                    "0,0,1.0",
+                ]
+            ),
+        )
     words = ["flat", rng.choice(["", "0"]) + str(A), str(END)]
     return words, "flat", ("\n".join(lines) + rng.choice(["", "\n"] if lines else [""])).encode()
 
 
-def upgraded(rng):
+def upgraded(rng: Random) -> tuple[list[str], str, bytes]:
     """A data part of either version alone, at times with a rule broken or with a dividing line."""
     document, _ = an_open_document(rng, rng.choice([1, 1, 2]))
-    if rng.random() < .3:
+    if rng.random() < 0.3:
         spoil_data(rng, document)
     data = input_of(rng, document, [["read", "0"]])
-    if rng.random() < .95:
-        data = data[:data.index(b"%%")]
+    if rng.random() < 0.95:
+        data = data[: data.index(b"%%")]
     return ["upgrade"], "upgrade", data
 
 
-def a_drive(seed):
+def a_drive(seed: int) -> tuple[list[str], bytes]:
     """A drive of a seed: words, and a data part alone, of which most can be driven and come to their end."""
     rng, version = random.Random(f"drive {seed}"), 1 + seed % 2
     document, _ = an_open_document(rng, version)
     train, track = document["train"], document["track"]
-    if rng.random() < .95:
+    if rng.random() < 0.95:
         train["emergency_time"] = max(train["emergency_time"], 5)
-    if rng.random() < .95:
+    if rng.random() < 0.95:
         eoa = min(rng.choice([0, 500, 20_000, 60_000, track["length"]]), track["length"])
         document["authority"] = {"kind": "end", "eoa": eoa, "svl": rng.randint(eoa, min(eoa + 5_000, track["length"]))}
     words = ["drive", str(rng.randint(0, 65_535)), str(rng.randint(1, 300))]
-    return words, toml(document, rng if rng.random() < .3 else None).encode()
+    return words, toml(document, rng if rng.random() < 0.3 else None).encode()
 
 
-def make(seed):
+def make(seed: int) -> tuple[list[str], str, bytes]:
     """The journey of a seed: words, what it is about, input."""
     rng, version = random.Random(seed), 1 + seed % 2
     how = rng.random()
-    if version == 2 and how < .06:
+    if version == 2 and how < 0.06:
         return upgraded(rng)
-    if how < .72:
+    if how < 0.72:
         return ["run"], *a_journey(rng, version)
-    if how < .76:
+    if how < 0.76:
         return ["run"], *a_grain_journey(rng, version)
-    if how < .79:
+    if how < 0.79:
         return ["run"], *a_full_journey(rng, version)
-    if how < .90:
+    if how < 0.90:
         return ["run"], *refused_data(rng, version)
-    if how < .96:
+    if how < 0.96:
         return ["run"], *refused_opening(rng, version)
-    if how < .99:
+    if how < 0.99:
         return flat(rng)
-    if how < .995:
+    if how < 0.995:
         return ["trial", str(rng.randint(0, 65_535)), str(rng.randint(1, 40))], "trial", b""
-    others = [["run", ""], ["flat", "4", "5"], ["flat", "401", "5"], ["flat", "5"], ["trial", "65536", "1"],
-              ["trial", "1", "0"], ["trial", "1", "100001"], ["-h"], [], ["flat", "5", "10000001"],
-              ["flat", "5", "-1"], ["Run"], ["trial", "+1", "1"]]
-    return rng.choice(others + [["upgrade", "1"], ["Upgrade"]] * (version == 2)), "words", b"%%\n"
+    others: list[list[str]] = [
+        ["run", ""],
+        ["flat", "4", "5"],
+        ["flat", "401", "5"],
+        ["flat", "5"],
+        ["trial", "65536", "1"],
+        ["trial", "1", "0"],
+        ["trial", "1", "100001"],
+        ["-h"],
+        [],
+        ["flat", "5", "10000001"],
+        ["flat", "5", "-1"],
+        ["Run"],
+        ["trial", "+1", "1"],
+    ]
+    return rng.choice(others + [["upgrade", "1"], ["Upgrade"]] * int(version == 2)), "words", b"%%\n"
 
 
-def specials():
+def specials() -> list[tuple[str, bytes]]:
     """Inputs at the limits of FORMATS that are too large for every hundredth seed: name and input."""
     document = a_document(random.Random(4))
     document["authority"] = {"kind": "limit", "loa": document["track"]["length"], "speed": 100}
     head, most, reading = (toml(document) + "%%\n").encode(), 16_777_216, b"read,0,0,0,0,0,0,0\n"
     limit = f"limit,{document['track']['length']},5\n".encode()
-    deep = lambda n: b"more = " + b"[" * n + b"]" * n + b"\n" + head
-    return [("records 100000", head + reading + limit * 99_998 + reading),
-            ("records 100001", head + reading + limit * 99_999 + reading * 2),
-            ("bytes 16777216", head + reading + b"\n" * (most - len(head + reading))),
-            ("bytes 16777217", head + reading + b"\n" * (most + 1 - len(head + reading))),
-            ("nested 80", deep(80)), ("nested 81", deep(81)), ("key of 80 parts", b"a." * 79 + b"a = 1\n" + head)]
+    deep = {n: b"more = " + b"[" * n + b"]" * n + b"\n" + head for n in (80, 81)}
+    return [
+        ("records 100000", head + reading + limit * 99_998 + reading),
+        ("records 100001", head + reading + limit * 99_999 + reading * 2),
+        ("bytes 16777216", head + reading + b"\n" * (most - len(head + reading))),
+        ("bytes 16777217", head + reading + b"\n" * (most + 1 - len(head + reading))),
+        ("nested 80", deep[80]),
+        ("nested 81", deep[81]),
+        ("key of 80 parts", b"a." * 79 + b"a = 1\n" + head),
+    ]
 
 
-def write_folder(folder, words, name, data):
+def write_folder(folder: Path, words: list[str], name: str, data: bytes) -> None:
     rows, err, code = collect(words, data)
     folder.mkdir(parents=True, exist_ok=True)
     (folder / "args").write_text("".join(word + "\n" for word in words))
@@ -288,9 +355,9 @@ def write_folder(folder, words, name, data):
         (folder / "code").write_text(f"{code}\n")
 
 
-def main(words):
+def main(words: list[str]) -> int:
     if len(words) == 2 and words[0] in ("input", "drive"):
-        sys.stdout.buffer.write((make if words[0] == "input" else a_drive)(int(words[1]))[-1])
+        sys.stdout.buffer.write(make(int(words[1]))[-1] if words[0] == "input" else a_drive(int(words[1]))[-1])
         return 0
     if len(words) == 2 and words[0] == "specials":
         for name, data in specials():
@@ -305,6 +372,17 @@ def main(words):
             write_folder(Path(words[1]) / f"{seed:06}", args, name, data)
         else:
             rows, err, code = collect(args, data)
-            print(json.dumps({"seed": seed, "name": name, "args": args, "input": base64.b64encode(data).decode(),
-                              "rows": rows, "err": err, "code": code}))
+            print(
+                json.dumps(
+                    {
+                        "seed": seed,
+                        "name": name,
+                        "args": args,
+                        "input": base64.b64encode(data).decode(),
+                        "rows": rows,
+                        "err": err,
+                        "code": code,
+                    }
+                )
+            )
     return 0

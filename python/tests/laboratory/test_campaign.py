@@ -7,7 +7,9 @@ from pathlib import Path
 from .tool import program, tool
 
 # A program whose rows are its input, and which ends with 7 where it reads a row `bad`.
-COPIES = 'cat > "$0.$$"; cat "$0.$$"; if grep -q bad "$0.$$"; then echo "sdm: bad event 2: line" >&2; exit 7; fi; rm "$0.$$"'
+COPIES = (
+    'cat > "$0.$$"; cat "$0.$$"; if grep -q bad "$0.$$"; then echo "sdm: bad event 2: line" >&2; exit 7; fi; rm "$0.$$"'
+)
 JOURNEYS = {"a": ("1\n", "", "0"), "b": ("2\n3\n", "", "0"), "c": ("4\nbad\n", "sdm: bad event 2: line\n", "7")}
 
 
@@ -54,7 +56,9 @@ class Campaign(unittest.TestCase):
         code, told, _ = self.campaign()
         self.assertEqual(code, 1)
         self.assertIn("group/a differs\n  the code differs\n    due      7\n    made     0\n", told)
-        self.assertIn("group/b differs\n  the fault line differs\n    due      sdm: bad words\n    made     (none)\n", told)
+        self.assertIn(
+            "group/b differs\n  the fault line differs\n    due      sdm: bad words\n    made     (none)\n", told
+        )
         self.assertIn("1 as due, 2 differ", told)
 
     def test_no_line_and_0_are_due_where_their_files_are_absent(self):
@@ -62,7 +66,10 @@ class Campaign(unittest.TestCase):
             (self.folder / "group" / name / "err").unlink()
             (self.folder / "group" / name / "code").unlink()
         told = self.campaign()[1]
-        self.assertIn("group/c differs\n  the fault line differs\n    due      (none)\n    made     sdm: bad event 2: line\n", told)
+        self.assertIn(
+            "group/c differs\n  the fault line differs\n    due      (none)\n    made     sdm: bad event 2: line\n",
+            told,
+        )
         self.assertIn("2 as due, 1 differ", told)
 
     def test_of_upgrade_the_table_is_due_and_not_its_layout(self):
@@ -70,11 +77,13 @@ class Campaign(unittest.TestCase):
         (folder / "args").write_text("upgrade\n")
         (folder / "rows").write_text("a = 1\n[b]\nc = [{d = true}]\n")
         both = lambda due, made: f"    due      {due}\n    made     {made}\n"
-        for text, due in (("b = {c = [{d = true}]} # here\na = 0x1\n", ""),
-                          ("a = 1\n[b]\nc = [{d = false}]\n", both("b.c[1].d = True", "b.c[1].d = False")),
-                          ("a = 1\n", both("b.c[1].d = True", "(no such row)")),
-                          ("a = 1.0\n[b]\nc = [{d = true}]\n", both("a = 1", "a = 1.0")),
-                          ("a = 1\n[b]\nc = [{d = true}]\n#\n%%\n", "group/a differs\n")):
+        for text, due in (
+            ("b = {c = [{d = true}]} # here\na = 0x1\n", ""),
+            ("a = 1\n[b]\nc = [{d = false}]\n", both("b.c[1].d = True", "b.c[1].d = False")),
+            ("a = 1\n", both("b.c[1].d = True", "(no such row)")),
+            ("a = 1.0\n[b]\nc = [{d = true}]\n", both("a = 1", "a = 1.0")),
+            ("a = 1\n[b]\nc = [{d = true}]\n#\n%%\n", "group/a differs\n"),
+        ):
             (folder / "input").write_text(text)
             told = self.campaign("--again")[1]
             self.assertIn(due, told)

@@ -51,8 +51,17 @@ class Compare(unittest.TestCase):
         """A recording with columns, units and names of its own."""
         lines = ["t (ms);mode;EB;MRSP (m/s);EBI;more"]
         for number, row in enumerate(rows(), 1):
-            values = change(number, [str(100 * int(row[0])), MODES[row[1]], row[5], f"{int(row[7]) / 3.6:.9f}",
-                                     "n/a" if row[8] == "-" else f"{(int(row[8]) - 5) / 1000:.3f}", "x"])
+            values = change(
+                number,
+                [
+                    str(100 * int(row[0])),
+                    MODES[row[1]],
+                    row[5],
+                    f"{int(row[7]) / 3.6:.9f}",
+                    "n/a" if row[8] == "-" else f"{(int(row[8]) - 5) / 1000:.3f}",
+                    "x",
+                ],
+            )
             lines.append(";".join(values).replace(".", ","))
         return self.file("own.csv", "\n".join(lines) + "\n"), self.file("mapping", MAPPING)
 
@@ -73,10 +82,18 @@ class Compare(unittest.TestCase):
 
     def test_rows_as_the_recording_has_them(self):
         """Only what differs is put in; what no row can have isn't."""
+
         def change(number, values):
             values[1] = "CSM" if number == 3 else "SB" if number == 4 else values[1]
-            values[4] = "n/a" if number == 6 else f"{float(values[4]) + 0.0031:.4f}" if number == 9 else f"{float(values[4]) + 0.001:.3f}"
+            values[4] = (
+                "n/a"
+                if number == 6
+                else f"{float(values[4]) + 0.0031:.4f}"
+                if number == 9
+                else f"{float(values[4]) + 0.001:.3f}"
+            )
             return values
+
         recording, mapping = self.own_form(change)
         altered = Path(self.room.name) / "altered"
         code, told, _ = tool("compare", ROWS, recording, "--mapping", mapping, "--altered", altered)
@@ -107,8 +124,13 @@ class Compare(unittest.TestCase):
         recording, mapping = self.own_form(lambda number, values: values)
         code, told, _ = tool("compare", ROWS, recording, "--mapping", mapping)
         self.assertEqual((code, "\ncovered " in told, "39 rows compared" in told), (0, False, True))
-        recording, mapping = self.own_form(lambda number, values: values[:1] + ["CSM"] + values[2:] if number == 8 else values)
-        self.assertIn("row 8 at 12 s, line 9: state is T, in the recording C", tool("compare", ROWS, recording, "--mapping", mapping)[1])
+        recording, mapping = self.own_form(
+            lambda number, values: values[:1] + ["CSM"] + values[2:] if number == 8 else values
+        )
+        self.assertIn(
+            "row 8 at 12 s, line 9: state is T, in the recording C",
+            tool("compare", ROWS, recording, "--mapping", mapping)[1],
+        )
 
     def test_rows_without_a_line(self):
         code, told, _ = tool("compare", ROWS, self.recording(rows()[:10] + rows()[12:]))

@@ -16,13 +16,26 @@ def why(name, row, *words, data=b""):
 class Why(unittest.TestCase):
     def test_the_worked_row_of_realistic(self):
         told = why("realistic", 1)
-        for text in ("V_bec 40.5 m/s", "D_bec 121.5 m", "EBI 3987.048", "printed 3987048", "T_berem 3 s", "EOA at 5000 m"):
+        for text in (
+            "V_bec 40.5 m/s",
+            "D_bec 121.5 m",
+            "EBI 3987.048",
+            "printed 3987048",
+            "T_berem 3 s",
+            "EOA at 5000 m",
+        ):
             self.assertIn(text, told)
 
     def test_causes_and_commands_of_approach(self):
         told = why("approach", 2)
-        for text in ("SvL at 1000 m: past EBI", "tco 1 before, 1 now: set by warn, serv, emer", "eb  0 before, 1 now: set by emer",
-                     "the front end is past it", "status X, before W: a brake is commanded", "covered 0: past the EBI of SvL"):
+        for text in (
+            "SvL at 1000 m: past EBI",
+            "tco 1 before, 1 now: set by warn, serv, emer",
+            "eb  0 before, 1 now: set by emer",
+            "the front end is past it",
+            "status X, before W: a brake is commanded",
+            "covered 0: past the EBI of SvL",
+        ):
             self.assertIn(text, told)
         self.assertIn("eb  1 before, 1 now: held", why("approach", 3))
         self.assertIn("tco 1 before, 0 now: released by the permitted speed", why("approach", 3))
@@ -32,7 +45,9 @@ class Why(unittest.TestCase):
         self.assertIn("A_est -0.3 m/s², under-reading 500 mm/s", why("interventions", 13))
 
     def test_a_grain_is_told(self):
-        self.assertIn("EBI 860 m, printed 859999, computed 1 grain earlier; the front end is past it", why("band-border", 2))
+        self.assertIn(
+            "EBI 860 m, printed 859999, computed 1 grain earlier; the front end is past it", why("band-border", 2)
+        )
 
     def test_the_program_s_row(self):
         with tempfile.TemporaryDirectory() as scratch:
@@ -60,9 +75,13 @@ class Curves(unittest.TestCase):
     def test_the_plain_train(self):
         # at 72 km/h: 200 m to the foot; W 40 m, P 80 m, I 260 m before the SBI
         at = {each["target"]: each for each in self.rows("approach", 1, "--step", "36") if each["speed"] == "72"}
-        self.assertEqual([at["SvL"][name] for name in "EBD EBI SBI2 W P I".split()],
-                         ["800000", "800000", "800000", "760000", "720000", "540000"])
-        self.assertEqual([at["EOA"][name] for name in "EBD SBD EBI SBI1 SBI2 I".split()], ["", "800000", "", "800000", "", "540000"])
+        self.assertEqual(
+            [at["SvL"][name] for name in "EBD EBI SBI2 W P I".split()],
+            ["800000", "800000", "800000", "760000", "720000", "540000"],
+        )
+        self.assertEqual(
+            [at["EOA"][name] for name in "EBD SBD EBI SBI1 SBI2 I".split()], ["", "800000", "", "800000", "", "540000"]
+        )
 
     def test_a_row_s_own_speed_has_its_places(self):
         row = (EXAMPLES / "realistic" / "rows").read_text().splitlines()[0].split(",")
@@ -70,7 +89,11 @@ class Curves(unittest.TestCase):
         self.assertEqual([min(int(each[name]) for each in at) for name in "WPI"], [int(place) for place in row[10:]])
 
     def test_a_limit_begins_at_its_speed(self):
-        speeds = [float(each["speed"]) for each in self.rows("limit-of-authority", 1, "--step", "0.5") if each["target"] == "LOA"]
+        speeds = [
+            float(each["speed"])
+            for each in self.rows("limit-of-authority", 1, "--step", "0.5")
+            if each["target"] == "LOA"
+        ]
         self.assertEqual(len(speeds), len(set(speeds)))
         self.assertTrue(all(speed >= 1 for speed in speeds) and speeds == sorted(speeds))
 

@@ -17,7 +17,14 @@ def many(count):
     """Readings of a train that comes near to its end of authority, and is often too fast."""
     numbers = np.arange(count)
     place = 3_000_000 + 20 * (numbers * 7919 % 90_000)
-    return sdm.readings(time_ds=5 * numbers, est_mm=place, min_mm=place - 5_000, max_mm=place + 5_000, speed_mm_s=numbers * 31 % 44_001, under_mm_s=500)
+    return sdm.readings(
+        time_ds=5 * numbers,
+        est_mm=place,
+        min_mm=place - 5_000,
+        max_mm=place + 5_000,
+        speed_mm_s=numbers * 31 % 44_001,
+        under_mm_s=500,
+    )
 
 
 class Batch(unittest.TestCase):

@@ -21,12 +21,20 @@ class Page(unittest.TestCase):
             names = {}
             exec(table, names)
             self.assertEqual(sdm.text(names["rows"]), (EXAMPLES / "interventions" / "rows").read_text())
-            self.assertEqual(list(names["braked"].time_ds), [int(row[0]) for row in rows_of("interventions") if row[5] == "1"])
-            self.assertEqual(Path("interventions.svg").read_bytes(), (EXAMPLES / "interventions" / "picture.svg").read_bytes())
+            self.assertEqual(
+                list(names["braked"].time_ds), [int(row[0]) for row in rows_of("interventions") if row[5] == "1"]
+            )
+            self.assertEqual(
+                Path("interventions.svg").read_bytes(), (EXAMPLES / "interventions" / "picture.svg").read_bytes()
+            )
             exec(sweep, names)
             self.assertEqual((len(names["told"]), set(names["told"].fault)), (1000, {""}))
-            self.assertTrue((names["first_brake"].diff(axis=1).iloc[:, 1:] >= 0).all(axis=None))  # a better brake brakes later
-            self.assertTrue((names["first_brake"].diff().iloc[1:] <= 0).all(axis=None))  # one that builds up longer sooner
+            self.assertTrue(
+                (names["first_brake"].diff(axis=1).iloc[:, 1:] >= 0).all(axis=None)
+            )  # a better brake brakes later
+            self.assertTrue(
+                (names["first_brake"].diff().iloc[1:] <= 0).all(axis=None)
+            )  # one that builds up longer sooner
             exec(loop, names)
             self.assertTrue(5_005 < names["stopped"] < 5_006 and names["driven"][-1].eb)
 

@@ -1,4 +1,5 @@
-"""Each journey of examples/ and vectors/ by the binding: rows, lines of a fault and codes are those that lie beside its input."""
+"""Each journey of examples/ and vectors/ by the binding: rows, lines of a fault and codes are those that lie beside its
+input."""
 import unittest
 
 from sdm import Reading, SdmError, Status, Supervisor

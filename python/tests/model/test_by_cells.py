@@ -16,27 +16,46 @@ CM, KMH = GRAINS_PER_CM, NOTCHES_PER_KM_H
 def small_data(rng):
     """A track of some metres, so that it can be walked by cells."""
     length, starts = 600, lambda n: sorted(rng.sample(range(1, 599), n))
-    bands = [Band(None, *(rng.randint(80, 400) for _ in range(3)), rng.randint(500, 1000), rng.randint(500, 1000),
-                  rng.randint(0, 30), rng.randint(0, 30), rng.choice([None, 80, rng.randint(60, 80)]))
-             for _ in range(rng.randint(1, 4))]
+    bands = [
+        Band(
+            None,
+            *(rng.randint(80, 400) for _ in range(3)),
+            rng.randint(500, 1000),
+            rng.randint(500, 1000),
+            rng.randint(0, 30),
+            rng.randint(0, 30),
+            rng.choice([None, 80, rng.randint(60, 80)]),
+        )
+        for _ in range(rng.randint(1, 4))
+    ]
     uppers = sorted(rng.sample(range(1, 20), len(bands) - 1)) + [None]
     bands = tuple(band._replace(upper=upper) for band, upper in zip(bands, uppers))
     grads = tuple(Gradient(start, rng.randint(-200, 200)) for start in [0] + starts(rng.randint(0, 5)))
+
     def some_areas():
         cuts = [rng.choice([0, 1, 2])] + starts(4)[1:]
-        return tuple(Area(a, b) for a, b in [cuts[:2], cuts[2:]][:rng.randint(0, 2)] if a < b)
-    speeds = tuple(StaticSpeed(start, rng.randint(1, 20), rng.random() < .5) for start in [0] + starts(rng.randint(0, 4)))
+        return tuple(Area(a, b) for a, b in [cuts[:2], cuts[2:]][: rng.randint(0, 2)] if a < b)
+
+    speeds = tuple(
+        StaticSpeed(start, rng.randint(1, 20), rng.random() < 0.5) for start in [0] + starts(rng.randint(0, 4))
+    )
     train = Train(rng.randint(1, 300), rng.randint(10, 20), rng.choice([None, 0, 9, 50]), 0, False, 0, 0, True, bands)
-    return Data(train, National(rng.randint(0, 20), rng.randint(20, 200), False, True, False, False),
-                Track(length, rng.choice([grads, ()]), speeds, some_areas(), some_areas()), Stop(300, 300, 0))
+    return Data(
+        train,
+        National(rng.randint(0, 20), rng.randint(20, 200), False, True, False, False),
+        Track(length, rng.choice([grads, ()]), speeds, some_areas(), some_areas()),
+        Stop(300, 300, 0),
+    )
 
 
 def slope(data, kind, band, x):
     """PROFILE "Decelerations", the whole-number formulas, at the cell x of a front end."""
     x, L, M = max(x, 0), data.train.length, data.train.rotating_mass
     entries = data.track.gradient
+
     def grad_of(c):
         return [each.grad for each in entries if each.start <= c][-1] if c >= 0 else entries[0].grad
+
     grad = min(grad_of(c) for c in range(x - L, x + 1)) if entries else 0
     reduced = any(area.start <= x <= area.end + L - 1 for area in data.track.adhesion)
     unaided = any(area.start <= x <= area.end + L - 1 for area in data.track.no_special)
@@ -47,8 +66,11 @@ def slope(data, kind, band, x):
     if reduced:
         E = min(E, 20_000_000 * data.national.adhesion_max)
     Kn = band.kn_up if grad >= 0 else band.kn_down
-    return {"safe": q * E + G, "expected": 20_000_000 * q * band.service + G,
-            "normal": 20_000_000 * q * band.normal + G - 2_000 * q * Kn * grad}[kind], q
+    return {
+        "safe": q * E + G,
+        "expected": 20_000_000 * q * band.service + G,
+        "normal": 20_000_000 * q * band.normal + G - 2_000 * q * Kn * grad,
+    }[kind], q
 
 
 def walk(data, kind, f, w, v, rounded):
@@ -68,10 +90,10 @@ def walk(data, kind, f, w, v, rounded):
         per_grain = Fraction(27 * s, 5 * 10**12 * q)
         at_border = square + per_grain * (place - border)
         if back:
-            stop = min(aim, uppers[band]**2) if uppers[band] else aim
+            stop = min(aim, uppers[band] ** 2) if uppers[band] else aim
             inside = at_border < stop
         else:
-            stop = max(aim, uppers[band - 1]**2) if band else aim
+            stop = max(aim, uppers[band - 1] ** 2) if band else aim
             inside = at_border > stop
         if inside:
             place, square = Fraction(border), at_border
@@ -112,8 +134,10 @@ class ByCells(unittest.TestCase):
         rng = random.Random(3)
         for _ in range(40):
             data = small_data(rng)
-            held = [Restriction(i, *sorted(rng.sample(range(0, 600), 2)), rng.randint(1, 20), rng.randint(0, 1))
-                    for i in range(rng.randint(0, 4))]
+            held = [
+                Restriction(i, *sorted(rng.sample(range(0, 600), 2)), rng.randint(1, 20), rng.randint(0, 1))
+                for i in range(rng.randint(0, 4))
+            ]
             profile, L, entries = mrsp(data, held), data.train.length, data.track.speed
             for c in range(-3, 950):
                 speeds = [data.train.max_speed]

@@ -1,5 +1,5 @@
-"""Certificates: claims and texts worked by hand, the marks of a reading by their definition, and what must hold of all marks
-that hold."""
+"""Certificates: claims and texts worked by hand, the marks of a reading by their definition, and what must hold of all
+marks that hold."""
 import random
 import unittest
 
@@ -50,17 +50,27 @@ class Written(unittest.TestCase):
         text, _, _ = certify(2, records)
         self.assertEqual([line.split(",")[1] for line in text.splitlines() if line.startswith("claim")], ["0", "1"])
         self.assertEqual(certify(1, AT_20 + "read,0\n"), (ONE, "sdm: bad event 2: field count\n", 7))
-        self.assertEqual(certify(1, "read,0\n"), (ONE[:ONE.index("claim")], "sdm: bad event 1: field count\n", 7))
+        self.assertEqual(certify(1, "read,0\n"), (ONE[: ONE.index("claim")], "sdm: bad event 1: field count\n", 7))
 
     def test_none_under_a_limit(self):
-        self.assertEqual(certify(9, AT_20, PLAIN.replace(*LIMIT)), (ONE[:ONE.index("claim")], "", 0))
+        self.assertEqual(certify(9, AT_20, PLAIN.replace(*LIMIT)), (ONE[: ONE.index("claim")], "", 0))
 
     def test_a_train_that_stands(self):
-        self.assertTrue(certify(1, "read,7,0,0,0,0,0,0\n")[0].endswith(
-            "claim,7,0,0,0,0,0,0,540000000000000,1\nmark,540000000000000,0\n"))
+        self.assertTrue(
+            certify(1, "read,7,0,0,0,0,0,0\n")[0].endswith(
+                "claim,7,0,0,0,0,0,0,540000000000000,1\nmark,540000000000000,0\n"
+            )
+        )
 
     def test_words(self):
-        for words in (["certify"], ["certify", "0"], ["certify", "1001"], ["certify", "1", "1"], ["check", "1"], ["Check"]):
+        for words in (
+            ["certify"],
+            ["certify", "0"],
+            ["certify", "1001"],
+            ["certify", "1", "1"],
+            ["check", "1"],
+            ["Check"],
+        ):
             self.assertEqual(collect(words, ONE.encode()), ("", "sdm: bad words\n", 1))
         self.assertEqual(collect(["certify", "0001"], (PLAIN + AT_20).encode()), (ONE, "", 0))
 
@@ -68,8 +78,13 @@ class Written(unittest.TestCase):
 class Checked(unittest.TestCase):
     def test_one_and_what_is_changed_of_it(self):
         self.assertEqual(check(ONE), ("0,yes\n", "", 0))
-        for old, new in (("540000000000000,2", "539999999999999,2"), ("mark,432000000000000", "mark,432000000000001"),
-                         ("200000000000", "9999999999"), ("1080000", "1080001"), ("431994600000000", "432000000000001")):
+        for old, new in (
+            ("540000000000000,2", "539999999999999,2"),
+            ("mark,432000000000000", "mark,432000000000001"),
+            ("200000000000", "9999999999"),
+            ("1080000", "1080001"),
+            ("431994600000000", "432000000000001"),
+        ):
             self.assertEqual(check(ONE.replace(old, new, 1)), ("0,no\n", "", 0), new)
 
     def test_lines(self):
@@ -78,15 +93,19 @@ class Checked(unittest.TestCase):
             rows, err, code = check(text)
             self.assertEqual((rows, err, code), ("0,yes\n" * (number == 6), f"sdm: bad event {number}: line\n", 7))
         self.assertEqual(check(ONE[:-1]), ("0,yes\n", "", 0))
-        self.assertEqual(check(ONE + ONE[ONE.index("claim"):].replace("claim,0", "claim,5") + "mark,0,0"),
-                         ("0,yes\n5,yes\n", "sdm: bad event 9: line\n", 7))
+        self.assertEqual(
+            check(ONE + ONE[ONE.index("claim") :].replace("claim,0", "claim,5") + "mark,0,0"),
+            ("0,yes\n5,yes\n", "sdm: bad event 9: line\n", 7),
+        )
 
     def test_the_second_acceleration_stands_as_it_is(self):
         # 0.4 m/s² for 1 s after none: 20.4 m/s, 20.2 m; 20.4²/2 m before 1000 m
         claim = Claim(0, 0, 1_080_000, 0, 40, 0, 10, 0)
         self.assertEqual(until_it_works(claim), (1_101_600, 20_200 * 540_000_000))
-        self.assertEqual(until_it_works(claim._replace(A1=100, T_traction=20)), (
-            1_080_000 + 108_000 + 21_600, (42_000 + 22_200) * 540_000_000))
+        self.assertEqual(
+            until_it_works(claim._replace(A1=100, T_traction=20)),
+            (1_080_000 + 108_000 + 21_600, (42_000 + 22_200) * 540_000_000),
+        )
 
 
 def by_cells(data, brake, claim):
@@ -102,8 +121,10 @@ def by_cells(data, brake, claim):
         for cell in range(late // GRAINS_PER_CM + 1, early // GRAINS_PER_CM - 1, -1):
             border = cell * GRAINS_PER_CM
             if early < border < late and at(cell) != at(cell - 1):
-                lost = sum(27 * at(c) * (min(late, (c + 1) * GRAINS_PER_CM) - c * GRAINS_PER_CM)
-                           for c in range(cell, -(-late // GRAINS_PER_CM)))
+                lost = sum(
+                    27 * at(c) * (min(late, (c + 1) * GRAINS_PER_CM) - c * GRAINS_PER_CM)
+                    for c in range(cell, -(-late // GRAINS_PER_CM))
+                )
                 marks.append(Mark(border, energy + lost))
     marks += [Mark(*ends[-1])] * (ends[-1][0] != svl)
     return marks[::-1]
@@ -142,8 +163,13 @@ class Marks(unittest.TestCase):
         for _ in range(2_000):
             brake = brakes_of(small_data(self.rng))["safe"]
             claim = self.a_claim(brake)
-            moved = [Mark(mark.place + self.rng.choice([0, 0, -1, 1, -10**9, 10**9]), mark.energy + self.rng.choice([0, 0, -1, 1]))
-                     for mark in marks_of(brake, claim)]
+            moved = [
+                Mark(
+                    mark.place + self.rng.choice([0, 0, -1, 1, -(10**9), 10**9]),
+                    mark.energy + self.rng.choice([0, 0, -1, 1]),
+                )
+                for mark in marks_of(brake, claim)
+            ]
             claim = claim._replace(front=moved[0].place - self.rng.choice([0, 1]))
             if hold(brake, claim, moved):
                 held += 1

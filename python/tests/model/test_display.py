@@ -41,27 +41,40 @@ class Speeds(unittest.TestCase):
 
     def test_far_from_an_end(self):
         # 160 km/h; 5.5 + 0.045 · 50 = 7.75 km/h over it; 7.5 + 0.075 · 50 = 11.25 km/h over it
-        end = [("length = 200000", "length = 300000"), ("eoa = 100000", "eoa = 200000"),
-               ("svl = 100000", "svl = 200000")]
+        end = [
+            ("length = 200000", "length = 300000"),
+            ("eoa = 100000", "eoa = 200000"),
+            ("svl = 100000", "svl = 200000"),
+        ]
         self.assertEqual(shown(read(0, 0, 40_000), changes=end), ["0,160,167,171,0,E,2000000"])
 
     def test_the_least_and_the_greatest(self):
         # past the EOA nothing is allowed; from 10 km before it 500 km/h are, 138.89 m/s, whose way is 9645 m
-        fast = [("max_speed = 160", "max_speed = 500"), ("speed = 160\n\n", "speed = 500\n\n"),
-                ("emergency = 100", "emergency = 200"), ("service = 100", "service = 200")]
-        self.assertEqual(shown(read(0, 1_000_001, 0), read(0, -9_000_000, 0), changes=fast),
-                         ["0,0,0,0,0,-,-", "0,500,500,500,0,-,-"])
+        fast = [
+            ("max_speed = 160", "max_speed = 500"),
+            ("speed = 160\n\n", "speed = 500\n\n"),
+            ("emergency = 100", "emergency = 200"),
+            ("service = 100", "service = 200"),
+        ]
+        self.assertEqual(
+            shown(read(0, 1_000_001, 0), read(0, -9_000_000, 0), changes=fast), ["0,0,0,0,0,-,-", "0,500,500,500,0,-,-"]
+        )
 
     def test_below_a_release_speed(self):
         # the release speed of 36 km/h starts 50 m before the end; there no SBI is below that of the ceiling
         release = [("svl = 100000", "svl = 100000\nrelease = 36")]
-        self.assertEqual(shown(read(0, 950_000, 5_000), read(0, 950_001, 5_000), changes=release),
-                         ["0,24,36,36,36,E,50000", "0,36,167,36,36,-,-"])
+        self.assertEqual(
+            shown(read(0, 950_000, 5_000), read(0, 950_001, 5_000), changes=release),
+            ["0,24,36,36,36,E,50000", "0,36,167,36,36,-,-"],
+        )
 
     def test_with_no_service_brake_in_use(self):
         # 20 m/s and a build-up time of 2 s: 240 m are needed by the EBD, and 200 m by the SBD of the EOA
-        changes = [("emergency_time = 0", "emergency_time = 20"), ("service_brake = true", "service_brake = false"),
-                   ("svl = 100000", "svl = 110000")]
+        changes = [
+            ("emergency_time = 0", "emergency_time = 20"),
+            ("service_brake = true", "service_brake = false"),
+            ("svl = 100000", "svl = 110000"),
+        ]
         self.assertEqual(shown(read(0, 800_001, 0), changes=changes)[0].split(",")[2:4], ["71", "81"])
 
     def test_the_greatest_speed_is_the_only_border(self):
@@ -85,19 +98,23 @@ class Targets(unittest.TestCase):
         # -4 + sqrt(2016) m/s 147.24
         self.assertEqual(shown(read(0, 0, 20_000)), ["0,147,160,160,0,E,1000000"])
         fall = "[[track.speed]]\nstart = 90000\nspeed = 72\n\n[authority]"
-        line, = shown("limit,90000,72", read(0, 0, 20_001), changes=[("[authority]", fall)])
+        (line,) = shown("limit,90000,72", read(0, 0, 20_001), changes=[("[authority]", fall)])
         self.assertEqual(line.split(",")[4:], ["0", "M", "900000"])
 
     def test_a_target_as_fast_as_the_train_is_none(self):
-        self.assertEqual([line.split(",")[5:] for line in shown(
-            "limit,90000,72", read(0, 0, 20_000), read(0, 0, 20_001), read(0, 0, 0))],
-            [["-", "-"], ["L", "900000"], ["-", "-"]])
+        self.assertEqual(
+            [
+                line.split(",")[5:]
+                for line in shown("limit,90000,72", read(0, 0, 20_000), read(0, 0, 20_001), read(0, 0, 0))
+            ],
+            [["-", "-"], ["L", "900000"], ["-", "-"]],
+        )
 
     def test_each_distance_is_from_its_front_end(self):
         reading = "read,0,500000,490000,520000,10000,0,0"
         ends = {"E,500000": [("svl = 100000", "svl = 110000")], "S,480000": [("emergency = 100", "emergency = 50")]}
         for due, changes in ends.items():
-            line, = shown(reading, changes=changes)
+            (line,) = shown(reading, changes=changes)
             self.assertEqual(line.split(",", 5)[5], due)
 
     def test_a_distance_is_never_below_0(self):
@@ -107,7 +124,7 @@ class Targets(unittest.TestCase):
     def test_the_target_whose_limit_is_least_and_not_the_nearest(self):
         # from 40 to 36.1 m/s within 300 m, and to 0 within 900 m
         fall = "[[track.speed]]\nstart = 40000\nspeed = 130\n\n[authority]"
-        line, = shown(read(0, 100_000, 40_000), changes=[("[authority]", fall)])
+        (line,) = shown(read(0, 100_000, 40_000), changes=[("[authority]", fall)])
         self.assertEqual(line.split(",")[5:], ["E", "900000"])
 
     def test_an_authority_to_a_limit_has_no_release_speed(self):
@@ -132,6 +149,11 @@ class Runs(unittest.TestCase):
 
     def test_what_is_held_is_not_asked(self):
         """After an intervention, and again with other restrictions that are gone, the same is shown."""
-        first, *_, last = shown(read(0, 700_000, 10_000), read(1, 990_000, 40_000), "restrict,1,0,1,5,0", "revoke,1",
-                                read(1, 700_000, 10_000))
+        first, *_, last = shown(
+            read(0, 700_000, 10_000),
+            read(1, 990_000, 40_000),
+            "restrict,1,0,1,5,0",
+            "revoke,1",
+            read(1, 700_000, 10_000),
+        )
         self.assertEqual(first.split(",")[1:], last.split(",")[1:])

@@ -14,8 +14,12 @@ from sdm.model.words import collect
 from ..folders import EXAMPLES
 from .test_by_cells import small_data
 
-PLAIN = (EXAMPLES / "approach" / "input").read_text().partition("%%")[0].replace(
-    "emergency_time = 0", "emergency_time = 20")
+PLAIN = (
+    (EXAMPLES / "approach" / "input")
+    .read_text()
+    .partition("%%")[0]
+    .replace("emergency_time = 0", "emergency_time = 20")
+)
 END = "eoa = 100000\nsvl = 100000"
 
 
@@ -53,12 +57,16 @@ class Summaries(unittest.TestCase):
         short, weak = ("emergency_time = 20", "emergency_time = 4"), ("emergency = 100", "emergency = 4")
         release = (END, END + "\nrelease = 1")
         for fault, code, *changes in [
-                ("not drivable: no stop", 9, limit), ("not drivable: release speed", 9, release),
-                ("not drivable: emergency time", 9, short), ("not drivable: no stop", 9, limit, short, weak),
-                ("not drivable: release speed", 9, release, short, weak),
-                ("not drivable: emergency time", 9, short, weak), ("refused: too weak: safe band 1 cell 0", 6, weak),
-                ("refused: beyond track", 6, (END, "eoa = 0\nsvl = 200001")),
-                ("bad data: value train.length", 5, ("length = 10000\n", "length = 0\n"), short)]:
+            ("not drivable: no stop", 9, limit),
+            ("not drivable: release speed", 9, release),
+            ("not drivable: emergency time", 9, short),
+            ("not drivable: no stop", 9, limit, short, weak),
+            ("not drivable: release speed", 9, release, short, weak),
+            ("not drivable: emergency time", 9, short, weak),
+            ("refused: too weak: safe band 1 cell 0", 6, weak),
+            ("refused: beyond track", 6, (END, "eoa = 0\nsvl = 200001")),
+            ("bad data: value train.length", 5, ("length = 10000\n", "length = 0\n"), short),
+        ]:
             self.assertEqual(lines(7, 3, *changes), ("", f"sdm: {fault}\n", code), fault)
         self.assertEqual(lines(7, 1, ("emergency_time = 20", "emergency_time = 5"))[2], 0)
         self.assertEqual(lines(7, 1, (END, END + "\nrelease = 0"))[2], 0)
@@ -77,8 +85,16 @@ class Summaries(unittest.TestCase):
         self.assertEqual(with_line, ("", "sdm: bad data: not TOML\n", 5))
 
     def test_words(self):
-        for words in (["drive"], ["drive", "7"], ["drive", "65536", "1"], ["drive", "0", "0"], ["drive", "0", "100001"],
-                      ["drive", "-1", "1"], ["drive", "0", "1", "1"], ["Drive", "0", "1"]):
+        for words in (
+            ["drive"],
+            ["drive", "7"],
+            ["drive", "65536", "1"],
+            ["drive", "0", "0"],
+            ["drive", "0", "100001"],
+            ["drive", "-1", "1"],
+            ["drive", "0", "1", "1"],
+            ["Drive", "0", "1"],
+        ):
             self.assertEqual(collect(words, PLAIN.encode()), ("", "sdm: bad words\n", 1))
         self.assertEqual(collect(["drive", "007", "03"], PLAIN.encode()), lines(7, 3))
 
@@ -90,8 +106,12 @@ class Moves(unittest.TestCase):
     def test_a_decisecond_of_each(self):
         # 1 m/s: 100 mm in coasting; with 1 m/s² 100 ± 5 mm
         train = Train(0, 1000 * NOTCHES_PER_MM_S)
-        for after, mm, mm_s in ((coasted(train), 100, 1000), (braked(self.brake, train), 95, 900),
-                                (driven(train, 100), 105, 1100), (driven(train, -100), 95, 900)):
+        for after, mm, mm_s in (
+            (coasted(train), 100, 1000),
+            (braked(self.brake, train), 95, 900),
+            (driven(train, 100), 105, 1100),
+            (driven(train, -100), 95, 900),
+        ):
             self.assertEqual(after, Train(mm * GRAINS_PER_MM, mm_s * NOTCHES_PER_MM_S))
 
     def test_the_last_decisecond_of_braking(self):

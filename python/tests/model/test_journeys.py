@@ -18,8 +18,12 @@ class Journeys(unittest.TestCase):
     def test_same_seed_same_bytes(self):
         made = set()
         for hashes in ("0", "77"):
-            done = subprocess.run([sys.executable, TOP / "tools/journeys", "lines", "0", "60"],
-                                  capture_output=True, env=os.environ | {"PYTHONHASHSEED": hashes}, check=True)
+            done = subprocess.run(
+                [sys.executable, TOP / "tools/journeys", "lines", "0", "60"],
+                capture_output=True,
+                env=os.environ | {"PYTHONHASHSEED": hashes},
+                check=True,
+            )
             made.add(hashlib.sha256(done.stdout).hexdigest())
         self.assertEqual(len(made), 1)
 
@@ -74,5 +78,29 @@ class Journeys(unittest.TestCase):
             if words == ["run"]:
                 for row in rows.splitlines():
                     seen |= set(row.split(",")[1:3])
-        self.assertLessEqual({0, 5, 6, 7, "C", "T", "R", "N", "I", "O", "W", "X", "unknown", "not", "out", "time",
-                              "supervised", "beyond", "identity", "restriction", "line"}, seen)
+        self.assertLessEqual(
+            {
+                0,
+                5,
+                6,
+                7,
+                "C",
+                "T",
+                "R",
+                "N",
+                "I",
+                "O",
+                "W",
+                "X",
+                "unknown",
+                "not",
+                "out",
+                "time",
+                "supervised",
+                "beyond",
+                "identity",
+                "restriction",
+                "line",
+            },
+            seen,
+        )

@@ -35,15 +35,16 @@ class Units(unittest.TestCase):
     def test_the_table_agrees_with_itself(self):
         self.assertEqual(M, 540_000_000_000)
         self.assertEqual(M_S, 54_000)
-        self.assertEqual(NOTCHES_PER_KM_H * 36, 10 * M_S)           # 36 km/h are 10 m/s
-        self.assertEqual(M_S * 10 * 1_000_000, M)                   # 1 m/s for 1 s
+        self.assertEqual(NOTCHES_PER_KM_H * 36, 10 * M_S)  # 36 km/h are 10 m/s
+        self.assertEqual(M_S * 10 * 1_000_000, M)  # 1 m/s for 1 s
         # the whole-number formula of curves: v² = 2 · a · way with 1 m/s² over 50 m gives 10 m/s
         q, slope = 100, 2 * 10**9 * 100
-        self.assertEqual(5 * 10**12 * q * (10 * M_S)**2, 27 * slope * 50 * M)
+        self.assertEqual(5 * 10**12 * q * (10 * M_S) ** 2, 27 * slope * 50 * M)
 
     def test_a_cell_is_rounded_down(self):
-        self.assertEqual([Reading(0, mm, mm, mm, 0, 0, 0).cell("est") for mm in (-11, -10, -1, 0, 9, 10)],
-                         [-2, -1, -1, 0, 0, 1])
+        self.assertEqual(
+            [Reading(0, mm, mm, mm, 0, 0, 0).cell("est") for mm in (-11, -10, -1, 0, 9, 10)], [-2, -1, -1, 0, 0, 1]
+        )
 
 
 class Decelerations(unittest.TestCase):
@@ -67,6 +68,7 @@ class Decelerations(unittest.TestCase):
             text = text.replace("service = 100", f"service = {service}").replace("normal = 100", "normal = 80")
             text = text.replace("[authority]", "[[track.adhesion]]\nstart = 5\nend = 6\n\n[authority]")
             return collect(["run"], text.replace("adhesion_max = 70", "adhesion_max = 5").encode())[1]
+
         self.assertEqual(end(10, 5), "")
         self.assertEqual(end(9, 5), "sdm: refused: too weak: safe band 1 cell 0\n")
         self.assertEqual(end(160, 5), "")
@@ -83,6 +85,7 @@ class Decelerations(unittest.TestCase):
             rest = rest.replace("adhesion_max = 70", "adhesion_max = 10")
             rest = rest.replace("[authority]", "[[track.adhesion]]\nstart = 5\nend = 6\n\n[authority]")
             return collect(["run"], f"{head}{lower}[[train.band]]\n{band}\n[national]{rest}".encode())[1]
+
         self.assertEqual([end(bands, 160) for bands in (1, 7, 8)], [""] * 3)
         self.assertEqual([end(bands, 161) for bands in (1, 7, 8)], ["sdm: refused: too varied: safe band 1\n"] * 3)
         self.assertEqual([end(bands, 80) for bands in (9, 10)], [""] * 2)
@@ -126,7 +129,8 @@ class Curves(unittest.TestCase):
     def test_ten_bands_are_rounded_ten_times(self):
         brake = self.bands(*((18 * i, 70) for i in range(1, 10)), (None, 70))
         stepped, exact = BrakeCurve(brake, 2000 * M, 0), BrakeCurve(brake, 2000 * M, 0, exact=True)
-        # what is lost at 18 km/h, 36 km/h and so on, in sevenths of a grain: 6, 4, 2, 0, 5, 3, 1, 6, 4, and 4 at the end
+        # what is lost at 18 km/h, 36 km/h and so on, in sevenths of a grain: 6, 4, 2, 0, 5, 3, 1, 6, 4, and 4 at the
+        # end
         lost = [(exact.place(5 * i * M_S) - stepped.place(5 * i * M_S)) * 7 for i in range(1, 10)]
         self.assertEqual(lost, [6, 10, 12, 12, 17, 20, 21, 27, 31])
         self.assertEqual(exact.place(49 * M_S), 285 * M)
@@ -145,7 +149,7 @@ class Curves(unittest.TestCase):
         supervisor, _ = example("realistic")
         svl = limits(supervisor, "Svl", Reading(0, 3_300_000, 3_295_000, 3_305_000, 40_000, 0, 500))
         self.assertEqual((svl.V_bec, svl.D_bec), (40_500 * 54, 121_500 * GRAINS_PER_MM))
-        shown = lambda place: round(F(place * 100_000, M))            # as the page: to a hundredth of a millimetre
+        shown = lambda place: round(F(place * 100_000, M))  # as the page: to a hundredth of a millimetre
         self.assertEqual([shown(svl.curve), shown(svl.d_EBI)], [410_854_818, 398_704_818])
         self.assertEqual(shown(supervisor.curves.d_EBD(5050 * M, 0, 100 * NOTCHES_PER_KM_H)), 465_185_504)
 
@@ -179,8 +183,10 @@ class Limits(unittest.TestCase):
         supervisor, _ = example("limit-of-authority")
         loa = limits(supervisor, "Loa", still(500_000, 25_000))
         self.assertEqual(loa.target.foot_speed, 18_750 * 54)
-        self.assertEqual([getattr(loa, name) // GRAINS_PER_MM
-                          for name in ("d_EBI", "d_W", "d_P", "d_I")], [863_281, 813_281, 763_281, 538_281])
+        self.assertEqual(
+            [getattr(loa, name) // GRAINS_PER_MM for name in ("d_EBI", "d_W", "d_P", "d_I")],
+            [863_281, 813_281, 763_281, 538_281],
+        )
         self.assertEqual(limits(supervisor, "Loa", still(500_000, 18_000)).d_EBI, F(101378125, 100000) * M)
 
     def test_guidance_takes_P_alone(self):
@@ -217,8 +223,10 @@ class Causes(unittest.TestCase):
         self.assertEqual([cause.by.target.kind for cause in by[160].triggers.serv], ["Svl"])
         self.assertEqual(by[160].decision.why, {"tco": "set", "sb": "set", "eb": "off"})
         self.assertEqual([cause.by.target.kind for cause in by[230].triggers.emer], ["Svl"])
-        self.assertEqual(by[430].decision.why, {"tco": "released by the permitted speed",
-                                                "sb": "released by the permitted speed", "eb": "held"})
+        self.assertEqual(
+            by[430].decision.why,
+            {"tco": "released by the permitted speed", "sb": "released by the permitted speed", "eb": "held"},
+        )
         self.assertEqual(by[590].decision.why["eb"], "released by standstill")
 
     def test_the_others(self):

@@ -98,10 +98,12 @@ class Meaning(unittest.TestCase):
             svl = rng.randint(trip, 600)
             v = calculated(curves, T_be, svl, trip)
             self.assertTrue(all(fits(curves, T_be, svl, trip, each) == (each <= v) for each in range(20)))
+
             def stands(v, mm):
                 V = v * NOTCHES_PER_KM_H
                 braked = trip * GRAINS_PER_CM + mm * GRAINS_PER_MM + distance_at(V, T_be)
                 return walk(data, "safe", braked, V, 0, False)
+
             self.assertLessEqual(stands(v, 0), svl * GRAINS_PER_CM, (data, trip, svl, v))
             self.assertGreater(stands(v + 1, 1), svl * GRAINS_PER_CM, (data, trip, svl, v))
             greatest.add(v)
@@ -113,8 +115,12 @@ class Record(unittest.TestCase):
         return collect(["run"], (data + "%%\n" + "".join(line + "\n" for line in lines)).encode())
 
     def test_it_does_what_end_does(self):
-        readings = [f"read,{i},{mm},{mm},{mm},{v},0,0" for i, (mm, v) in enumerate(
-            [(900_000, 9_000), (961_000, 8_888), (961_000, 8_889), (961_000, 0), (1_000_001, 1), (1_000_001, 0)])]
+        readings = [
+            f"read,{i},{mm},{mm},{mm},{v},0,0"
+            for i, (mm, v) in enumerate(
+                [(900_000, 9_000), (961_000, 8_888), (961_000, 8_889), (961_000, 0), (1_000_001, 1), (1_000_001, 0)]
+            )
+        ]
         due = self.end("end,100000,105000,32", *readings)
         self.assertEqual(self.end("endcalc,100000,105000,101000", *readings), due)
         self.assertNotEqual(self.end("end,100000,105000,31", *readings), due)
@@ -123,16 +129,27 @@ class Record(unittest.TestCase):
 
     def test_refusals_in_their_order(self):
         for line, fault in [
-                ("endcalc,0,0", "field count"), ("endcalc,0,0,0,x", "field count"), ("Endcalc,0,0,0", "unknown kind"),
-                ("endcalc,x,-1,0", "field 2: not a number"), ("endcalc,0,10000001,x", "field 3: out of range"),
-                ("endcalc,1,0,-1", "field 4: out of range"), ("endcalc,1,0,10000001", "field 4: out of range"),
-                ("endcalc,100000,99999,100000", "supervised location before end"),
-                ("endcalc,0,200001,0", "beyond track"), ("endcalc,1,200001,0", "beyond track"),
-                ("endcalc,100000,105000,105001", "bad trip place"), ("endcalc,100000,105000,99999", "bad trip place"),
-                ("endcalc,0,0,10000000", "bad trip place")]:
+            ("endcalc,0,0", "field count"),
+            ("endcalc,0,0,0,x", "field count"),
+            ("Endcalc,0,0,0", "unknown kind"),
+            ("endcalc,x,-1,0", "field 2: not a number"),
+            ("endcalc,0,10000001,x", "field 3: out of range"),
+            ("endcalc,1,0,-1", "field 4: out of range"),
+            ("endcalc,1,0,10000001", "field 4: out of range"),
+            ("endcalc,100000,99999,100000", "supervised location before end"),
+            ("endcalc,0,200001,0", "beyond track"),
+            ("endcalc,1,200001,0", "beyond track"),
+            ("endcalc,100000,105000,105001", "bad trip place"),
+            ("endcalc,100000,105000,99999", "bad trip place"),
+            ("endcalc,0,0,10000000", "bad trip place"),
+        ]:
             self.assertEqual(self.end(line), ("", f"sdm: bad event 1: {fault}\n", 7), line)
-        for line in ("endcalc,100000,105000,105000", "endcalc,100000,105000,100000", "endcalc,0,0,0",
-                     "endcalc,200000,200000,200000"):
+        for line in (
+            "endcalc,100000,105000,105000",
+            "endcalc,100000,105000,100000",
+            "endcalc,0,0,0",
+            "endcalc,200000,200000,200000",
+        ):
             self.assertEqual(self.end(line), ("", "", 0), line)
 
     def test_what_is_refused_changes_nothing(self):

@@ -48,14 +48,18 @@ class SpecialBrakes(unittest.TestCase):
 
     def test_an_area_before_the_end(self):
         data = data_part(band="emergency_reduced = 80", track=area("no_special", 90_000, 100_000))
-        self.assertEqual(journey(data, ["read,0,690000,690000,690000,20000,0,0"]),
-                         ("0,T,I,0,0,0,1,160,780000,780000,740000,700000,520000\n", "", 0))
+        self.assertEqual(
+            journey(data, ["read,0,690000,690000,690000,20000,0,0"]),
+            ("0,T,I,0,0,0,1,160,780000,780000,740000,700000,520000\n", "", 0),
+        )
 
     def test_without_a_reduced_deceleration_or_an_area_nothing_changes(self):
-        for data in (data_part(track=area("no_special", 90_000, 100_000)), data_part(band="emergency_reduced = 80"),
-                     data_part(band="emergency_reduced = 100", track=area("no_special", 90_000, 100_000)),
-                     data_part(band="emergency_reduced = 60", track=area("adhesion", 90_000, 100_000),
-                               adhesion_max=100)):
+        for data in (
+            data_part(track=area("no_special", 90_000, 100_000)),
+            data_part(band="emergency_reduced = 80"),
+            data_part(band="emergency_reduced = 100", track=area("no_special", 90_000, 100_000)),
+            data_part(band="emergency_reduced = 60", track=area("adhesion", 90_000, 100_000), adhesion_max=100),
+        ):
             self.assertEqual(journey(data)[0], "0,C,N,0,0,0,1,160,800000,800000,760000,720000,540000\n")
 
     def test_an_area_counts_until_the_rear_end_has_left(self):
@@ -88,7 +92,7 @@ class SpecialBrakes(unittest.TestCase):
     def test_bands_of_which_one_gives_it(self):
         """Up to 36 km/h (10 m/s) 0.8 m/s² in the area, above it 1 m/s²: 10 m/s are met at 937.5 m, and 20 m/s 150 m
         before that."""
-        low = "emergency_reduced = 80\nupper = 36\n" + PLAIN[PLAIN.index("[[train.band]]"):PLAIN.index("[national]")]
+        low = "emergency_reduced = 80\nupper = 36\n" + PLAIN[PLAIN.index("[[train.band]]") : PLAIN.index("[national]")]
         data = data_part(band=low, track=area("no_special", 0, 200_000))
         self.assertEqual(journey(data)[0].split(",")[8], "787500")
 
@@ -132,31 +136,35 @@ class Refusals(unittest.TestCase):
     def test_what_is_refused(self):
         special = area("no_special", 90_000, 100_000)
         for data, due in [
-                (data_part(band="emergency_reduced = 101", track=special), "value train.band[1].emergency_reduced"),
-                (data_part(band="emergency_reduced = 0"), "value train.band[1].emergency_reduced"),
-                (data_part(band="emergency_reduced = true"), "wrong kind train.band[1].emergency_reduced"),
-                (data_part(band="emergency_reduced = 101", kn_down=1001), "value train.band[1].kn_down"),
-                (data_part(1, band="emergency_reduced = 80", track=special), "unknown key in train.band[1]"),
-                (data_part(1, track=special), "unknown key in track"),
-                (data_part(3), "value version"),
-                (data_part(track=gradient((0, 801))), "value track.gradient[1].grad"),
-                (data_part(track=gradient((0, -801))), "value track.gradient[1].grad"),
-                (data_part(1, track=gradient((0, 81))), "value track.gradient[1].grad"),
-                (data_part(1, track=gradient((0, -81))), "value track.gradient[1].grad"),
-                (data_part(1, track=gradient((1, 81)), length=0), "value train.length"),
-                (data_part(track=area("no_special", 0, 200_001)), "value track.no_special[1].end"),
-                (data_part(track=area("no_special", 7, 7)), "value track.no_special[1].end"),
-                (data_part(track=area("no_special", 7, 9) + area("no_special", 8, 10)), "order track.no_special[2]"),
-                (data_part(track="".join(area("no_special", i, i + 1) for i in range(65))), "count track.no_special"),
-                (data_part(track=area("no_special", 7, 7) + area("adhesion", 7, 7)), "value track.adhesion[1].end")]:
+            (data_part(band="emergency_reduced = 101", track=special), "value train.band[1].emergency_reduced"),
+            (data_part(band="emergency_reduced = 0"), "value train.band[1].emergency_reduced"),
+            (data_part(band="emergency_reduced = true"), "wrong kind train.band[1].emergency_reduced"),
+            (data_part(band="emergency_reduced = 101", kn_down=1001), "value train.band[1].kn_down"),
+            (data_part(1, band="emergency_reduced = 80", track=special), "unknown key in train.band[1]"),
+            (data_part(1, track=special), "unknown key in track"),
+            (data_part(3), "value version"),
+            (data_part(track=gradient((0, 801))), "value track.gradient[1].grad"),
+            (data_part(track=gradient((0, -801))), "value track.gradient[1].grad"),
+            (data_part(1, track=gradient((0, 81))), "value track.gradient[1].grad"),
+            (data_part(1, track=gradient((0, -81))), "value track.gradient[1].grad"),
+            (data_part(1, track=gradient((1, 81)), length=0), "value train.length"),
+            (data_part(track=area("no_special", 0, 200_001)), "value track.no_special[1].end"),
+            (data_part(track=area("no_special", 7, 7)), "value track.no_special[1].end"),
+            (data_part(track=area("no_special", 7, 9) + area("no_special", 8, 10)), "order track.no_special[2]"),
+            (data_part(track="".join(area("no_special", i, i + 1) for i in range(65))), "count track.no_special"),
+            (data_part(track=area("no_special", 7, 7) + area("adhesion", 7, 7)), "value track.adhesion[1].end"),
+        ]:
             with self.subTest(due=due):
                 self.assertEqual(fault(data), due)
 
     def test_what_is_just_accepted(self):
-        for data in (data_part(band="emergency_reduced = 1"), data_part(track=gradient((0, 800))),
-                     data_part(1, track=gradient((0, 80))),
-                     data_part(track=area("no_special", 7, 9) + area("no_special", 9, 10)),
-                     data_part(track="".join(area("no_special", i, i + 1) for i in range(64)))):
+        for data in (
+            data_part(band="emergency_reduced = 1"),
+            data_part(track=gradient((0, 800))),
+            data_part(1, track=gradient((0, 80))),
+            data_part(track=area("no_special", 7, 9) + area("no_special", 9, 10)),
+            data_part(track="".join(area("no_special", i, i + 1) for i in range(64))),
+        ):
             self.assertEqual(fault(data), "")
 
 
@@ -195,8 +203,15 @@ class Upgrade(unittest.TestCase):
         self.assertEqual(set(self.table(empty)["track"]), {"length", "speed"})
 
     def test_the_rules_give_the_data_back(self):
-        for name in ("approach", "two-bands", "gradient-under-train", "limit-of-authority", "release-speed",
-                     "reduced-adhesion", "special-brake"):
+        for name in (
+            "approach",
+            "two-bands",
+            "gradient-under-train",
+            "limit-of-authority",
+            "release-speed",
+            "reduced-adhesion",
+            "special-brake",
+        ):
             table = read_document((EXAMPLES / name / "input").read_bytes().partition(b"%%")[0])
             self.assertEqual(data_of(table_of(data_of(table))), data_of(table))
 
@@ -211,8 +226,9 @@ class Upgrade(unittest.TestCase):
         self.assertEqual(end(b"a = \n"), ("sdm: bad data: not TOML\n", 5))
         self.assertEqual(end((PLAIN + "%%\n").encode()), ("sdm: bad data: not TOML\n", 5))
         self.assertEqual(end(b""), ("sdm: bad data: missing version\n", 5))
-        self.assertEqual(end(data_part(1, track=gradient((0, 81))).encode()),
-                         ("sdm: bad data: value track.gradient[1].grad\n", 5))
+        self.assertEqual(
+            end(data_part(1, track=gradient((0, 81))).encode()), ("sdm: bad data: value track.gradient[1].grad\n", 5)
+        )
         self.assertEqual(end(b" " * 16_777_217), ("sdm: input too long\n", 4))
         self.assertEqual(collect(["upgrade", "x"])[1:], ("sdm: bad words\n", 1))
 
