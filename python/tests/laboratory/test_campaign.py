@@ -4,7 +4,7 @@ import tempfile
 import unittest
 from pathlib import Path
 
-from .tool import program, tool
+from ..tool import program, tool
 
 # A program whose rows are its input, and which ends with 7 where it reads a row `bad`.
 COPIES = (

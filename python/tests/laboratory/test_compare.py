@@ -4,7 +4,7 @@ import unittest
 from pathlib import Path
 
 from ..folders import EXAMPLES
-from .tool import tool
+from ..tool import tool
 
 ROWS = EXAMPLES / "interventions" / "rows"
 MAPPING = """

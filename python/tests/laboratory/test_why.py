@@ -6,7 +6,7 @@ import unittest
 from pathlib import Path
 
 from ..folders import EXAMPLES
-from .tool import program, tool
+from ..tool import program, tool
 
 
 def why(name, row, *words, data=b""):
