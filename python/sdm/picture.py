@@ -13,7 +13,7 @@ import os
 import subprocess
 import sys
 from collections.abc import Callable
-from dataclasses import dataclass
+from dataclasses import dataclass, field
 from pathlib import Path
 from typing import TYPE_CHECKING
 
@@ -88,7 +88,7 @@ def journey_of(words: argparse.Namespace) -> Journey:
 class Picture:
     """A picture as SVG, which a notebook shows."""
 
-    svg: bytes
+    svg: bytes = field(repr=False)
 
     def _repr_svg_(self) -> str:
         return self.svg.decode()

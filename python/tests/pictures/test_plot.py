@@ -99,14 +99,9 @@ class OfRun(Plot):
         svg = Svg(out)
         xml.dom.minidom.parseString(svg.text)
         self.assert_marks(svg, 4)
-        self.assert_texts(
-            svg,
-            "EBD; SBD; EBI; SBI; warning; permitted; indication; EOA, SvL; target of P; +tco +sb +eb -tco -sb; place (m)",
-        )
-        self.assert_texts(
-            svg,
-            "speed (km/h); time (s); front end (m); state; status; traction cut-off; service brake; emergency brake; covered",
-        )
+        self.assert_texts(svg, "EBD; SBD; EBI; SBI; warning; permitted; indication; EOA, SvL; target of P; place (m)")
+        self.assert_texts(svg, "+tco +sb +eb -tco -sb; speed (km/h); time (s); front end (m); state; status")
+        self.assert_texts(svg, "traction cut-off; service brake; emergency brake; covered")
         self.assertEqual(svg.text, self.example("approach").text, "the same bytes come again")
 
     def test_its_marks_lie_in_their_places(self):
@@ -170,7 +165,7 @@ class OfOthers(Plot):
         self.drawn(EXAMPLES / "drive" / "input", altered, "drive", "22", "196", told=told)
 
     def test_the_true_train_lies_in_its_places(self):
-        """Coasting, at its onset, at both stops; the scale is that of its first point and of its place and speed at 74 s."""
+        """Coasting, at its onset, at both stops; the scale is that of its first point and of where it is at 74 s."""
         points = max(self.example("drive", "drive", "22", "196").paths("204, 121, 167"), key=len)
         self.assertEqual(len(points), 197)
         scale = Scale((points[0], (0, 0)), (points[147], (267.4975, 6.4)))
