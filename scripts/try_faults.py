@@ -76,19 +76,12 @@ def fail_in_turn(program, library, journey, table, folder):
         numbers = list(range(1, count + 1)) + ([0] if check is faults.unchanged else [])
         ends = []
         for number in numbers:
-            ended = faults.run(
-                program,
-                journey.words,
-                journey.given,
-                {
-                    "LD_PRELOAD": str(library),
-                    "FAULT_CALL": call,
-                    "FAULT_FILE": str(file),
-                    "FAULT_KIND": kind,
-                    "FAULT_ERROR": str(error),
-                    "FAULT_AT": str(number),
-                },
-            )
+            # fmt: off
+            ended = faults.run(program, journey.words, journey.given, {
+                "LD_PRELOAD": str(library), "FAULT_CALL": call, "FAULT_FILE": str(file), "FAULT_KIND": kind,
+                "FAULT_ERROR": str(error), "FAULT_AT": str(number),
+            })
+            # fmt: on
             ends.append((ended, check(journey, ended)))
         table.tell(journey, fault, ends)
 
@@ -98,19 +91,12 @@ def cut_off(program, library, journey, table):
     length = len(journey.whole.out)
     ends = []
     for kept in range(1, length, max(1, length // CUTS)):
-        ended = faults.run(
-            program,
-            journey.words,
-            journey.given,
-            {
-                "LD_PRELOAD": str(library),
-                "FAULT_CALL": "write",
-                "FAULT_FILE": "1",
-                "FAULT_KIND": "cut",
-                "FAULT_ERROR": str(errno.ENOSPC),
-                "FAULT_AT": str(kept),
-            },
-        )
+        # fmt: off
+        ended = faults.run(program, journey.words, journey.given, {
+            "LD_PRELOAD": str(library), "FAULT_CALL": "write", "FAULT_FILE": "1", "FAULT_KIND": "cut",
+            "FAULT_ERROR": str(errno.ENOSPC), "FAULT_AT": str(kept),
+        })
+        # fmt: on
         why = faults.write_failed(journey, ended)
         ends.append((ended, why or (None if len(ended.out) == kept else "out holds another count of bytes")))
     if ends:

@@ -32,52 +32,14 @@ ENDS = [
 ]
 # fmt: on
 
+# fmt: off
 PIECES = [
-    b'"',
-    b"'",
-    b"\r",
-    b"\n",
-    b"\r\n",
-    b"\0",
-    b",",
-    b",,",
-    b"%%",
-    b"%%\n",
-    b" ",
-    b"\t",
-    b"=",
-    b"[",
-    b"]",
-    b"[[",
-    b"]]",
-    b"{",
-    b"}",
-    b"#",
-    b".",
-    b"-",
-    b"+",
-    b"_",
-    b"1e5",
-    b"0x",
-    b"1.0",
-    b"inf",
-    b"true",
-    b"false",
-    b'"""',
-    b"\xef\xbb\xbf",
-    b"\xff",
-    b"\xc3\x28",
-    b"\xed\xa0\x80",
-    b"read,",
-    b"end,",
-    b"endcalc,",
-    b"limit,",
-    b"restrict,",
-    b"revoke,",
-    b"[train]\n",
-    b"\\u0000",
-    b"1979-05-27T07:32:00Z",
+    b'"', b"'", b"\r", b"\n", b"\r\n", b"\0", b",", b",,", b"%%", b"%%\n", b" ", b"\t", b"=", b"[", b"]", b"[[",
+    b"]]", b"{", b"}", b"#", b".", b"-", b"+", b"_", b"1e5", b"0x", b"1.0", b"inf", b"true", b"false", b'"""',
+    b"\xef\xbb\xbf", b"\xff", b"\xc3\x28", b"\xed\xa0\x80", b"read,", b"end,", b"endcalc,", b"limit,", b"restrict,",
+    b"revoke,", b"[train]\n", b"\\u0000", b"1979-05-27T07:32:00Z",
 ]
+# fmt: on
 
 ROWS = {
     "run": rb"(\d+,[CTR],[NIOWX],[01],[01],[01],[01],\d+(,(-?\d+|-)){5}\n)*",
@@ -211,21 +173,10 @@ def words_changed(numbers, words):
     """The words, at times others."""
     if numbers.draw(0, 39):
         return words
-    kinds = [
-        (),
-        ("run", "run"),
-        ("--help",),
-        ("flat",),
-        ("flat", "100"),
-        ("trial", "7"),
-        ("",),
-        ("run\n",),
-        ("upgrade", "1"),
-        ("display", "1"),
-        ("drive", "7"),
-        ("certify", "0"),
-        ("check", "1"),
-    ]
+    # fmt: off
+    kinds = [(), ("run", "run"), ("--help",), ("flat",), ("flat", "100"), ("trial", "7"), ("",), ("run\n",),
+             ("upgrade", "1"), ("display", "1"), ("drive", "7"), ("certify", "0"), ("check", "1")]
+    # fmt: on
     if numbers.draw(0, 1):
         return kinds[numbers.draw(0, len(kinds) - 1)]
     ends = [str(end + numbers.draw(-1, 1)) for end in ENDS]

@@ -110,17 +110,11 @@ def a_grain_document(rng: Random, version: int) -> Table:
         "speed": [{"start": 0, "speed": 300}]
         + [{"start": start, "speed": rng.choice([15, 24, slow, slow, 120])} for start in starts],
     }
-    document["authority"] = rng.choice(
-        [
-            {
-                "kind": "end",
-                "eoa": 200_000,
-                "svl": rng.choice([200_000, 210_000]),
-                "release": rng.choice([0, 0, 9, 18, 36]),
-            },
-            {"kind": "limit", "loa": 200_000, "speed": slow},
-        ]
-    )
+    # fmt: off
+    document["authority"] = rng.choice([{"kind": "end", "eoa": 200_000, "svl": rng.choice([200_000, 210_000]),
+                                         "release": rng.choice([0, 0, 9, 18, 36])},
+                                        {"kind": "limit", "loa": 200_000, "speed": slow}])
+    # fmt: on
     return document
 
 

@@ -161,65 +161,25 @@ def spoil_text(rng: Random, data: bytes) -> tuple[str, bytes]:
 
 def spoilt_forms(some: list[str]) -> dict[str, list[list[str]]]:
     """Records whose form is refused, by the fault's name; `some` is a reading that is accepted."""
+    # fmt: off
     return {
-        "unknown kind": [
-            [""],
-            ["Read"],
-            ["read "],
-            ["x", "1"],
-            ['"\nread', "1"],
-            ["\ufeffrevoke", "1"],
-            ["Endcalc", "0", "0", "0"],
-            ["endcal", "0", "0", "0"],
-        ],
-        "field count": [
-            ["read"],
-            some[:-1],
-            some + ["0"],
-            ["end", "1", "1"],
-            ["revoke"],
-            ["limit", "1", "1", ""],
-            ["endcalc", "1", "1"],
-            ["endcalc", "1", "1", "x", "0"],
-        ],
-        "not a number": [
-            ["read", *first, *["0"] * 5]
-            for first in (
-                ["", "0"],
-                ["1.0", "0"],
-                ["+1", "0"],
-                [" 1", "0"],
-                ["0", "--1"],
-                ["0", "1" * 19],
-                ["0", "0x1"],
-            )
-        ]
+        "unknown kind": [[""], ["Read"], ["read "], ["x", "1"], ['"\nread', "1"], ["\ufeffrevoke", "1"],
+                         ["Endcalc", "0", "0", "0"], ["endcal", "0", "0", "0"]],
+        "field count": [["read"], some[:-1], some + ["0"], ["end", "1", "1"], ["revoke"], ["limit", "1", "1", ""],
+                        ["endcalc", "1", "1"], ["endcalc", "1", "1", "x", "0"]],
+        "not a number": [["read", *first, *["0"] * 5] for first in (
+            ["", "0"], ["1.0", "0"], ["+1", "0"], [" 1", "0"], ["0", "--1"], ["0", "1" * 19], ["0", "0x1"])]
         + [["endcalc", "0", "0", ""], ["endcalc", "0", "x", "-1"]],
         "out of range": [
-            ["read", "100000001"] + some[2:],
-            ["read", "-1"] + some[2:],
-            some[:2] + ["110000001"] + some[3:],
-            some[:2] + ["5", "6", "5"] + some[5:],
-            some[:2] + ["5", "5", "4"] + some[5:],
-            some[:5] + ["138889", "0", "0"],
-            some[:6] + ["301", "0"],
-            some[:7] + ["10001"],
-            some[:7] + ["-1"],
-            some[:6] + ["-301", "x"],
-            ["end", "10000001", "0", "0"],
-            ["end", "0", "0", "501"],
-            ["limit", "0", "0"],
-            ["limit", "0", "501"],
-            ["restrict", "65536", "0", "1", "5", "0"],
-            ["restrict", "0", "0", "1", "0", "0"],
-            ["restrict", "0", "0", "1", "5", "2"],
-            ["revoke", "-1"],
-            ["end", "9" * 18, "0", "0"],
-            ["endcalc", "0", "0", "10000001"],
-            ["endcalc", "1", "0", "-1"],
-            ["endcalc", "10000001", "0", "0"],
-        ],
+            ["read", "100000001"] + some[2:], ["read", "-1"] + some[2:], some[:2] + ["110000001"] + some[3:],
+            some[:2] + ["5", "6", "5"] + some[5:], some[:2] + ["5", "5", "4"] + some[5:],
+            some[:5] + ["138889", "0", "0"], some[:6] + ["301", "0"], some[:7] + ["10001"], some[:7] + ["-1"],
+            some[:6] + ["-301", "x"], ["end", "10000001", "0", "0"], ["end", "0", "0", "501"], ["limit", "0", "0"],
+            ["limit", "0", "501"], ["restrict", "65536", "0", "1", "5", "0"], ["restrict", "0", "0", "1", "0", "0"],
+            ["restrict", "0", "0", "1", "5", "2"], ["revoke", "-1"], ["end", "9" * 18, "0", "0"],
+            ["endcalc", "0", "0", "10000001"], ["endcalc", "1", "0", "-1"], ["endcalc", "10000001", "0", "0"]],
     }
+    # fmt: on
 
 
 def refused_events(rng: Random, supervisor: Supervisor, time: int) -> dict[str, list[list[str]]]:
@@ -228,37 +188,21 @@ def refused_events(rng: Random, supervisor: Supervisor, time: int) -> dict[str, 
     free = str(next(identity for identity in range(40) if identity not in held))
     last, end = str(length), str(min(10_000_000, length + 1))
     in_use = ["restrict", str(rng.choice(held)), "0", rng.choice(["0", "1"]), "5", "0"] if held else ["revoke", "9"]
+    # fmt: off
     return {
         "time back": [["read", str(max(time - 1, 0)), "0", "0", "0", "0", "0", "0"]],
-        "before end": [
-            ["end", "1", "0", "0"],
-            ["end", last, str(length - 1), "5"],
-            ["end", "10000000", "0", "0"],
-            ["endcalc", "1", "0", "1"],
-            ["endcalc", end, last, "0"],
-        ],
-        "beyond track": [
-            ["end", "0", end, "0"],
-            ["limit", end, "5"],
-            ["end", end, end, "0"],
-            ["endcalc", "1", end, "0"],
-            ["endcalc", end, end, end],
-        ],
-        "bad trip place": [
-            ["endcalc", "1", "1", "0"],
-            ["endcalc", "0", "0", "1"],
-            ["endcalc", "0", last, end],
-            ["endcalc", last, last, str(length - 1)],
-            ["endcalc", "0", last, "10000000"],
-        ],
-        "restriction value": [
-            ["restrict", free, "5", "5", "5", "0"],
-            ["restrict", free, "6", "5", "5", "1"],
-            ["restrict", free, "0", end, "5", "0"],
-        ],
+        "before end": [["end", "1", "0", "0"], ["end", last, str(length - 1), "5"], ["end", "10000000", "0", "0"],
+                       ["endcalc", "1", "0", "1"], ["endcalc", end, last, "0"]],
+        "beyond track": [["end", "0", end, "0"], ["limit", end, "5"], ["end", end, end, "0"],
+                         ["endcalc", "1", end, "0"], ["endcalc", end, end, end]],
+        "bad trip place": [["endcalc", "1", "1", "0"], ["endcalc", "0", "0", "1"], ["endcalc", "0", last, end],
+                           ["endcalc", last, last, str(length - 1)], ["endcalc", "0", last, "10000000"]],
+        "restriction value": [["restrict", free, "5", "5", "5", "0"], ["restrict", free, "6", "5", "5", "1"],
+                              ["restrict", free, "0", end, "5", "0"]],
         "identity unknown": [["revoke", free]],
         "identity in use": [in_use],
     }
+    # fmt: on
 
 
 def spoilt_record(rng: Random, supervisor: Supervisor, time: int) -> tuple[str, list[str]]:

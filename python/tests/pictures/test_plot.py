@@ -1,4 +1,4 @@
-"""tools/plot draws what the pages of examples/ work out, at its place, and refuses in a sentence what can't be drawn."""
+"""tools/plot draws what the pages of examples/ work out, and refuses in a sentence what can't be drawn."""
 import os
 import re
 import subprocess
@@ -68,7 +68,7 @@ class Plot(unittest.TestCase):
         return Svg(out) if out.suffix == ".svg" else out.read_bytes()
 
     def example(self, name, *words):
-        """The picture of a folder of examples/, whose marks of the train are as many as its rows, and one of the key."""
+        """The picture of a folder of examples/, with a mark of the train for each of its rows, and one in the key."""
         rows = EXAMPLES / name / "rows"
         svg = self.drawn(EXAMPLES / name / "input", rows, *words)
         if words[:1] != ("drive",):
