@@ -12,6 +12,16 @@ from ..folders import EXAMPLES, TOP
 
 BLOCKS = re.findall(r"^```python\n(.*?)^```$", (TOP / "docs" / "PYTHON.md").read_text(), re.M | re.S)
 
+TEN_LINES = """from pathlib import Path
+import pandas, sdm
+data = Path("examples/realistic/input").read_text().partition("%%")[0]
+place = range(3_200_000, 5_200_000, 20_000)
+readings = sdm.readings(time_ds=range(0, 500, 5), est_mm=place, min_mm=place, max_mm=place, speed_mm_s=40_000)
+variations = {"train.band.1.emergency": range(60, 110, 2), "train.emergency_time": range(0, 80, 2)}
+told = pandas.DataFrame(sdm.sweep(data, readings, variations))
+sdm.plot(data, readings).save("journey.svg")
+"""
+
 
 class Page(unittest.TestCase):
     def test_its_examples(self):
@@ -39,8 +49,14 @@ class Page(unittest.TestCase):
             self.assertTrue(5_005 < names["stopped"] < 5_006 and names["driven"][-1].eb)
 
     def test_ten_lines_for_a_thousand_variations_and_a_picture(self):
-        lines = [line for block in BLOCKS[:2] for line in block.splitlines() if line]
-        self.assertLessEqual(len(lines), 13)
+        self.assertLessEqual(len(TEN_LINES.splitlines()), 10)
+        with tempfile.TemporaryDirectory() as room, contextlib.chdir(room):
+            os.symlink(EXAMPLES, "examples")
+            names = {}
+            exec(TEN_LINES, names)
+            self.assertEqual(names["told"].shape[0], 1000)
+            self.assertGreater(names["told"].first_eb_ds.nunique(), 30)
+            self.assertIn("<title>sdm run: 100 readings</title>", Path("journey.svg").read_text())
 
 
 def rows_of(example):
