@@ -1,7 +1,8 @@
 """The standard inputs of the measurements, each made by a function of its own from a seed.
 
 The same seed gives the same bytes with every version of Python, since the numbers come from the generator below and
-from no other. docs/FORMATS.md says what the bytes mean. """
+from no other. docs/FORMATS.md says what the bytes mean.
+"""
 
 from dataclasses import dataclass, replace
 from itertools import islice

@@ -13,13 +13,20 @@ import inputs
 import measure
 
 from sdm.laboratory.program import Fault, add_program, built, sum_of
+from piped import end
 
-# fmt: off
 COLUMNS = [
-    "Input", "Records", "Counted", "ns each", "Least ns", "A second", "Instructions each",
-    "Peak memory, MiB", "Start-up, ms", "Start-up, instructions",
+    "Input",
+    "Records",
+    "Counted",
+    "ns each",
+    "Least ns",
+    "A second",
+    "Instructions each",
+    "Peak memory, MiB",
+    "Start-up, ms",
+    "Start-up, instructions",
 ]
-# fmt: on
 
 BUSY = 1.5  # a load above this means that others ran beside the program
 
@@ -128,4 +135,4 @@ def main():
 
 
 if __name__ == "__main__":
-    main()
+    end(main)

@@ -48,18 +48,6 @@ static bool is_closed(struct sdm h) {
     return is_same_handle(h, closed);
 }
 
-static bool is_same_place(struct sdm_place one, struct sdm_place other) {
-    return one.mm == other.mm && one.is_some == other.is_some;
-}
-
-static bool is_same_row(const struct sdm_row *one, const struct sdm_row *other) {
-    return one->time_ds == other->time_ds && one->state == other->state && one->status == other->status &&
-           one->tco == other->tco && one->sb == other->sb && one->eb == other->eb && one->covered == other->covered &&
-           one->ceiling_kmh == other->ceiling_kmh && is_same_place(one->ebi, other->ebi) &&
-           is_same_place(one->sbi, other->sbi) && is_same_place(one->warning, other->warning) &&
-           is_same_place(one->permitted, other->permitted) && is_same_place(one->indication, other->indication);
-}
-
 /* Whether all bytes of an output are still what `unwritten` made of them. */
 static bool is_unwritten(const void *output, size_t bytes) {
     const uint8_t *at = (const uint8_t *)output;
@@ -272,7 +260,7 @@ static void compare(struct sdm *h, struct sdm *twin, const struct event *reading
     unwritten(&twins_row, sizeof twins_row);
     check_answer(event_take(h, reading, &row), SDM_DONE, what);
     check_answer(event_take(twin, reading, &twins_row), SDM_DONE, what);
-    check(is_same_row(&row, &twins_row), "the next row is as that of a supervisor that wasn't misused", what);
+    check(row_is_same(&row, &twins_row), "the next row is as that of a supervisor that wasn't misused", what);
 }
 
 /* Takes as many restrictions as may be, and refuses one more. */
@@ -370,6 +358,15 @@ static void misuse_supervisor(const struct journey *journey) {
     check(heap_test_counts().held == 0, "closing gives all memory back", "the supervisors");
 }
 
+/* Each status has a text of its own, and so has a number that is none. */
+static void tell_statuses(void) {
+    for (uint32_t one = SDM_DONE; one <= SDM_UNKNOWN_ID + 1; one++)
+        for (uint32_t other = SDM_DONE; other < one; other++)
+            check(strcmp(sdm_status_text(one), sdm_status_text(other)) != 0, "it is its own", "the text of a status");
+    check(strcmp(sdm_status_text(SDM_UNKNOWN_ID + 1), sdm_status_text(UINT32_MAX)) == 0, "it is that of no status",
+          "the text of a number that is none");
+}
+
 int main(void) {
     struct journey journey;
     if (journey_read(stdin, &journey) != JOURNEY_READ) {
@@ -377,6 +374,7 @@ int main(void) {
         return 64;
     }
     check(sdm_layout() == SDM_LAYOUT, "it is that of sdm.h", "the layout");
+    tell_statuses();
     refuse_data("", "sdm: bad data: missing version\n");
     refuse_data("version = ", "sdm: bad data: not TOML\n");
     refuse_data("version = 1\n", "sdm: bad data: missing train\n");

@@ -12,7 +12,7 @@
 #include <stdint.h>
 #include <string.h>
 
-/* The size of the arena. What sdm_open takes of it: docs/INTEGRATION.md, "From C". */
+/* The size of the arena. What sdm_open takes of it: docs/FROM-C.md. */
 #ifndef SDM_ARENA_BYTES
 #define SDM_ARENA_BYTES (4u << 20)
 #endif

@@ -198,3 +198,15 @@ uint32_t event_take(struct sdm *h, const struct event *event, struct sdm_row *ro
     }
     abort();
 }
+
+static bool is_same_place(struct sdm_place one, struct sdm_place other) {
+    return one.mm == other.mm && one.is_some == other.is_some;
+}
+
+bool row_is_same(const struct sdm_row *one, const struct sdm_row *other) {
+    return one->time_ds == other->time_ds && one->state == other->state && one->status == other->status &&
+           one->tco == other->tco && one->sb == other->sb && one->eb == other->eb && one->covered == other->covered &&
+           one->ceiling_kmh == other->ceiling_kmh && is_same_place(one->ebi, other->ebi) &&
+           is_same_place(one->sbi, other->sbi) && is_same_place(one->warning, other->warning) &&
+           is_same_place(one->permitted, other->permitted) && is_same_place(one->indication, other->indication);
+}

@@ -56,7 +56,10 @@ enum form_fault event_read(const uint8_t **at, const uint8_t *end, struct event 
 struct sdm_reading event_reading(const struct event *event);
 
 /* Hands an event to the supervisor and answers what it answers. The row is that of a reading. */
-uint32_t event_take(struct sdm *h, const struct event *event, struct sdm_row *row);
+SDM_MUST_CHECK uint32_t event_take(struct sdm *h, const struct event *event, struct sdm_row *row);
+
+/* Whether two rows say the same. */
+bool row_is_same(const struct sdm_row *one, const struct sdm_row *other);
 
 #ifdef __cplusplus
 }

@@ -66,7 +66,9 @@ static void take(struct onboard *onboard, const struct event *event) {
         note(onboard, &onboard->is_restriction_missing, onboard->is_restriction_missing || status != SDM_DONE);
         return;
     case EVENT_REVOKE:
-        event_take(&onboard->supervisor, event, NULL); /* where the identity is unknown nothing is to be lifted */
+        status = event_take(&onboard->supervisor, event, NULL);
+        if (status != SDM_DONE && status != SDM_UNKNOWN_ID) /* where the identity is unknown nothing is to be lifted */
+            onboard->orders = BRAKE;
         return;
     case EVENT_END:
     case EVENT_END_CALCULATED:

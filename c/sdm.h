@@ -9,7 +9,7 @@
  * Units: times in tenths of a second (ds), places of the front end in millimetres, places of the track in centimetres,
  * speeds in km/h, those of a reading in mm/s. What the columns of a row mean: docs/FORMATS.md.
  *
- * Duties of the caller, which nothing checks: docs/INTEGRATION.md, "From C". C11 or later, or C++11 or later. */
+ * Duties of the caller, which nothing checks: docs/FROM-C.md. C11 or later, or C++11 or later. */
 #ifndef SDM_H
 #define SDM_H
 
@@ -20,8 +20,25 @@
 extern "C" {
 #endif
 
-/* The number of this header's layout: compare it with sdm_layout() before the first other call. */
+/* The number of this header's layout: compare it with sdm_layout() before the first other call. The shared library
+ * carries it in its name, libsdm.so.1, and in the version of each symbol, SDM_1.
+ *
+ * It is raised by what makes a program wrong that was compiled with the header before: another size, offset, unit,
+ * range or meaning of what is there already, another number of a status, or a call that is gone, has other arguments or
+ * needs another order. It is kept by what is only added: a call, or a status. So take each status but SDM_DONE for a
+ * refusal, also one that isn't listed here. */
 #define SDM_LAYOUT 1u
+
+/* Makes a compiler that can tell warn where the answer of a call isn't looked at. */
+#if defined(__cplusplus) && __cplusplus >= 201703L
+#define SDM_MUST_CHECK [[nodiscard]]
+#elif defined(__STDC_VERSION__) && __STDC_VERSION__ >= 202311L
+#define SDM_MUST_CHECK [[nodiscard]]
+#elif defined(__GNUC__)
+#define SDM_MUST_CHECK __attribute__((warn_unused_result))
+#else
+#define SDM_MUST_CHECK
+#endif
 
 /* What a call answers. */
 enum sdm_status {
@@ -89,7 +106,9 @@ struct sdm_row {
     uint32_t tco;     /* the traction cut-off is commanded */
     uint32_t sb;      /* the service brake is commanded */
     uint32_t eb;      /* the emergency brake is commanded */
-    uint32_t covered; /* the stop before the supervised location is promised, on the premises of docs/ASSUMPTIONS.md */
+    uint32_t covered; /* every motion that keeps to the reading's bounds and brakes by the times handed in stops at or
+                       * before the supervised location, where the authority has one, and passes each speed target with
+                       * at most its speed and its EBI margin (docs/ASSUMPTIONS.md, "What covered promises") */
     uint32_t ceiling_kmh;
     /* The places of the limits at the reading's speed. */
     struct sdm_place ebi;
@@ -125,41 +144,45 @@ struct sdm_display {
 };
 
 /* The comment of each call ends with what it answers but SDM_DONE, in the order in which that is looked for. Pointers
- * are valid and none of them null, as docs/INTEGRATION.md says. */
+ * are valid and none of them null, as docs/FROM-C.md says. */
 
 /* The number of the layout that the library was built for: SDM_LAYOUT, or the two don't belong together. */
 uint32_t sdm_layout(void);
 
+/* What a status says, in a few English words with a zero at their end, which stay as long as the program runs. They are
+ * for people: another version may word them otherwise. A number that is no status has words too. */
+const char *sdm_status_text(uint32_t status);
+
 /* Opens a supervisor over a data part in TOML, of version 1 or 2 (docs/FORMATS.md), which is not kept. SDM_BAD_DATA and
  * SDM_REFUSED write the line; all others leave it as it is. SDM_IN_USE, SDM_BAD_DATA, SDM_REFUSED; SDM_NO_MEMORY in the
  * place of each but SDM_IN_USE. */
-uint32_t sdm_open(struct sdm *h, const uint8_t *data, size_t data_bytes, struct sdm_line *line);
+SDM_MUST_CHECK uint32_t sdm_open(struct sdm *h, const uint8_t *data, size_t data_bytes, struct sdm_line *line);
 
 /* Judges a reading and writes its row. SDM_CLOSED, SDM_OUT_OF_RANGE, SDM_TIME_BACK. */
-uint32_t sdm_cycle(struct sdm *h, const struct sdm_reading *reading, struct sdm_row *row);
+SDM_MUST_CHECK uint32_t sdm_cycle(struct sdm *h, const struct sdm_reading *reading, struct sdm_row *row);
 
 /* Takes a movement authority to an end in the place of the last one, with a supervised location and a release speed (0
  * to 500; 0: none). SDM_CLOSED, SDM_SVL_BEFORE_EOA, SDM_BEYOND_TRACK, SDM_BAD_SPEED. */
-uint32_t sdm_end(struct sdm *h, uint32_t eoa_cm, uint32_t svl_cm, uint32_t release_kmh);
+SDM_MUST_CHECK uint32_t sdm_end(struct sdm *h, uint32_t eoa_cm, uint32_t svl_cm, uint32_t release_kmh);
 
 /* Takes the same with the calculated release speed for a trip at a place (SUBSET-026-3 3.13.9.4.8). SDM_CLOSED,
  * SDM_SVL_BEFORE_EOA, SDM_BEYOND_TRACK, SDM_BAD_TRIP. */
-uint32_t sdm_end_calculated(struct sdm *h, uint32_t eoa_cm, uint32_t svl_cm, uint32_t trip_cm);
+SDM_MUST_CHECK uint32_t sdm_end_calculated(struct sdm *h, uint32_t eoa_cm, uint32_t svl_cm, uint32_t trip_cm);
 
 /* Takes a movement authority to a limit, which is passed at its speed (1 to 500). SDM_CLOSED, SDM_BEYOND_TRACK,
  * SDM_BAD_SPEED. */
-uint32_t sdm_limit(struct sdm *h, uint32_t loa_cm, uint32_t speed_kmh);
+SDM_MUST_CHECK uint32_t sdm_limit(struct sdm *h, uint32_t loa_cm, uint32_t speed_kmh);
 
 /* Puts a temporary speed restriction into force. SDM_CLOSED, SDM_OUT_OF_RANGE, SDM_FULL, SDM_ID_IN_USE,
  * SDM_BAD_PLACES. */
-uint32_t sdm_restrict(struct sdm *h, const struct sdm_restriction *restriction);
+SDM_MUST_CHECK uint32_t sdm_restrict(struct sdm *h, const struct sdm_restriction *restriction);
 
 /* Lifts the restriction with an identity. SDM_CLOSED, SDM_OUT_OF_RANGE, SDM_UNKNOWN_ID. */
-uint32_t sdm_revoke(struct sdm *h, uint32_t id);
+SDM_MUST_CHECK uint32_t sdm_revoke(struct sdm *h, uint32_t id);
 
 /* Writes what the driver can be shown of a reading in what is in force; ask it once sdm_cycle has taken the reading.
  * It changes no supervisor. SDM_CLOSED, SDM_OUT_OF_RANGE. */
-uint32_t sdm_display(struct sdm *h, const struct sdm_reading *reading, struct sdm_display *display);
+SDM_MUST_CHECK uint32_t sdm_display(struct sdm *h, const struct sdm_reading *reading, struct sdm_display *display);
 
 /* Gives the memory back and leaves the handle as SDM_INIT. Of a handle that has no supervisor nothing happens. */
 void sdm_close(struct sdm *h);

@@ -7,7 +7,8 @@
 The input of each third seed is given to `display` and to `certify` too, and each third seed makes a drive, and a text
 for `check`, besides. Of each difference it tells the input, the first row or line that differs, and both texts.
 `tools/journeys input SEED` writes the journey of a seed, `drive SEED` its drive, and `tools/certified SEED` its text
-for `check`. """
+for `check`.
+"""
 
 import argparse
 import collections
@@ -21,6 +22,7 @@ from sdm.laboratory.program import Fault, Result, add_program, built, run
 from sdm.model.certified import a_certify, a_check
 from sdm.model.journeys import a_drive, make
 from sdm.model.words import collect
+from piped import end
 
 TOP = Path(__file__).resolve().parents[1]
 GATE_JOURNEYS = 1000
@@ -122,4 +124,4 @@ def main(args):
 
 
 if __name__ == "__main__":
-    sys.exit(main(sys.argv[1:]))
+    end(lambda: main(sys.argv[1:]))

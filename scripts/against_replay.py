@@ -6,7 +6,8 @@
     scripts/against_replay.py REPLAY --program PATH    another program than crates/sdm/out/sdm
 
 replay takes plain records alone. Where those of an input aren't plain, it must say so and write nothing; it is then
-given the same records written plainly. The input of each third seed is given to `display` too. """
+given the same records written plainly. The input of each third seed is given to `display` too.
+"""
 
 import argparse
 import collections
@@ -22,6 +23,7 @@ from sdm.model.journeys import specials
 from sdm.model.outcome import Outcome
 from sdm.model.records import records
 from sdm.model.words import MOST_BYTES
+from piped import end
 
 TOP = Path(__file__).resolve().parents[1]
 SHOWN = 3  # each so many seeds an input is given to `display` too
@@ -113,4 +115,4 @@ def main(args):
 
 
 if __name__ == "__main__":
-    sys.exit(main(sys.argv[1:]))
+    end(lambda: main(sys.argv[1:]))

@@ -2,7 +2,8 @@
 tests.
 
 A name in a file stands for the definition that the file imports under it, or defines itself. The tables of
-docs/DEFINITIONS.md (scripts/definitions.py) and the list of scripts/believed stand on this. """
+docs/DEFINITIONS.md (scripts/definitions.py) and the list of scripts/believed stand on this.
+"""
 
 import re
 from collections import defaultdict

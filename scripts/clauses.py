@@ -11,6 +11,7 @@ import sys
 from pathlib import Path
 
 from pages import Part
+from piped import end
 from specs import ROOT
 
 SOURCES = ROOT / "docs" / "DEFINITIONS.md"
@@ -80,4 +81,4 @@ def listed():
 
 
 if __name__ == "__main__":
-    sys.exit(PART.main(sys.argv[1:], listed(), []))
+    end(lambda: PART.main(sys.argv[1:], listed(), []))

@@ -1,5 +1,5 @@
-"""Writes the table of crates of docs/ARCHITECTURE.md: the crates in the order of crates.txt, and what each stands on.
-What a crate does is written by hand in that table, and is kept.
+"""Writes the table of crates of docs/ARCHITECTURE.md: the crates in the order of crates.txt. What a crate does is
+written by hand in that table, and is kept.
 
     scripts/crates          prints the table
     scripts/crates write    puts it between its marks in docs/ARCHITECTURE.md
@@ -10,12 +10,13 @@ import re
 import sys
 
 from pages import Part
-from specs import ROOT, crates_with_libraries
+from piped import end
+from specs import ROOT, crates
 
 PART = Part(
     "crates",
     ROOT / "docs" / "ARCHITECTURE.md",
-    "<!-- The table from here on is written by scripts/crates, but for its middle column. -->",
+    "<!-- The table from here on is written by scripts/crates, but for its last column. -->",
     "<!-- The table ends here. -->",
     "scripts/crates write",
 )
@@ -27,27 +28,22 @@ def words_of_crates():
     if not PART.has_marks(text):
         return {}
     table = text[text.index(PART.begin) : text.index(PART.end)]
-    return dict(re.findall(r"^\| `(\w+)` \| (.*?) \| [^|]* \|$", table, re.M))
+    return dict(re.findall(r"^\| `(\w+)` \| (.*) \|$", table, re.M))
 
 
 def listed():
     """The table in Markdown."""
     does = words_of_crates()
-    lines = ["", "| Crate | What it does | Stands on |", "|---|---|---|"]
-    for name, below in crates_with_libraries():
-        lines.append(f"| `{name}` | {does.get(name, '')} | {', '.join(f'`{it}`' for it in below) or 'nothing'} |")
+    lines = ["", "| Crate | What it does |", "|---|---|"]
+    lines += [f"| `{name}` | {does.get(name, '')} |" for name in crates()]
     return "\n".join([*lines, ""]) + "\n"
 
 
 def wordless():
     """The crates of which the table says nothing."""
     does = words_of_crates()
-    return [
-        f"the table says nothing of what {name} does"
-        for name, _ in crates_with_libraries()
-        if not does.get(name, "").strip()
-    ]
+    return [f"the table says nothing of what {name} does" for name in crates() if not does.get(name, "").strip()]
 
 
 if __name__ == "__main__":
-    sys.exit(PART.main(sys.argv[1:], listed(), wordless()))
+    end(lambda: PART.main(sys.argv[1:], listed(), wordless()))

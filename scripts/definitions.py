@@ -3,7 +3,8 @@ meaning, the contract that cites it, and the case, test or proof that shows it.
 
 `scripts/write-definitions` writes them. `scripts/check-definitions` fails where a definition has no source or no
 comment, where the document lacks its line or names one that is gone, where own definitions have no reason, and where
-the tables aren't, to the byte, what `scripts/write-definitions` would write. """
+the tables aren't, to the byte, what `scripts/write-definitions` would write.
+"""
 
 import re
 import sys
@@ -13,6 +14,7 @@ import specs
 from citations import Graph
 from evidence import Cases, Tests
 from pages import Part, told
+from piped import end
 from specs import ROOT, meaning_of, source_from
 
 PART = Part(
@@ -27,17 +29,14 @@ REASONS = ROOT / "scripts" / "own-reasons.txt"
 PARTS = [
     (
         "What the top call reaches",
-        "The contract of `sdm_main` names these definitions, or reaches them through others. "
-        "Whoever relies on the program "
-        "relies on "
-        "them. [ASSUMPTIONS.md](ASSUMPTIONS.md#the-files-to-believe) counts their lines.",
+        "The contract of `sdm_main` names these definitions, or reaches them through others. The program rests on "
+        "them. [BELIEVED.md](BELIEVED.md) counts their lines, command by command.",
     ),
     (
         "What inner contracts and laws cite",
         "These are not needed to say what the program does: they are how one crate tells the next what it computes, "
-        "or how the laws of "
-        "`sdm_laws` are stated. A mistake in one of them would make a proof above it fail, and could not make a wrong "
-        "program pass. "
+        "or how laws are stated. A mistake in one of them would make a proof above it fail, "
+        "and could not make a wrong program pass. "
         "Whoever relies on a law by its name relies on its statement here. All are own unless a clause is named.",
     ),
 ]
@@ -215,4 +214,4 @@ def main(words):
 
 
 if __name__ == "__main__":
-    sys.exit(main(sys.argv[1:]))
+    end(lambda: main(sys.argv[1:]))

@@ -1,28 +1,45 @@
-"""Checks the pages of the repository: every relative link and picture leads to a file or folder in it, every anchor to
-a heading; what README shows to paste is the input of examples/approach, with its rows; and the code that
-docs/INTEGRATION.md shows stands in crates/sdm_onboard or in c/. Links to other hosts are not followed.
+"""Checks the pages of the repository: every relative link and picture leads to a file or folder in it, every anchor
+to a heading or to a line; the inputs that README and docs/FORMATS.md show are those of examples/, with their rows;
+and the code that docs/INTEGRATION.md and docs/FROM-C.md show stands in crates/sdm_onboard or in c/;
+docs/LABORATORY.md shows what tools/compare prints. Links to other hosts are not followed.
 
     scripts/check-links
 """
 
 import re
 import subprocess
-import sys
+from collections.abc import Iterator
 from functools import cache
 from urllib.parse import unquote
 
 from pages import told
+from piped import end
 from specs import ROOT
 
 FENCE = re.compile(r"^(```|~~~).*?^\1\s*$", re.M | re.S)
 CODE = re.compile(r"`[^`\n]*`")
 LINK = re.compile(r"\]\(\s*<?([^)\s>]+)>?(?:\s+\"[^\"]*\")?\s*\)")
+LINE = re.compile(r"L(\d+)")  # the anchor of a line of a file
 HEADING = re.compile(r"^#{1,6}\s+(.*?)\s*#*$", re.M)
-SHOWN_CODE = {
-    "rust": "crates/sdm_onboard/src/*.rt",
-    "c": "c/*.c",
-    "ada": "c/ada/*.adb",
-}  # where docs/INTEGRATION.md has it from
+SHOWN_CODE = [  # a page, the language of code that it shows, and where that is from
+    ("docs/INTEGRATION.md", "rust", "crates/sdm_onboard/src/*.rt"),
+    ("docs/FROM-C.md", "c", "c/*.c"),
+    ("docs/FROM-C.md", "ada", "c/ada/*.adb"),
+]
+SHOWN_EXAMPLES = [  # a page, the folder of examples/ that it shows, and how it shows the input
+    ("README.md", "approach", "<<'END'\n{}END\n"),
+    ("docs/FORMATS.md", "every-key", "```toml\n{}```\n"),
+]
+COMPARED = [
+    "tools/compare",
+    *(f"examples/interventions/{name}" for name in ("rows", "recording.csv")),
+    "--mapping",
+    "examples/interventions/mapping.toml",
+    "--mm",
+    "2",
+    "--ds",
+    "5",
+]  # what docs/LABORATORY.md shows a run of
 ELSEWHERE = re.compile(r"^[a-z][a-z0-9+.-]*:", re.I)
 
 
@@ -55,6 +72,9 @@ def fault_of(page, target):
         return "leads out of the repository"
     if not to.exists():
         return "leads nowhere"
+    line = LINE.fullmatch(anchor)
+    if line and to.suffix != ".md":
+        return None if int(line[1]) <= len(to.read_text().splitlines()) else "has no such line"
     if anchor and (to.suffix != ".md" or anchor not in anchors(to)):
         return "has no such heading"
     return None
@@ -70,30 +90,44 @@ def links_of(page):
                     yield number, target
 
 
-def example_faults():
-    """Where README's example isn't the folder's."""
-    text = (ROOT / "README.md").read_text()
-    example = ROOT / "examples" / "approach"
-    shown = {
-        "input": f"<<'END'\n{(example / 'input').read_text()}END\n",
-        "rows": f"```\n{(example / 'rows').read_text()}```\n",
-    }
-    for name, lines in shown.items():
-        if lines not in text:
-            yield f"README.md: its example has not the {name} of examples/approach"
+def example_faults() -> Iterator[str]:
+    """Where a page's example isn't the folder's."""
+    for page, name, before in SHOWN_EXAMPLES:
+        text = (ROOT / page).read_text()
+        example = ROOT / "examples" / name
+        shown = {
+            "input": before.format((example / "input").read_text()),
+            "rows": f"```\n{(example / 'rows').read_text()}```\n",
+        }
+        for what, lines in shown.items():
+            if lines not in text:
+                yield f"{page}: its example has not the {what} of examples/{name}"
 
 
-def code_faults():
-    """Where code of docs/INTEGRATION.md isn't that of the programs that it shows."""
-    text = (ROOT / "docs" / "INTEGRATION.md").read_text()
-    for language, files in SHOWN_CODE.items():
+def code_faults() -> Iterator[str]:
+    """Where code that a page shows isn't that of the programs that it shows."""
+    for page, language, files in SHOWN_CODE:
         sources = [path.read_text() for path in ROOT.glob(files)]
-        blocks = re.findall(rf"^```{language}\n(.*?)^```$", text, re.M | re.S)
+        blocks = re.findall(rf"^```{language}\n(.*?)^```$", (ROOT / page).read_text(), re.M | re.S)
         for block in blocks:
             if not any(block in source for source in sources):
-                yield f"docs/INTEGRATION.md: {files} has no such code: {block.splitlines()[0].strip()}"
+                yield f"{page}: {files} has no such code: {block.splitlines()[0].strip()}"
         if not blocks:
-            yield f"docs/INTEGRATION.md: it shows no code of {files}"
+            yield f"{page}: it shows no code of {files}"
+
+
+def output_faults() -> Iterator[str]:
+    """Where docs/LABORATORY.md shows another comparison than the tool prints, or another mapping."""
+    text = (ROOT / "docs" / "LABORATORY.md").read_text()
+    printed = subprocess.run(COMPARED, cwd=ROOT, capture_output=True, text=True, check=False).stdout
+    shown = {
+        "the command": " ".join(COMPARED),
+        "its output": "".join(f"    {line}".rstrip() + "\n" for line in printed.splitlines()),
+        "its mapping": f"```toml\n{(ROOT / COMPARED[4]).read_text()}```\n",
+    }
+    for what, lines in shown.items():
+        if not printed or lines not in text:
+            yield f"docs/LABORATORY.md: it doesn't show {what} of tools/compare as it is"
 
 
 def link_faults(links):
@@ -106,8 +140,8 @@ def link_faults(links):
 
 def main():
     links = [(page, number, target) for page in pages() for number, target in links_of(page)]
-    return told("links", len(links), [*example_faults(), *code_faults(), *link_faults(links)])
+    return told("links", len(links), [*example_faults(), *code_faults(), *output_faults(), *link_faults(links)])
 
 
 if __name__ == "__main__":
-    sys.exit(main())
+    end(main)

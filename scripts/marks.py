@@ -1,6 +1,7 @@
 """Which program the scripts and tools take, and how it gets the mark that says from which sources it was built.
 
     scripts/program                prints its path; fails where it isn't of these sources
+    scripts/program --program PATH prints the path of another one, which is taken as it is
     scripts/program tell           prints its mark too: checksums, toolchain, and what built it
     scripts/program sources        prints the checksum of the sources
     scripts/program mark SOURCES   marks what `rt ci` built, if the sources still have the checksum that they had before
@@ -9,14 +10,17 @@
 The mark shows that the program, byte for byte, is the one that a proved build left, and that the sources were the same
 before the build, after it, and are now. It doesn't show that nobody changed them in between and put them back, nor that
 nobody wrote a mark by hand. Tests, definitions and proofs count as sources, so that a marked program is also proved by
-what lies here. """
+what lies here.
+"""
 
 import os
 import subprocess
 import sys
+from pathlib import Path
 
 from sdm.laboratory.program import BUILT, CRATE, MARK, Fault, Result, built, run, sum_of, sum_of_sources
 from sdm.laboratory.cases import text_of
+from piped import end
 
 TOOLCHAIN = ["rt", "version"]
 
@@ -55,6 +59,9 @@ def main(words: list[str]) -> int:
         if words == ["sources"]:
             print(sum_of_sources())
             return 0
+        if words[:1] == ["--program"] and len(words) == 2:
+            print(built(Path(words[1])))
+            return 0
         if words[:1] == ["mark"] and len(words) == 2:
             mark(words[1], "rt ci")
         elif words == ["build"]:
@@ -72,4 +79,4 @@ def main(words: list[str]) -> int:
 
 
 if __name__ == "__main__":
-    sys.exit(main(sys.argv[1:]))
+    end(lambda: main(sys.argv[1:]))

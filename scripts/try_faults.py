@@ -18,15 +18,26 @@ from pathlib import Path
 import faults
 
 from sdm.laboratory.program import Fault, add_program, built
+from piped import end
 
 TOOLS = ["cc", "strace"]
 
 CUTS = 500  # at how many places rows are cut off at most
 
-# fmt: off
-EXAMPLES = ["gradient-under-train", "realistic", "trial", "guidance", "refused-record", "refused-opening", "flat",
-            "display", "upgrade", "drive", "certificate", "certificate-forged"]
-# fmt: on
+EXAMPLES = [
+    "gradient-under-train",
+    "realistic",
+    "trial",
+    "guidance",
+    "refused-record",
+    "refused-opening",
+    "flat",
+    "display",
+    "upgrade",
+    "drive",
+    "certificate",
+    "certificate-forged",
+]
 
 # what is faulted, the call and its file, the kind of fault, its error, what it may change
 IN_TURN = [
@@ -76,12 +87,19 @@ def fail_in_turn(program, library, journey, table, folder):
         numbers = list(range(1, count + 1)) + ([0] if check is faults.unchanged else [])
         ends = []
         for number in numbers:
-            # fmt: off
-            ended = faults.run(program, journey.words, journey.given, {
-                "LD_PRELOAD": str(library), "FAULT_CALL": call, "FAULT_FILE": str(file), "FAULT_KIND": kind,
-                "FAULT_ERROR": str(error), "FAULT_AT": str(number),
-            })
-            # fmt: on
+            ended = faults.run(
+                program,
+                journey.words,
+                journey.given,
+                {
+                    "LD_PRELOAD": str(library),
+                    "FAULT_CALL": call,
+                    "FAULT_FILE": str(file),
+                    "FAULT_KIND": kind,
+                    "FAULT_ERROR": str(error),
+                    "FAULT_AT": str(number),
+                },
+            )
             ends.append((ended, check(journey, ended)))
         table.tell(journey, fault, ends)
 
@@ -91,12 +109,19 @@ def cut_off(program, library, journey, table):
     length = len(journey.whole.out)
     ends = []
     for kept in range(1, length, max(1, length // CUTS)):
-        # fmt: off
-        ended = faults.run(program, journey.words, journey.given, {
-            "LD_PRELOAD": str(library), "FAULT_CALL": "write", "FAULT_FILE": "1", "FAULT_KIND": "cut",
-            "FAULT_ERROR": str(errno.ENOSPC), "FAULT_AT": str(kept),
-        })
-        # fmt: on
+        ended = faults.run(
+            program,
+            journey.words,
+            journey.given,
+            {
+                "LD_PRELOAD": str(library),
+                "FAULT_CALL": "write",
+                "FAULT_FILE": "1",
+                "FAULT_KIND": "cut",
+                "FAULT_ERROR": str(errno.ENOSPC),
+                "FAULT_AT": str(kept),
+            },
+        )
         why = faults.write_failed(journey, ended)
         ends.append((ended, why or (None if len(ended.out) == kept else "out holds another count of bytes")))
     if ends:
@@ -183,4 +208,4 @@ def main():
     sys.exit(1 if table.wrong else 0)
 
 
-main()
+end(main)

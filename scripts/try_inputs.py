@@ -19,27 +19,94 @@ from pathlib import Path
 
 from inputs import Numbers
 from sdm.laboratory.program import Fault, add_program, built
+from piped import end
 
 ROOT = Path(__file__).resolve().parent.parent
 MOST_BYTES = 16_777_216
 SECONDS = 1.0  # the most of the processor's time that a run may take
 
 # The ends of the ranges of docs/FORMATS.md, of the integers of TOML, and one past each.
-# fmt: off
 ENDS = [
-    0, 1, 5, 8, 20, 50, 80, 100, 300, 400, 500, 512, 800, 1_000, 10_000, 65_535, 100_000, 138_888, 150_000, 10_000_000,
-    100_000_000, 110_000_000, 2**31 - 1, 2**31, 2**32 - 1, 2**32, 10**17, 10**18 - 1, 2**63 - 1, 2**63, 2**64, 10**19,
+    0,
+    1,
+    5,
+    8,
+    20,
+    50,
+    80,
+    100,
+    300,
+    400,
+    500,
+    512,
+    800,
+    1_000,
+    10_000,
+    65_535,
+    100_000,
+    138_888,
+    150_000,
+    10_000_000,
+    100_000_000,
+    110_000_000,
+    2**31 - 1,
+    2**31,
+    2**32 - 1,
+    2**32,
+    10**17,
+    10**18 - 1,
+    2**63 - 1,
+    2**63,
+    2**64,
+    10**19,
 ]
-# fmt: on
 
-# fmt: off
 PIECES = [
-    b'"', b"'", b"\r", b"\n", b"\r\n", b"\0", b",", b",,", b"%%", b"%%\n", b" ", b"\t", b"=", b"[", b"]", b"[[",
-    b"]]", b"{", b"}", b"#", b".", b"-", b"+", b"_", b"1e5", b"0x", b"1.0", b"inf", b"true", b"false", b'"""',
-    b"\xef\xbb\xbf", b"\xff", b"\xc3\x28", b"\xed\xa0\x80", b"read,", b"end,", b"endcalc,", b"limit,", b"restrict,",
-    b"revoke,", b"[train]\n", b"\\u0000", b"1979-05-27T07:32:00Z",
+    b'"',
+    b"'",
+    b"\r",
+    b"\n",
+    b"\r\n",
+    b"\0",
+    b",",
+    b",,",
+    b"%%",
+    b"%%\n",
+    b" ",
+    b"\t",
+    b"=",
+    b"[",
+    b"]",
+    b"[[",
+    b"]]",
+    b"{",
+    b"}",
+    b"#",
+    b".",
+    b"-",
+    b"+",
+    b"_",
+    b"1e5",
+    b"0x",
+    b"1.0",
+    b"inf",
+    b"true",
+    b"false",
+    b'"""',
+    b"\xef\xbb\xbf",
+    b"\xff",
+    b"\xc3\x28",
+    b"\xed\xa0\x80",
+    b"read,",
+    b"end,",
+    b"endcalc,",
+    b"limit,",
+    b"restrict,",
+    b"revoke,",
+    b"[train]\n",
+    b"\\u0000",
+    b"1979-05-27T07:32:00Z",
 ]
-# fmt: on
 
 ROWS = {
     "run": rb"(\d+,[CTR],[NIOWX],[01],[01],[01],[01],\d+(,(-?\d+|-)){5}\n)*",
@@ -152,12 +219,20 @@ def line_lengthened(numbers, given):
     return given[:at] + bytes([numbers.draw(0, 255)]) * numbers.draw(1_000, 60_000) + given[at:]
 
 
-# fmt: off
 CHANGES = [
-    cut, dropped, byte_changed, byte_changed, piece_put_in, piece_put_in, line_doubled, lines_swapped, number_changed,
-    number_changed, number_changed, number_changed,
+    cut,
+    dropped,
+    byte_changed,
+    byte_changed,
+    piece_put_in,
+    piece_put_in,
+    line_doubled,
+    lines_swapped,
+    number_changed,
+    number_changed,
+    number_changed,
+    number_changed,
 ]
-# fmt: on
 
 
 def at_random(numbers):
@@ -173,10 +248,21 @@ def words_changed(numbers, words):
     """The words, at times others."""
     if numbers.draw(0, 39):
         return words
-    # fmt: off
-    kinds = [(), ("run", "run"), ("--help",), ("flat",), ("flat", "100"), ("trial", "7"), ("",), ("run\n",),
-             ("upgrade", "1"), ("display", "1"), ("drive", "7"), ("certify", "0"), ("check", "1")]
-    # fmt: on
+    kinds = [
+        (),
+        ("run", "run"),
+        ("--help",),
+        ("flat",),
+        ("flat", "100"),
+        ("trial", "7"),
+        ("",),
+        ("run\n",),
+        ("upgrade", "1"),
+        ("display", "1"),
+        ("drive", "7"),
+        ("certify", "0"),
+        ("check", "1"),
+    ]
     if numbers.draw(0, 1):
         return kinds[numbers.draw(0, len(kinds) - 1)]
     ends = [str(end + numbers.draw(-1, 1)) for end in ENDS]
@@ -320,4 +406,4 @@ def main():
     sys.exit(1 if wrong else 0)
 
 
-main()
+end(main)

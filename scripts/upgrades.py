@@ -6,7 +6,8 @@
 Where `run` accepts the data, `upgrade` must write a text whose table is that of the model for these data; `upgrade`
 over that text must write the same bytes; and `run` over it, with the records of the journey, must end as over the
 journey. Where `run` refuses the data, `upgrade` must write nothing and tell the same line. An input without a dividing
-line is left out. """
+line is left out.
+"""
 import argparse
 import sys
 import tomllib
@@ -15,6 +16,7 @@ from pathlib import Path
 from sdm.laboratory.cases import cases_under
 from sdm.laboratory.program import Fault, Result, add_program, built, run
 from sdm.model.data import DIVIDING_LINE, data_of, read_document, table_of
+from piped import end
 
 TOP = Path(__file__).resolve().parents[1]
 BAD_DATA = 5
@@ -61,4 +63,4 @@ def main(args):
 
 
 if __name__ == "__main__":
-    sys.exit(main(sys.argv[1:]))
+    end(lambda: main(sys.argv[1:]))

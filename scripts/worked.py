@@ -11,6 +11,7 @@ from pathlib import Path
 
 from sdm.laboratory.cases import Case, difference
 from sdm.laboratory.program import Fault, Result, add_program, built, run
+from piped import end
 
 TOP = Path(__file__).resolve().parents[1]
 WORKED = TOP / "worked"
@@ -102,6 +103,8 @@ def main(args):
         program = built(words.program)
         tables = words.table or sorted(path.stem for path in WORKED.glob("*.txt"))
         answers = [differs(program, case) for table in tables for case in cases_of(table)]
+    except BrokenPipeError:
+        raise
     except (Fault, OSError) as why:
         print(f"check-worked: {why}", file=sys.stderr)
         return 1
@@ -110,4 +113,4 @@ def main(args):
 
 
 if __name__ == "__main__":
-    sys.exit(main(sys.argv[1:]))
+    end(lambda: main(sys.argv[1:]))

@@ -34,11 +34,16 @@ begin
          Append (Data, Next & ASCII.LF);
       end;
    end loop;
+   if SDM.Layout /= SDM.Layout_Of_Binding then
+      Put_Line ("the library was built for another layout");
+      return;
+   end if;
    declare
-      Part : aliased constant String := To_String (Data);
+      Part   : aliased constant String := To_String (Data);
+      Status : constant SDM.Word       := SDM.Open (H, Part'Address, Part'Length, Told);
    begin
-      if SDM.Layout /= SDM.Layout_Of_Binding or else SDM.Open (H, Part'Address, Part'Length, Told) /= SDM.Done then
-         Put_Line ("no supervisor");
+      if Status /= SDM.Done then
+         Put_Line (SDM.Text (Status));
          return;
       end if;
    end;

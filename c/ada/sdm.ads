@@ -1,8 +1,9 @@
 --  The static library from Ada: a binding to ../sdm.h, which says what each call does, its ranges and what it answers.
---  docs/INTEGRATION.md, "From C", has the duties of the caller, which nothing checks.
+--  docs/FROM-C.md has the duties of the caller, which nothing checks.
 
 with Interfaces;
 with Interfaces.C;
+with Interfaces.C.Strings;
 with System;
 
 package SDM is
@@ -103,10 +104,18 @@ package SDM is
    function Show (H : in out Supervisor; Read : Reading; Shown : in out Display) return Word
      with Import, Convention => C, External_Name => "sdm_display";
 
+   --  What a status says, for people.
+   function Text (Status : Word) return String;
+
    procedure Close (H : in out Supervisor)
      with Import, Convention => C, External_Name => "sdm_close";
 
 private
+
+   function Status_Text (Status : Word) return Interfaces.C.Strings.chars_ptr
+     with Import, Convention => C, External_Name => "sdm_status_text";
+
+   function Text (Status : Word) return String is (Interfaces.C.Strings.Value (Status_Text (Status)));
 
    type Supervisor is limited record
       At_Address : System.Address := System.Null_Address;

@@ -4,7 +4,8 @@ A journey is a folder with `input`, as in examples/ and vectors/, at any depth. 
 beside it: got.rows, got.err, got.code. Started again, it runs those alone that have no got.code yet. At the end it
 tells how the journeys ended, and where they differ from the `rows`, `err` and `code` that lie beside their inputs. It
 ends with 0 where all ran and nothing differs, with 1 where something does, with 2 where it can't run. GNU parallel does
-the work; `parallel --version` must tell that it is installed (scripts/setup installs it). """
+the work; `parallel --version` must tell that it is installed (scripts/setup installs it).
+"""
 
 import argparse
 import collections

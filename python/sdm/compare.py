@@ -4,7 +4,8 @@ RECORDING is a CSV, and the mapping tells which of its columns is which of a row
 without a mapping its columns are a row's own. Rows and lines are matched in order by their times. It tells the first
 difference, each row that differs, and a table by column with the greatest deviation; and it writes the rows as the
 recording has them, for tools/plot, where a file for them is given. It ends with 0 where nothing differs by more than
-the tolerances, with 1 where something does, with 2 where it can't compare. """
+the tolerances, with 1 where something does, with 2 where it can't compare.
+"""
 
 import argparse
 import math

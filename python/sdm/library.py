@@ -1,7 +1,8 @@
 """A supervisor over the shared library of c/sdm.h.
 
 It is called by ctypes, since that is part of every Python and needs no compiler where it runs. Many readings are judged
-by `map` over their addresses, without a step of Python for each. """
+by `map` over their addresses, without a step of Python for each.
+"""
 from __future__ import annotations
 
 import ctypes

@@ -4,7 +4,8 @@ INPUT is the input that `sdm` read (`-` for standard input), ROWS are the rows t
 an SVG or a PNG by its ending. WORDS are the words that `sdm` ran with: `run`, which is taken where none are given,
 `display`, `check`, `flat A END`, or `drive NUMBER CYCLES`, of which the readings are the model's and ROWS are the five
 lines. A journey that is refused midway is drawn up to there. What a picture shows, and how it is read, is in
-tools/README.md. """
+tools/README.md.
+"""
 
 from __future__ import annotations
 

@@ -27,7 +27,7 @@ CAUSES = {"by_a_requires": "a requires", "by_a_sum": "safety", "by_what_is_reach
 
 
 class Edits(OverACopy):
-    parts = ["crates.txt", "crates/sdm_state/must-fail", "scripts"]
+    parts = ["crates.txt", "crates/sdm_state/must-fail", "crates/sdm_state/src", "scripts"]
 
     def test_each_cause_is_told(self):
         folder = self.top / "crates/sdm_state/must-fail"
@@ -45,3 +45,16 @@ class Edits(OverACopy):
     def test_no_edit_is_a_fault(self):
         (self.top / "told").write_text("")
         self.assertIn("there is no edit", self.told("scripts/try-edits", "--read", str(self.top / "told")))
+
+    def test_a_mark_is_held_against_the_prover_and_written(self):
+        edit = self.top / "crates/sdm_state/must-fail/early_release_while_over.edit"
+        edit.write_text("# refused-by: sdm_state::judge\nfile: src/lib.rt\n")
+        line = (self.top / "crates/sdm_state/src/lib.rt").read_text().partition("pub fn next(")[0].count("\n") + 1
+        log = self.top / "told"
+        log.write_text(
+            f"must-fail sdm_state/{edit.name}: {REFUSED}: note: src/lib.rt:{line}:1: it is not proved (`returns`)\n"
+        )
+        wrong = f"sdm_state/{edit.name}: another clause: sdm_state::next, and not sdm_state::judge: "
+        self.assertIn(wrong, self.told("scripts/try-edits", "--read", str(log)))
+        self.assertNotIn(wrong, self.told("scripts/try-edits", "--mark", str(log)))
+        self.assertEqual(edit.read_text(), "# refused-by: sdm_state::next\nfile: src/lib.rt\n")

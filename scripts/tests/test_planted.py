@@ -22,10 +22,11 @@ class Fault(NamedTuple):
 # What the copies for a check have of the repository: what it reads.
 SPECS = ["docs", "scripts", "crates.txt", "crates/*/src/*", "crates/*/specs/*"]
 PARTS = {
-    "believed": SPECS,
+    "believed": [*SPECS, "c/*.h"],
     "clauses": ["docs", "scripts"],
     "crates": ["docs", "scripts", "crates.txt"],
     "definitions": [*SPECS, "crates/*/proofs/*Cases.antt"],
+    "interface": ["c/sdm.h", "c/ada/sdm.ads", "crates/sdm_c/src/*", "scripts"],
     "laboratory": [
         "examples",
         "scripts",
@@ -37,9 +38,12 @@ PARTS = {
         "vectors/flat",
     ],
     "links": [":!vectors/*/*/*"],
+    "manual": ["CHANGELOG.md", "README.md", "c/sdm.h", "docs/commands.toml", "docs/sdm.1", "docs/sdm.h.3", "scripts"],
     "pictures": ["examples/approach", "examples/flat", "scripts", "tools", "python"],
     "plot": ["examples", "scripts", "tools", "python"],
     "python": [".ci", "bench", "python", "scripts", "tools", "vectors/maker"],
+    "style": ["README.md", "docs", "scripts"],
+    "traces": [*SPECS, "README.md", "crates/*/proofs/*Cases.antt", "crates/*/must-fail/*"],
 }
 
 TWO_GROUPS = 'GROUPS = {name: GROUPS[name] for name in ["data", "flat"]}\n\n\n'
@@ -48,17 +52,17 @@ STALE = "stale, run scripts/"
 DEFINITIONS, COMMANDS = "docs/DEFINITIONS.md", "crates/sdm_rules/specs/Commands.antt"
 PLANTED = [
     # the check, and the faults that are planted at once
-    ("believed", [Fault("docs/ASSUMPTIONS.md", r"^(\| `crates/\S+/specs/\S+` \| )\d+", r"\g<1>7", STALE)]),
+    ("believed", [Fault("docs/BELIEVED.md", r"^(\| `\S+/specs/\S+` \| )\d+", r"\g<1>7", STALE)]),
     ("believed", [Fault(COMMANDS, r"\Z", "-- one line more\n", STALE)]),
     ("clauses", [Fault("docs/SAFETY.md", r"^\| 3\.13\.10 .*\n", "", STALE)]),
     ("clauses", [Fault(DEFINITIONS, r"\| as 3\.13\.10 \|", "| as 3.13.11 |", STALE)]),
-    ("crates", [Fault("crates.txt", "^sdm_limits: ", "sdm_limits: itoa ", STALE)]),
+    ("crates", [Fault("crates.txt", "^sdm_limits: .*\n", "", STALE)]),
     (
         "crates",
         [
             Fault(
                 "docs/ARCHITECTURE.md",
-                r"^(\| `sdm_limits` \|)[^|]*\|",
+                r"^(\| `sdm_limits` \|)[^|]*\|$",
                 r"\1  |",
                 "says nothing of what sdm_limits does",
             )
@@ -83,6 +87,36 @@ PLANTED = [
         ],
     ),
     (
+        "interface",
+        [
+            Fault(
+                "crates/sdm_c/src/statuses.rt",
+                r"(const FULL: u32) = 12",
+                r"\1 = 13",
+                "crates/sdm_c/src: the status full: 13, in c/sdm.h 12",
+            ),
+            Fault(
+                "crates/sdm_c/src/codes.rt",
+                "TargetKind::Eoa => 2",
+                "TargetKind::Eoa => 3",
+                "the code SDM_EOA: 3, in c/sdm.h 2",
+            ),
+            Fault(
+                "crates/sdm_c/src/lib.rt",
+                "eoa_cm: u32, svl_cm: u32, release",
+                "svl_cm: u32, eoa_cm: u32, release",
+                "crates/sdm_c/src: the call sdm_end: ",
+            ),
+            Fault(
+                "c/ada/sdm.ads",
+                "LOA_Cm, Speed_Kmh : Word",
+                "Speed_Kmh, LOA_Cm : Word",
+                "c/ada/sdm.ads: the call sdm_limit: ",
+            ),
+            Fault("c/ada/sdm.ads", "Tco, Sb, Eb", "Tco, Eb, Sb", "c/ada/sdm.ads: the fields of sdm_row: "),
+        ],
+    ),
+    (
         "laboratory",
         [
             Fault("vectors/flat/curve/rows", r"\d$", "x", "changed: flat/curve/rows"),
@@ -99,7 +133,12 @@ PLANTED = [
         "links",
         [
             Fault("docs/SAFETY.md", r"\(PROMISES\.md\)", "(PROMISE.md)", "PROMISE.md leads nowhere"),
-            Fault("docs/ASSUMPTIONS.md", "^## The files to believe", "## The believed files", "has no such heading"),
+            Fault(
+                "docs/ASSUMPTIONS.md",
+                "^## What `covered` promises",
+                "## What a covered row promises",
+                "has no such heading",
+            ),
             Fault("c/onboard.c", r"if \(row->eb \|\|", "if (", "c/*.c has no such code: static struct orders"),
             Fault("README.md", "^5,T,X,1,1,1", "5,T,X,1,1,0", "has not the rows of examples/approach"),
             Fault(
@@ -108,8 +147,45 @@ PLANTED = [
                 "length = 10001",
                 "has not the input of examples/approach",
             ),
+            Fault(
+                "examples/every-key/input",
+                "^length = 10000 ",
+                "length = 10001 ",
+                "has not the input of examples/every-key",
+            ),
+            Fault(
+                "examples/interventions/recording.csv",
+                "^13000;",
+                "13100;",
+                "it doesn't show its output of tools/compare as it is",
+            ),
+            Fault(
+                "docs/TRACES.md",
+                r"supervisors\.rt#L\d+\)$",
+                "supervisors.rt#L99999)",
+                "supervisors.rt#L99999 has no such line",
+            ),
         ],
     ),
+    (
+        "manual",
+        [
+            Fault("docs/commands.toml", "1 to 1000", "1 to 1001", STALE),
+            Fault("c/sdm.h", "Judges a reading", "Takes a reading", "docs/sdm.h.3: stale"),
+        ],
+    ),
+    (
+        "manual",
+        [
+            Fault(
+                "CHANGELOG.md",
+                r"^## (?=\[\d)",
+                "## [99.0.0]\n\n## ",
+                "README.md: it doesn't begin a line with `Version 99.0.0 `",
+            )
+        ],
+    ),
+    ("manual", [Fault("docs/sdm.1", r"^\.SH DATA PART$", ".SH DATA PART\n.XY", "macro 'XY' not defined")]),
     (
         "pictures",
         [
@@ -157,6 +233,44 @@ PLANTED = [
             ),
         ],
     ),
+    (
+        "style",
+        [
+            Fault("docs/SAFETY.md", "^(## What is claimed)$", r"\1\n\nA limit is told.", "'is told': write says"),
+            Fault(
+                "docs/SAFETY.md",
+                "^(## What is not claimed)$",
+                r"\1\n\n" + "A word " * 23 + "at last.",
+                "48 words in a sentence: A word",
+            ),
+            Fault("docs/FORMATS.md", "^## Commands$", "## Commands of 0.12.1", "'0.12.1': only CHANGELOG.md"),
+        ],
+    ),
+    (
+        "traces",
+        [
+            Fault("README.md", r" <!-- trace: order -->", "", "no sentence has the mark order"),
+            Fault(
+                "scripts/traces.toml",
+                r"law_of_release_speed",
+                "law_of_speeds",
+                "release-speed: no law sdm_laws::law_of_speeds",
+            ),
+            Fault(
+                "scripts/traces.toml",
+                r"Supervisor::cycle gaps",
+                "Supervisor::cycle gap",
+                "gaps: sdm_supervisor::Supervisor::cycle has no clause gap",
+            ),
+            Fault(
+                "crates/sdm_ceiling/must-fail/ebi_margin_not_capped.edit",
+                r"\A#.*\n",
+                "",
+                "ebi_margin_not_capped has no line",
+            ),
+        ],
+    ),
+    ("traces", [Fault("crates/sdm_rules/specs/Stop.antt", r"\A", "-- one line more\n", STALE)]),
     (
         "python",
         [
@@ -211,7 +325,8 @@ class Checks(unittest.TestCase):
             "library",
             "refused",
             "scripts",
-        }  # test_program.py, all six; by hand; these tests
+            "release",
+        }  # test_program.py, all six; by hand
         names = {path.name.removeprefix("check-") for path in (copies.TOP / "scripts").glob("check-*")} - elsewhere
         few = {name for name in names if sum(len(faults) for script, faults in PLANTED if script == name) < 2}
         self.assertEqual(few, set())

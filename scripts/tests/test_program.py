@@ -122,6 +122,31 @@ class Answers(OverACopy):
         self.assertIn("refused-data: the fault line differs", told)
         self.assertIn("refused-record: the code is 7 and not 5", told)
 
+    def test_a_program_that_is_named_is_taken_as_it_is(self):
+        (self.top / "crates/sdm/out/sdm.sources").unlink()
+        copies.stand_in(self.top, name="another")
+        for words in (
+            ["scripts/examples"],
+            ["scripts/check-certificates"],
+            ["scripts/check-upgrade"],
+            ["scripts/check-worked", "check"],
+            ["scripts/check-model", "--seed", "10", "--journeys", "1"],
+        ):
+            with self.subTest(words[0]):
+                self.assertIn("has no mark", self.told(*words))
+                self.assertRegex(
+                    self.told(*words, "--program", str(self.top / "another"), status=0), "0 failed|0 differ"
+                )
+
+    def test_other_words_are_refused(self):
+        for words in (
+            ["scripts/examples", "approach"],
+            ["scripts/check-certificates", "--program"],
+            ["scripts/check-c", "--more"],
+        ):
+            with self.subTest(words[0]):
+                self.assertIn("no such words", self.told(*words, status=2))
+
     def test_an_example_without_its_files_is_told(self):
         (self.top / EXAMPLE / "rows").unlink()
         (self.top / "examples/realistic/rows").write_text("")
@@ -230,6 +255,13 @@ class Replays(OverACopy):
         copies.alter(self.top, "c/journey.c", r"\Z", "static int unused;\n")
         self.assertIn("unused", self.told("scripts/check-c", self.library()))
 
+    def test_a_call_whose_answer_may_be_overlooked_is_told(self):
+        copies.alter(self.top, "c/sdm.h", r"^SDM_MUST_CHECK (uint32_t sdm_revoke)", r"\1")
+        self.assertIn("cc warns of 7 answers that aren't looked at, of 7", self.told("scripts/check-c", self.library()))
+        copies.alter(self.top, "c/sdm.h", r"^uint32_t sdm_revoke", "SDM_MUST_CHECK uint32_t sdm_revoke")
+        copies.alter(self.top, "c/sdm.h", r"^#elif defined\(__GNUC__\)", "#elif 0")
+        self.assertIn("cc warns of 0 answers that aren't looked at, of 8", self.told("scripts/check-c", self.library()))
+
     def test_a_library_that_asks_for_more_is_told(self):
         more = "int rand(void); int more(void); int more(void) { return rand(); }\n"
         self.assertIn("what a C compiler brings: rand", self.told("scripts/check-c", self.library(more)))
@@ -271,7 +303,7 @@ class Gate(OverACopy):
         tools = self.top / "tools-there"
         tools.mkdir()
         self.assertIn("rt, the toolchain's command", self.set_up(tools, {}))
-        installed = ["rt", "gnuplot", "parallel", "cc", "valgrind", "black", "flake8", "mypy", "shellcheck"]
+        installed = ["rt", "gnuplot", "parallel", "groff", "cc", "valgrind", "black", "flake8", "mypy", "shellcheck"]
         there = dict.fromkeys(installed, "exit 0") | {"python3": "echo Python 3.9; exit 1"}
         self.assertIn("Python from 3.11 on is needed", self.set_up(tools, there))
 

@@ -4,6 +4,8 @@ use Rattle.sdm_rules.specs.declared.authorities.Authority.{Authority}
 use Rattle.sdm_rules.specs.declared.authorities.Authority.TheVariants.{Stop, Limit}
 use Rattle.sdm_rules.specs.declared.data.SlopeKind.{SlopeKind}
 use Rattle.sdm_rules.specs.declared.data.SlopeKind.TheVariants.{Safe, Expected, Normal}
+use Rattle.sdm_rules.specs.declared.limits.LimitKind.{LimitKind}
+use Rattle.sdm_rules.specs.declared.limits.LimitKind.TheVariants.{Ebi, Sbi, Warning, Permitted, Indication}
 use Rattle.sdm_rules.specs.declared.targets.TargetKind.{TargetKind}
 use Rattle.sdm_rules.specs.declared.targets.TargetKind.TheVariants.{Mrsp, Loa, Eoa, Svl}
 use Rattle.sdm_rules.specs.declared.targets.Target.{Target}
@@ -53,6 +55,14 @@ pub record AreSpeedsOf (t : Target) (s : SpeedLimits) : Type 0 where
   pub warning : s.warning ≡ with_margin warning_margin t
   pub sbi : s.sbi ≡ with_margin sbi_margin t
   pub ebi : s.ebi ≡ foot_speed_of t
+
+-- the speed above which a limit of a kind is passed (SUBSET-026-3 3.13.10; own table)
+abbrev pub speed_in : LimitKind → SpeedLimits → ℕ
+speed_in Ebi speeds = speeds.ebi
+speed_in Sbi speeds = speeds.sbi
+speed_in Warning speeds = speeds.warning
+speed_in Permitted speeds = speeds.permitted
+speed_in Indication speeds = speeds.permitted
 
 -- a target that is kept stands beside its speeds and its curves: its EBD or, for an EOA, its SBD, and its guidance
 -- curve if it has one (SUBSET-026-3 3.13.8.3 to 3.13.8.5)

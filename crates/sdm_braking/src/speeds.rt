@@ -2,13 +2,13 @@
 
 ghost use Rattle.std.specs.Prelude.{◌≡◌, ◌≤◌, ◌+◌};
 ghost use Rattle.sdm_num.specs.Units.{notches};
-ghost use Rattle.sdm_rules.specs.Margins.{ebi_margin, sbi_margin, warning_margin};
-ghost use Rattle.sdm_rules.specs.Triggers.{no_margin};
+ghost use Rattle.sdm_rules.specs.Margins.{ebi_margin, no_margin, sbi_margin, warning_margin};
 ghost use Rattle.sdm_rules.specs.Ranges.{top_kmh};
-ghost use Rattle.sdm_braking.specs.KeptCurves.{AreSpeedsOf};
+ghost use Rattle.sdm_braking.specs.KeptCurves.{AreSpeedsOf, speed_in};
 
 use sdm_ceiling::Margins;
 use sdm_num::Speed;
+use sdm_rules::LimitKind;
 use sdm_targets::{Target, TargetKind};
 
 /// A speed and the same with its margins. (SUBSET-026-3 3.13.9.2)
@@ -53,6 +53,18 @@ impl SpeedLimits {
                 sbi: Speed::new(0),
                 ebi: Speed::new(0),
             },
+        }
+    }
+
+    /// The speed above which a limit of this kind is passed. (SUBSET-026-3 3.13.10; own table)
+    pub fn speed(&self, kind: LimitKind) -> Speed
+        ensures { result ≡ speed_in kind self.now }
+    {
+        match kind {
+            LimitKind::Ebi => self.ebi,
+            LimitKind::Sbi => self.sbi,
+            LimitKind::Warning => self.warning,
+            LimitKind::Permitted | LimitKind::Indication => self.permitted,
         }
     }
 }

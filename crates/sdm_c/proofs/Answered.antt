@@ -3,11 +3,11 @@ use Rattle.std.proofs.Common.{◌≡◌, ℕ, List, Some, None, Ok, Err, refl, s
 use Rattle.std.specs.Prelude.{◌≢◌, Result}
 use Rattle.toml.specs.Data.{Members}
 use Rattle.sdm_rules.specs.declared.authorities.Authority.{Authority}
-use Rattle.sdm_rules.specs.declared.faults.DataFault.{DataFault}
 use Rattle.sdm_rules.specs.declared.faults.OpenFault.{OpenFault}
 use Rattle.sdm_rules.specs.Data.{TrainAndTrack}
 use Rattle.sdm_rules.specs.Opening.{IsOpenFault}
 use Rattle.sdm_rules.specs.Supervision.{Supervision, opening}
+use Rattle.sdm_formats.specs.declared.faults.DataFault.{DataFault}
 use Rattle.sdm_laws.proofs.Openings.OneFault.{not_both, one_fault}
 use Rattle.sdm_report.specs.declared.outcome.InputFault.TheVariants.{NoSplit, Toml, Data}
 use Rattle.sdm_data.specs.Document.{document_of}

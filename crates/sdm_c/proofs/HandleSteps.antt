@@ -16,8 +16,8 @@ use denote.Steps.{nothing, owned}
 use denote.Struct.Struct.{within}
 use denote.Struct.Owning.{shape}
 use Rattle.sdm_rules.specs.Supervision.{Supervision, opening}
-use Rattle.sdm_rules.specs.Trial.{trial_train_and_track}
 use Rattle.sdm_rules.specs.declared.authorities.Authority.TheVariants.{Limit}
+use Rattle.sdm_formats.specs.Trial.{trial_train_and_track}
 use Rattle.sdm_supervisor.specs.contracts.supervisors.Supervisor as Low
 use Rattle.sdm_c.specs.Held.{held}
 use Rattle.sdm_c.specs.contracts.raw_boxes.RawBox as Raw

@@ -2,7 +2,6 @@
 use Rattle.std.specs.Prelude.{◌≡◌, ◌≢◌, ℕ, List, Some, None, Ok, Err, ⊤}
 use Rattle.toml.specs.Data.{Members}
 use Rattle.sdm_rules.specs.declared.authorities.Authority.{Authority}
-use Rattle.sdm_rules.specs.declared.faults.DataFault.TheVariants as data_faults
 use Rattle.sdm_rules.specs.declared.faults.OpenFault.TheVariants as open_faults
 use Rattle.sdm_rules.specs.Data.{TrainAndTrack}
 use Rattle.sdm_rules.specs.Opening.{IsAccepted, IsOpenFault}
@@ -12,6 +11,7 @@ use Rattle.sdm_report.specs.declared.outcome.InputFault.TheVariants.{NoSplit, To
 use Rattle.sdm_report.specs.declared.outcome.Outcome.TheVariants as outcomes
 use Rattle.sdm_report.specs.OutcomeLines.{outcome_line}
 use Rattle.sdm_rules.specs.declared.faults.OpenFault.{OpenFault}
+use Rattle.sdm_formats.specs.declared.faults.DataFault.TheVariants as data_faults
 use Rattle.sdm_data.specs.Document.{document_of}
 use Rattle.sdm_data.specs.Journey.{data_of}
 use Rattle.sdm_c.specs.declared.structs.LineC.{LineC}

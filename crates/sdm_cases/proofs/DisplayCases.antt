@@ -9,7 +9,7 @@ use Rattle.sdm_rules.specs.declared.display.Shown.{Shown}
 use Rattle.sdm_rules.specs.declared.targets.Target.{Target}
 use Rattle.sdm_rules.specs.declared.targets.TargetKind.{TargetKind}
 use Rattle.sdm_rules.specs.declared.targets.TargetKind.TheVariants.{Mrsp, Eoa, Svl}
-use Rattle.sdm_rules.specs.Curves.{place_at, stepped, arc_back, back, arc_forward, forward}
+use Rattle.sdm_rules.specs.Curves.{place_at, corner, arc, stepped, arc_back, back}
 use Rattle.sdm_rules.specs.Data.{TrainAndTrack}
 use Rattle.sdm_rules.specs.Decelerations.{slope_at, slopes_of}
 use Rattle.sdm_rules.specs.Display.{counting_target, display_speed, passes_limit, shown_target}
@@ -88,21 +88,21 @@ speeds_are r now p s e p_le s_le e_le within past =
 -- 11 km/h; with the driver's 4 s it takes 1.1 m from 1 km/h and 2.4 m from 2 km/h. The EOA has no EBI
 at_8_m : speeds_of standing (towards ends (metres 8) (metres 8)) ≡ 1 ∷ 7 ∷ 10 ∷ []
 unfolding standing towards ends target_at metres reading_at plain_train_and_track plain_national plain_band passes_limit
-    limits_of reaction_times slopes_of slope_at stepped place_at arc_back back arc_forward forward
+    limits_of reaction_times slopes_of slope_at stepped place_at corner arc arc_back back
 at_8_m = speeds_are standing (towards ends (metres 8) (metres 8)) 1 7 10 (omega arith) (omega arith) (omega arith) refl
     refl
 
 -- the EOA compares the estimated front end: at 7 m it leaves 3 m, for 2.5 m from 8 km/h, not for 3.1 m from 9 km/h
 at_7_to_8_m : speeds_of standing (towards ends (metres 7) (metres 8)) ≡ 2 ∷ 8 ∷ 10 ∷ []
 unfolding standing towards ends target_at metres reading_at plain_train_and_track plain_national plain_band passes_limit
-    limits_of reaction_times slopes_of slope_at stepped place_at arc_back back arc_forward forward
+    limits_of reaction_times slopes_of slope_at stepped place_at corner arc arc_back back
 at_7_to_8_m = speeds_are standing (towards ends (metres 7) (metres 8)) 2 8 10 (omega arith) (omega arith) (omega arith)
     refl refl
 
 -- the SvL the max safe one: at 11 m it leaves 1 m, for 0.96 m from 5 km/h, not for 1.4 m from 6 km/h
 at_8_to_11_m : speeds_of standing (towards ends (metres 8) (metres 11)) ≡ 0 ∷ 5 ∷ 5 ∷ []
 unfolding standing towards ends target_at metres reading_at plain_train_and_track plain_national plain_band passes_limit
-    limits_of reaction_times slopes_of slope_at stepped place_at arc_back back arc_forward forward
+    limits_of reaction_times slopes_of slope_at stepped place_at corner arc arc_back back
 at_8_to_11_m = speeds_are standing (towards ends (metres 8) (metres 11)) 0 5 5 (omega arith) (omega arith) (omega arith)
     refl refl
 
@@ -111,7 +111,7 @@ at_8_to_11_m = speeds_are standing (towards ends (metres 8) (metres 11)) 0 5 5 (
 with_under_reading : speeds_of (record (reading_at 0 (pos 0) 540_000) { accel = pos 100; under = 54_000 })
     (towards ends (metres 8) (metres 8)) ≡ 1 ∷ 6 ∷ 6 ∷ []
 unfolding towards ends target_at metres reading_at plain_train_and_track plain_national plain_band passes_limit
-    limits_of reaction_times slopes_of slope_at stepped place_at arc_back back arc_forward forward
+    limits_of reaction_times slopes_of slope_at stepped place_at corner arc arc_back back
 with_under_reading =
     speeds_are (record (reading_at 0 (pos 0) 540_000) { accel = pos 100; under = 54_000 })
     (towards ends (metres 8) (metres 8)) 1 6 6 (omega arith) (omega arith) (omega arith) refl refl
@@ -123,13 +123,13 @@ with_acceleration :
     (record (reading_at 0 (pos 0) 0) { accel = pos 100 }) (towards ends (metres 8) (metres 8)) Ebi) (4 ∷ 5 ∷ [])
     ≡ false ∷ true ∷ []
 unfolding towards ends target_at metres reading_at plain_train_and_track plain_national plain_band passes_limit
-    limits_of reaction_times slopes_of slope_at stepped place_at arc_back back arc_forward forward
+    limits_of reaction_times slopes_of slope_at stepped place_at corner arc arc_back back
 with_acceleration = refl
 
 -- past a fall to 36 km/h its margins are left: 5.5 km/h to the SBI and 7.5 km/h to the EBI
 past_a_fall : speeds_of standing (towards (target_at Mrsp 10 36 ∷ []) (metres 30) (metres 30)) ≡ 36 ∷ 41 ∷ 43 ∷ []
 unfolding standing towards target_at metres reading_at plain_train_and_track plain_national plain_band passes_limit
-    limits_of reaction_times slopes_of slope_at stepped place_at arc_back back arc_forward forward
+    limits_of reaction_times slopes_of slope_at stepped place_at corner arc arc_back back
 past_a_fall = speeds_are standing (towards (target_at Mrsp 10 36 ∷ []) (metres 30) (metres 30)) 36 41 43 (omega arith)
     (omega arith) (omega arith) refl refl
 
@@ -164,14 +164,14 @@ shown_at v targets est front = shown_target short_line (reading_at 0 front v) (t
 eoa_before_svl : shown_at 540_000 (target_at Eoa 10 0 ∷ target_at Svl 10 0 ∷ []) (metres 7) (metres 8)
     ≡ Some (record { kind = Eoa; distance = pos 3_000 })
 unfolding towards target_at metres reading_at plain_train_and_track plain_national plain_band counting_target
-    limits_of reaction_times slopes_of slope_at stepped place_at arc_back back arc_forward forward
+    limits_of reaction_times slopes_of slope_at stepped place_at corner arc arc_back back
 eoa_before_svl = refl
 
 -- the SvL, if it comes first, with the max safe front end
 svl_before_eoa : shown_at 540_000 (target_at Svl 10 0 ∷ target_at Eoa 10 0 ∷ []) (metres 7) (metres 8)
     ≡ Some (record { kind = Svl; distance = pos 2_000 })
 unfolding towards target_at metres reading_at plain_train_and_track plain_national plain_band counting_target
-    limits_of reaction_times slopes_of slope_at stepped place_at arc_back back arc_forward forward
+    limits_of reaction_times slopes_of slope_at stepped place_at corner arc arc_back back
 svl_before_eoa = refl
 
 -- a fall to 36 km/h at 9 m, and an EOA far behind it
@@ -183,14 +183,14 @@ fall_and_end = target_at Mrsp 9 36 ∷ target_at Eoa 200 0 ∷ []
 at_the_target_speed : shown_at 540_000 fall_and_end (metres 7) (metres 8)
     ≡ Some (record { kind = Eoa; distance = pos 193_000 })
 unfolding fall_and_end towards target_at metres reading_at plain_train_and_track plain_national plain_band
-    counting_target limits_of reaction_times slopes_of slope_at stepped place_at arc_back back arc_forward forward
+    counting_target limits_of reaction_times slopes_of slope_at stepped place_at corner arc arc_back back
 at_the_target_speed = refl
 
 -- a notch faster it does
 above_the_target_speed : shown_at 540_001 fall_and_end (metres 7) (metres 8)
     ≡ Some (record { kind = Mrsp; distance = pos 1_000 })
 unfolding fall_and_end towards target_at metres reading_at plain_train_and_track plain_national plain_band
-    counting_target limits_of reaction_times slopes_of slope_at stepped place_at arc_back back arc_forward forward
+    counting_target limits_of reaction_times slopes_of slope_at stepped place_at corner arc arc_back back
 above_the_target_speed = refl
 
 -- the nearer target is not the one that counts where the farther one's permitted limit is earlier: an EOA at 30 m has
@@ -198,14 +198,14 @@ above_the_target_speed = refl
 farther_but_sooner : shown_at 540_000 (target_at Mrsp 9 35 ∷ target_at Eoa 30 0 ∷ []) (metres 7) (metres 8)
     ≡ Some (record { kind = Eoa; distance = pos 23_000 })
 unfolding towards target_at metres reading_at plain_train_and_track plain_national plain_band counting_target
-    limits_of reaction_times slopes_of slope_at stepped place_at arc_back back arc_forward forward
+    limits_of reaction_times slopes_of slope_at stepped place_at corner arc arc_back back
 farther_but_sooner = refl
 
 -- none at the speed of the only target, and none for a train that stands
 no_slower_target : shown_at 540_000 (target_at Mrsp 9 36 ∷ []) (metres 7) (metres 8) ∷ shown_at 0 ends (metres 7)
     (metres 8) ∷ [] ≡ None ∷ None ∷ []
 unfolding ends towards target_at metres reading_at plain_train_and_track plain_national plain_band counting_target
-    limits_of reaction_times slopes_of slope_at stepped place_at arc_back back arc_forward forward
+    limits_of reaction_times slopes_of slope_at stepped place_at corner arc arc_back back
 no_slower_target = refl
 
 -- the line with guidance and a normal brake of 0.1 m/s²
@@ -221,7 +221,7 @@ by_the_permitted_limit :
     (towards (target_at Svl 5 0 ∷ target_at Eoa 10 0 ∷ []) (metres 4) (metres 4))
     ≡ Some (record { kind = Eoa; distance = pos 6_000 })
 unfolding guided_line towards target_at metres reading_at plain_train_and_track plain_national plain_band
-    counting_target limits_of reaction_times slopes_of slope_at stepped place_at arc_back back arc_forward forward
+    counting_target limits_of reaction_times slopes_of slope_at stepped place_at corner arc arc_back back
 by_the_permitted_limit = refl
 
 -- ---- its distance
@@ -235,5 +235,5 @@ distances : map to_10_m (pos 5_399_190_000_000 ∷ pos 5_399_999_999_999 ∷ pos
     ∷ pos 5_400_270_000_000 ∷ metres 11 ∷ [])
     ≡ map (λ mm. Some (record { kind = Eoa; distance = pos mm })) (1 ∷ 0 ∷ 0 ∷ 0 ∷ 0 ∷ [])
 unfolding towards target_at metres reading_at plain_train_and_track plain_national plain_band counting_target
-    limits_of reaction_times slopes_of slope_at stepped place_at arc_back back arc_forward forward
+    limits_of reaction_times slopes_of slope_at stepped place_at corner arc arc_back back
 distances = refl

@@ -3,10 +3,10 @@ use Rattle.std.proofs.Common.{◌≡◌, refl, ◌*◌}
 use Rattle.std.specs.Prelude.{pos, true, false, Some, None, codes}
 use Rattle.std.specs.Fmt.{digits}
 use Rattle.sdm_rules.specs.declared.faults.EventCause.TheVariants.{Line}
-use Rattle.sdm_rules.specs.Curves.{exact, stepped, exact_at, place_at, arc_back, back, arc_forward, forward}
-use Rattle.sdm_rules.specs.Input.{BadEvent}
-use Rattle.sdm_rules.specs.Numbers.{read_int}
-use Rattle.sdm_rules.specs.Flat.{flat_opening, flat_row, flat_after, flat_line, flat_text, flat_output}
+use Rattle.sdm_rules.specs.Curves.{exact, stepped, exact_at, place_at, corner, arc, arc_back, back}
+use Rattle.sdm_formats.specs.Input.{BadEvent}
+use Rattle.sdm_formats.specs.Numbers.{read_int}
+use Rattle.sdm_formats.specs.Flat.{flat_opening, flat_row, flat_after, flat_line, flat_text, flat_output}
 
 -- at 2 m/s the curve is 2 m before the end; a tenth of a millimetre past it is an emergency
 past_the_curve : flat_row (flat_opening 100 1_000) (record {
@@ -15,7 +15,7 @@ past_the_curve : flat_row (flat_opening 100 1_000) (record {
   speed =
       108_000;
 }) ≡ record { time = 5; ebi = pos 8_000; covered = false; eb = true }
-unfolding flat_row flat_after exact stepped exact_at place_at arc_back back arc_forward forward
+unfolding flat_row flat_after exact stepped exact_at place_at corner arc arc_back back
 past_the_curve = refl
 
 -- at the curve itself there is none
@@ -25,7 +25,7 @@ at_the_curve : flat_row (flat_opening 100 1_000) (record {
   speed =
       108_000;
 }) ≡ record { time = 5; ebi = pos 8_000; covered = true; eb = false }
-unfolding flat_row flat_after exact stepped exact_at place_at arc_back back arc_forward forward
+unfolding flat_row flat_after exact stepped exact_at place_at corner arc arc_back back
 at_the_curve = refl
 
 -- the time, the front end in mm and the speed in mm/s
@@ -44,6 +44,6 @@ refused_line : flat_output 100 1_000 (codes "0,0,0\n0,0\n") ≡ record {
   text = codes "0,10000,1,0\n";
   end = BadEvent 2 Line;
 }
-unfolding flat_output flat_line read_int flat_text digits flat_row flat_after exact stepped exact_at place_at arc_back
-    back arc_forward forward
+unfolding flat_output flat_line read_int flat_text digits flat_row flat_after exact stepped exact_at place_at corner arc
+    arc_back back
 refused_line = refl

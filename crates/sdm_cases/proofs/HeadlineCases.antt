@@ -12,7 +12,7 @@ use Rattle.sdm_rules.specs.declared.records.Event.TheVariants as record_kinds
 use Rattle.sdm_rules.specs.declared.targets.Target.{Target}
 use Rattle.sdm_rules.specs.declared.targets.TargetKind.TheVariants.{Svl}
 use Rattle.sdm_rules.specs.Commands.{commands_after, emergency_after}
-use Rattle.sdm_rules.specs.Curves.{place_at, stepped, exact, exact_at, arc_back, back, arc_forward, forward}
+use Rattle.sdm_rules.specs.Curves.{place_at, corner, arc, stepped, exact, exact_at, arc_back, back}
 use Rattle.sdm_rules.specs.Decelerations.{slope_at, slopes_of}
 use Rattle.sdm_rules.specs.Headline.{AreTurnsSafe, IsRowSafe}
 use Rattle.sdm_rules.specs.Limits.{exact_places, limits_of, release_start}
@@ -43,7 +43,7 @@ past_the_ebi = reading_at 0 (pos 4_374_000_000_000) 108_000
 
 not_covered : is_covered_for short_line past_the_ebi.max (estimate_of past_the_ebi) svl_at_10_m ≡ false
 unfolding plain_train_and_track plain_national plain_band past_the_ebi reading_at svl_at_10_m limits_of reaction_times
-    slopes_of slope_at stepped place_at arc_back back arc_forward forward
+    slopes_of slope_at stepped place_at corner arc arc_back back
 not_covered = refl
 
 svl_is_ahead : Contains (situation_with short_line (Stop 1000 1000 0) [] past_the_ebi).targets svl_at_10_m
@@ -62,13 +62,13 @@ not_only_gaps h = (h (omega arith) svl_at_10_m
 in_release : (row_of with_release (reading_at 0 (pos 3_717_360_000_000) 108_000)).state ≡ R
 unfolding with_release plain_train_and_track plain_national plain_band reading_at situation_with targets_of mrsp row_in
     state_in commands_in is_covered_in commands_after emergency_after triggers_of limits_of release_start
-    reaction_times slopes_of slope_at stepped place_at arc_back back arc_forward forward
+    reaction_times slopes_of slope_at stepped place_at corner arc arc_back back
 in_release = ap (λ row. row.state) (opening_row short_line (Stop 1000 1000 9) _) ∙ refl
 
 not_past_a_later_start : is_past millimetre (pos 3_717_360_000_000) (release_start exact_places short_line 1001 1001 9)
     ≡ false
 unfolding plain_train_and_track plain_national plain_band release_start reaction_times slopes_of slope_at exact
-    exact_at place_at arc_back back arc_forward forward
+    exact_at place_at corner arc arc_back back
 not_past_a_later_start = refl
 
 -- for this start monitoring would begin too soon
@@ -80,12 +80,12 @@ not_begun_before h = false≢true (sym not_past_a_later_start ∙ h.only in_rele
 not_yet_in_release : (row_of with_release (reading_at 0 (pos 3_707_100_000_001) 108_000)).state ≡ T
 unfolding with_release plain_train_and_track plain_national plain_band reading_at situation_with targets_of mrsp row_in
     state_in commands_in is_covered_in commands_after emergency_after triggers_of limits_of release_start
-    reaction_times slopes_of slope_at stepped place_at arc_back back arc_forward forward
+    reaction_times slopes_of slope_at stepped place_at corner arc arc_back back
 not_yet_in_release = ap (λ row. row.state) (opening_row short_line (Stop 1000 1000 9) _) ∙ refl
 
 past_an_earlier_start : is_past 0 (pos 3_707_100_000_001) (release_start exact_places short_line 999 999 9) ≡ true
 unfolding plain_train_and_track plain_national plain_band release_start reaction_times slopes_of slope_at exact
-    exact_at place_at arc_back back arc_forward forward
+    exact_at place_at corner arc arc_back back
 past_an_earlier_start = refl
 
 -- and for this one too late
@@ -105,7 +105,7 @@ at_4_m = reading_at 10 (pos 2_160_000_000_000) 108_000
 
 covered_at_4_m : is_covered_in short_line at_4_m (situation_with short_line (Stop 1000 1000 0) [] at_4_m) ≡ true
 unfolding plain_train_and_track plain_national plain_band at_4_m reading_at situation_with targets_of mrsp
-    is_covered_in limits_of reaction_times slopes_of slope_at stepped place_at arc_back back arc_forward forward
+    is_covered_in limits_of reaction_times slopes_of slope_at stepped place_at corner arc arc_back back
 covered_at_4_m = refl
 
 row_covered : IsTrue (row_of short at_4_m).covered
@@ -184,7 +184,7 @@ exact_holds = held_stays _
 supervisor_holds_none : (row_of short at_2_m).held.eb ≡ false
 unfolding short at_2_m plain_train_and_track plain_national plain_band reading_at situation_with targets_of mrsp row_in
     commands_in commands_after emergency_after triggers_of limits_of reaction_times slopes_of slope_at stepped place_at
-    arc_back back arc_forward forward
+    corner arc arc_back back
 supervisor_holds_none = ap (λ row. row.held.eb) (opening_row short_line (Stop 1000 1000 0) at_2_m) ∙ refl
 
 -- so the row isn't safe
@@ -195,7 +195,7 @@ none_holds_but_the_exact h = false≢true (sym supervisor_holds_none ∙ h.order
 exact_commands : must_after short past_the_ebi false ≡ true
 unfolding short past_the_ebi reading_at machine_after emergency_after plain_train_and_track plain_national plain_band
     situation_with targets_of mrsp triggers_of limits_of reaction_times slopes_of slope_at exact exact_at place_at
-    arc_back back arc_forward forward
+    corner arc arc_back back
 exact_commands =
     ap (λ now. emergency_after false (triggers_of (limits_of exact_places short_line
     (estimate_of past_the_ebi)) 0 now) false false) (opening_situation short_line (Stop 1000 1000 0) past_the_ebi)

@@ -6,8 +6,8 @@ use Rattle.sdm_rules.specs.declared.authorities.Authority.TheVariants.{Stop, Lim
 use Rattle.sdm_rules.specs.declared.records.Event.TheVariants as record_kinds
 use Rattle.sdm_rules.specs.declared.faults.FieldFault.TheVariants.{NotNumber, OutOfRange}
 use Rattle.sdm_rules.specs.declared.faults.EventFault.TheVariants.{UnknownKind, FieldCount, Field}
-use Rattle.sdm_rules.specs.Numbers.{read_int}
-use Rattle.sdm_rules.specs.Forms.{event_of, read_form, end_form, endcalc_form, limit_form, restrict_form, revoke_form}
+use Rattle.sdm_formats.specs.Numbers.{read_int}
+use Rattle.sdm_formats.specs.Forms.{event_of, read_form, end_form, endcalc_form, limit_form, restrict_form, revoke_form}
 
 -- zeros in front, minus zero, the least and the greatest number
 accepted_numbers : map (λ field. read_int field (negsuc 99) (pos 99))

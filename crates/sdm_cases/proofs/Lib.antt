@@ -21,3 +21,6 @@ mod LineCases
 mod TextCases
 mod FlatCases
 mod TrialCases
+mod RideLine
+mod RideCases
+mod ServiceRideCases

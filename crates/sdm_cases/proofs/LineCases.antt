@@ -1,7 +1,7 @@
 -- Texts and their lines, lines and their fields.
 use Rattle.std.proofs.Common.{◌≡◌, refl}
 use Rattle.std.specs.Prelude.{[], ◌∷◌, codes, map}
-use Rattle.sdm_rules.specs.Lines.{ended_lines, lines_of, comma_fields}
+use Rattle.sdm_formats.specs.Lines.{ended_lines, lines_of, comma_fields}
 
 -- the last LF may be wanting; an empty line is a line, also one between two LFs at the end; a CR stays in its line
 lines : map lines_of (codes "ab\n\nc" ∷ codes "ab\n" ∷ codes "ab\n\n" ∷ codes "ab\r\n" ∷ codes "\n" ∷ [] ∷ [])

@@ -20,7 +20,7 @@ use Rattle.sdm_rules.specs.Decelerations.{slope_at, slopes_of}
 use Rattle.sdm_rules.specs.Profile.{mrsp}
 use Rattle.sdm_rules.specs.Targets.{targets_of}
 use Rattle.sdm_rules.specs.Reaction.{reaction_times}
-use Rattle.sdm_rules.specs.Curves.{place_at, stepped, exact, exact_at, arc_back, back, arc_forward, forward}
+use Rattle.sdm_rules.specs.Curves.{place_at, corner, arc, stepped, exact, exact_at, arc_back, back}
 use Rattle.sdm_rules.specs.Limits.{CurvePlaces, SupervisionLimits, computed, exact_places, limits_of}
 use Rattle.sdm_rules.specs.Triggers.{Situation, triggers_of}
 use Rattle.sdm_rules.specs.Commands.{emergency_after}
@@ -109,12 +109,12 @@ exact_860_m = record {
 }
 
 exact_place : exact_places even_slopes (pos 540_000_000_000_000) 0 756_000 ≡ exact_860_m
-unfolding even even_slopes exact_860_m exact exact_at place_at arc_back back arc_forward forward
+unfolding even even_slopes exact_860_m exact exact_at place_at corner arc arc_back back
 exact_place = refl
 
 -- the computed place lies a grain before it
 computed_place : computed even_slopes (pos 540_000_000_000_000) 0 756_000 ≡ whole (pos 464_399_999_999_999)
-unfolding even even_slopes stepped place_at arc_back back arc_forward forward
+unfolding even even_slopes stepped place_at corner arc arc_back back
 computed_place = refl
 
 -- the targets at 1000 m

@@ -1,6 +1,6 @@
 -- The state after an opening: no restriction is in force, which a finite map doesn't show by computing, so its
 -- situation and its row are those over an explicit list.
-use Rattle.std.proofs.Common.{◌≡◌, ap, sym, ◌∙◌}
+use Rattle.std.proofs.Common.{◌≡◌, refl, ap, sym, ◌∙◌}
 use Rattle.std.specs.Prelude.{List, [], map, is_some}
 use Rattle.std.specs.FinMap as finite
 use Rattle.std.specs.Ordering.{nat_cmp}
@@ -14,7 +14,8 @@ use Rattle.sdm_rules.specs.Targets.{targets_of}
 use Rattle.sdm_rules.specs.Reaction.{service_in_use}
 use Rattle.sdm_rules.specs.Triggers.{Situation}
 use Rattle.sdm_rules.specs.Commands.{nothing_held}
-use Rattle.sdm_rules.specs.Supervision.{opening, release_of, is_past_end, situation_of, row_of, row_in}
+use Rattle.sdm_rules.specs.Supervision.{Supervision, opening, release_of, is_past_end, situation_of, row_of}
+use Rattle.sdm_rules.specs.Supervision.{row_in}
 
 none_in_force : finite.entries (finite.empty {X = Restriction} {R = nat_cmp}) ≡ []
 none_in_force = nil_from_length _ (sym (finite.len-entries finite.empty) ∙ finite.len-empty nat_cmp Restriction)
@@ -35,10 +36,16 @@ situation_with d a restrictions r =
       in_use = service_in_use d;
     }
 
+-- of a state with no restriction in force
+pub situation_in : (s : Supervision) (r : OdometerReading) → s.restrictions ≡ finite.empty →
+    situation_of s r ≡ situation_with s.train_and_track s.authority [] r
+unfolding situation_of situation_with
+situation_in s r none = ap (λ es. situation_with s.train_and_track s.authority (map (λ e. e.1) es) r)
+    (ap finite.entries none ∙ none_in_force)
+
 pub opening_situation : (d : TrainAndTrack) (a : Authority) (r : OdometerReading) →
     situation_of (opening d a) r ≡ situation_with d a [] r
-unfolding situation_of situation_with
-opening_situation d a r = ap (λ es. situation_with d a (map (λ e. e.1) es) r) none_in_force
+opening_situation d a r = situation_in (opening d a) r refl
 
 pub opening_row : (d : TrainAndTrack) (a : Authority) (r : OdometerReading) →
     row_of (opening d a) r ≡ row_in d nothing_held r (situation_with d a [] r)

@@ -13,15 +13,15 @@ use Rattle.sdm_rules.specs.declared.faults.TripFault.TheVariants as trip_faults
 use Rattle.sdm_rules.specs.declared.data.SlopeKind.TheVariants.{Safe}
 use Rattle.sdm_rules.specs.declared.motions.Start.{Start}
 use Rattle.sdm_rules.specs.Stop.{IsMotionOn}
-use Rattle.sdm_rules.specs.Curves.{place_at, stepped, exact, exact_at, arc_back, back}
+use Rattle.sdm_rules.specs.Curves.{place_at, corner, arc, stepped, exact, exact_at, arc_back, back}
 use Rattle.sdm_rules.specs.Data.{TrainAndTrack}
 use Rattle.sdm_rules.specs.Decelerations.{slope_at, slopes_of}
-use Rattle.sdm_rules.specs.Flat.{flat_slopes}
 use Rattle.sdm_rules.specs.Limits.{computed}
 use Rattle.sdm_rules.specs.Reaction.{reaction_start, reaction_times}
 use Rattle.sdm_rules.specs.Records.{step, trip_fault}
 use Rattle.sdm_rules.specs.Release.{IsReleaseSpeed, calculated, fits, greatest_up_to, trip_start}
 use Rattle.sdm_rules.specs.Supervision.{Supervision}
+use Rattle.sdm_formats.specs.Flat.{flat_slopes}
 use Rattle.sdm_cases.proofs.Journeys.{plain_band, plain_national, plain_train_and_track, reading_at}
 use Rattle.sdm_cases.proofs.StopCases.{at_800_m, before_braking, braked_line, braking, reading_at_760_m}
 use Rattle.sdm_cases.proofs.StopCases.{stops_at_the_svl}
@@ -37,11 +37,11 @@ greatest_numbers = refl
 -- 0, 9 and 10 km/h from a trip at 6.875 m, and a grain later
 at_once : map (fits computed (flat_slopes 100) 0 (pos 5_400_000_000_000) (pos 3_712_500_000_000)) (0 ∷ 9 ∷ 10 ∷ [])
     ≡ true ∷ true ∷ false ∷ []
-unfolding stepped place_at arc_back back
+unfolding stepped place_at corner arc arc_back back
 at_once = refl
 
 a_grain_later : fits computed (flat_slopes 100) 0 (pos 5_400_000_000_000) (pos 3_712_500_000_001) 9 ≡ false
-unfolding stepped place_at arc_back back
+unfolding stepped place_at corner arc arc_back back
 a_grain_later = refl
 
 -- with a brake that works after 1 s, in which the train comes 2.5 m further
@@ -49,12 +49,12 @@ after_a_second :
     map (λ trip. fits computed (flat_slopes 100) 10 (pos 5_400_000_000_000) trip 9)
     (pos 2_362_500_000_000 ∷ pos 2_362_500_000_001 ∷ [])
     ≡ true ∷ false ∷ []
-unfolding stepped place_at arc_back back
+unfolding stepped place_at corner arc arc_back back
 after_a_second = refl
 
 -- past the SvL not even standing does
 past_the_svl : fits computed (flat_slopes 100) 0 (pos 5_400_000_000_000) (pos 5_400_000_000_001) 0 ≡ false
-unfolding stepped place_at arc_back back
+unfolding stepped place_at corner arc arc_back back
 past_the_svl = refl
 
 -- ---- the trip
@@ -88,7 +88,7 @@ braked_at_once = plain_train_and_track (pos 100) (Some (pos 0)) plain_band [] []
 -- from 3 km/h it comes 0.347 m, so a trip at 9.65 m fits for an SvL at 10 m, and 2 km/h are not the greatest
 too_slow : IsReleaseSpeed braked_at_once 1_000 965 2 → ⊥
 unfolding braked_at_once plain_train_and_track plain_national plain_band slopes_of slope_at exact exact_at place_at
-    arc_back back
+    corner arc arc_back back
 too_slow h = absurd (false≢true (h.greatest (omega arith)))
 
 -- ---- which trip is refused

@@ -12,7 +12,7 @@ use Rattle.sdm_rules.specs.Decelerations.{slope_at, slopes_of}
 use Rattle.sdm_rules.specs.Profile.{mrsp}
 use Rattle.sdm_rules.specs.Targets.{targets_of}
 use Rattle.sdm_rules.specs.Reaction.{reaction_times}
-use Rattle.sdm_rules.specs.Curves.{place_at, stepped, arc_back, back, arc_forward, forward}
+use Rattle.sdm_rules.specs.Curves.{place_at, corner, arc, stepped, arc_back, back}
 use Rattle.sdm_rules.specs.Limits.{limits_of, release_start}
 use Rattle.sdm_rules.specs.Triggers.{triggers_of}
 use Rattle.sdm_rules.specs.Commands.{commands_after, emergency_after}
@@ -44,7 +44,7 @@ standing_row : row_of short (reading_at 0 (pos (8000 * 540_000_000)) 0) ≡ reco
 }
 unfolding short plain_train_and_track plain_national plain_band reading_at situation_with targets_of mrsp row_in
     state_in commands_in is_covered_in commands_after emergency_after triggers_of limits_of release_start
-    reaction_times slopes_of slope_at stepped place_at arc_back back arc_forward forward
+    reaction_times slopes_of slope_at stepped place_at corner arc arc_back back
 standing_row = opening_row short_line (Stop 1000 1000 0) _ ∙ refl
 
 -- at 2 m/s, which takes 2 m to brake, a tenth of a millimetre before the EBI: a warning, and covered
@@ -62,7 +62,7 @@ row_before_the_limit : row_of short (reading_at 0 (pos (79_999 * 54_000_000)) 10
 }
 unfolding short plain_train_and_track plain_national plain_band reading_at situation_with targets_of mrsp row_in
     state_in commands_in is_covered_in commands_after emergency_after triggers_of limits_of release_start
-    reaction_times slopes_of slope_at stepped place_at arc_back back arc_forward forward
+    reaction_times slopes_of slope_at stepped place_at corner arc arc_back back
 row_before_the_limit = opening_row short_line (Stop 1000 1000 0) _ ∙ refl
 
 -- ---- release speed monitoring
@@ -86,7 +86,7 @@ row_at_release_start : row_of with_release (reading_at 0 (pos 3_712_500_000_000)
 }
 unfolding with_release plain_train_and_track plain_national plain_band reading_at situation_with targets_of mrsp row_in
     state_in commands_in is_covered_in commands_after emergency_after triggers_of limits_of release_start
-    reaction_times slopes_of slope_at stepped place_at arc_back back arc_forward forward
+    reaction_times slopes_of slope_at stepped place_at corner arc arc_back back
 row_at_release_start = opening_row short_line (Stop 1000 1000 9) _ ∙ refl
 
 -- a grain further it has: no limit is printed, nothing is commanded below the release speed, and no stop is promised
@@ -104,7 +104,7 @@ row_past_release_start : row_of with_release (reading_at 0 (pos 3_712_500_000_00
 }
 unfolding with_release plain_train_and_track plain_national plain_band reading_at situation_with targets_of mrsp row_in
     state_in commands_in is_covered_in commands_after emergency_after triggers_of limits_of release_start
-    reaction_times slopes_of slope_at stepped place_at arc_back back arc_forward forward
+    reaction_times slopes_of slope_at stepped place_at corner arc arc_back back
 row_past_release_start = opening_row short_line (Stop 1000 1000 9) _ ∙ refl
 
 -- a notch above the release speed the emergency brake is commanded
@@ -122,7 +122,7 @@ row_above_the_release_speed : row_of with_release (reading_at 0 (pos 4_320_000_0
 }
 unfolding with_release plain_train_and_track plain_national plain_band reading_at situation_with targets_of mrsp row_in
     state_in commands_in is_covered_in commands_after emergency_after triggers_of limits_of release_start
-    reaction_times slopes_of slope_at stepped place_at arc_back back arc_forward forward
+    reaction_times slopes_of slope_at stepped place_at corner arc arc_back back
 row_above_the_release_speed = opening_row short_line (Stop 1000 1000 9) _ ∙ refl
 
 -- ---- refused records

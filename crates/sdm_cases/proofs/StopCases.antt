@@ -96,11 +96,11 @@ unfoldable pub reading_at_760_m : OdometerReading
 reading_at_760_m = reading_at 0 (pos 410_400_000_000_000) 1_080_000
 
 -- 1 m/s² in the one band
-plain_slope : ℕ → ℤ → ℕ
+unfoldable pub plain_slope : ℕ → ℤ → ℕ
 plain_slope zero cell = 200_000_000_000
 plain_slope (suc band) cell = 0
 
-plain_slopes : Slopes
+unfoldable pub plain_slopes : Slopes
 plain_slopes = record { q = 100; uppers = []; slope = plain_slope }
 
 each_slope : (band : ℕ) (cell : ℤ) → unsigned_abs (slope_at Safe braked_line band cell) ≡ plain_slope band cell
@@ -141,12 +141,12 @@ all_build (suc zero) d l = refl
 all_build (suc (suc zero)) d l = refl
 all_build (suc (suc (suc k))) d l = absurd (omega arith)
 
-in_the_band : (u : ℕ) → IsInBand plain_slopes 1 0 u
+pub in_the_band : (u : ℕ) → IsInBand plain_slopes 1 0 u
 unfolding plain_slopes
 in_the_band u = record { known = omega arith; above = omega arith; below = λ lt. absurd (omega arith) }
 
 -- a step in the one band, by the fall of the square
-a_step : (x y : Point) → BrakesAtLeast plain_slopes 200_000_000_000 x.place x.square y.place y.square →
+pub a_step : (x y : Point) → BrakesAtLeast plain_slopes 200_000_000_000 x.place x.square y.place y.square →
     IsStep plain_slopes 1 x y
 unfolding plain_slopes plain_slope
 a_step x y brakes = record {

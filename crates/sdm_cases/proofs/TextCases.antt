@@ -8,16 +8,17 @@ use Rattle.sdm_rules.specs.declared.data.SlopeKind.TheVariants.{Safe}
 use Rattle.sdm_rules.specs.declared.faults.Section.TheVariants as sections
 use Rattle.sdm_rules.specs.declared.faults.TrainFault.TheVariants as train_faults
 use Rattle.sdm_rules.specs.declared.faults.TrackFault.TheVariants as track_faults
-use Rattle.sdm_rules.specs.declared.faults.DataFault.TheVariants as data_faults
 use Rattle.sdm_rules.specs.declared.faults.EventFault.TheVariants as event_faults
 use Rattle.sdm_rules.specs.declared.faults.FieldFault.TheVariants.{NotNumber}
 use Rattle.sdm_rules.specs.declared.faults.EventCause.TheVariants as causes
 use Rattle.sdm_rules.specs.declared.faults.OpenFault.TheVariants as open_faults
-use Rattle.sdm_rules.specs.Text.{row_text}
-use Rattle.sdm_rules.specs.declared.faults.DriveCause.TheVariants.{ShortBuild}
-use Rattle.sdm_rules.specs.Input.{Data, Undrivable, Refused, BadEvent}
-use Rattle.sdm_rules.specs.FaultLines.{end_line, fault_line, data_text, open_text, cause_text, form_text, field_text}
-use Rattle.sdm_rules.specs.FaultLines.{train_text, track_text, kind_text, section_path, list_path, key_path, key_names}
+use Rattle.sdm_formats.specs.declared.faults.DataFault.TheVariants as data_faults
+use Rattle.sdm_formats.specs.Text.{row_text}
+use Rattle.sdm_formats.specs.declared.faults.DriveCause.TheVariants.{ShortBuild}
+use Rattle.sdm_formats.specs.Input.{Data, Undrivable, Refused, BadEvent}
+use Rattle.sdm_formats.specs.FaultLines.{end_line, fault_line, data_text, open_text, cause_text, form_text, field_text}
+use Rattle.sdm_formats.specs.FaultLines.{train_text, track_text, kind_text, section_path, list_path, key_path}
+use Rattle.sdm_formats.specs.FaultLines.{key_names}
 
 a_row : row_text (record {
   time = 0;

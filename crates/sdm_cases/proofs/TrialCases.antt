@@ -3,7 +3,7 @@ use Rattle.std.proofs.Common.{◌≡◌, refl, ◌*◌, ◌+◌}
 use Rattle.std.specs.Prelude.{pos, negsuc, true, [], ◌∷◌, map}
 use Rattle.sdm_num.specs.Units.{notches_of_mm_s, millimetre}
 use Rattle.sdm_rules.specs.Reaction.{times_of, build_up, v_bec, d_bec}
-use Rattle.sdm_rules.specs.Trial.{number_at, reading_in_cycle}
+use Rattle.sdm_formats.specs.Trial.{number_at, reading_in_cycle}
 
 first_numbers : map (number_at 7) (1 ∷ 2 ∷ 3 ∷ []) ≡ 58_988 ∷ 4_085 ∷ 19_570 ∷ []
 first_numbers = refl

@@ -4,10 +4,10 @@ use Rattle.std.proofs.Common.{slice_index, ap, arith, refl, sym, ◌∙◌, inl,
 use Rattle.std.proofs.lemmas.Bool.{cases_lt}
 use Rattle.std.proofs.lemmas.List.{reverse-append}
 use Rattle.sdm_rules.specs.Slopes.{Slopes, IsUsable}
+use Rattle.sdm_laws.specs.Levels.{lower_speed}
 use Rattle.sdm_curve.specs.Maps.{AreUppers}
 use Rattle.sdm_rules.specs.declared.certificates.Mark.{Mark}
 use Rattle.sdm_certify.specs.Made.{knot, between, marks_from}
-use Rattle.sdm_certify.proofs.Stepped.{lower_speed}
 use Rattle.sdm_certify.proofs.MadeMarks.{from_stop, from_first, from_here, from_below, knots_apart}
 
 -- the marks of the bands below, from the knot of the lower speed on

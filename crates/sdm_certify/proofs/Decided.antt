@@ -4,8 +4,8 @@ use Rattle.std.proofs.Common.{◌≡◌, ℕ, zero, suc, false, List, [], ◌∷
 use Rattle.std.proofs.Common.{refl, sym, subst, arith}
 use Rattle.std.proofs.lemmas.Bool.{false≢true}
 use Rattle.sdm_rules.specs.declared.faults.EventCause.TheVariants.{Line}
-use Rattle.sdm_rules.specs.Input.{End, Done, BadEvent}
 use Rattle.sdm_rules.specs.Slopes.{IsUsable, SlopeMap, meaning_of}
+use Rattle.sdm_formats.specs.Input.{End, Done, BadEvent}
 use Rattle.sdm_laws.proofs.Marks.Stopping.{marks_stop}
 use Rattle.sdm_curve.specs.Maps.{MapData}
 use Rattle.sdm_certify.specs.declared.answers.Answer.{Answer}

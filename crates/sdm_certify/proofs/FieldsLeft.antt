@@ -1,7 +1,7 @@
 -- A line has a first field, if an empty one.
 use Rattle.std.proofs.Common.{◌≡◌, ℕ, Bool, true, false, eqb, List, [], ◌∷◌, refl}
 use Rattle.std.specs.List.{onto_first}
-use Rattle.sdm_rules.specs.Lines.{comma_fields}
+use Rattle.sdm_formats.specs.Lines.{comma_fields}
 use Rattle.sdm_certify.specs.Fields.{is_end}
 
 -- a field that is longer by a byte is a field

@@ -6,6 +6,7 @@ use Rattle.std.proofs.Common.{◌≤◌, ◌+ℤ◌, ◌≤ℤ◌, ◌<ℤ◌, u
 use Rattle.std.proofs.Common.{rules}
 use Rattle.std.proofs.lemmas.Int.{ints}
 use Rattle.std.proofs.lemmas.Bool.{cases_lt}
+use Rattle.std.proofs.lemmas.Nat.{mul-le, mul-lt}
 use Rattle.std.proofs.lemmas.List.{reverse-reverse}
 use Rattle.std.proofs.lemmas.List.Elements.{All-from_recursion}
 use Rattle.std.specs.Prelude.{All}
@@ -15,6 +16,7 @@ use Rattle.sdm_rules.specs.Slopes.{Slopes, IsUsable}
 use Rattle.sdm_rules.specs.Curves.{stepped, cell_at, grain_energy}
 use Rattle.sdm_rules.specs.Motion.{lower_square}
 use Rattle.sdm_laws.specs.Energy.{energy}
+use Rattle.sdm_laws.specs.Levels.{lower_speed}
 use Rattle.sdm_laws.proofs.OneBand.Totals.{total-zero}
 use Rattle.sdm_laws.proofs.OneBand.Cells.{cell_low, cell_high, cell_reaches}
 use Rattle.sdm_laws.proofs.BrakeCurves.CurveOrder.{stepped_foot}
@@ -23,7 +25,7 @@ use Rattle.sdm_rules.specs.declared.certificates.Mark.{Mark}
 use Rattle.sdm_rules.specs.Certificates.{v_bec_of, IsEnergyIn, LeadTo}
 use Rattle.sdm_rules.specs.Certificates.{IsMarkInRange}
 use Rattle.sdm_certify.specs.Made.{knot, between, marks_from, marks_of, LawOfMadeMarks}
-use Rattle.sdm_certify.proofs.Stepped.{KnotAt, lower_speed, squares_rise, squares_differ, stepped_knot}
+use Rattle.sdm_certify.proofs.Stepped.{KnotAt, stepped_knot}
 use Rattle.sdm_motion.proofs.SegmentParts.{start_le, start_next}
 use Rattle.sdm_certify.proofs.Between.{IsFirstPast, IsFitting, the_cell, way_split, from_cell}
 
@@ -36,19 +38,19 @@ energy_in on band v known le below = record {
   known = known;
   above = mul-le-mul_left (5_000_000_000_000 * on.q) (lower_le on band v le);
   below = λ lt. mul-le-mul_left (5_000_000_000_000 * on.q)
-      (omega (arith, squares_rise v (slice_index on.uppers band) (below lt)));
+      (let le = below lt in omega (arith, mul-le _ _ _ _ le le));
 }
   where
     lower_le : (on : Slopes) (band v : ℕ) → lower_speed on band ≤ v → lower_square on 1 band ≤ v * v
     lower_le on zero v le = omega arith
-    lower_le on (suc b) v le = omega (arith, squares_rise (slice_index on.uppers b) v le)
+    lower_le on (suc b) v le = omega (arith, mul-le _ _ _ _ le le)
 
 -- a knot fits its energy
 module _ (on : Slopes) (band : ℕ) (x y : Mark) (r : ℕ) (k : KnotAt on band y.place x.place r) (r_pos : 0 < r)
     (x_is : x.energy ≡ y.energy + r) where
   -- there is some way, since energy is lost
   some_way : 0 < k.d
-  some_way = of_energy k.d k.is.enough
+  some_way = of_energy k.d k.enough
     where
       of_energy : (d : ℕ) → r ≤ 27 * energy on band 1 (y.place +ℤ neg_ℤ (pos d)) d → 0 < d
       of_energy zero enough = let nothing = total-zero
@@ -64,14 +66,14 @@ module _ (on : Slopes) (band : ℕ) (x y : Mark) (r : ℕ) (k : KnotAt on band y
   knot_fits =
       let p = k.place in
       let d_is : unsigned_abs (y.place +ℤ neg_ℤ x.place) ≡ k.d = omega (arith, ints) in
-      let enough = rw (← p, ← d_is) at k.is.enough in
+      let enough = rw (← p, ← d_is) at k.enough in
       record {
         most = omega (arith, enough);
         least = λ z lt le. (
             let d' = k.d - 1 in
             let s = some_way in
             let d'_is : k.d ≡ suc d' = omega arith in
-            let less = k.is.least d' d'_is in
+            let less = k.least d' d'_is in
             let next_is : y.place +ℤ neg_ℤ (pos d') ≡ x.place +ℤ pos 1 = omega (arith, ints) in
             let way_is : d' ≡ unsigned_abs (y.place +ℤ neg_ℤ (x.place +ℤ pos 1)) = omega (arith, ints) in
             let less' = rw (next_is, way_is) at less in
@@ -119,7 +121,7 @@ between_leads on svl band v rest usable known lt below lead =
     let x = knot on svl v in
     let y = knot on svl w in
     let change = v * v - w * w in
-    let differ = squares_differ w v lt in
+    let differ = mul-lt w w v v lt lt in
     let change_pos : 0 < change = omega arith in
     let r_pos : 0 < grain_energy on change = mul-pos (mul-pos (omega arith) usable.unit) change_pos in
     let sum : v * v ≡ w * w + change = omega arith in
@@ -148,7 +150,7 @@ pub knots_apart : (on : Slopes) (svl : ℤ) (band v : ℕ) → IsUsable on → b
 knots_apart on svl band v usable known lt below =
     let w = lower_speed on band in
     let change = v * v - w * w in
-    let differ = squares_differ w v lt in
+    let differ = mul-lt w w v v lt lt in
     let change_pos : 0 < change = omega arith in
     let k = stepped_knot on svl band v usable known lt below in
     ahead on band (record { place = stepped on svl 0 v; energy = grain_energy on change })

@@ -9,13 +9,13 @@ use Rattle.std.specs.Char.{digit_value, is_ascii_digit}
 use Rattle.std.specs.Fmt.{signed_decimal}
 use Rattle.std.specs.List.{list_all, join_with_byte}
 use Rattle.std.specs.Str.Parse.{AllDigits, digits_value}
-use Rattle.sdm_rules.specs.Lines.{comma_fields}
-use Rattle.sdm_rules.specs.Numbers.{is_digits, is_digits_of, number_of, read_int, read_wide}
 use Rattle.std.specs.Io.BufRead.{strip_last}
 use Rattle.std.specs.Str.{bytes_eq}
 use Rattle.std.proofs.Common.{length-append}
 use Rattle.std.proofs.Math.Seq.{get_or-append_seam, take-append_seam}
 use Rattle.sdm_num.proofs.Comparisons.{le_is}
+use Rattle.sdm_formats.specs.Lines.{comma_fields}
+use Rattle.sdm_formats.specs.Numbers.{is_digits, is_digits_of, number_of, read_int, read_wide}
 use Rattle.sdm_certify.specs.Fields.{first_number, first_wide, first_word, is_end}
 use Rattle.sdm_text.proofs.NumberFields.{no_comma}
 

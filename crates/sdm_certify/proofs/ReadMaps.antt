@@ -10,8 +10,8 @@ use Rattle.std.proofs.lemmas.Int.{ints}
 use Rattle.std.proofs.lemmas.Bool.{cases_lt, leb-true}
 use Rattle.sdm_num.proofs.Comparisons.{le_of}
 use Rattle.sdm_rules.specs.declared.faults.FieldFault.TheVariants.{OutOfRange}
-use Rattle.sdm_rules.specs.Lines.{comma_fields}
-use Rattle.sdm_rules.specs.Numbers.{in_range, number_of, read_int}
+use Rattle.sdm_formats.specs.Lines.{comma_fields}
+use Rattle.sdm_formats.specs.Numbers.{in_range, number_of, read_int}
 use Rattle.sdm_certify.specs.declared.forms.Head.{Head}
 use Rattle.sdm_certify.specs.Fields.{and_then, first_number, first_word, is_end, rising_after, whole_line, with_rest}
 use Rattle.sdm_certify.specs.Lines.{LinesLeft, Read, and_on, head_of, in_form, line_in, next_line, uppers_in, uppers_of}

@@ -5,7 +5,7 @@ use Rattle.std.proofs.Common.{◌+ℤ◌, All, length, length-append, unsigned_a
 use Rattle.std.specs.Prelude.{codes}
 use Rattle.std.proofs.lemmas.Int.{ints}
 use Rattle.std.proofs.lemmas.List.Elements.{All-append, All-nil}
-use Rattle.sdm_rules.specs.Lines.{comma_fields}
+use Rattle.sdm_formats.specs.Lines.{comma_fields}
 use Rattle.sdm_curve.specs.Maps.{MapData, IsMapData, IsSlopeBounded, AreStarts}
 use Rattle.sdm_certify.specs.declared.forms.Head.{Head}
 use Rattle.sdm_certify.specs.Fields.{first_number, first_word, slopes_after}

@@ -6,8 +6,8 @@ use Rattle.sdm_rules.specs.declared.faults.EventCause.TheVariants.{Line}
 use Rattle.sdm_rules.specs.Slopes.{SlopeMap, meaning_of}
 use Rattle.sdm_rules.specs.Certificates.{Hold, start_of}
 use Rattle.sdm_rules.specs.Stop.{StopsBy}
-use Rattle.sdm_rules.specs.Input.{End, Done, BadEvent}
-use Rattle.sdm_rules.specs.Text.{text_line}
+use Rattle.sdm_formats.specs.Input.{End, Done, BadEvent}
+use Rattle.sdm_formats.specs.Text.{text_line}
 use Rattle.sdm_curve.specs.Maps.{MapData, AreAccepted, handed_in}
 use Rattle.sdm_certify.specs.declared.answers.Answer.{Answer}
 use Rattle.sdm_certify.specs.declared.answers.CheckFault.{CheckFault}

@@ -5,7 +5,7 @@ use Rattle.std.specs.Prelude.{None, Result}
 use Rattle.std.specs.Prelude.{Ok, Err, ◌^◌, unsigned_abs, if◌then◌else◌}
 use Rattle.std.specs.Str.{bytes_eq}
 use Rattle.sdm_rules.specs.declared.faults.FieldFault.{FieldFault}
-use Rattle.sdm_rules.specs.Numbers.{read_int, read_wide}
+use Rattle.sdm_formats.specs.Numbers.{read_int, read_wide}
 
 -- what was read, and then what is read of the fields after it
 abbrev pub and_then : {A B : Type 0} → Option (A × List (List ℕ)) → (A → List (List ℕ) → Option B) → Option B

@@ -4,7 +4,7 @@ use Rattle.std.specs.Prelude.{Ok, Err, ◌+◌, ◌-◌, ◌*◌, ◌^◌, ◌+�
 use Rattle.std.specs.Prelude.{if◌then◌else◌}
 use Rattle.sdm_rules.specs.declared.certificates.Claim.{Claim}
 use Rattle.sdm_rules.specs.declared.certificates.Mark.{Mark}
-use Rattle.sdm_rules.specs.Lines.{lines_of, comma_fields}
+use Rattle.sdm_formats.specs.Lines.{lines_of, comma_fields}
 use Rattle.sdm_curve.specs.Maps.{MapData, map_data}
 use Rattle.sdm_certify.specs.declared.forms.Head.{Head}
 use Rattle.sdm_certify.specs.declared.forms.ClaimLine.{ClaimLine}

@@ -5,7 +5,7 @@ use Rattle.std.specs.Fmt.{signed_decimal}
 use Rattle.sdm_rules.specs.declared.certificates.Claim.{Claim}
 use Rattle.sdm_rules.specs.declared.certificates.Mark.{Mark}
 use Rattle.sdm_rules.specs.Slopes.{SlopeMap, bands_of}
-use Rattle.sdm_rules.specs.Text.{text_line}
+use Rattle.sdm_formats.specs.Text.{text_line}
 use Rattle.sdm_curve.specs.Integrals.{slope_of}
 
 -- ---- the map

@@ -4,7 +4,7 @@
 ghost use Rattle.std.specs.Prelude.{◌≡◌, ◌↔◌, [], ◌≤◌, length, All, Some, None, Ok, Err, IfOk, IfErr, IfSome, IfNone};
 ghost use Rattle.std.specs.Prelude.{vec_capacity, IsTrue};
 ghost use Rattle.sdm_rules.specs.Certificates.{IsClaimInRange, IsMarkInRange};
-ghost use Rattle.sdm_rules.specs.Input.{most_bytes};
+ghost use Rattle.sdm_formats.specs.Input.{most_bytes};
 ghost use Rattle.sdm_certify.specs.Checker.{IsBegun, IsBeginFault, IsMadeOf, IsNextAnswer, IsShown, IsStopOn};
 ghost use Rattle.sdm_certify.specs.Written.{map_view};
 ghost use Rattle.sdm_curve.specs.Maps.{IsMapData};

@@ -2,7 +2,7 @@
 
 ghost use Rattle.std.specs.Prelude.{◌≡◌, pos, [], ◌∷◌, ◌<◌, ◌≤◌, ◌≤ℤ◌, length, option_map, All, IfSome, IfNone};
 ghost use Rattle.sdm_num.specs.Units.{top_speed};
-ghost use Rattle.sdm_rules.specs.Lines.{comma_fields};
+ghost use Rattle.sdm_formats.specs.Lines.{comma_fields};
 ghost use Rattle.sdm_curve.specs.Maps.{AreUppers, IsSlopeBounded};
 ghost use Rattle.sdm_certify.specs.Fields.{first_number, first_wide, first_word, is_end, rising_after};
 ghost use Rattle.sdm_certify.specs.Fields.{slopes_after};
@@ -25,7 +25,7 @@ pub struct Fields<'a> {
 
 impl<'a> Model for Fields<'a> {
     ghost use Rattle.std.specs.Prelude.{ℕ, List, [], if◌then◌else◌};
-    ghost use Rattle.sdm_rules.specs.Lines.{comma_fields};
+    ghost use Rattle.sdm_formats.specs.Lines.{comma_fields};
 
     ghost Value = { List (List ℕ) };
 

@@ -1,7 +1,7 @@
 //! The lines of a certificate text, read one after the other.
 
 ghost use Rattle.std.specs.Prelude.{◌≡◌, suc, [], ◌∷◌, ◌≤◌, length, IfSome, IfNone};
-ghost use Rattle.sdm_rules.specs.Input.{most_bytes};
+ghost use Rattle.sdm_formats.specs.Input.{most_bytes};
 ghost use Rattle.sdm_certify.specs.Lines.{lines_in};
 
 use sdm_text::{split_line, without_lf};
@@ -23,8 +23,8 @@ pub struct Lines<'a> {
 
 impl<'a> Model for Lines<'a> {
     ghost use Rattle.std.specs.Prelude.{◌+◌, ◌≤◌, length};
-    ghost use Rattle.sdm_rules.specs.Input.{most_bytes};
-    ghost use Rattle.sdm_rules.specs.Lines.{lines_of};
+    ghost use Rattle.sdm_formats.specs.Input.{most_bytes};
+    ghost use Rattle.sdm_formats.specs.Lines.{lines_of};
     ghost use Rattle.sdm_certify.specs.Lines.{LinesLeft};
 
     ghost Value = { LinesLeft };

@@ -7,10 +7,10 @@ use Rattle.sdm_rules.specs.declared.authorities.Authority.TheVariants.{Stop}
 use Rattle.sdm_rules.specs.declared.data.Gradient.{Gradient}
 use Rattle.sdm_rules.specs.declared.data.Area.{Area}
 use Rattle.sdm_rules.specs.declared.faults.Section.TheVariants as sections
-use Rattle.sdm_rules.specs.declared.faults.DataFault.TheVariants.{Missing, UnknownKey}
 use Rattle.sdm_rules.specs.Data.{TrainAndTrack}
-use Rattle.sdm_rules.specs.FaultLines.{key_names}
 use Rattle.sdm_rules.specs.Ranges.{train_fault, national_fault, track_fault, gradients_fault, speeds_fault, areas_fault}
+use Rattle.sdm_formats.specs.declared.faults.DataFault.TheVariants.{Missing, UnknownKey}
+use Rattle.sdm_formats.specs.FaultLines.{key_names}
 use Rattle.sdm_data.specs.Members.{known, required, optional, number}
 use Rattle.sdm_data.specs.Sections.{root_in, band_in, train_in, national_in, gradient_in, speed_in, area_in}
 use Rattle.sdm_data.specs.Sections.{track_in, authority_in, end_in}

@@ -1,8 +1,8 @@
 -- The entries of a list are those so far, and then those of what is left of it.
 use Rattle.std.proofs.Common.{ℕ, List, ◌++◌, Result, Ok, Err, drop}
+use Rattle.sdm_formats.specs.declared.faults.DataFault.{DataFault}
 use Rattle.toml.specs.Data.{Members}
 use Rattle.toml.specs.declared.value.Value.{Value}
-use Rattle.sdm_rules.specs.declared.faults.DataFault.{DataFault}
 use Rattle.sdm_data.specs.Views.{tables_in}
 
 -- entries before those of an answer

@@ -4,7 +4,7 @@ use Rattle.std.proofs.Math.ListN.{get_or-map}
 use Rattle.std.proofs.lemmas.List.{length-map, take-map}
 use Rattle.sdm_rules.specs.declared.faults.Section.{Section}
 use Rattle.sdm_rules.specs.declared.faults.Section.TheVariants.{Band, Track, Authority}
-use Rattle.sdm_rules.specs.FaultLines.{key_names}
+use Rattle.sdm_formats.specs.FaultLines.{key_names}
 use Rattle.sdm_data.specs.Versions.{end_keys, limit_keys}
 
 -- as many names as keys

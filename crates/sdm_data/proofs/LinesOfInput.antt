@@ -8,7 +8,7 @@ use Rattle.std.proofs.lemmas.List.Elements.{All-push}
 use Rattle.std.proofs.lemmas.List.Folds.{concat-append}
 use Rattle.std.proofs.lemmas.List.Sums.{position_or_len_is}
 use Rattle.std.specs.List.{All, concat, position_or_len}
-use Rattle.sdm_rules.specs.Lines.{ended_lines}
+use Rattle.sdm_formats.specs.Lines.{ended_lines}
 use Rattle.sdm_data.specs.Division.{divide, is_dividing_line}
 
 -- none of the lines divides

@@ -20,7 +20,7 @@ use Rattle.sdm_rules.specs.declared.data.Gradient.{Gradient}
 use Rattle.sdm_rules.specs.declared.data.SpeedStep.{SpeedStep}
 use Rattle.sdm_rules.specs.declared.data.Area.{Area}
 use Rattle.sdm_rules.specs.Data.{TrainData, TrackData, TrainAndTrack}
-use Rattle.sdm_rules.specs.FaultLines.{key_names}
+use Rattle.sdm_formats.specs.FaultLines.{key_names}
 use Rattle.sdm_data.specs.Tables.{array_of, band_table, train_table, national_table, gradient_table, speed_table}
 use Rattle.sdm_data.specs.Tables.{area_table, track_table, authority_table, table_of}
 use Rattle.sdm_data.specs.Texts.{value_text, line_text, lines_text, document_text}

@@ -6,13 +6,13 @@ use Rattle.std.specs.Prelude.{Result, Ok, Err, codes, unsigned_abs, unwrap_or, i
 use Rattle.std.specs.Str.{bytes_eq}
 use Rattle.toml.specs.Data.{Members, as_str, as_integer}
 use Rattle.sdm_rules.specs.declared.authorities.Authority.{Authority}
-use Rattle.sdm_rules.specs.declared.faults.DataFault.{DataFault}
-use Rattle.sdm_rules.specs.declared.faults.DataFault.TheVariants as data_faults
-use Rattle.sdm_rules.specs.declared.faults.DataFault.TheVariants.{Value}
 use Rattle.sdm_rules.specs.declared.faults.Section.TheVariants as sections
 use Rattle.sdm_rules.specs.declared.keys.TheConstants as keys
 use Rattle.sdm_rules.specs.Data.{TrainAndTrack}
 use Rattle.sdm_rules.specs.Ranges.{is_within, longest_track, top_kmh, train_fault, national_fault, track_fault}
+use Rattle.sdm_formats.specs.declared.faults.DataFault.{DataFault}
+use Rattle.sdm_formats.specs.declared.faults.DataFault.TheVariants as data_faults
+use Rattle.sdm_formats.specs.declared.faults.DataFault.TheVariants.{Value}
 use Rattle.sdm_data.specs.Members.{◌>>=◌, SectionMembers, section_of, at, known, required, optional, within, number}
 use Rattle.sdm_data.specs.Versions.{end_keys, limit_keys}
 use Rattle.sdm_data.specs.Sections.{root_in, train_in, national_in, track_in, authority_in, end_in}

@@ -14,11 +14,11 @@ use Rattle.sdm_rules.specs.declared.data.NationalFields.{NationalFields}
 use Rattle.sdm_rules.specs.declared.data.Gradient.{Gradient}
 use Rattle.sdm_rules.specs.declared.data.SpeedStep.{SpeedStep}
 use Rattle.sdm_rules.specs.declared.data.Area.{Area}
-use Rattle.sdm_rules.specs.declared.faults.DataFault.{DataFault}
 use Rattle.sdm_rules.specs.declared.faults.Section.TheVariants as sections
 use Rattle.sdm_rules.specs.Data.{TrainData, TrackData, TrainAndTrack}
-use Rattle.sdm_rules.specs.FaultLines.{key_names}
 use Rattle.sdm_rules.specs.Ranges.{is_within, longest_track, top_kmh, train_fault, national_fault, track_fault}
+use Rattle.sdm_formats.specs.declared.faults.DataFault.{DataFault}
+use Rattle.sdm_formats.specs.FaultLines.{key_names}
 use Rattle.sdm_data.specs.declared.versions.Version.TheVariants.{Two}
 use Rattle.sdm_data.specs.Members.{known, required, optional, number, after, as_tables, entries_from, values_of}
 use Rattle.sdm_data.specs.Sections.{root_in, band_in, train_in, national_in, gradient_in, speed_in, area_in, track_in}

@@ -2,7 +2,7 @@
 use Rattle.std.specs.Prelude.{ℕ, suc, Bool, ◌||◌, List, Option, codes, length, option_map, position, take}
 use Rattle.std.specs.List.{concat}
 use Rattle.std.specs.Str.{bytes_eq}
-use Rattle.sdm_rules.specs.Lines.{ended_lines}
+use Rattle.sdm_formats.specs.Lines.{ended_lines}
 
 -- a dividing line: `%%`, ended by LF, by CR and LF, or by the end of the input
 abbrev pub is_dividing_line : List ℕ → Bool

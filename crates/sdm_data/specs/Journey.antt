@@ -2,10 +2,10 @@
 use Rattle.std.specs.Prelude.{Option, Some, None, Result, Ok, Err, length}
 use Rattle.toml.specs.Data.{Members}
 use Rattle.sdm_rules.specs.declared.authorities.Authority.{Authority}
-use Rattle.sdm_rules.specs.declared.faults.DataFault.{DataFault}
-use Rattle.sdm_rules.specs.declared.faults.DataFault.TheVariants as data_faults
 use Rattle.sdm_rules.specs.Data.{TrainAndTrack}
 use Rattle.sdm_rules.specs.Ranges.{train_fault, national_fault, track_fault}
+use Rattle.sdm_formats.specs.declared.faults.DataFault.{DataFault}
+use Rattle.sdm_formats.specs.declared.faults.DataFault.TheVariants as data_faults
 use Rattle.sdm_data.specs.Members.{◌>>=◌}
 use Rattle.sdm_data.specs.Sections.{root_in, train_in, national_in, track_in, authority_in}
 

@@ -6,11 +6,11 @@ use Rattle.std.specs.Str.{bytes_eq}
 use Rattle.toml.specs.Data.{Data, Items, no_items, item, Members, no_members, member, get_member, as_array, as_integer}
 use Rattle.toml.specs.Data.{as_table}
 use Rattle.sdm_rules.specs.declared.faults.Section.{Section}
-use Rattle.sdm_rules.specs.declared.faults.At.{At}
-use Rattle.sdm_rules.specs.declared.faults.DataFault.{DataFault}
-use Rattle.sdm_rules.specs.declared.faults.DataFault.TheVariants.{Missing, UnknownKey, WrongKind, Value}
-use Rattle.sdm_rules.specs.FaultLines.{key_name}
 use Rattle.sdm_rules.specs.Ranges.{is_within}
+use Rattle.sdm_formats.specs.declared.faults.At.{At}
+use Rattle.sdm_formats.specs.declared.faults.DataFault.{DataFault}
+use Rattle.sdm_formats.specs.declared.faults.DataFault.TheVariants.{Missing, UnknownKey, WrongKind, Value}
+use Rattle.sdm_formats.specs.FaultLines.{key_name}
 
 -- a table of the document as a section of the data part; `index` counts from 1 in a list and is 0 elsewhere
 pub record SectionMembers : Type 0 where

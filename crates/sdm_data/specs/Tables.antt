@@ -17,8 +17,8 @@ use Rattle.sdm_rules.specs.declared.faults.Section.{Section}
 use Rattle.sdm_rules.specs.declared.faults.Section.TheVariants as sections
 use Rattle.sdm_rules.specs.declared.keys.TheConstants as keys
 use Rattle.sdm_rules.specs.Data.{TrainData, TrackData, TrainAndTrack}
-use Rattle.sdm_rules.specs.FaultLines.{key_name}
 use Rattle.sdm_rules.specs.Ranges.{longest_track, top_kmh}
+use Rattle.sdm_formats.specs.FaultLines.{key_name}
 
 -- ---- a section, key by key
 

@@ -4,10 +4,10 @@ use Rattle.std.specs.Prelude.{ℕ, ℤ, pos, neg_ℤ, ◌*ℤ◌, List, Option, 
 use Rattle.std.specs.Ordering.{int_eq}
 use Rattle.sdm_rules.specs.declared.faults.Section.{Section}
 use Rattle.sdm_rules.specs.declared.faults.Section.TheVariants.{Band, Track, Authority}
-use Rattle.sdm_rules.specs.FaultLines.{key_names}
 use Rattle.sdm_data.specs.declared.versions.Version.{Version}
 use Rattle.sdm_data.specs.declared.versions.Version.TheVariants.{One, Two}
 use Rattle.sdm_rules.specs.Ranges.{is_within}
+use Rattle.sdm_formats.specs.FaultLines.{key_names}
 
 -- the version of a number
 abbrev pub version_of : ℤ → Option Version

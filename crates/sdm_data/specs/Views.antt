@@ -1,10 +1,10 @@
 -- What answers and values of the code stand for in the definitions: tables for their members (own).
 use Rattle.std.specs.Prelude.{List, Result, Ok, Err}
 use Rattle.std.specs.List.{filter_map}
+use Rattle.sdm_formats.specs.declared.faults.DataFault.{DataFault}
 use Rattle.toml.specs.Data.{Members, as_table}
 use Rattle.toml.specs.View.{view, table_view}
 use Rattle.toml.specs.declared.value.Value.{Value}
-use Rattle.sdm_rules.specs.declared.faults.DataFault.{DataFault}
 use Rattle.sdm_data.specs.declared.section_tables.SectionTable.{SectionTable}
 use Rattle.sdm_data.specs.Members.{SectionMembers, section_of}
 

@@ -7,7 +7,8 @@ ghost use Rattle.sdm_data.specs.Views.{members_of};
 
 use crate::section_tables::SectionTable;
 use crate::versions::{end_keys, limit_keys};
-use sdm_rules::{Authority, DataFault, LONGEST_TRACK_CM, Section, TOP_KMH, keys};
+use sdm_formats::DataFault;
+use sdm_rules::{Authority, LONGEST_TRACK_CM, Section, TOP_KMH, keys};
 use toml::Table;
 
 /// The authority that a table holds, or the first rule that it breaks. (own)

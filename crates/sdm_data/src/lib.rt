@@ -23,6 +23,6 @@ pub use base::{BASE_PART, REALISTIC_PART};
 pub use division::split;
 pub use documents::{DocumentFault, read_document};
 pub use journeys::{JourneyData, data_of};
-pub use sdm_rules::{At, DataFault};
+pub use sdm_formats::{At, DataFault};
 pub use tables::{law_of_tables, table_of};
 pub use texts::text_of;

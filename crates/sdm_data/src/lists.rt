@@ -3,14 +3,15 @@
 ghost use Rattle.std.specs.Prelude.{◌≡◌, ◌≢◌, ℕ, IfErr, IfOk, Ok, Err, Result};
 ghost use Rattle.toml.specs.Data.{Members};
 ghost use Rattle.toml.specs.View.{table_view};
-ghost use Rattle.sdm_rules.specs.declared.faults.DataFault.{DataFault};
 ghost use Rattle.sdm_rules.specs.declared.faults.Section.{Section};
+ghost use Rattle.sdm_formats.specs.declared.faults.DataFault.{DataFault};
 ghost use Rattle.sdm_data.specs.declared.versions.Version.{Version};
 ghost use Rattle.sdm_data.specs.Members.{entries_from};
 ghost use Rattle.sdm_data.specs.Views.{tables_in};
 
 use crate::versions::Version;
-use sdm_rules::{DataFault, Section};
+use sdm_formats::DataFault;
+use sdm_rules::Section;
 use std::alloc::Global;
 use toml::{Table, Value};
 

@@ -6,7 +6,8 @@ ghost use Rattle.sdm_data.specs.Sections.{national_in};
 
 use crate::section_tables::SectionTable;
 use crate::versions::Version;
-use sdm_rules::{DataFault, NationalFields, Section, keys};
+use sdm_formats::DataFault;
+use sdm_rules::{NationalFields, Section, keys};
 use toml::Table;
 
 /// The national values that a table holds, or the first rule that it breaks. (own)

@@ -8,7 +8,8 @@ ghost use Rattle.sdm_data.specs.Views.{seen};
 
 use crate::section_tables::SectionTable;
 use crate::versions::{Version, version_of};
-use sdm_rules::{DataFault, Section, keys};
+use sdm_formats::DataFault;
+use sdm_rules::{Section, keys};
 use sdm_text::key_names;
 use toml::Table;
 

@@ -12,7 +12,8 @@ ghost use Rattle.sdm_data.specs.Members.{section_of, within};
 ghost use Rattle.sdm_data.specs.Views.{members_of, seen, tables_in};
 
 use crate::versions::{Version, known_keys};
-use sdm_rules::{At, DataFault, Section};
+use sdm_formats::{At, DataFault};
+use sdm_rules::Section;
 use sdm_text::key_name;
 use toml::{Table, Value};
 

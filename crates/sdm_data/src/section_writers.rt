@@ -1,9 +1,9 @@
 //! A section of the data part as a table that is made key by key. Keys go by their numbers in the section.
 
 ghost use Rattle.std.specs.Prelude.{◌≡◌, OnOk, Some, Option, option_map};
+ghost use Rattle.sdm_formats.specs.FaultLines.{key_name};
 ghost use Rattle.toml.specs.Data.{boolean, integer, no_members, string, table};
 ghost use Rattle.toml.specs.View.{table_view, view};
-ghost use Rattle.sdm_rules.specs.FaultLines.{key_name};
 ghost use Rattle.sdm_data.specs.Tables.{put, put_if_any};
 
 use sdm_num::NoMemory;

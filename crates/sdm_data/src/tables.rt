@@ -28,7 +28,7 @@ const VERSION: i64 = 2;
 /// The table of version 2 that holds these data: read again it gives just them, where they are data that were read.
 /// A key that may be absent stands in it exactly where the data have a value, but `delayed` and `release` always; a
 /// list that may be absent is left out where it is empty. (own)
-#[tactic(auto, unfolding(crate::specs::Tables::table_of, sdm_rules::specs::FaultLines::key_names))]
+#[tactic(auto, unfolding(crate::specs::Tables::table_of, sdm_formats::specs::FaultLines::key_names))]
 pub fn table_of(alloc: Global, journey: &JourneyData) -> Result<Table, NoMemory>
     ensures { IfOk result (λ t. table_view t ≡ table_of (train_and_track_of journey.now) journey.now.authority) }
 {
@@ -48,7 +48,7 @@ pub fn table_of(alloc: Global, journey: &JourneyData) -> Result<Table, NoMemory>
 }
 
 /// The train with its bands.
-#[tactic(auto, unfolding(crate::specs::Tables::train_table, sdm_rules::specs::FaultLines::key_names))]
+#[tactic(auto, unfolding(crate::specs::Tables::train_table, sdm_formats::specs::FaultLines::key_names))]
 fn train_table(alloc: Global, train: &Train) -> Result<Table, NoMemory>
     ensures { IfOk result (λ t. table_view t ≡ train_table train.now) }
 {
@@ -74,7 +74,7 @@ fn train_table(alloc: Global, train: &Train) -> Result<Table, NoMemory>
 impl WriteEntry for Band {
     ghost written = { band_table };
 
-    #[tactic(auto, unfolding(crate::specs::Tables::band_table, sdm_rules::specs::FaultLines::key_names))]
+    #[tactic(auto, unfolding(crate::specs::Tables::band_table, sdm_formats::specs::FaultLines::key_names))]
     fn table(&self, alloc: Global) -> Result<Table, NoMemory> {
         let mut section = SectionWriter::new(alloc, Section::Band);
         section.integer_if_any(keys::BAND_UPPER, self.upper)?;
@@ -91,7 +91,7 @@ impl WriteEntry for Band {
 }
 
 /// The national values.
-#[tactic(auto, unfolding(crate::specs::Tables::national_table, sdm_rules::specs::FaultLines::key_names))]
+#[tactic(auto, unfolding(crate::specs::Tables::national_table, sdm_formats::specs::FaultLines::key_names))]
 fn national_table(alloc: Global, national: &National) -> Result<Table, NoMemory>
     ensures { IfOk result (λ t. table_view t ≡ national_table national.now) }
 {
@@ -112,7 +112,7 @@ fn national_table(alloc: Global, national: &National) -> Result<Table, NoMemory>
 }
 
 /// The track with its lists.
-#[tactic(auto, unfolding(crate::specs::Tables::track_table, sdm_rules::specs::FaultLines::key_names))]
+#[tactic(auto, unfolding(crate::specs::Tables::track_table, sdm_formats::specs::FaultLines::key_names))]
 fn track_table(alloc: Global, track: &Track) -> Result<Table, NoMemory>
     ensures { IfOk result (λ t. table_view t ≡ track_table track.now) }
 {
@@ -134,7 +134,7 @@ fn track_table(alloc: Global, track: &Track) -> Result<Table, NoMemory>
 impl WriteEntry for Gradient {
     ghost written = { gradient_table };
 
-    #[tactic(auto, unfolding(crate::specs::Tables::gradient_table, sdm_rules::specs::FaultLines::key_names))]
+    #[tactic(auto, unfolding(crate::specs::Tables::gradient_table, sdm_formats::specs::FaultLines::key_names))]
     fn table(&self, alloc: Global) -> Result<Table, NoMemory> {
         let mut section = SectionWriter::new(alloc, Section::Gradient);
         section.integer(keys::GRADIENT_START, self.start)?;
@@ -146,7 +146,7 @@ impl WriteEntry for Gradient {
 impl WriteEntry for SpeedStep {
     ghost written = { speed_table };
 
-    #[tactic(auto, unfolding(crate::specs::Tables::speed_table, sdm_rules::specs::FaultLines::key_names))]
+    #[tactic(auto, unfolding(crate::specs::Tables::speed_table, sdm_formats::specs::FaultLines::key_names))]
     fn table(&self, alloc: Global) -> Result<Table, NoMemory> {
         let mut section = SectionWriter::new(alloc, Section::Speed);
         section.integer(keys::SPEED_START, self.start)?;
@@ -159,7 +159,7 @@ impl WriteEntry for SpeedStep {
 impl WriteEntry for Area {
     ghost written = { area_table };
 
-    #[tactic(auto, unfolding(crate::specs::Tables::area_table, sdm_rules::specs::FaultLines::key_names))]
+    #[tactic(auto, unfolding(crate::specs::Tables::area_table, sdm_formats::specs::FaultLines::key_names))]
     fn table(&self, alloc: Global) -> Result<Table, NoMemory> {
         let mut section = SectionWriter::new(alloc, Section::Adhesion);
         section.integer(keys::AREA_START, self.start)?;
@@ -169,7 +169,7 @@ impl WriteEntry for Area {
 }
 
 /// The authority, with the keys of its kind.
-#[tactic(auto, unfolding(crate::specs::Tables::authority_table, sdm_rules::specs::FaultLines::key_names))]
+#[tactic(auto, unfolding(crate::specs::Tables::authority_table, sdm_formats::specs::FaultLines::key_names))]
 fn authority_table(alloc: Global, authority: Authority) -> Result<Table, NoMemory>
     ensures { IfOk result (λ t. table_view t ≡ authority_table authority) }
 {

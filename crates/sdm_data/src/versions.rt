@@ -1,7 +1,7 @@
 //! The version of the data part, the keys that its sections may have by it, and its unit of gradients.
 
 ghost use Rattle.std.specs.Prelude.{◌≡◌, map};
-ghost use Rattle.sdm_rules.specs.FaultLines.{key_names};
+ghost use Rattle.sdm_formats.specs.FaultLines.{key_names};
 ghost use Rattle.sdm_data.specs.Versions.{end_keys, in_tenths, known_keys, limit_keys, version_of};
 
 use sdm_rules::{STEEPEST, Section, is_within};

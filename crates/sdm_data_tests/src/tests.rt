@@ -9,7 +9,8 @@ use sdm_data::{
     BASE_PART, DataFault, DocumentFault, JourneyData, data_of, law_of_tables, read_document, split,
     table_of, text_of,
 };
-use sdm_rules::{At, Section};
+use sdm_formats::At;
+use sdm_rules::Section;
 use std::alloc::{AllocError, Global};
 use std::test::Fail;
 

@@ -3,7 +3,7 @@ use Rattle.std.proofs.Common.{◌≡◌, ℕ, List, [], ◌∷◌, ◌++◌, Opt
 use Rattle.std.specs.Fmt.{signed_decimal}
 use Rattle.std.specs.List.{join_with_byte}
 use Rattle.sdm_rules.specs.declared.display.Shown.{Shown}
-use Rattle.sdm_rules.specs.Text.{kind_text, shown_fields}
+use Rattle.sdm_formats.specs.Text.{kind_text, shown_fields}
 use Rattle.sdm_report.proofs.Pieces.{IsJoined, more_fields}
 
 pub with_shown : (old comma new x : List ℕ) (xs : List (List ℕ)) (shown : Option Shown) → IsJoined old (x ∷ xs) →

@@ -2,7 +2,7 @@
 
 ghost use Rattle.std.specs.Prelude.{◌≡◌, ◌+◌, ◌≤◌, ◌∷◌, ◌++◌, [], length};
 ghost use Rattle.std.specs.List.{join_with_byte};
-ghost use Rattle.sdm_rules.specs.Text.{display_text, kind_text, shown_fields};
+ghost use Rattle.sdm_formats.specs.Text.{display_text, kind_text, shown_fields};
 
 use sdm_report::fields::{put_count, put_number};
 use sdm_rules::{Display, Shown, TargetKind};

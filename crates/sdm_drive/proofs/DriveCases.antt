@@ -18,7 +18,7 @@ use Rattle.sdm_rules.specs.Decelerations.{slope_at, slopes_of}
 use Rattle.sdm_rules.specs.Profile.{mrsp, lowest_between}
 use Rattle.sdm_rules.specs.Targets.{targets_of}
 use Rattle.sdm_rules.specs.Reaction.{reaction_times, service_in_use}
-use Rattle.sdm_rules.specs.Curves.{place_at, stepped, arc_back, back, arc_forward, forward}
+use Rattle.sdm_rules.specs.Curves.{place_at, corner, arc, stepped, arc_back, back}
 use Rattle.sdm_rules.specs.Limits.{limits_of, release_start}
 use Rattle.sdm_rules.specs.Triggers.{Situation, triggers_of}
 use Rattle.sdm_rules.specs.Commands.{commands_after, emergency_after}
@@ -26,7 +26,7 @@ use Rattle.sdm_rules.specs.Supervision.{Supervision, after_reading, commands_in,
 use Rattle.sdm_rules.specs.Supervision.{row_in, situation_of, state_in}
 use Rattle.sdm_rules.specs.Opening.{IsAcceptedKind, IsStrong, IsEven}
 use Rattle.sdm_rules.specs.Within.{is_within_svl}
-use Rattle.sdm_rules.specs.Trial.{next_number}
+use Rattle.sdm_formats.specs.Trial.{next_number}
 use Rattle.sdm_drive.specs.declared.orders.Orders.{Orders}
 use Rattle.sdm_drive.specs.declared.rows.DriveRow.{DriveRow}
 use Rattle.sdm_drive.specs.Drive.{Drive, after_braking, after_braking_with, after_driving, after_ds}
@@ -285,7 +285,7 @@ three_steps : drive_output base 1000 1000 7 3
     ≡ codes "cycles 3\nemergency 0\nstops 0\nfront 184\nleast 9816\n"
 unfolding base base_start situation_with orders_in step_in free_rows row_in mrsp targets_of state_in commands_in
     is_covered_in commands_after emergency_after triggers_of limits_of release_start reaction_times slopes_of slope_at
-    stepped place_at arc_back back arc_forward forward is_within_svl brake_delay reading_by after_ds after_driving
+    stepped place_at corner arc arc_back back is_within_svl brake_delay reading_by after_ds after_driving
     after_braking speed_loss stopping_distance greatest_slope digits
 three_steps = ap (λ rows. drive_text 1000 rows) (base_rows 3) ∙ refl
 
@@ -295,6 +295,6 @@ twenty_steps : drive_output base 1000 1000 7 20
     ≡ codes "cycles 20\nemergency 5\nstops 1\nfront 4881\nleast 5119\n"
 unfolding base base_start situation_with orders_in step_in free_rows row_in mrsp targets_of state_in commands_in
     is_covered_in commands_after emergency_after triggers_of limits_of release_start reaction_times slopes_of slope_at
-    stepped place_at arc_back back arc_forward forward is_within_svl brake_delay reading_by after_ds after_driving
+    stepped place_at corner arc arc_back back is_within_svl brake_delay reading_by after_ds after_driving
     after_braking speed_loss stopping_distance greatest_slope digits
 twenty_steps = ap (λ rows. drive_text 1000 rows) (base_rows 20) ∙ refl

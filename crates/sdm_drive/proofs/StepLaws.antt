@@ -10,8 +10,8 @@ use Rattle.sdm_rules.specs.declared.rows.Row.{Row}
 use Rattle.sdm_rules.specs.Cells.{place_of_cell}
 use Rattle.sdm_rules.specs.Slopes.{Slopes}
 use Rattle.sdm_rules.specs.Supervision.{Supervision, after_reading, row_of}
-use Rattle.sdm_rules.specs.Trial.{next_number}
 use Rattle.sdm_rules.specs.Within.{is_within_svl}
+use Rattle.sdm_formats.specs.Trial.{next_number}
 use Rattle.sdm_laws.proofs.Rows.Headline.{open_usable}
 use Rattle.sdm_drive.specs.declared.orders.Orders.{Orders}
 use Rattle.sdm_drive.specs.Drive.{Drive, TrueTrain, after_several_ds, after_step, after_step_from, brake_delay}

@@ -18,7 +18,7 @@ use Rattle.sdm_rules.specs.Decelerations.{slopes_of}
 use Rattle.sdm_rules.specs.Reaction.{reaction_times}
 use Rattle.sdm_rules.specs.Supervision.{Supervision, opening, row_of, after_reading}
 use Rattle.sdm_rules.specs.Within.{is_within_svl}
-use Rattle.sdm_rules.specs.Trial.{next_number, count_text}
+use Rattle.sdm_formats.specs.Trial.{next_number, count_text}
 use Rattle.sdm_drive.specs.declared.orders.Orders.{Orders}
 use Rattle.sdm_drive.specs.declared.rows.DriveRow.{DriveRow}
 

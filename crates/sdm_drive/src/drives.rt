@@ -19,9 +19,10 @@ use crate::odometers::reading_by;
 use crate::orders::Orders;
 use crate::rows::DriveRow;
 use crate::trains::{STEP_TIME, TrueTrain};
+use sdm_formats::next_number;
 use sdm_national::National;
 use sdm_num::{Place, Speed};
-use sdm_rules::{OpenFault, next_number};
+use sdm_rules::OpenFault;
 use sdm_supervisor::Supervisor;
 use sdm_targets::Authority;
 use sdm_track::Track;
@@ -45,7 +46,7 @@ pub struct Drive {
 
 impl Model for Drive {
     ghost use Rattle.std.specs.Coded.{codes};
-    ghost use Rattle.sdm_rules.specs.Codes.{coded_restrictions};
+    ghost use Rattle.sdm_speed.specs.Codes.{coded_restrictions};
     ghost use Rattle.sdm_drive.specs.Drive.{Drive};
     ghost use Rattle.sdm_drive.specs.Kept.{IsKeptDrive};
 

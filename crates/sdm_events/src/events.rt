@@ -5,11 +5,11 @@ ghost use Rattle.std.specs.Prelude.{◌≡◌, ◌<◌, ◌≤◌, ◌≤ℤ◌,
 ghost use Rattle.std.specs.Str.{bytes_eq};
 ghost use Rattle.csv.specs.Records.{fields_of};
 ghost use Rattle.sdm_num.specs.Readings.{reading_of};
+ghost use Rattle.sdm_formats.specs.Forms.{end_form, endcalc_form, event_of, limit_form, read_form, restrict_form};
+ghost use Rattle.sdm_formats.specs.Forms.{revoke_form};
+ghost use Rattle.sdm_formats.specs.Numbers.{read_int};
 ghost use Rattle.sdm_events.specs.Columns.{IsColumnFault, column_of};
 ghost use Rattle.sdm_events.specs.Journey.{IsInForm};
-ghost use Rattle.sdm_rules.specs.Forms.{end_form, endcalc_form, event_of, limit_form, read_form, restrict_form};
-ghost use Rattle.sdm_rules.specs.Forms.{revoke_form};
-ghost use Rattle.sdm_rules.specs.Numbers.{read_int};
 
 use csv::ByteRecord;
 use sdm_num::Reading;
@@ -22,7 +22,7 @@ use sdm_text::read_int;
 // In line in each loop over records: a call would cost a reading some 70 instructions. A kind is compared as an array,
 // which takes a few compares, where `==` of slices calls a loop.
 #[inline(always)]
-#[tactic(auto, unfolding(sdm_rules::specs::Forms::event_of))]
+#[tactic(auto, unfolding(sdm_formats::specs::Forms::event_of))]
 pub fn event_of(fields: &ByteRecord) -> Result<Event, EventFault>
     ensures value { result ≡ event_of (fields_of fields.now) }
     ensures form { IfOk result IsInForm }
@@ -68,7 +68,7 @@ fn number(fields: &ByteRecord, column: u32, least: i32, greatest: i32) -> Result
 /// `read`: an odometer reading.
 // In line, as `event_of`.
 #[inline(always)]
-#[tactic(auto, unfolding(sdm_rules::specs::Forms::read_form))]
+#[tactic(auto, unfolding(sdm_formats::specs::Forms::read_form))]
 fn read_event(fields: &ByteRecord) -> Result<Event, EventFault>
     ensures value { result ≡ read_form (drop 1 (fields_of fields.now)) }
     ensures form { IfOk result IsInForm }
@@ -96,7 +96,7 @@ fn read_event(fields: &ByteRecord) -> Result<Event, EventFault>
 }
 
 /// `end`: an authority that ends in a stop.
-#[tactic(auto, unfolding(sdm_rules::specs::Forms::end_form))]
+#[tactic(auto, unfolding(sdm_formats::specs::Forms::end_form))]
 fn end_event(fields: &ByteRecord) -> Result<Event, EventFault>
     ensures value { result ≡ end_form (drop 1 (fields_of fields.now)) }
     ensures form { IfOk result IsInForm }
@@ -111,7 +111,7 @@ fn end_event(fields: &ByteRecord) -> Result<Event, EventFault>
 }
 
 /// `endcalc`: an authority that ends in a stop, whose release speed is calculated.
-#[tactic(auto, unfolding(sdm_rules::specs::Forms::endcalc_form))]
+#[tactic(auto, unfolding(sdm_formats::specs::Forms::endcalc_form))]
 fn endcalc_event(fields: &ByteRecord) -> Result<Event, EventFault>
     ensures value { result ≡ endcalc_form (drop 1 (fields_of fields.now)) }
     ensures form { IfOk result IsInForm }
@@ -126,7 +126,7 @@ fn endcalc_event(fields: &ByteRecord) -> Result<Event, EventFault>
 }
 
 /// `limit`: an authority that ends at a speed.
-#[tactic(auto, unfolding(sdm_rules::specs::Forms::limit_form))]
+#[tactic(auto, unfolding(sdm_formats::specs::Forms::limit_form))]
 fn limit_event(fields: &ByteRecord) -> Result<Event, EventFault>
     ensures value { result ≡ limit_form (drop 1 (fields_of fields.now)) }
     ensures form { IfOk result IsInForm }
@@ -140,7 +140,7 @@ fn limit_event(fields: &ByteRecord) -> Result<Event, EventFault>
 }
 
 /// `restrict`: a temporary speed restriction.
-#[tactic(auto, unfolding(sdm_rules::specs::Forms::restrict_form))]
+#[tactic(auto, unfolding(sdm_formats::specs::Forms::restrict_form))]
 fn restrict_event(fields: &ByteRecord) -> Result<Event, EventFault>
     ensures value { result ≡ restrict_form (drop 1 (fields_of fields.now)) }
     ensures form { IfOk result IsInForm }
@@ -163,7 +163,7 @@ fn restrict_event(fields: &ByteRecord) -> Result<Event, EventFault>
 }
 
 /// `revoke`: the end of a temporary speed restriction.
-#[tactic(auto, unfolding(sdm_rules::specs::Forms::revoke_form))]
+#[tactic(auto, unfolding(sdm_formats::specs::Forms::revoke_form))]
 fn revoke_event(fields: &ByteRecord) -> Result<Event, EventFault>
     ensures value { result ≡ revoke_form (drop 1 (fields_of fields.now)) }
     ensures form { IfOk result IsInForm }

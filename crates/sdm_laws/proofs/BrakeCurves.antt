@@ -1,11 +1,11 @@
--- Brake curves over all bands: rounding and its slack, scales, and the order of exact places.
-pub mod BandSteps
-pub mod Knots
-pub mod TwoWalks
+-- Brake curves over all bands: corners, the order of places, rounding and its slack, scales, and levels.
+pub mod Bands
+pub mod Corners
+pub mod Chains
+pub mod CurveOrder
+pub mod TwoCurves
 pub mod Slack
 pub mod CurveScales
-pub mod Chains
-pub mod CurveChains
-pub mod CurveOrder
-pub mod SteppedOrder
 pub mod CurveNearness
+pub mod Nearest
+pub mod CurveLevels

@@ -9,8 +9,8 @@ pub mod PrintedLimits
 pub mod StopFacts
 pub mod Stops
 pub mod WithinSvl
-pub mod FlatFacts
 pub mod CalculatedRelease
 pub mod Passing
 pub mod Headline
+pub mod Falls
 pub mod Journeys

@@ -1,13 +1,12 @@
 -- The laws of brake curves: what is true of exact and stepped places for any usable slopes, every foot `f` in grains,
 -- every foot speed `w` in notches and every scale `s` (own).
-use Rattle.std.specs.Prelude.{◌≡◌, ℕ, suc, ℤ, pos, neg_ℤ, ◌+◌, ◌-◌, ◌*◌, ◌<◌, ◌≤◌, ◌+ℤ◌, ◌*ℤ◌, ◌≤ℤ◌, length}
+use Rattle.std.specs.Prelude.{◌≡◌, ℕ, ℤ, pos, ◌*◌, ◌<◌, ◌≤◌, ◌*ℤ◌, ◌≤ℤ◌}
 use Rattle.sdm_num.specs.Units.{millimetre}
-use Rattle.sdm_num.specs.Fractions.{IsBefore, IsSame, floor, times, whole}
+use Rattle.sdm_num.specs.Fractions.{IsBefore, IsSame, times, whole}
 use Rattle.sdm_num.specs.Bounds.{IsEarlyFor}
 use Rattle.sdm_rules.specs.Slopes.{Slopes, IsUsable, bands_of, variation}
-use Rattle.sdm_rules.specs.Curves.{arc_back, arc_forward, grain_energy, upper_square, to_grain, back_through_bands}
-use Rattle.sdm_rules.specs.Curves.{forward_through_bands, exact_at, exact, stepped, most_slack, slack_after}
-use Rattle.sdm_laws.specs.Energy.{IsKnot, IsKnotPast}
+use Rattle.sdm_rules.specs.Curves.{exact_at, exact, stepped, most_slack, slack_after}
+use Rattle.sdm_laws.specs.Levels.{IsExactCurve, IsSteppedCurve}
 
 -- ---- rounding
 
@@ -60,28 +59,14 @@ pub record IsAtFoot (on : Slopes) (f : ℤ) (w : ℕ) : Type 0 where
 abbrev pub LawOfFoot : Type 0
 LawOfFoot = (on : Slopes) (f : ℤ) (w : ℕ) → IsAtFoot on f w
 
--- ---- knots
+-- ---- levels
 
--- What the two facts of a knot give: the stepped end of an arc from a whole grain, back and forward; and so the
--- stepped place goes back from a border of the band to the next, and forward to the one below.
-pub record HasKnots (on : Slopes) (band : ℕ) : Type 0 where
-  pub back :
-      (at : ℤ) (d change : ℕ) → IsKnot on band at d (grain_energy on change) →
-      floor (arc_back on 1 band (whole at) change) ≡ at +ℤ neg_ℤ (pos d)
-  pub ahead :
-      (at : ℤ) (d change : ℕ) → IsKnotPast on band at d (grain_energy on change) →
-      floor (arc_forward on 1 band (whole at) change) ≡ at +ℤ pos d
-  pub climbs :
-      (left : ℕ) (at : ℤ) (d u z : ℕ) → u < upper_square on 1 band → upper_square on 1 band < z →
-      IsKnot on band at d (grain_energy on (upper_square on 1 band - u)) →
-      back_through_bands to_grain on 1 (suc left) band (whole at) u z
-      ≡ back_through_bands to_grain on 1 left (band + 1) (whole (at +ℤ neg_ℤ (pos d))) (upper_square on 1 band) z
-  pub descends :
-      (below : ℕ) (at : ℤ) (d u z : ℕ) → band ≡ suc below → upper_square on 1 below < u → z < upper_square on 1 below →
-      IsKnotPast on band at d (grain_energy on (u - upper_square on 1 below)) →
-      forward_through_bands to_grain on 1 band (whole at) u z
-      ≡ forward_through_bands to_grain on 1 below (whole (at +ℤ pos d)) (upper_square on 1 below) z
+-- exact places are a curve by the physics, so are stepped ones, and no other whole grains are
+pub record KeepsLevels (on : Slopes) (f : ℤ) (w : ℕ) : Type 0 where
+  pub exact_curve : (s : ℕ) → 0 < s → IsExactCurve on s f w (exact_at on s f w)
+  pub stepped_curve : IsSteppedCurve on f w (stepped on f w)
+  pub no_other : (place : ℕ → ℤ) → IsSteppedCurve on f w place → (v : ℕ) → place v ≡ stepped on f w v
 
--- In each band of usable slopes the facts of knots give stepped places.
-abbrev pub LawOfKnots : Type 0
-LawOfKnots = (on : Slopes) (band : ℕ) → IsUsable on → band ≤ length on.uppers → HasKnots on band
+-- On usable slopes every curve keeps one level in each band, and that fixes its stepped places.
+abbrev pub LawOfLevels : Type 0
+LawOfLevels = (on : Slopes) (f : ℤ) (w : ℕ) → IsUsable on → KeepsLevels on f w

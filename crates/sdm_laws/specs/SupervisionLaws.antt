@@ -1,5 +1,6 @@
--- The laws of supervision, as statements over an accepted supervision state alone (own).
-use Rattle.std.specs.Prelude.{◌≡◌, ◌<◌, ◌≤◌, ℕ, ℤ, Bool, true, false, IsTrue, IfOk, List, Option, Some, None, Result, ⊤}
+-- The laws of openings, and of supervision as statements over an accepted supervision state alone (own).
+use Rattle.std.specs.Prelude.{◌≡◌, ◌⊎◌, ◌<◌, ◌≤◌, ℕ, ℤ, Bool, true, false, IsTrue, IfOk, List, Option, Some}
+use Rattle.std.specs.Prelude.{None, Result, ⊤}
 use Rattle.sdm_num.specs.Units.{millimetre}
 use Rattle.sdm_num.specs.Fractions.{Fraction, IsAtMost, more}
 use Rattle.sdm_num.specs.Bounds.{IsEarlyFor}
@@ -9,29 +10,41 @@ use Rattle.sdm_rules.specs.declared.authorities.Authority.TheVariants.{Stop}
 use Rattle.sdm_rules.specs.declared.data.SlopeKind.{SlopeKind}
 use Rattle.sdm_rules.specs.declared.data.SlopeKind.TheVariants.{Safe}
 use Rattle.sdm_rules.specs.declared.faults.EventFault.{EventFault}
+use Rattle.sdm_rules.specs.declared.faults.OpenFault.{OpenFault}
 use Rattle.sdm_rules.specs.declared.records.Event.{Event}
 use Rattle.sdm_rules.specs.Slopes.{IsUsable}
 use Rattle.sdm_rules.specs.Curves.{exact, stepped, most_slack}
 use Rattle.sdm_rules.specs.Data.{TrainAndTrack, HasBands}
 use Rattle.sdm_rules.specs.Decelerations.{slopes_of}
 use Rattle.sdm_rules.specs.declared.targets.Target.{Target}
-use Rattle.sdm_rules.specs.Limits.{SupervisionLimits, computed, exact_places, limits_of, release_start}
+use Rattle.sdm_rules.specs.Limits.{SupervisionLimits, computed, exact_places, limit_in, limits_of, release_start}
 use Rattle.sdm_rules.specs.Supervision.{Supervision, opening, row_of, situation_of}
 use Rattle.sdm_rules.specs.Display.{passes_limit}
 use Rattle.sdm_rules.specs.declared.display.LimitName.{LimitName}
+use Rattle.sdm_rules.specs.declared.limits.LimitKind.{LimitKind}
 use Rattle.sdm_rules.specs.Machines.{Implies, KeepsOrder, InOrder, held_after}
 use Rattle.sdm_rules.specs.Records.{step, journey_from}
 use Rattle.sdm_rules.specs.Stop.{IsSafe}
 use Rattle.sdm_rules.specs.Within.{StopsByItsSvl, is_within_svl}
 use Rattle.sdm_rules.specs.Release.{IsReleaseSpeed, calculated}
 use Rattle.sdm_rules.specs.Promises.{BeginsReleaseMonitoring, HasOnlyGaps, IsWithinCeiling}
-use Rattle.sdm_rules.specs.Opening.{IsAccepted, IsAcceptedKind, IsOpen}
+use Rattle.sdm_rules.specs.Opening.{IsAccepted, IsAcceptedKind, IsOpen, IsOpenFault}
 use Rattle.sdm_rules.specs.Headline.{IsSupervised, AreTurnsSafe}
 
 -- the slopes of accepted data are usable
 abbrev pub LawOfAcceptedSlopes : Type 0
 LawOfAcceptedSlopes = (kind : SlopeKind) (d : TrainAndTrack) → HasBands d.train.bands → IsAcceptedKind kind d →
     IsUsable (slopes_of kind d)
+
+-- each opening is either accepted or has a first fault, and never both or two
+pub record IsDecided (d : TrainAndTrack) (a : Authority) : Type 0 where
+  pub decided : IsAccepted d a ⊎ ((fault : OpenFault) × IsOpenFault d a fault)
+  pub not_both : (fault : OpenFault) → IsAccepted d a → IsOpenFault d a fault → ⊥
+  pub one_fault : (fault fault' : OpenFault) → IsOpenFault d a fault → IsOpenFault d a fault' → fault ≡ fault'
+
+-- of all data and authorities the opening is either accepted or has one first fault
+abbrev pub LawOfOpening : Type 0
+LawOfOpening = (d : TrainAndTrack) (a : Authority) → IsDecided d a
 
 -- an accepted opening is open, and a state stays open over each record: no record changes the data
 pub record IsKeptOpen : Type 0 where
@@ -61,11 +74,7 @@ AreJustBeforeIfAny (Some low) (Some x) = IsJustBefore low x
 
 -- each limit lies just before the other's (SUBSET-026-3 3.13.9.3)
 pub record AreLimitsJustBefore (low x : SupervisionLimits) : Type 0 where
-  pub ebi : AreJustBeforeIfAny low.ebi x.ebi
-  pub sbi : IsJustBefore low.sbi x.sbi
-  pub warning : IsJustBefore low.warning x.warning
-  pub permitted : IsJustBefore low.permitted x.permitted
-  pub indication : IsJustBefore low.indication x.indication
+  pub each : (kind : LimitKind) → AreJustBeforeIfAny (limit_in kind low) (limit_in kind x)
 
 -- each computed limit, and the computed start of release speed monitoring, is at most the exact one and less than a
 -- millimetre before it (SUBSET-026-3 3.13.9.3, 3.13.9.4)

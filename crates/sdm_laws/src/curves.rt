@@ -1,7 +1,7 @@
 //! The laws of brake curves, for any usable slopes, every foot, every foot speed and every scale. Each function makes
 //! no call and only states its law.
 
-ghost use Rattle.sdm_laws.specs.CurveLaws.{LawOfFoot, LawOfFractions, LawOfKnots, LawOfOrder, LawOfRounding};
+ghost use Rattle.sdm_laws.specs.CurveLaws.{LawOfFoot, LawOfFractions, LawOfLevels, LawOfOrder, LawOfRounding};
 ghost use Rattle.sdm_laws.specs.CurveLaws.{LawOfScale, LawOfSteppedOrder};
 
 /// The stepped place of a speed is never past the exact one, and at most as far before it as the number of bands
@@ -21,7 +21,7 @@ pub fn law_of_order()
 {}
 
 /// The greater the speed, the earlier the stepped place, or it is the same.
-#[tactic(auto, using(crate::proofs::BrakeCurves::SteppedOrder::stepped_falls))]
+#[tactic(auto, using(crate::proofs::BrakeCurves::CurveOrder::stepped_falls))]
 pub fn law_of_stepped_order()
     ensures { LawOfSteppedOrder }
 {}
@@ -36,8 +36,8 @@ pub fn law_of_foot()
     ensures { LawOfFoot }
 {}
 
-/// The two facts of a knot fix the stepped end of an arc from a whole grain, and so the stepped place from border to
-/// border.
-pub fn law_of_knots()
-    ensures { LawOfKnots }
+/// In each speed band a curve keeps one level, the sum of its place's energy integral and its square's energy; and its
+/// stepped places are the only whole grains that do so from its foot.
+pub fn law_of_levels()
+    ensures { LawOfLevels }
 {}

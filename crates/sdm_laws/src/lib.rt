@@ -4,7 +4,5 @@
 
 pub mod certificates;
 pub mod curves;
-pub mod flat;
 pub mod motions;
-pub mod runs;
 pub mod supervision;

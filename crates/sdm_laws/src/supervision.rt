@@ -1,9 +1,11 @@
-//! The laws of supervision: of every accepted supervision state and reading, and of every list of records. Each
-//! function makes no call and only states its clause.
+//! The laws of openings and of supervision: of every accepted supervision state and reading, and of every list of
+//! records. Each function makes no call and only states its clause.
 
+ghost use Rattle.sdm_laws.specs.Falls.{LawOfFalls};
 ghost use Rattle.sdm_laws.specs.PrintedLimits.{LawOfPrintedLimits};
 ghost use Rattle.sdm_laws.specs.SupervisionLaws.{IsKeptOpen, LawOfAcceptedSlopes, LawOfCeiling, LawOfCommand};
 ghost use Rattle.sdm_laws.specs.SupervisionLaws.{LawOfGaps, LawOfJourneys, LawOfLimits, LawOfMachines, LawOfNearness};
+ghost use Rattle.sdm_laws.specs.SupervisionLaws.{LawOfOpening};
 ghost use Rattle.sdm_laws.specs.SupervisionLaws.{LawOfPassing, LawOfReleaseSpeed, LawOfReleaseStart, LawOfStop};
 ghost use Rattle.sdm_laws.specs.SupervisionLaws.{LawOfSupervision, LawOfWithin};
 
@@ -11,6 +13,11 @@ ghost use Rattle.sdm_laws.specs.SupervisionLaws.{LawOfSupervision, LawOfWithin};
 #[tactic(auto, using(crate::proofs::Openings::AcceptedSlopes::accepted_usable))]
 pub fn law_of_accepted_slopes()
     ensures { LawOfAcceptedSlopes }
+{}
+
+/// Each opening is accepted or has one first fault.
+pub fn law_of_opening()
+    ensures { LawOfOpening }
 {}
 
 /// What the opening accepts stays so over every record.
@@ -72,6 +79,12 @@ pub fn law_of_gaps()
 #[tactic(auto, using(crate::proofs::Rows::Ceiling::within_ceiling))]
 pub fn law_of_ceiling()
     ensures { LawOfCeiling }
+{}
+
+/// From a covered row without an emergency command every motion meets each fall of the speed profile that isn't behind
+/// the min safe front end: no fall drops out of the promise before the train has passed it.
+pub fn law_of_falls()
+    ensures { LawOfFalls }
 {}
 
 /// When release speed monitoring begins.

@@ -7,7 +7,7 @@ ghost use Rattle.std.specs.Option.{ForSome};
 ghost use Rattle.sdm_num.specs.Units.{notches};
 ghost use Rattle.sdm_num.specs.Bounds.{IsEarlyFor};
 ghost use Rattle.sdm_num.specs.Fractions.{Fraction};
-ghost use Rattle.sdm_rules.specs.Limits.{computed, exact_places};
+ghost use Rattle.sdm_rules.specs.Limits.{computed, exact_places, limit_in};
 ghost use Rattle.sdm_rules.specs.Slopes.{meaning_of};
 ghost use Rattle.sdm_rules.specs.Ranges.{top_kmh};
 ghost use Rattle.sdm_curve.specs.Made.{IsMadeFrom};
@@ -19,7 +19,7 @@ use crate::reaction::Reaction;
 use crate::times::{T_DRIVER, T_WARNING};
 use sdm_curve::{BandMap, Curve};
 use sdm_num::{Early, Speed};
-use sdm_rules::Times;
+use sdm_rules::{LimitKind, Times};
 
 /// The limits of a target: EBI, SBI, W, P and I, each on the safe side of the exact one. An EOA has no EBI.
 /// (SUBSET-026-3 3.13.9.3)
@@ -35,6 +35,21 @@ pub struct Limits {
     pub permitted: Early,
     /// d_I, from which on the driver sees the target.
     pub indication: Early,
+}
+
+impl Limits {
+    /// The limit of this kind, where there is one.
+    pub fn limit(&self, kind: LimitKind) -> Option<Early>
+        ensures { place_where result ≡ limit_in kind (places_of self.now) }
+    {
+        match kind {
+            LimitKind::Ebi => self.ebi,
+            LimitKind::Sbi => Some(self.sbi),
+            LimitKind::Warning => Some(self.warning),
+            LimitKind::Permitted => Some(self.permitted),
+            LimitKind::Indication => Some(self.indication),
+        }
+    }
 }
 
 /// The limits on an EBD at the estimated speed `v`, with the guidance curve's place at `v` where there is a guidance

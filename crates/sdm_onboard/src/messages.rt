@@ -2,6 +2,10 @@
 //! each call of the supervisor is made and refused; of two readings that aren't judged one has a clock that goes back,
 //! and one a speed out of range.
 
+ghost use Rattle.std.specs.Option.{SomeIff};
+ghost use Rattle.sdm_num.specs.Readings.{IsReading};
+ghost use Rattle.sdm_onboard.specs.Messages.{reading_in};
+
 use sdm_num::Reading;
 use sdm_rules::{Authority, Restriction};
 use std::fmt;
@@ -24,7 +28,9 @@ pub struct Odometry {
 
 impl Odometry {
     /// The reading with its bounds; none where a number is out of its range.
-    pub fn reading(&self) -> Option<Reading> {
+    pub fn reading(&self) -> Option<Reading>
+        ensures { SomeIff result (IsReading (reading_in self.now)) (reading_in self.now) }
+    {
         let min = self.est.checked_sub(FRONT_BOUND_MM)?;
         let max = self.est.checked_add(FRONT_BOUND_MM)?;
         Reading::new(

@@ -2,9 +2,12 @@
 //! that is refused changes nothing in the supervisor; what it asked is missing there, so the brake is commanded until
 //! it is there.
 
-ghost use Rattle.std.specs.Prelude.{◌≡◌, ◌⊎◌, IsTrue, OnOk, IfOk, false};
-ghost use Rattle.sdm_rules.specs.declared.commands.State.TheVariants.{R};
-ghost use Rattle.sdm_rules.specs.Supervision.{after_authority, after_reading, after_restriction, after_revocation};
+ghost use Rattle.std.specs.Prelude.{◌≡◌, ◌⊎◌, IsTrue, OnOk};
+ghost use Rattle.sdm_ride.specs.declared.happenings.Happening.{Happening};
+ghost use Rattle.sdm_ride.specs.declared.happenings.Happening.TheVariants.{Overdue as MissingReading, Record};
+ghost use Rattle.sdm_rules.specs.declared.records.Event.TheVariants as record_kinds;
+ghost use Rattle.sdm_onboard.specs.declared.messages.Message.TheVariants as messages;
+ghost use Rattle.sdm_onboard.specs.Messages.{Follows, Takes};
 
 use crate::messages::{Message, Odometry};
 use crate::orders::Orders;
@@ -80,8 +83,11 @@ impl Onboard {
         self.orders
     }
 
-    /// Takes a message.
-    pub fn take(&mut self, message: &Message) -> News {
+    /// Takes a message: the supervisor goes on as in a ride, and where the ride counts an order of the emergency brake,
+    /// the brake stands at the interface.
+    pub fn take(&mut self, message: &Message) -> News
+        ensures { (h : Happening) × Takes self.old message.now h self.new }
+    {
         match message {
             Message::Odometry(odometry) => self.take_odometry(odometry),
             Message::Overdue => self.overdue(),
@@ -92,25 +98,29 @@ impl Onboard {
     }
 
     /// A reading that can't be judged leaves the train without supervision, so it brakes.
-    fn take_odometry(&mut self, odometry: &Odometry) -> News {
-        let judged = match odometry.reading() {
-            Some(reading) => self.judge(&reading).map_err(ReadingFault::Time),
-            None => Err(ReadingFault::Range),
+    fn take_odometry(&mut self, odometry: &Odometry) -> News
+        ensures { (h : Happening) × Takes self.old (messages.Odometry odometry.now) h self.new }
+    {
+        let Some(reading) = odometry.reading() else {
+            return self.not_judged(ReadingFault::Range);
         };
-        match judged {
+        match self.judge(&reading) {
             Ok(row) => News::Row(row),
-            Err(fault) => {
-                self.orders = Orders::BRAKE;
-                News::NotJudged(fault)
-            }
+            Err(fault) => self.not_judged(ReadingFault::Time(fault)),
         }
     }
 
+    fn not_judged(&mut self, fault: ReadingFault) -> News
+        ensures supervisor { self.new.supervisor ≡ self.old.supervisor }
+        ensures braked { IsTrue self.new.orders.emergency }
+    {
+        self.orders = Orders::BRAKE;
+        News::NotJudged(fault)
+    }
+
+    /// A refused reading changes nothing.
     fn judge(&mut self, reading: &Reading) -> Result<Row, CycleFault>
-        ensures judged { OnOk result (self.new.supervisor ≡ after_reading self.old.supervisor reading.now) }
-        ensures handed_on { IfOk result (λ row. IsTrue row.held.eb → IsTrue self.new.orders.emergency) }
-        ensures uncovered { IfOk result
-            (λ row. row.covered ≡ false → IsTrue self.new.orders.emergency ⊎ row.state ≡ R) }
+        ensures follows { Follows self.old (Record (record_kinds.Read reading.now)) self.new }
         ensures unsupervised { OnOk result (IsTrue self.old.is_authority_missing
             ⊎ IsTrue self.old.is_restriction_missing → IsTrue self.new.orders.emergency) }
     {
@@ -122,7 +132,7 @@ impl Onboard {
 
     /// The commands of the last row are too old to be relied on.
     fn overdue(&mut self) -> News
-        ensures { IsTrue self.new.orders.emergency }
+        ensures { Follows self.old MissingReading self.new }
     {
         self.orders = Orders::BRAKE;
         News::Overdue
@@ -130,7 +140,7 @@ impl Onboard {
 
     /// The old authority stays in force where the new one is refused, and may be the longer or the faster one.
     fn take_authority(&mut self, authority: Authority) -> News
-        ensures taken { result ≡ News.Taken → self.new.supervisor ≡ after_authority self.old.supervisor authority }
+        ensures follows { Follows self.old (Record (record_kinds.Authority authority)) self.new }
         ensures refused { result ≡ News.Taken
             ⊎ (IsTrue self.new.is_authority_missing × IsTrue self.new.orders.emergency) }
     {
@@ -148,7 +158,7 @@ impl Onboard {
     }
 
     fn take_restriction(&mut self, restriction: Restriction) -> News
-        ensures taken { result ≡ News.Taken → self.new.supervisor ≡ after_restriction self.old.supervisor restriction }
+        ensures takes { (h : Happening) × Takes self.old (messages.Restriction restriction) h self.new }
         ensures refused { result ≡ News.Taken
             ⊎ (IsTrue self.new.is_restriction_missing × IsTrue self.new.orders.emergency) }
     {
@@ -164,7 +174,7 @@ impl Onboard {
 
     /// The supervisor asks its caller for a speed from 1 to 500 km/h.
     fn restrict(&mut self, restriction: Restriction) -> Result<(), RestrictionFault>
-        ensures { OnOk result (self.new.supervisor ≡ after_restriction self.old.supervisor restriction) }
+        ensures { (h : Happening) × Takes self.old (messages.Restriction restriction) h self.new }
     {
         if restriction.speed < 1 || restriction.speed > 500 {
             return Err(RestrictionFault::Speed(restriction.speed));
@@ -176,7 +186,7 @@ impl Onboard {
 
     /// Where it is refused, the restriction stays in force, which brakes sooner and never later.
     fn revoke(&mut self, id: u16) -> News
-        ensures taken { result ≡ News.Taken → self.new.supervisor ≡ after_revocation self.old.supervisor id }
+        ensures { Follows self.old (Record (record_kinds.Revoke id)) self.new }
     {
         match self.supervisor.revoke(id) {
             Ok(()) => News::Taken,

@@ -1,8 +1,8 @@
 //! What the interfaces of the train are given. A row's commands are handed on, and the emergency brake is commanded
 //! besides wherever the row promises nothing that may be counted on: docs/INTEGRATION.md has the cases.
 
-ghost use Rattle.std.specs.Prelude.{◌≡◌, ◌⊎◌, IsTrue, false};
-ghost use Rattle.sdm_rules.specs.declared.commands.State.TheVariants.{R};
+ghost use Rattle.std.specs.Prelude.{◌≡◌, ◌⊎◌, ◌||◌, IsTrue};
+ghost use Rattle.sdm_ride.specs.Moments.{is_ordered};
 
 use sdm_rules::{Row, State};
 use std::fmt;
@@ -27,9 +27,7 @@ impl Orders {
     /// doesn't know of it. A row that isn't covered promises no stop, so the brake is commanded, but for release speed
     /// monitoring, where none is promised.
     pub fn of(row: &Row, is_unsupervised: bool) -> Orders
-        ensures handed_on { IsTrue row.now.held.eb → IsTrue result.emergency }
-        ensures uncovered { row.now.covered ≡ false → IsTrue result.emergency ⊎ row.now.state ≡ R }
-        ensures unsupervised { IsTrue is_unsupervised → IsTrue result.emergency }
+        ensures emergency { result.emergency ≡ (is_ordered row.now || is_unsupervised) }
         ensures service { IsTrue row.now.held.sb → IsTrue result.service }
         ensures cut_off { IsTrue row.now.held.tco → IsTrue result.traction_off }
         ensures no_traction_against_brakes { IsTrue result.emergency ⊎ IsTrue result.service

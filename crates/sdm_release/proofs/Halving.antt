@@ -12,7 +12,7 @@ use Rattle.sdm_rules.specs.Limits.{computed}
 use Rattle.sdm_rules.specs.Release.{fits, latest_trip, release_speed}
 use Rattle.sdm_rules.specs.Slopes.{Slopes, IsUsable}
 use Rattle.sdm_rules.specs.Triggers.{is_past}
-use Rattle.sdm_laws.proofs.BrakeCurves.SteppedOrder.{stepped_falls}
+use Rattle.sdm_laws.proofs.BrakeCurves.CurveOrder.{stepped_falls}
 use Rattle.sdm_laws.proofs.Rows.CalculatedRelease.{fits_unless, greatest_is}
 
 -- a speed that is less than one that fits, fits

@@ -5,7 +5,7 @@ use Rattle.std.specs.List.{list_all, slice_get}
 use Rattle.std.proofs.lemmas.Bool.Decides.{nat_tests}
 use Rattle.sdm_rules.specs.declared.faults.Section.{Section}
 use Rattle.sdm_rules.specs.declared.faults.Section.TheVariants as sections
-use Rattle.sdm_rules.specs.FaultLines.{key_name, key_names, key_path, section_path}
+use Rattle.sdm_formats.specs.FaultLines.{key_name, key_names, key_path, section_path}
 
 -- a number that names no key leaves the section's path
 pub key_path_without_name : (section : Section) (index key : ℕ) → key_name section key ≡ None →

@@ -5,7 +5,7 @@ use Rattle.std.specs.Fmt.{signed_decimal}
 use Rattle.std.specs.Int.{from_bool}
 use Rattle.std.specs.List.{join_with_byte}
 use Rattle.std.proofs.lemmas.Int.{to_z-of_z}
-use Rattle.sdm_rules.specs.Text.{flag_text}
+use Rattle.sdm_formats.specs.Text.{flag_text}
 use Rattle.sdm_text.proofs.Lengths.{signed_decimal_is_short}
 
 -- three pieces are put

@@ -1,7 +1,7 @@
 -- The line of the fault stream that tells an outcome, and the exit status (own).
 use Rattle.std.specs.Prelude.{ℕ, List, [], codes}
-use Rattle.sdm_rules.specs.Input as ends
-use Rattle.sdm_rules.specs.FaultLines.{fault_line, end_line, memory_text}
+use Rattle.sdm_formats.specs.Input as ends
+use Rattle.sdm_formats.specs.FaultLines.{fault_line, end_line, memory_text}
 use Rattle.sdm_report.specs.declared.outcome.InputFault.{InputFault}
 use Rattle.sdm_report.specs.declared.outcome.InputFault.TheVariants.{NoSplit, Toml, Data}
 use Rattle.sdm_report.specs.declared.outcome.Outcome.{Outcome}

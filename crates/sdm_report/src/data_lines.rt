@@ -1,15 +1,16 @@
 //! What is told of a data part that is refused.
 
 ghost use Rattle.std.specs.Prelude.{◌≡◌, ◌+◌, ◌≤◌, ◌++◌, length};
-ghost use Rattle.sdm_rules.specs.FaultLines.{at_path, data_text, national_text, section_path, track_text, train_path};
-ghost use Rattle.sdm_rules.specs.FaultLines.{train_text};
+ghost use Rattle.sdm_formats.specs.FaultLines.{at_path, data_text, national_text, section_path, track_text, train_path};
+ghost use Rattle.sdm_formats.specs.FaultLines.{train_text};
 
 use crate::paths::{put_entry_path, put_key_path, put_list_path, put_section_path};
-use sdm_rules::{At, DataFault, NationalFault, Section, TrackFault, TrainFault};
+use sdm_formats::{At, DataFault};
+use sdm_rules::{NationalFault, Section, TrackFault, TrainFault};
 use sdm_text::{ROW_BYTES, RowBuf};
 
 /// Puts the text of the first rule that the data part breaks; of want of memory its own: at most 80 bytes. (own)
-#[tactic(auto, unfolding(sdm_rules::specs::FaultLines::data_text, sdm_rules::specs::FaultLines::memory_text))]
+#[tactic(auto, unfolding(sdm_formats::specs::FaultLines::data_text, sdm_formats::specs::FaultLines::memory_text))]
 pub fn put_data_fault(fault: DataFault, into: &mut RowBuf)
     requires room { length into.old + 80 ≤ ROW_BYTES }
     ensures text { into.new ≡ into.old ++ data_text fault }
@@ -60,7 +61,7 @@ fn put_section(words: &[u8], section: Section, index: u32, into: &mut RowBuf)
     put_section_path(section, index, into);
 }
 
-#[tactic(auto, unfolding(sdm_rules::specs::FaultLines::train_text))]
+#[tactic(auto, unfolding(sdm_formats::specs::FaultLines::train_text))]
 fn put_train_fault(fault: TrainFault, into: &mut RowBuf)
     requires room { length into.old + 60 ≤ ROW_BYTES }
     ensures text { into.new ≡ into.old ++ train_text fault }
@@ -91,7 +92,7 @@ fn put_train_path(band: u32, key: u8, into: &mut RowBuf)
     }
 }
 
-#[tactic(auto, unfolding(sdm_rules::specs::FaultLines::national_text))]
+#[tactic(auto, unfolding(sdm_formats::specs::FaultLines::national_text))]
 fn put_national_fault(fault: NationalFault, into: &mut RowBuf)
     requires room { length into.old + 60 ≤ ROW_BYTES }
     ensures text { into.new ≡ into.old ++ national_text fault }
@@ -102,7 +103,7 @@ fn put_national_fault(fault: NationalFault, into: &mut RowBuf)
     put_key_path(Section::National, 0, key, into);
 }
 
-#[tactic(auto, unfolding(sdm_rules::specs::FaultLines::track_text))]
+#[tactic(auto, unfolding(sdm_formats::specs::FaultLines::track_text))]
 fn put_track_fault(fault: TrackFault, into: &mut RowBuf)
     requires room { length into.old + 60 ≤ ROW_BYTES }
     ensures text { into.new ≡ into.old ++ track_text fault }

@@ -2,8 +2,8 @@
 
 ghost use Rattle.std.specs.Prelude.{◌≡◌, ◌+◌, ◌≤◌, ◌++◌, length, decimal};
 ghost use Rattle.std.specs.Fmt.{signed_decimal};
-ghost use Rattle.sdm_rules.specs.Text.{flag_text, place_text};
-ghost use Rattle.sdm_rules.specs.Trial.{count_text};
+ghost use Rattle.sdm_formats.specs.Text.{flag_text, place_text};
+ghost use Rattle.sdm_formats.specs.Trial.{count_text};
 
 use sdm_text::{ROW_BYTES, RowBuf};
 

@@ -14,4 +14,5 @@ mod row_lines;
 pub use outcome::{InputFault, Outcome};
 pub use outcome_lines::outcome_bytes;
 pub use row_lines::row_bytes;
-pub use sdm_rules::{DriveCause, EventCause};
+pub use sdm_formats::DriveCause;
+pub use sdm_rules::EventCause;

@@ -2,7 +2,8 @@
 
 ghost use Rattle.std.specs.Prelude.{◌≡◌};
 
-use sdm_rules::{DataFault, DriveCause, EventCause, OpenFault};
+use sdm_formats::{DataFault, DriveCause};
+use sdm_rules::{EventCause, OpenFault};
 use thiserror::Error;
 
 /// Why the data part of an input is refused. (own)

@@ -1,20 +1,21 @@
 //! The line of the fault stream that tells an outcome.
 
 ghost use Rattle.std.specs.Prelude.{◌≡◌, []};
+ghost use Rattle.sdm_formats.specs.FaultLines.{end_line};
+ghost use Rattle.sdm_formats.specs.Input.{BadEvent, Refused, Undrivable};
 ghost use Rattle.sdm_report.specs.OutcomeLines.{end_of_data, outcome_line};
-ghost use Rattle.sdm_rules.specs.FaultLines.{end_line};
-ghost use Rattle.sdm_rules.specs.Input.{BadEvent, Refused, Undrivable};
 
 use crate::data_lines::put_data_fault;
 use crate::fields::put_count;
 use crate::outcome::{InputFault, Outcome};
 use crate::refusal_lines::{put_cause, put_open_fault};
-use sdm_rules::{DriveCause, EventCause, OpenFault};
+use sdm_formats::DriveCause;
+use sdm_rules::{EventCause, OpenFault};
 use sdm_text::RowBuf;
 
 /// Puts the line of an outcome; nothing where all was done. Want of memory inside a fault has the line of want of
 /// memory. (own)
-#[tactic(auto, unfolding(crate::specs::OutcomeLines::outcome_line, sdm_rules::specs::FaultLines::end_line, sdm_rules::specs::FaultLines::fault_line, sdm_rules::specs::FaultLines::memory_text))]
+#[tactic(auto, unfolding(crate::specs::OutcomeLines::outcome_line, sdm_formats::specs::FaultLines::end_line, sdm_formats::specs::FaultLines::fault_line, sdm_formats::specs::FaultLines::memory_text))]
 pub fn outcome_bytes(outcome: &Outcome, into: &mut RowBuf)
     requires { into.old ≡ [] }
     ensures { into.new ≡ outcome_line outcome.now }
@@ -33,7 +34,7 @@ pub fn outcome_bytes(outcome: &Outcome, into: &mut RowBuf)
     }
 }
 
-#[tactic(auto, unfolding(sdm_rules::specs::FaultLines::end_line, sdm_rules::specs::FaultLines::fault_line))]
+#[tactic(auto, unfolding(sdm_formats::specs::FaultLines::end_line, sdm_formats::specs::FaultLines::fault_line))]
 fn put_bad_data(fault: InputFault, into: &mut RowBuf)
     requires { into.old ≡ [] }
     ensures { into.new ≡ end_line (end_of_data fault) }
@@ -49,7 +50,7 @@ fn put_bad_data(fault: InputFault, into: &mut RowBuf)
     }
 }
 
-#[tactic(auto, unfolding(sdm_rules::specs::FaultLines::end_line, sdm_rules::specs::FaultLines::fault_line))]
+#[tactic(auto, unfolding(sdm_formats::specs::FaultLines::end_line, sdm_formats::specs::FaultLines::fault_line))]
 fn put_refused(fault: OpenFault, into: &mut RowBuf)
     requires { into.old ≡ [] }
     ensures { into.new ≡ end_line (Refused fault) }
@@ -59,7 +60,7 @@ fn put_refused(fault: OpenFault, into: &mut RowBuf)
     into.byte(b'\n');
 }
 
-#[tactic(auto, unfolding(sdm_rules::specs::FaultLines::end_line, sdm_rules::specs::FaultLines::fault_line))]
+#[tactic(auto, unfolding(sdm_formats::specs::FaultLines::end_line, sdm_formats::specs::FaultLines::fault_line))]
 fn put_bad_event(number: u32, cause: EventCause, into: &mut RowBuf)
     requires { into.old ≡ [] }
     ensures { into.new ≡ end_line (BadEvent number cause) }
@@ -71,7 +72,7 @@ fn put_bad_event(number: u32, cause: EventCause, into: &mut RowBuf)
     into.byte(b'\n');
 }
 
-#[tactic(auto, unfolding(sdm_rules::specs::FaultLines::end_line, sdm_rules::specs::FaultLines::fault_line))]
+#[tactic(auto, unfolding(sdm_formats::specs::FaultLines::end_line, sdm_formats::specs::FaultLines::fault_line))]
 fn put_undrivable(cause: DriveCause, into: &mut RowBuf)
     requires { into.old ≡ [] }
     ensures { into.new ≡ end_line (Undrivable cause) }

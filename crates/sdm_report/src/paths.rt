@@ -1,14 +1,14 @@
 //! Where a fault of the data part lies, as a path: `train.band[2].upper`.
 
 ghost use Rattle.std.specs.Prelude.{◌≡◌, ◌+◌, ◌≤◌, ◌++◌, codes, length};
-ghost use Rattle.sdm_rules.specs.FaultLines.{entry_path, key_path, list_path, section_path};
+ghost use Rattle.sdm_formats.specs.FaultLines.{entry_path, key_path, list_path, section_path};
 
 use crate::fields::put_count;
 use sdm_rules::Section;
 use sdm_text::{ROW_BYTES, RowBuf, key_name};
 
 /// Puts the path of a list, or of a section that has no index: at most 16 bytes. (own)
-#[tactic(auto, unfolding(sdm_rules::specs::FaultLines::list_path))]
+#[tactic(auto, unfolding(sdm_formats::specs::FaultLines::list_path))]
 pub fn put_list_path(list: Section, into: &mut RowBuf)
     requires room { length into.old + 16 ≤ ROW_BYTES }
     ensures text { into.new ≡ into.old ++ list_path list }
@@ -41,7 +41,7 @@ pub fn put_entry_path(list: Section, index: u32, into: &mut RowBuf)
 }
 
 /// Puts the path of a section; in a list it has an index: at most 28 bytes. (own)
-#[tactic(auto, unfolding(sdm_rules::specs::FaultLines::section_path))]
+#[tactic(auto, unfolding(sdm_formats::specs::FaultLines::section_path))]
 pub fn put_section_path(section: Section, index: u32, into: &mut RowBuf)
     requires room { length into.old + 28 ≤ ROW_BYTES }
     ensures text { into.new ≡ into.old ++ section_path section index }

@@ -2,8 +2,8 @@
 
 ghost use Rattle.std.specs.Prelude.{◌≡◌, ◌+◌, ◌≤◌, ◌++◌, codes, decimal, length};
 ghost use Rattle.std.specs.Fmt.{signed_decimal};
-ghost use Rattle.sdm_rules.specs.FaultLines.{authority_text, cause_text, field_text, form_text, kind_text, open_text};
-ghost use Rattle.sdm_rules.specs.FaultLines.{restrict_text, revoke_text};
+ghost use Rattle.sdm_formats.specs.FaultLines.{authority_text, cause_text, field_text, form_text, kind_text, open_text};
+ghost use Rattle.sdm_formats.specs.FaultLines.{restrict_text, revoke_text};
 
 use crate::fields::{put_count, put_number};
 use sdm_rules::{
@@ -13,7 +13,7 @@ use sdm_rules::{
 use sdm_text::{ROW_BYTES, RowBuf};
 
 /// Puts why an opening is refused; of want of memory its own text: at most 80 bytes. (own)
-#[tactic(auto, unfolding(sdm_rules::specs::FaultLines::open_text, sdm_rules::specs::FaultLines::memory_text))]
+#[tactic(auto, unfolding(sdm_formats::specs::FaultLines::open_text, sdm_formats::specs::FaultLines::memory_text))]
 pub fn put_open_fault(fault: OpenFault, into: &mut RowBuf)
     requires room { length into.old + 80 ≤ ROW_BYTES }
     ensures text { into.new ≡ into.old ++ open_text fault }
@@ -63,7 +63,7 @@ fn put_cell(cell: i32, into: &mut RowBuf)
     put_number(i64::from(cell), into);
 }
 
-#[tactic(auto, unfolding(sdm_rules::specs::FaultLines::kind_text))]
+#[tactic(auto, unfolding(sdm_formats::specs::FaultLines::kind_text))]
 fn kind_text(kind: SlopeKind) -> &'static [u8]
     ensures text { result.now ≡ kind_text kind }
     ensures short { length result.now ≤ 8 }
@@ -76,7 +76,7 @@ fn kind_text(kind: SlopeKind) -> &'static [u8]
 }
 
 /// Puts why a record or a line is refused: at most 60 bytes. (own)
-#[tactic(auto, unfolding(sdm_rules::specs::FaultLines::cause_text))]
+#[tactic(auto, unfolding(sdm_formats::specs::FaultLines::cause_text))]
 pub fn put_cause(cause: EventCause, into: &mut RowBuf)
     requires room { length into.old + 60 ≤ ROW_BYTES }
     ensures text { into.new ≡ into.old ++ cause_text cause }
@@ -93,7 +93,7 @@ pub fn put_cause(cause: EventCause, into: &mut RowBuf)
     }
 }
 
-#[tactic(auto, unfolding(sdm_rules::specs::FaultLines::form_text))]
+#[tactic(auto, unfolding(sdm_formats::specs::FaultLines::form_text))]
 fn put_form_fault(fault: EventFault, into: &mut RowBuf)
     requires room { length into.old + 60 ≤ ROW_BYTES }
     ensures text { into.new ≡ into.old ++ form_text fault }
@@ -112,7 +112,7 @@ fn put_form_fault(fault: EventFault, into: &mut RowBuf)
     }
 }
 
-#[tactic(auto, unfolding(sdm_rules::specs::FaultLines::field_text))]
+#[tactic(auto, unfolding(sdm_formats::specs::FaultLines::field_text))]
 fn field_text(fault: FieldFault) -> &'static [u8]
     ensures text { result.now ≡ field_text fault }
     ensures short { length result.now ≤ 30 }
@@ -123,7 +123,7 @@ fn field_text(fault: FieldFault) -> &'static [u8]
     }
 }
 
-#[tactic(auto, unfolding(sdm_rules::specs::FaultLines::authority_text))]
+#[tactic(auto, unfolding(sdm_formats::specs::FaultLines::authority_text))]
 fn authority_text(fault: AuthorityFault) -> &'static [u8]
     ensures text { result.now ≡ authority_text fault }
     ensures short { length result.now ≤ 30 }
@@ -135,7 +135,7 @@ fn authority_text(fault: AuthorityFault) -> &'static [u8]
     }
 }
 
-#[tactic(auto, unfolding(sdm_rules::specs::FaultLines::restrict_text))]
+#[tactic(auto, unfolding(sdm_formats::specs::FaultLines::restrict_text))]
 fn restrict_text(fault: RestrictFault) -> &'static [u8]
     ensures text { result.now ≡ restrict_text fault }
     ensures short { length result.now ≤ 30 }
@@ -147,7 +147,7 @@ fn restrict_text(fault: RestrictFault) -> &'static [u8]
     }
 }
 
-#[tactic(auto, unfolding(sdm_rules::specs::FaultLines::revoke_text))]
+#[tactic(auto, unfolding(sdm_formats::specs::FaultLines::revoke_text))]
 fn revoke_text(fault: RevokeFault) -> &'static [u8]
     ensures text { result.now ≡ revoke_text fault }
     ensures short { length result.now ≤ 30 }

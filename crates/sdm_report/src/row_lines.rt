@@ -1,14 +1,14 @@
 //! The row of a reading as a line.
 
 ghost use Rattle.std.specs.Prelude.{◌≡◌, []};
-ghost use Rattle.sdm_rules.specs.Text.{row_text};
+ghost use Rattle.sdm_formats.specs.Text.{row_text};
 
 use crate::fields::put_place;
 use sdm_rules::{Row, State, Status};
 use sdm_text::RowBuf;
 
 /// Puts a row: its fields with commas between them, and a line feed. (own)
-#[tactic(auto, unfolding(sdm_rules::specs::Text::row_text))]
+#[tactic(auto, unfolding(sdm_formats::specs::Text::row_text))]
 pub fn row_bytes(row: &Row, into: &mut RowBuf)
     requires { into.old ≡ [] }
     ensures { into.new ≡ row_text row.now }

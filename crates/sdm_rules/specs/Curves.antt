@@ -1,10 +1,11 @@
--- Where a brake curve has a square of speed (SUBSET-026-3 3.13.8.3 to 3.13.8.5; own form). A curve goes from its foot
--- through arcs of uniform deceleration, one for each cell and speed band; over an arc
+-- Where a brake curve has a square of speed (SUBSET-026-3 3.13.8.3 to 3.13.8.5; own form). A curve comes into each
+-- speed band at a corner: into the foot's own band at the foot, into any other where it crosses the border towards the
+-- foot. In a band all its places lie on one arc through the corner; along an arc, cell by cell,
 --     5 * 10^12 * q * (change of the squared speed) = 27 * slope * distance
--- with squares in squared notches and the distance in grains. Below its foot speed it runs on past the foot (own).
+-- with squares in squared notches and the distance in grains. Below its foot speed a curve runs on past the foot (own).
 -- For a scale `s`, places are in 1/s grain and squares in 1/s squared notch; the curves of the train have s = 1.
-use Rattle.std.specs.Prelude.{ℕ, zero, suc, ℤ, unsigned_abs, pos, neg_ℤ, ◌+◌, ◌-◌, ◌*◌, ◌+ℤ◌, ◌*ℤ◌, length, nat_le}
-use Rattle.std.specs.Prelude.{slice_index, if◌then◌else◌}
+use Rattle.std.specs.Prelude.{ℕ, zero, suc, ℤ, unsigned_abs, pos, neg_ℤ, List, [], ◌∷◌, ◌+◌, ◌-◌, ◌*◌, ◌+ℤ◌, ◌*ℤ◌}
+use Rattle.std.specs.Prelude.{nat_le, nat_lt, slice_index, if◌then◌else◌}
 use Rattle.std.specs.Int.{int_div_euclid}
 use Rattle.sdm_num.specs.Fractions.{Fraction, floor, whole}
 use Rattle.sdm_num.specs.Units.{centimetre}
@@ -32,19 +33,6 @@ back slopes scale band (suc fuel) place energy =
     if nat_le energy (rate * distance)
     then record { n = pos rate *ℤ place.n +ℤ neg_ℤ (pos energy); m = rate * place.m } else next
 
--- forward from a place through the cells from its own on, in one band, until the energy is used up, an arc in each
--- cell (own)
-unfoldable pub forward : Slopes → ℕ → ℕ → ℕ → Fraction → ℕ → Fraction
-forward slopes scale band zero place energy = place
-forward slopes scale band (suc fuel) place energy =
-    let cell = cell_at (scale * place.m) place.n in
-    let rate = 27 * slopes.slope band cell in
-    let distance = unsigned_abs (cell_start (scale * place.m) (cell +ℤ pos 1) +ℤ neg_ℤ place.n) in
-    let next = forward slopes scale band fuel
-    (record { n = cell_start (scale * place.m) (cell +ℤ pos 1); m = place.m }) (energy - rate * distance) in
-    if nat_le energy (rate * distance) then record { n = pos rate *ℤ place.n +ℤ pos energy; m = rate * place.m }
-    else next
-
 -- the energy of a change of the square by `change`, for each part of a grain (own unit)
 abbrev pub grain_energy : Slopes → ℕ → ℕ
 grain_energy slopes change = 5_000_000_000_000 * slopes.q * change
@@ -54,50 +42,64 @@ unfoldable pub arc_back : Slopes → ℕ → ℕ → Fraction → ℕ → Fracti
 arc_back slopes scale band place change =
     back slopes scale band (place.m * grain_energy slopes change) place (place.m * grain_energy slopes change)
 
--- the place where the square is less by `change`, forward from a place in one band (own)
-unfoldable pub arc_forward : Slopes → ℕ → ℕ → Fraction → ℕ → Fraction
-arc_forward slopes scale band place change =
-    forward slopes scale band (place.m * grain_energy slopes change) place (place.m * grain_energy slopes change)
+-- a place as it is seen from the other side of place 0 (own)
+abbrev pub turned : Fraction → Fraction
+turned x = record { n = neg_ℤ x.n; m = x.m }
+
+-- slopes as they are seen from there: cell 0 is seen as cell -1, and what lies ahead lies back (own)
+abbrev pub turned_slopes : Slopes → Slopes
+turned_slopes slopes = record {
+  q = slopes.q;
+  uppers = slopes.uppers;
+  slope = λ band cell. slopes.slope band (neg_ℤ (cell +ℤ pos 1));
+}
+
+-- The place of the square `to` on the arc in one band through a place with the square `from`: a greater square lies
+-- back, a lesser one ahead, which is back as it is seen from the other side (own).
+unfoldable pub arc : Slopes → ℕ → ℕ → Fraction → ℕ → ℕ → Fraction
+arc slopes scale band place from to =
+    let behind = arc_back slopes scale band place (to - from) in
+    let ahead = turned (arc_back (turned_slopes slopes) scale band (turned place) (from - to)) in
+    if nat_le from to then behind else ahead
+
+-- ---- corners
 
 -- the square at the upper speed of a band, where two bands meet (own)
 abbrev pub upper_square : Slopes → ℕ → ℕ → ℕ
 upper_square slopes scale band = scale * (slice_index slopes.uppers band * slice_index slopes.uppers band)
 
--- from a place with the square `from` back to the greater square `to`, through the bands from `band` on, of which
--- `left` have an upper speed; `round` is applied to the place wherever two bands meet (own)
-abbrev pub back_through_bands : (Fraction → Fraction) → Slopes → ℕ → ℕ → ℕ → Fraction → ℕ → ℕ → Fraction
-back_through_bands round slopes scale zero band place from to = arc_back slopes scale band place (to - from)
-back_through_bands round slopes scale (suc left) band place from to =
-    let upper = upper_square slopes scale band in
-    let above = back_through_bands round slopes scale left (band + 1) place from to in
-    let here = arc_back slopes scale band place (to - from) in
-    let past = back_through_bands round slopes scale left (band + 1)
-    (round (arc_back slopes scale band place (upper - from))) upper to in
-    let within = if nat_le to upper then here else past in
-    if nat_le upper from then above else within
+-- the band of a square, by the bands' upper speeds: the first band whose upper square is not below it, else the last
+-- (own)
+abbrev pub band_of_square : ℕ → List ℕ → ℕ → ℕ
+band_of_square scale [] square = 0
+band_of_square scale (upper ∷ uppers) square =
+    if nat_lt (scale * (upper * upper)) square then suc (band_of_square scale uppers square) else 0
 
--- from a place with the square `from` forward to the lesser square `to`, through the bands from `band` down; `round`
--- is applied to the place wherever two bands meet (own)
-abbrev pub forward_through_bands : (Fraction → Fraction) → Slopes → ℕ → ℕ → Fraction → ℕ → ℕ → Fraction
-forward_through_bands round slopes scale zero place from to = arc_forward slopes scale zero place (from - to)
-forward_through_bands round slopes scale (suc band) place from to =
-    let upper = upper_square slopes scale band in
-    let below = forward_through_bands round slopes scale band place from to in
-    let here = arc_forward slopes scale (suc band) place (from - to) in
-    let past = forward_through_bands round slopes scale band
-    (round (arc_forward slopes scale (suc band) place (from - upper))) upper to in
-    let within = if nat_le upper to then here else past in
-    if nat_le from upper then below else within
+-- where a curve comes into a band: a place with its square (own)
+pub record Corner : Type 0 where
+  pub place : Fraction
+  pub square : ℕ
 
--- the place where the curve from a foot, in grains, with a foot speed, in notches, has a square of speed; `round` is
--- applied wherever two bands meet (SUBSET-026-3 3.13.8.3 to 3.13.8.5; own form)
+-- The corner of a band that lies `n` bands from the foot's band `own`, whose corner is the foot. Any other lies on the
+-- arc of the next band towards `own`, where this has the square of the border between both; `round` is applied to its
+-- place (own).
+unfoldable pub corner : (Fraction → Fraction) → Slopes → ℕ → Corner → ℕ → ℕ → ℕ → Corner
+corner round slopes scale foot own zero band = foot
+corner round slopes scale foot own (suc n) band =
+    let next = if nat_lt band own then suc band else band - 1 in
+    let border = upper_square slopes scale (if nat_lt band own then band else band - 1) in
+    let from = corner round slopes scale foot own n next in
+    record { place = round (arc slopes scale next from.place from.square border); square = border }
+
+-- the place where the curve from a foot, in grains, with a foot speed, in notches, has a square of speed: on the arc of
+-- the square's band through the band's corner; `round` is applied to it (SUBSET-026-3 3.13.8.3 to 3.13.8.5; own form)
 unfoldable pub place_at : (Fraction → Fraction) → Slopes → ℕ → ℤ → ℕ → ℕ → Fraction
 place_at round slopes scale foot foot_speed square =
-    let from = scale * (foot_speed * foot_speed) in
-    let place = whole (pos scale *ℤ foot) in
-    let up = back_through_bands round slopes scale (length slopes.uppers) 0 place from square in
-    let down = forward_through_bands round slopes scale (length slopes.uppers) place from square in
-    if nat_le from square then up else down
+    let start : Corner = record { place = whole (pos scale *ℤ foot); square = scale * (foot_speed * foot_speed) } in
+    let own = band_of_square scale slopes.uppers start.square in
+    let band = band_of_square scale slopes.uppers square in
+    let from = corner round slopes scale start own ((own - band) + (band - own)) band in
+    round (arc slopes scale band from.place from.square square)
 
 -- a place that is not rounded (own)
 abbrev pub as_is : Fraction → Fraction
@@ -115,8 +117,8 @@ exact_at slopes scale foot foot_speed square = place_at as_is slopes scale foot 
 unfoldable pub exact : Slopes → ℤ → ℕ → ℕ → Fraction
 exact slopes foot foot_speed speed = exact_at slopes 1 foot foot_speed (speed * speed)
 
--- the stepped place, in grains, of a speed in notches on a curve: rounded down to a grain wherever two bands meet, and
--- at the end (own)
+-- the stepped place, in grains, of a speed in notches on a curve: each corner but the foot is rounded down to a grain,
+-- and so is the place itself (own)
 unfoldable pub stepped : Slopes → ℤ → ℕ → ℕ → ℤ
 stepped slopes foot foot_speed speed = floor (place_at to_grain slopes 1 foot foot_speed (speed * speed))
 

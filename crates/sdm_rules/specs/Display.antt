@@ -1,8 +1,8 @@
 -- What is shown of a reading: three limits as speeds, the release speed, and the target that counts (own). A limit's
 -- speed is the greatest whole one that the train could have where it is and not pass the limit, all else as in the
 -- reading.
-use Rattle.std.specs.Prelude.{ℕ, ℤ, pos, Bool, not, ◌||◌, ◌-ℤ◌, ◌*ℤ◌, List, [], ◌∷◌, Option, Some, None, fold}
-use Rattle.std.specs.Prelude.{filter, option_map, nat_lt, int_lt, if◌then◌else◌}
+use Rattle.std.specs.Prelude.{ℕ, ℤ, pos, Bool, true, false, not, ◌&&◌, ◌||◌, ◌-ℤ◌, ◌*ℤ◌, List, [], ◌∷◌, Option, Some}
+use Rattle.std.specs.Prelude.{None, fold, filter, option_map, nat_lt, int_lt, if◌then◌else◌}
 use Rattle.std.specs.Int.{int_max}
 use Rattle.sdm_num.specs.Units.{notches, top_kmh}
 use Rattle.sdm_num.specs.Fractions.{Fraction}
@@ -14,11 +14,13 @@ use Rattle.sdm_rules.specs.declared.display.Display.{Display}
 use Rattle.sdm_rules.specs.declared.display.LimitName.{LimitName}
 use Rattle.sdm_rules.specs.declared.display.LimitName.TheVariants.{Permitted, Sbi, Ebi}
 use Rattle.sdm_rules.specs.declared.display.Shown.{Shown}
+use Rattle.sdm_rules.specs.declared.limits.LimitKind.{LimitKind}
+use Rattle.sdm_rules.specs.declared.limits.LimitKind.TheVariants as kinds
 use Rattle.sdm_rules.specs.declared.targets.Target.{Target}
 use Rattle.sdm_rules.specs.Data.{TrainAndTrack}
 use Rattle.sdm_rules.specs.Targets.{target_speed}
 use Rattle.sdm_rules.specs.Limits.{SupervisionLimits, computed, limits_of}
-use Rattle.sdm_rules.specs.Triggers.{Situation, is_over, is_service, is_ebi_passed, above_release, front_for}
+use Rattle.sdm_rules.specs.Triggers.{Situation, above_release, front_for, is_passed}
 use Rattle.sdm_rules.specs.Supervision.{Supervision, situation_of}
 use Rattle.sdm_rules.specs.Release.{greatest_up_to}
 
@@ -32,17 +34,27 @@ estimate_at v r = record (estimate_of r) { speed = v }
 abbrev pub situation_at : ℕ → Situation → Situation
 situation_at v now = record now { speed = v }
 
--- the limit is passed: the permitted speed, or the SBI or the EBI of the ceiling or of a target; above the release
--- speed the EBI is passed too (SUBSET-026-3 3.13.10, 3.13.10.5; own)
-abbrev pub is_passed : LimitName → (Target → SupervisionLimits) → Situation → Bool
-is_passed Permitted limits now = is_over limits 0 now
-is_passed Sbi limits now = is_service limits 0 now
-is_passed Ebi limits now = is_ebi_passed limits 0 now || above_release now
+-- which supervision limit is told as a speed (own)
+abbrev pub kind_of : LimitName → LimitKind
+kind_of Permitted = kinds.Permitted
+kind_of Sbi = kinds.Sbi
+kind_of Ebi = kinds.Ebi
+
+-- the release speed counts as the limit: as the permitted speed and as the EBI (SUBSET-026-3 3.13.10.5)
+abbrev pub counts_release : LimitName → Bool
+counts_release Permitted = true
+counts_release Sbi = false
+counts_release Ebi = true
+
+-- the limit is passed, that of the ceiling or of a target, or the release speed where it counts as the limit
+-- (SUBSET-026-3 3.13.10; own)
+abbrev pub is_exceeded : LimitName → (Target → SupervisionLimits) → Situation → Bool
+is_exceeded name limits now = is_passed (kind_of name) limits 0 now || (counts_release name && above_release now)
 
 -- at a speed in km/h, in place of the reading's, the limit would be passed, by the computed limits of that speed (own)
 unfoldable pub passes_limit : TrainAndTrack → OdometerReading → Situation → LimitName → ℕ → Bool
 passes_limit d r now name kmh =
-    is_passed name (limits_of computed d (estimate_at (notches kmh) r)) (situation_at (notches kmh) now)
+    is_exceeded name (limits_of computed d (estimate_at (notches kmh) r)) (situation_at (notches kmh) now)
 
 -- the limit as a speed: the greatest whole speed up to 500 km/h at which it isn't passed (own)
 unfoldable pub display_speed : TrainAndTrack → OdometerReading → Situation → LimitName → ℕ

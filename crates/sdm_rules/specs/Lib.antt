@@ -3,7 +3,6 @@ pub mod Slopes
 pub mod Curves
 pub mod Motion
 pub mod Data
-pub mod Ranges
 pub mod Decelerations
 pub mod Margins
 pub mod Profile
@@ -19,16 +18,8 @@ pub mod Certificates
 pub mod Within
 pub mod Release
 pub mod Display
-pub mod Records
 pub mod Promises
+pub mod Ranges
+pub mod Records
 pub mod Opening
 pub mod Headline
-pub mod Numbers
-pub mod Lines
-pub mod Forms
-pub mod Input
-pub mod Text
-pub mod FaultLines
-pub mod Flat
-pub mod Trial
-pub mod Codes

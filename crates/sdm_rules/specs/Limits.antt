@@ -7,6 +7,8 @@ use Rattle.sdm_num.specs.Fractions.{Fraction, less, lesser, whole}
 use Rattle.sdm_num.specs.Readings.{Estimate}
 use Rattle.sdm_rules.specs.declared.data.Times.{Times}
 use Rattle.sdm_rules.specs.declared.data.SlopeKind.TheVariants.{Safe, Expected, Normal}
+use Rattle.sdm_rules.specs.declared.limits.LimitKind.{LimitKind}
+use Rattle.sdm_rules.specs.declared.limits.LimitKind.TheVariants.{Ebi, Sbi, Warning, Permitted, Indication}
 use Rattle.sdm_rules.specs.declared.targets.TargetKind.{TargetKind}
 use Rattle.sdm_rules.specs.declared.targets.TargetKind.TheVariants.{Mrsp, Loa, Eoa, Svl}
 use Rattle.sdm_rules.specs.declared.targets.Target.{Target}
@@ -37,6 +39,14 @@ pub record SupervisionLimits : Type 0 where
   pub warning : Fraction
   pub permitted : Fraction
   pub indication : Fraction
+
+-- the limit of a kind, where there is one (SUBSET-026-3 3.13.9.3)
+abbrev pub limit_in : LimitKind → SupervisionLimits → Option Fraction
+limit_in Ebi limits = limits.ebi
+limit_in Sbi limits = Some limits.sbi
+limit_in Warning limits = Some limits.warning
+limit_in Permitted limits = Some limits.permitted
+limit_in Indication limits = Some limits.indication
 
 -- d_W = d_SBI - V_est * T_warning; d_P = d_SBI - V_est * T_driver, or the guidance curve's place where that is
 -- earlier; d_I = d_P - V_est * T_indication (SUBSET-026-3 3.13.9.3.4 to 3.13.9.3.6; own form)

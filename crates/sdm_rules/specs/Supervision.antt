@@ -10,6 +10,8 @@ use Rattle.sdm_num.specs.Fractions.{Fraction, floor}
 use Rattle.sdm_num.specs.Bounds.{mm_below}
 use Rattle.sdm_rules.specs.declared.authorities.Authority.{Authority}
 use Rattle.sdm_rules.specs.declared.authorities.Authority.TheVariants.{Stop, Limit}
+use Rattle.sdm_rules.specs.declared.limits.LimitKind.{LimitKind}
+use Rattle.sdm_rules.specs.declared.limits.LimitKind.TheVariants.{Ebi, Sbi, Warning, Permitted, Indication}
 use Rattle.sdm_rules.specs.declared.targets.TargetKind.{TargetKind}
 use Rattle.sdm_rules.specs.declared.targets.TargetKind.TheVariants.{Mrsp, Loa, Eoa, Svl}
 use Rattle.sdm_rules.specs.declared.targets.Target.{Target}
@@ -24,7 +26,7 @@ use Rattle.sdm_rules.specs.Data.{TrainAndTrack}
 use Rattle.sdm_rules.specs.Profile.{mrsp, lowest_between}
 use Rattle.sdm_rules.specs.Targets.{targets_of, target_speed, foot_speed_of}
 use Rattle.sdm_rules.specs.Reaction.{service_in_use}
-use Rattle.sdm_rules.specs.Limits.{computed, limits_of, release_start, v_bec_for}
+use Rattle.sdm_rules.specs.Limits.{computed, limit_in, limits_of, release_start, v_bec_for}
 use Rattle.sdm_rules.specs.Triggers.{Situation, is_past, triggers_of, is_indicated}
 use Rattle.sdm_rules.specs.Commands.{commands_after, nothing_held}
 
@@ -129,18 +131,18 @@ is_covered_in d r now = not (is_some now.release) && list_all (is_covered_for d 
 unfoldable pub row_in : TrainAndTrack → Held → OdometerReading → Situation → Row
 row_in d held r now =
     let limits = limits_of computed d (estimate_of r) in
-    let shown = shown_limit now.speed now.targets in
+    let shown = λ (kind : LimitKind). shown_limit now.speed now.targets (λ t. limit_in kind (limits t)) in
     record {
       time = r.time;
       state = state_in d r now;
       held = commands_in d held r now;
       covered = is_covered_in d r now;
       ceiling = now.ceiling_kmh;
-      ebi = shown (λ t. (limits t).ebi);
-      sbi = shown (λ t. Some (limits t).sbi);
-      warning = shown (λ t. Some (limits t).warning);
-      permitted = shown (λ t. Some (limits t).permitted);
-      indication = shown (λ t. Some (limits t).indication);
+      ebi = shown Ebi;
+      sbi = shown Sbi;
+      warning = shown Warning;
+      permitted = shown Permitted;
+      indication = shown Indication;
     }
 
 -- the row of a reading (own)

@@ -6,12 +6,14 @@ use Rattle.std.specs.Option.{option_map_or}
 use Rattle.sdm_num.specs.Units.{notches}
 use Rattle.sdm_num.specs.Fractions.{Fraction}
 use Rattle.sdm_rules.specs.declared.commands.Triggers.{Triggers}
+use Rattle.sdm_rules.specs.declared.limits.LimitKind.{LimitKind}
+use Rattle.sdm_rules.specs.declared.limits.LimitKind.TheVariants.{Ebi, Sbi, Warning, Permitted, Indication}
 use Rattle.sdm_rules.specs.declared.targets.TargetKind.{TargetKind}
 use Rattle.sdm_rules.specs.declared.targets.TargetKind.TheVariants.{Mrsp, Loa, Eoa, Svl}
 use Rattle.sdm_rules.specs.declared.targets.Target.{Target}
-use Rattle.sdm_rules.specs.Margins.{ebi_margin, sbi_margin, warning_margin}
+use Rattle.sdm_rules.specs.Margins.{margin_of}
 use Rattle.sdm_rules.specs.Targets.{with_margin}
-use Rattle.sdm_rules.specs.Limits.{SupervisionLimits}
+use Rattle.sdm_rules.specs.Limits.{SupervisionLimits, limit_in}
 
 -- what the triggers look at, beside the limits (own)
 pub record Situation : Type 0 where
@@ -35,71 +37,46 @@ front_for est max Svl = max
 front_for est max Mrsp = max
 front_for est max Loa = max
 
--- the speed is above the target's with a margin of it, and the front end that the target compares is past the limit
--- (SUBSET-026-3 3.13.10.4; own)
-abbrev pub passes : ℕ → ℤ → ℤ → ℕ → (ℕ → ℕ) → Target → Fraction → Bool
-passes speed est max shift margin t limit =
-    nat_lt (with_margin margin t) speed && is_past shift (front_for est max t.kind) limit
+-- a target is passed by its limit of a kind, where it has one: the speed is above the target's with the limit's margin,
+-- and the front end that the target compares is past the limit (SUBSET-026-3 3.13.10.4; own)
+abbrev pub passes : LimitKind → ℕ → ℤ → ℤ → ℕ → Target → SupervisionLimits → Bool
+passes kind speed est max shift t limits =
+    nat_lt (with_margin (margin_of kind) t) speed
+    && option_map_or (is_past shift (front_for est max t.kind)) (limit_in kind limits) false
 
--- an EBI is passed, where the target has one (SUBSET-026-3 3.13.10.4; own)
-abbrev pub passes_ebi : ℕ → ℤ → ℤ → ℕ → Target → Option Fraction → Bool
-passes_ebi speed est max shift t limit = option_map_or (passes speed est max shift ebi_margin t) limit false
+-- some target is passed by its limit of a kind (own)
+abbrev pub some_passed : LimitKind → (Target → SupervisionLimits) → ℕ → Situation → Bool
+some_passed kind limits shift s = list_any (λ t. passes kind s.speed s.est s.front shift t (limits t)) s.targets
 
--- some target is passed, each by a limit of its own (own)
-abbrev pub some_passed : Situation → ℕ → (ℕ → ℕ) → (Target → Fraction) → Bool
-some_passed s shift margin limit = list_any (λ t. passes s.speed s.est s.front shift margin t (limit t)) s.targets
-
--- some target that has an EBI is passed by it (own)
-abbrev pub some_ebi_passed : Situation → ℕ → (Target → Option Fraction) → Bool
-some_ebi_passed s shift limit = list_any (λ t. passes_ebi s.speed s.est s.front shift t (limit t)) s.targets
-
--- the speed is above the ceiling with a margin of it (SUBSET-026-3 3.13.10.3)
-abbrev pub above_ceiling : Situation → (ℕ → ℕ) → Bool
-above_ceiling s margin = nat_lt (notches s.ceiling_kmh + margin s.ceiling_kmh) s.speed
+-- the speed is above the ceiling with the margin of a limit (SUBSET-026-3 3.13.10.3)
+abbrev pub above_ceiling : LimitKind → Situation → Bool
+above_ceiling kind s = nat_lt (notches s.ceiling_kmh + margin_of kind s.ceiling_kmh) s.speed
 
 -- in release speed monitoring the speed is above the release speed (SUBSET-026-3 3.13.10.5)
 abbrev pub above_release : Situation → Bool
 above_release s = option_map_or (λ kmh. nat_lt (notches kmh) s.speed) s.release false
 
--- no margin: the permitted speed itself (own)
-abbrev pub no_margin : ℕ → ℕ
-no_margin kmh = 0
-
--- the speed is above the permitted speed: that of the ceiling, of a target past its permitted limit, or the release
--- speed (SUBSET-026-3 3.13.10; own table)
-abbrev pub is_over : (Target → SupervisionLimits) → ℕ → Situation → Bool
-is_over limits shift s =
-    above_ceiling s no_margin || some_passed s shift no_margin (λ t. (limits t).permitted) || above_release s
-
--- the warning limit of the ceiling or of a target is passed (SUBSET-026-3 3.13.10; own table)
-abbrev pub is_warned : (Target → SupervisionLimits) → ℕ → Situation → Bool
-is_warned limits shift s =
-    above_ceiling s warning_margin || some_passed s shift warning_margin (λ t. (limits t).warning)
-
--- the SBI limit of the ceiling or of a target is passed (SUBSET-026-3 3.13.10; own table)
-abbrev pub is_service : (Target → SupervisionLimits) → ℕ → Situation → Bool
-is_service limits shift s = above_ceiling s sbi_margin || some_passed s shift sbi_margin (λ t. (limits t).sbi)
-
--- the EBI limit of the ceiling or of a target is passed (SUBSET-026-3 3.13.10; own table)
-abbrev pub is_ebi_passed : (Target → SupervisionLimits) → ℕ → Situation → Bool
-is_ebi_passed limits shift s = above_ceiling s ebi_margin || some_ebi_passed s shift (λ t. (limits t).ebi)
+-- the limit of a kind is passed: that of the ceiling or of a target (SUBSET-026-3 3.13.10; own table)
+abbrev pub is_passed : LimitKind → (Target → SupervisionLimits) → ℕ → Situation → Bool
+is_passed kind limits shift s = above_ceiling kind s || some_passed kind limits shift s
 
 -- an emergency: an EBI is passed, the min safe front end is past the EOA, the speed is above the release speed, or an
 -- SBI is passed with no service brake in use (SUBSET-026-3 3.13.10; own table)
 abbrev pub is_emergency : (Target → SupervisionLimits) → ℕ → Situation → Bool
 is_emergency limits shift s =
-    is_ebi_passed limits shift s || s.past_end || above_release s || (is_service limits shift s && not s.in_use)
+    is_passed Ebi limits shift s || s.past_end || above_release s || (is_passed Sbi limits shift s && not s.in_use)
 
--- the triggers of the four kinds of limits: permitted, warning, SBI and EBI (SUBSET-026-3 3.13.10; own tables)
+-- the triggers: above the permitted speed, which may be the release speed, past a warning limit, past an SBI, and an
+-- emergency (SUBSET-026-3 3.13.10; own tables)
 unfoldable pub triggers_of : (Target → SupervisionLimits) → ℕ → Situation → Triggers
 triggers_of limits shift s = record {
-  over = is_over limits shift s;
-  warn = is_warned limits shift s;
-  serv = is_service limits shift s;
+  over = is_passed Permitted limits shift s || above_release s;
+  warn = is_passed Warning limits shift s;
+  serv = is_passed Sbi limits shift s;
   emer =
       is_emergency limits shift s;
 }
 
 -- target speed monitoring: some target's indication limit is passed (SUBSET-026-3 3.13.10.4; own)
 abbrev pub is_indicated : (Target → SupervisionLimits) → Situation → Bool
-is_indicated limits s = some_passed s 0 no_margin (λ t. (limits t).indication)
+is_indicated limits s = some_passed Indication limits 0 s

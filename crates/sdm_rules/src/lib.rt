@@ -1,18 +1,17 @@
-//! The profile of SUBSET-026-3 section 3.13 and appendix A.3 that this program keeps: every definition that a contract
-//! cites, in `specs/`, and the plain types that they speak of. There is no code here but the greatest numbers, the
-//! tests of a range, the base of made data and the numbers of made journeys. `docs/ASSUMPTIONS.md` lists what an
-//! assessor must believe: these definitions, and those of how an input is read, which stand in the crates that read it.
+//! The profile of SUBSET-026-3 section 3.13 and appendix A.3 that this program keeps: every definition of it that a
+//! contract cites, in `specs/`, and the plain types that they speak of. There is no code here but the greatest numbers,
+//! the numbers of keys and the tests of a range. What the program reads and writes stands in `sdm_formats`, and how it
+//! is read in the crates that read it; `docs/ASSUMPTIONS.md` lists what an assessor must believe.
 #![tactic(auto)]
 
 pub mod authorities;
-mod base;
 pub mod certificates;
 pub mod commands;
 pub mod data;
 pub mod display;
 pub mod faults;
-mod generator;
 pub mod keys;
+pub mod limits;
 pub mod motions;
 mod ranges;
 pub mod records;
@@ -21,7 +20,6 @@ pub mod rows;
 pub mod targets;
 
 pub use authorities::Authority;
-pub use base::{BASE_BAND, BASE_NATIONAL, BASE_TRAIN};
 pub use certificates::{Claim, Mark};
 pub use commands::{Held, State, Status, Triggers};
 pub use data::{
@@ -29,11 +27,10 @@ pub use data::{
 };
 pub use display::{Display, LimitName, Shown};
 pub use faults::{
-    At, AuthorityFault, CycleFault, DataFault, DriveCause, EventCause, EventFault, FieldFault,
-    NationalFault, OpenFault, RestrictFault, RevokeFault, Section, TrackFault, TrainFault,
-    TripFault,
+    AuthorityFault, CycleFault, EventCause, EventFault, FieldFault, NationalFault, OpenFault,
+    RestrictFault, RevokeFault, Section, TrackFault, TrainFault, TripFault,
 };
-pub use generator::next_number;
+pub use limits::LimitKind;
 pub use motions::{Phase, Point, Slice, Start};
 pub use ranges::{
     LONGEST_TRACK_CM, LONGEST_TRAIN_CM, MOST_RECORDS, STEEPEST, TOP_KMH, first_refused, is_within,
@@ -41,5 +38,5 @@ pub use ranges::{
 };
 pub use records::Event;
 pub use restrictions::Restriction;
-pub use rows::{FlatRow, Row};
+pub use rows::Row;
 pub use targets::{Fall, Target, TargetKind};

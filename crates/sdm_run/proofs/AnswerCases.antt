@@ -8,18 +8,18 @@ use Rattle.std.proofs.lemmas.Bool.{false≢true}
 use Rattle.std.proofs.lemmas.Int.{ints}
 use Rattle.std.specs.Prelude.{IsTrue, codes}
 use Rattle.sdm_rules.specs.declared.faults.EventCause.TheVariants.{Line}
-use Rattle.sdm_rules.specs.Curves.{exact, stepped, exact_at, place_at, arc_back, back, arc_forward, forward}
-use Rattle.sdm_rules.specs.Flat.{Output, StopsByFlatEnd, flat_after, flat_line, flat_opening, flat_output, flat_row}
-use Rattle.sdm_rules.specs.Flat.{flat_slopes, flat_start}
+use Rattle.sdm_rules.specs.Curves.{exact, stepped, exact_at, place_at, corner, arc, arc_back, back}
 use Rattle.sdm_rules.specs.Headline.{AreTurnsSafe, IsRecordSafe, IsRowSafe}
-use Rattle.sdm_rules.specs.Input as ends
 use Rattle.sdm_rules.specs.Motion.{IsInBand}
-use Rattle.sdm_rules.specs.Numbers.{read_int}
 use Rattle.sdm_rules.specs.Records.{Turn, rows_of, step}
 use Rattle.sdm_rules.specs.Stop.{IsMotionOn}
 use Rattle.sdm_rules.specs.Supervision.{opening, row_of}
-use Rattle.sdm_rules.specs.Trial.{reading_in_cycle, summary_text, trial_authority, trial_journey, trial_output}
-use Rattle.sdm_rules.specs.Trial.{trial_train_and_track}
+use Rattle.sdm_formats.specs.Flat.{Output, StopsByFlatEnd, flat_after, flat_line, flat_opening, flat_output, flat_row}
+use Rattle.sdm_formats.specs.Flat.{flat_slopes, flat_start}
+use Rattle.sdm_formats.specs.Input as ends
+use Rattle.sdm_formats.specs.Numbers.{read_int}
+use Rattle.sdm_formats.specs.Trial.{reading_in_cycle, summary_text, trial_authority, trial_journey, trial_output}
+use Rattle.sdm_formats.specs.Trial.{trial_train_and_track}
 use Rattle.sdm_report.specs.declared.outcome.Outcome.TheVariants.{Done, ReadFault, WriteFault, BadEvent, Memory}
 use Rattle.sdm_run.specs.Answers.{AreWholeLines, IsAnswer, IsComplete}
 use Rattle.sdm_run.specs.Commands.{AreJourneyTurnsSafe, AreTrialRowsSafe}
@@ -119,7 +119,7 @@ shown_ebi h = h 2_000 refl
 
 -- a machine that holds its command while the row does not is out of order
 not_in_order : IsFlatTurnSafe true true a_turn → ⊥
-unfolding flat_row flat_after exact stepped exact_at place_at arc_back back arc_forward forward
+unfolding flat_row flat_after exact stepped exact_at place_at corner arc arc_back back
 not_in_order h = false≢true (h.order.needed refl)
 
 -- so turns with this one aren't safe
@@ -133,7 +133,7 @@ second_is_safe h = h.1.0
 
 -- at 8 m the row is covered, and from there each motion stops by the end
 stops_when_covered : IsStopCovered a_turn → StopsByFlatEnd a_turn.before a_turn.line
-unfolding flat_row exact stepped exact_at place_at arc_back back arc_forward forward
+unfolding flat_row exact stepped exact_at place_at corner arc arc_back back
 stops_when_covered h = h refl
 
 -- a tenth of a millimetre further it isn't, and a motion from there passes the end by as much
@@ -145,7 +145,7 @@ past_turn = record {
 
 -- the row there isn't covered, so it promises no stop
 nothing_promised_past_it : IsStopCovered past_turn
-unfolding flat_row exact stepped exact_at place_at arc_back back arc_forward forward
+unfolding flat_row exact stepped exact_at place_at corner arc arc_back back
 nothing_promised_past_it covered = absurd (false≢true covered)
 
 -- a motion from there that brakes with 1 m/s² and passes the end
@@ -220,7 +220,7 @@ text_of_one_row h = h.text ∙ ap text_of_turns one_early_turn
 -- before the first line no machine holds a command: a metre before the curve the early one doesn't, so neither does
 -- the row
 not_commanded : AreFlatRowsSafe 100 1_000 a_line → IsTrue (flat_row_of_turn early_turn).eb → ⊥
-unfolding flat_after exact exact_at place_at arc_back back arc_forward forward
+unfolding flat_after exact exact_at place_at corner arc arc_back back
 not_commanded h holds = false≢true (sym none_early ∙ allowed holds)
   where
     none_early : flat_may_after_turn early_turn false ≡ false

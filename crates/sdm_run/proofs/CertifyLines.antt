@@ -16,7 +16,7 @@ use Rattle.sdm_rules.specs.declared.data.SlopeKind.TheVariants.{Safe}
 use Rattle.sdm_rules.specs.Data.{TrainAndTrack}
 use Rattle.sdm_rules.specs.Decelerations.{slopes_of}
 use Rattle.sdm_rules.specs.Slopes.{Slopes, bands_of}
-use Rattle.sdm_rules.specs.Text.{text_line}
+use Rattle.sdm_formats.specs.Text.{text_line}
 use Rattle.sdm_certify.specs.WrittenLines.{claim_text, mark_text}
 use Rattle.sdm_run.specs.Answers.{AreWholeLines}
 use Rattle.sdm_run.specs.Certifying.{head_line, map_text, marked_claim_text, safe_map_text, segment_cells, segment_line}

@@ -20,14 +20,14 @@ use Rattle.sdm_rules.specs.Limits.{limits_of}
 use Rattle.sdm_rules.specs.Records.{Turn, row_at}
 use Rattle.sdm_rules.specs.Supervision.{Supervision, after_reading, is_covered_for, is_covered_in, profile_of, row_in}
 use Rattle.sdm_rules.specs.Supervision.{row_of, situation_of, release_of}
-use Rattle.sdm_rules.specs.Text.{display_tells, display_text, run_tells, row_text}
 use Rattle.sdm_rules.specs.declared.targets.Target.{Target}
 use Rattle.sdm_rules.specs.Targets.{svl_target, targets_of}
 use Rattle.sdm_rules.specs.Within.{is_before_svl, is_within, is_within_svl}
+use Rattle.sdm_formats.specs.Text.{display_tells, display_text, run_tells, row_text}
+use Rattle.sdm_formats.specs.Flat.{Output}
+use Rattle.sdm_formats.specs.Input.{End}
 use Rattle.sdm_laws.proofs.Rows.Stops.{has_svl}
 use Rattle.sdm_io.specs.Told.{AppendsPart}
-use Rattle.sdm_rules.specs.Flat.{Output}
-use Rattle.sdm_rules.specs.Input.{End}
 use Rattle.sdm_report.specs.declared.outcome.Outcome.TheVariants.{WriteFault}
 use Rattle.sdm_certify.specs.declared.certificates.Certificate.{Certificate}
 use Rattle.sdm_certify.specs.Certificates.{IsCertificateOf}

@@ -2,9 +2,9 @@
 -- the only ones, since each claim has one answer.
 use Rattle.std.proofs.Common.{◌≡◌, ◌∙◌, ℕ, nat_lt, List, [], ◌∷◌, Option, Some, None, Ok, Err, length, refl, ap}
 use Rattle.std.proofs.Common.{sym, subst}
-use Rattle.sdm_rules.specs.Input as ends
-use Rattle.sdm_rules.specs.Input.{End, most_bytes}
 use Rattle.sdm_rules.specs.Slopes.{SlopeMap}
+use Rattle.sdm_formats.specs.Input as ends
+use Rattle.sdm_formats.specs.Input.{End, most_bytes}
 use Rattle.sdm_curve.specs.Maps.{MapData}
 use Rattle.sdm_certify.specs.declared.answers.Answer.{Answer}
 use Rattle.sdm_certify.specs.Checker.{AreAnswers, IsAnswerTo, IsCheckedFrom, IsLastOf, answers_text}

@@ -4,11 +4,11 @@ use Rattle.std.proofs.Common.{subst, arith}
 use Rattle.std.proofs.lemmas.Bool.Decides.{nat_tests}
 use Rattle.std.proofs.KnownBytes.{Appends-nil}
 use Rattle.std.specs.Prelude.{IfSome, Bool, MatchBool, IsTrue}
+use Rattle.sdm_formats.specs.Input.{most_bytes}
+use Rattle.sdm_formats.specs.Input as ends
+use Rattle.sdm_formats.specs.Flat.{Output, flat_output}
+use Rattle.sdm_formats.specs.Text.{display_tells, run_tells}
 use Rattle.sdm_io.specs.Told.{Told}
-use Rattle.sdm_rules.specs.Input.{most_bytes}
-use Rattle.sdm_rules.specs.Input as ends
-use Rattle.sdm_rules.specs.Flat.{Output, flat_output}
-use Rattle.sdm_rules.specs.Text.{display_tells, run_tells}
 use Rattle.sdm_run.specs.declared.words.Command.{Command}
 use Rattle.sdm_run.specs.declared.words.Command.TheVariants.{Flat, Run, Display, Trial, Upgrade, Drive, Certify}
 use Rattle.sdm_run.specs.declared.words.Command.TheVariants.{Check}

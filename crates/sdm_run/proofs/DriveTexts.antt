@@ -8,15 +8,15 @@ use Rattle.std.specs.Prelude.{◌⊎◌, Result, Ok, Err, unsigned_abs}
 use Rattle.toml.specs.Data.{Members}
 use Rattle.sdm_rules.specs.declared.authorities.Authority.{Authority}
 use Rattle.sdm_rules.specs.declared.authorities.Authority.TheVariants.{Stop, Limit}
-use Rattle.sdm_rules.specs.declared.faults.DataFault.{DataFault}
-use Rattle.sdm_rules.specs.declared.faults.DriveCause.{DriveCause}
-use Rattle.sdm_rules.specs.declared.faults.DriveCause.TheVariants.{NoStop, HasRelease, ShortBuild}
 use Rattle.sdm_rules.specs.declared.faults.OpenFault.{OpenFault}
 use Rattle.sdm_rules.specs.Data.{TrainAndTrack}
-use Rattle.sdm_rules.specs.Flat.{Output}
-use Rattle.sdm_rules.specs.Input as ends
-use Rattle.sdm_rules.specs.Input.{most_bytes}
 use Rattle.sdm_rules.specs.Opening.{IsAccepted, IsOpenFault}
+use Rattle.sdm_formats.specs.declared.faults.DataFault.{DataFault}
+use Rattle.sdm_formats.specs.declared.faults.DriveCause.{DriveCause}
+use Rattle.sdm_formats.specs.declared.faults.DriveCause.TheVariants.{NoStop, HasRelease, ShortBuild}
+use Rattle.sdm_formats.specs.Flat.{Output}
+use Rattle.sdm_formats.specs.Input as ends
+use Rattle.sdm_formats.specs.Input.{most_bytes}
 use Rattle.sdm_laws.proofs.Openings.Decided.{decided}
 use Rattle.sdm_laws.proofs.Openings.OneFault.{not_both, one_fault}
 use Rattle.sdm_report.specs.declared.outcome.InputFault.TheVariants.{NoSplit, Toml, Data}

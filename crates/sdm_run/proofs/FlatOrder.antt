@@ -6,16 +6,16 @@ use Rattle.sdm_num.specs.Units.{notches_of_mm_s}
 use Rattle.sdm_rules.specs.declared.faults.CycleFault.{CycleFault}
 use Rattle.sdm_rules.specs.Machines.{InOrder}
 use Rattle.sdm_rules.specs.Records.{time_fault}
-use Rattle.sdm_rules.specs.Lines.{lines_of}
-use Rattle.sdm_rules.specs.Flat.{FlatSupervision, FlatLine, Output, flat_opening, flat_line, flat_row, flat_text}
-use Rattle.sdm_rules.specs.Flat.{flat_output, flat_output_from, flat_go_on, flat_step, after_flat_line, flat_slopes}
 use Rattle.sdm_rules.specs.Cells.{place_of_cell}
 use Rattle.sdm_rules.specs.Curves.{exact}
 use Rattle.sdm_rules.specs.Supervision.{whole_mm}
+use Rattle.sdm_formats.specs.Lines.{lines_of}
+use Rattle.sdm_formats.specs.Flat.{FlatSupervision, FlatLine, Output, flat_opening, flat_line, flat_row, flat_text}
+use Rattle.sdm_formats.specs.Flat.{flat_output, flat_output_from, flat_go_on, flat_step, after_flat_line, flat_slopes}
 use Rattle.sdm_supervisor.specs.Flats.{ebi_mm}
 use Rattle.sdm_supervisor.proofs.FlatCurves.{shown_place}
 use Rattle.sdm_supervisor.proofs.FlatFormula.{ebi_is}
-use Rattle.sdm_laws.proofs.Rows.FlatFacts.{flat_machines, flat_stop}
+use Rattle.sdm_supervisor.proofs.FlatFacts.{flat_machines, flat_stop}
 use Rattle.sdm_run.specs.FlatRun.{FlatTurn, turn_and, turns_of_line, flat_turns_from, turns_of, text_of_turns}
 use Rattle.sdm_run.specs.FlatRun.{AreFlatTurnsSafe, AreFlatRowsSafe}
 

@@ -1,7 +1,7 @@
 -- The output of lines, line by line.
 use Rattle.std.proofs.Common.{◌≡◌, ℕ, suc, List, ◌∷◌, inr, refl, ap, ◌∙◌}
-use Rattle.sdm_rules.specs.declared.rows.FlatRow.{FlatRow}
-use Rattle.sdm_rules.specs.Flat.{FlatSupervision, flat_text, flat_output_from}
+use Rattle.sdm_formats.specs.declared.flat_rows.FlatRow.{FlatRow}
+use Rattle.sdm_formats.specs.Flat.{FlatSupervision, flat_text, flat_output_from}
 use Rattle.sdm_run.specs.Answers.{AreWholeLines}
 use Rattle.sdm_run.specs.TakenLines.{IsAcceptedLine}
 use Rattle.sdm_run.proofs.OutputLeft.{text_and}

@@ -5,9 +5,9 @@ use Rattle.std.proofs.Common.{refl, sym, subst, append-nil, arith}
 use Rattle.std.specs.Prelude.{IfSome, Bool, true, false, MatchBool}
 use Rattle.std.proofs.lemmas.List.{take_all, take-append-le}
 use Rattle.std.specs.Io.KnownBytes.{Appends, Keeps}
+use Rattle.sdm_formats.specs.Input as ends
+use Rattle.sdm_formats.specs.Flat.{Output}
 use Rattle.sdm_io.specs.Told.{AppendsPart, Told}
-use Rattle.sdm_rules.specs.Input as ends
-use Rattle.sdm_rules.specs.Flat.{Output}
 use Rattle.sdm_report.specs.declared.outcome.Outcome.{Outcome}
 use Rattle.sdm_report.specs.declared.outcome.Outcome.TheVariants.{Done, Usage, ReadFault, WriteFault, TooLong, BadData}
 use Rattle.sdm_report.specs.declared.outcome.Outcome.TheVariants.{Refused, BadEvent, Memory, Undrivable}

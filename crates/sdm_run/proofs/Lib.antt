@@ -4,6 +4,7 @@ pub mod FlatTexts
 pub mod FlatOrder
 pub mod TrialRuns
 pub mod CommandFacts
+pub mod OneRun
 pub mod RunData
 pub mod RunTexts
 pub mod RunAnswers

@@ -7,9 +7,9 @@ use Rattle.std.specs.List.{join_with_byte}
 use Rattle.sdm_num.specs.Units.{place_of_mm, notches_of_mm_s}
 use Rattle.sdm_rules.specs.declared.faults.FieldFault.{FieldFault}
 use Rattle.sdm_rules.specs.declared.faults.FieldFault.TheVariants.{NotNumber}
-use Rattle.sdm_rules.specs.Flat.{FlatLine, flat_line, flat_line_of, with_field}
-use Rattle.sdm_rules.specs.Lines.{comma_fields}
-use Rattle.sdm_rules.specs.Numbers.{number_of, read_int}
+use Rattle.sdm_formats.specs.Flat.{FlatLine, flat_line, flat_line_of, with_field}
+use Rattle.sdm_formats.specs.Lines.{comma_fields}
+use Rattle.sdm_formats.specs.Numbers.{number_of, read_int}
 use Rattle.sdm_text.specs.FirstNumbers.{BeginsWithNumberIn, BeginsWithNoNumberIn}
 use Rattle.sdm_text.proofs.NumberFields.{number_in_one}
 

@@ -1,7 +1,7 @@
 -- One output and no other: where it is named, and in each of two cases.
 use Rattle.std.proofs.Common.{◌≡◌, Bool, true, false, refl}
 use Rattle.std.specs.Prelude.{MatchBool}
-use Rattle.sdm_rules.specs.Flat.{Output}
+use Rattle.sdm_formats.specs.Flat.{Output}
 
 -- there is an output with P, and no other
 abbrev pub Single : (Output → Type 0) → Type 0

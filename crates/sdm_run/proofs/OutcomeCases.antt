@@ -1,12 +1,12 @@
 -- Which outcomes each command may have, and when each comes.
 use Rattle.std.proofs.Common.{refl, arith}
 use Rattle.sdm_rules.specs.declared.faults.AuthorityFault.TheVariants.{SvlBeforeEoa}
-use Rattle.sdm_rules.specs.declared.faults.DataFault.TheVariants as data_faults
-use Rattle.sdm_rules.specs.declared.faults.DriveCause.TheVariants.{NoStop}
 use Rattle.sdm_rules.specs.declared.faults.EventCause.TheVariants.{Authority, Line}
 use Rattle.sdm_rules.specs.declared.faults.OpenFault.TheVariants as open_faults
 use Rattle.sdm_rules.specs.declared.faults.OpenFault.TheVariants.{BadAuthority}
 use Rattle.sdm_rules.specs.declared.faults.TrainFault.TheVariants.{BandCount}
+use Rattle.sdm_formats.specs.declared.faults.DataFault.TheVariants as data_faults
+use Rattle.sdm_formats.specs.declared.faults.DriveCause.TheVariants.{NoStop}
 use Rattle.sdm_report.specs.declared.outcome.InputFault.TheVariants.{Data, NoSplit, Toml}
 use Rattle.sdm_report.specs.declared.outcome.Outcome.TheVariants.{Done, Usage, ReadFault, WriteFault, TooLong, BadData}
 use Rattle.sdm_report.specs.declared.outcome.Outcome.TheVariants.{Refused, BadEvent, Memory, Undrivable}

@@ -2,8 +2,8 @@
 -- `run`, `display` and `certify` since an input has one run, that of `drive` since an opening is decided in one way,
 -- that of `check` since so is each claim.
 use Rattle.std.proofs.Common.{ℕ, List, refl}
-use Rattle.sdm_rules.specs.Flat.{flat_output}
-use Rattle.sdm_rules.specs.Trial.{trial_output}
+use Rattle.sdm_formats.specs.Flat.{flat_output}
+use Rattle.sdm_formats.specs.Trial.{trial_output}
 use Rattle.sdm_run.specs.declared.words.Command.{Command}
 use Rattle.sdm_run.specs.declared.words.Command.TheVariants.{Flat, Run, Display, Trial, Upgrade, Drive, Certify}
 use Rattle.sdm_run.specs.declared.words.Command.TheVariants.{Check}

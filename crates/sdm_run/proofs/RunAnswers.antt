@@ -7,18 +7,17 @@ use Rattle.std.specs.Prelude.{Result, Ok, Err, Bool, MatchBool, not}
 use Rattle.std.proofs.KnownBytes.{Appends-nil}
 use Rattle.toml.specs.Data.{Members}
 use Rattle.sdm_rules.specs.declared.authorities.Authority.{Authority}
-use Rattle.sdm_rules.specs.declared.faults.DataFault.{DataFault}
 use Rattle.sdm_rules.specs.declared.faults.EventCause.{EventCause}
 use Rattle.sdm_rules.specs.Data.{TrainAndTrack, HasBands}
-use Rattle.sdm_rules.specs.Flat.{Output}
-use Rattle.sdm_rules.specs.Input.{most_bytes, End, IsRun, IsOpened, IsAfterData, IsAfterDocument, IsAfterDivision}
-use Rattle.sdm_rules.specs.Input.{journey_of}
-use Rattle.sdm_rules.specs.Input as ends
 use Rattle.sdm_rules.specs.Records.{Turn}
 use Rattle.sdm_rules.specs.Supervision.{Supervision, opening}
 use Rattle.sdm_rules.specs.Headline.{AreTurnsSafe}
+use Rattle.sdm_formats.specs.declared.faults.DataFault.{DataFault}
+use Rattle.sdm_formats.specs.Flat.{Output}
+use Rattle.sdm_formats.specs.Input.{most_bytes, End, IsRun, IsOpened, IsAfterData, IsAfterDocument, IsAfterDivision}
+use Rattle.sdm_formats.specs.Input.{journey_of}
+use Rattle.sdm_formats.specs.Input as ends
 use Rattle.sdm_laws.proofs.Rows.Journeys.{turns_safe}
-use Rattle.sdm_laws.proofs.Openings.OneRun.{one_run}
 use Rattle.sdm_report.specs.declared.outcome.InputFault.TheVariants.{NoSplit, Toml, Data}
 use Rattle.sdm_report.specs.declared.outcome.Outcome.{Outcome}
 use Rattle.sdm_report.specs.declared.outcome.Outcome.TheVariants.{Done, Usage, ReadFault, WriteFault, TooLong, BadData}
@@ -35,6 +34,7 @@ use Rattle.sdm_run.specs.Journeys.{run_reader}
 use Rattle.sdm_run.specs.RunParts.{IsOpeningOf, IsRefusedBy, IsToldOutput, head_text, output_of_records, turns_text}
 use Rattle.sdm_run.specs.Commands.{AreJourneyTurnsSafe}
 use Rattle.sdm_run.specs.Shapes.{IsOutcomeIn, records_shape, run_shape}
+use Rattle.sdm_run.proofs.OneRun.{one_run}
 use Rattle.sdm_run.proofs.OneOutput.{Single}
 use Rattle.sdm_run.proofs.OutputLeft.{text_and}
 use Rattle.sdm_run.proofs.RunData.{has_bands}

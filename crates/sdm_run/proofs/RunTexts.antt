@@ -16,13 +16,13 @@ use Rattle.sdm_rules.specs.declared.faults.CycleFault.TheVariants.{TimeBack}
 use Rattle.sdm_rules.specs.declared.records.Event.{Event}
 use Rattle.sdm_rules.specs.declared.records.Event.TheVariants as record_kinds
 use Rattle.sdm_rules.specs.declared.rows.Row.{Row}
-use Rattle.sdm_rules.specs.Flat.{Output}
-use Rattle.sdm_rules.specs.Forms.{event_of}
-use Rattle.sdm_rules.specs.Input as ends
 use Rattle.sdm_rules.specs.Records.{row_at, authority_fault, restrict_fault, revoke_fault, time_fault, time_cause}
 use Rattle.sdm_rules.specs.Records.{trip_cause, trip_fault, unless, step, turn_of, turn_to, event_at, journey_from}
 use Rattle.sdm_rules.specs.Records.{most_records}
 use Rattle.sdm_rules.specs.Supervision.{Supervision, after_reading, row_of}
+use Rattle.sdm_formats.specs.Flat.{Output}
+use Rattle.sdm_formats.specs.Forms.{event_of}
+use Rattle.sdm_formats.specs.Input as ends
 use Rattle.sdm_report.specs.declared.outcome.InputFault.TheVariants.{NoSplit, Toml, Data}
 use Rattle.sdm_report.specs.declared.outcome.Outcome.{Outcome}
 use Rattle.sdm_report.specs.declared.outcome.Outcome.TheVariants.{Done, Usage, ReadFault, WriteFault, TooLong, BadData}

@@ -1,9 +1,9 @@
 -- A text that is written in one piece: the whole of it before Done, a part of it before a write fault.
 use Rattle.std.proofs.Common.{◌≡◌, ℕ, List, Option, Some, inl, inr, refl, sym, subst, ap}
 use Rattle.std.specs.Io.KnownBytes.{Appends}
+use Rattle.sdm_formats.specs.Flat.{Output}
+use Rattle.sdm_formats.specs.Input as ends
 use Rattle.sdm_io.specs.Told.{AppendsPart}
-use Rattle.sdm_rules.specs.Flat.{Output}
-use Rattle.sdm_rules.specs.Input as ends
 use Rattle.sdm_report.specs.declared.outcome.Outcome.TheVariants.{Done, WriteFault}
 use Rattle.sdm_run.specs.Answers.{IsAnswer}
 

@@ -9,14 +9,14 @@ use Rattle.sdm_rules.specs.declared.faults.OpenFault.{OpenFault}
 use Rattle.sdm_rules.specs.declared.faults.OpenFault.TheVariants.{TooWeak, TooVaried, BadAuthority, Memory}
 use Rattle.sdm_rules.specs.declared.rows.Row.{Row}
 use Rattle.sdm_report.specs.declared.outcome.Outcome.{Outcome}
-use Rattle.sdm_rules.specs.Flat.{Output}
-use Rattle.sdm_rules.specs.Input.{end_of_journey}
-use Rattle.sdm_rules.specs.Input as ends
 use Rattle.sdm_rules.specs.Opening.{IsOpen}
 use Rattle.sdm_rules.specs.Records.{Journey, event_at, journey_from, rows_of, time_fault, most_records}
 use Rattle.sdm_rules.specs.Supervision.{Supervision, after_reading, opening, row_of}
-use Rattle.sdm_rules.specs.Trial.{reading_in_cycle, reading_record, readings_from, summary_text, trial_authority}
-use Rattle.sdm_rules.specs.Trial.{trial_journey, trial_train_and_track, trial_output}
+use Rattle.sdm_formats.specs.Flat.{Output}
+use Rattle.sdm_formats.specs.Input.{end_of_journey}
+use Rattle.sdm_formats.specs.Input as ends
+use Rattle.sdm_formats.specs.Trial.{reading_in_cycle, reading_record, readings_from, summary_text, trial_authority}
+use Rattle.sdm_formats.specs.Trial.{trial_journey, trial_train_and_track, trial_output}
 use Rattle.sdm_laws.proofs.Rows.Journeys.{turns_safe}
 use Rattle.sdm_laws.proofs.Openings.OneFault.{not_both}
 use Rattle.sdm_braking.specs.Braking.{IsRefusal}

@@ -6,10 +6,10 @@ use Rattle.std.specs.Prelude.{IsTrue, Result, Ok, Err}
 use Rattle.toml.specs.Data.{Members}
 use Rattle.sdm_io.specs.Told.{Told}
 use Rattle.sdm_rules.specs.declared.authorities.Authority.{Authority}
-use Rattle.sdm_rules.specs.declared.faults.DataFault.{DataFault}
 use Rattle.sdm_rules.specs.Data.{TrainAndTrack}
-use Rattle.sdm_rules.specs.Flat.{Output}
-use Rattle.sdm_rules.specs.Input as ends
+use Rattle.sdm_formats.specs.declared.faults.DataFault.{DataFault}
+use Rattle.sdm_formats.specs.Flat.{Output}
+use Rattle.sdm_formats.specs.Input as ends
 use Rattle.sdm_report.specs.declared.outcome.InputFault.TheVariants.{NoSplit, Toml, Data}
 use Rattle.sdm_report.specs.declared.outcome.Outcome.{Outcome}
 use Rattle.sdm_report.specs.declared.outcome.Outcome.TheVariants.{Done, Usage, ReadFault, WriteFault, TooLong, BadData}

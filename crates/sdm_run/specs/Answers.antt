@@ -1,9 +1,9 @@
 -- How an outcome answers what a command defines, and what out took for it: one relation for every command (own).
 use Rattle.std.specs.Prelude.{◌≡◌, ◌⊎◌, ℕ, List, [], ◌∷◌, ◌++◌, Option, Some, None}
 use Rattle.std.specs.Io.KnownBytes.{Appends, Keeps}
+use Rattle.sdm_formats.specs.Input as ends
+use Rattle.sdm_formats.specs.Flat.{Output}
 use Rattle.sdm_io.specs.Told.{AppendsPart}
-use Rattle.sdm_rules.specs.Input as ends
-use Rattle.sdm_rules.specs.Flat.{Output}
 use Rattle.sdm_report.specs.declared.outcome.Outcome.{Outcome}
 use Rattle.sdm_report.specs.declared.outcome.Outcome.TheVariants.{Done, Usage, ReadFault, WriteFault, TooLong, BadData}
 use Rattle.sdm_report.specs.declared.outcome.Outcome.TheVariants.{Refused, BadEvent, Memory, Undrivable}

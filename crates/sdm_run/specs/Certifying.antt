@@ -10,18 +10,18 @@ use Rattle.sdm_rules.specs.declared.authorities.Authority.TheVariants.{Stop, Lim
 use Rattle.sdm_rules.specs.declared.certificates.Claim.{Claim}
 use Rattle.sdm_rules.specs.declared.certificates.Mark.{Mark}
 use Rattle.sdm_rules.specs.declared.data.SlopeKind.TheVariants.{Safe}
-use Rattle.sdm_rules.specs.declared.faults.DataFault.{DataFault}
 use Rattle.sdm_rules.specs.declared.records.Event.{Event}
 use Rattle.sdm_rules.specs.declared.records.Event.TheVariants as record_kinds
 use Rattle.sdm_rules.specs.Data.{TrainAndTrack}
 use Rattle.sdm_rules.specs.Decelerations.{slopes_of}
-use Rattle.sdm_rules.specs.Flat.{Output}
-use Rattle.sdm_rules.specs.Input.{IsRun, end_of_journey}
-use Rattle.sdm_rules.specs.Input as ends
 use Rattle.sdm_rules.specs.Records.{Turn}
 use Rattle.sdm_rules.specs.Slopes.{Slopes, bands_of}
 use Rattle.sdm_rules.specs.Supervision.{Supervision, row_of}
-use Rattle.sdm_rules.specs.Text.{text_line, told}
+use Rattle.sdm_formats.specs.declared.faults.DataFault.{DataFault}
+use Rattle.sdm_formats.specs.Flat.{Output}
+use Rattle.sdm_formats.specs.Input.{IsRun, end_of_journey}
+use Rattle.sdm_formats.specs.Input as ends
+use Rattle.sdm_formats.specs.Text.{text_line, told}
 use Rattle.sdm_certify.specs.Certificates.{claim_of}
 use Rattle.sdm_certify.specs.Made.{marks_of}
 use Rattle.sdm_certify.specs.WrittenLines.{claim_text, mark_text}

@@ -1,8 +1,8 @@
 -- The command `check`: the answers that it defines for the text of a certificate (own).
 use Rattle.std.specs.Prelude.{◌≡◌, List, ℕ, MatchBool, nat_lt, length}
-use Rattle.sdm_rules.specs.Flat.{Output}
-use Rattle.sdm_rules.specs.Input as ends
-use Rattle.sdm_rules.specs.Input.{most_bytes}
+use Rattle.sdm_formats.specs.Flat.{Output}
+use Rattle.sdm_formats.specs.Input as ends
+use Rattle.sdm_formats.specs.Input.{most_bytes}
 use Rattle.sdm_certify.specs.declared.answers.Answer.{Answer}
 use Rattle.sdm_certify.specs.Checker.{IsChecked, answers_text}
 use Rattle.sdm_run.specs.Drives.{no_text}

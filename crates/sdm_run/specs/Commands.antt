@@ -1,11 +1,11 @@
 -- What each command defines for the bytes of its input, and what is promised of its rows (own).
 use Rattle.std.specs.Prelude.{◌≡◌, ℕ, false, List, [], Option, Some, None, ⊤, length, nat_lt, if◌then◌else◌}
-use Rattle.sdm_rules.specs.Flat.{Output, flat_output}
 use Rattle.sdm_rules.specs.Headline.{AreTurnsSafe}
-use Rattle.sdm_rules.specs.Input.{most_bytes, TooLong}
 use Rattle.sdm_rules.specs.Records.{Turn, rows_of}
-use Rattle.sdm_rules.specs.Text.{display_tells, run_tells}
-use Rattle.sdm_rules.specs.Trial.{summary_text, trial_journey, trial_output}
+use Rattle.sdm_formats.specs.Flat.{Output, flat_output}
+use Rattle.sdm_formats.specs.Input.{most_bytes, TooLong}
+use Rattle.sdm_formats.specs.Text.{display_tells, run_tells}
+use Rattle.sdm_formats.specs.Trial.{summary_text, trial_journey, trial_output}
 use Rattle.sdm_run.specs.Certifying.{IsCertifyOutput}
 use Rattle.sdm_run.specs.Checks.{IsCheckOutput}
 use Rattle.sdm_run.specs.Drives.{AreDriveRowsSafe, IsDriveOutput}

@@ -4,16 +4,16 @@ use Rattle.std.specs.Prelude.{length, unsigned_abs}
 use Rattle.toml.specs.Data.{Members}
 use Rattle.sdm_rules.specs.declared.authorities.Authority.{Authority}
 use Rattle.sdm_rules.specs.declared.authorities.Authority.TheVariants.{Stop, Limit}
-use Rattle.sdm_rules.specs.declared.faults.DataFault.{DataFault}
-use Rattle.sdm_rules.specs.declared.faults.DriveCause.{DriveCause}
-use Rattle.sdm_rules.specs.declared.faults.DriveCause.TheVariants.{NoStop, HasRelease, ShortBuild}
 use Rattle.sdm_rules.specs.declared.faults.OpenFault.{OpenFault}
 use Rattle.sdm_rules.specs.declared.faults.OpenFault.TheVariants as open_faults
 use Rattle.sdm_rules.specs.Data.{TrainAndTrack}
-use Rattle.sdm_rules.specs.Flat.{Output}
-use Rattle.sdm_rules.specs.Input as ends
-use Rattle.sdm_rules.specs.Input.{most_bytes}
 use Rattle.sdm_rules.specs.Opening.{IsAccepted, IsOpenFault}
+use Rattle.sdm_formats.specs.declared.faults.DataFault.{DataFault}
+use Rattle.sdm_formats.specs.declared.faults.DriveCause.{DriveCause}
+use Rattle.sdm_formats.specs.declared.faults.DriveCause.TheVariants.{NoStop, HasRelease, ShortBuild}
+use Rattle.sdm_formats.specs.Flat.{Output}
+use Rattle.sdm_formats.specs.Input as ends
+use Rattle.sdm_formats.specs.Input.{most_bytes}
 use Rattle.sdm_data.specs.Document.{document_of}
 use Rattle.sdm_data.specs.Journey.{data_of}
 use Rattle.sdm_drive.specs.Drive.{drive_output, drive_rows, drive_start, step_time}

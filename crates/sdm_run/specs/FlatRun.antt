@@ -2,13 +2,13 @@
 use Rattle.std.specs.Prelude.{◌≡◌, ℕ, Bool, false, IsTrue, List, [], ◌∷◌, ◌++◌, Option, Some, None}
 use Rattle.sdm_num.specs.Units.{millimetre, notches_of_mm_s}
 use Rattle.sdm_rules.specs.declared.faults.CycleFault.{CycleFault}
-use Rattle.sdm_rules.specs.declared.rows.FlatRow.{FlatRow}
 use Rattle.sdm_rules.specs.Limits.{exact_places}
 use Rattle.sdm_rules.specs.Machines.{InOrder}
 use Rattle.sdm_rules.specs.Records.{time_fault}
-use Rattle.sdm_rules.specs.Lines.{lines_of}
-use Rattle.sdm_rules.specs.Flat.{FlatSupervision, FlatLine, flat_opening, flat_line, flat_row, flat_after}
-use Rattle.sdm_rules.specs.Flat.{after_flat_line, flat_text, flat_output, StopsByFlatEnd}
+use Rattle.sdm_formats.specs.declared.flat_rows.FlatRow.{FlatRow}
+use Rattle.sdm_formats.specs.Lines.{lines_of}
+use Rattle.sdm_formats.specs.Flat.{FlatSupervision, FlatLine, flat_opening, flat_line, flat_row, flat_after}
+use Rattle.sdm_formats.specs.Flat.{after_flat_line, flat_text, flat_output, StopsByFlatEnd}
 use Rattle.sdm_supervisor.specs.Flats.{ebi_mm}
 
 -- an accepted line and the state that it meets

@@ -1,11 +1,11 @@
 -- A journey: how the parts of its input are read, and what is defined for the bytes by what is told of each turn (own).
 use Rattle.std.specs.Prelude.{◌≡◌, ℕ, List}
 use Rattle.toml.specs.Data.{Members}
-use Rattle.sdm_rules.specs.Flat.{Output}
-use Rattle.sdm_rules.specs.Forms.{event_of}
-use Rattle.sdm_rules.specs.Input.{Reader, IsRun}
 use Rattle.sdm_rules.specs.Records.{Turn}
-use Rattle.sdm_rules.specs.Text.{told}
+use Rattle.sdm_formats.specs.Flat.{Output}
+use Rattle.sdm_formats.specs.Forms.{event_of}
+use Rattle.sdm_formats.specs.Input.{Reader, IsRun}
+use Rattle.sdm_formats.specs.Text.{told}
 use Rattle.sdm_data.specs.Division.{divide}
 use Rattle.sdm_data.specs.Document.{document_of}
 use Rattle.sdm_data.specs.Journey.{data_of}

@@ -4,6 +4,7 @@ pub mod Answers
 pub mod TakenLines
 pub mod FlatRun
 pub mod Journeys
+pub mod RunLaws
 pub mod Upgrades
 pub mod Drives
 pub mod Certifying

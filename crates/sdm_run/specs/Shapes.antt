@@ -4,8 +4,8 @@ use Rattle.sdm_io.specs.Told.{Told}
 use Rattle.sdm_rules.specs.declared.faults.EventCause.{EventCause}
 use Rattle.sdm_rules.specs.declared.faults.EventCause.TheVariants.{Form, Authority, BadTrip, Restrict, Revoke}
 use Rattle.sdm_rules.specs.declared.faults.EventCause.TheVariants.{TimeBack, Line}
-use Rattle.sdm_rules.specs.declared.faults.DataFault.TheVariants as data_faults
 use Rattle.sdm_rules.specs.declared.faults.OpenFault.TheVariants as open_faults
+use Rattle.sdm_formats.specs.declared.faults.DataFault.TheVariants as data_faults
 use Rattle.sdm_report.specs.declared.outcome.InputFault.TheVariants.{NoSplit, Toml, Data}
 use Rattle.sdm_report.specs.declared.outcome.Outcome.{Outcome}
 use Rattle.sdm_report.specs.declared.outcome.Outcome.TheVariants.{Done, Usage, ReadFault, WriteFault, TooLong, BadData}

@@ -1,9 +1,9 @@
 -- One line of `flat`: what is taken of it, or why it is refused (own).
 use Rattle.std.specs.Prelude.{◌≡◌, ◌⊎◌, ℕ, List, Some, None}
-use Rattle.sdm_rules.specs.declared.rows.FlatRow.{FlatRow}
 use Rattle.sdm_rules.specs.declared.faults.CycleFault.{CycleFault}
 use Rattle.sdm_rules.specs.Records.{time_fault}
-use Rattle.sdm_rules.specs.Flat.{FlatSupervision, FlatLine, flat_line, flat_row, after_flat_line}
+use Rattle.sdm_formats.specs.declared.flat_rows.FlatRow.{FlatRow}
+use Rattle.sdm_formats.specs.Flat.{FlatSupervision, FlatLine, flat_line, flat_row, after_flat_line}
 
 -- the bytes write a line that is accepted: this is its row, and this the state after it
 pub record IsAcceptedLine (old new : FlatSupervision) (bytes : List ℕ) (row : FlatRow) : Type 0 where

@@ -4,9 +4,9 @@ use Rattle.std.specs.Prelude.{map, codes, unsigned_abs, if◌then◌else◌}
 use Rattle.std.specs.Str.{bytes_eq}
 use Rattle.std.specs.declared.alloc.Global.{Global}
 use Rattle.sdm_rules.specs.declared.faults.FieldFault.{FieldFault}
-use Rattle.sdm_rules.specs.Numbers.{read_int}
 use Rattle.sdm_rules.specs.Ranges.{longest_track}
 use Rattle.sdm_rules.specs.Records.{most_records}
+use Rattle.sdm_formats.specs.Numbers.{read_int}
 use Rattle.sdm_run.specs.declared.words.Command.{Command}
 use Rattle.sdm_run.specs.declared.words.Command.TheVariants.{Flat, Run, Display, Trial, Upgrade, Drive, Certify}
 use Rattle.sdm_run.specs.declared.words.Command.TheVariants.{Check}

@@ -3,11 +3,11 @@
 ghost use Rattle.std.specs.Prelude.{◌≡◌, ◌≢◌, ◌⊎◌, ◌↔◌, ◌+◌, ◌<◌, ◌≤◌, ℕ, List, length, false, Some, Err, IsNone};
 ghost use Rattle.std.specs.Prelude.{IsTrue, IfSome, IfOk, OnOk, OnErr};
 ghost use Rattle.std.specs.Io.KnownBytes.{Appends, IsAtEnd};
+ghost use Rattle.sdm_formats.specs.Flat.{Output};
+ghost use Rattle.sdm_formats.specs.Input.{most_bytes};
 ghost use Rattle.sdm_io.specs.Causes.{Rose};
 ghost use Rattle.sdm_io.specs.Told.{AppendsPart, HoldsNothing, ReadsExactly, ReadsWithin, Told};
 ghost use Rattle.sdm_report.specs.OutcomeLines.{outcome_line};
-ghost use Rattle.sdm_rules.specs.Flat.{Output};
-ghost use Rattle.sdm_rules.specs.Input.{most_bytes};
 ghost use Rattle.sdm_run.specs.declared.words.Command.{Command};
 ghost use Rattle.sdm_run.specs.Answers.{ComesOfReadingAlone, LeavesOutUntouched, NeedsTheWholeInput, IsAnswer};
 ghost use Rattle.sdm_run.specs.Answers.{IsComplete, told_end};

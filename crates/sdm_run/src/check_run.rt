@@ -1,9 +1,9 @@
 //! The command `check`: an answer for each claim of a certificate text, written before the next claim is read.
 
 ghost use Rattle.std.specs.Prelude.{◌≡◌, ◌⊎◌, ◌≤◌, length, false};
+ghost use Rattle.sdm_formats.specs.Flat.{Output};
+ghost use Rattle.sdm_formats.specs.Input.{most_bytes};
 ghost use Rattle.sdm_io.specs.Causes.{Rose};
-ghost use Rattle.sdm_rules.specs.Flat.{Output};
-ghost use Rattle.sdm_rules.specs.Input.{most_bytes};
 ghost use Rattle.sdm_run.specs.Answers.{IsAnswer, LeavesOutUntouched};
 ghost use Rattle.sdm_run.specs.Checks.{IsCheckOf};
 ghost use Rattle.sdm_run.specs.Shapes.{IsOutcomeIn, check_shape};

@@ -4,8 +4,8 @@ ghost use Rattle.std.specs.Prelude.{◌≡◌, ◌⊎◌, ◌≤◌, ℕ, List, 
 ghost use Rattle.sdm_io.specs.Causes.{Rose};
 ghost use Rattle.sdm_rules.specs.declared.authorities.Authority.{Authority};
 ghost use Rattle.sdm_rules.specs.Data.{TrainAndTrack};
-ghost use Rattle.sdm_rules.specs.Flat.{Output};
 ghost use Rattle.sdm_rules.specs.Records.{most_records};
+ghost use Rattle.sdm_formats.specs.Flat.{Output};
 ghost use Rattle.sdm_data.specs.Document.{document_of};
 ghost use Rattle.sdm_drive.specs.Faults.{IsDriveRefusal};
 ghost use Rattle.sdm_run.specs.Answers.{ComesOfReadingAlone, IsAnswer, LeavesOutUntouched};
@@ -16,9 +16,9 @@ ghost use Rattle.sdm_run.specs.Shapes.{IsOutcomeIn, drive_shape};
 use crate::endings::Ended;
 use crate::journey_openings::{document_in, journey_in};
 use sdm_drive::{DriveFault, Summary, driven};
+use sdm_formats::DriveCause;
 use sdm_io::Sink;
 use sdm_report::Outcome;
-use sdm_rules::DriveCause;
 use sdm_text::RowBuf;
 use std::alloc::Global;
 

@@ -1,10 +1,10 @@
 //! The end of a command: where out was handed a byte, it gives on what it holds back before the outcome stands.
 
 ghost use Rattle.std.specs.Prelude.{◌≡◌, ◌≢◌, ◌⊎◌, ◌≤◌, List, ℕ, Option, false, IsTrue};
-ghost use Rattle.sdm_rules.specs.Input as ends;
+ghost use Rattle.sdm_formats.specs.Input as ends;
+ghost use Rattle.sdm_formats.specs.Flat.{Output};
 ghost use Rattle.sdm_io.specs.Causes.{Rose};
 ghost use Rattle.sdm_io.specs.Told.{HoldsNothing};
-ghost use Rattle.sdm_rules.specs.Flat.{Output};
 ghost use Rattle.sdm_run.specs.Answers.{ComesOfReadingAlone, IsAnswer, LeavesOutUntouched};
 ghost use Rattle.sdm_run.specs.Shapes.{IsOutcomeIn, Shape};
 

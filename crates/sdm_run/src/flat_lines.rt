@@ -1,7 +1,7 @@
 //! The lines that `flat` takes and the rows that it writes.
 
 ghost use Rattle.std.specs.Prelude.{◌≡◌, [], IfSome, IfNone};
-ghost use Rattle.sdm_rules.specs.Flat.{flat_text};
+ghost use Rattle.sdm_formats.specs.Flat.{flat_text};
 ghost use Rattle.sdm_run.specs.TakenLines.{IsAcceptedLine, IsRefusedLine};
 
 use sdm_num::{Place, Speed};
@@ -27,7 +27,7 @@ pub fn take_line(flat: &mut Flat, line: &[u8]) -> Option<FlatRow>
 }
 
 /// Puts a row. (own)
-#[tactic(auto, unfolding(sdm_rules::specs::Flat::flat_text))]
+#[tactic(auto, unfolding(sdm_formats::specs::Flat::flat_text))]
 pub fn put_row(row: &FlatRow, into: &mut RowBuf)
     requires { into.old ≡ [] }
     ensures { into.new ≡ flat_text row.now }

@@ -2,9 +2,9 @@
 
 ghost use Rattle.std.specs.Prelude.{◌≡◌, ◌⊎◌, ◌≤◌, length, false};
 ghost use Rattle.sdm_io.specs.Causes.{Rose};
-ghost use Rattle.sdm_rules.specs.Input.{most_bytes};
-ghost use Rattle.sdm_rules.specs.Flat.{flat_output};
 ghost use Rattle.sdm_rules.specs.Ranges.{longest_track};
+ghost use Rattle.sdm_formats.specs.Input.{most_bytes};
+ghost use Rattle.sdm_formats.specs.Flat.{flat_output};
 ghost use Rattle.sdm_run.specs.Answers.{LeavesOutUntouched, IsAnswer};
 ghost use Rattle.sdm_run.specs.Shapes.{IsOutcomeIn, flat_shape};
 

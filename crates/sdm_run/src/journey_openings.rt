@@ -12,8 +12,9 @@ ghost use Rattle.sdm_data.specs.Journey.{data_of};
 ghost use Rattle.sdm_run.specs.RunParts.{IsDataOf, IsOpeningOf, IsRefusedBy, IsRefusedByData};
 
 use sdm_data::{DocumentFault, JourneyData, data_of, read_document};
+use sdm_formats::DataFault;
 use sdm_report::{InputFault, Outcome};
-use sdm_rules::{DataFault, OpenFault};
+use sdm_rules::OpenFault;
 use sdm_supervisor::Supervisor;
 use std::alloc::Global;
 use toml::Table;

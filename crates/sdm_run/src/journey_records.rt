@@ -5,8 +5,8 @@
 ghost use Rattle.std.specs.Prelude.{◌≡◌, ◌⊎◌, ◌≤◌, false, Err, IfErr, IfOk, OnOk};
 ghost use Rattle.csv.specs.Records.{fields_of};
 ghost use Rattle.sdm_io.specs.Causes.{Rose};
-ghost use Rattle.sdm_rules.specs.Forms.{event_of};
 ghost use Rattle.sdm_rules.specs.Records.{event_at, most_records, trip_cause, turn_of};
+ghost use Rattle.sdm_formats.specs.Forms.{event_of};
 ghost use Rattle.sdm_events.specs.Journey.{records_of};
 ghost use Rattle.sdm_run.specs.Answers.{IsAnswer};
 ghost use Rattle.sdm_run.specs.declared.endings.Ended.{Ended};

@@ -2,9 +2,9 @@
 //! the records. They differ in what is told of the data and of a reading.
 
 ghost use Rattle.std.specs.Prelude.{◌≡◌, ◌⊎◌, ◌≤◌, length, false};
+ghost use Rattle.sdm_formats.specs.Flat.{Output};
+ghost use Rattle.sdm_formats.specs.Input.{most_bytes};
 ghost use Rattle.sdm_io.specs.Causes.{Rose};
-ghost use Rattle.sdm_rules.specs.Flat.{Output};
-ghost use Rattle.sdm_rules.specs.Input.{most_bytes};
 ghost use Rattle.sdm_run.specs.Answers.{ComesOfReadingAlone, LeavesOutUntouched, IsAnswer};
 ghost use Rattle.sdm_run.specs.RunParts.{IsToldOutput};
 ghost use Rattle.sdm_run.specs.Shapes.{IsOutcomeIn, run_shape};

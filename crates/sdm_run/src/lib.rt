@@ -12,6 +12,7 @@ mod flat_run;
 mod journey_openings;
 mod journey_records;
 mod journey_run;
+pub mod laws;
 mod tellers;
 mod trial_run;
 mod upgrade_run;

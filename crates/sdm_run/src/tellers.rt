@@ -6,7 +6,7 @@ ghost use Rattle.std.specs.Io.KnownBytes.{Appends};
 ghost use Rattle.sdm_io.specs.Causes.{HasCause, Rose};
 ghost use Rattle.sdm_io.specs.Told.{AppendsPart};
 ghost use Rattle.sdm_rules.specs.Display.{display_of};
-ghost use Rattle.sdm_rules.specs.Text.{display_text};
+ghost use Rattle.sdm_formats.specs.Text.{display_text};
 ghost use Rattle.sdm_run.specs.declared.tellers.Teller.TheVariants.{Certificates};
 ghost use Rattle.sdm_run.specs.RunParts.{IsToldReading, head_text};
 ghost use Rattle.sdm_run.specs.Shapes.{IsOutcomeIn, records_shape};

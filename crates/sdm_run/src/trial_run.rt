@@ -4,8 +4,8 @@
 ghost use Rattle.std.specs.Prelude.{◌≡◌, ◌⊎◌, ◌≤◌, false, IfOk};
 ghost use Rattle.sdm_io.specs.Causes.{Rose};
 ghost use Rattle.sdm_rules.specs.Supervision.{opening};
-ghost use Rattle.sdm_rules.specs.Trial.{trial_authority, trial_journey, trial_train_and_track, trial_output};
 ghost use Rattle.sdm_rules.specs.Records.{most_records, rows_of};
+ghost use Rattle.sdm_formats.specs.Trial.{trial_authority, trial_journey, trial_train_and_track, trial_output};
 ghost use Rattle.sdm_trial.specs.Summaries.{counts_of};
 ghost use Rattle.sdm_run.specs.Answers.{LeavesOutUntouched, IsAnswer};
 ghost use Rattle.sdm_run.specs.Shapes.{IsOutcomeIn, trial_shape};

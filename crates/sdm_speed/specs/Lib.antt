@@ -5,5 +5,6 @@ pub mod Held
 pub mod ZoneEnds
 pub mod Speeds
 pub mod Changes
+pub mod Codes
 pub mod Profiles
 pub mod ProfileFields

@@ -6,7 +6,7 @@ use Rattle.std.specs.FinMap as finite
 use Rattle.sdm_rules.specs.declared.data.SpeedStep.{SpeedStep}
 use Rattle.sdm_rules.specs.declared.restrictions.Restriction.{Restriction}
 use Rattle.sdm_rules.specs.Data.{TrackData}
-use Rattle.sdm_rules.specs.Codes.{coded_restrictions}
+use Rattle.sdm_speed.specs.Codes.{coded_restrictions}
 use Rattle.sdm_rules.specs.Profile.{Zone, lowest_limit, zones_of_track, zone_of}
 use Rattle.sdm_rules.specs.Records.{most_restrictions}
 use Rattle.sdm_rules.specs.Ranges.{longest_track, longest_train}

@@ -10,9 +10,11 @@ use Rattle.sdm_num.specs.Bounds.{mm_below}
 use Rattle.sdm_rules.specs.Cells.{place_of_cell}
 use Rattle.sdm_rules.specs.Slopes.{Slopes, SlopeMap, meaning_of}
 use Rattle.sdm_rules.specs.Curves.{cell_at, cell_start, back, arc_back, exact_at, exact, stepped, as_is, to_grain}
-use Rattle.sdm_laws.proofs.BrakeCurves.BandSteps.{place_up}
+use Rattle.sdm_rules.specs.Curves.{place_at, corner}
+use Rattle.sdm_laws.proofs.OneBand.BothWays.{arc_is_back}
+use Rattle.sdm_laws.proofs.BrakeCurves.CurveOrder.{floor_whole}
 use Rattle.sdm_rules.specs.Supervision.{whole_mm}
-use Rattle.sdm_rules.specs.Flat.{FlatSupervision, FlatLine, flat_slopes, flat_row, flat_after}
+use Rattle.sdm_formats.specs.Flat.{FlatSupervision, FlatLine, flat_slopes, flat_row, flat_after}
 use Rattle.sdm_curve.specs.Maps.{map_data, handed_in, MapData}
 use Rattle.sdm_supervisor.specs.Flats.{flat_map}
 
@@ -63,30 +65,46 @@ unfolding arc_back
 same_arc decel x change =
     back_same (meaning_of (flat_map decel)) (flat_slopes decel) 1 0 _ x _ (λ c. one_segment (2_000_000_000 * decel) _)
 
--- with no border of bands a place is the end of one arc, which no border rounds
-stepped_arc : (decel : ℕ) (f : ℤ) (v : ℕ) →
-    stepped (flat_slopes decel) f 0 v ≡ floor (arc_back (flat_slopes decel) 1 0 (whole (pos 1 *ℤ f)) (v * v - 0))
-unfolding stepped
-stepped_arc decel f v = ap floor (place_up to_grain (flat_slopes decel) 1 f 0 (v * v) (omega arith))
+-- slopes of one band
+abbrev one_band : ℕ → (ℕ → ℤ → ℕ) → Slopes
+one_band q slope = record { q = q; uppers = []; slope = slope }
 
--- the exact place is the end of the same arc
+-- with one band the place of a speed is the end of one arc back from a foot with speed 0
+one_arc : (round : Fraction → Fraction) (q : ℕ) (slope : ℕ → ℤ → ℕ) (f : ℤ) (v : ℕ) →
+    place_at round (one_band q slope) 1 f 0 (v * v)
+    ≡ round (arc_back (one_band q slope) 1 0 (whole (pos 1 *ℤ f)) (v * v - 0))
+unfolding place_at corner
+one_arc round q slope f v =
+    ap round (arc_is_back (one_band q slope) 1 0 (whole (pos 1 *ℤ f)) 0 (v * v) (omega arith))
+
+-- so is the stepped place, rounded down
+stepped_arc : (q : ℕ) (slope : ℕ → ℤ → ℕ) (f : ℤ) (v : ℕ) →
+    stepped (one_band q slope) f 0 v ≡ floor (arc_back (one_band q slope) 1 0 (whole (pos 1 *ℤ f)) (v * v - 0))
+unfolding stepped
+stepped_arc q slope f v = ap floor (one_arc to_grain q slope f v) ∙ floor_whole _
+
+-- and the exact place
 pub exact_arc : (decel : ℕ) (f : ℤ) (v : ℕ) →
     exact (flat_slopes decel) f 0 v ≡ arc_back (flat_slopes decel) 1 0 (whole (pos 1 *ℤ f)) (v * v - 0)
 unfolding exact exact_at
-exact_arc decel f v = place_up as_is (flat_slopes decel) 1 f 0 (v * v) (omega arith)
+exact_arc decel f v = one_arc as_is (flat_slopes decel).q (flat_slopes decel).slope f v
 
--- the flat map and the flat slopes have the same stepped place
+-- the stepped place on the flat slopes
+flat_stepped : (decel : ℕ) (f : ℤ) (v : ℕ) →
+    stepped (flat_slopes decel) f 0 v ≡ floor (arc_back (flat_slopes decel) 1 0 (whole (pos 1 *ℤ f)) (v * v - 0))
+flat_stepped decel f v = stepped_arc (flat_slopes decel).q (flat_slopes decel).slope f v
+
+-- is that on the flat map
 pub same_stepped : (decel : ℕ) (f : ℤ) (v : ℕ) →
     stepped (meaning_of (flat_map decel)) f 0 v ≡ stepped (flat_slopes decel) f 0 v
-unfolding stepped
 same_stepped decel f v =
-    ap floor (place_up to_grain (meaning_of (flat_map decel)) 1 f 0 (v * v) (omega arith)
-    ∙ same_arc decel (whole (pos 1 *ℤ f)) (v * v - 0)) ∙ sym (stepped_arc decel f v)
+    stepped_arc (meaning_of (flat_map decel)).q (meaning_of (flat_map decel)).slope f v
+    ∙ (ap floor (same_arc decel (whole (pos 1 *ℤ f)) (v * v - 0)) ∙ sym (flat_stepped decel f v))
 
 -- which is the exact one rounded down to a grain
 stepped_floor : (decel : ℕ) (f : ℤ) (v : ℕ) →
     stepped (flat_slopes decel) f 0 v ≡ floor (exact (flat_slopes decel) f 0 v)
-stepped_floor decel f v = stepped_arc decel f v ∙ ap floor (sym (exact_arc decel f v))
+stepped_floor decel f v = flat_stepped decel f v ∙ ap floor (sym (exact_arc decel f v))
 
 -- ---- its rows
 

@@ -10,8 +10,8 @@ use Rattle.sdm_num.proofs.Ints.{scales, scale-+ℤ, scale-neg, scale-scale, scal
 use Rattle.sdm_num.proofs.Floors.{floor_low, floor_high, floor_is, scale-<_cancel}
 use Rattle.sdm_rules.specs.Cells.{place_of_cell}
 use Rattle.sdm_rules.specs.Curves.{arc_back, back, grain_energy, exact}
-use Rattle.sdm_rules.specs.Flat.{flat_slopes}
 use Rattle.sdm_rules.specs.Supervision.{whole_mm}
+use Rattle.sdm_formats.specs.Flat.{flat_slopes}
 use Rattle.sdm_laws.specs.Energy.{energy}
 use Rattle.sdm_laws.proofs.OneBand.Energy.{energy_at_most, energy_at_least}
 use Rattle.sdm_laws.proofs.OneBand.Walks.{IsBackBy, back-is}

@@ -7,6 +7,7 @@ mod NearestLaws
 mod FindLaws
 mod CycleLaws
 mod CurveLaws
+pub mod FlatFacts
 pub mod FlatCurves
 pub mod FlatFormula
 pub mod WithinLaws

@@ -12,6 +12,8 @@ use Rattle.sdm_num.proofs.Comparisons.{not_lt_is, not_lt_of}
 use Rattle.sdm_num.proofs.Order.{lesser_cases}
 use Rattle.sdm_rules.specs.declared.data.SlopeKind.TheVariants.{Safe, Expected, Normal}
 use Rattle.sdm_rules.specs.declared.data.Times.{Times}
+use Rattle.sdm_rules.specs.declared.limits.LimitKind.{LimitKind}
+use Rattle.sdm_rules.specs.declared.limits.LimitKind.TheVariants.{Ebi, Sbi, Warning, Permitted, Indication}
 use Rattle.sdm_rules.specs.declared.targets.Target.{Target}
 use Rattle.sdm_rules.specs.declared.targets.TargetKind.{TargetKind}
 use Rattle.sdm_rules.specs.declared.targets.TargetKind.TheVariants.{Mrsp, Loa, Eoa, Svl}
@@ -19,17 +21,14 @@ use Rattle.sdm_rules.specs.Curves.{stepped}
 use Rattle.sdm_rules.specs.Data.{TrainAndTrack}
 use Rattle.sdm_rules.specs.Decelerations.{slopes_of}
 use Rattle.sdm_rules.specs.Limits.{SupervisionLimits, computed, d_bec_for, ebd_limits_of, guidance_place}
-use Rattle.sdm_rules.specs.Limits.{limits_from_sbi, limits_of, limits_of_kind, sbd_limits_of, v_bec_for}
+use Rattle.sdm_rules.specs.Limits.{limit_in, limits_from_sbi, limits_of, limits_of_kind, sbd_limits_of, v_bec_for}
 use Rattle.sdm_rules.specs.Reaction.{driver_time, reaction_times, warning_time}
 use Rattle.sdm_rules.specs.Targets.{foot_speed_of, target_speed}
 use Rattle.sdm_rules.specs.Triggers.{is_past}
 
 -- a front end is past none of these limits
 pub record IsPastNone (front : ℤ) (l : SupervisionLimits) : Type 0 where
-  pub ebi : option_map_or (is_past 0 front) l.ebi false ≡ false
-  pub sbi : is_past 0 front l.sbi ≡ false
-  pub warning : is_past 0 front l.warning ≡ false
-  pub permitted : is_past 0 front l.permitted ≡ false
+  pub each : (kind : LimitKind) → option_map_or (is_past 0 front) (limit_in kind l) false ≡ false
 
 -- what is not past a place is not past a later one
 later : (a b front : ℤ) → a ≤ℤ b → int_lt a front ≡ false → int_lt b front ≡ false
@@ -50,19 +49,26 @@ of_lesser front x y =
 -- where a front end is not past what the driver's time asks for, it is past none of these
 module _ (front z : ℤ) (times : Times) (v : ℕ) (ebi : Option Fraction)
     (of_ebi : is_past 0 front (whole z) ≡ false → option_map_or (is_past 0 front) ebi false ≡ false) where
-  -- where it is past neither what the driver's time asks for nor the permitted limit
+  -- where it is past neither what the driver's time asks for nor the permitted and the indication limit
   of_driver : (guide : Option Fraction) → is_past 0 front (less (whole z) (distance_at v driver_time)) ≡ false →
       is_past 0 front (limits_from_sbi times v guide ebi (whole z)).permitted ≡ false →
+      is_past 0 front (limits_from_sbi times v guide ebi (whole z)).indication ≡ false →
       IsPastNone front (limits_from_sbi times v guide ebi (whole z))
-  of_driver guide driver permitted =
+  of_driver guide driver permitted indication =
       let sbi = of_less front (whole z) (distance_at v driver_time) driver in
       record {
-        ebi = of_ebi sbi;
-        sbi = sbi;
-        warning = later (z +ℤ neg_ℤ (pos (distance_at v driver_time * 1)))
-            (z +ℤ neg_ℤ (pos (distance_at v warning_time * 1))) (pos 1 *ℤ (front +ℤ pos 0))
-            (omega (arith, ints)) driver;
-        permitted = permitted;
+        each = λ kind.
+            elim kind as (λ k. option_map_or (is_past 0 front)
+            (limit_in k (limits_from_sbi times v guide ebi (whole z))) false ≡ false) [
+              | Ebi ↦ of_ebi sbi
+              | Sbi ↦ sbi
+              | Warning ↦
+                  later (z +ℤ neg_ℤ (pos (distance_at v driver_time * 1)))
+                  (z +ℤ neg_ℤ (pos (distance_at v warning_time * 1))) (pos 1 *ℤ (front +ℤ pos 0))
+                  (omega (arith, ints)) driver
+              | Permitted ↦ permitted
+              | Indication ↦ indication
+            ];
       }
 
   -- where it isn't past the indication limit
@@ -71,12 +77,12 @@ module _ (front z : ℤ) (times : Times) (v : ℕ) (ebi : Option Fraction)
       IsPastNone front (limits_from_sbi times v (option_map whole guide) ebi (whole z))
   of_indication None ahead =
       let driver = of_less front (less (whole z) (distance_at v driver_time)) (distance_at v times.indication) ahead in
-      of_driver None driver driver
+      of_driver None driver driver ahead
   of_indication (Some g) ahead =
       let permitted = of_less front (lesser (whole g) (less (whole z) (distance_at v driver_time)))
       (distance_at v times.indication) ahead in
       of_driver (Some (whole g))
-      (of_lesser front g (z +ℤ neg_ℤ (pos (distance_at v driver_time * 1))) permitted) permitted
+      (of_lesser front g (z +ℤ neg_ℤ (pos (distance_at v driver_time * 1))) permitted) permitted ahead
 
 -- ---- the limits of a target
 

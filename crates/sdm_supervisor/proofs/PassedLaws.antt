@@ -14,16 +14,19 @@ use Rattle.sdm_num.specs.Bounds.{Bound}
 use Rattle.sdm_num.specs.Fractions.{Fraction}
 use Rattle.sdm_num.specs.Units.{notches}
 use Rattle.sdm_num.specs.Readings.{Estimate}
+use Rattle.sdm_rules.specs.declared.commands.Triggers.{Triggers}
+use Rattle.sdm_rules.specs.declared.limits.LimitKind.{LimitKind}
+use Rattle.sdm_rules.specs.declared.limits.LimitKind.TheVariants.{Ebi, Sbi, Warning, Permitted, Indication}
 use Rattle.sdm_rules.specs.declared.targets.Target.{Target}
 use Rattle.sdm_rules.specs.declared.targets.TargetKind.{TargetKind}
 use Rattle.sdm_rules.specs.declared.targets.TargetKind.TheVariants.{Mrsp, Loa, Eoa, Svl}
 use Rattle.sdm_rules.specs.Data.{TrainAndTrack}
-use Rattle.sdm_rules.specs.Limits.{computed, limits_of, limits_of_kind, v_bec_for}
-use Rattle.sdm_rules.specs.Margins.{ebi_margin, sbi_margin, warning_margin}
+use Rattle.sdm_rules.specs.Limits.{SupervisionLimits, computed, limit_in, limits_of, limits_of_kind, v_bec_for}
+use Rattle.sdm_rules.specs.Margins.{margin_of}
 use Rattle.sdm_rules.specs.Reaction.{reaction_times}
 use Rattle.sdm_rules.specs.Supervision.{is_covered_for, is_met_by_speed}
 use Rattle.sdm_rules.specs.Targets.{at_speed_target, foot_speed_of, target_speed, with_margin}
-use Rattle.sdm_rules.specs.Triggers.{front_for, is_past, no_margin, passes, passes_ebi}
+use Rattle.sdm_rules.specs.Triggers.{front_for, is_past, passes}
 use Rattle.sdm_limits.specs.declared.limits.Limits.{Limits}
 use Rattle.sdm_limits.specs.Sides.{place_where, places_of}
 use Rattle.sdm_braking.specs.declared.speeds.SpeedLimits.{SpeedLimits}
@@ -31,7 +34,7 @@ use Rattle.sdm_limits.proofs.Passed.{past_of}
 use Rattle.sdm_braking.specs.KeptCurves.{AreSpeedsOf}
 use Rattle.sdm_supervisor.specs.declared.nearest.Nearest.{Nearest}
 use Rattle.sdm_supervisor.specs.declared.verdicts.Verdict.{Verdict}
-use Rattle.sdm_supervisor.specs.Verdicts.{AreNearest, IsNearer, IsSaid}
+use Rattle.sdm_supervisor.specs.Verdicts.{AreNearest, IsNearer, IsSaid, said_of}
 use Rattle.sdm_supervisor.proofs.LimitOrder.{IsPastNone, past_none}
 use Rattle.sdm_supervisor.proofs.NearestLaws.{nearest_with, nearest_without}
 use Rattle.sdm_supervisor.proofs.VerdictLaws.{above}
@@ -65,28 +68,31 @@ at_least Loa speed margin = omega arith
 at_least Eoa speed margin = omega arith
 at_least Svl speed margin = omega arith
 
-module _ (v : ℕ) (est max : ℤ) (t : Target) where
-  -- above the train's speed no limit of a target is passed
-  not_passed : v < target_speed t → (margin : ℕ → ℕ) (limit : Fraction) → passes v est max 0 margin t limit ≡ false
-  not_passed slower margin limit =
-      let within : v ≤ with_margin margin t = omega (arith, at_least t.kind (notches t.speed) (margin t.speed)) in
-      rw (le-ltb (with_margin margin t) v within)
+module _ (v : ℕ) (est max : ℤ) (t : Target) (kind : LimitKind) (l : SupervisionLimits) where
+  -- up to the target's speed with the margin of a limit it isn't passed
+  pub not_above : v ≤ with_margin (margin_of kind) t → passes kind v est max 0 t l ≡ false
+  not_above within = rw (le-ltb (with_margin (margin_of kind) t) v within)
 
-  -- nor is its EBI, where it has one
-  ebi_not_passed : v < target_speed t → (ebi : Option Fraction) → passes_ebi v est max 0 t ebi ≡ false
-  ebi_not_passed slower None = refl
-  ebi_not_passed slower (Some ebi) = not_passed slower ebi_margin ebi
+  -- so no limit of a target above the train's speed is passed
+  not_passed : v < target_speed t → passes kind v est max 0 t l ≡ false
+  not_passed slower = not_above (omega (arith, at_least t.kind (notches t.speed) (margin_of kind t.speed)))
 
   -- nor is one that the front end is not past
-  not_reached : (margin : ℕ → ℕ) (limit : Fraction) → is_past 0 (front_for est max t.kind) limit ≡ false →
-      passes v est max 0 margin t limit ≡ false
-  not_reached margin limit ahead = rw ahead (and-false (nat_lt (with_margin margin t) v))
+  not_reached : option_map_or (is_past 0 (front_for est max t.kind)) (limit_in kind l) false ≡ false →
+      passes kind v est max 0 t l ≡ false
+  not_reached ahead = rw ahead (and-false (nat_lt (with_margin (margin_of kind) t) v))
 
-  -- nor is an EBI that it is not past
-  ebi_not_reached : (ebi : Option Fraction) → option_map_or (is_past 0 (front_for est max t.kind)) ebi false ≡ false →
-      passes_ebi v est max 0 t ebi ≡ false
-  ebi_not_reached None ahead = refl
-  ebi_not_reached (Some ebi) ahead = not_reached ebi_margin ebi ahead
+  -- nor is one that the target doesn't have
+  pub not_there : limit_in kind l ≡ None → passes kind v est max 0 t l ≡ false
+  not_there none =
+      not_reached (ap (λ x. option_map_or (is_past 0 (front_for est max t.kind)) x false) none)
+
+  -- one that it has is passed above the speed where the front end is past it
+  pub passes_there : (x : Fraction) → limit_in kind l ≡ Some x →
+      passes kind v est max 0 t l ≡ (nat_lt (with_margin (margin_of kind) t) v && is_past 0 (front_for est max t.kind) x)
+  passes_there x is =
+      ap (λ y. nat_lt (with_margin (margin_of kind) t) v
+      && option_map_or (is_past 0 (front_for est max t.kind)) y false) is
 
 module _ (d : TrainAndTrack) (max : ℤ) (e : Estimate) (t : Target) where
   -- whether a target with this EBI is covered
@@ -123,10 +129,10 @@ covered_unmet max met (Some e) is = sym (or-false (not (is_past 0 max e))) ∙ (
 covered_yet : (d : TrainAndTrack) (e : Estimate) (est max : ℤ) (t : Target) (kind : TargetKind) (met : Bool) →
     IsPastNone (front_for est max kind) (limits_of_kind computed d e t kind) →
     option_map_or (λ ebi. not (is_past 0 max ebi) || met) (limits_of_kind computed d e t kind).ebi true ≡ true
-covered_yet d e est max t Mrsp met none = rw none.ebi refl
-covered_yet d e est max t Loa met none = rw none.ebi refl
+covered_yet d e est max t Mrsp met none = rw (none.each Ebi) refl
+covered_yet d e est max t Loa met none = rw (none.each Ebi) refl
 covered_yet d e est max t Eoa met none = refl
-covered_yet d e est max t Svl met none = rw none.ebi refl
+covered_yet d e est max t Svl met none = rw (none.each Ebi) refl
 
 module _ {d : TrainAndTrack} {e : Estimate} {est max : ℤ} {ts : List Target} {t : Target} {p : Verdict}
     (is : IsSaid d e est max ts p) {s : SpeedLimits} (speeds : AreSpeedsOf t s) where
@@ -137,11 +143,8 @@ module _ {d : TrainAndTrack} {e : Estimate} {est max : ℤ} {ts : List Target} {
       let slower = subst (λ (n : ℕ). e.speed < n) speeds.permitted below in
       record {
         passed = record {
-          over = any_unless _ ts t _ is.passed.over (not_passed e.speed est max t slower no_margin _);
-          warn = any_unless _ ts t _ is.passed.warn (not_passed e.speed est max t slower warning_margin _);
-          serv = any_unless _ ts t _ is.passed.serv (not_passed e.speed est max t slower sbi_margin _);
-          emer = any_unless _ ts t _ is.passed.emer (ebi_not_passed e.speed est max t slower _);
-          indicated = any_unless _ ts t _ is.passed.indicated (not_passed e.speed est max t slower no_margin _);
+          each = λ kind. any_unless _ ts t _ (is.passed.each kind)
+              (not_passed e.speed est max t kind (limits_of computed d e t) slower);
           covered = covered ∙ all_more (is_covered_for d max e) ts t _ is.passed.covered _ refl;
         };
         nearest = nearest_without _ e.speed (limits_of computed d e) ts t p.nearest slower is.nearest;
@@ -163,11 +166,8 @@ module _ {d : TrainAndTrack} {e : Estimate} {est max : ℤ} {ts : List Target} {
         let none = past_none d e t (front_for est max t.kind) ahead in
         record {
           passed = record {
-            over = any_unless _ ts t _ is.passed.over (not_reached e.speed est max t no_margin _ none.permitted);
-            warn = any_unless _ ts t _ is.passed.warn (not_reached e.speed est max t warning_margin _ none.warning);
-            serv = any_unless _ ts t _ is.passed.serv (not_reached e.speed est max t sbi_margin _ none.sbi);
-            emer = any_unless _ ts t _ is.passed.emer (ebi_not_reached e.speed est max t _ none.ebi);
-            indicated = any_unless _ ts t _ is.passed.indicated (not_reached e.speed est max t no_margin _ ahead);
+            each = λ kind. any_unless _ ts t _ (is.passed.each kind)
+                (not_reached e.speed est max t kind (limits_of computed d e t) (none.each kind));
             covered = all_where (is_covered_for d max e) ts t _ is.passed.covered
                 (covered_yet d e est max t t.kind (is_met_by_speed t.kind (v_bec_for d e t) (foot_speed_of t)) none);
           };
@@ -181,7 +181,7 @@ module _ {d : TrainAndTrack} {e : Estimate} {est max : ℤ} {ts : List Target} {
         warn ≡ is_lt (nat_cmp s.warning v) → (IsTrue pw ↔ (l.warning.at <ℤ front)) →
         serv ≡ is_lt (nat_cmp s.sbi v) → (IsTrue ps ↔ (l.sbi.at <ℤ front)) →
         indicated ≡ is_lt (nat_cmp s.permitted v) →
-        emer ≡ (p.triggers.emer || passes_ebi e.speed est max 0 t (limits_of computed d e t).ebi) →
+        emer ≡ (p.triggers.emer || passes Ebi e.speed est max 0 t (limits_of computed d e t)) →
         covered ≡ (p.covered && is_covered_for d max e t) →
         IsSaid d e est max (ts ++ t ∷ []) (record {
           triggers = record {
@@ -194,21 +194,36 @@ module _ {d : TrainAndTrack} {e : Estimate} {est max : ℤ} {ts : List Target} {
           covered = covered;
           nearest = Some new;
         })
-    reached_said is_past v over po warn pw serv ps indicated emer covered =
+    reached_said is_past {v} v_is {over} {warn} {serv} {indicated} {po} {pw} {ps} {emer} {covered} over_is po_is warn_is
+        pw_is serv_is ps_is indicated_is emer_is covered_is =
         let permitted = speeds.permitted ∙ ap (at_speed_target t.kind) (omega arith) in
         let reached = sym is_past ∙ past_of tells front_is (λ k. (places k).indication) in
+        let triggers : Triggers = record {
+          over = p.triggers.over || (over && po);
+          warn = p.triggers.warn || (warn && pw);
+          serv = p.triggers.serv || (serv && ps);
+          emer = emer;
+        } in
         record {
           passed = record {
-            over = any_more _ ts t _ is.passed.over _ (λ k. above over permitted v k
-                && past_of po front_is (λ i. (places i).permitted) k);
-            warn = any_more _ ts t _ is.passed.warn _ (λ k. above warn speeds.warning v k
-                && past_of pw front_is (λ i. (places i).warning) k);
-            serv = any_more _ ts t _ is.passed.serv _ (λ k. above serv speeds.sbi v k
-                && past_of ps front_is (λ i. (places i).sbi) k);
-            emer = emer ∙ any_more _ ts t _ is.passed.emer _ refl;
-            indicated = any_more _ ts t _ is.passed.indicated _
-                (sym (and-true _) ∙ (λ k. above indicated permitted v k && reached k));
-            covered = covered ∙ all_more (is_covered_for d max e) ts t _ is.passed.covered _ refl;
+            each = λ kind.
+                elim kind as (λ kind. said_of kind triggers (p.indicated || indicated)
+                ≡ list_any (λ u. passes kind e.speed est max 0 u (limits_of computed d e u)) (ts ++ t ∷ [])) [
+                  | Ebi ↦ emer_is ∙ any_more _ ts t _ (is.passed.each Ebi) _ refl
+                  | Sbi ↦
+                      any_more _ ts t _ (is.passed.each Sbi) _ (λ k. above serv_is speeds.sbi v_is k
+                      && past_of ps_is front_is (λ i. (places i).sbi) k)
+                  | Warning ↦
+                      any_more _ ts t _ (is.passed.each Warning) _ (λ k. above warn_is speeds.warning v_is k
+                      && past_of pw_is front_is (λ i. (places i).warning) k)
+                  | Permitted ↦
+                      any_more _ ts t _ (is.passed.each Permitted) _ (λ k. above over_is permitted v_is k
+                      && past_of po_is front_is (λ i. (places i).permitted) k)
+                  | Indication ↦
+                      any_more _ ts t _ (is.passed.each Indication) _
+                      (sym (and-true _) ∙ (λ k. above indicated_is permitted v_is k && reached k))
+                ];
+            covered = covered_is ∙ all_more (is_covered_for d max e) ts t _ is.passed.covered _ refl;
           };
           nearest = near;
         }

@@ -13,50 +13,38 @@ use Rattle.std.specs.List.{list_any}
 use Rattle.std.specs.Option.{option_map_or}
 use Rattle.sdm_num.specs.Fractions.{Fraction, whole}
 use Rattle.sdm_num.specs.Units.{notches}
-use Rattle.sdm_rules.specs.declared.display.LimitName.{LimitName}
-use Rattle.sdm_rules.specs.declared.display.LimitName.TheVariants.{Permitted, Sbi, Ebi}
+use Rattle.sdm_rules.specs.declared.limits.LimitKind.{LimitKind}
+use Rattle.sdm_rules.specs.declared.limits.LimitKind.TheVariants.{Ebi, Sbi, Warning, Permitted, Indication}
 use Rattle.sdm_rules.specs.declared.targets.Target.{Target}
 use Rattle.sdm_num.specs.Readings.{OdometerReading, estimate_of}
 use Rattle.sdm_rules.specs.Data.{TrainAndTrack}
 use Rattle.sdm_rules.specs.Display.{counting_target, distance_to, earlier_target, first_least, shown_target}
-use Rattle.sdm_rules.specs.Limits.{SupervisionLimits, computed, limits_of}
+use Rattle.sdm_rules.specs.Limits.{SupervisionLimits, computed, limit_in, limits_of}
+use Rattle.sdm_rules.specs.Margins.{margin_of}
 use Rattle.sdm_rules.specs.Targets.{at_speed_target, target_speed, with_margin}
 use Rattle.sdm_rules.specs.Triggers.{Situation, front_for, is_past, passes}
 use Rattle.sdm_braking.specs.declared.speeds.SpeedLimits.{SpeedLimits}
-use Rattle.sdm_braking.specs.KeptCurves.{AreSpeedsOf}
+use Rattle.sdm_braking.specs.KeptCurves.{AreSpeedsOf, speed_in}
 use Rattle.sdm_supervisor.specs.declared.shown.Counting.{Counting}
-use Rattle.sdm_supervisor.specs.Sights.{IsCounting, limit_named, margin_of, passes_target, speed_named}
-use Rattle.sdm_supervisor.proofs.PassedLaws.{any_more, at_least}
+use Rattle.sdm_supervisor.specs.Sights.{IsCounting}
+use Rattle.sdm_supervisor.proofs.PassedLaws.{any_more, at_least, passes_there}
 
 -- the speed that is kept is the target's with the margin
-pub speed_is : (name : LimitName) (t : Target) (s : SpeedLimits) → AreSpeedsOf t s →
-    speed_named name s ≡ with_margin (margin_of name) t
-speed_is Permitted t s is = is.permitted ∙ ap (at_speed_target t.kind) (omega arith)
-speed_is Sbi t s is = is.sbi
+pub speed_is : (kind : LimitKind) (t : Target) (s : SpeedLimits) → AreSpeedsOf t s →
+    speed_in kind s ≡ with_margin (margin_of kind) t
 speed_is Ebi t s is = is.ebi
+speed_is Sbi t s is = is.sbi
+speed_is Warning t s is = is.warning
+speed_is Permitted t s is = is.permitted ∙ ap (at_speed_target t.kind) (omega arith)
+speed_is Indication t s is = is.permitted ∙ ap (at_speed_target t.kind) (omega arith)
 
-module _ (v : ℕ) (est max : ℤ) (t : Target) where
-  -- up to the target's speed with the margin it isn't passed
-  pub not_above : (name : LimitName) (l : SupervisionLimits) → v ≤ with_margin (margin_of name) t →
-      passes_target name v est max t l ≡ false
-  not_above name l within = of_limit (limit_named name l)
-    where
-      of_limit : (x : Option Fraction) → option_map_or (passes v est max 0 (margin_of name) t) x false ≡ false
-      of_limit None = refl
-      of_limit (Some x) = rw (le-ltb (with_margin (margin_of name) t) v within)
-
-  -- above it, it is passed where the front end is past the limit
-  pub above : (name : LimitName) (l : SupervisionLimits) (x : Fraction) → limit_named name l ≡ Some x →
-      with_margin (margin_of name) t < v → passes_target name v est max t l ≡ is_past 0 (front_for est max t.kind) x
-  above name l x is faster =
-      let faster_is : nat_lt (with_margin (margin_of name) t) v ≡ true = grind (arith, nat_tests) in
-      ap (λ y. option_map_or (passes v est max 0 (margin_of name) t) y false) is
-      ∙ ap (λ b. b && is_past 0 (front_for est max t.kind) x) faster_is
-
-  -- a target without this limit isn't passed
-  pub without : (name : LimitName) (l : SupervisionLimits) → limit_named name l ≡ None →
-      passes_target name v est max t l ≡ false
-  without name l is = ap (λ y. option_map_or (passes v est max 0 (margin_of name) t) y false) is
+-- above its speed with the margin a target is passed where the front end is past its limit
+pub above : (v : ℕ) (est max : ℤ) (t : Target) (kind : LimitKind) (l : SupervisionLimits) (x : Fraction) →
+    limit_in kind l ≡ Some x → with_margin (margin_of kind) t < v →
+    passes kind v est max 0 t l ≡ is_past 0 (front_for est max t.kind) x
+above v est max t kind l x is faster =
+    let faster_is : nat_lt (with_margin (margin_of kind) t) v ≡ true = grind (arith, nat_tests) in
+    passes_there v est max t kind l x is ∙ ap (λ b. b && is_past 0 (front_for est max t.kind) x) faster_is
 
 -- where one was passed, one is passed with one more
 pub passed_already : (p : Target → Bool) (ts : List Target) (t : Target) → true ≡ list_any p ts →
@@ -69,8 +57,8 @@ pub passed_now : (p : Target → Bool) (ts : List Target) (t : Target) (so_far b
 passed_now p ts t so_far b none is here = any_more p ts t false (sym none ∙ is) b here
 
 -- no margin makes a target's speed lower
-pub no_slower : (name : LimitName) (v : ℕ) (t : Target) → with_margin (margin_of name) t < v → target_speed t ≤ v
-no_slower name v t faster = omega (arith, at_least t.kind (notches t.speed) (margin_of name t.speed))
+pub no_slower : (kind : LimitKind) (v : ℕ) (t : Target) → with_margin (margin_of kind) t < v → target_speed t ≤ v
+no_slower kind v t faster = omega (arith, at_least t.kind (notches t.speed) (margin_of kind t.speed))
 
 -- ---- what counts
 

@@ -7,12 +7,14 @@ use Rattle.std.specs.declared.cmp.Ordering.TheVariants.{Less, Equal, Greater}
 use Rattle.std.proofs.Math.Bool.{or-false, or_comm}
 use Rattle.std.proofs.lemmas.Bool.{le-ltb, ltb-false}
 use Rattle.sdm_num.specs.Units.{notches}
+use Rattle.sdm_rules.specs.declared.limits.LimitKind.{LimitKind}
+use Rattle.sdm_rules.specs.declared.limits.LimitKind.TheVariants.{Ebi, Sbi, Warning, Permitted}
 use Rattle.sdm_rules.specs.declared.targets.Target.{Target}
 use Rattle.sdm_rules.specs.Limits.{SupervisionLimits}
-use Rattle.sdm_rules.specs.Margins.{ebi_margin, sbi_margin, warning_margin}
-use Rattle.sdm_rules.specs.Triggers.{Situation, above_ceiling, above_release, no_margin, some_ebi_passed, some_passed}
-use Rattle.sdm_rules.specs.Triggers.{triggers_of}
+use Rattle.sdm_rules.specs.Margins.{margin_of, no_margin}
+use Rattle.sdm_rules.specs.Triggers.{Situation, above_ceiling, above_release, some_passed, triggers_of}
 use Rattle.sdm_supervisor.specs.declared.verdicts.Verdict.{Verdict}
+use Rattle.sdm_supervisor.specs.Verdicts.{said_of}
 
 -- a speed is above another where the comparison of both answers so
 pub above : {lt : Bool} {x y a b : ℕ} → lt ≡ is_lt (nat_cmp x y) → x ≡ a → y ≡ b → lt ≡ nat_lt a b
@@ -28,25 +30,25 @@ module _ (s : Situation) where
   abbrev pub with_ceiling : Verdict → Verdict
   with_ceiling v = record v {
     triggers = record {
-      over = v.triggers.over || above_ceiling s no_margin;
-      warn = v.triggers.warn || above_ceiling s warning_margin;
-      serv = v.triggers.serv || above_ceiling s sbi_margin;
-      emer = v.triggers.emer || above_ceiling s ebi_margin;
+      over = v.triggers.over || above_ceiling Permitted s;
+      warn = v.triggers.warn || above_ceiling Warning s;
+      serv = v.triggers.serv || above_ceiling Sbi s;
+      emer = v.triggers.emer || above_ceiling Ebi s;
     };
   }
 
   -- no margin makes the ceiling lower
-  pub no_ceiling : above_ceiling s no_margin ≡ false → (v : Verdict) → v ≡ with_ceiling v
+  pub no_ceiling : above_ceiling Permitted s ≡ false → (v : Verdict) → v ≡ with_ceiling v
   no_ceiling within v =
-      let none = λ (margin : ℕ → ℕ) (b : Bool). sym (or-false b)
-      ∙ (λ i. b || sym (le-ltb (notches s.ceiling_kmh + margin s.ceiling_kmh) s.speed
+      let none = λ (kind : LimitKind) (b : Bool). sym (or-false b)
+      ∙ (λ i. b || sym (le-ltb (notches s.ceiling_kmh + margin_of kind s.ceiling_kmh) s.speed
       (omega (arith, ltb-false (notches s.ceiling_kmh + no_margin s.ceiling_kmh) s.speed within))) i) in
       λ k. record v {
         triggers = record {
-          over = none no_margin v.triggers.over k;
-          warn = none warning_margin v.triggers.warn k;
-          serv = none sbi_margin v.triggers.serv k;
-          emer = none ebi_margin v.triggers.emer k;
+          over = none Permitted v.triggers.over k;
+          warn = none Warning v.triggers.warn k;
+          serv = none Sbi v.triggers.serv k;
+          emer = none Ebi v.triggers.emer k;
         };
       }
 
@@ -67,18 +69,15 @@ module _ (s : Situation) where
 
   -- all of that triggers as the profile says
   pub triggers_are : (limits : Target → SupervisionLimits) (v : Verdict) →
-      v.triggers.over ≡ some_passed s 0 no_margin (λ t. (limits t).permitted) →
-      v.triggers.warn ≡ some_passed s 0 warning_margin (λ t. (limits t).warning) →
-      v.triggers.serv ≡ some_passed s 0 sbi_margin (λ t. (limits t).sbi) →
-      v.triggers.emer ≡ some_ebi_passed s 0 (λ t. (limits t).ebi) →
+      ((kind : LimitKind) → said_of kind v.triggers v.indicated ≡ some_passed kind limits 0 s) →
       (with_end (with_release (with_ceiling v))).triggers ≡ triggers_of limits 0 s
   unfolding triggers_of
-  triggers_are limits v over warn serv emer = λ k. record {
-    over = or_comm (over k) (above_ceiling s no_margin) k || above_release s;
-    warn = or_comm (warn k) (above_ceiling s warning_margin) k;
-    serv = or_comm (serv k) (above_ceiling s sbi_margin) k;
-    emer = in_order (or_comm (emer k) (above_ceiling s ebi_margin) k) (above_release s) s.past_end
-        (or_comm (serv k) (above_ceiling s sbi_margin) k && not s.in_use) k;
+  triggers_are limits v each = λ k. record {
+    over = or_comm (each Permitted k) (above_ceiling Permitted s) k || above_release s;
+    warn = or_comm (each Warning k) (above_ceiling Warning s) k;
+    serv = or_comm (each Sbi k) (above_ceiling Sbi s) k;
+    emer = in_order (or_comm (each Ebi k) (above_ceiling Ebi s) k) (above_release s) s.past_end
+        (or_comm (each Sbi k) (above_ceiling Sbi s) k && not s.in_use) k;
   }
     where
       in_order : (a r e x : Bool) → ((a || r) || (e || x)) ≡ (((a || e) || r) || x)

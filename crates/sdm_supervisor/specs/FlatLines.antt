@@ -1,7 +1,7 @@
 -- A line of `flat` by its values, and their ranges (own).
 use Rattle.std.specs.Prelude.{ℕ, ℤ, pos, negsuc, ◌≤◌, ◌≤ℤ◌}
 use Rattle.sdm_num.specs.Units.{place_of_mm, notches_of_mm_s}
-use Rattle.sdm_rules.specs.Flat.{FlatLine}
+use Rattle.sdm_formats.specs.Flat.{FlatLine}
 
 -- a line by its three values: ds, grains, notches
 abbrev pub line_at : ℕ → ℤ → ℕ → FlatLine

@@ -3,3 +3,4 @@ pub mod Verdicts
 pub mod Supervised
 pub mod FlatLines
 pub mod Flats
+pub mod FlatLaws

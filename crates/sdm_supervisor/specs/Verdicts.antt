@@ -1,5 +1,5 @@
 -- What the targets of a reading say together, in the profile's own words (SUBSET-026-3 3.13.10; own).
-use Rattle.std.specs.Prelude.{◌≡◌, ℕ, ℤ, pos, neg_ℤ, ◌+ℤ◌, List, Option, Some, None, option_map}
+use Rattle.std.specs.Prelude.{◌≡◌, ℕ, ℤ, pos, neg_ℤ, ◌+ℤ◌, Bool, List, Option, Some, None, option_map}
 use Rattle.std.specs.Int.{int_min}
 use Rattle.std.specs.List.{list_all, list_any}
 use Rattle.std.specs.Option.{option_map_or}
@@ -7,13 +7,15 @@ use Rattle.sdm_num.specs.Bounds.{mm_below}
 use Rattle.sdm_num.specs.Readings.{Estimate, estimate_of}
 use Rattle.sdm_num.specs.Units.{distance_at}
 use Rattle.sdm_rules.specs.declared.data.Times.{Times}
+use Rattle.sdm_rules.specs.declared.commands.Triggers.{Triggers}
+use Rattle.sdm_rules.specs.declared.limits.LimitKind.{LimitKind}
+use Rattle.sdm_rules.specs.declared.limits.LimitKind.TheVariants.{Ebi, Sbi, Warning, Permitted, Indication}
 use Rattle.sdm_rules.specs.declared.targets.Target.{Target}
 use Rattle.sdm_rules.specs.Data.{TrainAndTrack}
 use Rattle.sdm_rules.specs.Limits.{SupervisionLimits, computed, limits_of}
-use Rattle.sdm_rules.specs.Margins.{sbi_margin, warning_margin}
 use Rattle.sdm_rules.specs.Reaction.{reaction_times, warning_time}
 use Rattle.sdm_rules.specs.Supervision.{is_covered_for, shown_limit}
-use Rattle.sdm_rules.specs.Triggers.{is_indicated, no_margin, passes, passes_ebi, triggers_of}
+use Rattle.sdm_rules.specs.Triggers.{is_indicated, passes, triggers_of}
 use Rattle.sdm_limits.specs.declared.limits.Limits.{Limits}
 use Rattle.sdm_supervisor.specs.declared.nearest.Nearest.{Nearest}
 use Rattle.sdm_supervisor.specs.declared.verdicts.Verdict.{Verdict}
@@ -25,17 +27,19 @@ nearer None y = y
 nearer (Some x) None = Some x
 nearer (Some x) (Some y) = Some (int_min x y)
 
+-- what triggers and an indication say of the limit of a kind (SUBSET-026-3 3.13.10; own)
+abbrev pub said_of : LimitKind → Triggers → Bool → Bool
+said_of Ebi triggers indicated = triggers.emer
+said_of Sbi triggers indicated = triggers.serv
+said_of Warning triggers indicated = triggers.warn
+said_of Permitted triggers indicated = triggers.over
+said_of Indication triggers indicated = indicated
+
 -- which limits of targets are passed, by an estimate with the estimated and the max safe front end, and whether each
 -- target is covered (SUBSET-026-3 3.13.10.4; own)
 pub record ArePassed (d : TrainAndTrack) (e : Estimate) (est max : ℤ) (ts : List Target) (v : Verdict) : Type 0 where
-  pub over : v.triggers.over
-      ≡ list_any (λ t. passes e.speed est max 0 no_margin t (limits_of computed d e t).permitted) ts
-  pub warn : v.triggers.warn
-      ≡ list_any (λ t. passes e.speed est max 0 warning_margin t (limits_of computed d e t).warning) ts
-  pub serv : v.triggers.serv ≡ list_any (λ t. passes e.speed est max 0 sbi_margin t (limits_of computed d e t).sbi) ts
-  pub emer : v.triggers.emer ≡ list_any (λ t. passes_ebi e.speed est max 0 t (limits_of computed d e t).ebi) ts
-  pub indicated : v.indicated
-      ≡ list_any (λ t. passes e.speed est max 0 no_margin t (limits_of computed d e t).indication) ts
+  pub each : (kind : LimitKind) → said_of kind v.triggers v.indicated
+      ≡ list_any (λ t. passes kind e.speed est max 0 t (limits_of computed d e t)) ts
   pub covered : v.covered ≡ list_all (is_covered_for d max e) ts
 
 -- the nearest EBI, where there is one (own)

@@ -3,14 +3,15 @@
 ghost use Rattle.std.specs.Prelude.{◌≡◌, ◌≤◌, ℕ, None, Some, ◌||◌, ◌&&◌, nat_lt, int_lt, IsTrue, IfOk, IfErr, OnErr};
 ghost use Rattle.sdm_num.specs.Units.{notches_of_mm_s};
 ghost use Rattle.sdm_rules.specs.Records.{time_fault};
-ghost use Rattle.sdm_rules.specs.Flat.{KeepsFlatOrder, StopsByFlatEnd, after_flat_line, flat_opening, flat_row};
 ghost use Rattle.sdm_rules.specs.Ranges.{longest_track};
+ghost use Rattle.sdm_formats.specs.Flat.{KeepsFlatOrder, StopsByFlatEnd, after_flat_line, flat_opening, flat_row};
 ghost use Rattle.sdm_supervisor.specs.Flats.{ebi_mm, flat_map};
 ghost use Rattle.sdm_supervisor.specs.FlatLines.{IsFlatLine, line_at};
 
 use sdm_curve::{BandMap, Curve, CurveFault};
+use sdm_formats::FlatRow;
 use sdm_num::{Early, NoMemory, Place, Speed};
-use sdm_rules::{CycleFault, FlatRow};
+use sdm_rules::CycleFault;
 use std::alloc::Global;
 use std::marker::Model;
 
@@ -26,7 +27,7 @@ pub struct Flat {
 }
 
 impl Model for Flat {
-    ghost use Rattle.sdm_rules.specs.Flat.{FlatSupervision};
+    ghost use Rattle.sdm_formats.specs.Flat.{FlatSupervision};
     ghost use Rattle.sdm_supervisor.specs.Flats.{IsFlatCurve};
 
     ghost Value = { FlatSupervision };

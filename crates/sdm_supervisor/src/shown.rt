@@ -1,26 +1,16 @@
-//! What is shown of a sight: the limits that the train would pass at another speed, and the target that counts. Both
-//! walk the targets as a reading does.
+//! What is shown of a sight: the limits that the train would pass at another speed, and the target that counts.
 
-ghost use Rattle.std.specs.Prelude.{◌≡◌, ◌≤◌, ◌++◌, ◌∷◌, ◌+◌, ◌&&◌, [], false, List, nat_lt};
-ghost use Rattle.std.specs.Option.{option_map_or};
-ghost use Rattle.sdm_num.specs.Fractions.{Fraction};
-ghost use Rattle.sdm_num.specs.Units.{notches};
-ghost use Rattle.sdm_rules.specs.declared.targets.Target.{Target as TargetOf};
-ghost use Rattle.sdm_rules.specs.Display.{passes_limit, shown_target};
-ghost use Rattle.sdm_rules.specs.Limits.{computed, limits_of};
+ghost use Rattle.std.specs.Prelude.{◌≡◌, ◌≤◌, ◌&&◌};
+ghost use Rattle.sdm_rules.specs.Display.{counts_release, kind_of, passes_limit, shown_target, situation_at};
 ghost use Rattle.sdm_rules.specs.Ranges.{top_kmh};
-ghost use Rattle.sdm_braking.specs.Asked.{IsAsked};
-ghost use Rattle.sdm_braking.specs.KeptCurves.{IsKeptTarget};
-ghost use Rattle.sdm_limits.specs.Sides.{place_where, places_of};
-ghost use Rattle.sdm_supervisor.specs.Sights.{IsCounting, counts_release, limit_named, margin_of, passes_target};
-ghost use Rattle.sdm_supervisor.specs.Sights.{some_target_passed, speed_named};
+ghost use Rattle.sdm_rules.specs.Triggers.{above_ceiling, above_release};
 
 use crate::sight::Sight;
 use crate::verdicts::front_for;
-use sdm_braking::{AskedEstimate, KeptEnd, KeptTarget, SpeedLimits};
-use sdm_limits::Limits;
-use sdm_num::{Early, Place, Speed};
-use sdm_rules::{LimitName, Shown};
+use crate::walks::Walk;
+use sdm_braking::{AskedEstimate, KeptTarget, SpeedLimits};
+use sdm_num::{Place, Speed};
+use sdm_rules::{LimitKind, LimitName, Shown};
 use sdm_targets::Target;
 
 /// The target that counts so far, with its permitted limit. (own)
@@ -30,92 +20,98 @@ pub struct Counting {
     pub permitted: Place,
 }
 
-/// The speed above which a limit of this name is passed.
-fn speed_named(speeds: &SpeedLimits, name: LimitName) -> Speed
-    ensures { result ≡ speed_named name speeds.now }
+/// Which supervision limit is told as a speed.
+fn kind_of(name: LimitName) -> LimitKind
+    ensures { result ≡ kind_of name }
 {
     match name {
-        LimitName::Permitted => speeds.permitted,
-        LimitName::Sbi => speeds.sbi,
-        LimitName::Ebi => speeds.ebi,
+        LimitName::Permitted => LimitKind::Permitted,
+        LimitName::Sbi => LimitKind::Sbi,
+        LimitName::Ebi => LimitKind::Ebi,
     }
 }
 
-/// The limit of this name, where there is one.
-fn limit_named(limits: &Limits, name: LimitName) -> Option<Early>
-    ensures { place_where result ≡ limit_named name (places_of limits.now) }
-{
-    match name {
-        LimitName::Permitted => Some(limits.permitted),
-        LimitName::Sbi => Some(limits.sbi),
-        LimitName::Ebi => limits.ebi,
+/// Asks targets whether one of them is passed by its limit of a kind. (own)
+#[derive(Drop)]
+struct Passing {
+    kind: LimitKind,
+}
+
+impl Walk for Passing {
+    ghost use Rattle.std.specs.Prelude.{◌≡◌};
+    ghost use Rattle.sdm_supervisor.specs.Sights.{some_target_passed};
+
+    type Found = bool;
+
+    ghost is_found = { λ p seen e ts passed. passed ≡ some_target_passed p.kind seen e ts };
+
+    fn meet(&self, sight: &Sight<'_>, asked: &AskedEstimate, kept: &KeptTarget, found: &mut bool) {
+        if *found || asked.estimate.speed() <= kept.speeds.speed(self.kind) {
+            return;
+        }
+        if let Some(limit) = sight.braking.limits(asked, kept).limit(self.kind) {
+            *found = limit.is_passed_by(front_for(sight.reading, kept.target.kind));
+        }
     }
 }
 
-impl<'a> Sight<'a> {
+/// Asks targets for the one that counts. (own)
+#[derive(Drop)]
+struct Choosing;
+
+impl Walk for Choosing {
+    ghost use Rattle.sdm_rules.specs.Limits.{computed, limits_of};
+    ghost use Rattle.sdm_supervisor.specs.Sights.{IsCounting};
+
+    type Found = Option<Counting>;
+
+    ghost is_found = { λ c seen e ts counting.
+        IsCounting (λ t. (limits_of computed seen.train_and_track e t).permitted) e.speed ts counting };
+
+    /// The target that counted so far goes on counting, or this one does, where its permitted limit is earlier; one
+    /// that is as fast as the train doesn't count. (own)
+    fn meet(
+        &self,
+        sight: &Sight<'_>,
+        asked: &AskedEstimate,
+        kept: &KeptTarget,
+        found: &mut Option<Counting>,
+    ) {
+        if asked.estimate.speed() <= kept.speeds.permitted {
+            return;
+        }
+        let permitted = sight.braking.limits(asked, kept).permitted.at();
+        let is_earlier = match &*found {
+            Some(counting) => permitted.grains() < counting.permitted.grains(),
+            None => true,
+        };
+        if !is_earlier {
+            return;
+        }
+        *found = Some(Counting {
+            target: kept.target,
+            permitted,
+        });
+    }
+}
+
+impl Sight<'_> {
     /// Whether a speed is above the ceiling with the margin of a limit. (SUBSET-026-3 3.13.10.3)
-    fn is_above_ceiling(&self, name: LimitName, v: Speed) -> bool
-        ensures { let ceiling = self.now.situation.ceiling_kmh in
-            result ≡ nat_lt (notches ceiling + margin_of name ceiling) v }
+    fn is_above_ceiling(&self, kind: LimitKind, v: Speed) -> bool
+        ensures { result ≡ above_ceiling kind (situation_at v self.now.situation) }
     {
         // No margin makes the ceiling lower.
-        Speed::of_kmh(self.ceiling_kmh) < v
-            && speed_named(&SpeedLimits::of_kmh(self.ceiling_kmh), name) < v
+        Speed::of_kmh(self.ceiling_kmh) < v && SpeedLimits::of_kmh(self.ceiling_kmh).speed(kind) < v
     }
 
     /// Whether the release speed counts as the limit, and a speed is above it. (SUBSET-026-3 3.13.10.5)
     fn is_above_release(&self, name: LimitName, v: Speed) -> bool
-        ensures { result ≡ option_map_or (λ kmh. counts_release name && nat_lt (notches kmh) v)
-            self.now.situation.release false }
+        ensures { result ≡ (counts_release name && above_release (situation_at v self.now.situation)) }
     {
         match (name, self.release_kmh) {
             (LimitName::Permitted | LimitName::Ebi, Some(kmh)) => Speed::of_kmh(kmh) < v,
             (LimitName::Sbi, _) | (_, None) => false,
         }
-    }
-
-    /// Whether one more target is passed by a limit, or one of those before it was. (SUBSET-026-3 3.13.10.4; own)
-    fn is_passed_with(
-        &self,
-        so_far: bool,
-        name: LimitName,
-        asked: &AskedEstimate,
-        kept: &KeptTarget,
-    ) -> bool
-        requires asked { IsAsked self.now.train_and_track asked.now }
-        requires kept { IsKeptTarget self.now.train_and_track kept.now }
-        ensures { (ts : List TargetOf) →
-            so_far ≡ some_target_passed name self.now asked.now.estimate ts →
-            result ≡ some_target_passed name self.now asked.now.estimate (ts ++ kept.now.target ∷ []) }
-    {
-        if so_far || asked.estimate.speed() <= speed_named(&kept.speeds, name) {
-            return so_far;
-        }
-        match limit_named(&self.braking.limits(asked, kept), name) {
-            Some(limit) => limit.is_passed_by(front_for(self.reading, kept.target.kind)),
-            None => false,
-        }
-    }
-
-    /// Whether some target is passed by a limit. (SUBSET-026-3 3.13.10.4; own)
-    fn is_some_passed(&self, name: LimitName, asked: &AskedEstimate) -> bool
-        requires { IsAsked self.now.train_and_track asked.now }
-        ensures { result ≡ some_target_passed name self.now asked.now.estimate self.now.situation.targets }
-    {
-        let mut passed = false;
-        for i in 0..self.falls.len() {
-            passed = self.is_passed_with(passed, name, asked, self.falls.target(i));
-        }
-        match self.end {
-            KeptEnd::Stop { eoa, svl } => {
-                if self.release_kmh.is_none() {
-                    passed = self.is_passed_with(passed, name, asked, eoa);
-                    passed = self.is_passed_with(passed, name, asked, svl);
-                }
-            }
-            KeptEnd::Limit { loa } => passed = self.is_passed_with(passed, name, asked, loa),
-        }
-        passed
     }
 
     /// Whether the train would pass a limit at a speed in km/h, at most 500, in place of the reading's, all else as in
@@ -127,65 +123,14 @@ impl<'a> Sight<'a> {
         ensures { result ≡ passes_limit self.now.train_and_track self.now.reading self.now.situation name kmh }
     {
         let v = Speed::of_kmh(kmh);
-        if self.is_above_ceiling(name, v) || self.is_above_release(name, v) {
+        let kind = kind_of(name);
+        if self.is_above_ceiling(kind, v) || self.is_above_release(name, v) {
             return true;
         }
         let asked = self.braking.asked(self.reading.estimate().with_speed(v));
-        self.is_some_passed(name, &asked)
-    }
-
-    /// What counts with one more target behind the others: the target that counted so far, or this one where its
-    /// permitted limit is earlier; one that is as fast as the train doesn't count. (own)
-    fn counting(
-        &self,
-        asked: &AskedEstimate,
-        so_far: Option<Counting>,
-        kept: &KeptTarget,
-    ) -> Option<Counting>
-        requires asked { IsAsked self.now.train_and_track asked.now }
-        requires kept { IsKeptTarget self.now.train_and_track kept.now }
-        ensures { (ts : List TargetOf) → let e = asked.now.estimate in
-            let limit : TargetOf → Fraction = λ t. (limits_of computed self.now.train_and_track e t).permitted in
-            IsCounting limit e.speed ts so_far → IsCounting limit e.speed (ts ++ kept.now.target ∷ []) result }
-    {
-        if asked.estimate.speed() <= kept.speeds.permitted {
-            return so_far;
-        }
-        let permitted = self.braking.limits(asked, kept).permitted.at();
-        let is_earlier = match &so_far {
-            Some(counting) => permitted.grains() < counting.permitted.grains(),
-            None => true,
-        };
-        if !is_earlier {
-            return so_far;
-        }
-        Some(Counting {
-            target: kept.target,
-            permitted,
-        })
-    }
-
-    /// What counts of all targets. (own)
-    fn counted(&self, asked: &AskedEstimate) -> Option<Counting>
-        requires { IsAsked self.now.train_and_track asked.now }
-        ensures { let e = asked.now.estimate in
-            IsCounting (λ t. (limits_of computed self.now.train_and_track e t).permitted) e.speed
-            self.now.situation.targets result }
-    {
-        let mut counting = None;
-        for i in 0..self.falls.len() {
-            counting = self.counting(asked, counting, self.falls.target(i));
-        }
-        match self.end {
-            KeptEnd::Stop { eoa, svl } => {
-                if self.release_kmh.is_none() {
-                    counting = self.counting(asked, counting, eoa);
-                    counting = self.counting(asked, counting, svl);
-                }
-            }
-            KeptEnd::Limit { loa } => counting = self.counting(asked, counting, loa),
-        }
-        counting
+        let mut passed = false;
+        self.walk(&Passing { kind }, &asked, &mut passed);
+        passed
     }
 
     /// The target that counts: of those that are slower than the train the first whose permitted limit is least, with
@@ -194,7 +139,9 @@ impl<'a> Sight<'a> {
         ensures { result ≡ shown_target self.now.train_and_track self.now.reading self.now.situation }
     {
         let asked = self.braking.asked(self.reading.estimate());
-        let Counting { target, .. } = self.counted(&asked)?;
+        let mut counting = None;
+        self.walk(&Choosing, &asked, &mut counting);
+        let Counting { target, .. } = counting?;
         Some(Shown {
             kind: target.kind,
             distance: target.place.mm_past(front_for(self.reading, target.kind)),

@@ -59,7 +59,7 @@ pub struct Supervisor {
 
 impl Model for Supervisor {
     ghost use Rattle.std.specs.Coded.{codes};
-    ghost use Rattle.sdm_rules.specs.Codes.{coded_restrictions};
+    ghost use Rattle.sdm_speed.specs.Codes.{coded_restrictions};
     ghost use Rattle.sdm_rules.specs.Supervision.{Supervision};
     ghost use Rattle.sdm_supervisor.specs.Supervised.{IsSupervisorOf};
 

@@ -10,7 +10,8 @@ ghost use Rattle.sdm_supervisor.specs.Verdicts.{IsSaid, IsVerdictOf};
 
 use crate::nearest::Nearest;
 use crate::sight::Sight;
-use sdm_braking::{AskedEstimate, Braking, KeptEnd, KeptTarget};
+use crate::walks::Walk;
+use sdm_braking::{AskedEstimate, Braking, KeptTarget};
 use sdm_ceiling::Margins;
 use sdm_num::{Place, Reading, Speed};
 use sdm_rules::Triggers;
@@ -47,6 +48,30 @@ pub fn front_for(reading: &Reading, kind: TargetKind) -> Place
     match kind {
         TargetKind::Eoa => reading.est_mm(),
         TargetKind::Svl | TargetKind::Mrsp | TargetKind::Loa => reading.max_mm(),
+    }
+}
+
+/// Asks targets what they say. (own)
+#[derive(Drop)]
+struct Judging;
+
+impl Walk for Judging {
+    ghost use Rattle.sdm_supervisor.specs.Verdicts.{IsSaid};
+
+    type Found = Verdict;
+
+    ghost is_found = { λ j seen e ts said.
+        IsSaid seen.train_and_track e seen.situation.est seen.situation.front ts said };
+
+    #[inline(always)]
+    fn meet(
+        &self,
+        sight: &Sight<'_>,
+        asked: &AskedEstimate,
+        kept: &KeptTarget,
+        found: &mut Verdict,
+    ) {
+        found.add(sight.braking, asked, sight.reading, kept);
     }
 }
 
@@ -95,25 +120,13 @@ impl Verdict {
         }
     }
 
-    /// What is said of a sight. In release speed monitoring the EOA and the SvL are no targets. (SUBSET-026-3 3.13.10;
-    /// own)
+    /// What is said of a sight. (SUBSET-026-3 3.13.10; own)
     pub fn of(sight: &Sight<'_>) -> Verdict
         ensures { IsVerdictOf sight.now result }
     {
         let asked = sight.braking.asked(sight.reading.estimate());
         let mut said = NOTHING_SAID;
-        for i in 0..sight.falls.len() {
-            said.add(sight.braking, &asked, sight.reading, sight.falls.target(i));
-        }
-        match sight.end {
-            KeptEnd::Stop { eoa, svl } => {
-                if sight.release_kmh.is_none() {
-                    said.add(sight.braking, &asked, sight.reading, eoa);
-                    said.add(sight.braking, &asked, sight.reading, svl);
-                }
-            }
-            KeptEnd::Limit { loa } => said.add(sight.braking, &asked, sight.reading, loa),
-        }
+        sight.walk(&Judging, &asked, &mut said);
         let v_est = sight.reading.speed_mm_s();
         // V_est > V_MRSP + dV, where no margin dV makes the ceiling lower (SUBSET-026-3 3.13.10.3)
         let v_mrsp = Speed::of_kmh(sight.ceiling_kmh);

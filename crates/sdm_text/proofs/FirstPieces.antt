@@ -6,8 +6,8 @@ use Rattle.std.proofs.lemmas.Grind.{get_or_default_zero}
 use Rattle.std.proofs.lemmas.List.Splits.{slice_split_first, slice_split_none}
 use Rattle.std.proofs.lemmas.List.Sums.{position_or_len_is}
 use Rattle.std.specs.List.{position_or_len}
+use Rattle.sdm_formats.specs.Lines.{comma_fields, ended_lines}
 use Rattle.memchr.specs.Find.{IsFirstByte, is_byte}
-use Rattle.sdm_rules.specs.Lines.{comma_fields, ended_lines}
 
 not_true : (b : Bool) → (b ≡ true → ⊥) → b ≡ false
 not_true true is = absurd (is refl)

@@ -11,7 +11,7 @@ use Rattle.std.proofs.lemmas.Int.Digits.{digits_value_more}
 use Rattle.std.specs.Char.{digit_value, is_ascii_digit}
 use Rattle.std.specs.List.{list_all}
 use Rattle.std.specs.Str.Parse.{digits_value}
-use Rattle.sdm_rules.specs.Numbers.{is_digits, most_digits, number_of}
+use Rattle.sdm_formats.specs.Numbers.{is_digits, most_digits, number_of}
 use Rattle.sdm_text.specs.FirstNumbers.{BeginsWithNumber}
 use Rattle.sdm_text.proofs.FirstPieces.{found_field}
 use Rattle.sdm_text.proofs.NumberFields.{no_comma}

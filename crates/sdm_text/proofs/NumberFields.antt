@@ -6,8 +6,8 @@ use Rattle.std.proofs.lemmas.Option.{cond_some}
 use Rattle.std.specs.Char.{is_ascii_digit}
 use Rattle.std.specs.List.{list_all}
 use Rattle.std.specs.Str.Parse.{digits_value}
-use Rattle.sdm_rules.specs.Lines.{comma_fields}
-use Rattle.sdm_rules.specs.Numbers.{is_digits, number_of}
+use Rattle.sdm_formats.specs.Lines.{comma_fields}
+use Rattle.sdm_formats.specs.Numbers.{is_digits, number_of}
 
 -- a digit is no comma
 pub no_comma : (c : ℕ) → is_ascii_digit c ≡ true → eqb c 44 ≡ false

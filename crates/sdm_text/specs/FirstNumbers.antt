@@ -1,7 +1,7 @@
 -- The number of the first field of a line (own).
 use Rattle.std.specs.Prelude.{◌≡◌, ◌≢◌, ℕ, ℤ, List, ◌∷◌, Ok, Some}
-use Rattle.sdm_rules.specs.Lines.{comma_fields}
-use Rattle.sdm_rules.specs.Numbers.{number_of, read_int}
+use Rattle.sdm_formats.specs.Lines.{comma_fields}
+use Rattle.sdm_formats.specs.Numbers.{number_of, read_int}
 
 -- a comma ends the line's first field, which writes this number; `after` is the line after the comma
 pub record BeginsWithNumber (line : List ℕ) (number : ℤ) (after : List ℕ) : Type 0 where

@@ -2,12 +2,12 @@
 //! line tells them.
 
 ghost use Rattle.std.specs.Prelude.{◌≡◌, map, option_map};
-ghost use Rattle.sdm_rules.specs.FaultLines.{key_name, key_names};
+ghost use Rattle.sdm_formats.specs.FaultLines.{key_name, key_names};
 
 use sdm_rules::{Section, keys};
 
 /// The names of a section's keys, in the order of their numbers, which count from 1. (own)
-#[tactic(auto, unfolding(sdm_rules::specs::FaultLines::key_names))]
+#[tactic(auto, unfolding(sdm_formats::specs::FaultLines::key_names))]
 pub fn key_names(section: Section) -> &'static [&'static str]
     ensures { map (λ name. name.now) result.now ≡ key_names section }
 {

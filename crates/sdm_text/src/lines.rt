@@ -2,7 +2,7 @@
 
 ghost use Rattle.std.specs.Prelude.{◌≡◌, ◌+◌, ◌<◌, ◌∷◌, [], IfSome, IfNone, length};
 ghost use Rattle.std.specs.Io.BufRead.{strip_last};
-ghost use Rattle.sdm_rules.specs.Lines.{comma_fields, ended_lines};
+ghost use Rattle.sdm_formats.specs.Lines.{comma_fields, ended_lines};
 
 use memchr::memchr;
 

@@ -4,8 +4,8 @@
 ghost use Rattle.std.specs.Prelude.{◌≡◌, ◌^◌, ◌-◌, ◌<◌, ◌≤◌, ◌≤ℤ◌, pos, false, true, IfOk, IfErr, IfSome, IfNone};
 ghost use Rattle.std.specs.Prelude.{Some, None, if◌then◌else◌};
 ghost use Rattle.std.specs.Str.Parse.{digits_value};
+ghost use Rattle.sdm_formats.specs.Numbers.{is_digits, most_digits, read_int};
 ghost use Rattle.sdm_text.specs.FirstNumbers.{BeginsWithNoNumberIn, BeginsWithNumber, BeginsWithNumberIn};
-ghost use Rattle.sdm_rules.specs.Numbers.{is_digits, most_digits, read_int};
 
 use crate::lines::split_field;
 use sdm_rules::FieldFault;
@@ -21,7 +21,7 @@ pub(crate) const ZERO: u64 = b'0' as u64;
 /// (own)
 // In line, with what it calls, the loop over records reads its seven numbers a reading with no call.
 #[inline(always)]
-#[tactic(auto, unfolding(sdm_rules::specs::Numbers::read_int))]
+#[tactic(auto, unfolding(sdm_formats::specs::Numbers::read_int))]
 pub fn read_int(field: &[u8], lo: i64, hi: i64) -> Result<i64, FieldFault>
     ensures value { result ≡ read_int field.now lo hi }
     ensures range { IfOk result (λ n. (lo ≤ℤ n) × (n ≤ℤ hi)) }
@@ -82,7 +82,7 @@ fn magnitude(digits: &[u8]) -> Option<u64>
 /// The number of the first field of a line, from `least` to `greatest`, and the line after the comma that ends the
 /// field; none where no comma does, or the field is refused. Digits are read as they are passed over. (own)
 #[inline(always)]
-#[tactic(auto, unfolding(sdm_rules::specs::Numbers::read_int))]
+#[tactic(auto, unfolding(sdm_formats::specs::Numbers::read_int))]
 pub fn split_number(line: &[u8], least: i64, greatest: i64) -> Option<(i64, &[u8])>
     ensures some { IfSome result (λ cut. BeginsWithNumberIn line.now least greatest cut.0 cut.1.now) }
     ensures range { IfSome result (λ cut. (least ≤ℤ cut.0) × (cut.0 ≤ℤ greatest)) }

@@ -3,7 +3,7 @@
 
 ghost use Rattle.std.specs.Prelude.{◌≡◌, ◌+◌, ◌≤◌, ◌++◌, length, decimal, Some, None, IfOk, if◌then◌else◌};
 ghost use Rattle.std.specs.Str.Parse.{digits_value};
-ghost use Rattle.sdm_rules.specs.Numbers.{is_digits_of, most_wide_digits, read_wide};
+ghost use Rattle.sdm_formats.specs.Numbers.{is_digits_of, most_wide_digits, read_wide};
 
 use crate::numbers::ZERO;
 use crate::rows::{ROW_BYTES, RowBuf};
@@ -15,7 +15,7 @@ const MOST_WIDE_DIGITS: usize = 38;
 
 /// The wide number of a field, up to `hi`. Leading zeros are accepted. The field is NotNumber where it isn't 1 to 38
 /// digits, and OutOfRange where its number is above `hi`. (own)
-#[tactic(auto, unfolding(sdm_rules::specs::Numbers::read_wide))]
+#[tactic(auto, unfolding(sdm_formats::specs::Numbers::read_wide))]
 pub fn read_wide(field: &[u8], hi: u128) -> Result<u128, FieldFault>
     ensures value { result ≡ read_wide field.now hi }
     ensures range { IfOk result (λ n. n ≤ hi) }

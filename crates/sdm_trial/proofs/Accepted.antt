@@ -12,7 +12,7 @@ use Rattle.sdm_rules.specs.Cells.{lowest}
 use Rattle.sdm_rules.specs.Data.{TrainAndTrack}
 use Rattle.sdm_rules.specs.Decelerations.{a_gradient, track_gradient, slope_at, slope_under}
 use Rattle.sdm_rules.specs.Opening.{IsAccepted, IsAcceptedKind}
-use Rattle.sdm_rules.specs.Trial.{trial_authority, trial_train_and_track, trial_train, trial_track}
+use Rattle.sdm_formats.specs.Trial.{trial_authority, trial_train_and_track, trial_train, trial_track}
 
 -- ---- the gradients
 

@@ -9,7 +9,7 @@ use Rattle.std.proofs.lemmas.List.Sums.{fold_push}
 use Rattle.std.specs.Prelude.{length, unwrap_or, unsigned_abs}
 use Rattle.std.specs.Int.{int_rem_euclid}
 use Rattle.sdm_rules.specs.declared.rows.Row.{Row}
-use Rattle.sdm_rules.specs.Trial.{ebi_sum}
+use Rattle.sdm_formats.specs.Trial.{ebi_sum}
 use Rattle.sdm_trial.specs.Summaries.{Counts, counts_of}
 
 -- a whole number is a natural once enough of the modulus is added

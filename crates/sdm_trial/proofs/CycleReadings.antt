@@ -5,7 +5,7 @@ use Rattle.sdm_rules.specs.declared.authorities.Authority.{Authority}
 use Rattle.sdm_rules.specs.Data.{TrainAndTrack}
 use Rattle.sdm_rules.specs.Records.{time_fault}
 use Rattle.sdm_rules.specs.Supervision.{Supervision, after_reading, opening}
-use Rattle.sdm_rules.specs.Trial.{reading_in_cycle}
+use Rattle.sdm_formats.specs.Trial.{reading_in_cycle}
 
 -- after the reading of a cycle that of the next is not too early
 pub next_in_time : (s : Supervision) (seed i : ℕ) →

@@ -8,8 +8,8 @@ use Rattle.sdm_rules.specs.declared.records.Event.TheVariants as record_kinds
 use Rattle.sdm_rules.specs.Records.{Journey, Turn, event_at, go_on, journey_from, most_records, rows_of, step}
 use Rattle.sdm_rules.specs.Records.{time_fault}
 use Rattle.sdm_rules.specs.Supervision.{Supervision, after_reading, opening}
-use Rattle.sdm_rules.specs.Trial.{reading_in_cycle, reading_record, readings_from, trial_authority, trial_journey}
-use Rattle.sdm_rules.specs.Trial.{trial_train_and_track}
+use Rattle.sdm_formats.specs.Trial.{reading_in_cycle, reading_record, readings_from, trial_authority, trial_journey}
+use Rattle.sdm_formats.specs.Trial.{trial_train_and_track}
 use Rattle.sdm_trial.proofs.CycleReadings.{first_in_time, next_in_time}
 
 -- the turn of a reading

@@ -2,7 +2,7 @@
 use Rattle.std.proofs.Common.{◌≡◌, refl}
 use Rattle.std.specs.Prelude.{None}
 use Rattle.sdm_rules.specs.Ranges.{train_fault, national_fault, track_fault, gradients_fault, speeds_fault, areas_fault}
-use Rattle.sdm_rules.specs.Trial.{trial_national, trial_track, trial_train}
+use Rattle.sdm_formats.specs.Trial.{trial_national, trial_track, trial_train}
 
 pub train_accepted : train_fault 2 trial_train ≡ None
 unfolding train_fault

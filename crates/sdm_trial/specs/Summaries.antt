@@ -2,7 +2,7 @@
 use Rattle.std.specs.Prelude.{ℕ, ℤ, pos, List, count_by, length}
 use Rattle.std.specs.Int.{int_rem_euclid}
 use Rattle.sdm_rules.specs.declared.rows.Row.{Row}
-use Rattle.sdm_rules.specs.Trial.{ebi_sum}
+use Rattle.sdm_formats.specs.Trial.{ebi_sum}
 
 -- how many rows there are, how many of them are covered or have a brake commanded, and the sum of the EBI places in
 -- mm, modulo 10^9

@@ -3,18 +3,16 @@
 
 ghost use Rattle.std.specs.Prelude.{◌≡◌, ◌≤◌, ℕ, None, IfOk, length};
 ghost use Rattle.sdm_rules.specs.Opening.{IsAccepted};
-ghost use Rattle.sdm_rules.specs.Trial.{trial_authority, trial_journey, trial_train_and_track, trial_national};
-ghost use Rattle.sdm_rules.specs.Trial.{trial_track, trial_train};
 ghost use Rattle.sdm_rules.specs.Records.{most_records, rows_of};
+ghost use Rattle.sdm_formats.specs.Trial.{trial_authority, trial_journey, trial_train_and_track, trial_national};
+ghost use Rattle.sdm_formats.specs.Trial.{trial_track, trial_train};
 ghost use Rattle.sdm_data.specs.Given.{train_and_track_of};
 
 use sdm_data::JourneyData;
+use sdm_formats::{BASE_BAND, BASE_NATIONAL};
 use sdm_national::National;
 use sdm_num::NoMemory;
-use sdm_rules::{
-    Authority, BASE_BAND, BASE_NATIONAL, Band, Gradient, MOST_BANDS, NationalFields, SpeedStep,
-    TrainFields,
-};
+use sdm_rules::{Authority, Band, Gradient, MOST_BANDS, NationalFields, SpeedStep, TrainFields};
 use sdm_track::Track;
 use sdm_train::Train;
 use std::alloc::Global;

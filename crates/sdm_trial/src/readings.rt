@@ -2,12 +2,12 @@
 //! from both.
 
 ghost use Rattle.std.specs.Prelude.{◌≡◌, ◌≤◌, suc, IfSome, IfNone, OnSome};
-ghost use Rattle.sdm_rules.specs.Trial.{next_number, reading_by, reading_in_cycle};
 ghost use Rattle.sdm_rules.specs.Records.{most_records};
+ghost use Rattle.sdm_formats.specs.Trial.{next_number, reading_by, reading_in_cycle};
 ghost use Rattle.sdm_trial.specs.Made.{TakesCycle};
 
+use sdm_formats::next_number;
 use sdm_num::Reading;
-use sdm_rules::next_number;
 use std::marker::Model;
 
 /// The readings of a trial, one after the other.
@@ -24,7 +24,7 @@ pub struct Readings {
 impl Model for Readings {
     ghost use Rattle.std.specs.Prelude.{◌≡◌, ◌≤◌, ◌+◌};
     ghost use Rattle.sdm_rules.specs.Records.{most_records};
-    ghost use Rattle.sdm_rules.specs.Trial.{number_at};
+    ghost use Rattle.sdm_formats.specs.Trial.{number_at};
     ghost use Rattle.sdm_trial.specs.Made.{MadeReadings};
 
     ghost Value = { MadeReadings };

@@ -3,8 +3,8 @@
 ghost use Rattle.std.specs.Prelude.{◌≡◌, ◌<◌, ◌≤◌, ◌+◌, suc, ◌+ℤ◌, pos, List, [], ◌∷◌, ◌++◌, length};
 ghost use Rattle.std.specs.Int.{int_rem_euclid};
 ghost use Rattle.sdm_rules.specs.declared.rows.Row.{Row};
-ghost use Rattle.sdm_rules.specs.Trial.{summary_text};
 ghost use Rattle.sdm_rules.specs.Records.{most_records};
+ghost use Rattle.sdm_formats.specs.Trial.{summary_text};
 ghost use Rattle.sdm_trial.specs.Summaries.{counts_of};
 
 use sdm_report::fields::put_count_line;

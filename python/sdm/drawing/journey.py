@@ -2,7 +2,8 @@
 counted.
 
 The input is read by tools/model, and the curves are the model's; the rows are those that are handed in. Units change
-here: a reading has m, km/h and s; zones keep the track's cm, so that their borders are whole numbers. """
+here: a reading has m, km/h and s; zones keep the track's cm, so that their borders are whole numbers.
+"""
 
 import collections
 import math

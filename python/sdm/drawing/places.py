@@ -1,7 +1,8 @@
 """The upper panel: speed over place, as the figures of SUBSET-026-3 3.13 show it, and the strip of the track below it.
 
 Each series has a dash and a mark of its own beside its colour. A mark of the train has the colour of its status, so
-that the upper panel and the strips are read together. """
+that the upper panel and the strips are read together.
+"""
 
 import math
 from collections.abc import Callable, Iterable

@@ -1,7 +1,8 @@
 """The lower panel: state, status and commands, a strip each.
 
 The strips lie over time and not over place, since a train that stands has many readings at one place. The labels of
-their axis tell both. """
+their axis tell both.
+"""
 
 from . import certificate, display
 from .values import Journey, Reading

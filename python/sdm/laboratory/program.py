@@ -2,7 +2,8 @@
 
 Scripts and tools take `crates/sdm/out/sdm`, and only where its mark, `sdm.sources` beside it, has the checksum of these
 sources and that of the program. `scripts/program` writes the mark when the program was built. A program that is named
-by `--program` is taken as it is. """
+by `--program` is taken as it is.
+"""
 import argparse
 import hashlib
 import os

@@ -1,8 +1,8 @@
 //! The clauses say of all values which are accepted and what is kept. Here the ranges stand as rows worked by hand, so
 //! that the definitions are tested too.
 
+use sdm_formats::BASE_NATIONAL;
 use sdm_national::{National, NationalFault, NationalFields};
-use sdm_rules::BASE_NATIONAL;
 
 fn key_refused(avadh: i64, adhesion_max: i64) -> Option<u8> {
     match National::new(NationalFields {

@@ -2,11 +2,11 @@
 //! in.
 
 use crate::tests::words::{fields, natural, number};
+use sdm_formats::{At, DataFault, DriveCause};
 use sdm_report::{EventCause, InputFault, Outcome, outcome_bytes, row_bytes};
 use sdm_rules::{
-    At, AuthorityFault, DataFault, DriveCause, EventFault, FieldFault, Held, NationalFault,
-    OpenFault, RestrictFault, RevokeFault, Row, Section, SlopeKind, State, Status, TrackFault,
-    TrainFault,
+    AuthorityFault, EventFault, FieldFault, Held, NationalFault, OpenFault, RestrictFault,
+    RevokeFault, Row, Section, SlopeKind, State, Status, TrackFault, TrainFault,
 };
 use sdm_text::RowBuf;
 

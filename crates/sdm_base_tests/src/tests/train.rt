@@ -1,8 +1,10 @@
 //! The clauses say of all trains which are accepted and what is kept. Here the ranges and the order of the rules stand
 //! as rows worked by hand, so that the definitions are tested too.
 
+use crate::setters::SetByKey;
 use crate::tests::words::number;
-use sdm_rules::{BASE_BAND, BASE_TRAIN, MOST_BANDS};
+use sdm_formats::{BASE_BAND, BASE_TRAIN};
+use sdm_rules::MOST_BANDS;
 use sdm_train::{Band, Train, TrainFields};
 use std::alloc::{AllocError, Global};
 

@@ -1,4 +1,4 @@
--- Exact places at two scales are the same: two walks that don't round end at one place.
+-- Exact places at two scales are the same: curves whose corners aren't rounded stay together.
 use Rattle.std.proofs.Common.{◌≡◌, ℕ, ℤ, pos, ◌*◌, ◌<◌, ◌+ℤ◌, ◌*ℤ◌, ◌≤ℤ◌, arith, refl}
 use Rattle.std.proofs.lemmas.Int.{ints}
 use Rattle.std.proofs.Math.Nat.{mul_comm}
@@ -7,9 +7,10 @@ use Rattle.sdm_num.proofs.Ints.{scale-scale}
 use Rattle.sdm_rules.specs.Slopes.{Slopes, IsUsable}
 use Rattle.sdm_rules.specs.Curves.{as_is, exact_at}
 use Rattle.sdm_laws.proofs.OneBand.CommonSteps.{IsPastBy, past_more}
-use Rattle.sdm_laws.proofs.BrakeCurves.TwoWalks.{IsApartAfter, over, place_near, usable_fair}
+use Rattle.sdm_laws.proofs.OneBand.BothWays.{over}
+use Rattle.sdm_laws.proofs.BrakeCurves.TwoCurves.{IsApartAfter, place_near, usable_fair}
 
--- walks that don't round stay together
+-- curves that aren't rounded stay together
 never_apart : (k v : ℕ) → IsApartAfter k v as_is (λ n. 0)
 never_apart k v = record { later = λ n n' le. omega arith; rounds = λ n x x' h. past_more _ _ _ _ h (omega arith) }
 

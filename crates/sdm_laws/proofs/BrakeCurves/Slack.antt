@@ -11,10 +11,12 @@ use Rattle.sdm_num.proofs.Ints.{scale-+ℤ}
 use Rattle.sdm_num.proofs.Floors.{floor_low, floor_high}
 use Rattle.sdm_num.proofs.Order.{at_most_trans, at_most_in}
 use Rattle.sdm_rules.specs.Slopes.{Slopes, IsUsable, bands_of, most_bands}
-use Rattle.sdm_rules.specs.Curves.{as_is, to_grain, place_at, exact_at, exact, stepped, slack_after, most_slack}
+use Rattle.sdm_rules.specs.Curves.{as_is, to_grain, slack_after, most_slack, place_at, exact_at, exact, stepped}
 use Rattle.sdm_laws.specs.CurveLaws.{slack_of, IsRounded}
 use Rattle.sdm_laws.proofs.OneBand.CommonSteps.{IsPastBy, past_more}
-use Rattle.sdm_laws.proofs.BrakeCurves.TwoWalks.{IsApartAfter, over, place_near, usable_fair}
+use Rattle.sdm_laws.proofs.OneBand.BothWays.{over}
+use Rattle.sdm_laws.proofs.BrakeCurves.TwoCurves.{IsApartAfter, place_near, usable_fair}
+use Rattle.sdm_laws.proofs.BrakeCurves.CurveOrder.{whole_place}
 
 -- rounding down adds less than a grain
 past_floor : (y y' : Fraction) (e : ℕ) → IsPastBy y y' e → IsPastBy y (whole (floor y')) (e + 1)
@@ -52,7 +54,7 @@ slack_rises k n (suc n') e p le =
 over_one : (x : Fraction) → over 1 x ≡ x
 over_one x = let one : 1 * x.m ≡ x.m = omega arith in rw one refl
 
--- the slack is as far as a walk that rounds down is from the exact one
+-- the slack is how far a curve that is rounded down is from the exact one
 slack_apart : (k : ℕ) → 0 < k → IsApartAfter 1 k to_grain (λ n. slack_after k n 0)
 slack_apart k some = record {
   later = λ n n' le. slack_rises k n n' 0 some le;
@@ -65,9 +67,9 @@ place_past : (on : Slopes) (f : ℤ) (w v : ℕ) → IsUsable on →
     (slack_of (bands_of on.uppers))
 place_past on f w v h =
     let fair = usable_fair on h in
-    rw (over_one (to_grain (place_at to_grain on 1 f w (v * v)))) at
+    rw (whole_place on f w (v * v)) (rw (over_one (place_at to_grain on 1 f w (v * v))) at
     (place_near on 1 1 _ to_grain _ (omega arith) (omega arith) fair (slack_apart _ fair.some) f w (v * v) (v * v)
-    (omega arith))
+    (omega arith)))
 
 -- ---- the numbers
 

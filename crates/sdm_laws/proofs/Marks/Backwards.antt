@@ -2,9 +2,8 @@
 -- lost on it, and its end is within a curve, so is its beginning. Were the beginning past the curve, the arc of the
 -- curve between the two squares would cover the whole way and more, and use more energy than is lost.
 use Rattle.std.proofs.Common.{◌≡◌, ℕ, ℤ, pos, neg_ℤ, ◌+◌, ◌-◌, ◌*◌, ◌<◌, ◌≤◌, ◌+ℤ◌, ◌*ℤ◌, ◌≤ℤ◌, ◌<ℤ◌, unsigned_abs}
-use Rattle.std.proofs.Common.{ap, arith, inl, inr}
+use Rattle.std.proofs.Common.{ap, arith}
 use Rattle.std.proofs.lemmas.Int.{ints, by_lt_z}
-use Rattle.std.proofs.lemmas.Bool.{cases_lt}
 use Rattle.std.proofs.Math.Nat.{mul-pos}
 use Rattle.sdm_num.specs.Units.{centimetre}
 use Rattle.sdm_num.specs.Fractions.{Fraction, IsAtMost, IsBefore, whole}
@@ -16,79 +15,13 @@ use Rattle.sdm_rules.specs.Slopes.{Slopes, IsUsable}
 use Rattle.sdm_rules.specs.Curves.{cell_at, cell_start, grain_energy, exact_at}
 use Rattle.sdm_rules.specs.Motion.{HasPart, IsInBand}
 use Rattle.sdm_laws.specs.Energy.{energy}
-use Rattle.sdm_laws.specs.MotionLaws.{HasBandPart, IsWithinCurve}
-use Rattle.sdm_laws.proofs.OneBand.Totals.{total-zero, total_at_least}
+use Rattle.sdm_laws.specs.MotionLaws.{IsWithinCurve}
+use Rattle.sdm_laws.proofs.OneBand.Totals.{total_at_least}
 use Rattle.sdm_laws.proofs.OneBand.Cells.{cell_low, cell_high, start_finer}
 use Rattle.sdm_laws.proofs.OneBand.Energy.{IsPositive, energy-add, energy_at_least}
 use Rattle.sdm_laws.proofs.OneBand.CommonSteps.{steps_of_at_most, steps_of_before}
-use Rattle.sdm_laws.proofs.OneBand.Arcs.{Arc, arc_none, arc_joined}
-use Rattle.sdm_laws.proofs.BrakeCurves.Chains.{Chain, arrived, along, chain_falls}
-use Rattle.sdm_laws.proofs.BrakeCurves.CurveChains.{ArePositive, exact_chain}
-use Rattle.sdm_laws.proofs.Moving.Braking.{AreRising, same_band}
-
--- ---- one arc in one band
-
--- an arc with no energy has no length, so it is one in every band
-arc_standing : (on : Slopes) (s b band c : ℕ) (y x : Fraction) → IsPositive on b → c ≡ 0 → Arc on s b y x c →
-    Arc on s band y x c
-arc_standing on s b band c y x some none h =
-    let n = h.n in
-    let start = pos h.is.from *ℤ y.n in
-    let low = energy_at_least on b (s * n) 1 h.is.d start some in
-    let used : 27 * energy on b (s * n) start h.is.d ≡ n * 0 = rw none at h.is.is.used in
-    let still : h.is.d ≡ 0 = omega arith in
-    let distance = h.is.is.distance in
-    let no_way = total-zero (λ k. on.slope band (cell_at (s * n) (start +ℤ pos k))) in
-    record {
-      n = n;
-      is = record {
-        from = h.is.from;
-        to = h.is.to;
-        d = 0;
-        positive = h.is.positive;
-        from_is = h.is.from_is;
-        to_is = h.is.to_is;
-        is = record { distance = omega (arith, ints); used = rw none (omega (arith, no_way)) };
-      };
-    }
-
--- a chain between two squares of one band is one arc in it
-band_arc : (on : Slopes) (s band : ℕ) (y x : Fraction) (u w : ℕ) → 0 < s → ArePositive on → AreRising on.uppers →
-    IsInBand on s band u → IsInBand on s band w → Chain on s y u x w → Arc on s band y x (grain_energy on (u - w))
-band_arc on s band _ _ _ _ s_pos positive rising in_u in_w (arrived y u y_pos) =
-    let none : u - u ≡ 0 = omega arith in
-    let no_energy : grain_energy on 0 ≡ 0 = omega arith in
-    rw (none, no_energy) (arc_none on s band y y_pos)
-band_arc on s band _ _ _ _ s_pos positive rising in_u in_w (along b y x z u v w b_u b_v le arc rest) =
-    let w_le = chain_falls on s x z v w rest in
-    let low = in_w.above in
-    let in_v : IsInBand on s band v = record {
-      known = in_u.known;
-      above = omega arith;
-      below = λ lt. (let high = in_u.below lt in omega arith);
-    } in
-    let here : Arc on s band y x (grain_energy on (u - v)) =
-    elim (cases_lt v u) [
-      | inl lt ↦ (
-          let part : HasBandPart on s b v u = record {
-            low = v;
-            high = u;
-            in_low = b_v;
-            in_high = b_u;
-            from = omega arith;
-            apart = lt;
-            to = omega arith;
-          } in
-          let e : b ≡ band = same_band on s band b u v rising in_u in_v part in
-          rw e at arc)
-      | inr ge ↦ (
-          let none : u - v ≡ 0 = omega arith in
-          arc_standing on s b band (grain_energy on (u - v)) y x (positive b b_u.known) (rw none (omega arith)) arc)
-    ] in
-    let further = band_arc on s band x z v w s_pos positive rising in_v in_w rest in
-    let sum : grain_energy on (u - v) + grain_energy on (v - w) ≡ grain_energy on (u - w) =
-    let d : (u - v) + (v - w) ≡ u - w = omega arith in omega (arith, ap (λ (e : ℕ). on.q * e) d) in
-    rw (← sum) (arc_joined on s band y x z _ _ s_pos here further)
+use Rattle.sdm_laws.proofs.OneBand.Arcs.{Arc}
+use Rattle.sdm_laws.proofs.BrakeCurves.CurveLevels.{exact_arc}
 
 -- ---- an arc that covers a way
 
@@ -159,11 +92,10 @@ pub backwards : (on : Slopes) (m : ℕ) (f : ℤ) (w band a : ℕ) (x y : Point)
 backwards on m f w band a x y usable m_pos in_x in_y same forward falls enough within =
     let from = exact_at on m f w x.square in
     let to = exact_at on m f w y.square in
-    let chain = exact_chain on m usable.positive m_pos f w y.square x.square falls in
     by_lt_z from.n (pos from.m *ℤ x.place)
     (λ lt.
     let before : IsBefore from (whole x.place) = record { crossed = omega (arith, ints, lt) } in
-    let arc = band_arc on m band from to x.square y.square m_pos usable.positive usable.rising in_x in_y chain in
+    let arc = exact_arc on m f w band y.square x.square usable m_pos in_y in_x falls in
     let more = arc_covers on m band a _ from to x.place y.place m_pos (usable.positive band in_x.known) arc same
     forward before within in
     absurd (omega (arith, ints, more, enough)))

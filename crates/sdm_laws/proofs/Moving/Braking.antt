@@ -28,7 +28,7 @@ abbrev pub AreRising : List ℕ → Type 0
 AreRising uppers = (i j : ℕ) → i ≤ j → j < length uppers → slice_index uppers i ≤ slice_index uppers j
 
 -- the square of a greater speed is no less, at every scale
-square_rises : (m a b : ℕ) → a ≤ b → m * (a * a) ≤ m * (b * b)
+pub square_rises : (m a b : ℕ) → a ≤ b → m * (a * a) ≤ m * (b * b)
 square_rises m a b h = mul-le-mul_left m (mul-le a a b b h h)
 
 -- no square of a band is above one of a higher band

@@ -18,12 +18,12 @@ use Rattle.sdm_laws.specs.Energy.{energy}
 use Rattle.sdm_laws.specs.MotionLaws.{IsSteepest, IsWithinCurve}
 use Rattle.sdm_laws.proofs.OneBand.Totals.{total_at_most}
 use Rattle.sdm_laws.proofs.OneBand.Cells.{cell_low, cell_high, start_finer}
-use Rattle.sdm_laws.proofs.OneBand.Energy.{energy_at_least}
+use Rattle.sdm_laws.proofs.OneBand.Energy.{ArePositive, energy_at_least}
 use Rattle.sdm_laws.proofs.OneBand.CommonSteps.{factor_left, steps_of_at_most, steps_of_before}
 use Rattle.sdm_laws.proofs.OneBand.Arcs.{Arc, arc_to}
 use Rattle.sdm_laws.proofs.BrakeCurves.Chains.{Chain, arrived, along, arc_at_most, chain_falls, chain_from, chain_to}
 use Rattle.sdm_laws.proofs.BrakeCurves.Chains.{chain_at_most}
-use Rattle.sdm_laws.proofs.BrakeCurves.CurveChains.{ArePositive, exact_chain}
+use Rattle.sdm_laws.proofs.BrakeCurves.CurveOrder.{exact_chain}
 
 -- ---- how long a curve's distance is at least
 
@@ -162,7 +162,7 @@ pub stretch : (on : Slopes) (m : ℕ) (f : ℤ) (w a : ℕ) (x y : Point) → Is
 stretch on m f w a x y usable m_pos a_pos steep brakes within =
     let from = exact_at on m f w x.square in
     let to = exact_at on m f w y.square in
-    let chain = exact_chain on m usable.positive m_pos f w y.square x.square brakes.slower in
+    let chain = exact_chain on m usable m_pos f w y.square x.square brakes.slower in
     by_lt_z to.n (pos to.m *ℤ y.place)
     (λ lt.
     let before : IsBefore to (whole y.place) = record { crossed = omega (arith, ints, lt) } in

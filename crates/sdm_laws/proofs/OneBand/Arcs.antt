@@ -5,12 +5,12 @@ use Rattle.std.proofs.Math.Nat.{mul_comm, mul-le-mul_left, mul-pos, mul-sub}
 use Rattle.sdm_num.specs.Fractions.{Fraction}
 use Rattle.sdm_num.proofs.Ints.{scale-scale}
 use Rattle.sdm_rules.specs.Slopes.{Slopes}
-use Rattle.sdm_rules.specs.Curves.{arc_back, arc_forward, grain_energy}
+use Rattle.sdm_rules.specs.Curves.{arc_back, grain_energy}
 use Rattle.sdm_laws.proofs.OneBand.Energy.{IsPositive, IsEven}
-use Rattle.sdm_laws.proofs.OneBand.Distances.{IsDistance, distance_none, distance_joined, distance_finer}
+use Rattle.sdm_laws.proofs.OneBand.Distances.{IsDistance, distance_joined, distance_finer}
 use Rattle.sdm_laws.proofs.OneBand.Distances.{distance_between_starts}
 use Rattle.sdm_laws.proofs.OneBand.Distances.{distance_between_ends, shifted_back, shifted_forward, shifted_at_most}
-use Rattle.sdm_laws.proofs.OneBand.Walks.{IsBackBy, IsForwardBy, one_times, back-is, forward-is}
+use Rattle.sdm_laws.proofs.OneBand.Walks.{IsBackBy, one_times, back-is}
 use Rattle.sdm_laws.proofs.OneBand.CommonSteps.{IsPastBy, factor_right, same_steps, steps_of_past, past_of_steps}
 
 -- from `y` on to `x` in steps of 1/n grain, of which `from` are one of the steps of `y` and `to` one of those of `x`;
@@ -36,7 +36,7 @@ arc_from on s band y x c h = factor_right h.n h.is.from y.m h.is.positive h.is.f
 pub arc_to : (on : Slopes) (s band : ℕ) (y x : Fraction) (c : ℕ) → Arc on s band y x c → 0 < x.m
 arc_to on s band y x c h = factor_right h.n h.is.to x.m h.is.positive h.is.to_is
 
--- ---- what the walks make
+-- ---- what the walk makes
 
 times_energy : (t m m' c : ℕ) → m' ≡ t * m → t * (m * c) ≡ m' * c
 times_energy t m m' c e = rw e (omega arith)
@@ -57,52 +57,12 @@ arc_of_back on s band x y c x_pos h = record {
   };
 }
 
--- a walk forward that uses up the energy makes an arc from its beginning to its end
-arc_of_forward : (on : Slopes) (s band : ℕ) (x y : Fraction) (c : ℕ) → 0 < x.m → IsForwardBy on s band x y (x.m * c) →
-    Arc on s band x y c
-arc_of_forward on s band x y c x_pos h = record {
-  n = y.m;
-  is = record {
-    from = h.t;
-    to = 1;
-    d = h.d;
-    positive = rw h.finer (mul-pos h.positive x_pos);
-    from_is = h.finer;
-    to_is = omega arith;
-    is = rw (← one_times y.n) (rw (times_energy h.t x.m y.m c h.finer) at h.is);
-  };
-}
-
 -- back to a greater square
 pub arc_back-is : (on : Slopes) (s band change : ℕ) (x : Fraction) → IsPositive on band → 0 < s → 0 < x.m →
     Arc on s band (arc_back on s band x change) x (grain_energy on change)
 unfolding arc_back
 arc_back-is on s band change x some s_pos x_pos =
     arc_of_back on s band x _ _ x_pos (back-is on s band _ x _ some (mul-pos s_pos x_pos) (omega arith))
-
--- forward to a less one
-pub arc_forward-is : (on : Slopes) (s band change : ℕ) (x : Fraction) → IsPositive on band → 0 < s → 0 < x.m →
-    Arc on s band x (arc_forward on s band x change) (grain_energy on change)
-unfolding arc_forward
-arc_forward-is on s band change x some s_pos x_pos =
-    arc_of_forward on s band x _ _ x_pos (forward-is on s band _ x _ some (mul-pos s_pos x_pos) (omega arith))
-
--- with no energy an arc ends where it begins
-pub arc_none : (on : Slopes) (s band : ℕ) (x : Fraction) → 0 < x.m → Arc on s band x x 0
-arc_none on s band x x_pos =
-    let none : x.m * 0 ≡ 0 = omega arith in
-    record {
-      n = x.m;
-      is = record {
-        from = 1;
-        to = 1;
-        d = 0;
-        positive = x_pos;
-        from_is = omega arith;
-        to_is = omega arith;
-        is = rw none (distance_none on band (s * x.m) (pos 1 *ℤ x.n));
-      };
-    }
 
 -- ---- two arcs in common steps
 

@@ -1,6 +1,7 @@
 -- The energy of a distance in one band: distances one after the other add up, in finer steps it is the same multiple,
 -- and with slopes above 0 the longer of two distances uses more.
-use Rattle.std.proofs.Common.{◌≡◌, ℕ, ℤ, pos, ◌+◌, ◌-◌, ◌*◌, ◌<◌, ◌≤◌, ◌+ℤ◌, ◌*ℤ◌, ap, arith, sym, ◌∙◌, inl, inr}
+use Rattle.std.proofs.Common.{◌≡◌, ℕ, ℤ, pos, length, ◌+◌, ◌-◌, ◌*◌, ◌<◌, ◌≤◌, ◌+ℤ◌, ◌*ℤ◌, ap, arith, sym, ◌∙◌}
+use Rattle.std.proofs.Common.{inl, inr}
 use Rattle.std.proofs.lemmas.Int.{ints}
 use Rattle.std.proofs.lemmas.Bool.{cases_lt}
 use Rattle.sdm_rules.specs.Slopes.{Slopes}
@@ -13,6 +14,10 @@ use Rattle.sdm_laws.proofs.OneBand.Totals.{total_at_least}
 -- every slope of the band is above 0
 abbrev pub IsPositive : Slopes → ℕ → Type 0
 IsPositive on band = (c : ℤ) → 0 < on.slope band c
+
+-- every slope of every band is
+abbrev pub ArePositive : Slopes → Type 0
+ArePositive on = (band : ℕ) → band ≤ length on.uppers → IsPositive on band
 
 -- no slope of the band is above `k` times another
 abbrev pub IsEven : Slopes → ℕ → ℕ → Type 0
@@ -104,22 +109,4 @@ no_longer_from_start on band m p d d' some le =
         energy_at_least on band m 1 (d' - d) (p +ℤ pos d) some,
       ))
       | inr ge ↦ ge
-    ]
-
--- the distance to an end that uses less is shorter
-pub shorter_to_end : (on : Slopes) (band m : ℕ) (p p' : ℤ) (d d' : ℕ) → p +ℤ pos d ≡ p' +ℤ pos d' →
-    energy on band m p' d' < energy on band m p d → d' < d
-shorter_to_end on band m p p' d d' ends less =
-    elim (cases_lt d' d) [
-      | inl lt ↦ lt
-      | inr ge ↦ absurd (omega (arith, energy_to_end on band m p' p d' d (sym ends) ge))
-    ]
-
--- so is the distance from a beginning
-pub shorter_from_start : (on : Slopes) (band m : ℕ) (p : ℤ) (d d' : ℕ) → energy on band m p d' < energy on band m p d →
-    d' < d
-shorter_from_start on band m p d d' less =
-    elim (cases_lt d' d) [
-      | inl lt ↦ lt
-      | inr ge ↦ absurd (omega (arith, energy_from_start on band m p d' d ge))
     ]

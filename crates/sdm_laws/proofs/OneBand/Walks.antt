@@ -1,15 +1,14 @@
--- The walks back and forward through the cells of one band use up just the energy that they are asked for: each whole
--- cell takes its share, and the last arc the rest.
+-- The walk back through the cells of one band uses up just the energy that it is asked for: each whole cell takes its
+-- share, and the last arc the rest.
 use Rattle.std.proofs.Common.{◌≡◌, ℕ, ℤ, zero, suc, pos, neg_ℤ, ◌+◌, ◌-◌, ◌*◌, ◌<◌, ◌≤◌, ◌+ℤ◌, ◌*ℤ◌, unsigned_abs, ap}
-use Rattle.std.proofs.Common.{add_comm, arith, rules, refl, ◌∙◌, inl, inr}
+use Rattle.std.proofs.Common.{arith, rules, refl, ◌∙◌, inl, inr}
 use Rattle.std.proofs.lemmas.Int.{ints}
 use Rattle.std.proofs.lemmas.Bool.{cases_lt}
 use Rattle.std.proofs.Math.Nat.{mul-le-mul_left, mul-pos}
-use Rattle.sdm_num.specs.Units.{centimetre}
 use Rattle.sdm_num.specs.Fractions.{Fraction}
 use Rattle.sdm_num.proofs.Ints.{scale-+ℤ}
 use Rattle.sdm_rules.specs.Slopes.{Slopes}
-use Rattle.sdm_rules.specs.Curves.{cell_at, cell_start, back, forward}
+use Rattle.sdm_rules.specs.Curves.{cell_at, cell_start, back}
 use Rattle.sdm_laws.proofs.OneBand.Cells.{IsInCell, cell_low, cell_high, start_finer, in_cell_finer}
 use Rattle.sdm_laws.proofs.OneBand.Energy.{IsPositive}
 use Rattle.sdm_laws.proofs.OneBand.Distances.{IsDistance, distance_none, distance_in_cell, distance_joined}
@@ -24,14 +23,6 @@ pub record IsBackBy (on : Slopes) (s band : ℕ) (x y : Fraction) (r : ℕ) : Ty
   pub finer : y.m ≡ t * x.m
   pub is : IsDistance on band (s * y.m) y.n (pos t *ℤ x.n) d (t * r)
 
--- `y` lies past `x` by such a distance
-pub record IsForwardBy (on : Slopes) (s band : ℕ) (x y : Fraction) (r : ℕ) : Type 0 where
-  pub t : ℕ
-  pub d : ℕ
-  pub positive : 0 < t
-  pub finer : y.m ≡ t * x.m
-  pub is : IsDistance on band (s * y.m) (pos t *ℤ x.n) y.n d (t * r)
-
 steps_finer : (s t m m' : ℕ) → m' ≡ t * m → s * m' ≡ t * (s * m)
 steps_finer s t m m' e = omega (arith, ap (λ (x : ℕ). s * x) e)
 
@@ -45,8 +36,6 @@ whole_and_left t r w lt = let e : (r - w) + w ≡ r = omega arith in omega (arit
 -- each cell uses up at least 1
 fuel_left : (r k g fuel : ℕ) → 0 < k → 0 < g → r ≤ suc fuel → r - k * g ≤ fuel
 fuel_left r k g fuel p q l = omega (arith, mul-le-mul_left k q)
-
--- ---- back
 
 -- the cell before `x`, and the steps from its start to `x`
 abbrev cell_before : ℕ → Fraction → ℤ
@@ -161,117 +150,5 @@ back-is on s band (suc fuel) x r some m_pos le =
         finer = refl;
         is = last_back on band (s * x.m) (s * (k * x.m)) k r g c x.n _
             (rw (steps_finer s k x.m (k * x.m) refl) (mul-pos k_pos m_pos)) (omega arith) refl gap.is gap.to ge refl;
-      })
-    ]
-
--- ---- forward
-
--- the cell at `x`, and the steps from `x` to its end
-abbrev cell_here : ℕ → Fraction → ℤ
-cell_here s x = cell_at (s * x.m) x.n
-
--- the steps from `x` to the end of its cell
-abbrev gap_after : ℕ → Fraction → ℕ
-gap_after s x = unsigned_abs (cell_start (s * x.m) (cell_here s x +ℤ pos 1) +ℤ neg_ℤ x.n)
-
--- `x` lies some steps before the end of its cell
-record GapAfter (s : ℕ) (x : Fraction) : Type 0 where
-  is : cell_start (s * x.m) (cell_here s x +ℤ pos 1) ≡ x.n +ℤ pos (gap_after s x)
-  some : 0 < gap_after s x
-  from : IsInCell (s * x.m) (cell_here s x) x.n
-  to : IsInCell (s * x.m) (cell_here s x) (cell_start (s * x.m) (cell_here s x +ℤ pos 1))
-
-gap_after-is : (s : ℕ) (x : Fraction) → 0 < s * x.m → GapAfter s x
-gap_after-is s x p =
-    let low = cell_low (s * x.m) x.n p in
-    let high = cell_high (s * x.m) x.n p in
-    let end : cell_start (s * x.m) (cell_here s x +ℤ pos 1) ≡ cell_start (s * x.m) (cell_here s x)
-    +ℤ pos ((s * x.m) * centimetre) = rw scale-+ℤ (omega (arith, ints)) in
-    record {
-      is = omega (arith, ints);
-      some = omega (arith, ints);
-      from = record { low = low; high = omega (arith, ints) };
-      to = record { low = omega (arith, ints); high = omega (arith, ints) };
-    }
-
--- the energy is used up in the cell at `x`
-forward_here : (on : Slopes) (s band fuel : ℕ) (x : Fraction) (r : ℕ) →
-    r ≤ (27 * on.slope band (cell_here s x)) * gap_after s x →
-    forward on s band (suc fuel) x r ≡ record {
-      n = pos (27 * on.slope band (cell_here s x)) *ℤ x.n +ℤ pos r;
-      m = (27 * on.slope band (cell_here s x)) * x.m;
-    }
-unfolding forward
-forward_here on s band fuel x r h = search rules
-
--- or more than that cell's is left
-forward_on : (on : Slopes) (s band fuel : ℕ) (x : Fraction) (r : ℕ) →
-    (27 * on.slope band (cell_here s x)) * gap_after s x < r →
-    forward on s band (suc fuel) x r ≡ forward on s band fuel
-    (record { n = cell_start (s * x.m) (cell_here s x +ℤ pos 1); m = x.m })
-    (r - (27 * on.slope band (cell_here s x)) * gap_after s x)
-unfolding forward
-forward_on on s band fuel x r h = search rules
-
--- the last arc; its end is a step of a grid that is `k` times finer
-last_forward : (on : Slopes) (band n n' k r g : ℕ) (c x z y : ℤ) → 0 < n' → n' ≡ k * n → k ≡ 27 * on.slope band c →
-    z ≡ x +ℤ pos g →
-    IsInCell n c x → IsInCell n c z → r ≤ k * g →
-    y ≡ pos k *ℤ x +ℤ pos r → IsDistance on band n' (pos k *ℤ x) y r (k * r)
-last_forward on band n n' k r g c x z y n_pos e k_is gap_is here there r_le y_is =
-    let from = in_cell_finer k n n' c x e here in
-    let end = in_cell_finer k n n' c z e there in
-    let gap = ap (λ (w : ℤ). pos k *ℤ w) gap_is ∙ scale-+ℤ k x (pos g) in
-    let to : IsInCell n' c y =
-    record { low = omega (arith, ints, from.low); high = omega (arith, ints, end.high, gap) } in
-    rw k_is (rw k_is at (distance_in_cell on band n' (pos k *ℤ x) y r c n_pos y_is from to))
-
--- a whole cell's arc, and the walk on from the cell's end
-on_forward : (on : Slopes) (s band : ℕ) (x z y : Fraction) (r g : ℕ) (c : ℤ) → 0 < s * x.m → z.m ≡ x.m →
-    z.n ≡ x.n +ℤ pos g →
-    IsInCell (s * x.m) c x.n → IsInCell (s * x.m) c z.n →
-    (27 * on.slope band c) * g < r → IsForwardBy on s band z y (r - (27 * on.slope band c) * g) →
-    IsForwardBy on s band x y r
-on_forward on s band x z y r g c m_pos m_is gap_is from to lt h =
-    let finer : y.m ≡ h.t * x.m = h.finer ∙ ap (λ (w : ℕ). h.t * w) m_is in
-    let cell = distance_finer on band h.t (s * x.m) (s * y.m) x.n z.n g _ (steps_finer s h.t x.m y.m finer) m_pos
-    (distance_in_cell on band (s * x.m) x.n z.n g c m_pos gap_is from to) in
-    let both = distance_joined on band (s * y.m) (pos h.t *ℤ x.n) (pos h.t *ℤ z.n) y.n (h.t * g) h.d _ _ cell h.is in
-    let whole = add_comm _ _ ∙ whole_and_left h.t r ((27 * on.slope band c) * g) lt in
-    record { t = h.t; d = h.t * g + h.d; positive = h.positive; finer = finer; is = rw whole at both }
-
--- the walk forward uses up the energy that it is asked for
-pub forward-is : (on : Slopes) (s band fuel : ℕ) (x : Fraction) (r : ℕ) → IsPositive on band → 0 < s * x.m → r ≤ fuel →
-    IsForwardBy on s band x (forward on s band fuel x r) r
-unfolding forward
-forward-is on s band zero x r some m_pos le =
-    let none : r ≡ 0 = omega arith in
-    record {
-      t = 1;
-      d = 0;
-      positive = omega arith;
-      finer = omega arith;
-      is =
-          rw none (rw (← one_times x.n) (distance_none on band (s * x.m) x.n));
-    }
-forward-is on s band (suc fuel) x r some m_pos le =
-    let c = cell_here s x in
-    let g = gap_after s x in
-    let k = 27 * on.slope band c in
-    let gap = gap_after-is s x m_pos in
-    let k_pos : 0 < k = omega (arith, some c) in
-    elim (cases_lt (k * g) r) [
-      | inl lt ↦ rw (forward_on on s band fuel x r lt) (on_forward on s band x
-          (record { n = cell_start (s * x.m) (c +ℤ pos 1); m = x.m }) _ r g c m_pos refl gap.is gap.from gap.to lt
-          (forward-is on s band fuel (record { n = cell_start (s * x.m) (c +ℤ pos 1); m = x.m }) (r - k * g) some m_pos
-          (fuel_left r k g fuel k_pos gap.some le)))
-      | inr ge ↦ rw (forward_here on s band fuel x r ge) (record {
-        t = k;
-        d = r;
-        positive = k_pos;
-        finer = refl;
-        is = last_forward on band (s * x.m) (s * (k * x.m)) k r g c x.n (cell_start (s * x.m) (c +ℤ pos 1)) _
-            (rw (steps_finer s k x.m (k * x.m) refl) (mul-pos k_pos m_pos))
-            (omega arith) refl gap.is gap.from gap.to ge refl;
       })
     ]

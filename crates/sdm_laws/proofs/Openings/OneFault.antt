@@ -12,6 +12,8 @@ use Rattle.sdm_rules.specs.Data.{TrainAndTrack}
 use Rattle.sdm_rules.specs.Decelerations.{slope_at}
 use Rattle.sdm_rules.specs.Opening.{IsStrongAt, IsStrong, IsEven, IsRange, IsAcceptedKind, IsFirstWeak, IsFirstVaried}
 use Rattle.sdm_rules.specs.Opening.{AreBefore, IsAccepted, IsOpenFault, variation_of}
+use Rattle.sdm_laws.specs.SupervisionLaws.{LawOfOpening}
+use Rattle.sdm_laws.proofs.Openings.Decided.{decided}
 
 -- two numbers that are neither before the other are one
 one_number : (b b' : ℕ) → (b < b' → ⊥) → (b' < b → ⊥) → b ≡ b'
@@ -188,3 +190,7 @@ one_fault d a (BadAuthority fault) (TooVaried k n l g) (usable, e) (before, (b, 
 one_fault d a (BadAuthority fault) (BadAuthority fault') (usable, e) (usable', e') = cc
 one_fault d a (BadAuthority fault) Memory h h' = absurd h'
 one_fault d a Memory fault' h h' = absurd h
+
+-- of all data and authorities the opening is either accepted or has one first fault
+pub opening_decided : LawOfOpening
+opening_decided d a = record { decided = decided d a; not_both = not_both d a; one_fault = one_fault d a }

@@ -6,6 +6,7 @@ use Rattle.std.proofs.lemmas.Bool.{true≢false, or_parts, ltb-false, leb-false}
 use Rattle.std.specs.Prelude.{◌≢◌, Contains}
 use Rattle.std.specs.List.{list_any}
 use Rattle.std.specs.Option.{option_map_or}
+use Rattle.sdm_rules.specs.declared.limits.LimitKind.TheVariants.{Ebi}
 use Rattle.sdm_rules.specs.declared.targets.Target.{Target}
 use Rattle.sdm_rules.specs.declared.targets.TargetKind.{TargetKind}
 use Rattle.sdm_rules.specs.declared.targets.TargetKind.TheVariants.{Mrsp, Loa, Eoa, Svl}
@@ -14,7 +15,7 @@ use Rattle.sdm_rules.specs.Data.{TrainAndTrack}
 use Rattle.sdm_rules.specs.Margins.{ebi_margin}
 use Rattle.sdm_rules.specs.Targets.{at_speed_target}
 use Rattle.sdm_rules.specs.Limits.{computed, limits_of, limits_of_kind, v_bec_for}
-use Rattle.sdm_rules.specs.Triggers.{front_for, is_past, passes_ebi}
+use Rattle.sdm_rules.specs.Triggers.{front_for, is_past, passes}
 use Rattle.sdm_num.specs.Units.{notches}
 use Rattle.sdm_rules.specs.Supervision.{Supervision, situation_of, is_met_by_speed}
 use Rattle.sdm_laws.specs.SupervisionLaws.{LawOfGaps}
@@ -37,8 +38,8 @@ by_kind : (s : Supervision) (d : TrainAndTrack) (r : OdometerReading) (t : Targe
     0 < r.speed →
     option_map_or (λ ebi. not (is_past 0 r.max ebi) || is_met_by_speed k bec (at_speed_target k m))
     (limits_of_kind computed d (estimate_of r) t k).ebi true ≡ false →
-    option_map_or (λ ebi. nat_lt (at_speed_target k m) r.speed && is_past 0 (front_for r.est r.max k) ebi)
-    (limits_of_kind computed d (estimate_of r) t k).ebi false ≡ false →
+    (nat_lt (at_speed_target k m) r.speed && option_map_or (is_past 0 (front_for r.est r.max k))
+    (limits_of_kind computed d (estimate_of r) t k).ebi false) ≡ false →
     (k ≢ Eoa) × (k ≢ Svl) × (r.speed ≤ at_speed_target k m) × (at_speed_target k m < bec)
 unfolding situation_of
 by_kind s d r t Mrsp m bec p c e = let k =
@@ -54,8 +55,8 @@ pub gaps : LawOfGaps
 unfolding situation_of limits_of
 gaps s r eb moving t is c =
     let now = situation_of s r in
-    let e = any_false (λ u. passes_ebi now.speed now.est now.front 0 u
-    (limits_of computed s.train_and_track (estimate_of r) u).ebi) now.targets t (no_ebi_passed s r eb).1 is in
+    let e = any_false (λ u. passes Ebi now.speed now.est now.front 0 u
+    (limits_of computed s.train_and_track (estimate_of r) u)) now.targets t (no_ebi_passed s r eb).1 is in
     let k = by_kind s s.train_and_track r t t.kind (notches t.speed + ebi_margin t.speed)
     (v_bec_for s.train_and_track (estimate_of r) t) moving c e in
     record { is_speed = (k.0, k.1); slow = k.2; may_gain = k.3 }

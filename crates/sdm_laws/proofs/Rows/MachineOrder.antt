@@ -3,26 +3,29 @@
 -- follow.
 use Rattle.std.proofs.Common.{ℕ, true, false, Option, Some, None}
 use Rattle.std.specs.Prelude.{if◌then◌else◌}
+use Rattle.std.specs.Option.{option_map_or}
 use Rattle.sdm_num.specs.Units.{millimetre, distance_at}
-use Rattle.sdm_num.specs.Fractions.{Fraction}
+use Rattle.sdm_num.specs.Fractions.{Fraction, lesser}
 use Rattle.sdm_rules.specs.declared.data.Times.{Times}
 use Rattle.sdm_rules.specs.declared.data.SlopeKind.{SlopeKind}
 use Rattle.sdm_rules.specs.declared.data.SlopeKind.TheVariants.{Safe, Expected, Normal}
 use Rattle.sdm_rules.specs.Slopes.{IsUsable}
+use Rattle.sdm_rules.specs.declared.limits.LimitKind.{LimitKind}
+use Rattle.sdm_rules.specs.declared.limits.LimitKind.TheVariants.{Ebi, Sbi, Warning, Permitted, Indication}
 use Rattle.sdm_rules.specs.declared.targets.Target.{Target}
 use Rattle.sdm_rules.specs.declared.targets.TargetKind.{TargetKind}
 use Rattle.sdm_rules.specs.declared.targets.TargetKind.TheVariants.{Mrsp, Loa, Eoa, Svl}
 use Rattle.sdm_num.specs.Readings.{OdometerReading, estimate_of}
 use Rattle.sdm_rules.specs.Data.{TrainAndTrack}
-use Rattle.sdm_rules.specs.Limits.{SupervisionLimits, computed, exact_places, limits_from_sbi, limits_of_kind}
+use Rattle.sdm_rules.specs.Limits.{computed, exact_places, limit_in, limits_from_sbi, limits_of_kind}
 use Rattle.sdm_rules.specs.Limits.{limits_of, ebd_limits_of, sbd_limits_of, v_bec_for, d_bec_for, guidance_place}
 use Rattle.sdm_rules.specs.Decelerations.{slopes_of}
 use Rattle.sdm_rules.specs.Targets.{target_speed, foot_speed_of}
-use Rattle.sdm_rules.specs.Reaction.{reaction_times}
+use Rattle.sdm_rules.specs.Reaction.{driver_time, reaction_times}
 use Rattle.sdm_rules.specs.Commands.{commands_after}
 use Rattle.sdm_rules.specs.Supervision.{Supervision, situation_of, commands_in}
 use Rattle.sdm_rules.specs.Machines.{KeepsOrder, held_after, machine_after}
-use Rattle.sdm_laws.proofs.Rows.TriggerOrder.{AreSooner, IsSoonerIfAny, triggers_imply, emergency_implies}
+use Rattle.sdm_laws.proofs.Rows.TriggerOrder.{IsSoonerIfAny, triggers_imply, emergency_implies}
 use Rattle.sdm_laws.specs.SupervisionLaws.{IsJustBefore, AreJustBeforeIfAny, AreLimitsJustBefore}
 use Rattle.sdm_laws.proofs.Rows.Nearness.{less_near, lesser_near, exact_sooner, low_sooner}
 use Rattle.sdm_laws.proofs.BrakeCurves.CurveNearness.{near_on}
@@ -31,26 +34,32 @@ use Rattle.sdm_laws.proofs.BrakeCurves.CurveNearness.{near_on}
 abbrev pub AreUsable : TrainAndTrack → Type 0
 AreUsable d = (kind : SlopeKind) → IsUsable (slopes_of kind d)
 
+-- the lesser of two places, where there is a second one, lies just before the lesser of two others
+guided_near : (guide guide' : Option Fraction) (low x : Fraction) → AreJustBeforeIfAny guide guide' →
+    IsJustBefore low x → IsJustBefore (option_map_or (λ g. lesser g low) guide low)
+    (option_map_or (λ g. lesser g x) guide' x)
+guided_near None None low x g h = h
+guided_near None (Some y) low x g h = absurd g
+guided_near (Some y) None low x g h = absurd g
+guided_near (Some y) (Some z) low x g h = lesser_near y z low x g h
+
 -- limits that are taken from an SBI just before another lie just before the other's
 before_near : (times : Times) (v : ℕ) (guide guide' ebi ebi' : Option Fraction) (sbi sbi' : Fraction) →
     AreJustBeforeIfAny guide guide' → AreJustBeforeIfAny ebi ebi' → IsJustBefore sbi sbi' →
     AreLimitsJustBefore (limits_from_sbi times v guide ebi sbi) (limits_from_sbi times v guide' ebi' sbi')
-before_near times v None None ebi ebi' sbi sbi' g e h = record {
-  ebi = e;
-  sbi = h;
-  warning = less_near sbi sbi' _ h;
-  permitted = less_near sbi sbi' _ h;
-  indication = less_near _ _ _ (less_near sbi sbi' _ h);
-}
-before_near times v None (Some y) ebi ebi' sbi sbi' g e h = absurd g
-before_near times v (Some x) None ebi ebi' sbi sbi' g e h = absurd g
-before_near times v (Some x) (Some y) ebi ebi' sbi sbi' g e h = record {
-  ebi = e;
-  sbi = h;
-  warning = less_near sbi sbi' _ h;
-  permitted = lesser_near x y _ _ g (less_near sbi sbi' _ h);
-  indication = less_near _ _ _ (lesser_near x y _ _ g (less_near sbi sbi' _ h));
-}
+before_near times v guide guide' ebi ebi' sbi sbi' g e h =
+    let permitted = guided_near guide guide' _ _ g (less_near sbi sbi' (distance_at v driver_time) h) in
+    record {
+      each = λ kind.
+          elim kind as (λ k. AreJustBeforeIfAny (limit_in k (limits_from_sbi times v guide ebi sbi))
+          (limit_in k (limits_from_sbi times v guide' ebi' sbi'))) [
+            | Ebi ↦ e
+            | Sbi ↦ h
+            | Warning ↦ less_near sbi sbi' _ h
+            | Permitted ↦ permitted
+            | Indication ↦ less_near _ _ _ permitted
+          ];
+    }
 
 -- the computed place of guidance lies just before the exact one
 guide_near : (d : TrainAndTrack) → AreUsable d → (r : OdometerReading) (t : Target) →
@@ -113,26 +122,6 @@ if_low_sooner None (Some y) h = absurd h
 if_low_sooner (Some x) None h = absurd h
 if_low_sooner (Some x) (Some y) h = low_sooner x y h
 
--- the same of all limits of a target: the exact ones are passed only where the computed ones are
-all_exact_sooner : (x y : SupervisionLimits) → AreLimitsJustBefore x y → AreSooner 0 y 0 x
-all_exact_sooner x y h = record {
-  ebi = if_exact_sooner _ _ h.ebi;
-  sbi = exact_sooner _ _ h.sbi;
-  warning = exact_sooner _ _ h.warning;
-  permitted =
-      exact_sooner _ _ h.permitted;
-}
-
--- and these only where the exact ones, a millimetre earlier, are
-all_low_sooner : (x y : SupervisionLimits) → AreLimitsJustBefore x y → AreSooner 0 x millimetre y
-all_low_sooner x y h = record {
-  ebi = if_low_sooner _ _ h.ebi;
-  sbi = low_sooner _ _ h.sbi;
-  warning = low_sooner _ _ h.warning;
-  permitted =
-      low_sooner _ _ h.permitted;
-}
-
 -- the three machines' commands stay in order over a reading
 pub keeps_order : (s : Supervision) (r : OdometerReading) → AreUsable s.train_and_track →
     KeepsOrder s r (held_after s r)
@@ -141,11 +130,16 @@ keeps_order s r near must may order =
     let now = situation_of s r in
     let low = limits_of computed s.train_and_track (estimate_of r) in
     let exact = limits_of exact_places s.train_and_track (estimate_of r) in
+    let near_to = λ (t : Target) (kind : LimitKind). (limits_near s.train_and_track near r t).each kind in
     record {
       needed = emergency_implies _ _ must s.commands.eb _ _
           (triggers_imply exact low 0 0 now
-          (λ t. all_exact_sooner (low t) (exact t) (limits_near s.train_and_track near r t))) order.needed;
+          (λ t. record {
+            each = λ kind. if_exact_sooner (limit_in kind (low t)) (limit_in kind (exact t)) (near_to t kind);
+          })) order.needed;
       allowed = emergency_implies _ _ s.commands.eb may _ _
           (triggers_imply low exact 0 millimetre now
-          (λ t. all_low_sooner (low t) (exact t) (limits_near s.train_and_track near r t))) order.allowed;
+          (λ t. record {
+            each = λ kind. if_low_sooner (limit_in kind (low t)) (limit_in kind (exact t)) (near_to t kind);
+          })) order.allowed;
     }

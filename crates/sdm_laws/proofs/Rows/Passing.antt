@@ -7,6 +7,7 @@ use Rattle.std.specs.Prelude.{if◌then◌else◌}
 use Rattle.std.proofs.lemmas.Int.{ints}
 use Rattle.std.proofs.lemmas.Nat.{mul-le}
 use Rattle.std.proofs.lemmas.Bool.{true≢false, not-true}
+use Rattle.std.proofs.Math.Bool.{and-false}
 use Rattle.std.proofs.lemmas.Bool.Decides.{nat_tests}
 use Rattle.std.specs.List.{list_any}
 use Rattle.std.specs.Option.{option_map_or}
@@ -19,32 +20,33 @@ use Rattle.sdm_rules.specs.declared.data.SlopeKind.{SlopeKind}
 use Rattle.sdm_rules.specs.declared.data.SlopeKind.TheVariants.{Safe, Expected, Normal}
 use Rattle.sdm_rules.specs.declared.data.Times.{Times}
 use Rattle.sdm_rules.specs.declared.display.LimitName.{LimitName}
-use Rattle.sdm_rules.specs.declared.display.LimitName.TheVariants.{Permitted, Sbi, Ebi}
+use Rattle.sdm_rules.specs.declared.limits.LimitKind.{LimitKind}
+use Rattle.sdm_rules.specs.declared.limits.LimitKind.TheVariants.{Ebi, Sbi, Warning, Permitted, Indication}
 use Rattle.sdm_rules.specs.declared.targets.Target.{Target}
 use Rattle.sdm_rules.specs.declared.targets.TargetKind.{TargetKind}
 use Rattle.sdm_rules.specs.declared.targets.TargetKind.TheVariants.{Mrsp, Loa, Eoa, Svl}
 use Rattle.sdm_rules.specs.Slopes.{IsUsable}
 use Rattle.sdm_rules.specs.Data.{TrainAndTrack, HasBands}
 use Rattle.sdm_rules.specs.Decelerations.{slopes_of}
-use Rattle.sdm_rules.specs.Margins.{ebi_margin, sbi_margin}
+use Rattle.sdm_rules.specs.Margins.{margin_of}
 use Rattle.sdm_rules.specs.Targets.{with_margin, target_speed, foot_speed_of}
 use Rattle.sdm_rules.specs.Reaction.{BuildUp, build_up_from, d_bec, v_bec, v_est_delta0, reaction_times, driver_time}
 use Rattle.sdm_rules.specs.Reaction.{warning_time}
-use Rattle.sdm_rules.specs.Limits.{SupervisionLimits, computed, limits_of, limits_of_kind, limits_from_sbi}
+use Rattle.sdm_rules.specs.Limits.{SupervisionLimits, computed, limits_of, limits_of_kind, limits_from_sbi, limit_in}
 use Rattle.sdm_rules.specs.Limits.{ebd_limits_of, sbd_limits_of, guidance_place, v_bec_for, d_bec_for}
-use Rattle.sdm_rules.specs.Triggers.{Situation, is_past, passes_ebi, some_passed}
-use Rattle.sdm_rules.specs.Triggers.{above_ceiling, above_release, front_for, no_margin}
-use Rattle.sdm_rules.specs.Display.{display_speed, estimate_at, is_passed, passes_limit, situation_at}
+use Rattle.sdm_rules.specs.Triggers.{Situation, above_ceiling, above_release, front_for, is_passed, is_past}
+use Rattle.sdm_rules.specs.Display.{counts_release, display_speed, estimate_at, is_exceeded, kind_of, passes_limit}
+use Rattle.sdm_rules.specs.Display.{situation_at}
 use Rattle.sdm_rules.specs.Supervision.{situation_of}
 use Rattle.sdm_rules.specs.Machines.{Implies}
 use Rattle.sdm_rules.specs.Opening.{HasAcceptedSlopes}
 use Rattle.sdm_laws.specs.SupervisionLaws.{LawOfPassing}
-use Rattle.sdm_laws.proofs.BrakeCurves.SteppedOrder.{stepped_falls}
+use Rattle.sdm_laws.proofs.BrakeCurves.CurveOrder.{stepped_falls}
 use Rattle.sdm_laws.proofs.Openings.AcceptedSlopes.{accepted_usable}
 use Rattle.sdm_laws.proofs.Rows.CalculatedRelease.{greatest_is}
 use Rattle.sdm_laws.proofs.Rows.Nearness.{at_most_sooner, less_order, lesser_order}
 use Rattle.sdm_laws.proofs.Rows.TriggerOrder.{AreSooner, IsSooner, IsSoonerIfAny, same, or_implies, and_implies}
-use Rattle.sdm_laws.proofs.Rows.TriggerOrder.{any_implies, over_implies, serv_implies, some_ebi_implies}
+use Rattle.sdm_laws.proofs.Rows.TriggerOrder.{any_implies, passed_implies}
 
 -- ---- places
 
@@ -95,17 +97,24 @@ way_rises v v' time le = let more = mul-le v time v' time le (omega arith) in om
 
 -- ---- limits
 
--- W and P fall with the speed where the SBI and the guidance place do
+-- W, P and I fall with the speed where the SBI and the guidance place do
 from_sbi_sooner : (times : Times) (v v' : ℕ) (guide guide' ebi ebi' : Option Fraction) (sbi sbi' : Fraction) → v ≤ v' →
     IsAheadIfAny guide' guide → IsSoonerIfAny 0 ebi 0 ebi' → IsAhead sbi' sbi →
     AreSooner 0 (limits_from_sbi times v guide ebi sbi) 0 (limits_from_sbi times v' guide' ebi' sbi')
-from_sbi_sooner times v v' guide guide' ebi ebi' sbi sbi' le guides ebis sbis = record {
-  ebi = ebis;
-  sbi = ahead_sooner sbi' sbi sbis;
-  warning = ahead_sooner _ _ (less_ahead sbi' sbi _ _ (way_rises v v' warning_time le) sbis);
-  permitted = ahead_sooner _ _ (guided_ahead guide guide' _ _ guides
-      (less_ahead sbi' sbi _ _ (way_rises v v' driver_time le) sbis));
-}
+from_sbi_sooner times v v' guide guide' ebi ebi' sbi sbi' le guides ebis sbis =
+    let permitted = guided_ahead guide guide' _ _ guides
+    (less_ahead sbi' sbi _ _ (way_rises v v' driver_time le) sbis) in
+    record {
+      each = λ kind.
+          elim kind as (λ k. IsSoonerIfAny 0 (limit_in k (limits_from_sbi times v guide ebi sbi)) 0
+          (limit_in k (limits_from_sbi times v' guide' ebi' sbi'))) [
+            | Ebi ↦ ebis
+            | Sbi ↦ ahead_sooner sbi' sbi sbis
+            | Warning ↦ ahead_sooner _ _ (less_ahead sbi' sbi _ _ (way_rises v v' warning_time le) sbis)
+            | Permitted ↦ ahead_sooner _ _ permitted
+            | Indication ↦ ahead_sooner _ _ (less_ahead _ _ _ _ (way_rises v v' times.indication le) permitted)
+          ];
+    }
 
 -- D_bec's products rise
 products_rise : (a b c d t u : ℕ) → a ≤ b → c ≤ d → 1_000_000 * (a * t + c * u) ≤ 1_000_000 * (b * t + d * u)
@@ -183,21 +192,14 @@ above_more : (a v v' : ℕ) → v ≤ v' → Implies (nat_lt a v) (nat_lt a v')
 above_more a v v' le e = grind (arith, nat_tests)
 
 module _ (now : Situation) (v v' : ℕ) (le : v ≤ v') where
-  ceiling_more : (margin : ℕ → ℕ) →
-      Implies (above_ceiling (situation_at v now) margin) (above_ceiling (situation_at v' now) margin)
-  ceiling_more margin = above_more (notches now.ceiling_kmh + margin now.ceiling_kmh) v v' le
-
-  some_more : (margin : ℕ → ℕ) (limit : Target → Fraction) →
-      Implies (some_passed (situation_at v now) 0 margin limit) (some_passed (situation_at v' now) 0 margin limit)
-  some_more margin limit = any_implies _ _ now.targets
-      (λ t. and_implies _ _ (is_past 0 (front_for now.est now.front t.kind) (limit t)) _
-      (above_more (with_margin margin t) v v' le) (same _))
-
-  ebi_more : (t : Target) (limit : Option Fraction) →
-      Implies (passes_ebi v now.est now.front 0 t limit) (passes_ebi v' now.est now.front 0 t limit)
-  ebi_more t None = same false
-  ebi_more t (Some limit) = and_implies _ _ (is_past 0 (front_for now.est now.front t.kind) limit) _
-      (above_more (with_margin ebi_margin t) v v' le) (same _)
+  -- the ceiling's limit or some target's is passed
+  passed_more : (limits : Target → SupervisionLimits) (kind : LimitKind) →
+      Implies (is_passed kind limits 0 (situation_at v now)) (is_passed kind limits 0 (situation_at v' now))
+  passed_more limits kind =
+      or_implies _ _ _ _ (above_more (notches now.ceiling_kmh + margin_of kind now.ceiling_kmh) v v' le)
+      (any_implies _ _ now.targets
+      (λ t. and_implies _ _ (option_map_or (is_past 0 (front_for now.est now.front t.kind)) (limit_in kind (limits t))
+      false) _ (above_more (with_margin (margin_of kind) t) v v' le) (same _)))
 
   -- V_rel, where there is one
   release_more : (release : Option ℕ) →
@@ -208,25 +210,17 @@ module _ (now : Situation) (v v' : ℕ) (le : v ≤ v') where
 
   -- the limits stay, and the speed rises
   speed_implies : (limits : Target → SupervisionLimits) (name : LimitName) →
-      Implies (is_passed name limits (situation_at v now)) (is_passed name limits (situation_at v' now))
-  speed_implies limits Permitted =
-      or_implies _ _ _ _ (or_implies _ _ _ _ (ceiling_more no_margin) (some_more no_margin (λ t. (limits t).permitted)))
-      (release_more now.release)
-  speed_implies limits Sbi = or_implies _ _ _ _ (ceiling_more sbi_margin) (some_more sbi_margin (λ t. (limits t).sbi))
-  speed_implies limits Ebi =
-      or_implies _ _ _ _ (or_implies _ _ _ _ (ceiling_more ebi_margin)
-      (any_implies _ _ now.targets (λ t. ebi_more t (limits t).ebi)))
-      (release_more now.release)
+      Implies (is_exceeded name limits (situation_at v now)) (is_exceeded name limits (situation_at v' now))
+  speed_implies limits name =
+      or_implies _ _ _ _ (passed_more limits (kind_of name))
+      (and_implies (counts_release name) _ _ _ (same _) (release_more now.release))
 
 -- the speed stays, and the limits fall
 limits_imply : (f g : Target → SupervisionLimits) (now : Situation) → ((t : Target) → AreSooner 0 (f t) 0 (g t)) →
-    (name : LimitName) → Implies (is_passed name f now) (is_passed name g now)
-limits_imply f g now sooner Permitted = over_implies f g 0 0 now sooner
-limits_imply f g now sooner Sbi = serv_implies f g 0 0 now sooner
-limits_imply f g now sooner Ebi =
-    or_implies _ _ _ _
-    (or_implies _ _ _ _ (same (above_ceiling now ebi_margin)) (some_ebi_implies f g 0 0 now sooner))
-    (same (above_release now))
+    (name : LimitName) → Implies (is_exceeded name f now) (is_exceeded name g now)
+limits_imply f g now sooner name =
+    or_implies _ _ _ _ (passed_implies f g 0 0 now sooner (kind_of name))
+    (same (counts_release name && above_release now))
 
 -- ---- at standstill
 
@@ -239,34 +233,29 @@ or_none a b e e' = rw (e, e')
 and_none : (a b : Bool) → a ≡ false → (a && b) ≡ false
 and_none a b e = rw e
 
+and_none_second : (a b : Bool) → b ≡ false → (a && b) ≡ false
+and_none_second a b e = rw e (and-false a)
+
 any_none : (p : Target → Bool) (ts : List Target) → ((t : Target) → p t ≡ false) → list_any p ts ≡ false
 any_none p [] h = refl
 any_none p (t ∷ ts) h = or_none (p t) _ (h t) (any_none p ts h)
 
 module _ (now : Situation) where
-  some_at_0 : (margin : ℕ → ℕ) (limit : Target → Fraction) → some_passed (situation_at 0 now) 0 margin limit ≡ false
-  some_at_0 margin limit = any_none _ now.targets (λ t. and_none _ _ (none_below_0 (with_margin margin t)))
-
-  ceiling_at_0 : (margin : ℕ → ℕ) → above_ceiling (situation_at 0 now) margin ≡ false
-  ceiling_at_0 margin = none_below_0 (notches now.ceiling_kmh + margin now.ceiling_kmh)
-
-  ebi_at_0 : (t : Target) (limit : Option Fraction) → passes_ebi 0 now.est now.front 0 t limit ≡ false
-  ebi_at_0 t None = refl
-  ebi_at_0 t (Some limit) = and_none _ _ (none_below_0 (with_margin ebi_margin t))
+  passed_at_0 : (limits : Target → SupervisionLimits) (kind : LimitKind) →
+      is_passed kind limits 0 (situation_at 0 now) ≡ false
+  passed_at_0 limits kind =
+      or_none _ _ (none_below_0 (notches now.ceiling_kmh + margin_of kind now.ceiling_kmh))
+      (any_none _ now.targets (λ t. and_none _ _ (none_below_0 (with_margin (margin_of kind) t))))
 
   release_at_0 : (release : Option ℕ) → above_release (record now { speed = 0; release = release }) ≡ false
   release_at_0 None = refl
   release_at_0 (Some kmh) = none_below_0 (notches kmh)
 
   none_at_0 : (limits : Target → SupervisionLimits) (name : LimitName) →
-      is_passed name limits (situation_at 0 now) ≡ false
-  none_at_0 limits Permitted =
-      or_none _ _ (or_none _ _ (ceiling_at_0 no_margin) (some_at_0 no_margin _)) (release_at_0 now.release)
-  none_at_0 limits Sbi = or_none _ _ (ceiling_at_0 sbi_margin) (some_at_0 sbi_margin _)
-  none_at_0 limits Ebi =
-      or_none _ _ (or_none _ _ (ceiling_at_0 ebi_margin)
-      (any_none _ now.targets (λ t. ebi_at_0 t (limits t).ebi)))
-      (release_at_0 now.release)
+      is_exceeded name limits (situation_at 0 now) ≡ false
+  none_at_0 limits name =
+      or_none _ _ (passed_at_0 limits (kind_of name))
+      (and_none_second (counts_release name) _ (release_at_0 now.release))
 
 -- ---- the limits of a reading
 

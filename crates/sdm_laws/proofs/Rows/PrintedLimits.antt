@@ -14,10 +14,12 @@ use Rattle.sdm_num.proofs.Ints.{scale-+ℤ, scale-≤}
 use Rattle.sdm_num.proofs.Floors.{floor_low, floor_high}
 use Rattle.sdm_num.proofs.Order.{at_most_in, at_most_trans, at_most_before, whole_at_most}
 use Rattle.sdm_num.specs.Readings.{estimate_of}
+use Rattle.sdm_rules.specs.declared.limits.LimitKind.{LimitKind}
+use Rattle.sdm_rules.specs.declared.limits.LimitKind.TheVariants.{Ebi, Sbi, Warning, Permitted, Indication}
 use Rattle.sdm_rules.specs.declared.targets.Target.{Target}
 use Rattle.sdm_rules.specs.Curves.{most_slack}
 use Rattle.sdm_rules.specs.Targets.{target_speed}
-use Rattle.sdm_rules.specs.Limits.{computed, exact_places, limits_of}
+use Rattle.sdm_rules.specs.Limits.{computed, exact_places, limit_in, limits_of}
 use Rattle.sdm_rules.specs.Triggers.{Situation}
 use Rattle.sdm_rules.specs.Supervision.{situation_of, row_in, least_of, shown_limit, whole_mm}
 use Rattle.sdm_laws.specs.SupervisionLaws.{IsJustBefore, AreJustBeforeIfAny}
@@ -230,11 +232,12 @@ printed_limits s r o =
     let low = limits_of computed s.train_and_track (estimate_of r) in
     let exact = limits_of exact_places s.train_and_track (estimate_of r) in
     let near = (limits s r o).limits in
+    let printed_of = λ (kind : LimitKind).
+    printed now (λ t. limit_in kind (low t)) (λ t. limit_in kind (exact t)) (λ t. (near t).each kind) in
     record {
-      ebi = printed now (λ t. (low t).ebi) (λ t. (exact t).ebi) (λ t. (near t).ebi);
-      sbi = printed now (λ t. Some (low t).sbi) (λ t. Some (exact t).sbi) (λ t. (near t).sbi);
-      warning = printed now (λ t. Some (low t).warning) (λ t. Some (exact t).warning) (λ t. (near t).warning);
-      permitted = printed now (λ t. Some (low t).permitted) (λ t. Some (exact t).permitted) (λ t. (near t).permitted);
-      indication =
-          printed now (λ t. Some (low t).indication) (λ t. Some (exact t).indication) (λ t. (near t).indication);
+      ebi = printed_of Ebi;
+      sbi = printed_of Sbi;
+      warning = printed_of Warning;
+      permitted = printed_of Permitted;
+      indication = printed_of Indication;
     }

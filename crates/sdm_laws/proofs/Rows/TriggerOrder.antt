@@ -4,15 +4,17 @@
 use Rattle.std.proofs.Common.{ℕ, ℤ, Bool, true, false, ◌||◌, ◌&&◌, not, nat_lt, List, [], ◌∷◌, Option, Some, None, refl}
 use Rattle.std.proofs.lemmas.Bool.{false≢true}
 use Rattle.std.specs.List.{list_any}
+use Rattle.std.specs.Option.{option_map_or}
 use Rattle.sdm_num.specs.Fractions.{Fraction}
 use Rattle.sdm_rules.specs.declared.commands.Triggers.{Triggers}
+use Rattle.sdm_rules.specs.declared.limits.LimitKind.{LimitKind}
+use Rattle.sdm_rules.specs.declared.limits.LimitKind.TheVariants.{Ebi, Sbi, Warning, Permitted}
 use Rattle.sdm_rules.specs.declared.targets.Target.{Target}
-use Rattle.sdm_rules.specs.Limits.{SupervisionLimits}
-use Rattle.sdm_rules.specs.Margins.{ebi_margin, sbi_margin, warning_margin}
+use Rattle.sdm_rules.specs.Limits.{SupervisionLimits, limit_in}
+use Rattle.sdm_rules.specs.Margins.{margin_of}
 use Rattle.sdm_rules.specs.Targets.{with_margin}
-use Rattle.sdm_rules.specs.Triggers.{Situation, is_past, passes_ebi, some_passed, some_ebi_passed, is_over, is_warned}
-use Rattle.sdm_rules.specs.Triggers.{is_service, is_emergency, triggers_of, front_for, no_margin, above_ceiling}
-use Rattle.sdm_rules.specs.Triggers.{above_release}
+use Rattle.sdm_rules.specs.Triggers.{Situation, above_ceiling, above_release, front_for, is_emergency, is_passed}
+use Rattle.sdm_rules.specs.Triggers.{is_past, triggers_of}
 use Rattle.sdm_rules.specs.Commands.{emergency_after, is_released}
 use Rattle.sdm_rules.specs.Machines.{Implies}
 
@@ -28,12 +30,9 @@ IsSoonerIfAny a None b y = Unit {0}
 IsSoonerIfAny a (Some x) b None = ⊥
 IsSoonerIfAny a (Some x) b (Some y) = IsSooner a x b y
 
--- so of each limit that triggers a command
+-- so of each limit
 pub record AreSooner (a : ℕ) (x : SupervisionLimits) (b : ℕ) (y : SupervisionLimits) : Type 0 where
-  pub ebi : IsSoonerIfAny a x.ebi b y.ebi
-  pub sbi : IsSooner a x.sbi b y.sbi
-  pub warning : IsSooner a x.warning b y.warning
-  pub permitted : IsSooner a x.permitted b y.permitted
+  pub each : (kind : LimitKind) → IsSoonerIfAny a (limit_in kind x) b (limit_in kind y)
 
 -- each trigger holds only where the other's does
 pub record TriggersImply (x y : Triggers) : Type 0 where
@@ -73,52 +72,39 @@ any_implies p q (t ∷ ts) h = or_implies (p t) (q t) _ _ (h t) (any_implies p q
 
 module _ (f g : Target → SupervisionLimits) (a b : ℕ) (s : Situation)
     (sooner : (t : Target) → AreSooner a (f t) b (g t)) where
-  -- the front end is past some target's `x`, above its speed with the margin, only where it is past some target's
-  -- `y`
-  some_implies : (margin : ℕ → ℕ) (x y : Target → Fraction) → ((t : Target) → IsSooner a (x t) b (y t)) →
-      Implies (some_passed s a margin x) (some_passed s b margin y)
-  some_implies margin x y h =
-      any_implies _ _ s.targets
-      (λ t. and_implies (nat_lt (with_margin margin t) s.speed) _ _ _ (same _)
-      ((h t).passed (front_for s.est s.front t.kind)))
+  -- the front end is past a target's limit `x` only where it is past `y`
+  past_implies : (front : ℤ) (x y : Option Fraction) → IsSoonerIfAny a x b y →
+      Implies (option_map_or (is_past a front) x false) (option_map_or (is_past b front) y false)
+  past_implies front None y h = λ e. absurd (false≢true e)
+  past_implies front (Some x) None h = absurd h
+  past_implies front (Some x) (Some y) h = h.passed front
 
-  -- it passes a target's EBI `x` only where it passes `y`
-  ebi_implies : (t : Target) (x y : Option Fraction) → IsSoonerIfAny a x b y →
-      Implies (passes_ebi s.speed s.est s.front a t x) (passes_ebi s.speed s.est s.front b t y)
-  ebi_implies t None y h = λ e. absurd (false≢true e)
-  ebi_implies t (Some x) None h = absurd h
-  ebi_implies t (Some x) (Some y) h = and_implies (nat_lt (with_margin ebi_margin t) s.speed) _ _ _ (same _)
-      (h.passed (front_for s.est s.front t.kind))
-
-  pub over_implies : Implies (is_over f a s) (is_over g b s)
-  over_implies = or_implies _ _ _ _ (or_implies (above_ceiling s no_margin) _ _ _ (same _)
-      (some_implies no_margin _ _ (λ t. (sooner t).permitted))) (same (above_release s))
-
-  warn_implies : Implies (is_warned f a s) (is_warned g b s)
-  warn_implies = or_implies (above_ceiling s warning_margin) _ _ _ (same _)
-      (some_implies warning_margin _ _ (λ t. (sooner t).warning))
-
-  pub serv_implies : Implies (is_service f a s) (is_service g b s)
-  serv_implies =
-      or_implies (above_ceiling s sbi_margin) _ _ _ (same _) (some_implies sbi_margin _ _ (λ t. (sooner t).sbi))
-
-  pub some_ebi_implies : Implies (some_ebi_passed s a (λ t. (f t).ebi)) (some_ebi_passed s b (λ t. (g t).ebi))
-  some_ebi_implies = any_implies _ _ s.targets (λ t. ebi_implies t (f t).ebi (g t).ebi (sooner t).ebi)
+  -- the ceiling's limit or some target's is passed by `f` only where it is by `g`
+  pub passed_implies : (kind : LimitKind) → Implies (is_passed kind f a s) (is_passed kind g b s)
+  passed_implies kind =
+      or_implies (above_ceiling kind s) _ _ _ (same _)
+      (any_implies _ _ s.targets
+      (λ t. and_implies (nat_lt (with_margin (margin_of kind) t) s.speed) _ _ _ (same _)
+      (past_implies (front_for s.est s.front t.kind) (limit_in kind (f t)) (limit_in kind (g t))
+      ((sooner t).each kind))))
 
   emer_implies : Implies (is_emergency f a s) (is_emergency g b s)
   emer_implies =
       or_implies _ _ _ _
       (or_implies _ _ _ _
-      (or_implies _ _ _ _
-      (or_implies (above_ceiling s ebi_margin) _ _ _ (same _) some_ebi_implies)
-      (same s.past_end))
+      (or_implies _ _ _ _ (passed_implies Ebi) (same s.past_end))
       (same (above_release s)))
-      (and_implies _ _ (not s.in_use) _ serv_implies (same _))
+      (and_implies _ _ (not s.in_use) _ (passed_implies Sbi) (same _))
 
   -- sooner limits give more triggers
   pub triggers_imply : TriggersImply (triggers_of f a s) (triggers_of g b s)
   unfolding triggers_of
-  triggers_imply = record { over = over_implies; warn = warn_implies; serv = serv_implies; emer = emer_implies }
+  triggers_imply = record {
+    over = or_implies _ _ _ _ (passed_implies Permitted) (same (above_release s));
+    warn = passed_implies Warning;
+    serv = passed_implies Sbi;
+    emer = emer_implies;
+  }
 
 -- ---- the command
 

@@ -1,9 +1,10 @@
 //! The clauses say of all data what the maps stand for. Here the formulas stand as rows worked by hand, so that the
 //! definitions are tested too.
 
+use sdm_base_tests::setters::SetByKey;
 use sdm_decel::{BandMap, CurveFault, expected, normal, safe};
+use sdm_formats::{BASE_NATIONAL, BASE_TRAIN};
 use sdm_national::{National, NationalFields};
-use sdm_rules::{BASE_NATIONAL, BASE_TRAIN};
 use sdm_track::{Area, Gradient, SpeedStep, Track};
 use sdm_train::{Train, TrainFields};
 use std::alloc::{AllocError, Global};

@@ -3,8 +3,10 @@
 ghost use Rattle.std.specs.Prelude.{◌<◌, IfSome};
 ghost use Rattle.sdm_rules.specs.Slopes.{most_bands};
 
+use sdm_base_tests::setters::SetByKey;
+use sdm_formats::{BASE_NATIONAL, BASE_TRAIN};
 use sdm_national::{National, NationalFields};
-use sdm_rules::{BASE_NATIONAL, BASE_TRAIN, MOST_BANDS};
+use sdm_rules::MOST_BANDS;
 use sdm_targets::Authority;
 use sdm_track::{Area, Gradient, SpeedStep, Track};
 use sdm_train::{Train, TrainFields};

@@ -1,6 +1,6 @@
 -- Each comma and the field after it lengthen the fields that are put, and a line feed ends them.
 use Rattle.std.proofs.Common.{◌≡◌, [], ◌∷◌, ◌++◌, decimal, refl}
-use Rattle.sdm_rules.specs.Text.{display_text}
+use Rattle.sdm_formats.specs.Text.{display_text}
 use Rattle.sdm_report.proofs.Pieces.{IsJoined, more_fields}
 use Rattle.sdm_display.proofs.ShownFields.{with_shown}
 use Rattle.sdm_display.proofs.display_lines.display_bytes.Goals as goal

@@ -1,8 +1,8 @@
 -- The kind is the record's first field; it is the text of a kind or of none of them.
 use Rattle.std.proofs.Common.{refl, arith}
 use Rattle.std.proofs.lemmas.Grind.{common_steps}
+use Rattle.sdm_formats.specs.Forms.{event_of}
 use Rattle.csv.specs.Records.{fields_of}
-use Rattle.sdm_rules.specs.Forms.{event_of}
 use Rattle.sdm_events.proofs.Fields.{as_text, first_field, no_fields}
 use Rattle.sdm_events.proofs.events.event_of.Goals as goal
 

@@ -6,7 +6,7 @@ use Rattle.std.proofs.lemmas.Grind.{common_steps}
 use Rattle.std.proofs.lemmas.Int.{ints, to_z-of_z}
 use Rattle.csv.specs.Records.{fields_of}
 use Rattle.sdm_num.specs.Readings.{IsReading, reading_of}
-use Rattle.sdm_rules.specs.Forms.{read_form}
+use Rattle.sdm_formats.specs.Forms.{read_form}
 use Rattle.sdm_text.proofs.Between.{between_fits}
 use Rattle.sdm_events.proofs.events.read_event.Goals as goal
 use Rattle.sdm_events.proofs.events.read_event.Goals.{After-new-reading}

@@ -1,7 +1,7 @@
 -- The pieces in their order are the text.
 use Rattle.std.proofs.Common.{◌≡◌, to_z, of_z, w32, rules}
 use Rattle.std.proofs.lemmas.Int.{ints, to_z-of_z}
-use Rattle.sdm_rules.specs.FaultLines.{open_text}
+use Rattle.sdm_formats.specs.FaultLines.{open_text}
 use Rattle.sdm_report.proofs.Pieces.{three_pieces}
 use Rattle.sdm_report.proofs.refusal_lines.put_open_fault.Goals as goal
 

@@ -2,7 +2,7 @@
 use Rattle.std.proofs.Common.{◌≡◌, [], ◌∷◌, ◌++◌, ◌∙◌, decimal, refl, ap, arith, rules, List, ℕ}
 use Rattle.std.proofs.lemmas.Grind.{common_steps}
 use Rattle.std.proofs.lemmas.Int.{ints, to_z-of_z}
-use Rattle.sdm_rules.specs.Text.{row_text, flag_text, state_text, status_text, place_text}
+use Rattle.sdm_formats.specs.Text.{row_text, flag_text, state_text, status_text, place_text}
 use Rattle.sdm_report.proofs.Pieces.{IsJoined, flag_digit, more_fields, number_is_short}
 use Rattle.sdm_report.proofs.row_lines.row_bytes.Goals as goal
 use Rattle.sdm_report.proofs.row_lines.row_bytes.Goals.{in-C, in-T, in-R, in-N, in-I, in-O, in-W, in-X}

@@ -1,6 +1,6 @@
 -- So far out took the answers to the claims before, and those to the claims that are left are the rest.
 use Rattle.std.proofs.Common.{◌≡◌, ◌≤◌, false, length}
-use Rattle.sdm_rules.specs.Flat.{Output}
+use Rattle.sdm_formats.specs.Flat.{Output}
 use Rattle.sdm_run.specs.Checks.{IsCheckOf}
 use Rattle.sdm_run.proofs.CheckTexts.{IsAnsweredSoFar}
 use Rattle.sdm_run.proofs.check_run.run_check.Given as goal

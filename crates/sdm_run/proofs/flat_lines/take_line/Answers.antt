@@ -3,8 +3,8 @@ use Rattle.std.proofs.Common.{◌≡◌, ◌≤ℤ◌, ◌∙◌, ℕ, ℤ, pos,
 use Rattle.std.proofs.Common.{unsigned_abs, lit<, refl}
 use Rattle.std.proofs.lemmas.Int.{to_z-of_z}
 use Rattle.sdm_num.specs.Units.{place_of_mm, notches_of_mm_s}
-use Rattle.sdm_rules.specs.Flat.{flat_line}
-use Rattle.sdm_rules.specs.Numbers.{read_int}
+use Rattle.sdm_formats.specs.Flat.{flat_line}
+use Rattle.sdm_formats.specs.Numbers.{read_int}
 use Rattle.sdm_supervisor.specs.FlatLines.{line_at}
 use Rattle.sdm_text.specs.FirstNumbers.{BeginsWithNumberIn}
 use Rattle.sdm_text.proofs.Between.{between_fits}

@@ -2,9 +2,9 @@
 use Rattle.std.proofs.Common.{◌≡◌, ◌∷◌, ◌∙◌, map, add-one, ap, refl, subst, arith}
 use Rattle.std.specs.Io.BufRead.{strip_last}
 use Rattle.std.specs.Io.KnownBytes.{Appends}
+use Rattle.sdm_formats.specs.Flat.{flat_output, flat_text}
+use Rattle.sdm_formats.specs.Lines.{lines_of}
 use Rattle.sdm_io.specs.Told.{AppendsPart}
-use Rattle.sdm_rules.specs.Flat.{flat_output, flat_text}
-use Rattle.sdm_rules.specs.Lines.{lines_of}
 use Rattle.sdm_run.proofs.FlatTexts.{accepted_output, row_is_line}
 use Rattle.sdm_run.proofs.OutputLeft.{all_left, wrote, wrote_part}
 use Rattle.sdm_run.proofs.flat_run.run_flat.Goals as goal

@@ -1,8 +1,8 @@
 -- So far out took the rows of the lines before, and what is left gives the rest of the output.
 use Rattle.std.proofs.Common.{◌≡◌, suc, ◌+◌, ◌≤◌, false, length}
-use Rattle.sdm_rules.specs.Input.{most_bytes}
-use Rattle.sdm_rules.specs.Lines.{lines_of}
-use Rattle.sdm_rules.specs.Flat.{flat_output, flat_output_from}
+use Rattle.sdm_formats.specs.Input.{most_bytes}
+use Rattle.sdm_formats.specs.Lines.{lines_of}
+use Rattle.sdm_formats.specs.Flat.{flat_output, flat_output_from}
 use Rattle.sdm_run.proofs.OutputLeft.{IsLeftOf}
 use Rattle.sdm_run.proofs.flat_run.run_flat.Given as goal
 

@@ -1,7 +1,7 @@
 -- What was written is the summary of the rows of all cycles.
 use Rattle.std.proofs.Common.{◌∙◌}
 use Rattle.sdm_rules.specs.Records.{rows_of}
-use Rattle.sdm_rules.specs.Trial.{trial_journey}
+use Rattle.sdm_formats.specs.Trial.{trial_journey}
 use Rattle.sdm_run.specs.Shapes.{trial_shape}
 use Rattle.sdm_run.proofs.TrialRuns.{trial_written}
 use Rattle.sdm_run.proofs.trial_run.run_trial.Goals as goal

@@ -1,7 +1,7 @@
 -- What is written is the text of the upgrade.
 use Rattle.std.proofs.Common.{◌≡◌, ◌∙◌, ℕ, List, subst}
-use Rattle.sdm_rules.specs.Flat.{Output}
-use Rattle.sdm_rules.specs.Input as ends
+use Rattle.sdm_formats.specs.Flat.{Output}
+use Rattle.sdm_formats.specs.Input as ends
 use Rattle.sdm_run.specs.Answers.{IsAnswer}
 use Rattle.sdm_run.specs.Shapes.{upgrade_shape}
 use Rattle.sdm_run.proofs.UpgradeTexts.{text_written}

@@ -3,12 +3,10 @@
 use crate::tests::certificates::claims::{claim, line_of, read_marks};
 use crate::tests::certificates::made::MADE;
 use sdm_certify::{Certificate, certificate_of};
+use sdm_formats::{BASE_BAND, BASE_NATIONAL, BASE_TRAIN};
 use sdm_national::National;
 use sdm_num::Reading;
-use sdm_rules::{
-    Authority, BASE_BAND, BASE_NATIONAL, BASE_TRAIN, Band, MOST_BANDS, Mark, NationalFields,
-    TrainFields,
-};
+use sdm_rules::{Authority, Band, MOST_BANDS, Mark, NationalFields, TrainFields};
 use sdm_supervisor::Supervisor;
 use sdm_track::{Gradient, SpeedStep, Track};
 use sdm_train::Train;

@@ -1,9 +1,8 @@
 //! The data over which trains are driven.
 
+use sdm_formats::{BASE_BAND, BASE_NATIONAL, BASE_TRAIN};
 use sdm_national::National;
-use sdm_rules::{
-    Authority, BASE_BAND, BASE_NATIONAL, BASE_TRAIN, Band, MOST_BANDS, NationalFields, TrainFields,
-};
+use sdm_rules::{Authority, Band, MOST_BANDS, NationalFields, TrainFields};
 use sdm_track::{Area, Gradient, SpeedStep, Track};
 use sdm_train::Train;
 use std::alloc::Global;

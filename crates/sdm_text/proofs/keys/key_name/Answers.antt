@@ -6,7 +6,7 @@ use Rattle.std.specs.Option.{option_copied, IfSome}
 use Rattle.std.specs.List.{slice_get}
 use Rattle.std.proofs.lemmas.Option.{slice_get-map, slice_get_past, slice_get_read}
 use Rattle.sdm_rules.specs.declared.faults.Section.{Section}
-use Rattle.sdm_rules.specs.FaultLines.{key_name, key_names}
+use Rattle.sdm_formats.specs.FaultLines.{key_name, key_names}
 use Rattle.sdm_text.proofs.keys.key_name.Goals as goal
 
 -- a look-up gives what stands at the index of the names, where something does

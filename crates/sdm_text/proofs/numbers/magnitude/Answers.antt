@@ -1,6 +1,6 @@
 -- After i digits the number is below 10^i, so that it fits after as many as a number has.
 use Rattle.std.proofs.Common.{◌≡◌, ◌+◌, ◌-◌, ◌*◌, ◌%◌, ◌/◌, ◌≤◌, length, refl, arith}
-use Rattle.sdm_rules.specs.Numbers.{most_digits}
+use Rattle.sdm_formats.specs.Numbers.{most_digits}
 use Rattle.sdm_text.proofs.NumberDigits.{IsRead, below_greater_power, less_zero, none_read, one_more}
 use Rattle.sdm_text.proofs.numbers.magnitude.Goals as goal
 use Rattle.sdm_text.proofs.numbers.magnitude.Goals.{then-at-eq1, else-at-eq1}

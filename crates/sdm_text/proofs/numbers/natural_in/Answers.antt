@@ -2,7 +2,7 @@
 use Rattle.std.proofs.Common.{ℤ, pos, negsuc, refl, ap, ◌≤ℤ◌, ◌≡◌, Ok, to_z, of_z, w64, unsigned_abs, ◌∙◌, sym, arith}
 use Rattle.std.proofs.Common.{rules}
 use Rattle.std.proofs.lemmas.Int.{ints, to_z-of_z}
-use Rattle.sdm_rules.specs.Numbers.{read_int}
+use Rattle.sdm_formats.specs.Numbers.{read_int}
 use Rattle.sdm_text.proofs.numbers.natural_in.Goals as goal
 
 not_below_0 : (z : ℤ) → pos 0 ≤ℤ z → z ≡ pos (unsigned_abs z)

@@ -3,7 +3,7 @@ use Rattle.std.proofs.Common.{◌≡◌, ℤ, false, Some, Err, int_le, to_z, of
 use Rattle.std.proofs.lemmas.Grind.{common_steps}
 use Rattle.std.proofs.lemmas.Int.{to_z-of_z}
 use Rattle.sdm_rules.specs.declared.faults.FieldFault.TheVariants.{OutOfRange}
-use Rattle.sdm_rules.specs.Numbers.{in_range, number_of, read_int}
+use Rattle.sdm_formats.specs.Numbers.{in_range, number_of, read_int}
 use Rattle.sdm_text.proofs.numbers.read_int.Goals as goal
 use Rattle.sdm_text.proofs.numbers.read_int.Goals.{in-45+in_ok-ok_or-in-45, in_default+in_ok-number-in_default}
 use Rattle.sdm_text.proofs.numbers.read_int.Goals.{else-lo-number-via-then-lo-number+else-number-hi}

@@ -1,7 +1,7 @@
 -- As many digits as are looked at fit, also one more than a number has.
 use Rattle.std.proofs.Common.{◌≡◌, ◌+◌, ◌-◌, ◌<◌, length, length-drop, length-take, take, drop, refl, arith}
 use Rattle.std.proofs.lemmas.List.{get_or-take, take_all}
-use Rattle.sdm_rules.specs.Numbers.{most_digits}
+use Rattle.sdm_formats.specs.Numbers.{most_digits}
 use Rattle.sdm_text.proofs.NumberDigits.{below_greater_power, begins_with_digits, one_more}
 use Rattle.sdm_text.proofs.numbers.split_digits.Goals as goal
 

@@ -1,6 +1,6 @@
 -- A line that isn't read to its end has a field.
 use Rattle.std.proofs.Common.{◌≡◌, Bool, true, false, List, ℕ, [], sym, cond}
-use Rattle.sdm_rules.specs.Lines.{comma_fields}
+use Rattle.sdm_formats.specs.Lines.{comma_fields}
 use Rattle.sdm_certify.specs.Fields.{is_end}
 use Rattle.sdm_certify.proofs.FieldsLeft.{line_has_fields, none_left}
 use Rattle.sdm_certify.proofs.fields.Fields.is_end.Goals as goal

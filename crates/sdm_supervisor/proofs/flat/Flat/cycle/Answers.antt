@@ -6,9 +6,9 @@ use Rattle.sdm_num.specs.Bounds.{mm_below}
 use Rattle.sdm_rules.specs.Cells.{place_of_cell}
 use Rattle.sdm_rules.specs.Curves.{exact, stepped}
 use Rattle.sdm_rules.specs.Supervision.{whole_mm}
-use Rattle.sdm_rules.specs.declared.rows.FlatRow.{FlatRow}
-use Rattle.sdm_rules.specs.Flat.{FlatLine, FlatSupervision, KeepsFlatOrder, after_flat_line, flat_slopes, flat_row}
-use Rattle.sdm_laws.proofs.Rows.FlatFacts.{flat_machines, flat_stop}
+use Rattle.sdm_formats.specs.declared.flat_rows.FlatRow.{FlatRow}
+use Rattle.sdm_formats.specs.Flat.{FlatLine, FlatSupervision, KeepsFlatOrder, after_flat_line, flat_slopes, flat_row}
+use Rattle.sdm_supervisor.proofs.FlatFacts.{flat_machines, flat_stop}
 use Rattle.sdm_supervisor.specs.FlatLines.{line_at}
 use Rattle.sdm_supervisor.proofs.FlatCurves.{row_by_place, same_stepped, shown_place}
 use Rattle.sdm_supervisor.proofs.FlatFormula.{ebi_is}

@@ -1,18 +1,19 @@
 -- Above the train's speed a target only says whether it is covered, and up to its indication limit only where its
 -- limits lie. Past that each limit is passed as the profile says, by the speed and the place that are kept or found
 -- for it.
-use Rattle.std.proofs.Common.{◌≡◌, Bool, not, true, ◌&&◌, ◌||◌, ◌∙◌, ap, refl, sym, arith}
+use Rattle.std.proofs.Common.{◌≡◌, Bool, not, true, ◌&&◌, ◌||◌, ◌∙◌, Some, ap, refl, sym, arith}
 use Rattle.std.specs.Option.{option_map_or}
 use Rattle.std.proofs.lemmas.Bool.Decides.{nat_tests}
 use Rattle.std.proofs.Math.Bool.{and-true, or-false}
+use Rattle.sdm_rules.specs.declared.limits.LimitKind.TheVariants.{Ebi}
 use Rattle.sdm_rules.specs.Limits.{computed, limits_of, v_bec_for}
 use Rattle.sdm_rules.specs.Supervision.{is_covered_for, is_met_by_speed}
 use Rattle.sdm_rules.specs.Targets.{foot_speed_of}
-use Rattle.sdm_rules.specs.Triggers.{is_past, passes_ebi}
-use Rattle.sdm_limits.specs.Sides.{place_where}
+use Rattle.sdm_rules.specs.Triggers.{is_past}
+use Rattle.sdm_limits.specs.Sides.{place_of, place_where}
 use Rattle.sdm_limits.proofs.Passed.{past_of}
 use Rattle.sdm_supervisor.proofs.PassedLaws.{covered_at, covered_unmet, covered_where_met, covered_without}
-use Rattle.sdm_supervisor.proofs.PassedLaws.{nothing_said, reached_said, slower_said}
+use Rattle.sdm_supervisor.proofs.PassedLaws.{not_there, nothing_said, passes_there, reached_said, slower_said}
 use Rattle.sdm_supervisor.proofs.VerdictLaws.{above}
 use Rattle.sdm_supervisor.proofs.verdicts.Verdict.add.Goals as goal
 use Rattle.sdm_supervisor.proofs.verdicts.Verdict.add.Goals.{then-not-is_passed_by-2}
@@ -64,9 +65,11 @@ returns-after-not-is_passed_by-2 c ts is =
     let v = c.speed-v_est.ensures.value in
     let front = c.front_for-front.ensures in
     let places = c.limits-limits.ensures.places in
+    let limits = limits_of computed d e t in
+    let ebi : limits.ebi ≡ Some (place_of c.in-Some.ebi) = sym (λ k. (places k).ebi) ∙ ap place_where c.in-Some.is in
     let emer = (λ k. above c.lt-in-Some.ensures s.ebi v k
     && past_of c.is_passed_by-in-Some.ensures front refl k)
-    ∙ ap (passes_ebi e.speed r.est r.max 0 t) (sym (ap place_where c.in-Some.is) ∙ (λ k. (places k).ebi)) in
+    ∙ sym (passes_there e.speed r.est r.max t Ebi limits (place_of c.in-Some.ebi) ebi) in
     let met = λ (m : Bool) (is : m ≡ is_met_by_speed t.kind (v_bec_for d e t) (foot_speed_of t)).
     covered_at d r.max e t (λ k. (places k).ebi) c.in-Some.is c.is_passed_by-in-Some-2.ensures
     c.max_mm-max.ensures is in
@@ -83,13 +86,16 @@ returns-after-not-is_passed_by-2 c ts is =
 
 pub returns-in_default : goal.returns-in_default
 returns-in_default c ts is =
+    let d = c.args.braking.now in
+    let e = c.args.asked.now.estimate in
     let r = c.args.reading.now in
+    let t = c.args.kept.now.target in
     let p = c.args.self.now in
     let places = c.limits-limits.ensures.places in
-    let none = sym (ap place_where c.in_default.is) ∙ (λ k. (places k).ebi) in
+    let none = sym (λ k. (places k).ebi) ∙ ap place_where c.in_default.is in
+    let emer = sym (not_there e.speed r.est r.max t Ebi (limits_of computed d e t) none) in
     reached_said is c.requires.kept.speeds (grind (arith, nat_tests)) places c.with.ensures c.front_for-front.ensures
     c.is_passed_by.ensures c.if-not-is_passed_by.false c.speed-v_est.ensures.value c.lt-2.ensures
     c.is_passed_by-2.ensures c.lt-3.ensures c.is_passed_by-3.ensures c.lt-4.ensures c.is_passed_by-4.ensures
-    c.lt-5.ensures (sym (or-false p.triggers.emer) ∙ (λ k. p.triggers.emer
-    || passes_ebi c.args.asked.now.estimate.speed r.est r.max 0 c.args.kept.now.target (none k)))
+    c.lt-5.ensures (sym (or-false p.triggers.emer) ∙ (λ k. p.triggers.emer || emer k))
     (sym (and-true _) ∙ (λ k. p.covered && covered_without _ r.max _ _ (λ k. (places k).ebi) c.in_default.is k))

@@ -1,40 +1,23 @@
--- Each fall adds what it says, the targets at the end are said behind them, and then what else triggers.
-use Rattle.std.proofs.Common.{◌≡◌, true, ◌||◌, List, map, ◌∷◌, ◌++◌, [], append_assoc}
-use Rattle.std.proofs.Common.{append-nil, ap, sym, subst, ◌∙◌, arith, rules}
+-- What the targets say is said first, and behind it what else triggers.
+use Rattle.std.proofs.Common.{◌≡◌, ◌||◌, map, ◌++◌, ap, sym, ◌∙◌, arith}
 use Rattle.std.specs.Prelude.{is_some}
 use Rattle.std.proofs.Math.Bool.{or-false, or-true}
 use Rattle.sdm_num.specs.Readings.{estimate_of}
-use Rattle.sdm_rules.specs.declared.targets.Target.{Target}
-use Rattle.sdm_rules.specs.Triggers.{Situation, above_ceiling, no_margin}
+use Rattle.sdm_rules.specs.declared.limits.LimitKind.TheVariants.{Permitted, Indication}
+use Rattle.sdm_rules.specs.Triggers.{Situation, above_ceiling}
 use Rattle.sdm_braking.specs.KeptCurves.{targets_in}
 use Rattle.sdm_braking.specs.KeptFalls.{target_of}
 use Rattle.sdm_supervisor.specs.Verdicts.{IsSaid}
-use Rattle.sdm_supervisor.proofs.FallsAsked.{all_asked, kept_there, one_more}
 use Rattle.sdm_supervisor.proofs.VerdictLaws.{above, no_ceiling, triggers_are, with_ceiling, with_release}
 use Rattle.sdm_supervisor.proofs.verdicts.Verdict.of.Goals as goal
-use Rattle.sdm_supervisor.proofs.verdicts.Verdict.of.Goals.{in-Stop+then-is_none, in-Stop+else-is_none, in-Limit}
 use Rattle.sdm_supervisor.proofs.verdicts.Verdict.of.Goals.{then-lt, else-lt, in-Some, in_default}
-
-pub add-requires-clause-kept : goal.add-requires-clause-kept
-add-requires-clause-kept c =
-    kept_there _ c.target.ensures (omega (arith, c.loop-i-test.true, c.len-i-end.ensures))
-    c.sight.invariant.falls
-
-pub loop-i-preserved : goal.loop-i-preserved
-loop-i-preserved c =
-    let r = c.sight.inside.reading.now in
-    subst (λ (ts : List Target). IsSaid c.sight.inside.braking.now c.asked-asked.result.estimate r.est r.max ts
-    c.add.new.self)
-    (one_more _ c.target.ensures (omega (arith, c.loop-i-test.true, c.len-i-end.ensures)))
-    (c.add.ensures _ c.loop-i.invariant)
 
 pub returns : goal.returns
 returns c =
     let d = c.sight.inside.braking.now in
     let r = c.sight.inside.reading.now in
     let release = c.sight.inside.release_kmh in
-    let falls = map target_of c.sight.inside.falls in
-    let targets = falls ++ targets_in c.sight.inside.end.now (is_some release) in
+    let targets = map target_of c.sight.inside.falls ++ targets_in c.sight.inside.end.now (is_some release) in
     let s : Situation = record {
       speed = r.speed;
       ceiling_kmh = c.sight.inside.ceiling_kmh;
@@ -45,24 +28,10 @@ returns c =
       release = release;
       in_use = c.sight.inside.in_use;
     } in
-    let first = c.match-sight.said in
-    let said : IsSaid d c.asked-asked.result.estimate r.est r.max targets first =
-    let of_falls = subst (λ (ts : List Target). IsSaid d c.asked-asked.result.estimate r.est r.max ts c.loop-i.said)
-    (all_asked _ c.len-i-end.ensures c.loop-i-test.false)
-    c.loop-i.invariant in
-    elim c.match-sight.branch [
-      | in-Stop+then-is_none w ↦
-          rw (w.said-is, w.in-Stop.is, w.if-is_none.ensures)
-          (subst (λ (ts : List Target). IsSaid d c.asked-asked.result.estimate r.est r.max ts
-          w.add-then-is_none-2.new.self) (append_assoc falls (w.in-Stop.eoa.target ∷ []) (w.in-Stop.svl.target ∷ []))
-          (w.add-then-is_none-2.ensures _ (w.add-then-is_none.ensures falls of_falls)))
-      | in-Stop+else-is_none w ↦
-          let begun : is_some release ≡ true = search rules in
-          rw (w.said-is, w.in-Stop.is, begun, append-nil falls) of_falls
-      | in-Limit w ↦ rw (w.said-is, w.in-Limit.is) (w.add-in-Limit.ensures falls of_falls)
-    ] in
+    let first = c.walk.new.found in
+    let said : IsSaid d c.asked-asked.result.estimate r.est r.max targets first = rw (sym c.sight.view_is) at c.walk.ensures in
     let v = c.speed_mm_s-v_est.ensures in
-    let is_above : c.lt.result ≡ above_ceiling s no_margin =
+    let is_above : c.lt.result ≡ above_ceiling Permitted s =
     above c.lt.ensures (c.of_kmh-v_mrsp.ensures ∙ omega arith) v in
     let with_its_ceiling : c.if-lt.said ≡ with_ceiling s first = elim c.if-lt.branch [
       | then-lt w ↦
@@ -82,7 +51,7 @@ returns c =
       | else-lt w ↦ w.said-is ∙ no_ceiling s (sym is_above ∙ w.if-lt.false) first
     ] in
     let t = c.if-lt.said.triggers in
-    let with_its_release : c.match-sight-2.said ≡ with_release s c.if-lt.said = elim c.match-sight-2.branch [
+    let with_its_release : c.match-sight.said ≡ with_release s c.if-lt.said = elim c.match-sight.branch [
       | in-Some w ↦
           let is_above = above w.lt-is_above.ensures w.of_kmh.ensures v in
           rw w.in-Some.is (w.said-is ∙ (λ k. record c.if-lt.said {
@@ -95,11 +64,11 @@ returns c =
     ] in
     let is : IsSaid d (estimate_of r) r.est r.max targets first =
     rw (sym (c.asked-asked.ensures.estimate ∙ c.estimate.ensures)) said in
-    let value : c.match-sight-2.said ≡ with_release s (with_ceiling s first) =
+    let value : c.match-sight.said ≡ with_release s (with_ceiling s first) =
     with_its_release ∙ ap (with_release s) with_its_ceiling in
     rw (sym c.sight.view_is, value) (record {
-      triggers = triggers_are s _ first is.passed.over is.passed.warn is.passed.serv is.passed.emer;
-      indicated = is.passed.indicated;
+      triggers = triggers_are s _ first is.passed.each;
+      indicated = is.passed.each Indication;
       covered = is.passed.covered;
       nearest = is.nearest;
     })

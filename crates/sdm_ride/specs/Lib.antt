@@ -1,0 +1,5 @@
+pub mod Moments
+pub mod Rides
+pub mod RideLaws
+pub mod Orders
+pub mod MotionRides

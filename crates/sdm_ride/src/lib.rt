@@ -1,0 +1,8 @@
+//! Rides: the readings of a supervised train, the orders that follow them, and whatever its driver does between them.
+//! The laws say what is promised at every moment, and no code computes a ride.
+#![tactic(auto)]
+
+mod happenings;
+pub mod laws;
+
+pub use happenings::Happening;

@@ -1,0 +1,144 @@
+"""Holds three texts of the interface for C against each other: the header (c/sdm.h), the source (crates/sdm_c/src) and
+the binding for Ada (c/ada/sdm.ads). The numbers of the layout and of the statuses, the codes of a row and a display,
+the fields of each struct with their types in their order, and the arguments of each call in theirs must be the same. A
+number that is handed over is compared by its name too, so that no two of one type can be swapped.
+
+    scripts/check-interface    fails where they differ
+"""
+
+import re
+import sys
+
+import header
+from pages import told
+from specs import CRATES, ROOT
+
+SOURCE = CRATES / "sdm_c" / "src"
+ADA = ROOT / "c" / "ada" / "sdm.ads"
+
+# Each struct of the header, as the source and the binding name it.
+STRUCTS = {
+    "sdm": ("Handle", "Supervisor"),
+    "sdm_reading": ("ReadingC", "Reading"),
+    "sdm_place": ("PlaceC", "Place"),
+    "sdm_row": ("RowC", "Row"),
+    "sdm_restriction": ("RestrictionC", "Restriction"),
+    "sdm_display": ("DisplayC", "Display"),
+    "sdm_line": ("LineC", "Line"),
+}
+NUMBERS = {"uint32_t": ("u32", "Word"), "int32_t": ("i32", "Signed_Word"), "int64_t": ("i64", "Signed_Long")}
+KINDS = {**STRUCTS, **NUMBERS}
+OF_SOURCE = {names[0]: kind for kind, names in KINDS.items()}
+OF_ADA = {names[1]: kind for kind, names in KINDS.items()}
+# What a code of the header stands for in the source.
+CODES = {
+    "SDM_CEILING": "State::C",
+    "SDM_TARGET": "State::T",
+    "SDM_RELEASE": "State::R",
+    "SDM_NORMAL": "Status::N",
+    "SDM_INDICATION": "Status::I",
+    "SDM_OVERSPEED": "Status::O",
+    "SDM_WARNING": "Status::W",
+    "SDM_INTERVENTION": "Status::X",
+    "SDM_FALL": "TargetKind::Mrsp",
+    "SDM_EOA": "TargetKind::Eoa",
+    "SDM_SVL": "TargetKind::Svl",
+    "SDM_LOA": "TargetKind::Loa",
+}
+IN_C_ALONE = "sdm_status_text"  # the library doesn't have it
+
+Listed = dict[str, object]
+
+
+def of_header() -> Listed:
+    """What the header says, by what it is said of."""
+    text = re.sub(r"/\*.*?\*/", "", header.text(), flags=re.S)
+    said: Listed = {"the layout": header.layout(text)}
+    said |= {f"the status {name.lower()}": number for name, number in header.statuses(text).items()}
+    said |= {f"the code {name}": int(code) for name, code in re.findall(r"\b(SDM_\w+) = (\d+)", text) if name in CODES}
+    for name, body in re.findall(r"^struct (\w+) \{\n(.*?)^\};", text, re.M | re.S):
+        fields = re.findall(r"^ +(?:struct )?(\w+) (\w+)(?:\[(\d+)\])?;", body, re.M)
+        if name != "sdm":  # what a handle holds is the library's own
+            said[f"the fields of {name}"] = [(field, kind + count) for kind, field, count in fields]
+    for result, name, arguments in re.findall(r"^(?:SDM_MUST_CHECK )?(\w+) (sdm_\w+)\(([^;]*)\);", text, re.M):
+        listed = [re.sub(r"\b(const|struct) ", "", each).replace(" *", "* ").split() for each in arguments.split(",")]
+        said[f"the call {name}"] = (result, [argument(*each) for each in listed if each != ["void"]])
+    return said
+
+
+def argument(kind: str, name: str) -> str:
+    """An argument: a number by its name, what a pointer leads to by its type."""
+    return f"{kind} {name}" if kind in NUMBERS else kind.rstrip("*")
+
+
+def of_source() -> Listed:
+    """What the source says."""
+    text = "".join(path.read_text() for path in sorted(SOURCE.glob("*.rt")))
+    sizes = dict(re.findall(r"const (\w+): usize = (\d+);", text))
+    said: Listed = {"the layout": int(re.findall(r"const LAYOUT: u32 = (\d+);", text)[0])}
+    statuses = (SOURCE / "statuses.rt").read_text()
+    said |= {f"the status {name.lower()}": int(n) for name, n in re.findall(r"const (\w+): u32 = (\d+);", statuses)}
+    arms = dict(re.findall(r"(\w+::\w+) => (\d+),", text))
+    said |= {f"the code {name}": int(arms[arm]) for name, arm in CODES.items() if arm in arms}
+    for name, body in re.findall(r"^pub struct (\w+) \{\n(.*?)^\}", text, re.M | re.S):
+        if name in OF_SOURCE and name != "Handle":
+            fields = re.findall(r"pub (\w+): (?:\[u8; (\w+)\]|(\w+)),", body)
+            kinds = [(field, f"uint8_t{sizes[count]}" if count else OF_SOURCE[kind]) for field, count, kind in fields]
+            said[f"the fields of {OF_SOURCE[name]}"] = kinds
+    for name, listed, result in re.findall(r'extern "C" fn (\w+)\(([^)]*)\)(?: -> (\w+))?', text):
+        arguments: list[str] = []
+        for given, kind in (each.strip().split(": ") for each in listed.split(",") if each.strip()):
+            if kind == "&[u8]":
+                arguments += ["uint8_t", "size_t"]
+            elif kind != "Global":  # which takes no room
+                arguments.append(argument(OF_SOURCE[kind.removeprefix("&").removeprefix("mut ")], given))
+        said[f"the call {name}"] = (OF_SOURCE[result] if result else "void", arguments)
+    return said
+
+
+def of_ada() -> Listed:
+    """What the binding says; its codes stand in remarks alone."""
+    text = re.sub(r"--.*", "", ADA.read_text())
+    constants = re.findall(r"(\w+) +: constant Word := (\d+);", text)
+    said: Listed = {f"the status {name.lower()}": int(n) for name, n in constants if name != "Layout_Of_Binding"}
+    said["the layout"] = int(dict(constants)["Layout_Of_Binding"])
+    for name, body in re.findall(r"type (\w+) is record\n(.*?)end record", text, re.S):
+        fields = []
+        for names, kind in re.findall(r"([\w, \n]+?) *: ([\w ().]+?)(?: :=[^;]*)?;", body):
+            bytes_ = re.fullmatch(r"Bytes \(1 \.\. (\d+)\)", kind)
+            known = f"uint8_t{bytes_[1]}" if bytes_ else OF_ADA[kind]
+            fields += [
+                ({"text": "bytes"}.get(each.lower(), each.lower()), known)
+                for each in re.split(r"[,\s]+", names.strip())
+            ]
+        said[f"the fields of {OF_ADA[name]}"] = fields
+    imported = r"(?:function|procedure) \w+\s*(?:\(([^)]*)\))?(?: return (\w+))?\s+"
+    imported += r"with Import, Convention => C, External_Name => \"(\w+)\""
+    for listed, result, name in re.findall(imported, text):
+        if name != IN_C_ALONE:
+            arguments = [each for part in listed.split(";") if part.strip() for each in of_ada_arguments(part)]
+            said[f"the call {name}"] = (OF_ADA[result] if result else "void", arguments)
+    return said
+
+
+def of_ada_arguments(part: str) -> list[str]:
+    """The arguments of one type in a row."""
+    names, kind = (each.strip() for each in part.split(":"))
+    kind = kind.removeprefix("in out ")
+    other = {"System.Address": "uint8_t", "Interfaces.C.size_t": "size_t"}
+    return [other.get(kind) or argument(OF_ADA[kind], name.lower()) for name in re.split(r",\s*", names)]
+
+
+def main() -> int:
+    due, faults = of_header(), []
+    due.pop(f"the call {IN_C_ALONE}", None)
+    for where, said in (("crates/sdm_c/src", of_source()), ("c/ada/sdm.ads", of_ada())):
+        compared = {what: known for what, known in due.items() if "code" not in what.split() or "ada" not in where}
+        for what in sorted({*compared, *said}):
+            if compared.get(what) != said.get(what):
+                faults.append(f"{where}: {what}: {said.get(what)}, in c/sdm.h {compared.get(what)}")
+    return told("interface", len(due), faults)
+
+
+if __name__ == "__main__":
+    sys.exit(main())

@@ -1,0 +1,14 @@
+"""What scripts/release packs: an archive and a Debian package of a program and a library that were built. Nothing here
+builds either of them, or knows whether it was proved: scripts/release sees to that.
+
+facts       what is told of a release: version, commit, time, toolchain
+library     libsdm.a and libsdm.so, of the library that the crate sdm_c is built to
+places      what stands where below a prefix
+web         the pages as HTML
+bill        the bill of materials, in SPDX
+tree        all files below a prefix
+archive     the tar file
+sums        checksums
+work        all of it, twice
+debian      the Debian package
+"""

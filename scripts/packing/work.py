@@ -1,0 +1,46 @@
+"""Packs a release: the archive, the Debian package and their checksums, twice in two folders, and only where both are
+the same."""
+
+import filecmp
+import shutil
+import tempfile
+from pathlib import Path
+
+from . import archive, debian, sums, tree
+from .facts import Contents, Fault, Release, ran
+
+
+def files_of(release: Release, into: Path) -> Path:
+    """Writes the files of the release's commit into a folder that is made."""
+    into.mkdir()
+    ran("tar", "--extract", f"--directory={into}", given=ran("git", "archive", "--format=tar", release.commit))
+    return into
+
+
+def pack_once(release: Release, program: Path, library: Path, into: Path) -> list[Path]:
+    """Writes what is packed into a folder that is empty; the paths."""
+    packed = []
+    with tempfile.TemporaryDirectory(prefix="sdm-packing-") as name:
+        scratch = Path(name)
+        contents = Contents(program, library, files_of(release, scratch / "commit"), scratch / "placed")
+        tree.place_files(release, contents)
+        for write in (archive.write, debian.write):
+            place = scratch / write.__module__
+            place.mkdir()
+            packed.append(write(release, contents, place, into))
+    checksums = into / sums.NAME
+    checksums.write_text(sums.of_files_below(into))
+    return [*packed, checksums]
+
+
+def pack(release: Release, program: Path, library: Path, into: Path) -> list[Path]:
+    """Packs into a folder, in the place of what it has; a fault, where a second time gives other bytes."""
+    with tempfile.TemporaryDirectory() as one, tempfile.TemporaryDirectory() as other:
+        packed = pack_once(release, program, library, Path(one))
+        again = pack_once(release, program, library, Path(other))
+        for first, second in zip(packed, again, strict=True):
+            if not filecmp.cmp(first, second, shallow=False):
+                raise Fault(f"{first.name} has other bytes when it is packed again.")
+        shutil.rmtree(into, ignore_errors=True)
+        into.mkdir(parents=True)
+        return [Path(shutil.copy(path, into)) for path in packed]

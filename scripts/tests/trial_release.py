@@ -1,0 +1,39 @@
+"""Packs files that nobody proved, to try the packing by. What comes out is named `VERSION~unmarked`, so that nobody
+takes it for a release: scripts/release packs nothing but a marked program and a library that `rt lib` built.
+
+    python3 -B scripts/tests/trial_release.py PROGRAM LIBRARY FOLDER
+"""
+
+import sys
+from dataclasses import replace
+from pathlib import Path
+
+
+import manual
+import release
+from packing.facts import Fault, Release
+from packing.work import pack
+
+
+def trial_facts() -> Release:
+    """What is told of a trial."""
+    facts = release.facts(manual.version(), {"kit": "unmarked", "sources": "unmarked"})
+    return replace(facts, version=f"{facts.version}~unmarked")
+
+
+def main(words: list[str]) -> int:
+    if len(words) != 3:
+        print(__doc__.strip(), file=sys.stderr)
+        return 2
+    program, library, into = (Path(word).resolve() for word in words)
+    try:
+        for path in pack(trial_facts(), program, library, into):
+            print(path)
+    except Fault as why:
+        print(f"trial_release: {why}", file=sys.stderr)
+        return 1
+    return 0
+
+
+if __name__ == "__main__":
+    sys.exit(main(sys.argv[1:]))
