@@ -1,7 +1,7 @@
-"""Writes docs/TRACES.md: for each sentence of README's promise, and each marked one of PROMISES, its clauses and laws, their definitions, cases that
-show these, the must-fail edits that break them with the clause that refuses each, and the wrong definitions that
-were tried. scripts/traces.toml says which, by the ids of the marks `<!-- trace: ID -->`; this script finds
-where each stands, and fails where one is gone.
+"""Writes docs/TRACES.md: for each sentence of README's promise, and each marked one of docs/PROMISES.md, its clauses
+and laws, their definitions, cases that show these, the must-fail edits that break them with the clause that refuses
+each, and the wrong definitions that were tried. scripts/traces.toml says which, by the ids of the marks
+`<!-- trace: ID -->`; this script finds where each stands, and fails where one is gone.
 
     scripts/traces          prints the page's part
     scripts/traces write    puts it into docs/TRACES.md
@@ -33,6 +33,7 @@ TABLE = ROOT / "scripts" / "traces.toml"
 WRONG = ROOT / "docs" / "WRONG-DEFINITIONS.md"
 PROMISES = ROOT / "docs" / "PROMISES.md"
 MARK = re.compile(r"<!-- trace: ([\w, -]+) -->")
+SENTENCE_END = re.compile(r"[.!?][)*]* (?=[A-Z])")
 
 
 @dataclass(frozen=True)
@@ -71,11 +72,11 @@ def promise() -> list[tuple[str, list[str]]]:
 
 
 def more_promised() -> list[tuple[str, list[str]]]:
-    """The marked sentences of PROMISES: each is what stands between its mark and the end of the sentence before."""
+    """The marked sentences of docs/PROMISES.md: each from the end of the sentence before it to its mark."""
     found = []
     for line in PROMISES.read_text().splitlines():
         for each in MARK.finditer(line):
-            found.append((re.split(r"\. (?=[A-Z])", line[: each.start()].strip())[-1], ids_in(each[0])))
+            found.append((SENTENCE_END.split(line[: each.start()].strip())[-1], ids_in(each[0])))
     return found
 
 
@@ -192,10 +193,11 @@ def lines_of(trace: Trace, places: Places) -> list[str]:
 
 
 def listed(traces: dict[str, Trace], faults: list[str]) -> str:
-    """The traces in Markdown, by README's sentences; what is wrong with them is added to faults."""
+    """The traces in Markdown, by sentences; what is wrong with them is added to faults."""
     places, out, seen = Places(), [], set()
-    for number, (sentence, ids) in enumerate([*promise(), *more_promised()], 1):
-        out += ["", f"## Sentence {number}", "", f"> {sentence}"]
+    sentences = [("README", *each) for each in promise()] + [("PROMISES", *each) for each in more_promised()]
+    for number, (page, sentence, ids) in enumerate(sentences, 1):
+        out += ["", f"## {number}. {page}", "", f"> {sentence}"]
         faults += (
             [] if ids else [f"README.md: its promise has a sentence without `<!-- trace: ID -->`: {sentence[:50]}"]
         )
@@ -208,11 +210,7 @@ def listed(traces: dict[str, Trace], faults: list[str]) -> str:
                 out += ["", f"**{traces[each].says}**", "", *lines_of(traces[each], places)]
             except Gone as gone:
                 faults.append(f"scripts/traces.toml: {each}: {gone}")
-    faults += [
-        f"scripts/traces.toml: no sentence has the mark {each}"
-        for each in traces
-        if each not in seen
-    ]
+    faults += [f"scripts/traces.toml: no sentence has the mark {each}" for each in traces if each not in seen]
     return "\n".join([*out, ""]) + "\n"
 
 

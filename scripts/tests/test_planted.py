@@ -106,7 +106,7 @@ PLANTED = [
     ]),
     ("traces", [
         Fault("README.md", r" <!-- trace: order -->", "", "no sentence has the mark order"),
-        Fault("scripts/traces.toml", r"law_of_machines", "law_of_machine", "order: no law sdm_laws::law_of_machine"),
+        Fault("scripts/traces.toml", r"law_of_release_speed", "law_of_speeds", "release-speed: no law sdm_laws::law_of_speeds"),
         Fault("scripts/traces.toml", r"Supervisor::cycle gaps", "Supervisor::cycle gap", "gaps: sdm_supervisor::Supervisor::cycle has no clause gap"),
         Fault("crates/sdm_ceiling/must-fail/ebi_margin_not_capped.edit", r"\A#.*\n", "", "ebi_margin_not_capped has no line"),
     ]),

@@ -12,7 +12,7 @@ use Rattle.sdm_rules.specs.declared.commands.State.{State}
 use Rattle.sdm_rules.specs.declared.commands.State.TheVariants.{T}
 use Rattle.sdm_rules.specs.declared.records.Event.TheVariants as record_kinds
 use Rattle.sdm_rules.specs.Commands.{commands_after, emergency_after, nothing_held}
-use Rattle.sdm_rules.specs.Curves.{place_at, stepped, arc_back, back, arc_forward, forward}
+use Rattle.sdm_rules.specs.Curves.{place_at, corner, arc, stepped, arc_back, back}
 use Rattle.sdm_rules.specs.Data.{TrainAndTrack}
 use Rattle.sdm_rules.specs.Decelerations.{slope_at, slopes_of}
 use Rattle.sdm_rules.specs.Limits.{limits_of, release_start}
@@ -70,27 +70,26 @@ between = after_reading before first
 
 first_covered : (row_of before first).covered ≡ true
 unfolding ride_line plain_train_and_track plain_national plain_band first row_in situation_with targets_of mrsp
-    is_covered_in limits_of release_start reaction_times slopes_of slope_at stepped place_at arc_back back arc_forward
-    forward
+    is_covered_in limits_of release_start reaction_times slopes_of slope_at stepped place_at corner arc arc_back back
 first_covered = ap (λ now. is_covered_in line first now) (opening_situation line authority first) ∙ refl
 
 -- and no brake is ordered
 first_free : is_ordered (row_of before first) ≡ false
 unfolding ride_line plain_train_and_track plain_national plain_band first row_in situation_with targets_of mrsp
     is_covered_in state_in commands_in commands_after emergency_after triggers_of limits_of release_start
-    reaction_times slopes_of slope_at stepped place_at arc_back back arc_forward forward
+    reaction_times slopes_of slope_at stepped place_at corner arc arc_back back
 first_free = ap (λ now. is_ordered (row_in line nothing_held first now)) (opening_situation line authority first) ∙ refl
 
 second_uncovered : (row_of between second).covered ≡ false
 unfolding ride_line plain_train_and_track plain_national plain_band second row_in situation_with targets_of mrsp
-    is_covered_in limits_of release_start reaction_times slopes_of slope_at stepped place_at arc_back back arc_forward
-    forward after_reading
+    is_covered_in limits_of release_start reaction_times slopes_of slope_at stepped place_at corner arc arc_back back
+    after_reading
 second_uncovered = ap (λ now. is_covered_in line second now) (situation_in between second refl) ∙ refl
 
 second_state : (row_of between second).state ≡ T
 unfolding ride_line plain_train_and_track plain_national plain_band second row_in situation_with targets_of mrsp
-    state_in limits_of release_start triggers_of reaction_times slopes_of slope_at stepped place_at arc_back back
-    arc_forward forward after_reading
+    state_in limits_of release_start triggers_of reaction_times slopes_of slope_at stepped place_at corner arc arc_back
+    back after_reading
 second_state = ap (λ now. state_in line second now) (situation_in between second refl) ∙ refl
 
 -- a row that isn't covered orders the brake, whether it is commanded or not

@@ -11,7 +11,7 @@ use Rattle.sdm_rules.specs.declared.commands.Held.{Held}
 use Rattle.sdm_rules.specs.declared.commands.Status.TheVariants.{X}
 use Rattle.sdm_rules.specs.declared.records.Event.TheVariants as record_kinds
 use Rattle.sdm_rules.specs.Commands.{commands_after, emergency_after, nothing_held}
-use Rattle.sdm_rules.specs.Curves.{place_at, stepped, arc_back, back, arc_forward, forward}
+use Rattle.sdm_rules.specs.Curves.{place_at, corner, arc, stepped, arc_back, back}
 use Rattle.sdm_rules.specs.Data.{TrainAndTrack}
 use Rattle.sdm_rules.specs.Decelerations.{slope_at, slopes_of}
 use Rattle.sdm_rules.specs.Limits.{limits_of, release_start}
@@ -87,25 +87,25 @@ computed held next last r commands covered no_order =
 first_free : IsFree before first (held_at 0 serviced)
 unfolding ride_line plain_train_and_track plain_national plain_band reading_at situation_with targets_of mrsp row_in
     is_covered_in state_in commands_in commands_after emergency_after triggers_of limits_of release_start
-    reaction_times slopes_of slope_at stepped place_at arc_back back arc_forward forward
+    reaction_times slopes_of slope_at stepped place_at corner arc arc_back back
 first_free = computed nothing_held serviced None first refl refl refl
 
 second_free : IsFree (held_at 0 serviced) second (held_at 1 serviced)
 unfolding ride_line plain_train_and_track plain_national plain_band reading_at situation_with targets_of mrsp row_in
     is_covered_in state_in commands_in commands_after emergency_after triggers_of limits_of release_start
-    reaction_times slopes_of slope_at stepped place_at arc_back back arc_forward forward
+    reaction_times slopes_of slope_at stepped place_at corner arc arc_back back
 second_free = computed serviced serviced (Some 0) second refl refl refl
 
 third_free : IsFree (held_at 1 serviced) third (held_at 2 serviced)
 unfolding ride_line plain_train_and_track plain_national plain_band reading_at situation_with targets_of mrsp row_in
     is_covered_in state_in commands_in commands_after emergency_after triggers_of limits_of release_start
-    reaction_times slopes_of slope_at stepped place_at arc_back back arc_forward forward
+    reaction_times slopes_of slope_at stepped place_at corner arc arc_back back
 third_free = computed serviced serviced (Some 1) third refl refl refl
 
 fourth_free : IsFree (held_at 2 serviced) fourth (held_at 3 nothing_held)
 unfolding ride_line plain_train_and_track plain_national plain_band reading_at situation_with targets_of mrsp row_in
     is_covered_in state_in commands_in commands_after emergency_after triggers_of limits_of release_start
-    reaction_times slopes_of slope_at stepped place_at arc_back back arc_forward forward
+    reaction_times slopes_of slope_at stepped place_at corner arc arc_back back
 fourth_free = computed serviced nothing_held (Some 2) fourth refl refl refl
 
 -- ---- what happens

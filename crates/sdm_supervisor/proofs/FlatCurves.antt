@@ -65,35 +65,46 @@ unfolding arc_back
 same_arc decel x change =
     back_same (meaning_of (flat_map decel)) (flat_slopes decel) 1 0 _ x _ (λ c. one_segment (2_000_000_000 * decel) _)
 
+-- slopes of one band
+abbrev one_band : ℕ → (ℕ → ℤ → ℕ) → Slopes
+one_band q slope = record { q = q; uppers = []; slope = slope }
+
 -- with one band the place of a speed is the end of one arc back from a foot with speed 0
-one_arc : (round : Fraction → Fraction) (on : Slopes) (f : ℤ) (v : ℕ) → on.uppers ≡ [] →
-    place_at round on 1 f 0 (v * v) ≡ round (arc_back on 1 0 (whole (pos 1 *ℤ f)) (v * v - 0))
+one_arc : (round : Fraction → Fraction) (q : ℕ) (slope : ℕ → ℤ → ℕ) (f : ℤ) (v : ℕ) →
+    place_at round (one_band q slope) 1 f 0 (v * v)
+    ≡ round (arc_back (one_band q slope) 1 0 (whole (pos 1 *ℤ f)) (v * v - 0))
 unfolding place_at corner
-one_arc round on f v one = rw one (ap round (arc_is_back on 1 0 (whole (pos 1 *ℤ f)) 0 (v * v) (omega arith)))
+one_arc round q slope f v =
+    ap round (arc_is_back (one_band q slope) 1 0 (whole (pos 1 *ℤ f)) 0 (v * v) (omega arith))
 
 -- so is the stepped place, rounded down
-stepped_arc : (on : Slopes) (f : ℤ) (v : ℕ) → on.uppers ≡ [] →
-    stepped on f 0 v ≡ floor (arc_back on 1 0 (whole (pos 1 *ℤ f)) (v * v - 0))
+stepped_arc : (q : ℕ) (slope : ℕ → ℤ → ℕ) (f : ℤ) (v : ℕ) →
+    stepped (one_band q slope) f 0 v ≡ floor (arc_back (one_band q slope) 1 0 (whole (pos 1 *ℤ f)) (v * v - 0))
 unfolding stepped
-stepped_arc on f v one = ap floor (one_arc to_grain on f v one) ∙ floor_whole _
+stepped_arc q slope f v = ap floor (one_arc to_grain q slope f v) ∙ floor_whole _
 
 -- and the exact place
 pub exact_arc : (decel : ℕ) (f : ℤ) (v : ℕ) →
     exact (flat_slopes decel) f 0 v ≡ arc_back (flat_slopes decel) 1 0 (whole (pos 1 *ℤ f)) (v * v - 0)
 unfolding exact exact_at
-exact_arc decel f v = one_arc as_is (flat_slopes decel) f v refl
+exact_arc decel f v = one_arc as_is (flat_slopes decel).q (flat_slopes decel).slope f v
 
--- the flat map and the flat slopes have the same stepped place
+-- the stepped place on the flat slopes
+flat_stepped : (decel : ℕ) (f : ℤ) (v : ℕ) →
+    stepped (flat_slopes decel) f 0 v ≡ floor (arc_back (flat_slopes decel) 1 0 (whole (pos 1 *ℤ f)) (v * v - 0))
+flat_stepped decel f v = stepped_arc (flat_slopes decel).q (flat_slopes decel).slope f v
+
+-- is that on the flat map
 pub same_stepped : (decel : ℕ) (f : ℤ) (v : ℕ) →
     stepped (meaning_of (flat_map decel)) f 0 v ≡ stepped (flat_slopes decel) f 0 v
 same_stepped decel f v =
-    stepped_arc (meaning_of (flat_map decel)) f v refl
-    ∙ (ap floor (same_arc decel (whole (pos 1 *ℤ f)) (v * v - 0)) ∙ sym (stepped_arc (flat_slopes decel) f v refl))
+    stepped_arc (meaning_of (flat_map decel)).q (meaning_of (flat_map decel)).slope f v
+    ∙ (ap floor (same_arc decel (whole (pos 1 *ℤ f)) (v * v - 0)) ∙ sym (flat_stepped decel f v))
 
 -- which is the exact one rounded down to a grain
 stepped_floor : (decel : ℕ) (f : ℤ) (v : ℕ) →
     stepped (flat_slopes decel) f 0 v ≡ floor (exact (flat_slopes decel) f 0 v)
-stepped_floor decel f v = stepped_arc (flat_slopes decel) f v refl ∙ ap floor (sym (exact_arc decel f v))
+stepped_floor decel f v = flat_stepped decel f v ∙ ap floor (sym (exact_arc decel f v))
 
 -- ---- its rows
 

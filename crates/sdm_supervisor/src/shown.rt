@@ -81,20 +81,21 @@ impl Walk for Choosing {
             return;
         }
         let permitted = sight.braking.limits(asked, kept).permitted.at();
-        let is_earlier = match found {
+        let is_earlier = match &*found {
             Some(counting) => permitted.grains() < counting.permitted.grains(),
             None => true,
         };
-        if is_earlier {
-            *found = Some(Counting {
-                target: kept.target,
-                permitted,
-            });
+        if !is_earlier {
+            return;
         }
+        *found = Some(Counting {
+            target: kept.target,
+            permitted,
+        });
     }
 }
 
-impl<'a> Sight<'a> {
+impl Sight<'_> {
     /// Whether a speed is above the ceiling with the margin of a limit. (SUBSET-026-3 3.13.10.3)
     fn is_above_ceiling(&self, kind: LimitKind, v: Speed) -> bool
         ensures { result ≡ above_ceiling kind (situation_at v self.now.situation) }

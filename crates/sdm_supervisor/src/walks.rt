@@ -16,7 +16,7 @@ pub trait Walk {
     type Found;
 
     /// This was found of some targets, by an estimate.
-    ghost is_found: { Self → Seen → Estimate → List Target → Found → Type 0 };
+    ghost is_found: { Self → Seen → Estimate → List Target → Self.Found → Type 0 };
 
     /// Adds what one more target gives.
     fn meet(

@@ -28,9 +28,9 @@ pub returns-in_err-target : goal.returns-in_err-target
 returns-in_err-target c =
     let seen = c.args.self.now in
     c.from_residual.ensures
-    ∙ sym (shown_of seen.train_and_track seen.reading seen.situation c.asked-asked.result.estimate c.counted.result
+    ∙ sym (shown_of seen.train_and_track seen.reading seen.situation c.asked-asked.result.estimate c.walk.new.found
     (c.asked-asked.ensures.estimate ∙ c.estimate.ensures ∙ (λ k. estimate_of (c.self.view_is k).reading))
-    c.counted.ensures
+    c.walk.ensures
     ∙ ap (option_map (λ x. record { kind = x.target.kind; distance = distance_to seen.situation x.target }))
     c.in_err-target.was)
 
@@ -44,8 +44,8 @@ returns c =
     ∙ ap (λ (x : Situation). front_for x.est x.front counting.target.kind) (λ j. (c.self.view_is j).situation)) k))
     (pos 0)) in
     (λ k. Some (record { kind = counting.target.kind; distance = distance k }))
-    ∙ sym (shown_of seen.train_and_track seen.reading seen.situation c.asked-asked.result.estimate c.counted.result
+    ∙ sym (shown_of seen.train_and_track seen.reading seen.situation c.asked-asked.result.estimate c.walk.new.found
     (c.asked-asked.ensures.estimate ∙ c.estimate.ensures ∙ (λ k. estimate_of (c.self.view_is k).reading))
-    c.counted.ensures
+    c.walk.ensures
     ∙ ap (option_map (λ x. record { kind = x.target.kind; distance = distance_to seen.situation x.target }))
     c.in_ok-target.was)

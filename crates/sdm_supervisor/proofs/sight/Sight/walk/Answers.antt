@@ -20,3 +20,31 @@ loop-i-preserved g c =
     c.meet.new.found)
     (one_more _ c.target.ensures (omega (arith, c.loop-i-test.true, c.len-i-end.ensures)))
     (c.meet.ensures _ c.loop-i.invariant)
+
+pub returns-then-is_none : goal.returns-then-is_none
+returns-then-is_none g c =
+    let found = g.W.Walk.is_found c.args.walk.now c.args.self.now c.args.asked.now.estimate in
+    let ts = map target_of c.self.inside.falls in
+    let eoa = c.in-Stop.eoa.target in
+    let svl = c.in-Stop.svl.target in
+    let falls = subst (λ (us : List Target). found us c.loop-i.found)
+    (all_asked _ c.len-i-end.ensures c.loop-i-test.false)
+    c.loop-i.invariant in
+    let targets : ts ++ targets_in c.self.inside.end.now (is_some c.self.inside.release_kmh)
+    ≡ (ts ++ eoa ∷ []) ++ svl ∷ [] =
+    rw (c.in-Stop.is, c.if-is_none.ensures) (sym (append_assoc ts (eoa ∷ []) (svl ∷ []))) in
+    subst (λ (us : List Target). found us c.meet-then-is_none-2.new.found)
+    (sym targets ∙ (λ k. (c.self.view_is k).situation.targets))
+    (c.meet-then-is_none-2.ensures (ts ++ eoa ∷ []) (c.meet-then-is_none.ensures ts falls))
+
+pub returns-in-Limit : goal.returns-in-Limit
+returns-in-Limit g c =
+    let found = g.W.Walk.is_found c.args.walk.now c.args.self.now c.args.asked.now.estimate in
+    let ts = map target_of c.self.inside.falls in
+    let falls = subst (λ (us : List Target). found us c.loop-i.found)
+    (all_asked _ c.len-i-end.ensures c.loop-i-test.false)
+    c.loop-i.invariant in
+    let targets : ts ++ targets_in c.self.inside.end.now (is_some c.self.inside.release_kmh)
+    ≡ ts ++ c.in-Limit.loa.target ∷ [] = rw c.in-Limit.is refl in
+    subst (λ (us : List Target). found us c.meet-in-Limit.new.found)
+    (sym targets ∙ (λ k. (c.self.view_is k).situation.targets)) (c.meet-in-Limit.ensures ts falls)

@@ -29,7 +29,7 @@ returns c =
       in_use = c.sight.inside.in_use;
     } in
     let first = c.walk.new.found in
-    let said : IsSaid d c.asked-asked.result.estimate r.est r.max targets first = rw c.sight.view_is at c.walk.ensures in
+    let said : IsSaid d c.asked-asked.result.estimate r.est r.max targets first = rw (sym c.sight.view_is) at c.walk.ensures in
     let v = c.speed_mm_s-v_est.ensures in
     let is_above : c.lt.result ≡ above_ceiling Permitted s =
     above c.lt.ensures (c.of_kmh-v_mrsp.ensures ∙ omega arith) v in
@@ -51,7 +51,7 @@ returns c =
       | else-lt w ↦ w.said-is ∙ no_ceiling s (sym is_above ∙ w.if-lt.false) first
     ] in
     let t = c.if-lt.said.triggers in
-    let with_its_release : c.match-sight-2.said ≡ with_release s c.if-lt.said = elim c.match-sight-2.branch [
+    let with_its_release : c.match-sight.said ≡ with_release s c.if-lt.said = elim c.match-sight.branch [
       | in-Some w ↦
           let is_above = above w.lt-is_above.ensures w.of_kmh.ensures v in
           rw w.in-Some.is (w.said-is ∙ (λ k. record c.if-lt.said {
@@ -64,7 +64,7 @@ returns c =
     ] in
     let is : IsSaid d (estimate_of r) r.est r.max targets first =
     rw (sym (c.asked-asked.ensures.estimate ∙ c.estimate.ensures)) said in
-    let value : c.match-sight-2.said ≡ with_release s (with_ceiling s first) =
+    let value : c.match-sight.said ≡ with_release s (with_ceiling s first) =
     with_its_release ∙ ap (with_release s) with_its_ceiling in
     rw (sym c.sight.view_is, value) (record {
       triggers = triggers_are s _ first is.passed.each;
