@@ -320,13 +320,14 @@ class Checks(unittest.TestCase):
             "model",
             "upgrade",
             "certificates",
+            "compilers",
             "worked",
             "c",
             "library",
             "refused",
             "scripts",
             "release",
-        }  # test_program.py, all six; by hand
+        }  # test_program.py, all seven; by hand
         names = {path.name.removeprefix("check-") for path in (copies.TOP / "scripts").glob("check-*")} - elsewhere
         few = {name for name in names if sum(len(faults) for script, faults in PLANTED if script == name) < 2}
         self.assertEqual(few, set())

@@ -160,6 +160,14 @@ class Answers(OverACopy):
         self.assertRegex(self.told("scripts/examples"), "the rows differ")
         self.assertRegex(self.told(*AT_THE_CEILING), r"row \d+ differs")
 
+    def test_a_build_that_differs_from_the_other_is_told(self):
+        words = ["scripts/check-compilers", "--seed", "10", "--journeys", "1"]
+        self.assertIn("There is no program at", self.told(*words))
+        copies.stand_in(self.top, name="crates/sdm/out/sdm.by-rattle")
+        self.assertRegex(self.told(*words, status=0), "made runs: [1-9][0-9]* the same, 0 differ")
+        copies.stand_in(self.top, "sed 's/,C,/,T,/'", name="crates/sdm/out/sdm.by-rattle")
+        self.assertRegex(self.told(*words), r"row \d+ differs")
+
     def test_an_upgrade_that_loses_nothing_passes(self):
         self.assertRegex(self.told("scripts/check-upgrade", status=0), "upgrade: [1-9][0-9]* passed, 0 failed")
 
