@@ -1,7 +1,7 @@
 """The standard inputs of the measurements, each made by a function of its own from a seed.
 
-The same seed gives the same bytes with every version of Python, since the numbers come from the generator below and from no
-other. docs/FORMATS.md says what the bytes mean.
+The same seed gives the same bytes with every version of Python, since the numbers come from the generator below and
+from no other. docs/FORMATS.md says what the bytes mean.
 """
 
 from dataclasses import dataclass, replace
@@ -24,8 +24,8 @@ RESTRICTIONS = 32
 
 @dataclass
 class Input:
-    """An input with all its lines, and the same with the first of them alone; `head` comes before the lines of both. `counted`
-    are the readings among the lines, or the records where there is no reading."""
+    """An input with all its lines, and the same with the first of them alone; `head` comes before the lines of both.
+    `counted` are the readings among the lines, or the records where there is no reading."""
 
     name: str
     words: list
@@ -77,8 +77,9 @@ def realistic_data():
 
 
 def trip(numbers):
-    """The places in mm, speeds in mm/s and accelerations in cm/s² of a train, each tenth of a second: it accelerates, runs at
-    its top speed, brakes, and stands for 5 s near 4940 m. Places are kept in twentieths of a mm, so that they are exact."""
+    """The places in mm, speeds in mm/s and accelerations in cm/s² of a train, each tenth of a second: it accelerates,
+    runs at its top speed, brakes, and stands for 5 s near 4940 m. Places are kept in twentieths of a mm, so that they
+    are exact."""
     place, speed = 20 * numbers.draw(0, 200_000), 0
     top, traction, brake = numbers.draw(20_000, 43_000), numbers.draw(30, 80), numbers.draw(45, 60)
     stop, braking, standing = 20 * 4_940_000, False, 0
@@ -133,7 +134,8 @@ def table(name, **values):
 
 
 def greatest_train(bands=8, width_kmh=60):
-    """A train of 100 m with so many speed bands, each of this width but the last, whose brakes grow weaker with the speed."""
+    """A train of 100 m with so many speed bands, each of this width but the last, whose brakes grow weaker with the
+    speed."""
     text = "[train]\nlength = 10000\nmax_speed = 500\ntraction_cutoff_time = 100\ntraction_cutoff_interface = true\n"
     text += "emergency_time = 60\nservice_time = 50\nservice_brake = true\n"
     for band in range(bands):
@@ -144,8 +146,8 @@ def greatest_train(bands=8, width_kmh=60):
 
 
 def greatest_track(numbers):
-    """A track of 100 km with as many entries as there may be. No gradient is that of the entry before, and the train is shorter
-    than each entry, so that all of them count; the speeds fall from step to step."""
+    """A track of 100 km with as many entries as there may be. No gradient is that of the entry before, and the train is
+    shorter than each entry, so that all of them count; the speeds fall from step to step."""
     text, grad = f"[track]\nlength = {TRACK_CM}\n", 0
     for entry in range(GRADIENTS):
         grad = (grad + 10 + numbers.draw(1, 20)) % 21 - 10
@@ -210,7 +212,8 @@ def greatest_revoke(seed):
 
 
 def greatest_end(seed):
-    """The greatest data with all restrictions, and authorities that end at random over the track, each with a release speed."""
+    """The greatest data with all restrictions, and authorities that end at random over the track, each with a release
+    speed."""
     numbers = Numbers(seed)
     head = greatest_data(numbers) + "".join(greatest_restrictions())
     lines = []
@@ -221,7 +224,8 @@ def greatest_end(seed):
 
 
 def authority(numbers):
-    """The record of an authority on the realistic track: nine of ten end in a stop, half of these with a release speed."""
+    """The record of an authority on the realistic track: nine of ten end in a stop, half of these with a release
+    speed."""
     end = numbers.draw(300_000, 590_000)
     if numbers.draw(1, 10) == 1:
         return f"limit,{end},{numbers.draw(20, 160)}\n"
@@ -267,7 +271,9 @@ def trial(seed):
 
 def drive(seed):
     """A drive of as many steps over the realistic data, which have no dividing line then."""
-    return Input("drive", ["drive", "7", "100000"], ["drive", "7", "1"], realistic_data().removesuffix("%%\n"), [], 100_000)
+    return Input(
+        "drive", ["drive", "7", "100000"], ["drive", "7", "1"], realistic_data().removesuffix("%%\n"), [], 100_000
+    )
 
 
 MAKERS = {

@@ -1,5 +1,5 @@
-"""The tools that measure a program over an input: hyperfine for time, callgrind for instructions, GNU time for memory; and what
-is to be told of the machine beside their figures."""
+"""The tools that measure a program over an input: hyperfine for time, callgrind for instructions, GNU time for memory;
+and what is to be told of the machine beside their figures."""
 
 import json
 import os
@@ -28,8 +28,8 @@ def ending(program, words, path):
 
 
 def times(program, words, path, runs, folder):
-    """The mean and the least wall time in seconds of so many runs, after one that isn't counted. The rows go to /dev/null, and
-    hyperfine takes off the time of the shell."""
+    """The mean and the least wall time in seconds of so many runs, after one that isn't counted. The rows go to
+    /dev/null, and hyperfine takes off the time of the shell."""
     report = folder / "times.json"
     command = shlex.join([str(program), *words]) + " < " + shlex.quote(str(path))
     options = ["--style", "none", "--warmup", "1", "--runs", str(runs), "--export-json", str(report)]
@@ -39,13 +39,17 @@ def times(program, words, path, runs, folder):
 
 
 def instructions(program, words, path, profile):
-    """The instructions of one run with an empty environment, of which the loader would read each byte before `main`; the profile
-    stays, for callgrind_annotate."""
+    """The instructions of one run with an empty environment, of which the loader would read each byte before `main`;
+    the profile stays, for callgrind_annotate."""
     tool = [shutil.which("valgrind"), "--tool=callgrind", f"--callgrind-out-file={profile}"]
     with open(path, "rb") as source:
         subprocess.run(
             [*tool, program, *words],
-            stdin=source, stdout=subprocess.DEVNULL, stderr=subprocess.DEVNULL, check=True, env={},
+            stdin=source,
+            stdout=subprocess.DEVNULL,
+            stderr=subprocess.DEVNULL,
+            check=True,
+            env={},
         )
     return int(re.search(r"^(?:summary|totals): (\d+)", profile.read_text(), re.MULTILINE).group(1))
 
@@ -56,7 +60,10 @@ def peak_kib(program, words, path, folder):
     with open(path, "rb") as source:
         subprocess.run(
             ["/usr/bin/time", "-f", "%M", "-o", report, program, *words],
-            stdin=source, stdout=subprocess.DEVNULL, stderr=subprocess.DEVNULL, check=True,
+            stdin=source,
+            stdout=subprocess.DEVNULL,
+            stderr=subprocess.DEVNULL,
+            check=True,
         )
     return int(report.read_text().split()[-1])
 

@@ -59,7 +59,7 @@ static void refuse(Supervisor &supervisor) {
 /* What is taken is in force: the display of a reading at the start tells of it. */
 static void take(Supervisor &supervisor) {
     static const char of[] = "a record that is taken";
-    check(supervisor.limit(5000, 5) == Status::done, "a limit", of);
+    check(supervisor.limit(5000, 1) == Status::done, "a limit that is slower than the train", of);
     auto shown = supervisor.display(LATER);
     check(shown && shown->target == SDM_LOA && shown->distance_mm == 50000, "it is the target", of);
     check(supervisor.end_calculated(5000, 6000, 6000) == Status::done, "a calculated end", of);

@@ -4,10 +4,10 @@
     scripts/check-model --seed 5000 --journeys 9000 the journeys of the seeds 5000 to 13999 alone
     scripts/check-model --program PATH              another program than crates/sdm/out/sdm
 
-The input of each third seed is given to `display` and to `certify` too, and each third seed makes a drive, and a text for
-`check`, besides. Of each difference it tells the input, the first row or line that differs, and both texts.
-`python3 tools/model/journeys.py input SEED` writes the journey of a seed, `drive SEED` its drive, and
-`python3 tools/model/certified.py SEED` its text for `check`.
+The input of each third seed is given to `display` and to `certify` too, and each third seed makes a drive, and a text
+for `check`, besides. Of each difference it tells the input, the first row or line that differs, and both texts.
+`tools/journeys input SEED` writes the journey of a seed, `drive SEED` its drive, and `tools/certified SEED` its text
+for `check`.
 """
 
 import argparse
@@ -17,25 +17,23 @@ import sys
 import time
 from pathlib import Path
 
+from sdm.laboratory.cases import Case, cases_under, difference
+from sdm.laboratory.program import Fault, Result, add_program, built, run
+from sdm.model.certified import a_certify, a_check
+from sdm.model.journeys import a_drive, make
+from sdm.model.words import collect
+from piped import end
+
 TOP = Path(__file__).resolve().parents[1]
-sys.path.insert(0, str(TOP / "tools"))
-
-from laboratory.cases import Case, cases_under, difference  # noqa: E402
-from laboratory.program import Fault, Result, add_program, built, run  # noqa: E402
-from model.certified import a_certify, a_check  # noqa: E402
-from model.journeys import a_drive, make  # noqa: E402
-from model.words import collect  # noqa: E402
-from piped import end  # noqa: E402
-
 GATE_JOURNEYS = 1000
 PROGRESS = 2000  # journeys between two lines of progress
-SHARE = 3  # each so many seeds an input is given to the other commands too, of which `display` costs the model more than `run`
+SHARE = 3  # each so many seeds an input is given to the other commands too; `display` costs the model more than `run`
 BESIDES = [("drive", a_drive), ("certify", a_certify), ("check", a_check)]
 
 
 def own_tests():
     """Whether the model passes its own tests."""
-    done = subprocess.run(["scripts/unit-tests", "tools", "model/tests"], cwd=TOP, capture_output=True, text=True)
+    done = subprocess.run(["scripts/unit-tests", "python", "tests/model"], cwd=TOP, capture_output=True, text=True)
     print("the model's own tests: " + (done.stdout.splitlines() or ["nothing was told"])[-1])
     if done.returncode:
         print(done.stdout)
@@ -90,8 +88,13 @@ def compare(title, program, cases, count):
 def words_of(args):
     parser = argparse.ArgumentParser(prog="scripts/check-model", description=__doc__.split("\n\n")[0])
     parser.add_argument("--seed", type=int, metavar="N", help="made journeys alone, from this seed on")
-    parser.add_argument("--journeys", type=int, metavar="N", default=GATE_JOURNEYS,
-                        help=f"how many journeys are made, one a seed; {GATE_JOURNEYS} where it isn't said")
+    parser.add_argument(
+        "--journeys",
+        type=int,
+        metavar="N",
+        default=GATE_JOURNEYS,
+        help=f"how many journeys are made, one a seed; {GATE_JOURNEYS} where it isn't said",
+    )
     add_program(parser)
     return parser.parse_args(args)
 

@@ -1,7 +1,7 @@
 """Holds replay, the C program over the static library, against the built program: rows, fault line and exit status.
 
-    scripts/against_replay.py REPLAY                   over examples/, inputs at the limits of the formats, and the journeys
-                                                       that scripts/check-model makes
+    scripts/against_replay.py REPLAY                   over examples/, inputs at the limits of the formats, and the
+                                                       journeys that scripts/check-model makes
     scripts/against_replay.py REPLAY --examples        over examples/ alone
     scripts/against_replay.py REPLAY --program PATH    another program than crates/sdm/out/sdm
 
@@ -15,19 +15,17 @@ import subprocess
 import sys
 from pathlib import Path
 
+from against_model import GATE_JOURNEYS, made
+from sdm.laboratory.cases import Case, cases_under, difference
+from sdm.laboratory.program import Fault, Result, add_program, built, run
+from sdm.model.data import split
+from sdm.model.journeys import specials
+from sdm.model.outcome import Outcome
+from sdm.model.records import records
+from sdm.model.words import MOST_BYTES
+from piped import end
+
 TOP = Path(__file__).resolve().parents[1]
-sys.path.insert(0, str(TOP / "tools"))
-
-from against_model import GATE_JOURNEYS, made  # noqa: E402
-from laboratory.cases import Case, cases_under, difference  # noqa: E402
-from laboratory.program import Fault, Result, add_program, built, run  # noqa: E402
-from model.data import split  # noqa: E402
-from model.journeys import specials  # noqa: E402
-from model.outcome import Outcome  # noqa: E402
-from model.records import records  # noqa: E402
-from model.words import MOST_BYTES  # noqa: E402
-from piped import end  # noqa: E402
-
 SHOWN = 3  # each so many seeds an input is given to `display` too
 NOT_TAKEN = Result("", "replay: the records have a quote, a blank line, a CR or a byte order mark\n", 64)
 BYTE_ORDER_MARK = b"\xef\xbb\xbf"
@@ -45,7 +43,7 @@ def parts(data):
         lines = split(data)[1]
     except Outcome:
         return data, b""
-    return data[:len(data) - len(lines)], lines
+    return data[: len(data) - len(lines)], lines
 
 
 def written_plain(lines):

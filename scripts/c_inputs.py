@@ -10,12 +10,10 @@ import re
 import sys
 from pathlib import Path
 
+from inputs import AREAS, MAKERS, TRACK_CM
+from sdm.model.journeys import specials
+
 TOP = Path(__file__).resolve().parents[1]
-sys.path[:0] = [str(TOP / "bench"), str(TOP / "tools")]
-
-from inputs import AREAS, MAKERS, TRACK_CM  # noqa: E402
-from model.journeys import specials  # noqa: E402
-
 SEED = 1
 
 

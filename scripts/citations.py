@@ -1,4 +1,5 @@
-"""Finds what cites each definition of the specs/ folders: other definitions, the contracts of functions, cases and tests.
+"""Finds what cites each definition of the specs/ folders: other definitions, the contracts of functions, cases and
+tests.
 
 A name in a file stands for the definition that the file imports under it, or defines itself. The tables of
 docs/DEFINITIONS.md (scripts/definitions.py) and the list of scripts/believed stand on this.
@@ -16,7 +17,13 @@ WORD = re.compile(r"[A-Za-z_][\w']*(?:\.[A-Za-z_][\w']*)*")
 FUNCTION = re.compile(r"\b(pub(?:\([^)]*\))?\s+)?(?:const\s+)?fn\s+(\w+)")
 SCOPE = re.compile(r"\b(impl|trait)\b(?:\s*<[^{;]*?>)?\s+([^{;]*?)\s*\{")
 CLAUSE = re.compile(r"\s*(requires|ensures|decreases)\b\s*(\w+)?\s*\{")
-GHOSTS = {"Value": "the value", "view": "the value", "inverse": "the value", "coded": "the value", "invariant": "the invariant"}
+GHOSTS = {
+    "Value": "the value",
+    "view": "the value",
+    "inverse": "the value",
+    "coded": "the value",
+    "invariant": "the invariant",
+}
 GHOST = re.compile(r"\bghost\s+(\w+)\s*=\s*\{")
 STRUCT = re.compile(r"\bstruct\s+(\w+)[^{;]*\{")
 GHOST_FIELD = re.compile(r"\bghost\s+\w+\s*:\s*\{")
@@ -162,7 +169,9 @@ def contracts(path):
     for match in FUNCTION.finditer(text):
         clauses, body = contract_at(text, match.end())
         end = closing(text, body) if text[body : body + 1] == "{" else body
-        yield Contract(path, text, owner_at(match.start()), match.group(2), bool(match.group(1)), clauses, (match.start(), end))
+        yield Contract(
+            path, text, owner_at(match.start()), match.group(2), bool(match.group(1)), clauses, (match.start(), end)
+        )
     for match in GHOST.finditer(text):
         end = closing(text, match.end() - 1)
         clauses = [("ghost", text[match.end() : end - 1])]
@@ -172,7 +181,15 @@ def contracts(path):
         for match in GHOST_FIELD.finditer(text, *fields):
             # a field that is kept for a fact of the others: the fact, and that it is shown in one way at most
             end = text.index("\n", match.start())
-            yield Contract(path, text, struct.group(1), "invariant", True, [("ghost", text[match.end() : end])], (match.start(), end))
+            yield Contract(
+                path,
+                text,
+                struct.group(1),
+                "invariant",
+                True,
+                [("ghost", text[match.end() : end])],
+                (match.start(), end),
+            )
 
 
 def sources(crate):
@@ -226,8 +243,8 @@ class Graph:
         return found
 
     def way_up(self, key):
-        """The nearest definitions from `key` up, over those that cite it, that a contract cites: all of the least distance. A law
-        counts where nothing else does."""
+        """The nearest definitions from `key` up, over those that cite it, that a contract cites: all of the least
+        distance. A law counts where nothing else does."""
         for laws_count in (False, True):
             level, seen = [key], {key}
             while level:

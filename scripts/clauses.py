@@ -1,5 +1,5 @@
-"""Writes the index by clause of docs/SAFETY.md: for each clause that docs/DEFINITIONS.md names as a source, the definitions that
-the top call reaches and that stand on it.
+"""Writes the index by clause of docs/SAFETY.md: for each clause that docs/DEFINITIONS.md names as a source, the
+definitions that the top call reaches and that stand on it.
 
     scripts/clauses          prints the index
     scripts/clauses write    puts it between its marks in docs/SAFETY.md

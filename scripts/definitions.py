@@ -1,9 +1,9 @@
-"""Writes and checks the tables of docs/DEFINITIONS.md: each definition of the specs/ folders with its source, its meaning,
-the contract that cites it, and the case, test or proof that shows it.
+"""Writes and checks the tables of docs/DEFINITIONS.md: each definition of the specs/ folders with its source, its
+meaning, the contract that cites it, and the case, test or proof that shows it.
 
-`scripts/write-definitions` writes them. `scripts/check-definitions` fails where a definition has no source or no comment, where
-the document lacks its line or names one that is gone, where own definitions have no reason, and where the tables aren't, to the
-byte, what `scripts/write-definitions` would write.
+`scripts/write-definitions` writes them. `scripts/check-definitions` fails where a definition has no source or no
+comment, where the document lacks its line or names one that is gone, where own definitions have no reason, and where
+the tables aren't, to the byte, what `scripts/write-definitions` would write.
 """
 
 import re
@@ -34,8 +34,9 @@ PARTS = [
     ),
     (
         "What inner contracts and laws cite",
-        "These are not needed to say what the program does: they are how one crate tells the next what it computes, or how laws "
-        "are stated. A mistake in one of them would make a proof above it fail, and could not make a wrong program pass. "
+        "These are not needed to say what the program does: they are how one crate tells the next what it computes, "
+        "or how laws are stated. A mistake in one of them would make a proof above it fail, "
+        "and could not make a wrong program pass. "
         "Whoever relies on a law by its name relies on its statement here. All are own unless a clause is named.",
     ),
 ]
@@ -47,7 +48,8 @@ def clauses(text):
 
 
 def kind(source):
-    """Whether a definition is meant as the standard's, simplified from it, or the project's own; with its clauses, and what is own."""
+    """Whether a definition is meant as the standard's, simplified from it, or the project's own; with its clauses, and
+    what is own."""
     first, _, rest = source.partition(";")
     if "SUBSET-026-3" in first:
         rest = rest.strip().replace("own: ", "own, ")
@@ -96,7 +98,9 @@ class Matrix:
     def through(self, key):
         """The definition that a contract cites nearest to this one: itself, or one that stands on it, a claim last."""
         nearest = self.graph.way_up(key)
-        return min(nearest, key=lambda k: (self.is_claim(k), k[0] != key[0], len(self.graph.citers[k]), k), default=None)
+        return min(
+            nearest, key=lambda k: (self.is_claim(k), k[0] != key[0], len(self.graph.citers[k]), k), default=None
+        )
 
     def contract(self, key):
         """The cell that names the contract, and the contracts themselves."""
@@ -118,8 +122,8 @@ class Matrix:
         return None
 
     def shown_by(self, key, found):
-        """The cell that names what shows a definition: a case of it and a test of it; else a case of a value that names it; else the
-        proof of what the column of contracts names."""
+        """The cell that names what shows a definition: a case of it and a test of it; else a case of a value that names
+        it; else the proof of what the column of contracts names."""
         shown = [each for each in (self.cases.of(key), self.tests.of(key)) if each] or [self.case_above(key)]
         if shown[0] or not found:
             return "; ".join(filter(None, shown)) or "none"
@@ -128,7 +132,8 @@ class Matrix:
     def line(self, definition, source):
         cell, found = self.contract(definition.key())
         meaning = meaning_of(definition.comment).replace("|", "\\|")
-        return f"| `{definition.name}` | {kind(source or 'none')} | {meaning} | {cell} | {self.shown_by(definition.key(), found)} |"
+        shown = self.shown_by(definition.key(), found)
+        return f"| `{definition.name}` | {kind(source or 'none')} | {meaning} | {cell} | {shown} |"
 
     def uncited(self):
         """The definitions that no contract cites, nor reaches through others."""
@@ -184,12 +189,15 @@ def comment_problems(matrix):
 
 
 def document_problems(matrix):
-    """Lines that are wanting and lines of what is gone, by their names; where there are none, where else the tables are stale."""
+    """Lines that are wanting and lines of what is gone, by their names; where there are none, where else the tables are
+    stale."""
     there = {(p.relative_to(ROOT).as_posix(), d.name) for p in specs.all_spec_files() for d in specs.definitions(p)}
     named = named_in(PART.text())
     found = [f"docs/DEFINITIONS.md: no line for {name} of {where}" for where, name in sorted(there - named)]
     found += [f"docs/DEFINITIONS.md: names {name} of {where}, which is gone" for where, name in sorted(named - there)]
-    found += [f"scripts/own-reasons.txt: {where} is gone" for where in sorted(matrix.reasons) if not (ROOT / where).exists()]
+    found += [
+        f"scripts/own-reasons.txt: {where} is gone" for where in sorted(matrix.reasons) if not (ROOT / where).exists()
+    ]
     found += matrix.tests.faults(matrix.graph)
     return found or PART.faults(matrix.tables())
 

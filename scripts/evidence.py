@@ -1,4 +1,5 @@
-"""Finds what shows a definition: a worked case that the prover computes, and the test that scripts/shown-by.txt names for it."""
+"""Finds what shows a definition: a worked case that the prover computes, and the test that scripts/shown-by.txt names
+for it."""
 
 import re
 from collections import Counter, defaultdict
@@ -68,7 +69,8 @@ def is_result(definition, clause):
 
 
 class Tests:
-    """The tests of all crates, by the functions that they call themselves; and those that scripts/shown-by.txt names."""
+    """The tests of all crates, by the functions that they call themselves; and those that scripts/shown-by.txt
+    names."""
 
     def __init__(self, graph):
         self.functions, self.tests = defaultdict(list), defaultdict(set)
@@ -120,8 +122,8 @@ def body(text, at):
 
 
 def files_of_tests(crate):
-    """Where the tests of a crate stand, by the crates that hold them: it itself, the crate of tests over it, and, in a crate of tests
-    over several, the file of its name."""
+    """Where the tests of a crate stand, by the crates that hold them: it itself, the crate of tests over it, and, in a
+    crate of tests over several, the file of its name."""
     for tester in (crate, f"{crate}_tests"):
         source = CRATES / tester / "src"
         yield tester, [source / "tests.rt", *sorted((source / "tests").glob("*.rt"))]
@@ -143,8 +145,8 @@ def tests_of(paths):
 
 
 def is_called(contract, text, calls, is_alone):
-    """Whether a text, with its calls by a path, calls a function so, or as a method whose name no other function of the crate has,
-    of a type that the text names."""
+    """Whether a text, with its calls by a path, calls a function so, or as a method whose name no other function of the
+    crate has, of a type that the text names."""
     if (contract.owner, contract.name) in calls:
         return True
     is_method = bool(contract.owner) and f".{contract.name}(" in text

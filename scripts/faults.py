@@ -1,13 +1,11 @@
-"""Journeys, how the built program ends over them with a call that fails from outside, and what that may change: the parts of
-scripts/try-faults. docs/ASSUMPTIONS.md says the same for assessors."""
+"""Journeys, how the built program ends over them with a call that fails from outside, and what that may change: the
+parts of scripts/try-faults. docs/ASSUMPTIONS.md says the same for assessors."""
 
 import os
 import subprocess
-import sys
 from dataclasses import dataclass
 from pathlib import Path
 
-sys.dont_write_bytecode = True
 
 ROOT = Path(__file__).resolve().parent.parent
 EXAMPLES = ROOT / "examples"
@@ -54,7 +52,8 @@ def example(name):
 
 
 def thousand_rows(program):
-    """The realistic data with 1,000 readings of a train that runs on at 30 m/s; its end is that of a run with no fault."""
+    """The realistic data with 1,000 readings of a train that runs on at 30 m/s; its end is that of a run with no
+    fault."""
     text = (EXAMPLES / "realistic" / "input").read_text()
     head = text[: text.index("%%\n") + len("%%\n")]
     readings = "".join(

@@ -1,6 +1,6 @@
 """Holds three texts of the interface for C against each other: the header (c/sdm.h), the source (crates/sdm_c/src) and
-the binding for Ada (c/ada/sdm.ads). The numbers of the layout and of the statuses, the codes of a row and a display, the
-fields of each struct with their types in their order, and the arguments of each call in theirs must be the same. A
+the binding for Ada (c/ada/sdm.ads). The numbers of the layout and of the statuses, the codes of a row and a display,
+the fields of each struct with their types in their order, and the arguments of each call in theirs must be the same. A
 number that is handed over is compared by its name too, so that no two of one type can be swapped.
 
     scripts/check-interface    fails where they differ
@@ -107,9 +107,13 @@ def of_ada() -> Listed:
         for names, kind in re.findall(r"([\w, \n]+?) *: ([\w ().]+?)(?: :=[^;]*)?;", body):
             bytes_ = re.fullmatch(r"Bytes \(1 \.\. (\d+)\)", kind)
             known = f"uint8_t{bytes_[1]}" if bytes_ else OF_ADA[kind]
-            fields += [({"text": "bytes"}.get(each.lower(), each.lower()), known) for each in re.split(r"[,\s]+", names.strip())]
+            fields += [
+                ({"text": "bytes"}.get(each.lower(), each.lower()), known)
+                for each in re.split(r"[,\s]+", names.strip())
+            ]
         said[f"the fields of {OF_ADA[name]}"] = fields
-    imported = r"(?:function|procedure) \w+\s*(?:\(([^)]*)\))?(?: return (\w+))?\s+with Import, Convention => C, External_Name => \"(\w+)\""
+    imported = r"(?:function|procedure) \w+\s*(?:\(([^)]*)\))?(?: return (\w+))?\s+"
+    imported += r"with Import, Convention => C, External_Name => \"(\w+)\""
     for listed, result, name in re.findall(imported, text):
         if name != IN_C_ALONE:
             arguments = [each for part in listed.split(";") if part.strip() for each in of_ada_arguments(part)]

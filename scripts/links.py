@@ -8,7 +8,6 @@ docs/LABORATORY.md shows what tools/compare prints. Links to other hosts are not
 
 import re
 import subprocess
-import sys
 from collections.abc import Iterator
 from functools import cache
 from urllib.parse import unquote

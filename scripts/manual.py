@@ -140,11 +140,13 @@ def header_page() -> str:
             f".SH SYNOPSIS\n.nf\n.B #include <sdm.h>\n.PP\n{prototypes}.fi\n.PP\nLink with \\fB\\-lsdm\\fR; "
             "\\fBpkg\\-config \\-\\-cflags \\-\\-libs sdm\\fR and CMake's \\fBfind_package(sdm)\\fR tell the words.\n",
             ".SH DESCRIPTION\n" + ".PP\n".join(f"{escaped(each)}\n" for each in header.opening(text)),
-            ".SH CALLS\nThe text of each call ends with what it answers but SDM_DONE, in the order in which that is looked "
+            ".SH CALLS\nThe text of each call ends with what it answers but SDM_DONE, "
+            "in the order in which that is looked "
             "for.\n",
             "".join(of_call(call) for call in calls),
             f".SH TYPES\n.nf\n{types}.fi\n",
-            ".SH SEE ALSO\n.BR sdm (1);\nthe page FROM-C, beside the other pages of a release, for the duties of the caller.\n",
+            ".SH SEE ALSO\n.BR sdm (1);\n"
+            "the page FROM-C, beside the other pages of a release, for the duties of the caller.\n",
         ]
     )
 

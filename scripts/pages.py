@@ -1,4 +1,5 @@
-"""A part of a page that a script writes: it is printed, put between its marks, or compared with what stands there, to the byte."""
+"""A part of a page that a script writes: it is printed, put between its marks, or compared with what stands there, to
+the byte."""
 
 import itertools
 import os
@@ -46,7 +47,10 @@ class Part:
         pairs = itertools.zip_longest(text.split("\n"), self.written(text, part).split("\n"))
         differ = [(number, *pair) for number, pair in enumerate(pairs, 1) if pair[0] != pair[1]]
         stale = f"stale, run {self.writer}"
-        return [f"{page}:{number}: {stale}: has {shown(old, new)}, not {shown(new, old)}" for number, old, new in differ[:SHOWN]]
+        return [
+            f"{page}:{number}: {stale}: has {shown(old, new)}, not {shown(new, old)}"
+            for number, old, new in differ[:SHOWN]
+        ]
 
     def checked(self, part: str, more: list[str]) -> int:
         """Tells what is wrong with the page, and more that is; the exit status."""

@@ -3,30 +3,29 @@
     scripts/check-upgrade                   what the gate runs
     scripts/check-upgrade --program PATH    another program than crates/sdm/out/sdm
 
-Where `run` accepts the data, `upgrade` must write a text whose table is that of the model for these data; `upgrade` over
-that text must write the same bytes; and `run` over it, with the records of the journey, must end as over the journey.
-Where `run` refuses the data, `upgrade` must write nothing and tell the same line. An input without a dividing line is
-left out.
+Where `run` accepts the data, `upgrade` must write a text whose table is that of the model for these data; `upgrade`
+over that text must write the same bytes; and `run` over it, with the records of the journey, must end as over the
+journey. Where `run` refuses the data, `upgrade` must write nothing and tell the same line. An input without a dividing
+line is left out.
 """
 import argparse
 import sys
 import tomllib
 from pathlib import Path
 
+from sdm.laboratory.cases import cases_under
+from sdm.laboratory.program import Fault, Result, add_program, built, run
+from sdm.model.data import DIVIDING_LINE, data_of, read_document, table_of
+from piped import end
+
 TOP = Path(__file__).resolve().parents[1]
-sys.path.insert(0, str(TOP / "tools"))
-
-from laboratory.cases import cases_under  # noqa: E402
-from laboratory.program import Fault, Result, add_program, built, run  # noqa: E402
-from model.data import DIVIDING_LINE, data_of, read_document, table_of  # noqa: E402
-from piped import end  # noqa: E402
-
 BAD_DATA = 5
 
 
 def fault_of(program, data, line):
-    """What is wrong with `upgrade` over the data part that stands before the dividing line of an input, if anything is."""
-    part, whole = data[:line.start()], run(program, ["run"], data)
+    """What is wrong with `upgrade` over the data part that stands before the dividing line of an input, if anything
+    is."""
+    part, whole = data[: line.start()], run(program, ["run"], data)
     upgraded = run(program, ["upgrade"], part)
     if whole.code == BAD_DATA:
         return None if upgraded == Result("", whole.err, BAD_DATA) else "data that `run` refuses aren't refused alike"
@@ -37,7 +36,7 @@ def fault_of(program, data, line):
         return "what is written is another table"
     if run(program, ["upgrade"], text) != upgraded:
         return "what is written isn't written again"
-    if run(program, ["run"], text + data[line.start():]) != whole:
+    if run(program, ["run"], text + data[line.start() :]) != whole:
         return "what is written gives other rows"
     return None
 

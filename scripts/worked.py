@@ -9,14 +9,12 @@ import re
 import sys
 from pathlib import Path
 
+from sdm.laboratory.cases import Case, difference
+from sdm.laboratory.program import Fault, Result, add_program, built, run
+from piped import end
+
 TOP = Path(__file__).resolve().parents[1]
 WORKED = TOP / "worked"
-sys.path.insert(0, str(TOP / "tools"))
-
-from laboratory.cases import Case, difference  # noqa: E402
-from laboratory.program import Fault, Result, add_program, built, run  # noqa: E402
-from piped import end  # noqa: E402
-
 REPEATED = re.compile(r"\((.*?)\)\*(\d+)")
 SHOWN = 160  # of a longer line no more is shown
 
@@ -33,13 +31,14 @@ def signs(field):
 
 
 def replaced(name, lines, old, new):
-    """The lines of a file, with another text for each that is the old one; where none is, in the first place where it stands in one."""
+    """The lines of a file, with another text for each that is the old one; where none is, in the first place where it
+    stands in one."""
     if old in lines:
         return [new if line == old else line for line in lines]
     number = next((number for number, line in enumerate(lines) if old in line), None)
     if number is None:
         raise Fault(f"{name} has no `{old}`.")
-    return [*lines[:number], lines[number].replace(old, new, 1), *lines[number + 1:]]
+    return [*lines[:number], lines[number].replace(old, new, 1), *lines[number + 1 :]]
 
 
 def changed(name, changes):
@@ -74,7 +73,9 @@ def case_of(name, line):
 def cases_of(table):
     """The runs of a table, by its name and the numbers of their lines."""
     lines = (WORKED / f"{table}.txt").read_text().splitlines()
-    cases = [case_of(f"{table}:{number}", line) for number, line in enumerate(lines, 1) if line and not line.startswith("#")]
+    cases = [
+        case_of(f"{table}:{number}", line) for number, line in enumerate(lines, 1) if line and not line.startswith("#")
+    ]
     if not cases:
         raise Fault(f"{table} has no run.")
     return cases
@@ -86,7 +87,10 @@ def differs(program, case):
     if found == case.due:
         return False
     lines = difference(("worked", "program"), case.due, found)
-    print("\n".join([f"{case.name}: {' '.join(case.words) or '(no words)'}", *(line[:SHOWN] for line in lines)]), flush=True)
+    print(
+        "\n".join([f"{case.name}: {' '.join(case.words) or '(no words)'}", *(line[:SHOWN] for line in lines)]),
+        flush=True,
+    )
     return True
 
 

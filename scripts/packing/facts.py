@@ -16,8 +16,8 @@ class Fault(Exception):
 
 @dataclass(frozen=True)
 class Contents:
-    """What is packed: the program, the library that the crate sdm_c is built to, and folders with the files of the commit
-    and with those that stand at the same places below each prefix."""
+    """What is packed: the program, the library that the crate sdm_c is built to, and folders with the files of the
+    commit and with those that stand at the same places below each prefix."""
 
     program: Path
     library: Path

@@ -42,7 +42,8 @@ def place_files(release: Release, contents: Contents) -> None:
 def write_libraries(
     release: Release, contents: Contents, prefix: Path, root: str, libraries: str, scratch: Path
 ) -> None:
-    """Writes the libraries, with what pkg-config and CMake read of them. The root is pkg-config's name of the prefix."""
+    """Writes the libraries, with what pkg-config and CMake read of them. The root is pkg-config's name of the
+    prefix."""
     into = prefix / libraries
     for folder in (into / "pkgconfig", into / "cmake" / "sdm"):
         folder.mkdir(parents=True)

@@ -14,16 +14,18 @@ from typing import Iterator
 TOP = Path(__file__).resolve().parents[2]
 SECONDS = 300  # the longest that a script may take
 
-# The model, with what Python compiles of it beside it: else each of its starts, of which there are hundreds, would compile it anew.
+# The model, with what Python compiles of it beside it: else each of its starts, of which there are hundreds, would
+# compile it anew.
 SCRATCH = tempfile.TemporaryDirectory()
-MODEL = shutil.copytree(TOP / "tools" / "model", Path(SCRATCH.name) / "model")
-compileall.compile_dir(MODEL, quiet=1)
+shutil.copytree(TOP / "python" / "sdm", Path(SCRATCH.name) / "sdm")
+compileall.compile_dir(SCRATCH.name, quiet=1)
+MODEL = f"PYTHONPATH={SCRATCH.name} {sys.executable} -S -B -m sdm.model"
 
 
 @contextmanager
 def a_copy(parts: list[str]) -> Iterator[Path]:
-    """A copy of the files that are kept of some parts of the repository, as a repository of its own. Parts are told as to git; the
-    whole takes seconds to copy, so a copy has what the script under test reads."""
+    """A copy of the files that are kept of some parts of the repository, as a repository of its own. Parts are told as
+    to git; the whole takes seconds to copy, so a copy has what the script under test reads."""
     words = ["git", "-C", str(TOP), "ls-files", "-z", "--cached", "--others", "--exclude-standard", "--", *parts]
     names = subprocess.run(words, check=True, capture_output=True, text=True).stdout.split("\0")
     with tempfile.TemporaryDirectory() as scratch:
@@ -37,12 +39,20 @@ def a_copy(parts: list[str]) -> Iterator[Path]:
 
 
 def ended(top: Path, *words: str, path: str | None = None) -> tuple[int, str]:
-    """The exit status of a script of a copy, and all that it told. On the path that it has by itself, the Python of these tests
-    comes first: there `python3` may be a script that looks for it."""
+    """The exit status of a script of a copy, and all that it told. On the path that it has by itself, the Python of
+    these tests comes first: there `python3` may be a script that looks for it."""
     path = path or f"{Path(sys.executable).parent}:{os.environ['PATH']}"
     done = subprocess.run(
-        [str(top / words[0]), *words[1:]], cwd=top, env={**os.environ, "PATH": path}, stdin=subprocess.DEVNULL,
-        stdout=subprocess.PIPE, stderr=subprocess.STDOUT, text=True, errors="replace", timeout=SECONDS, check=False,
+        [str(top / words[0]), *words[1:]],
+        cwd=top,
+        env={**os.environ, "PATH": path},
+        stdin=subprocess.DEVNULL,
+        stdout=subprocess.PIPE,
+        stderr=subprocess.STDOUT,
+        text=True,
+        errors="replace",
+        timeout=SECONDS,
+        check=False,
     )
     return done.returncode, done.stdout
 
@@ -56,10 +66,11 @@ def alter(top: Path, file: str, pattern: str, new: str) -> None:
 
 
 def stand_in(top: Path, filtered: str = "cat", status: str = "", name: str = "crates/sdm/out/sdm") -> None:
-    """A program in a copy that does as the model of this repository, its rows through a filter, or with another exit status."""
+    """A program in a copy that does as the model of this repository, its rows through a filter, or with another exit
+    status."""
     built = top / name
     built.parent.mkdir(parents=True, exist_ok=True)
-    built.write_text(f'#!/bin/bash\n{sys.executable} -S -B {MODEL} "$@" | {filtered}\nexit ${{PIPESTATUS[0]}}{status}\n')
+    built.write_text(f'#!/bin/bash\n{MODEL} "$@" | {filtered}\nexit ${{PIPESTATUS[0]}}{status}\n')
     built.chmod(0o755)
 
 
@@ -70,5 +81,6 @@ def mark(top: Path) -> tuple[int, str]:
 
 def marked_as_it_is(top: Path) -> None:
     """Marks the program of a copy, whatever it answers."""
-    code = "import laboratory.program as p; p.MARK.write_text(f'sources {p.sum_of_sources()}\\nprogram {p.sum_of(p.BUILT)}\\n')"
-    subprocess.run([sys.executable, "-B", "-c", code], cwd=top / "tools", check=True)
+    code = "from sdm.laboratory.program import BUILT, MARK, sum_of, sum_of_sources; "
+    code += "MARK.write_text(f'sources {sum_of_sources()}\\nprogram {sum_of(BUILT)}\\n')"
+    subprocess.run([sys.executable, "-B", "-c", code], cwd=top / "python", check=True)

@@ -8,7 +8,6 @@ from . import copies
 
 PRINTS = """
 import sys
-sys.path.insert(0, "scripts")
 from piped import end
 {main}
 end(main)

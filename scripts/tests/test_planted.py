@@ -27,11 +27,21 @@ PARTS = {
     "crates": ["docs", "scripts", "crates.txt"],
     "definitions": [*SPECS, "crates/*/proofs/*Cases.antt"],
     "interface": ["c/sdm.h", "c/ada/sdm.ads", "crates/sdm_c/src/*", "scripts"],
-    "laboratory": ["examples", "scripts", "tools", "vectors/make", "vectors/maker", "vectors/data", "vectors/flat"],
+    "laboratory": [
+        "examples",
+        "scripts",
+        "tools",
+        "python",
+        "vectors/make",
+        "vectors/maker",
+        "vectors/data",
+        "vectors/flat",
+    ],
     "links": [":!vectors/*/*/*"],
     "manual": ["CHANGELOG.md", "README.md", "c/sdm.h", "docs/commands.toml", "docs/sdm.1", "docs/sdm.h.3", "scripts"],
-    "pictures": ["examples/approach", "examples/flat", "scripts", "tools"],
-    "plot": ["examples", "scripts", "tools"],
+    "pictures": ["examples/approach", "examples/flat", "scripts", "tools", "python"],
+    "plot": ["examples", "scripts", "tools", "python"],
+    "python": [".ci", "bench", "python", "scripts", "tools", "vectors/maker"],
     "style": ["README.md", "docs", "scripts"],
     "traces": [*SPECS, "README.md", "crates/*/proofs/*Cases.antt", "crates/*/must-fail/*"],
 }
@@ -47,70 +57,234 @@ PLANTED = [
     ("clauses", [Fault("docs/SAFETY.md", r"^\| 3\.13\.10 .*\n", "", STALE)]),
     ("clauses", [Fault(DEFINITIONS, r"\| as 3\.13\.10 \|", "| as 3.13.11 |", STALE)]),
     ("crates", [Fault("crates.txt", "^sdm_limits: .*\n", "", STALE)]),
-    ("crates", [Fault("docs/ARCHITECTURE.md", r"^(\| `sdm_limits` \|)[^|]*\|$", r"\1  |", "says nothing of what sdm_limits does")]),
+    (
+        "crates",
+        [
+            Fault(
+                "docs/ARCHITECTURE.md",
+                r"^(\| `sdm_limits` \|)[^|]*\|$",
+                r"\1  |",
+                "says nothing of what sdm_limits does",
+            )
+        ],
+    ),
     ("crates", [Fault("docs/ARCHITECTURE.md", r"^<!-- The table ends here. -->\n", "", "puts its part are gone")]),
     ("definitions", [Fault(DEFINITIONS, r"^(\| `\w+` .*\n)(\| `\w+` .*\n)", r"\2\1", STALE)]),
     ("definitions", [Fault(DEFINITIONS, r"^Own because this is the program's interface\.\n", "", STALE)]),
-    ("definitions", [
-        Fault(DEFINITIONS, r"^\| `is_released` .*\n", "", "no line for is_released"),
-        Fault(COMMANDS, r"^-- the last status was .*\n", "", "is_alarm has no comment"),
-        Fault(COMMANDS, r"^(-- the traction cut-off: .*) \(SUBSET[^)]*\)$", r"\1", "cut_off_after has no source"),
-        Fault("scripts/own-reasons.txt", r"^\S+/Commands\.antt: .*\n", "", "no reason for what is own in"),
-        Fault("scripts/shown-by.txt", " train_fault: sdm_base_tests::", " train_fault: sdm_limit_tests::", "is no test of a function"),
-    ]),
-    ("interface", [
-        Fault("crates/sdm_c/src/statuses.rt", r"(const FULL: u32) = 12", r"\1 = 13", "crates/sdm_c/src: the status full: 13, in c/sdm.h 12"),
-        Fault("crates/sdm_c/src/codes.rt", "TargetKind::Eoa => 2", "TargetKind::Eoa => 3", "the code SDM_EOA: 3, in c/sdm.h 2"),
-        Fault("crates/sdm_c/src/lib.rt", "eoa_cm: u32, svl_cm: u32, release", "svl_cm: u32, eoa_cm: u32, release", "crates/sdm_c/src: the call sdm_end: "),
-        Fault("c/ada/sdm.ads", "LOA_Cm, Speed_Kmh : Word", "Speed_Kmh, LOA_Cm : Word", "c/ada/sdm.ads: the call sdm_limit: "),
-        Fault("c/ada/sdm.ads", "Tco, Sb, Eb", "Tco, Eb, Sb", "c/ada/sdm.ads: the fields of sdm_row: "),
-    ]),
-    ("laboratory", [
-        Fault("vectors/flat/curve/rows", r"\d$", "x", "changed: flat/curve/rows"),
-        Fault("vectors/flat/curve/err", r"\A", "sdm: bad words\n", "changed: flat/curve/err"),
-        Fault("vectors/data/version/code", "5", "6", "changed: data/version/code"),
-        Fault("vectors/data/index", "^version\t.*\n", "", "changed: data/index"),
-    ]),
-    ("laboratory", [Fault("tools/why", "The program's row is the same", "It is the same", "FAIL: test_the_program_s_row")]),
-    ("links", [
-        Fault("docs/SAFETY.md", r"\(PROMISES\.md\)", "(PROMISE.md)", "PROMISE.md leads nowhere"),
-        Fault("docs/ASSUMPTIONS.md", "^## What `covered` promises", "## What a covered row promises", "has no such heading"),
-        Fault("c/onboard.c", r"if \(row->eb \|\|", "if (", "c/*.c has no such code: static struct orders"),
-        Fault("README.md", "^5,T,X,1,1,1", "5,T,X,1,1,0", "has not the rows of examples/approach"),
-        Fault("examples/approach/input", "^length = 10000$", "length = 10001", "has not the input of examples/approach"),
-        Fault("examples/every-key/input", "^length = 10000 ", "length = 10001 ", "has not the input of examples/every-key"),
-        Fault("examples/interventions/recording.csv", "^13000;", "13100;", "it doesn't show its output of tools/compare as it is"),
-        Fault("docs/TRACES.md", r"supervisors\.rt#L\d+\)$", "supervisors.rt#L99999)", "supervisors.rt#L99999 has no such line"),
-    ]),
-    ("manual", [
-        Fault("docs/commands.toml", "1 to 1000", "1 to 1001", STALE),
-        Fault("c/sdm.h", "Judges a reading", "Takes a reading", "docs/sdm.h.3: stale"),
-    ]),
-    ("manual", [Fault("CHANGELOG.md", r"^## (?=\[\d)", "## [99.0.0]\n\n## ", "README.md: it doesn't begin a line with `Version 99.0.0 `")]),
+    (
+        "definitions",
+        [
+            Fault(DEFINITIONS, r"^\| `is_released` .*\n", "", "no line for is_released"),
+            Fault(COMMANDS, r"^-- the last status was .*\n", "", "is_alarm has no comment"),
+            Fault(COMMANDS, r"^(-- the traction cut-off: .*) \(SUBSET[^)]*\)$", r"\1", "cut_off_after has no source"),
+            Fault("scripts/own-reasons.txt", r"^\S+/Commands\.antt: .*\n", "", "no reason for what is own in"),
+            Fault(
+                "scripts/shown-by.txt",
+                " train_fault: sdm_base_tests::",
+                " train_fault: sdm_limit_tests::",
+                "is no test of a function",
+            ),
+        ],
+    ),
+    (
+        "interface",
+        [
+            Fault(
+                "crates/sdm_c/src/statuses.rt",
+                r"(const FULL: u32) = 12",
+                r"\1 = 13",
+                "crates/sdm_c/src: the status full: 13, in c/sdm.h 12",
+            ),
+            Fault(
+                "crates/sdm_c/src/codes.rt",
+                "TargetKind::Eoa => 2",
+                "TargetKind::Eoa => 3",
+                "the code SDM_EOA: 3, in c/sdm.h 2",
+            ),
+            Fault(
+                "crates/sdm_c/src/lib.rt",
+                "eoa_cm: u32, svl_cm: u32, release",
+                "svl_cm: u32, eoa_cm: u32, release",
+                "crates/sdm_c/src: the call sdm_end: ",
+            ),
+            Fault(
+                "c/ada/sdm.ads",
+                "LOA_Cm, Speed_Kmh : Word",
+                "Speed_Kmh, LOA_Cm : Word",
+                "c/ada/sdm.ads: the call sdm_limit: ",
+            ),
+            Fault("c/ada/sdm.ads", "Tco, Sb, Eb", "Tco, Eb, Sb", "c/ada/sdm.ads: the fields of sdm_row: "),
+        ],
+    ),
+    (
+        "laboratory",
+        [
+            Fault("vectors/flat/curve/rows", r"\d$", "x", "changed: flat/curve/rows"),
+            Fault("vectors/flat/curve/err", r"\A", "sdm: bad words\n", "changed: flat/curve/err"),
+            Fault("vectors/data/version/code", "5", "6", "changed: data/version/code"),
+            Fault("vectors/data/index", "^version\t.*\n", "", "changed: data/index"),
+        ],
+    ),
+    (
+        "laboratory",
+        [Fault("python/sdm/why.py", "The program's row is the same", "It is the same", "FAIL: test_the_program_s_row")],
+    ),
+    (
+        "links",
+        [
+            Fault("docs/SAFETY.md", r"\(PROMISES\.md\)", "(PROMISE.md)", "PROMISE.md leads nowhere"),
+            Fault(
+                "docs/ASSUMPTIONS.md",
+                "^## What `covered` promises",
+                "## What a covered row promises",
+                "has no such heading",
+            ),
+            Fault("c/onboard.c", r"if \(row->eb \|\|", "if (", "c/*.c has no such code: static struct orders"),
+            Fault("README.md", "^5,T,X,1,1,1", "5,T,X,1,1,0", "has not the rows of examples/approach"),
+            Fault(
+                "examples/approach/input",
+                "^length = 10000$",
+                "length = 10001",
+                "has not the input of examples/approach",
+            ),
+            Fault(
+                "examples/every-key/input",
+                "^length = 10000 ",
+                "length = 10001 ",
+                "has not the input of examples/every-key",
+            ),
+            Fault(
+                "examples/interventions/recording.csv",
+                "^13000;",
+                "13100;",
+                "it doesn't show its output of tools/compare as it is",
+            ),
+            Fault(
+                "docs/TRACES.md",
+                r"supervisors\.rt#L\d+\)$",
+                "supervisors.rt#L99999)",
+                "supervisors.rt#L99999 has no such line",
+            ),
+        ],
+    ),
+    (
+        "manual",
+        [
+            Fault("docs/commands.toml", "1 to 1000", "1 to 1001", STALE),
+            Fault("c/sdm.h", "Judges a reading", "Takes a reading", "docs/sdm.h.3: stale"),
+        ],
+    ),
+    (
+        "manual",
+        [
+            Fault(
+                "CHANGELOG.md",
+                r"^## (?=\[\d)",
+                "## [99.0.0]\n\n## ",
+                "README.md: it doesn't begin a line with `Version 99.0.0 `",
+            )
+        ],
+    ),
     ("manual", [Fault("docs/sdm.1", r"^\.SH DATA PART$", ".SH DATA PART\n.XY", "macro 'XY' not defined")]),
-    ("pictures", [
-        Fault("examples/approach/rows", "^10,T,X,0,0,1,1,160,887500", "10,T,X,0,0,1,1,160,887000", "approach: the picture is stale"),
-        Fault("examples/flat/README.md", r"picture\.svg", "other.svg", "flat: its page doesn't show"),
-    ]),
-    ("plot", [
-        Fault("examples/approach/rows", "^10,T,X,0,0,1,1,160,887500", "10,T,X,0,0,1,1,160,880000", "failed: its marks lie in their places"),
-        Fault("tools/drawing/places.py", r"speed \(km/h\)", "speed (m/s)", "failed: the picture has the text 'speed (km/h)'"),
-        Fault("examples/display/rows", "^760,72,", "760,73,", "failed: the speeds that are shown lie in their places"),
-        Fault("examples/drive/input", "^emergency_time = 20$", "emergency_time = 21", "failed: its true train lies in its places"),
-        Fault("examples/certificate-checked/input", "^mark,378", "mark,379", "failed: marks and ways lie in their places"),
-    ]),
-    ("style", [
-        Fault("docs/SAFETY.md", "^(## What is claimed)$", r"\1\n\nA limit is told.", "'is told': write says"),
-        Fault("docs/SAFETY.md", "^(## What is not claimed)$", r"\1\n\n" + "A word " * 23 + "at last.", "48 words in a sentence: A word"),
-        Fault("docs/FORMATS.md", "^## Commands$", "## Commands of 0.12.1", "'0.12.1': only CHANGELOG.md"),
-    ]),
-    ("traces", [
-        Fault("README.md", r" <!-- trace: order -->", "", "no sentence has the mark order"),
-        Fault("scripts/traces.toml", r"law_of_release_speed", "law_of_speeds", "release-speed: no law sdm_laws::law_of_speeds"),
-        Fault("scripts/traces.toml", r"Supervisor::cycle gaps", "Supervisor::cycle gap", "gaps: sdm_supervisor::Supervisor::cycle has no clause gap"),
-        Fault("crates/sdm_ceiling/must-fail/ebi_margin_not_capped.edit", r"\A#.*\n", "", "ebi_margin_not_capped has no line"),
-    ]),
+    (
+        "pictures",
+        [
+            Fault(
+                "examples/approach/rows",
+                "^10,T,X,0,0,1,1,160,887500",
+                "10,T,X,0,0,1,1,160,887000",
+                "approach: the picture is stale",
+            ),
+            Fault("examples/flat/README.md", r"picture\.svg", "other.svg", "flat: its page doesn't show"),
+        ],
+    ),
+    (
+        "plot",
+        [
+            Fault(
+                "examples/approach/rows",
+                "^10,T,X,0,0,1,1,160,887500",
+                "10,T,X,0,0,1,1,160,880000",
+                "FAIL: test_its_marks_lie_in_their_places",
+            ),
+            Fault(
+                "python/sdm/drawing/places.py",
+                r"speed \(km/h\)",
+                "speed (m/s)",
+                "'<text>speed (km/h)</text>' not found",
+            ),
+            Fault(
+                "examples/display/rows",
+                "^760,72,",
+                "760,73,",
+                "FAIL: test_the_speeds_that_are_shown_lie_in_their_places",
+            ),
+            Fault(
+                "examples/drive/input",
+                "^emergency_time = 20$",
+                "emergency_time = 21",
+                "FAIL: test_the_true_train_lies_in_its_places",
+            ),
+            Fault(
+                "examples/certificate-checked/input",
+                "^mark,378",
+                "mark,379",
+                "FAIL: test_marks_and_ways_lie_in_their_places",
+            ),
+        ],
+    ),
+    (
+        "style",
+        [
+            Fault("docs/SAFETY.md", "^(## What is claimed)$", r"\1\n\nA limit is told.", "'is told': write says"),
+            Fault(
+                "docs/SAFETY.md",
+                "^(## What is not claimed)$",
+                r"\1\n\n" + "A word " * 23 + "at last.",
+                "48 words in a sentence: A word",
+            ),
+            Fault("docs/FORMATS.md", "^## Commands$", "## Commands of 0.12.1", "'0.12.1': only CHANGELOG.md"),
+        ],
+    ),
+    (
+        "traces",
+        [
+            Fault("README.md", r" <!-- trace: order -->", "", "no sentence has the mark order"),
+            Fault(
+                "scripts/traces.toml",
+                r"law_of_release_speed",
+                "law_of_speeds",
+                "release-speed: no law sdm_laws::law_of_speeds",
+            ),
+            Fault(
+                "scripts/traces.toml",
+                r"Supervisor::cycle gaps",
+                "Supervisor::cycle gap",
+                "gaps: sdm_supervisor::Supervisor::cycle has no clause gap",
+            ),
+            Fault(
+                "crates/sdm_ceiling/must-fail/ebi_margin_not_capped.edit",
+                r"\A#.*\n",
+                "",
+                "ebi_margin_not_capped has no line",
+            ),
+        ],
+    ),
     ("traces", [Fault("crates/sdm_rules/specs/Stop.antt", r"\A", "-- one line more\n", STALE)]),
+    (
+        "python",
+        [
+            Fault(
+                "python/sdm/why.py",
+                r"^def section\(title: str",
+                "def section(title: int",
+                'Argument 1 to "section" has',
+            ),
+            Fault("python/sdm/curves.py", "^import csv$", "import csv\nimport os", "F401 'os' imported but unused"),
+            Fault("scripts/unit-tests", r'^cd "\$1"', "cd $1", "SC2086"),
+            Fault("tools/why", r"^command\(", "command( ", "black lays it out otherwise"),
+        ],
+    ),
 ]
 
 
@@ -119,7 +293,7 @@ def copied(script: str) -> Iterator[Path]:
     """A copy for a check, in which vectors/make has no more groups than the copy."""
     with copies.a_copy(PARTS[script]) as top:
         if script == "laboratory":
-            copies.alter(top, "vectors/make", "^(?=def files_of)", TWO_GROUPS)
+            copies.alter(top, "vectors/maker/files.py", "^(?=def files_of)", TWO_GROUPS)
         yield top
 
 
@@ -142,7 +316,18 @@ class Checks(unittest.TestCase):
                         self.assertIn(fault.told, told)
 
     def test_each_check_has_two_faults(self):
-        elsewhere = {"model", "upgrade", "certificates", "worked", "c", "refused", "scripts", "release"}  # test_program.py, all five; by hand
+        elsewhere = {
+            "model",
+            "upgrade",
+            "certificates",
+            "compilers",
+            "worked",
+            "c",
+            "library",
+            "refused",
+            "scripts",
+            "release",
+        }  # test_program.py, all seven; by hand
         names = {path.name.removeprefix("check-") for path in (copies.TOP / "scripts").glob("check-*")} - elsewhere
         few = {name for name in names if sum(len(faults) for script, faults in PLANTED if script == name) < 2}
         self.assertEqual(few, set())

@@ -1,4 +1,5 @@
-"""The scripts over the built program take it only where its mark holds, and tell where it does otherwise than it should."""
+"""The scripts over the built program take it only where its mark holds, and tell where it does otherwise than it
+should."""
 
 import re
 import subprocess
@@ -8,9 +9,7 @@ from pathlib import Path
 
 from . import copies
 
-sys.path[:0] = [str(copies.TOP / "vectors"), str(copies.TOP / "tools")]
-
-from maker.misreadings import MISREADINGS  # noqa: E402
+from maker.misreadings import MISREADINGS
 
 EXAMPLE = "examples/approach"
 MADE = ["scripts/check-model", "--seed", "10", "--journeys", "10"]
@@ -25,7 +24,17 @@ def examples(*names: str) -> list[str]:
 class OverACopy(unittest.TestCase):
     """Each test over a copy of some parts of the repository, in which a program has few sources."""
 
-    parts = [".ci", "HANDLES", "bench", "crates.txt", "crates/sdm", "crates/sdm_rules/specs", "scripts", "tools"]
+    parts = [
+        ".ci",
+        "HANDLES",
+        "bench",
+        "crates.txt",
+        "crates/sdm",
+        "crates/sdm_rules/specs",
+        "scripts",
+        "tools",
+        "python",
+    ]
 
     def setUp(self):
         copy = copies.a_copy(self.parts)
@@ -56,7 +65,8 @@ class Marks(OverACopy):
         """The gate runs where scripts/setup alone was run, which doesn't install them."""
         folder = self.top / "python-alone"
         folder.mkdir()
-        (folder / "python3").symlink_to(sys.executable)
+        for name, path in (("python3", sys.executable), ("bash", "/bin/bash"), ("dirname", "/usr/bin/dirname")):
+            (folder / name).symlink_to(path)
         self.assertIn("has no mark", copies.ended(self.top, "bench/run", path=str(folder))[1])
         copies.mark(self.top)
         self.assertIn("`scripts/setup tools` installs it", copies.ended(self.top, "bench/run", path=str(folder))[1])
@@ -115,14 +125,25 @@ class Answers(OverACopy):
     def test_a_program_that_is_named_is_taken_as_it_is(self):
         (self.top / "crates/sdm/out/sdm.sources").unlink()
         copies.stand_in(self.top, name="another")
-        for words in (["scripts/examples"], ["scripts/check-certificates"], ["scripts/check-upgrade"], ["scripts/check-worked", "check"],
-                      ["scripts/check-model", "--seed", "10", "--journeys", "1"]):
+        for words in (
+            ["scripts/examples"],
+            ["scripts/check-certificates"],
+            ["scripts/check-upgrade"],
+            ["scripts/check-worked", "check"],
+            ["scripts/check-model", "--seed", "10", "--journeys", "1"],
+        ):
             with self.subTest(words[0]):
                 self.assertIn("has no mark", self.told(*words))
-                self.assertRegex(self.told(*words, "--program", str(self.top / "another"), status=0), "0 failed|0 differ")
+                self.assertRegex(
+                    self.told(*words, "--program", str(self.top / "another"), status=0), "0 failed|0 differ"
+                )
 
     def test_other_words_are_refused(self):
-        for words in (["scripts/examples", "approach"], ["scripts/check-certificates", "--program"], ["scripts/check-c", "--more"]):
+        for words in (
+            ["scripts/examples", "approach"],
+            ["scripts/check-certificates", "--program"],
+            ["scripts/check-c", "--more"],
+        ):
             with self.subTest(words[0]):
                 self.assertIn("no such words", self.told(*words, status=2))
 
@@ -138,6 +159,14 @@ class Answers(OverACopy):
         copies.marked_as_it_is(self.top)
         self.assertRegex(self.told("scripts/examples"), "the rows differ")
         self.assertRegex(self.told(*AT_THE_CEILING), r"row \d+ differs")
+
+    def test_a_build_that_differs_from_the_other_is_told(self):
+        words = ["scripts/check-compilers", "--seed", "10", "--journeys", "1"]
+        self.assertIn("There is no program at", self.told(*words))
+        copies.stand_in(self.top, name="crates/sdm/out/sdm.by-rattle")
+        self.assertRegex(self.told(*words, status=0), "made runs: [1-9][0-9]* the same, 0 differ")
+        copies.stand_in(self.top, "sed 's/,C,/,T,/'", name="crates/sdm/out/sdm.by-rattle")
+        self.assertRegex(self.told(*words), r"row \d+ differs")
 
     def test_an_upgrade_that_loses_nothing_passes(self):
         self.assertRegex(self.told("scripts/check-upgrade", status=0), "upgrade: [1-9][0-9]* passed, 0 failed")
@@ -167,7 +196,9 @@ class Answers(OverACopy):
         self.assertIn("trial has no run", self.told("scripts/check-worked", "trial"))
 
     def test_certificates_that_are_answered_by_yes_pass(self):
-        self.assertRegex(self.told("scripts/check-certificates", status=0), "certificates: [1-9][0-9]* passed, 0 failed")
+        self.assertRegex(
+            self.told("scripts/check-certificates", status=0), "certificates: [1-9][0-9]* passed, 0 failed"
+        )
 
     def test_a_certificate_that_is_not_answered_by_yes_is_told(self):
         for filtered in ("sed 's/,yes$/,no/'", r"sed 's/^mark,\([0-9]*\),0$/mark,\11,0/'", "sed '/,yes$/d'"):
@@ -178,13 +209,14 @@ class Answers(OverACopy):
 
     def test_a_model_that_differs_from_the_program_is_told(self):
         module, text, misread = next(each for each in MISREADINGS if each[0] == "triggers")
-        copies.alter(self.top, f"tools/model/{module}.py", re.escape(text), misread.replace("\\", r"\\"))
+        copies.alter(self.top, f"python/sdm/model/{module}.py", re.escape(text), misread.replace("\\", r"\\"))
         self.assertRegex(self.told(*AT_THE_CEILING), r"row \d+ differs")
 
 
 CALLS = ["open", "cycle", "end", "end_calculated", "limit", "restrict", "revoke", "display"]
 CLOSED = "unsigned sdm_layout(void) { return 1; }\nvoid sdm_close(void *h) { (void)h; }\n" + "".join(
-    f"unsigned sdm_{call}(void *h) {{ (void)h; return 1; }}\n" for call in CALLS)
+    f"unsigned sdm_{call}(void *h) {{ (void)h; return 1; }}\n" for call in CALLS
+)
 
 
 class Replays(OverACopy):
@@ -207,7 +239,9 @@ class Replays(OverACopy):
     def compared(self, *filtered: str, status: int = 1) -> str:
         """What is told where replay does as the model, its rows through a filter or with another exit status."""
         copies.stand_in(self.top, *filtered, name="replay")
-        (self.top / "compare").write_text("#!/bin/bash\nexec python3 -B scripts/against_replay.py replay --examples\n")
+        (self.top / "compare").write_text(
+            "#!/bin/bash\nexec scripts/python scripts/against_replay.py replay --examples\n"
+        )
         (self.top / "compare").chmod(0o755)
         return self.told("compare", status=status)
 
@@ -247,6 +281,9 @@ class Replays(OverACopy):
     def test_a_library_that_answers_otherwise_is_told(self):
         self.assertIn("fault: not so of data that are refused", self.told("scripts/check-c", self.library()))
 
+    def test_a_shared_library_that_answers_otherwise_is_told(self):
+        self.assertIn("SdmError: the supervisor is closed", self.told("scripts/check-library", self.library()))
+
 
 class Gate(OverACopy):
     parts = [*OverACopy.parts, *examples("approach")]
@@ -259,7 +296,10 @@ class Gate(OverACopy):
         self.assertIn("< scripts/check-links", self.told(".ci/run"))
 
     def test_a_folder_without_tests_is_told(self):
-        for folder, script in (("tools/laboratory/tests", "scripts/check-laboratory"), ("tools/model/tests", "scripts/check-model")):
+        for folder, script in (
+            ("python/tests/laboratory", "scripts/check-laboratory"),
+            ("python/tests/model", "scripts/check-model"),
+        ):
             for path in (self.top / folder).glob("test_*.py"):
                 path.unlink()
             copies.stand_in(self.top)
@@ -271,7 +311,8 @@ class Gate(OverACopy):
         tools = self.top / "tools-there"
         tools.mkdir()
         self.assertIn("rt, the toolchain's command", self.set_up(tools, {}))
-        there = dict.fromkeys(["rt", "gnuplot", "parallel", "groff", "cc", "valgrind"], "exit 0") | {"python3": "echo Python 3.9; exit 1"}
+        installed = ["rt", "gnuplot", "parallel", "groff", "cc", "valgrind", "black", "flake8", "mypy", "shellcheck"]
+        there = dict.fromkeys(installed, "exit 0") | {"python3": "echo Python 3.9; exit 1"}
         self.assertIn("Python from 3.11 on is needed", self.set_up(tools, there))
 
     def set_up(self, folder: Path, programs: dict[str, str]) -> str:
@@ -279,7 +320,8 @@ class Gate(OverACopy):
         for name, does in programs.items():
             (folder / name).write_text(f"#!/bin/bash\n{does}\n")
             (folder / name).chmod(0o755)
-        (folder / "bash").exists() or (folder / "bash").symlink_to("/bin/bash")
+        for path in map(Path, ("/bin/bash", "/usr/bin/dirname")):
+            (folder / path.name).exists() or (folder / path.name).symlink_to(path)
         status, told = copies.ended(self.top, "scripts/setup", path=str(folder))
         self.assertEqual(status, 1, told)
         return told

@@ -3,18 +3,16 @@ archive has the same bytes wherever it is made, and only a marked program and a 
 stand-ins, with nothing that a gate lacks; scripts/check-release tries the whole."""
 
 import subprocess
-import sys
 import tempfile
 import unittest
 from pathlib import Path
 
 from . import copies
 
-sys.path.insert(0, str(copies.TOP / "scripts"))
 
-import header  # noqa: E402
-from packing import archive, bill, library, places, sums, tree, web  # noqa: E402
-from packing.facts import Contents, Fault, Release  # noqa: E402
+import header
+from packing import archive, bill, library, places, sums, tree, web
+from packing.facts import Contents, Fault, Release
 
 TEXT = header.text()
 CALLS = tuple(call.name for call in header.calls(TEXT))

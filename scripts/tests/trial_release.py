@@ -8,12 +8,11 @@ import sys
 from dataclasses import replace
 from pathlib import Path
 
-sys.path.insert(0, str(Path(__file__).resolve().parents[1]))
 
-import manual  # noqa: E402
-import release  # noqa: E402
-from packing.facts import Fault, Release  # noqa: E402
-from packing.work import pack  # noqa: E402
+import manual
+import release
+from packing.facts import Fault, Release
+from packing.work import pack
 
 
 def trial_facts() -> Release:

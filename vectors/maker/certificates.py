@@ -1,9 +1,9 @@
 """certify/ and check/: certificates of readings, and texts of certificates at the edges of what holds and of what is read."""
-from model.words import collect
+from sdm.model.words import collect
 
 from .curves import AREAS, STEEP, before_the_track
 from .plain import KM, Journey, limit, plain, stop
-from .refusals import READ, text
+from .refusals import text
 from .ten_bands import TEN_BANDS
 from .version2 import TENTHS, UNUSED, WEAKER
 

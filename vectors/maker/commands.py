@@ -1,7 +1,7 @@
 """commands/, times/ and release/: what is held and released; the times of the brakes; release speed monitoring."""
-from model.units import GRAINS_PER_MM, NOTCHES_PER_KM_H
+from sdm.model.units import GRAINS_PER_MM, NOTCHES_PER_KM_H
 
-from .plain import KM, Journey, limit, plain, speeds_around, stop
+from .plain import KM, Journey, plain, speeds_around, stop
 
 # The plain train at 20 m/s towards an EOA at 5 km: P at 4720 m, W at 4760 m, SBI and EBI at 4800 m.
 HELD = {"nothing": [], "status O": [(20_000, 4_730_000)], "the traction cut-off": [(20_000, 4_770_000)],

@@ -1,15 +1,11 @@
 """The plain train of examples/, changed where a vector asks for it, and a builder of journeys that aims at exact limits."""
 import copy
-import sys
-from pathlib import Path
 
-sys.path.insert(0, str(Path(__file__).resolve().parents[2] / "tools"))
-
-from model.data import data_of  # noqa: E402
-from model.journey import Supervisor  # noqa: E402
-from model.records import Reading, event_of  # noqa: E402
-from model.toml_text import toml  # noqa: E402
-from model.units import GRAINS_PER_MM  # noqa: E402
+from sdm.model.data import data_of
+from sdm.model.journey import Supervisor
+from sdm.model.records import Reading, event_of
+from sdm.model.toml_text import toml
+from sdm.model.units import GRAINS_PER_MM
 
 BAND = {"emergency": 100, "service": 100, "normal": 100, "kdry": 1000, "kwet": 1000, "kn_up": 0, "kn_down": 0}
 KM = 100_000  # cm

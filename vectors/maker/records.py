@@ -1,5 +1,5 @@
 """records/, texts/, words/, flat/ and trial/: refused records, spellings, and the other two commands."""
-from .plain import KM, Journey, plain, stop
+from .plain import KM, plain
 from .refusals import READ, text
 
 READINGS = ["read,0,100,100,100,20000,0,0", "read,5,200,200,200,20000,0,0"]

@@ -1,9 +1,8 @@
 """data/, openings/, records/, texts/ and words/: each refusal, what is just accepted, and other spellings."""
-import copy
 
-from model.data import (KIND, REFUSED, Area, Band, Gradient, Limit, National, Root, StaticSpeed, Stop, Track, Train,
-                        keys_of)
-from model.toml_text import Raw, toml
+from sdm.model.data import (KIND, REFUSED, Area, Band, Gradient, Limit, National, Root, StaticSpeed, Stop, Track, Train,
+                        keys_of, known_keys)
+from sdm.model.toml_text import Raw, toml
 
 from .plain import KM, Journey, limit, plain, stop
 
@@ -40,17 +39,17 @@ def spoilt(path, value, authority=None):
     return text(changed(full(authority), [(path, value)]))
 
 
-PLACES = [((), Root.keys), (("train",), Train.keys), (("train", "band", 1), keys_of(Band, 1)),
-          (("national",), National.keys), (("track",), keys_of(Track, 1)),
-          (("track", "gradient", 1), Gradient.keys), (("track", "speed", 1), StaticSpeed.keys),
-          (("track", "adhesion", 0), Area.keys), (("authority",), [KIND, *Stop.keys]), (("authority",), Limit.keys)]
+PLACES = [((), keys_of(Root)), (("train",), keys_of(Train)), (("train", "band", 1), known_keys(Band, 1)),
+          (("national",), keys_of(National)), (("track",), known_keys(Track, 1)),
+          (("track", "gradient", 1), keys_of(Gradient)), (("track", "speed", 1), keys_of(StaticSpeed)),
+          (("track", "adhesion", 0), keys_of(Area)), (("authority",), [KIND, *keys_of(Stop)]), (("authority",), keys_of(Limit))]
 OTHER = {int: [Raw("1.0"), Raw('"1"'), True], bool: [1, Raw('"true"')], str: [5], dict: [1, Raw("[]")], list: [1, Raw("{}"), Raw("[1]")]}
 
 
 def keys():
     """For each key one refusal, turning from key to key: out of range to either side, of another kind, missing."""
     for turn, (way, key) in enumerate((way, key) for way, keys in PLACES for key in keys):
-        authority = limit(5 * KM, 60) if key in Limit.keys else None
+        authority = limit(5 * KM, 60) if key in keys_of(Limit) else None
         name = "-".join([str(step) for step in way if not isinstance(step, int)] + [key.name])
         most = 10 * KM if key.name in ("start", "end") else key.most // key.old_unit
         least = 4 if key.name == "end" else key.least // key.old_unit
@@ -66,7 +65,7 @@ def keys():
 def unknown_keys():
     """A key that isn't listed, in each section."""
     for way, section in PLACES:
-        authority = limit(5 * KM, 60) if section is Limit.keys else None
+        authority = limit(5 * KM, 60) if section is keys_of(Limit) else None
         name = "-".join([str(step) for step in way if not isinstance(step, int)] or ["root"]) + ("-limit" if authority else "")
         yield f"{name}-unknown-key", "a key that isn't listed", spoilt((*way, "more"), 1, authority)
 

@@ -1,6 +1,6 @@
 """targets/: each kind of target, each of its limits, and which targets there are."""
-from model.speeds import dV_ebi, dV_sbi, dV_warning
-from model.units import NOTCHES_PER_KM_H
+from sdm.model.speeds import dV_ebi, dV_sbi, dV_warning
+from sdm.model.units import NOTCHES_PER_KM_H
 
 from .plain import KM, Journey, limit, plain, speeds_around, stop
 
@@ -108,7 +108,7 @@ def vectors():
     for name, kind, bands, track, authority, speeds in kinds():
         yield f"{name}-limits", f"I, P, W, SBI and EBI of {kind}, each a millimetre before, at and past", \
             limits(kind, bands, track, authority, speeds) if kind != "Eoa" else eoa_limits(bands, track, authority, speeds)
-        yield f"{name}-limits-with-times", f"the same with build-up and cut-off times, acceleration and under-reading", \
+        yield f"{name}-limits-with-times", "the same with build-up and cut-off times, acceleration and under-reading", \
             with_times(kind, bands, track, authority, speeds)
         weak = [bands[0] | {"normal": 40}]
         yield f"{name}-guidance", f"a guidance curve of {kind} where it has one, P and I by it, W and SBI not", \

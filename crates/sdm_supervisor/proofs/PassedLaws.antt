@@ -89,7 +89,8 @@ module _ (v : ℕ) (est max : ℤ) (t : Target) (kind : LimitKind) (l : Supervis
 
   -- one that it has is passed above the speed where the front end is past it
   pub passes_there : (x : Fraction) → limit_in kind l ≡ Some x →
-      passes kind v est max 0 t l ≡ (nat_lt (with_margin (margin_of kind) t) v && is_past 0 (front_for est max t.kind) x)
+      passes kind v est max 0 t l
+      ≡ (nat_lt (with_margin (margin_of kind) t) v && is_past 0 (front_for est max t.kind) x)
   passes_there x is =
       ap (λ y. nat_lt (with_margin (margin_of kind) t) v
       && option_map_or (is_past 0 (front_for est max t.kind)) y false) is

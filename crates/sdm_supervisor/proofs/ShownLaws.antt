@@ -1,9 +1,7 @@
--- Whether a target is passed by a limit that is given by its name, and what counts with one more target behind the
--- others.
+-- Whether a target is passed by its limit of a kind, and what counts with one more target behind the others.
 use Rattle.std.proofs.Common.{◌≡◌, ℕ, ℤ, pos, Bool, true, false, ◌&&◌, nat_lt, List, [], ◌∷◌, ◌++◌, ◌≤◌}
 use Rattle.std.proofs.Common.{◌<◌, Option, Some, None, refl, ap, sym, ◌∙◌, arith}
 use Rattle.std.proofs.Common.{int_lt, ◌*ℤ◌, if◌then◌else◌}
-use Rattle.std.proofs.lemmas.Bool.{le-ltb}
 use Rattle.std.proofs.lemmas.Bool.Decides.{nat_tests}
 use Rattle.std.proofs.lemmas.Int.{ints}
 use Rattle.std.proofs.lemmas.List.Elements.{filter-append}

@@ -29,7 +29,8 @@ returns c =
       in_use = c.sight.inside.in_use;
     } in
     let first = c.walk.new.found in
-    let said : IsSaid d c.asked-asked.result.estimate r.est r.max targets first = rw (sym c.sight.view_is) at c.walk.ensures in
+    let said : IsSaid d c.asked-asked.result.estimate r.est r.max targets first =
+    rw (sym c.sight.view_is) at c.walk.ensures in
     let v = c.speed_mm_s-v_est.ensures in
     let is_above : c.lt.result ≡ above_ceiling Permitted s =
     above c.lt.ensures (c.of_kmh-v_mrsp.ensures ∙ omega arith) v in

@@ -1,0 +1,138 @@
+"""Measures the built program over the standard inputs and prints a table in Markdown. It asserts nothing: an input that
+the program refuses, or a command that it doesn't know, is a note in the table. bench/README.md says what each column
+is."""
+
+import argparse
+import hashlib
+import shutil
+import sys
+import tempfile
+from pathlib import Path
+
+import inputs
+import measure
+
+from sdm.laboratory.program import Fault, add_program, built, sum_of
+from piped import end
+
+COLUMNS = [
+    "Input",
+    "Records",
+    "Counted",
+    "ns each",
+    "Least ns",
+    "A second",
+    "Instructions each",
+    "Peak memory, MiB",
+    "Start-up, ms",
+    "Start-up, instructions",
+]
+
+BUSY = 1.5  # a load above this means that others ran beside the program
+
+
+def options():
+    """What the command line asks for."""
+    parser = argparse.ArgumentParser(description="Measures the built program over the standard inputs.")
+    add_program(parser)
+    parser.add_argument(
+        "--only",
+        nargs="+",
+        choices=list(inputs.MAKERS),
+        metavar="INPUT",
+        default=list(inputs.MAKERS),
+        help="measure these inputs alone: " + ", ".join(inputs.MAKERS),
+    )
+    parser.add_argument("--seed", type=int, default=1, help="what the inputs are made from; else 1")
+    parser.add_argument("--runs", type=int, default=10, help="how often each input is timed; else 10 times")
+    parser.add_argument(
+        "--folder",
+        type=Path,
+        help="where inputs and profiles are kept; else they go to a scratch folder that is removed",
+    )
+    return parser.parse_args()
+
+
+def stored(made, folder):
+    """Writes an input, and the same with its first line alone; their paths."""
+    whole, one = folder / f"{made.name}.input", folder / f"{made.name}-one.input"
+    whole.write_bytes(made.whole())
+    one.write_bytes(made.one())
+    return whole, one
+
+
+def figures(made, whole, one, chosen, folder):
+    """The cells of an input's row after its counts. What one reading costs, or one record where none is a reading, is
+    what the whole input takes above the input with one, by those but that one, so that neither the start of the process
+    nor the opening is in it."""
+    program, more = chosen.program, made.counted - 1
+    mean, least = measure.times(program, made.words, whole, chosen.runs, folder)
+    mean_of_one, least_of_one = measure.times(program, made.words_of_one, one, 5 * chosen.runs, folder)
+    count = measure.instructions(program, made.words, whole, whole.with_suffix(".callgrind"))
+    count_of_one = measure.instructions(program, made.words_of_one, one, one.with_suffix(".callgrind"))
+    peak = measure.peak_kib(program, made.words, whole, folder)
+    seconds, least_seconds = (mean - mean_of_one) / more, (least - least_of_one) / more
+    a_second = f"{1 / seconds:,.0f}" if seconds > 0 else "-"
+    return [
+        f"{1e9 * seconds:,.0f}",
+        f"{1e9 * least_seconds:,.0f}",
+        a_second,
+        f"{(count - count_of_one) / more:,.0f}",
+        f"{peak / 1024:.1f}",
+        f"{1e3 * mean_of_one:.1f}",
+        f"{count_of_one:,}",
+    ]
+
+
+def row(made, chosen, folder, digest):
+    """The row of an input. One that the program doesn't take to its end has a note in place of figures."""
+    whole, one = stored(made, folder)
+    digest.update(whole.read_bytes())
+    records = made.head.partition("%%\n")[2].count("\n") + len(made.lines)
+    counts = [made.name, f"{records:,}" if made.lines else "none", f"{made.counted:,}"]
+    status, fault = measure.ending(chosen.program, made.words, whole)
+    if status == 0:
+        cells = figures(made, whole, one, chosen, folder)
+    else:
+        cells = [f"not measured: ended with {status}, `{fault}`"] + ["-"] * (len(COLUMNS) - len(counts) - 1)
+    return "| " + " | ".join(counts + cells) + " |"
+
+
+def measured(chosen, folder):
+    """Measures the chosen inputs and prints the table, each row as it comes, and what must be known beside it."""
+    before, digest = measure.load(), hashlib.sha256()
+    print("| " + " | ".join(COLUMNS) + " |")
+    print("|---|" + "---:|" * (len(COLUMNS) - 1), flush=True)
+    for name in chosen.only:
+        print(row(inputs.MAKERS[name](chosen.seed), chosen, folder, digest), flush=True)
+    after = measure.load()
+    busy = "; it was busy, so compare the instructions" if max(before, after) > BUSY else ""
+    print(f"\n- Machine: {measure.machine()}; load {before:.1f} before and {after:.1f} after{busy}")
+    print(f"- Commit {measure.commit()}; {measure.said(['rt', 'version'])}; program {sum_of(chosen.program)[:12]}")
+    print(
+        f"- Inputs {', '.join(chosen.only)} of seed {chosen.seed}: {digest.hexdigest()[:12]}; {chosen.runs} runs each"
+    )
+
+
+def main():
+    chosen = options()
+    try:
+        chosen.program = built(chosen.program)
+    except Fault as why:
+        sys.exit(f"bench/run: {why}")
+    missing = measure.tools_missing()
+    if missing:
+        sys.exit(f"bench/run: {', '.join(missing)} is missing; `scripts/setup tools` installs it")
+    if chosen.folder:
+        chosen.folder.mkdir(parents=True, exist_ok=True)
+        measured(chosen, chosen.folder.resolve())
+        return
+    scratch = Path(tempfile.mkdtemp())
+    try:
+        measured(chosen, scratch)
+    finally:
+        shutil.rmtree(scratch)
+
+
+if __name__ == "__main__":
+    end(main)

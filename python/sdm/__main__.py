@@ -1,0 +1,32 @@
+"""`python3 -m sdm COMMAND WORDS`: the command lines of the package."""
+import sys
+from importlib import import_module
+
+COMMANDS = {
+    "why": "sdm.why",
+    "curves": "sdm.curves",
+    "compare": "sdm.compare",
+    "campaign": "sdm.campaign",
+    "plot": "sdm.picture",
+    "model": "sdm.model.words",
+    "journeys": "sdm.model.journeys",
+    "certified": "sdm.model.certified",
+}
+
+
+def run(command: str, words: list[str]) -> int:
+    """The exit status of a command for its words."""
+    code: int = import_module(COMMANDS[command]).main(words)
+    return code
+
+
+def main() -> int:
+    """Runs the command that the words of this process name."""
+    if sys.argv[1:2] and sys.argv[1] in COMMANDS:
+        return run(sys.argv[1], sys.argv[2:])
+    print(f"usage: python3 -m sdm {{{','.join(COMMANDS)}}} ...", file=sys.stderr)
+    return 2
+
+
+if __name__ == "__main__":
+    sys.exit(main())

@@ -1,0 +1,1 @@
+"""What a picture of a journey shows, as a script for gnuplot."""

@@ -1,0 +1,48 @@
+"""A run of `drive` as a picture shows it: the readings that the model takes of its train, as a journey of `run`, and
+the train itself."""
+
+from sdm.laboratory.program import Fault
+from sdm.model.data import data_of, read_document
+from sdm.model.drive import STEP_TIME, Drive, Train, drive_lines
+from sdm.model.journey import Cycle
+from sdm.model.outcome import Outcome
+from sdm.model.units import GRAINS_PER_MM, NOTCHES_PER_KM_H
+from sdm.model.words import opened
+
+from .journey import run_journey
+from .values import Journey, Span
+
+GRAINS_PER_M = 1000 * GRAINS_PER_MM
+
+
+def drive_journey(source: bytes, text: str, number: int, cycles: int, times: Span) -> Journey:
+    """The journey of an input of `drive` for its words, and its five lines. Of the limits it has those that this train
+    obeys."""
+    try:
+        data = data_of(read_document(source))
+        drive = opened(Drive, data, number)
+    except Outcome as outcome:
+        raise Fault(f"The input has no readings: {outcome.line}.") from None
+    taken, trains = [], [(STEP_TIME, drive.train)]
+    for _ in range(cycles):
+        taken.append(drive.step().cycle)
+        trains.append((drive.time + STEP_TIME, drive.train))
+    journey = run_journey(source + b"\n%%\n" + records_of(taken), "".join(cycle.row.text() for cycle in taken), times)
+    journey.true = [point_of(train) for time, train in trains if times[0] <= time / 10 <= times[1]]
+    journey.curves = {"EBD": journey.curves["EBD"]}
+    for reading in journey.readings:
+        reading.limits = {"ebi": reading.limits["ebi"]}
+    if text != "".join(drive_lines(data, number, cycles)):
+        journey.note = "lines of drive that the model has otherwise"
+    return journey
+
+
+def records_of(cycles: list[Cycle]) -> bytes:
+    """The records of the readings of these cycles."""
+    lines = ("read," + ",".join(map(str, cycle.situation.reading)) for cycle in cycles)
+    return "".join(line + "\n" for line in lines).encode()
+
+
+def point_of(train: Train) -> Span:
+    """Where the true train is, in m, and its true speed in km/h."""
+    return train.place / GRAINS_PER_M, train.speed / NOTCHES_PER_KM_H

@@ -1,0 +1,65 @@
+"""What a picture shows, as values."""
+import sys
+from dataclasses import dataclass, field
+from typing import Generic, TypeVar
+
+from sdm.laboratory.rows import Row
+from sdm.model.speeds import Zone
+
+T = TypeVar("T")
+Span = tuple[float, float]  # from, to
+Line = list[tuple[float, float]]  # of m and km/h
+SeriesData = dict[str, list[str]]
+
+
+@dataclass
+class Reading:
+    """A reading with its row, the target that its permitted limit is of, and whether the model has another row
+    ("1")."""
+
+    time: float  # s
+    front: float  # m, the estimated front end
+    least: float  # m, the min safe front end
+    most: float  # m, the max safe front end
+    speed: float  # km/h
+    row: Row
+    limits: dict[str, float]  # m
+    shown: dict[str, int] = field(default_factory=dict)  # km/h, of `display`
+    release: int | None = None  # km/h, in release speed monitoring
+    counts: str = ""
+    differs: str = ""
+
+
+@dataclass
+class Held(Generic[T]):
+    """What counts for the readings from number `since` up to, but not including, `until`."""
+
+    what: T
+    since: int
+    until: int = sys.maxsize
+
+
+@dataclass(frozen=True)
+class End:
+    """What ends an authority: its name, and its place in m."""
+
+    name: str
+    place: float
+
+
+@dataclass
+class Journey:
+    """All that a picture shows. `curves` has for each name the whole lines of all that counted, as points of m and
+    km/h."""
+
+    readings: list[Reading]
+    ends: list[Held[End]] = field(default_factory=list)
+    restrictions: list[Held[Zone]] = field(default_factory=list)
+    profile: list[Zone] = field(default_factory=list)  # the static profile and the maximum train speed
+    gradients: list[tuple[float, float, float]] = field(default_factory=list)  # from m, to m, per mille
+    adhesion: list[Span] = field(default_factory=list)  # in m, as the next one
+    no_special: list[Span] = field(default_factory=list)
+    curves: dict[str, list[Line]] = field(default_factory=dict)
+    true: Line = field(default_factory=list)  # the train itself, of `drive`
+    certificates: dict[str, list[Line]] = field(default_factory=dict)  # of `check`, by the name of their series
+    note: str = ""

@@ -1,0 +1,107 @@
+"""The program: which one is taken, whether it is of the sources that lie here, and what it makes of an input.
+
+Scripts and tools take `crates/sdm/out/sdm`, and only where its mark, `sdm.sources` beside it, has the checksum of these
+sources and that of the program. `scripts/program` writes the mark when the program was built. A program that is named
+by `--program` is taken as it is.
+"""
+import argparse
+import hashlib
+import os
+import subprocess
+from collections.abc import Sequence
+from pathlib import Path
+from typing import NamedTuple
+
+TOP = Path(__file__).resolve().parents[3]
+CRATE = TOP / "crates" / "sdm"
+BUILT = CRATE / "out" / "sdm"
+MARK = CRATE / "out" / "sdm.sources"
+READ_BY_THE_PROVER = ["crates/*/src", "crates/*/specs", "crates/*/proofs"]
+PATIENCE = 120  # s, for one run
+
+
+class Result(NamedTuple):
+    """What a run wrote, what it told of its end, and its exit status."""
+
+    rows: str
+    err: str
+    code: int
+
+
+class Fault(Exception):
+    """Why a tool of the laboratory can't go on, in a sentence."""
+
+
+def sources() -> list[Path]:
+    """The files that a program is made of: all that the prover reads of the crates, and what says how they hang
+    together."""
+    folders = [folder for pattern in READ_BY_THE_PROVER for folder in TOP.glob(pattern)]
+    files = [path for folder in folders for path in folder.rglob("*") if path.is_file()]
+    return sorted([TOP / "crates.txt", TOP / "HANDLES", *files])
+
+
+def sum_of_sources() -> str:
+    """The checksum of the sources' names and bytes."""
+    total = hashlib.sha256()
+    for path in sources():
+        total.update(f"{path.relative_to(TOP)} {sum_of(path)}\n".encode())
+    return total.hexdigest()
+
+
+def sum_of(path: Path) -> str:
+    """The checksum of a file's bytes."""
+    return hashlib.sha256(path.read_bytes()).hexdigest()
+
+
+def marked() -> dict[str, str]:
+    """What the mark beside the built program says: `sources`, `program`, `kit` and `by`."""
+    if not MARK.is_file():
+        return {}
+    return dict(line.split(" ", 1) for line in MARK.read_text().splitlines() if " " in line)
+
+
+def fault_of_built() -> str | None:
+    """Why the built program isn't taken, if it isn't."""
+    mark = marked()
+    if not BUILT.is_file():
+        return f"There is no program at {BUILT}"
+    if not mark:
+        return f"{BUILT} has no mark of the sources that it is built from"
+    if mark.get("program") != sum_of(BUILT):
+        return f"{BUILT} is another program than the one that was marked"
+    if mark.get("sources") != sum_of_sources():
+        return f"{BUILT} is built from other sources than these"
+    return None
+
+
+def add_program(parser: argparse.ArgumentParser) -> None:
+    """The option that all tools have for another program than the built one."""
+    parser.add_argument(
+        "--program",
+        type=Path,
+        default=BUILT,
+        metavar="PATH",
+        help="the program to run, where it isn't crates/sdm/out/sdm",
+    )
+
+
+def built(program: Path) -> Path:
+    """The program to take, as a whole path: the built one where it is of these sources, or the one that was named."""
+    program = program.resolve()
+    fault = fault_of_built() if program == BUILT else None if program.is_file() else f"There is no program at {program}"
+    if fault:
+        raise Fault(f"{fault}: .ci/run or `scripts/program build` builds it, and --program names another one.")
+    if not os.access(program, os.X_OK):
+        raise Fault(f"{program} is no program.")
+    return program
+
+
+def run(program: str | os.PathLike[str], words: Sequence[str], data: bytes) -> Result:
+    """The result of the program for words and an input."""
+    try:
+        done = subprocess.run([program, *words], input=data, capture_output=True, timeout=PATIENCE)
+    except subprocess.TimeoutExpired:
+        return Result("", f"no end within {PATIENCE} s\n", -1)
+    except OSError as why:
+        raise Fault(f"{program} doesn't run: {why.strerror}.") from None
+    return Result(done.stdout.decode(errors="replace"), done.stderr.decode(errors="replace"), done.returncode)

@@ -1,0 +1,186 @@
+"""Draws the picture of a journey: tools/plot INPUT ROWS OUT [WORDS...]
+
+INPUT is the input that `sdm` read (`-` for standard input), ROWS are the rows that it wrote for it. OUT is the picture,
+an SVG or a PNG by its ending. WORDS are the words that `sdm` ran with: `run`, which is taken where none are given,
+`display`, `check`, `flat A END`, or `drive NUMBER CYCLES`, of which the readings are the model's and ROWS are the five
+lines. A journey that is refused midway is drawn up to there. What a picture shows, and how it is read, is in
+tools/README.md.
+"""
+
+from __future__ import annotations
+
+import argparse
+import os
+import subprocess
+import sys
+from collections.abc import Callable
+from dataclasses import dataclass, field
+from pathlib import Path
+from typing import TYPE_CHECKING
+
+from sdm.drawing.certificate import check_journey
+from sdm.drawing.drive import drive_journey
+from sdm.drawing.journey import display_journey, flat_journey, run_journey
+from sdm.drawing.places import place_panel
+from sdm.drawing.sheet import BETWEEN, HEIGHT, WIDTH
+from sdm.drawing.strips import height_of, strip_panel
+from sdm.drawing.values import Journey, Span
+from sdm.laboratory.program import Fault
+from sdm.laboratory.walk import read
+from sdm.model.outcome import Outcome
+from sdm.model.words import number_word
+from sdm.records import Data, input_of
+
+if TYPE_CHECKING:
+    from .arrays import Array
+    from .runs import Records
+
+TERMINALS = {".svg": "svg", ".png": "pngcairo fontscale 0.75"}
+ALL = (float("-inf"), float("inf"))
+JOURNEYS = {"run": run_journey, "display": display_journey, "check": check_journey}  # of the commands that are one word
+NUMBERED: dict[str, tuple[Callable[..., Journey], tuple[int, int], tuple[int, int], str]] = {
+    # of those with two numbers: the journey, the range of each, and how it is told
+    "flat": (flat_journey, (5, 400), (0, 10_000_000), "A is 5 to 400 cm/s², END is 0 to 10,000,000 cm"),
+    "drive": (drive_journey, (0, 65_535), (1, 100_000), "NUMBER is 0 to 65,535, CYCLES is 1 to 100,000"),
+}
+
+
+def write(path: str, picture: bytes) -> None:
+    """Writes the bytes of the picture."""
+    try:
+        Path(path).write_bytes(picture)
+    except OSError as why:
+        raise Fault(f"{path} can't be written: {why.strerror}.") from None
+
+
+def script_of(journey: Journey, form: str, places: Span | None = None, speeds: Span | None = None) -> str:
+    """The script for gnuplot of a picture of a form, .svg or .png: both panels, one above the other."""
+    lines = [
+        "set encoding utf8",
+        f"set terminal {TERMINALS[form]} size {WIDTH},{HEIGHT} font 'sans-serif,12' noenhanced background '#FFFFFF'",
+        "set multiplot; set tics nomirror; set border lw 0.8",
+    ]
+    lines += (
+        place_panel(journey, height_of(journey) + BETWEEN, places, speeds) + strip_panel(journey) + ["unset multiplot"]
+    )
+    return "\n".join(lines) + "\n"
+
+
+def drawn(script: str, title: str) -> bytes:
+    """The bytes of the picture that gnuplot draws; settings of the user's own are passed over."""
+    try:
+        done = subprocess.run(["gnuplot", "-d", "-"], input=script.encode(), capture_output=True)
+    except FileNotFoundError:
+        raise Fault("gnuplot is not installed; scripts/setup installs it.") from None
+    if done.returncode != 0 or not done.stdout:
+        raise Fault("gnuplot failed: " + " ".join(done.stderr.decode(errors="replace").split()))
+    return done.stdout.replace(b"<title>Gnuplot</title>", b"<title>" + title.encode() + b"</title>", 1)
+
+
+def journey_of(words: argparse.Namespace) -> Journey:
+    """The journey of the words' files."""
+    source, rows = read(words.input), read(words.rows).decode(errors="replace")
+    if len(words.words) == 1:
+        return JOURNEYS[words.words[0]](source, rows, words.times)
+    return NUMBERED[words.words[0]][0](source, rows, *map(int, words.words[1:]), words.times)
+
+
+@dataclass(frozen=True)
+class Picture:
+    """A picture as SVG, which a notebook shows."""
+
+    svg: bytes = field(repr=False)
+
+    def _repr_svg_(self) -> str:
+        return self.svg.decode()
+
+    def save(self, path: str | os.PathLike[str]) -> None:
+        """Writes it to a file."""
+        Path(path).write_bytes(self.svg)
+
+
+def plot(
+    data: Data,
+    records: Records,
+    rows: Array | None = None,
+    *,
+    times: tuple[float, float] = ALL,
+    places: tuple[float, float] | None = None,
+    speeds: tuple[float, float] | None = None,
+) -> Picture:
+    """The picture of a journey: times in s, places in m and speeds in km/h draw a part of it. Where no rows are given,
+    the journey is run. Raises sdm.laboratory.program.Fault where the rows are not those of the records, and where
+    gnuplot is missing."""
+    from .arrays import records_in, text
+    from .runs import run
+
+    held = records_in(records)
+    shown = run(data, held) if rows is None else rows
+    journey = run_journey(input_of(data, held), text(shown), times)
+    return Picture(drawn(script_of(journey, ".svg", places, speeds), f"sdm run: {len(journey.readings)} readings"))
+
+
+def words_of(args: list[str]) -> argparse.Namespace:
+    parser = argparse.ArgumentParser(prog="tools/plot", description=__doc__.split("\n\n")[0])
+    parser.add_argument("input", metavar="INPUT", help="what sdm read, - for standard input")
+    parser.add_argument("rows", metavar="ROWS", help="the rows that it wrote")
+    parser.add_argument("out", metavar="OUT", help="the picture, a file that ends with .svg or .png")
+    parser.add_argument(
+        "words",
+        metavar="WORDS",
+        nargs="*",
+        help="the words of sdm: run, display, check, flat A END, or drive NUMBER CYCLES; run where there are none",
+    )
+    parser.add_argument(
+        "--times",
+        nargs=2,
+        type=float,
+        metavar=("FROM", "TO"),
+        default=ALL,
+        help="the readings between two times in s alone",
+    )
+    parser.add_argument("--places", nargs=2, type=float, metavar=("FROM", "TO"), help="the places that are shown, in m")
+    parser.add_argument(
+        "--speeds", nargs=2, type=float, metavar=("FROM", "TO"), help="the speeds that are shown, in km/h"
+    )
+    words = parser.parse_args(args)
+    words.words = words.words or ["run"]
+    if Path(words.out).suffix not in TERMINALS:
+        parser.error(f"OUT is {words.out}, and must end with {' or '.join(TERMINALS)}")
+    for name in ("times", "places", "speeds"):
+        part = getattr(words, name)
+        if part and not part[0] < part[1]:
+            parser.error(f"--{name} is {part[0]:g} to {part[1]:g}: the first must be below the second")
+    if len(words.words) > 1 or words.words[0] not in JOURNEYS:
+        number_words(words.words, parser)
+    return words
+
+
+def number_words(words: list[str], parser: argparse.ArgumentParser) -> None:
+    """Refuses words that are none of a journey with readings."""
+    if words[0] not in NUMBERED or len(words) != 3:
+        parser.error(
+            f"the words of sdm are {' '.join(words)!r}, and must be 'run', 'display', 'check', 'flat A END' or "
+            "'drive NUMBER CYCLES'; 'trial' has no readings to draw"
+        )
+    _, *ranges, told = NUMBERED[words[0]]
+    try:
+        for word, (least, most) in zip(words[1:], ranges):
+            number_word(word, least, most)
+    except Outcome:
+        parser.error(f"{' '.join(words)!r}: {told}")
+
+
+def main(args: list[str]) -> int:
+    words = words_of(args)
+    try:
+        journey = journey_of(words)
+        title = f"{' '.join(['sdm', *words.words])}: {len(journey.readings)} readings"
+        script = script_of(journey, Path(words.out).suffix, words.places, words.speeds)
+        write(words.out, drawn(script, title))
+        if journey.note:
+            print(f"plot: {journey.note}; tools/why tells of a row why it is as the model has it.", file=sys.stderr)
+    except Fault as why:
+        print(f"plot: {why}", file=sys.stderr)
+        return 1
+    return 0

@@ -1,0 +1,5 @@
+"""Where the tests find the repository and its examples."""
+from pathlib import Path
+
+TOP = Path(__file__).resolve().parents[2]
+EXAMPLES = TOP / "examples"

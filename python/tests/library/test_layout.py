@@ -1,0 +1,71 @@
+"""The structs and numbers of the package are those of c/sdm.h."""
+import ctypes
+import re
+import unittest
+
+from sdm import library, rows
+
+from ..folders import TOP
+
+HEADER = (TOP / "c" / "sdm.h").read_text()
+STRUCTS = {
+    "sdm": library.Handle,
+    "sdm_line": library.Line,
+    "sdm_reading": library.ReadingStruct,
+    "sdm_place": library.Place,
+    "sdm_row": library.RowStruct,
+    "sdm_restriction": library.RestrictionStruct,
+    "sdm_display": library.DisplayStruct,
+}
+ENUMS = {
+    "sdm_status": rows.Status,
+    "sdm_state": rows.State,
+    "sdm_supervision": rows.Supervision,
+    "sdm_target": rows.Target,
+}
+
+
+class Layout(unittest.TestCase):
+    def test_sizes_and_offsets(self):
+        sizes = dict(re.findall(r"^SDM_SIZE\((\w+), (\d+)\);", HEADER, re.M))
+        self.assertEqual(
+            {name: ctypes.sizeof(struct) for name, struct in STRUCTS.items()},
+            {name: int(size) for name, size in sizes.items()},
+        )
+        due = {
+            (struct, field): int(at)
+            for struct, field, at in re.findall(r"^SDM_AT\((\w+), (\w+), (\d+)\);", HEADER, re.M)
+        }
+        due |= {("sdm_place", "mm"): 0, ("sdm_place", "is_some"): 8}
+        found = {
+            (name, field): getattr(struct, field).offset
+            for name, struct in STRUCTS.items()
+            for field, *_ in struct._fields_
+        }
+        self.assertEqual(found, due)
+
+    def test_fields_have_the_header_s_types(self):
+        kinds = {
+            "uint32_t": ctypes.c_uint32,
+            "int32_t": ctypes.c_int32,
+            "int64_t": ctypes.c_int64,
+            "struct sdm_place": library.Place,
+        }
+        for name in ("sdm_reading", "sdm_place", "sdm_row", "sdm_restriction", "sdm_display"):
+            body = re.search(rf"^struct {name} {{\n(.*?)^}};", HEADER, re.M | re.S)[1]
+            due = [(field, kinds[kind]) for kind, field in re.findall(r"^ {4}((?:struct )?\w+) (\w+);", body, re.M)]
+            self.assertEqual(list(STRUCTS[name]._fields_), due)
+
+    def test_numbers_of_enums(self):
+        for name, enum in ENUMS.items():
+            body = re.search(rf"^enum {name} {{(.*?)}};", HEADER, re.M | re.S)[1]
+            due = {int(number) for number in re.findall(r"SDM_\w+ = (\d+)", body)}
+            self.assertEqual({each.value for each in enum}, due)
+        status = re.search(r"^enum sdm_status {(.*?)};", HEADER, re.M | re.S)[1]
+        self.assertEqual(
+            {each.name: each.value for each in rows.Status},
+            {word: int(n) for word, n in re.findall(r"SDM_(\w+) = (\d+)", status)},
+        )
+
+    def test_the_number_of_the_layout(self):
+        self.assertEqual(library.LAYOUT, int(re.search(r"^#define SDM_LAYOUT (\d+)u", HEADER, re.M)[1]))

@@ -1,0 +1,53 @@
+"""Each journey of examples/ and vectors/ by the binding: rows, lines of a fault and codes are those that lie beside its
+input."""
+import unittest
+
+from sdm import Reading, SdmError, Status, Supervisor
+from sdm.laboratory.cases import cases_under, difference
+from sdm.laboratory.program import Result
+from sdm.model.data import split
+from sdm.model.outcome import Outcome, Refused
+from sdm.model.records import event_of, records
+from sdm.records import OF_MODEL
+
+from ..folders import TOP
+
+CODES = {Status.BAD_DATA: 5, Status.REFUSED: 6}
+MOST_RECORDS = 100_000
+
+
+def played(word, source):
+    """What the program's `run` or `display` writes of an input, by the binding."""
+    lines = []
+    try:
+        head, rest = split(source)
+        supervisor = Supervisor(head)
+    except Outcome as why:
+        return Result("", f"sdm: {why.line}\n", why.code)
+    except SdmError as why:
+        return Result("", f"{why}\n", CODES[why.status])
+    with supervisor:
+        for number, fields in enumerate(records(rest), 1):
+            try:
+                if number > MOST_RECORDS:
+                    raise Refused("too many events")
+                event = event_of(fields)
+                record = OF_MODEL[type(event)](*event)
+                row = supervisor.take(record)
+            except (Refused, SdmError) as why:
+                return Result("".join(lines), f"sdm: bad event {number}: {why}\n", 7)
+            if isinstance(record, Reading):
+                lines.append((row if word == "run" else supervisor.display(record)).text())
+    return Result("".join(lines), "", 0)
+
+
+class Rows(unittest.TestCase):
+    def test_each_journey(self):
+        played_now = 0
+        for case in [*cases_under(TOP / "examples"), *cases_under(TOP / "vectors")]:
+            if case.words in (["run"], ["display"]):
+                played_now += 1
+                with self.subTest(case.name):
+                    self.assertEqual(difference(("due", "binding"), case.due, played(case.words[0], case.data)), [])
+        print(f"{played_now} journeys by the binding")
+        self.assertGreater(played_now, 400)
