@@ -8,6 +8,7 @@ COMMANDS = {
     "compare": "sdm.compare",
     "campaign": "sdm.campaign",
     "plot": "sdm.picture",
+    "rides": "sdm.rides",
     "model": "sdm.model.words",
     "journeys": "sdm.model.journeys",
     "certified": "sdm.model.certified",
