@@ -7,6 +7,7 @@ from typing import TYPE_CHECKING, Any
 
 if TYPE_CHECKING:  # for mypy and editors; _HOMES says the same where it runs
     from .arrays import READING, ROW, frame, readings, text
+    from .findings import Explanation, Finding, explain, explanation
     from .library import Supervisor
     from .picture import Picture, plot
     from .records import End, EndCalculated, Limit, Reading, Record, Restriction, Revocation, records_of
@@ -17,6 +18,7 @@ if TYPE_CHECKING:  # for mypy and editors; _HOMES says the same where it runs
 __version__ = "0.11.1"
 _HOMES = {
     "arrays": ["READING", "ROW", "frame", "readings", "text"],
+    "findings": ["Explanation", "Finding", "explain", "explanation"],
     "library": ["Supervisor"],
     "picture": ["Picture", "plot"],
     "records": ["End", "EndCalculated", "Limit", "Reading", "Record", "Restriction", "Revocation", "records_of"],

@@ -3,6 +3,7 @@ import sys
 from importlib import import_module
 
 COMMANDS = {
+    "explain": "sdm.explain_input",
     "why": "sdm.why",
     "curves": "sdm.curves",
     "compare": "sdm.compare",

@@ -19,9 +19,9 @@ MOST_DEEP = 80  # of arrays and tables
 
 class Key(NamedTuple):
     """A row of the tables in FORMATS, as a note to the type of a field: its range (of a list how many entries), what
-    counts where it is absent, the step of its values, the version that brings it, and how many of its units one of
-    version 1 is; then the name, the kind that its value is of, and the section that it holds or that each entry of its
-    list is."""
+    counts where it is absent, the step of its values, the version that brings it, how many of its units one of
+    version 1 is, and the unit, with that of version 1 where it is another; then the name, the kind that its value is
+    of, and the section that it holds or that each entry of its list is."""
 
     least: int = 0
     most: int = 0
@@ -29,38 +29,40 @@ class Key(NamedTuple):
     step: int = 1
     since: int = 1
     old_unit: int = 1
+    unit: str = ""
+    unit_of_1: str = ""
     name: str = ""
     kind: type = str
     of: Any = None
 
 
 class Band(NamedTuple):
-    upper: Annotated[int | None, Key(1, 500, None)]
-    emergency: Annotated[int, Key(1, 400)]
-    service: Annotated[int, Key(1, 400)]
-    normal: Annotated[int, Key(1, 400)]
-    kdry: Annotated[int, Key(1, 1000)]
-    kwet: Annotated[int, Key(1, 1000)]
-    kn_up: Annotated[int, Key(0, 1000)]
-    kn_down: Annotated[int, Key(0, 1000)]
-    emergency_reduced: Annotated[int | None, Key(1, 400, None, since=2)]
+    upper: Annotated[int | None, Key(1, 500, None, unit="km/h")]
+    emergency: Annotated[int, Key(1, 400, unit="cm/s²")]
+    service: Annotated[int, Key(1, 400, unit="cm/s²")]
+    normal: Annotated[int, Key(1, 400, unit="cm/s²")]
+    kdry: Annotated[int, Key(1, 1000, unit="thousandths")]
+    kwet: Annotated[int, Key(1, 1000, unit="thousandths")]
+    kn_up: Annotated[int, Key(0, 1000, unit="cm/s²")]
+    kn_down: Annotated[int, Key(0, 1000, unit="cm/s²")]
+    emergency_reduced: Annotated[int | None, Key(1, 400, None, since=2, unit="cm/s²")]
 
 
 class Train(NamedTuple):
-    length: Annotated[int, Key(1, 150_000)]
-    max_speed: Annotated[int, Key(1, 500)]
-    rotating_mass: Annotated[int | None, Key(0, 50, None)]
-    traction_cutoff_time: Annotated[int, Key(0, 300)]
+    length: Annotated[int, Key(1, 150_000, unit="cm")]
+    max_speed: Annotated[int, Key(1, 500, unit="km/h")]
+    rotating_mass: Annotated[int | None, Key(0, 50, None, unit="percent")]
+    traction_cutoff_time: Annotated[int, Key(0, 300, unit="ds")]
     traction_cutoff_interface: Annotated[bool, Key()]
-    emergency_time: Annotated[int, Key(0, 300)]
-    service_time: Annotated[int, Key(0, 300, step=5)]
+    emergency_time: Annotated[int, Key(0, 300, unit="ds")]
+    service_time: Annotated[int, Key(0, 300, step=5, unit="ds")]
     service_brake: Annotated[bool, Key()]
     band: Annotated[tuple[Band, ...], Key(1, 10)]
 
 
 class National(NamedTuple):
-    avadh: Annotated[int, Key(0, 20)]
-    adhesion_max: Annotated[int, Key(1, 400)]
+    avadh: Annotated[int, Key(0, 20, unit="twentieths")]
+    adhesion_max: Annotated[int, Key(1, 400, unit="cm/s²")]
     guidance: Annotated[bool, Key()]
     service_in_target: Annotated[bool, Key()]
     early_release: Annotated[bool, Key()]
@@ -68,23 +70,23 @@ class National(NamedTuple):
 
 
 class Gradient(NamedTuple):
-    start: Annotated[int, Key()]
-    grad: Annotated[int, Key(-800, 800, old_unit=10)]
+    start: Annotated[int, Key(unit="cm")]
+    grad: Annotated[int, Key(-800, 800, old_unit=10, unit="tenths of a per mille", unit_of_1="per mille")]
 
 
 class StaticSpeed(NamedTuple):
-    start: Annotated[int, Key()]
-    speed: Annotated[int, Key(1, 500)]
+    start: Annotated[int, Key(unit="cm")]
+    speed: Annotated[int, Key(1, 500, unit="km/h")]
     delayed: Annotated[bool, Key(absent=True)]
 
 
 class Area(NamedTuple):
-    start: Annotated[int, Key()]
-    end: Annotated[int, Key()]
+    start: Annotated[int, Key(unit="cm")]
+    end: Annotated[int, Key(unit="cm")]
 
 
 class Track(NamedTuple):
-    length: Annotated[int, Key(1, MOST_CM)]
+    length: Annotated[int, Key(1, MOST_CM, unit="cm")]
     gradient: Annotated[tuple[Gradient, ...], Key(0, 512, ())]
     speed: Annotated[tuple[StaticSpeed, ...], Key(1, 128)]
     adhesion: Annotated[tuple[Area, ...], Key(0, 64, ())]
@@ -92,14 +94,14 @@ class Track(NamedTuple):
 
 
 class Stop(NamedTuple):
-    eoa: Annotated[int, Key(0, MOST_CM)]
-    svl: Annotated[int, Key(0, MOST_CM)]
-    release: Annotated[int, Key(0, 500, 0)]
+    eoa: Annotated[int, Key(0, MOST_CM, unit="cm")]
+    svl: Annotated[int, Key(0, MOST_CM, unit="cm")]
+    release: Annotated[int, Key(0, 500, 0, unit="km/h")]
 
 
 class Limit(NamedTuple):
-    loa: Annotated[int, Key(0, MOST_CM)]
-    speed: Annotated[int, Key(1, 500)]
+    loa: Annotated[int, Key(0, MOST_CM, unit="cm")]
+    speed: Annotated[int, Key(1, 500, unit="km/h")]
 
 
 Authority = Stop | Limit

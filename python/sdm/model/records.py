@@ -1,9 +1,9 @@
 """The records (FORMATS "The records"): what a record is, and what it writes."""
 import re
 from collections.abc import Iterator
-from typing import Any, NamedTuple
+from typing import Annotated, Any, NamedTuple
 
-from .data import MOST_CM, Limit, Stop
+from .data import MOST_CM, Key, Limit, Stop
 from .outcome import Refused
 from .units import GRAINS_PER_MM, NOTCHES_PER_MM_S, Number
 
@@ -15,13 +15,13 @@ FIELD = re.compile(rb'(?:"([^"]*(?:""[^"]*)*)(?:"|\Z))?([^,\r\n]*)')
 class Reading(NamedTuple):
     """A `read` record in its own units, with the standard's names for what follows from it."""
 
-    time: int
-    est: int
-    min: int
-    max: int
-    speed: Number
-    accel: int
-    under: int
+    time: Annotated[int, Key(unit="ds")]
+    est: Annotated[int, Key(unit="mm")]
+    min: Annotated[int, Key(unit="mm")]
+    max: Annotated[int, Key(unit="mm")]
+    speed: Annotated[Number, Key(unit="mm/s")]
+    accel: Annotated[int, Key(unit="cm/s²")]
+    under: Annotated[int, Key(unit="mm/s")]
 
     @property
     def V_est(self) -> Number:
@@ -41,25 +41,25 @@ class Reading(NamedTuple):
 class Calculated(NamedTuple):
     """`endcalc`, in cm: an authority whose release speed is calculated."""
 
-    eoa: int
-    svl: int
-    trip: int
+    eoa: Annotated[int, Key(unit="cm")]
+    svl: Annotated[int, Key(unit="cm")]
+    trip: Annotated[int, Key(unit="cm")]
 
 
 class Restriction(NamedTuple):
     """`restrict`, in cm and km/h."""
 
-    identity: int
-    start: int
-    end: int
-    speed: int
-    delayed: int
+    identity: Annotated[int, Key()]
+    start: Annotated[int, Key(unit="cm")]
+    end: Annotated[int, Key(unit="cm")]
+    speed: Annotated[int, Key(unit="km/h")]
+    delayed: Annotated[int, Key()]
 
 
 class Revocation(NamedTuple):
     """`revoke`."""
 
-    identity: int
+    identity: Annotated[int, Key()]
 
 
 Event = Reading | Stop | Calculated | Limit | Restriction | Revocation
@@ -102,15 +102,20 @@ def event_of(fields: list[bytes]) -> Event:
 
 def records(data: bytes) -> Iterator[list[bytes]]:
     """FORMATS "What a record is": the records' fields, one record after the other."""
+    return (fields for _, fields in placed_records(data))
+
+
+def placed_records(data: bytes) -> Iterator[tuple[int, list[bytes]]]:
+    """Each record's fields, and where among the bytes it begins."""
     at = 3 if data.startswith(b"\xef\xbb\xbf") else 0
     while at < len(data):
-        fields, more = [], data[at] not in b"\r\n"
+        begin, fields, more = at, [], data[at] not in b"\r\n"
         while more:
             field = FIELD.match(data, at)
             assert field is not None, "a field may be empty"
             fields.append((field[1] or b"").replace(b'""', b'"') + field[2])
             at, more = field.end() + 1, data.startswith(b",", field.end())
         if fields:
-            yield fields
+            yield begin, fields
         else:  # the end of an empty line, or the LF of a CRLF
             at += 1

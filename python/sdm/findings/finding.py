@@ -1,0 +1,29 @@
+"""A finding: where an input is refused or looks wrong, what was found there, and what is expected."""
+from dataclasses import dataclass
+
+Place = tuple[int, int]  # a line and a column of a text, each from 1
+
+
+@dataclass(frozen=True)
+class Finding:
+    """A fault of an input, or a doubt about one that is accepted.
+
+    `line` counts the lines of the input from 1, and is None where the fault has none. `column` is that of the data
+    part's text, from 1; of a record it is the field, from 1, the kind being 1. `where` is the path of a key, or the
+    record with its column. `found` and `expected` have units; `hint` is the likely mistake, or empty.
+    """
+
+    line: int | None
+    column: int | None
+    where: str
+    found: str
+    expected: str
+    hint: str = ""
+    is_refusal: bool = True
+
+    def __str__(self) -> str:
+        places = [f"{name} {at}" for name, at in (("line", self.line), ("column", self.column)) if at is not None]
+        place = (", ".join(places) + ": ") if places else ""
+        warning = "" if self.is_refusal else "looks wrong: "
+        hint = f" ({self.hint})" if self.hint else ""
+        return f"{place}{self.where}: {warning}found {self.found}; expected {self.expected}{hint}"

@@ -1,0 +1,204 @@
+"""explain tells each mistake of a table with its line and what is expected, and doubts slips of units and no more."""
+import re
+import tempfile
+import unittest
+from pathlib import Path
+
+import sdm
+from sdm.laboratory.program import BUILT, run
+from sdm.model.data import data_of, read_document
+from sdm.model.drive import Drive
+from sdm.model.words import collect
+
+from ..folders import EXAMPLES, TOP
+from ..tool import tool
+
+TABLE = (Path(__file__).parent / "mistakes.txt").read_text()
+WHOLE = (EXAMPLES / "every-key" / "input").read_text().split("\n")
+JOURNEY = (EXAMPLES / "interventions" / "input").read_text()
+BREAK_PHYSICS = {"approach", "band-border", "every-key", "written-otherwise"}  # their readings are scenes of their own
+FAULT = "sdm: "
+
+
+def cases():
+    """Each case: the lines of the table, without comments."""
+    text = "\n".join(line for line in TABLE.split("\n") if not line.startswith("#"))
+    return [block.split("\n") for block in re.split(r"\n{2,}", text.strip("\n"))]
+
+
+def edited(edits):
+    """The whole input with lines changed, and others put before a line."""
+    lines, before = WHOLE.copy(), {}
+    for edit in edits:
+        number, sign, text = re.fullmatch(r"(\d+) ([=>]) ?(.*)", edit).groups()
+        if sign == "=":
+            lines[int(number) - 1] = text
+        else:
+            before.setdefault(int(number), []).append(text)
+    return "\n".join(line for i, each in enumerate(lines, 1) for line in [*before.get(i, []), each])
+
+
+def readings(change):
+    """The journey with the numbers of each reading changed: time, est, min, max, speed, accel, under."""
+    data, _, records = JOURNEY.partition("%%\n")
+    lines = []
+    for number, line in enumerate(records.splitlines()):
+        kind, *fields = line.split(",")
+        fields = change(number, *map(int, fields)) if kind == "read" else fields
+        lines.append(",".join([kind, *map(str, fields)]))
+    return data + "%%\n" + "\n".join(lines) + "\n"
+
+
+def scaled(place=1.0, speed=1.0, time=1.0, only=None):
+    """The journey in other units, or one reading of it."""
+
+    def change(number, ds, est, low, high, mm_s, accel, under):
+        if only is not None and number != only:
+            return ds, est, low, high, mm_s, accel, under
+        ends = [round(place * end) for end in (est, low, high)]
+        return round(time * ds), *ends, round(speed * mm_s), accel, under
+
+    return readings(change)
+
+
+class Mistakes(unittest.TestCase):
+    def test_each_is_told_with_its_line_and_what_is_expected(self):
+        self.assertGreaterEqual(len(cases()), 40)
+        for lines in cases():
+            at = next(i for i, line in enumerate(lines) if line.startswith(FAULT))
+            text = edited(lines[:at])
+            with self.subTest(lines[:at]):
+                told = sdm.explanation(text.encode())
+                self.assertEqual(FAULT + told.fault, lines[at])
+                self.assertEqual(collect(["run"], text.encode())[1], lines[at] + "\n")
+                self.assertEqual(len(told.findings), len(lines) - at - 1, "\n".join(map(str, told.findings)))
+                for finding, due in zip(told.findings, lines[at + 1 :]):
+                    self.is_due(finding, due)
+
+    def is_due(self, finding, due):
+        place, found, expected, hint = (part.strip() for part in due.split("|"))
+        place, where = place.split(" ", 1)
+        told = ",".join("-" if each is None else str(each) for each in (finding.line, finding.column))
+        self.assertEqual((told, finding.where), (place, where))
+        self.assertIn(found, finding.found)
+        self.assertIn(expected, finding.expected)
+        self.assertIn(hint, finding.hint)
+        self.assertEqual(hint == "", finding.hint == "")
+        self.assertTrue(finding.is_refusal)
+
+    @unittest.skipUnless(BUILT.is_file(), "the program isn't built")
+    def test_the_program_tells_their_fault_lines(self):
+        for lines in cases():
+            at = next(i for i, line in enumerate(lines) if line.startswith(FAULT))
+            with self.subTest(lines[:at]):
+                self.assertEqual(run(BUILT, ["run"], edited(lines[:at]).encode()).err, lines[at] + "\n")
+
+
+class Faults(unittest.TestCase):
+    def test_of_the_vectors_is_the_first_what_the_program_tells(self):
+        for path in sorted((TOP / "vectors").rglob("input")):
+            if not (path.parent / "args").is_file() or (path.parent / "args").read_text().split() != ["run"]:
+                continue
+            with self.subTest(path.parent):
+                due, told = (path.parent / "err").read_text(), sdm.explanation(path.read_bytes())
+                self.assertEqual(FAULT + told.fault + "\n" if told.fault else "", due)
+                self.assertEqual(any(each.is_refusal for each in told.findings), bool(due))
+
+
+class Doubts(unittest.TestCase):
+    def hints(self, text):
+        told = sdm.explanation(text.encode())
+        self.assertEqual(told.fault, "")
+        self.assertFalse(any(each.is_refusal for each in told.findings))
+        return [(each.line, each.hint) for each in told.findings]
+
+    def has(self, hints, part, line=None):
+        self.assertTrue(any(part in hint and line in (None, at) for at, hint in hints), hints)
+
+    def test_a_journey_in_another_unit(self):
+        first = JOURNEY[: JOURNEY.index("%%\n")].count("\n") + 2
+        self.has(self.hints(scaled(place=0.1)), "front ends look like cm", first)
+        self.has(self.hints(scaled(place=0.001)), "front ends look like m,", first)
+        self.has(self.hints(scaled(speed=0.0036)), "speeds look like km/h", first)
+        self.has(self.hints(scaled(speed=0.001)), "speeds look like m/s", first)
+        self.has(self.hints(scaled(time=0.1)), "times look like s", first)
+        self.has(self.hints(scaled(time=100)), "times look like ms", first)
+
+    def test_one_reading_in_another_unit(self):
+        line = JOURNEY[: JOURNEY.index("%%\n")].count("\n") + 2 + 7
+        self.has(self.hints(scaled(place=0.1, only=7)), "est looks like cm", line)
+        self.has(self.hints(scaled(speed=0.0036, only=7)), "speed looks like km/h", line)
+
+    def test_a_train_that_never_moves(self):
+        stuck = readings(lambda number, ds, est, low, high, *rest: (ds, 3200000, 3195000, 3205000, *rest))
+        self.has(self.hints(stuck), "the front end never moves")
+
+    def test_a_reading_kilometres_past_the_authority(self):
+        past = readings(lambda number, ds, *rest: (ds, *(each + 3_000_000 for each in rest[:3]), *rest[3:]))
+        self.has(self.hints(past), "an authority is missing")
+
+    def test_a_long_gap(self):
+        late = readings(lambda number, ds, *rest: (ds + 3_000 * (number > 20), *rest))
+        self.has(self.hints(late), "readings are missing")
+
+    def test_an_end_in_mm(self):
+        head, _, records = JOURNEY.partition("%%\n")
+        head = re.sub(r"^length = 600000.*", "length = 10000000", head, flags=re.M)
+        head = re.sub(r"^(eoa|svl) = (\d+)", r"\1 = \g<2>0", head, flags=re.M)
+        told = self.hints(head + "%%\n" + records)
+        self.has(told, "as mm it would be 500000 cm")
+
+    def test_a_realistic_journey_has_none(self):
+        warned = set()
+        for path in sorted(EXAMPLES.glob("*/input")):
+            told = sdm.explanation(path.read_bytes())
+            if told.fault == "" and told.findings:
+                warned.add(path.parent.name)
+        self.assertEqual(warned, BREAK_PHYSICS)
+
+    def test_a_generated_train_has_none(self):
+        head = (EXAMPLES / "drive" / "input").read_bytes()
+        for number in (22, 7, 1_000, 65_535):
+            drive = Drive(data_of(read_document(head)), number)
+            taken = [drive.step().cycle.situation.reading for _ in range(150)]
+            records = "".join(f"read,{','.join(map(str, reading))}\n" for reading in taken)
+            self.assertEqual(self.hints(head.decode() + "\n%%\n" + records), [])
+
+
+class Tool(unittest.TestCase):
+    def setUp(self):
+        self.room = tempfile.TemporaryDirectory()
+        self.addCleanup(self.room.cleanup)
+
+    def file(self, text):
+        path = Path(self.room.name) / "input"
+        path.write_text(text)
+        return path
+
+    def test_its_page(self):
+        """The blocks of tools/README.md that begin with a call of it, over inputs that the page says how to make."""
+        page = (TOP / "tools" / "README.md").read_text()
+        section = page[page.index("## Why an input is refused") :].split("\n## ")[0]
+        texts = {
+            "mistakes": edited(["4 = lenght = 10000", "10 = service_time = 32", "76 = read,10,520000,519000,521000"]),
+            "in-cm": scaled(place=0.1),
+        }
+        blocks = re.findall(r"    tools/explain (\S+)\n\n((?:    .*\n)+)", section)
+        self.assertEqual([name for name, _ in blocks], list(texts))
+        for name, block in blocks:
+            told = tool("explain", self.file(texts[name]))[1]
+            self.assertEqual(told, re.sub(r"^    ", "", block, flags=re.M))
+
+    def test_its_status(self):
+        self.assertEqual(tool("explain", EXAMPLES / "realistic" / "input")[0], 0)
+        self.assertEqual(tool("explain", self.file(scaled(place=0.1)))[0], 0)
+        self.assertEqual(tool("explain", self.file("%%\n"))[0], 1)
+        self.assertEqual(tool("explain")[0], 2)
+        self.assertEqual(tool("explain", Path(self.room.name) / "none")[0], 2)
+
+    def test_any_bytes(self):
+        for data in (b"", b"%%", b"\xff\n%%\n", b"a = '''\n%%\n", b'%%\n\xff\xfe,"\n', b"[" * 2_000 + b"\n%%\n"):
+            told = sdm.explanation(data)
+            self.assertTrue(told.fault and told.findings, data)
+            self.assertEqual(sdm.explain(data), told.findings)
+            self.assertEqual(collect(["run"], data)[1], f"sdm: {told.fault}\n")
