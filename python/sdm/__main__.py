@@ -7,6 +7,7 @@ COMMANDS = {
     "why": "sdm.why",
     "curves": "sdm.curves",
     "compare": "sdm.compare",
+    "import": "sdm.importing.words",
     "campaign": "sdm.campaign",
     "plot": "sdm.picture",
     "rides": "sdm.rides",

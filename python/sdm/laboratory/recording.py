@@ -1,7 +1,7 @@
 """Another computer's recording as rows: a CSV, whose columns a small file maps to those of a row.
 
 The mapping is TOML. At its top `delimiter` and `decimal` (a comma and a point where they are absent); then a table for
-each column of a row that is to be compared, which must have `time`:
+each column of a row that is to be compared, which must have `time`. `import` is what sdm.importing reads:
 
     [ebi]
     column = "d_EBI"          # the name of the recording's column
@@ -9,6 +9,8 @@ each column of a row that is to be compared, which must have `time`:
     shift = 0                 # and this is added
     none = ["", "NaN"]        # what stands where there is none
     values = {"CSM" = "C"}    # what a value is called in a row
+
+A time may be a timestamp; `origin` is the one that counts as 0, the first one where it is absent.
 """
 import csv
 import io
@@ -16,6 +18,7 @@ import tomllib
 from fractions import Fraction
 from typing import Any
 
+from .clock import Clock
 from .program import Fault
 from .rows import COLUMNS, UNITS
 
@@ -32,17 +35,34 @@ def mapping_of(text: bytes) -> Mapping:
         mapping = tomllib.loads(text.decode("utf-8-sig"), parse_float=Fraction)
     except ValueError as why:
         raise Fault(f"The mapping can't be read: {why}.") from None
-    columns = {name: table for name, table in mapping.items() if name not in ("delimiter", "decimal")}
+    columns = {name: table for name, table in mapping.items() if name not in ("delimiter", "decimal", "import")}
     for name, table in columns.items():
         if name not in COLUMNS:
             raise Fault(f"The mapping has {name!r}, which is no column of a row: they are {', '.join(COLUMNS)}.")
-        if not isinstance(table, dict) or "column" not in table or set(table) - KEYS:
+        if not isinstance(table, dict) or "column" not in table or set(table) - keys_of(name):
             raise Fault(
-                f"The mapping's table {name!r} must have `column`, and may have {', '.join(sorted(KEYS - {'column'}))}."
+                f"The mapping's table {name!r} must have `column`, and may have "
+                f"{', '.join(sorted(keys_of(name) - {'column'}))}."
             )
     if "time" not in columns:
         raise Fault("The mapping has no table `time`, by which rows and lines are matched.")
-    return mapping.get("delimiter", ","), mapping.get("decimal", "."), columns
+    delimiter, decimal = mapping.get("delimiter", ","), mapping.get("decimal", ".")
+    if not isinstance(delimiter, str) or len(delimiter) != 1 or decimal not in (".", ","):
+        raise Fault('The mapping must have one character as `delimiter`, and "." or "," as `decimal`.')
+    return delimiter, decimal, columns
+
+
+def keys_of(name: str) -> set[str]:
+    """The keys of a table: that of the time may have an origin."""
+    return KEYS | {"origin"} if name == "time" else KEYS
+
+
+def clock_of(table: Table) -> Clock:
+    """The clock that the table of the time gives."""
+    try:
+        return Clock(Fraction(table.get("scale", 1)), Fraction(table.get("shift", 0)), table.get("origin"))
+    except (ValueError, TypeError):
+        raise Fault("The mapping's table 'time' must have numbers, and a timestamp as `origin`.") from None
 
 
 def own_mapping(text: str) -> tuple[Mapping, bool]:
@@ -66,7 +86,21 @@ def value_of(name: str, table: Table, text: str, decimal: str, line: int) -> Val
         number = Fraction(str(text).replace(decimal, ".")) * scale + shift
     except ValueError:
         raise Fault(f"Line {line} of the recording: {text!r} in the column {table['column']!r} is no number.") from None
-    return round(number) if name == "time" else number
+    return number
+
+
+def time_of(clock: Clock, table: Table, text: str, decimal: str, line: int) -> int:
+    """A time in whole ds."""
+    text = text.strip()
+    if text in table.get("none", ["-", ""]):
+        raise Fault(f"Line {line} of the recording has no time.")
+    try:
+        return round(clock.ds(str(table.get("values", {}).get(text, text)), decimal))
+    except ValueError as why:
+        raise Fault(
+            f"Line {line} of the recording: {text!r} in the column {table['column']!r} is no number and no timestamp; "
+            f"expected is {why}."
+        ) from None
 
 
 def recording_of(text: bytes, mapping: bytes | None) -> list[Line]:
@@ -79,12 +113,12 @@ def recording_of(text: bytes, mapping: bytes | None) -> list[Line]:
     if missing:
         raise Fault(f"The recording has no column {missing[0]!r}; it has {', '.join(reader.fieldnames or ['none'])}.")
     found: list[Line] = []
+    time = columns.pop("time")
+    clock = clock_of(time)
     for fields in reader:
-        values = {
-            name: value_of(name, table, fields[table["column"]] or "", decimal, reader.line_num)
-            for name, table in columns.items()
-        }
-        if values["time"] is None:
-            raise Fault(f"Line {reader.line_num} of the recording has no time.")
-        found.append((reader.line_num, values))
+        line = reader.line_num
+        values: dict[str, Value] = {"time": time_of(clock, time, fields[time["column"]] or "", decimal, line)}
+        for name, table in columns.items():
+            values[name] = value_of(name, table, fields[table["column"]] or "", decimal, line)
+        found.append((line, values))
     return found

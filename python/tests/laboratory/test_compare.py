@@ -151,6 +151,8 @@ class Compare(unittest.TestCase):
             ("t,b\n900000,2\n", '[time]\ncolumn = "t"\n', "No row has the time"),
             ("t,b\n", '[time]\ncolumn = "t"\n', "nothing to compare"),
             ("t,b\n1,2\n", "[time\n", "The mapping can't be read"),
+            ("t,b\n1,2\n", 'delimiter = ";;"\n[time]\ncolumn = "t"\n', "must have one character as `delimiter`"),
+            ("t,b\n1,2\n", '[time]\ncolumn = "t"\norigin = "noon"\n', "a timestamp as `origin`"),
         ]:
             code, _, told = tool("compare", ROWS, self.file("r", text), "--mapping", self.file("m", mapping))
             self.assertEqual(code, 2, fault)
