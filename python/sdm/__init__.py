@@ -8,6 +8,7 @@ from typing import TYPE_CHECKING, Any
 if TYPE_CHECKING:  # for mypy and editors; _HOMES says the same where it runs
     from .arrays import READING, ROW, frame, readings, text
     from .findings import Explanation, Finding, explain, explanation
+    from .importing import ImportFault, Journey, import_recording
     from .library import Supervisor
     from .picture import Picture, plot
     from .records import End, EndCalculated, Limit, Reading, Record, Restriction, Revocation, records_of
@@ -19,6 +20,7 @@ __version__ = "0.11.1"
 _HOMES = {
     "arrays": ["READING", "ROW", "frame", "readings", "text"],
     "findings": ["Explanation", "Finding", "explain", "explanation"],
+    "importing": ["ImportFault", "Journey", "import_recording"],
     "library": ["Supervisor"],
     "picture": ["Picture", "plot"],
     "records": ["End", "EndCalculated", "Limit", "Reading", "Record", "Restriction", "Revocation", "records_of"],
