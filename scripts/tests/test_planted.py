@@ -249,7 +249,7 @@ PLANTED = [
     (
         "traces",
         [
-            Fault("README.md", r" <!-- trace: order -->", "", "no sentence has the mark order"),
+            Fault("README.md", r" <!-- trace: ride -->", "", "no sentence has the mark ride"),
             Fault(
                 "scripts/traces.toml",
                 r"law_of_release_speed",

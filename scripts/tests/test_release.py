@@ -204,7 +204,7 @@ class Bytes(Scratch):
 class Refused(unittest.TestCase):
     """scripts/release over a copy in which a program is marked, until something is wrong."""
 
-    parts = ["CHANGELOG.md", "HANDLES", "c", "crates.txt", "crates/sdm", "scripts", "tools", ".gitignore"]
+    parts = ["CHANGELOG.md", "HANDLES", "c", "crates.txt", "crates/sdm", "scripts", "tools", "python", ".gitignore"]
 
     def setUp(self) -> None:
         copy = copies.a_copy(self.parts)
