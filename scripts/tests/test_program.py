@@ -284,6 +284,9 @@ class Replays(OverACopy):
     def test_a_shared_library_that_answers_otherwise_is_told(self):
         self.assertIn("SdmError: the supervisor is closed", self.told("scripts/check-library", self.library()))
 
+    def test_rides_over_a_library_that_answers_otherwise_are_told(self):
+        self.assertIn("'unjudged': 200", self.told("scripts/check-rides", self.library()))
+
 
 class Gate(OverACopy):
     parts = [*OverACopy.parts, *examples("approach")]
