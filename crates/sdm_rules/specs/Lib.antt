@@ -21,5 +21,6 @@ pub mod Display
 pub mod Promises
 pub mod Ranges
 pub mod Records
+pub mod TakeOver
 pub mod Opening
 pub mod Headline

@@ -96,6 +96,14 @@ pub enum RestrictFault {
     Value,
 }
 
+/// Why a change of data is refused: the supervisor that was opened over the new data can't take over what is kept. (own)
+#[derive(Clone, Copy, Debug, PartialEq, Eq, Error)]
+pub enum TakeOverFault {
+    /// A restriction in force ends past the end of the new track; of several the one with the least identity.
+    #[error("restriction {id} ends past the end of the track")]
+    BeyondTrack { id: u16 },
+}
+
 /// Why a revocation is refused.
 #[derive(Clone, Copy, Debug, PartialEq, Eq, Error)]
 pub enum RevokeFault {

@@ -28,7 +28,7 @@ pub use data::{
 pub use display::{Display, LimitName, Shown};
 pub use faults::{
     AuthorityFault, CycleFault, EventCause, EventFault, FieldFault, NationalFault, OpenFault,
-    RestrictFault, RevokeFault, Section, TrackFault, TrainFault, TripFault,
+    RestrictFault, RevokeFault, Section, TakeOverFault, TrackFault, TrainFault, TripFault,
 };
 pub use limits::LimitKind;
 pub use motions::{Phase, Point, Slice, Start};

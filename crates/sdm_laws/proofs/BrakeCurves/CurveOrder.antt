@@ -48,7 +48,7 @@ exact_before on s f w u' u usable s_pos lt =
 -- ---- rounding down
 
 -- places in order are in order when they are rounded down
-floor_order : (x y : Fraction) → 0 < x.m → 0 < y.m → IsAtMost x y → floor x ≤ℤ floor y
+pub floor_order : (x y : Fraction) → 0 < x.m → 0 < y.m → IsAtMost x y → floor x ≤ℤ floor y
 floor_order x y x_pos y_pos le =
     let low : IsAtMost (whole (floor x)) x = at_most_in (floor x) x (floor_low x.m x.n x_pos) in
     let most = at_most_out (floor x) y (at_most_trans (whole (floor x)) x y x_pos low le) in

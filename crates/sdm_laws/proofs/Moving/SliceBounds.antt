@@ -27,7 +27,7 @@ distance_of (x ∷ xs) = x.length + distance_of xs
 -- ---- one phase
 
 -- the bounds of speed of one slice and of the rest add up
-more_speed : (a v to time rest last : ℕ) → to ≤ v + 54 * a * time → last ≤ to + 54 * a * rest →
+pub more_speed : (a v to time rest last : ℕ) → to ≤ v + 54 * a * time → last ≤ to + 54 * a * rest →
     last ≤ v + 54 * a * (time + rest)
 more_speed a v to time rest last g k = omega arith
 

@@ -84,7 +84,7 @@ standstill_fits on time svl trip le =
     omega (arith, ints)))
 
 -- a train that doesn't accelerate comes its speed times the build-up time until it brakes
-way_of_trip : (v time : ℕ) → d_bec (record { speed = v; accel1 = 0; accel2 = 0; traction = 0; berem = time }) 0
+pub way_of_trip : (v time : ℕ) → d_bec (record { speed = v; accel1 = 0; accel2 = 0; traction = 0; berem = time }) 0
     ≡ distance_at v time
 way_of_trip v time =
     let top : v_cut_off (record { speed = v; accel1 = 0; accel2 = 0; traction = 0; berem = time }) 0

@@ -33,17 +33,17 @@ use Rattle.sdm_laws.specs.Falls.{IsFallAhead, LawOfFalls, gain_of}
 -- ---- a fall past the max safe front end
 
 -- the gap of two numbers leads from the less to the greater
-int_gap_is : (a b : ℤ) → a ≤ℤ b → b ≡ a +ℤ pos (int_gap a b)
+pub int_gap_is : (a b : ℤ) → a ≤ℤ b → b ≡ a +ℤ pos (int_gap a b)
 int_gap_is (pos a) (pos b) le = omega (arith, ints)
 int_gap_is (pos a) (negsuc b) le = omega (arith, ints)
 int_gap_is (negsuc a) (pos b) le = omega (arith, ints)
 int_gap_is (negsuc a) (negsuc b) le = omega (arith, ints)
 
-later_one : {X : Type 0} (x y : X) (xs : List X) → Contains xs y → Contains (x ∷ xs) y
+pub later_one : {X : Type 0} (x y : X) (xs : List X) → Contains xs y → Contains (x ∷ xs) y
 later_one x y xs h = let lt = h.1 in (suc h.0, omega arith, h.2)
 
 -- a fall in some cells is among their falls
-has_fall : (profile : ℤ → ℕ) (c x : ℤ) (n : ℕ) → c ≤ℤ x → x <ℤ (c +ℤ pos n) → is_fall profile x ≡ true →
+pub has_fall : (profile : ℤ → ℕ) (c x : ℤ) (n : ℕ) → c ≤ℤ x → x <ℤ (c +ℤ pos n) → is_fall profile x ≡ true →
     Contains (map (fall_at profile) (filter (is_fall profile) (cells c n))) (fall_at profile x)
 has_fall profile c x zero low high falls = absurd (omega (arith, ints))
 has_fall profile c x (suc n) low high falls =
@@ -63,7 +63,7 @@ has_fall profile c x (suc n) low high falls =
     (subst (λ (z : ℤ). Contains (map (fall_at profile) (c ∷ rest)) (fall_at profile z)) same (0, omega arith, refl)))
 
 -- one past the max safe front end and by the end of the authority is a target
-is_target : (s : Supervision) (r : OdometerReading) (cell : ℤ) → IsFallAhead s r cell → cell_of r.max <ℤ cell →
+pub is_target : (s : Supervision) (r : OdometerReading) (cell : ℤ) → IsFallAhead s r cell → cell_of r.max <ℤ cell →
     Contains (situation_of s r).targets (fall_at (profile_of s) cell)
 unfolding situation_of targets_of
 is_target s r cell h lt =
@@ -76,7 +76,7 @@ is_target s r cell h lt =
 
 -- ---- a fall between the front ends
 
-lowest_at_most : (f : ℤ → ℕ) (c x : ℤ) (n : ℕ) → c ≤ℤ x → x ≤ℤ (c +ℤ pos n) → lowest min f c n ≤ f x
+pub lowest_at_most : (f : ℤ → ℕ) (c x : ℤ) (n : ℕ) → c ≤ℤ x → x ≤ℤ (c +ℤ pos n) → lowest min f c n ≤ f x
 lowest_at_most f c x zero low high =
     let same : c ≡ x = omega (arith, ints) in
     subst (λ (z : ℤ). f c ≤ f z) same (omega arith)
@@ -89,11 +89,11 @@ lowest_at_most f c x (suc n) low high =
     subst (λ (z : ℤ). min (f c) (lowest min f (c +ℤ pos 1) n) ≤ f z) same (omega arith))
 
 -- a lower ceiling has a lower speed with its margin
-margin_rises : (a b : ℕ) → a ≤ b → notches a + ebi_margin a ≤ notches b + ebi_margin b
+pub margin_rises : (a b : ℕ) → a ≤ b → notches a + ebi_margin a ≤ notches b + ebi_margin b
 margin_rises a b le = omega arith
 
 -- V_est is at most the foot speed of a cell between those of the min and the max safe front end
-slow_there : (s : Supervision) (r : OdometerReading) (cell : ℤ) → (row_of s r).held.eb ≡ false →
+pub slow_there : (s : Supervision) (r : OdometerReading) (cell : ℤ) → (row_of s r).held.eb ≡ false →
     cell_of r.min ≤ℤ cell → cell ≤ℤ cell_of r.max → r.speed ≤ foot_speed_of (fall_at (profile_of s) cell)
 unfolding row_in situation_of
 slow_there s r cell eb low high =
@@ -105,7 +105,7 @@ slow_there s r cell eb low high =
     omega arith
 
 -- no motion is ever faster than V_bec
-never_above : (d : Slopes) (s : Supervision) (r : OdometerReading) (place : ℤ) (w : ℕ) →
+pub never_above : (d : Slopes) (s : Supervision) (r : OdometerReading) (place : ℤ) (w : ℕ) →
     v_bec (build_up_from s.train_and_track (estimate_of r)) 0 ≤ w →
     SlowsTo d (reaction_start s.train_and_track r) place w
 never_above on s r place w le n p v xs first more m =

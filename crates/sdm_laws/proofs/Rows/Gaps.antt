@@ -22,7 +22,7 @@ use Rattle.sdm_laws.specs.SupervisionLaws.{LawOfGaps}
 use Rattle.sdm_laws.proofs.Rows.Ceiling.{no_ebi_passed}
 
 -- a test that no target passes fails for each
-any_false : (p : Target → Bool) (ts : List Target) (t : Target) → list_any p ts ≡ false → Contains ts t → p t ≡ false
+pub any_false : (p : Target → Bool) (ts : List Target) (t : Target) → list_any p ts ≡ false → Contains ts t → p t ≡ false
 any_false p [] t e (k, lt, is) = absurd (omega arith)
 any_false p (x ∷ xs) t e (zero, lt, is) = subst (λ (y : Target). p y ≡ false) is (or_parts (p x) (list_any p xs) e).0
 any_false p (x ∷ xs) t e (suc k, lt, is) = any_false p xs t (or_parts (p x) (list_any p xs) e).1 (k, omega arith, is)

@@ -19,7 +19,7 @@ use Rattle.sdm_laws.proofs.Rows.Gaps.{gaps}
 use Rattle.sdm_laws.proofs.Rows.Headline.{machines, stop, release, over_kinds, still_open}
 
 -- the row of a reading in an open state is safe
-row_safe : (must may : Bool) (s : Supervision) (r : OdometerReading) → IsOpen s → InOrder must s.commands.eb may →
+pub row_safe : (must may : Bool) (s : Supervision) (r : OdometerReading) → IsOpen s → InOrder must s.commands.eb may →
     IsRowSafe must may s r
 unfolding row_in
 row_safe must may s r o h =
@@ -39,7 +39,7 @@ record Leads (must may : Bool) (s : Supervision) (e : Event) (t : Supervision) :
   order : InOrder (over_record must_after s e must) t.commands.eb (over_record may_after s e may)
 
 -- each record is safe and leads on
-leads : (must may : Bool) (s : Supervision) → IsOpen s → InOrder must s.commands.eb may → (e : Event) →
+pub leads : (must may : Bool) (s : Supervision) → IsOpen s → InOrder must s.commands.eb may → (e : Event) →
     IfOk (step s e) (Leads must may s e)
 unfolding after_reading
 leads must may s o h =

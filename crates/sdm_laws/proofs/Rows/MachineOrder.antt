@@ -109,14 +109,14 @@ limits_near d h r t = kind_near d h r t t.kind
 -- ---- from near to sooner
 
 -- a limit just before the exact one is passed wherever the exact one is
-if_exact_sooner : (x y : Option Fraction) → AreJustBeforeIfAny x y → IsSoonerIfAny 0 y 0 x
+pub if_exact_sooner : (x y : Option Fraction) → AreJustBeforeIfAny x y → IsSoonerIfAny 0 y 0 x
 if_exact_sooner None None h = tt
 if_exact_sooner None (Some y) h = absurd h
 if_exact_sooner (Some x) None h = absurd h
 if_exact_sooner (Some x) (Some y) h = exact_sooner x y h
 
 -- a limit just before the exact one is passed only where the exact one, a millimetre earlier, is
-if_low_sooner : (x y : Option Fraction) → AreJustBeforeIfAny x y → IsSoonerIfAny 0 x millimetre y
+pub if_low_sooner : (x y : Option Fraction) → AreJustBeforeIfAny x y → IsSoonerIfAny 0 x millimetre y
 if_low_sooner None None h = tt
 if_low_sooner None (Some y) h = absurd h
 if_low_sooner (Some x) None h = absurd h

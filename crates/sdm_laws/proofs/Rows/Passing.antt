@@ -34,7 +34,7 @@ use Rattle.sdm_rules.specs.Reaction.{BuildUp, build_up_from, d_bec, v_bec, v_est
 use Rattle.sdm_rules.specs.Reaction.{warning_time}
 use Rattle.sdm_rules.specs.Limits.{SupervisionLimits, computed, limits_of, limits_of_kind, limits_from_sbi, limit_in}
 use Rattle.sdm_rules.specs.Limits.{ebd_limits_of, sbd_limits_of, guidance_place, v_bec_for, d_bec_for}
-use Rattle.sdm_rules.specs.Triggers.{Situation, above_ceiling, above_release, front_for, is_passed, is_past}
+use Rattle.sdm_rules.specs.Triggers.{Situation, above_release, front_for, is_passed, is_past}
 use Rattle.sdm_rules.specs.Display.{counts_release, display_speed, estimate_at, is_exceeded, kind_of, passes_limit}
 use Rattle.sdm_rules.specs.Display.{situation_at}
 use Rattle.sdm_rules.specs.Supervision.{situation_of}

@@ -58,24 +58,24 @@ near_printed low x h =
 -- ---- what is printed of a list of targets
 
 -- the places that are printed of targets that pass `p`: those that `f` gives
-shown : (Target → Option ℤ) → (Target → Bool) → List Target → List ℤ
+pub shown : (Target → Option ℤ) → (Target → Bool) → List Target → List ℤ
 shown f p ts = filter_map f (filter p ts)
 
 -- the value is printed of a target of the list that passes
-record IsShown (f : Target → Option ℤ) (p : Target → Bool) (ts : List Target) (v : ℤ) : Type 0 where
-  target : Target
-  there : Contains ts target
-  passes : p target ≡ true
-  is : f target ≡ Some v
+pub record IsShown (f : Target → Option ℤ) (p : Target → Bool) (ts : List Target) (v : ℤ) : Type 0 where
+  pub target : Target
+  pub there : Contains ts target
+  pub passes : p target ≡ true
+  pub is : f target ≡ Some v
 
 module _ (f : Target → Option ℤ) (p : Target → Bool) where
   -- what stands in a list stands in it behind one more
-  in_cons : (o : Option ℤ) (vs : List ℤ) (v : ℤ) → Contains vs v → Contains (cons_option o vs) v
+  pub in_cons : (o : Option ℤ) (vs : List ℤ) (v : ℤ) → Contains vs v → Contains (cons_option o vs) v
   in_cons None vs v h = h
   in_cons (Some w) vs v h = Contains-append_right (w ∷ []) vs v h
 
   -- what is shown of the later targets is shown of all
-  keeps : (x : Target) (xs : List Target) (v : ℤ) → Contains (shown f p xs) v → Contains (shown f p (x ∷ xs)) v
+  pub keeps : (x : Target) (xs : List Target) (v : ℤ) → Contains (shown f p xs) v → Contains (shown f p (x ∷ xs)) v
   unfolding shown
   keeps x xs v h =
       elim (p x) as (λ b. Contains (filter_map f (cond b (x ∷ filter p xs) (filter p xs))) v) [
@@ -84,12 +84,12 @@ module _ (f : Target → Option ℤ) (p : Target → Bool) where
       ]
 
   -- what a passing first target gives is shown
-  adds : (x : Target) (xs : List Target) (v : ℤ) → p x ≡ true → f x ≡ Some v → Contains (shown f p (x ∷ xs)) v
+  pub adds : (x : Target) (xs : List Target) (v : ℤ) → p x ≡ true → f x ≡ Some v → Contains (shown f p (x ∷ xs)) v
   unfolding shown
   adds x xs v e k = rw (e, k) (zero, omega arith, refl)
 
   -- a target that passes is shown
-  in_shown : (ts : List Target) (t : Target) (v : ℤ) → Contains ts t → p t ≡ true → f t ≡ Some v →
+  pub in_shown : (ts : List Target) (t : Target) (v : ℤ) → Contains ts t → p t ≡ true → f t ≡ Some v →
       Contains (shown f p ts) v
   in_shown [] t v (k, lt, is) e j = absurd (omega arith)
   in_shown (x ∷ xs) t v (zero, lt, is) e j =
@@ -97,7 +97,7 @@ module _ (f : Target → Option ℤ) (p : Target → Bool) where
   in_shown (x ∷ xs) t v (suc k, lt, is) e j = keeps x xs v (in_shown xs t v (k, omega arith, is) e j)
 
   -- what is of a later target is of a target
-  later : (x : Target) (xs : List Target) (v : ℤ) → IsShown f p xs v → IsShown f p (x ∷ xs) v
+  pub later : (x : Target) (xs : List Target) (v : ℤ) → IsShown f p xs v → IsShown f p (x ∷ xs) v
   later x xs v h =
       record {
         target = h.target;
@@ -107,7 +107,7 @@ module _ (f : Target → Option ℤ) (p : Target → Bool) where
       }
 
   -- behind a first target that passes, what it gives and what the later ones give are each of a target
-  from_cons : (x : Target) (xs : List Target) (vs : List ℤ) (o : Option ℤ) → p x ≡ true → f x ≡ o →
+  pub from_cons : (x : Target) (xs : List Target) (vs : List ℤ) (o : Option ℤ) → p x ≡ true → f x ≡ o →
       All (IsShown f p (x ∷ xs)) vs → All (IsShown f p (x ∷ xs)) (cons_option o vs)
   from_cons x xs vs None e j rest = rest
   from_cons x xs vs (Some w) e j rest =
@@ -115,7 +115,7 @@ module _ (f : Target → Option ℤ) (p : Target → Bool) where
       (record { target = x; there = (zero, omega arith, refl); passes = e; is = j }) rest
 
   -- what is shown is that of a target
-  from_shown : (ts : List Target) → All (IsShown f p ts) (shown f p ts)
+  pub from_shown : (ts : List Target) → All (IsShown f p ts) (shown f p ts)
   unfolding shown
   from_shown [] = All-nil (IsShown f p [])
   from_shown (x ∷ xs) =
