@@ -1,0 +1,7 @@
+pub mod AllOrder
+pub mod Service
+pub mod CurvesThrough
+pub mod Following
+pub mod Tight
+pub mod ExactLimits
+pub mod OpenTurns

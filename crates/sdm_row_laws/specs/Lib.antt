@@ -1,0 +1,4 @@
+pub mod AllCommands
+pub mod ServiceStop
+pub mod Tightness
+pub mod OpenTurns

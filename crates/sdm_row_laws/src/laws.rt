@@ -1,0 +1,101 @@
+//! The laws of rows: proofs about definitions alone. Each function makes no call and only states its law.
+
+ghost use Rattle.sdm_row_laws.specs.AllCommands.{LawOfAllCommands, LawOfAllJourneys};
+ghost use Rattle.sdm_row_laws.specs.AllCommands.{LawOfEmergencyOrder, LawOfRowMachine};
+ghost use Rattle.sdm_row_laws.specs.OpenTurns.{LawOfFallJourneys, LawOfOpenTurns};
+ghost use Rattle.sdm_row_laws.specs.OpenTurns.{LawOfPromisedTurns, LawOfServiceJourneys};
+ghost use Rattle.sdm_row_laws.specs.ServiceStop.{LawOfServiceRows, LawOfServiceStop};
+ghost use Rattle.sdm_row_laws.specs.Tightness.{LawOfExactEoa, LawOfExactSvl, LawOfExactTarget};
+ghost use Rattle.sdm_row_laws.specs.Tightness.{LawOfRefutation, LawOfTightEoa, LawOfTightSvl};
+
+/// The supervisor is the machine with the computed limits, and the emergency commands of the other two are those of the
+/// headline.
+pub fn law_of_row_machine()
+    ensures { LawOfRowMachine }
+{}
+
+/// ALL COMMANDS: over each reading all commands, the status and the state of the three machines stay in order.
+pub fn law_of_all_commands()
+    ensures { LawOfAllCommands }
+{}
+
+/// So the emergency commands alone stay in order, as the headline says.
+pub fn law_of_emergency_order()
+    ensures { LawOfEmergencyOrder }
+{}
+
+/// All commands stay in order at each row of every journey.
+#[tactic(auto, using(crate::proofs::AllOrder::all_journeys))]
+pub fn law_of_all_journeys<Record>()
+    ensures { LawOfAllJourneys Record }
+{}
+
+/// THE EOA: from a reading at or before the SBI of the EOA the service brake stops the train at or before the EOA.
+pub fn law_of_service_stop()
+    ensures { LawOfServiceStop }
+{}
+
+/// So it does from each row of a moving train under a stop that commands no brake, outside release speed monitoring.
+pub fn law_of_service_rows()
+    ensures { LawOfServiceRows }
+{}
+
+/// So it does from each such row of every journey.
+#[tactic(auto, using(crate::proofs::OpenTurns::service_journeys))]
+pub fn law_of_service_journeys<Record>()
+    ensures { LawOfServiceJourneys Record }
+{}
+
+/// The exact EBI of an SvL is the limit of where the emergency brake stops the train by it: at or before it every motion
+/// stops, past it some motion doesn't.
+#[tactic(auto, using(crate::proofs::ExactLimits::exact_svl))]
+pub fn law_of_exact_svl()
+    ensures { LawOfExactSvl }
+{}
+
+/// The computed EBI of an SvL is at most a millimetre too early.
+#[tactic(auto, using(crate::proofs::ExactLimits::tight_svl))]
+pub fn law_of_tight_svl()
+    ensures { LawOfTightSvl }
+{}
+
+/// The exact SBI of an EOA is the limit of where the service brake stops the train by it.
+#[tactic(auto, using(crate::proofs::ExactLimits::exact_eoa))]
+pub fn law_of_exact_eoa()
+    ensures { LawOfExactEoa }
+{}
+
+/// The computed SBI of an EOA is at most a millimetre too early.
+#[tactic(auto, using(crate::proofs::ExactLimits::tight_eoa))]
+pub fn law_of_tight_eoa()
+    ensures { LawOfTightEoa }
+{}
+
+/// The exact EBI of a speed target is the limit of where a fast train is slowed to its foot speed by it.
+#[tactic(auto, using(crate::proofs::ExactLimits::exact_target))]
+pub fn law_of_exact_target()
+    ensures { LawOfExactTarget }
+{}
+
+/// Where some motion passes a place, not every one stops by it; and where one is faster there, not every one slows.
+pub fn law_of_refutation()
+    ensures { LawOfRefutation }
+{}
+
+/// From each covered row of every journey without an emergency command every motion meets each fall that it may still
+/// have ahead.
+#[tactic(auto, using(crate::proofs::OpenTurns::fall_journeys))]
+pub fn law_of_fall_journeys<Record>()
+    ensures { LawOfFallJourneys Record }
+{}
+
+/// Each reading of a journey from an open state is taken in one, so that the laws of readings hold of each.
+#[tactic(auto, using(crate::proofs::OpenTurns::open_turns))]
+pub fn law_of_open_turns<Record>()
+    ensures { LawOfOpenTurns Record }
+{}
+
+/// What a command says of its rows holds of every journey from an open state in which nothing is held.
+pub fn law_of_promised_turns<Record>()
+    ensures { LawOfPromisedTurns Record }
+{}
