@@ -15,3 +15,5 @@ pub mod FallLaws
 pub mod FallLists
 pub mod KeptLaws
 pub mod ChangeLaws
+pub mod BeyondLaws
+pub mod TakenLaws

@@ -10,6 +10,7 @@ ghost use Rattle.std.specs.Result.{result_err};
 ghost use Rattle.sdm_rules.specs.Cells.{lowest};
 ghost use Rattle.sdm_rules.specs.Profile.{zones_of_track};
 ghost use Rattle.sdm_rules.specs.Records.{restrict_fault, revoke_fault};
+ghost use Rattle.sdm_rules.specs.TakeOver.{first_beyond, with_beyond};
 ghost use Rattle.sdm_rules.specs.Targets.{IsNextFall, HasNoFall};
 ghost use Rattle.sdm_rules.specs.Ranges.{longest_track, longest_train, most_speeds, top_kmh};
 ghost use Rattle.sdm_track.specs.Ranges.{AreSpeeds};
@@ -19,7 +20,7 @@ ghost use Rattle.sdm_speed.specs.Held.{has_id};
 ghost use Rattle.sdm_speed.specs.Changes.{AreSameOutside, IsChangedInRange};
 ghost use Rattle.sdm_speed.specs.Profiles.{mrsp_of, new_profile, IsProfile};
 
-use crate::changes::Changed;
+use crate::changes::{ALL_CELLS, Changed};
 use crate::ends::{cells_of, end_for, zone_of};
 use crate::lifts::raise;
 use crate::steps::Steps;
@@ -120,6 +121,31 @@ fn index_of(held: &[Restriction], id: u16) -> Option<usize>
     held.iter().position(|held| held.id == id)
 }
 
+/// The identity of a restriction beside that of others, where it ends past the end of a track of a length in cm.
+fn with_beyond(length_cm: u32, r: Restriction, rest: Option<u16>) -> Option<u16>
+    ensures { result ≡ with_beyond (pos length_cm) r rest }
+{
+    if length_cm < r.end {
+        Some(match rest {
+            Some(id) => r.id.min(id),
+            None => r.id,
+        })
+    } else {
+        rest
+    }
+}
+
+/// The least identity of the restrictions that end past the end of a track of a length in cm.
+fn first_beyond(length_cm: u32, held: &[Restriction]) -> Option<u16>
+    ensures { result ≡ first_beyond (pos length_cm) held.now }
+{
+    let mut found = None;
+    for i in 0..held.len() {
+        found = with_beyond(length_cm, held[i], found);
+    }
+    found
+}
+
 impl Profile {
     ghost use Rattle.sdm_speed.specs.Profiles.{ProfileData};
 
@@ -171,6 +197,13 @@ impl Profile {
         self.speeds.len()
     }
 
+    /// How many restrictions are held: at most 32.
+    pub fn held_count(&self) -> usize
+        ensures { result ≡ finite.len self.now.restrictions }
+    {
+        self.held.len()
+    }
+
     /// Whether a restriction with this identity is held.
     fn is_held(&self, id: u16) -> bool
         ensures { result ≡ finite.contains_key self.now.restrictions id }
@@ -215,6 +248,29 @@ impl Profile {
         self.held.push_reserved(r);
         self.steps.lower(zone_of(r, self.length_cm));
         Ok(cells_of(r, self.length_cm))
+    }
+
+    /// The least identity of the restrictions in force that end past the end of a track of a length in cm.
+    pub fn first_beyond(&self, length_cm: u32) -> Option<u16>
+        ensures value { result ≡ first_beyond (pos length_cm) (finite.values self.now.restrictions) }
+        ensures in_range { IsProfile self.now }
+    {
+        first_beyond(length_cm, &self.held)
+    }
+
+    /// Puts the restrictions of another profile into force, and tells the cells that they may cover: in no others is
+    /// the MRSP another. None is in force before, and none of the other's ends past the track's end. (own)
+    pub fn take_restrictions(&mut self, before: &Profile) -> Changed
+        requires fresh { self.old.restrictions ≡ finite.empty }
+        requires fitting { first_beyond self.old.track_cm (finite.values before.now.restrictions) ≡ None }
+        ensures taken { self.new ≡ record self.old { restrictions = before.now.restrictions } }
+        ensures outside { AreSameOutside (mrsp_of self.old) (mrsp_of self.new) result }
+        ensures in_range { IsChangedInRange result }
+    {
+        for i in 0..before.held.len() {
+            self.impose(before.held[i]).unwrap();
+        }
+        ALL_CELLS
     }
 
     /// Takes a restriction out of force, and tells the cells that it covered: in no others is the MRSP another.

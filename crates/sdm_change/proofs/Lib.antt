@@ -1,0 +1,2 @@
+mod PartsSafe
+mod KeptOver
