@@ -16,6 +16,7 @@ mod ReleaseCases
 mod DisplayCases
 mod PromiseCases
 mod HeadlineCases
+mod RowPromiseCases
 mod InputCases
 mod LineCases
 mod TextCases
