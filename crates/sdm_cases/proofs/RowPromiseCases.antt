@@ -2,16 +2,19 @@
 -- speed falls to 5 km/h at 5 m, with the EOA at 10 m and the SvL at 11 m. Each limit is shown to the grain.
 use Rattle.std.proofs.Common.{◌≡◌, ℕ, ℤ, zero, suc, pos, true, false, List, [], ◌∷◌, ◌<◌}
 use Rattle.std.proofs.Common.{refl, sym, ap, ◌∙◌, arith}
-use Rattle.std.specs.Prelude.{Some, map}
+use Rattle.std.specs.Prelude.{Some, Ok, map}
+use Rattle.std.proofs.lemmas.Bool.{false≢true}
 use Rattle.std.proofs.lemmas.Int.{ints}
 use Rattle.sdm_num.specs.Units.{millimetre}
 use Rattle.sdm_num.specs.Readings.{OdometerReading, estimate_of}
 use Rattle.sdm_rules.specs.declared.authorities.Authority.{Authority}
 use Rattle.sdm_rules.specs.declared.authorities.Authority.TheVariants.{Stop}
 use Rattle.sdm_rules.specs.declared.commands.State.TheVariants.{T}
-use Rattle.sdm_rules.specs.declared.commands.Status.TheVariants.{W, X}
+use Rattle.sdm_rules.specs.declared.commands.Status.TheVariants.{I, O, W, X}
 use Rattle.sdm_rules.specs.declared.data.SlopeKind.{SlopeKind}
 use Rattle.sdm_rules.specs.declared.data.SlopeKind.TheVariants.{Safe, Expected, Normal}
+use Rattle.sdm_rules.specs.declared.records.Event.{Event}
+use Rattle.sdm_rules.specs.declared.records.Event.TheVariants as record_kinds
 use Rattle.sdm_rules.specs.declared.targets.Target.{Target}
 use Rattle.sdm_rules.specs.declared.targets.TargetKind.TheVariants.{Mrsp}
 use Rattle.sdm_rules.specs.Cells.{place_of_cell}
@@ -23,17 +26,21 @@ use Rattle.sdm_rules.specs.Limits.{exact_places, limits_of, release_start}
 use Rattle.sdm_rules.specs.Opening.{IsAcceptedKind, IsEven, IsOpen, IsStrong}
 use Rattle.sdm_rules.specs.Profile.{mrsp}
 use Rattle.sdm_rules.specs.Reaction.{reaction_start, reaction_times}
+use Rattle.sdm_rules.specs.Records.{Turn, journey_from, step}
 use Rattle.sdm_rules.specs.Stop.{SlowsTo, StopsBySvl}
-use Rattle.sdm_rules.specs.Supervision.{Supervision, commands_in, is_covered_in, opening, row_in}
+use Rattle.sdm_rules.specs.Supervision.{Supervision, after_reading, commands_in, is_covered_in, opening, row_in}
 use Rattle.sdm_rules.specs.Supervision.{profile_of, row_of, situation_of, state_in}
 use Rattle.sdm_rules.specs.Targets.{svl_target, targets_of}
 use Rattle.sdm_rules.specs.Triggers.{Situation, is_past, triggers_of}
 use Rattle.sdm_laws.specs.Falls.{IsFallAhead, MeetsFalls, allowance}
 use Rattle.sdm_laws.proofs.Rows.Falls.{falls}
-use Rattle.sdm_row_laws.specs.AllCommands.{AllInOrder, may_hold, must_hold, commands_by, state_by}
-use Rattle.sdm_row_laws.specs.ServiceStop.{CommandsNoBrake, StopsByEoa, eoa_target, service_start}
+use Rattle.sdm_row_laws.specs.AllCommands.{AllInOrder, IsNoMore, IsRowInOrder, commands_by, may_hold, must_hold}
+use Rattle.sdm_row_laws.specs.AllCommands.{state_by}
+use Rattle.sdm_row_laws.specs.OpenTurns.{AreTurnsPromised, MeetsFallsIfFree}
+use Rattle.sdm_row_laws.specs.ServiceStop.{CommandsNoBrake, StopsByEoa, StopsIfFree, eoa_target, service_start}
 use Rattle.sdm_row_laws.specs.Tightness.{MayExceed, MayPass}
 use Rattle.sdm_row_laws.proofs.ExactLimits.{exact_eoa, exact_svl, exact_target, refuted}
+use Rattle.sdm_row_laws.proofs.OpenTurns.{promised_turns}
 use Rattle.sdm_row_laws.proofs.Service.{service_rows}
 use Rattle.sdm_cases.proofs.Journeys.{plain_band, plain_national, plain_train_and_track, reading_at}
 use Rattle.sdm_cases.proofs.Openings.{none_in_force, opening_situation, situation_with}
@@ -316,7 +323,7 @@ at_fall_ahead = record {
   by_end = omega (arith, ints);
 }
 
--- ---- the start
+-- ---- the order
 
 -- before the first reading the three machines hold nothing, in order
 nothing_in_order : AllInOrder nothing_held nothing_held nothing_held
@@ -324,3 +331,56 @@ nothing_in_order = record {
   needed = record { tco = λ e. e; sb = λ e. e; eb = λ e. e; status = omega arith };
   allowed = record { tco = λ e. e; sb = λ e. e; eb = λ e. e; status = omega arith };
 }
+
+-- one command or a higher status is more than nothing
+cut_off_is_more : IsNoMore (record nothing_held { tco = true }) nothing_held → ⊥
+cut_off_is_more h = false≢true (h.tco refl)
+
+service_is_more : IsNoMore (record nothing_held { sb = true }) nothing_held → ⊥
+service_is_more h = false≢true (h.sb refl)
+
+emergency_is_more : IsNoMore (record nothing_held { eb = true }) nothing_held → ⊥
+emergency_is_more h = false≢true (h.eb refl)
+
+indication_is_more : IsNoMore (record nothing_held { status = I }) nothing_held → ⊥
+indication_is_more h = let le = h.status in omega arith
+
+-- and each status is higher than the one before
+overspeed_is_more : IsNoMore (record nothing_held { status = O }) (record nothing_held { status = I }) → ⊥
+overspeed_is_more h = let le = h.status in omega arith
+
+warning_is_more : IsNoMore (record nothing_held { status = W }) (record nothing_held { status = O }) → ⊥
+warning_is_more h = let le = h.status in omega arith
+
+intervention_is_more : IsNoMore (record nothing_held { status = X }) (record nothing_held { status = W }) → ⊥
+intervention_is_more h = let le = h.status in omega arith
+
+-- ---- two readings in turn: at the SBI of the EOA, and past it
+
+two_readings : List Event
+two_readings = record_kinds.Read at_sbi ∷ record_kinds.Read past_sbi ∷ []
+
+-- the turn of a reading
+turn_at : Supervision → OdometerReading → Turn
+turn_at s r = record { before = s; event = record_kinds.Read r; after = after_reading s r }
+
+promised : AreTurnsPromised (journey_from (λ n e. Ok e) 1 before two_readings).turns
+promised = promised_turns (λ n e. Ok e) 1 before two_readings before_open refl
+
+after_one : Supervision
+after_one = after_reading before at_sbi
+
+-- the second row is in order by what the machines hold after the first
+second_in_order : IsRowInOrder (must_hold before at_sbi nothing_held) (may_hold before at_sbi nothing_held) after_one
+    past_sbi (row_of after_one past_sbi)
+unfolding two_readings after_one after_reading step at_sbi past_sbi reading_at
+second_in_order = promised.in_order.1.0
+
+-- of each row the EOA is promised where it commands no brake, and each fall where it is covered and not an emergency
+first_stops : StopsIfFree before at_sbi
+unfolding two_readings turn_at after_reading step at_sbi past_sbi reading_at
+first_stops = promised.eoa 0 (turn_at before at_sbi) (omega arith)
+
+second_meets : MeetsFallsIfFree after_one past_sbi
+unfolding two_readings turn_at after_one after_reading step at_sbi past_sbi reading_at
+second_meets = promised.falls 1 (turn_at after_one past_sbi) (omega arith)
