@@ -17,6 +17,7 @@ mod DisplayCases
 mod PromiseCases
 mod HeadlineCases
 mod TakeOverCases
+mod RowPromiseCases
 mod InputCases
 mod LineCases
 mod TextCases

@@ -17,7 +17,8 @@ use Rattle.sdm_rules.specs.Commands.{nothing_held}
 use Rattle.sdm_rules.specs.Supervision.{Supervision, opening, release_of, is_past_end, situation_of, row_of}
 use Rattle.sdm_rules.specs.Supervision.{row_in}
 
-none_in_force : finite.entries (finite.empty {X = Restriction} {R = nat_cmp}) ≡ []
+-- a map that is empty has no entries
+pub none_in_force : finite.entries (finite.empty {X = Restriction} {R = nat_cmp}) ≡ []
 none_in_force = nil_from_length _ (sym (finite.len-entries finite.empty) ∙ finite.len-empty nat_cmp Restriction)
 
 -- what the triggers look at with these restrictions in force
