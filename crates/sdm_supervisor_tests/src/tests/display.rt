@@ -1,11 +1,16 @@
-//! Speeds found over thresholds, lines, and what is shown of readings, as tables worked by hand.
+//! Speeds found over thresholds, and lines with numbers that no reading leads to, as tables worked by hand. What is shown
+//! of readings are runs of `display`, in worked/.
 
 ghost use Rattle.std.specs.Prelude.{nat_lt};
 ghost use Rattle.sdm_rules.specs.declared.display.LimitName.TheVariants.{Permitted, Sbi, Ebi};
 
-use crate::tests::go_through;
-use crate::tests::records::is_displayed;
-use sdm_display::{Display, LimitName, Passed, Shown, TargetKind, greatest};
+use crate::tests::plain::{opened, plain, stop};
+use sdm_display::{
+    Display, LimitName, Passed, Shown, TargetKind, display_bytes, display_of, greatest,
+};
+use sdm_num::Reading;
+use sdm_supervisor::Supervisor;
+use sdm_text::RowBuf;
 
 /// Where each limit is passed at every speed above its threshold, in km/h.
 #[derive(Clone, Copy)]
@@ -59,6 +64,13 @@ fn the_greatest_speed_within_each_limit_is_found(rt: HostRuntime) {
     }
 }
 
+/// Whether what is shown of a reading is this text, as the product prints it, but for the line feed.
+fn is_displayed(display: &Display, text: &str) -> bool {
+    let mut line = RowBuf::new();
+    display_bytes(display, &mut line);
+    line.bytes().strip_suffix(b"\n") == Some(text.as_bytes())
+}
+
 /// Time; permitted, SBI, EBI and release speed; kind of the target, if there is one, and its distance; line.
 const LINES: [(u32, [u16; 4], Option<TargetKind>, i64, &str); 6] = [
     (
@@ -102,43 +114,19 @@ fn each_line_has_its_fields_in_order(rt: HostRuntime) {
     }
 }
 
-/// Tables as `tests.rt` says; a reading after `display` is answered by the line of what is shown of it.
-///
-/// With s m left a train stops at 1 m/s² from v with v² / 2 = s; its driver has 4 s more, with v² / 2 + 4 v = s. For
-/// 200.01 m that is 20.00 m/s (72.0 km/h) and 16.40 m/s (59.0 km/h), for 100 m 14.14 m/s (50.9 km/h) and 10.70 m/s
-/// (38.5 km/h), for 50.001 m 10.00 m/s (36.0 km/h) and 6.77 m/s (24.4 km/h). To an SvL in 300.01 m it is 24.50 m/s
-/// (88.2 km/h), in 150.001 m 17.32 m/s (62.4 km/h). At 160 km/h dV_sbi is 7.75 km/h and dV_ebi 11.25 km/h. To a target
-/// of 36 km/h the EBD has its foot at 43.5 km/h, 12.08 m/s, so in 200.01 m it is at 23.37 m/s (84.1 km/h), and 4 s
-/// before at 19.71 m/s (70.9 km/h). From 36 km/h it takes 50 m to stop: at 950 m release speed monitoring starts, in
-/// which an EOA and an SvL are no targets.
-const READINGS: &str = "\
-# an EOA at 1000 m; in 100 m it is no target of a train that stands
-speed 0 160 1 100000 160 1; end 100000 100000 0
-display,0,799990,799990,799990,20000,0,0 = 0,59,72,72,0,E,200010
-display,0,900000,900000,900000,0,0,0 = 0,38,50,50,0,-,-
-
-# an EOA at 2000 m
-speed 0 160 1 100000 160 1; end 200000 200000 0
-display,0,0,0,0,40000,0,0 = 0,160,167,171,0,E,2000000
-
-# an SvL past the EOA
-speed 0 160 1 100000 160 1; end 100000 110000 0
-display,0,799990,799990,799990,20000,0,0 = 0,59,72,88,0,E,200010
-
-# a release speed, before its monitoring and in it
-speed 0 160 1 100000 160 1; end 100000 110000 36
-display,0,949999,949999,949999,5000,0,0 = 0,24,36,62,36,E,50001
-display,0,960000,960000,960000,5000,0,0 = 0,36,167,36,36,-,-
-
-# an LOA
-speed 0 160 1 100000 160 1; limit 100000 36
-display,0,799990,799990,799990,20000,0,0 = 0,70,84,84,0,L,200010
-
-# a lower speed from 1000 m on
-speed 0 160 1 100000 36 1; end 200000 200000 0
-display,0,799990,799990,799990,20000,0,0 = 0,70,84,84,0,M,200010";
+/// With 200.01 m left a train stops at 1 m/s² from 20 m/s, 72 km/h; where its driver has 4 s more, from 59.0 km/h.
+fn is_shown(supervisor: &Supervisor) -> bool {
+    match Reading::new(0, 799_990, 799_990, 799_990, 20_000, 0, 0) {
+        Some(reading) => is_displayed(&display_of(supervisor, &reading), "0,59,72,72,0,E,200010"),
+        None => false,
+    }
+}
 
 #[test]
-fn readings_show_their_speeds_and_the_target_that_counts(rt: HostRuntime) {
-    go_through(&rt, rt.alloc(), READINGS);
+fn a_reading_shows_its_speeds_and_the_target_that_counts(rt: HostRuntime) {
+    let shown = match opened(rt.alloc(), plain(rt.alloc()), stop(100_000, 100_000)) {
+        Some(supervisor) => is_shown(&supervisor),
+        None => false,
+    };
+    assert!(rt; shown);
 }

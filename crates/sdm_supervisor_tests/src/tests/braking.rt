@@ -2,7 +2,7 @@
 
 ghost use Rattle.std.specs.Prelude.{◌≤◌};
 
-use crate::tests::data::{accepted, base};
+use crate::tests::plain::plain;
 use sdm_braking::Braking;
 use sdm_num::{Estimate, Place, Speed};
 use sdm_targets::{Target, TargetKind};
@@ -15,7 +15,7 @@ fn ebi_by_hand_mm(kmh: u16) -> i64 {
 }
 
 fn base_braking(alloc: Global) -> Option<Braking> {
-    let parts = accepted(base(alloc))?;
+    let parts = plain(alloc)?;
     Braking::open(alloc, parts.train, parts.national, parts.track).ok()
 }
 

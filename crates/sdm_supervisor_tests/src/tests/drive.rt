@@ -4,26 +4,30 @@
 
 ghost use Rattle.std.specs.Prelude.{◌≤◌};
 
-mod journeys;
-
-use journeys::{Journey, base, short, stop};
+use crate::tests::plain::{Parts, parts, stop};
 use sdm_drive::{Drive, DriveFault, Summary, driven};
-use sdm_rules::Authority;
+use sdm_formats::{BASE_NATIONAL, BASE_TRAIN};
+use sdm_rules::{Authority, TrainFields};
 use sdm_text::RowBuf;
 use std::alloc::Global;
 
-/// The drive over data, or why it is refused; none where there are no data.
-fn begin(alloc: Global, data: Option<Journey>, seed: u16) -> Option<Result<Drive, DriveFault>> {
+/// The plain data with a build-up time of the emergency brake, in ds.
+fn built_up(alloc: Global, emergency_time: i64) -> Option<Parts> {
+    let train = TrainFields {
+        emergency_time,
+        ..BASE_TRAIN
+    };
+    parts(alloc, train, BASE_NATIONAL)
+}
+
+/// The drive of number 7 over data, or why it is refused; none where there are no data.
+fn begin(
+    alloc: Global,
+    data: Option<Parts>,
+    authority: Authority,
+) -> Option<Result<Drive, DriveFault>> {
     let data = data?;
-    let authority = data.authority;
-    Some(Drive::begin(
-        alloc,
-        data.train,
-        data.national,
-        data.track,
-        authority,
-        seed,
-    ))
+    Some(Drive::begin(alloc, data.train, data.national, data.track, authority, 7))
 }
 
 // ---- rows
@@ -49,8 +53,8 @@ fn steps_so(drive: &mut Drive) -> bool {
 
 #[test]
 fn a_train_is_driven_by_its_numbers(rt: HostRuntime) {
-    let data = base(rt.alloc(), 20, stop(100_000, 100_000));
-    let driven = match begin(rt.alloc(), data, 7) {
+    let data = built_up(rt.alloc(), 20);
+    let driven = match begin(rt.alloc(), data, stop(100_000, 100_000)) {
         Some(Ok(mut drive)) => steps_so(&mut drive),
         _ => false,
     };
@@ -59,23 +63,15 @@ fn a_train_is_driven_by_its_numbers(rt: HostRuntime) {
 
 // ---- summaries
 
-/// Whether the summary of so many steps over data is a text.
-fn is_summed_up(alloc: Global, data: Option<Journey>, seed: u16, cycles: u32, text: &str) -> bool
+/// Whether the summary of so many steps from 7 over data is a text.
+fn is_summed_up(alloc: Global, data: Option<Parts>, cycles: u32, text: &str) -> bool
     requires { cycles ≤ 100_000 }
 {
     let Some(data) = data else {
         return false;
     };
-    let authority = data.authority;
-    match driven(
-        alloc,
-        data.train,
-        data.national,
-        data.track,
-        authority,
-        seed,
-        cycles,
-    ) {
+    let end = stop(100_000, 100_000);
+    match driven(alloc, data.train, data.national, data.track, end, 7, cycles) {
         Ok(summary) => is_said(&summary, text),
         Err(_) => false,
     }
@@ -88,30 +84,20 @@ fn is_said(summary: &Summary, text: &str) -> bool {
 }
 
 #[test]
-fn drives_have_their_summaries(rt: HostRuntime) {
+fn no_step_and_three_have_their_summaries(rt: HostRuntime) {
     let alloc = rt.alloc();
-    // a train whose SvL is at its front end stands
-    let text = "cycles 1000\nemergency 0\nstops 0\nfront 0\nleast 0\n";
-    let data = base(alloc, 20, stop(0, 0));
-    assert!(rt; is_summed_up(alloc, data, 7, 1_000, text));
-    // no step, and three
     let text = "cycles 0\nemergency 0\nstops 0\nfront 0\nleast 1000000\n";
-    let data = base(alloc, 20, stop(100_000, 100_000));
-    assert!(rt; is_summed_up(alloc, data, 7, 0, text));
+    assert!(rt; is_summed_up(alloc, built_up(alloc, 20), 0, text));
     let text = "cycles 3\nemergency 0\nstops 0\nfront 184\nleast 999816\n";
-    let data = base(alloc, 20, stop(100_000, 100_000));
-    assert!(rt; is_summed_up(alloc, data, 7, 3, text));
-    // a train stops often on a short track
-    let text = "cycles 300\nemergency 68\nstops 13\nfront 27025\nleast 3145\n";
-    assert!(rt; is_summed_up(alloc, short(alloc), 47_880, 300, text));
+    assert!(rt; is_summed_up(alloc, built_up(alloc, 20), 3, text));
 }
 
 // ---- refusals
 
-/// Whether a drive over the base data with another authority and another build-up time of the emergency brake, in ds,
-/// is begun, or refused by this fault with its text.
+/// Whether a drive with a build-up time of the emergency brake, in ds, is begun under an authority, or refused by this
+/// fault with its text.
 fn begins_as(alloc: Global, authority: Authority, emergency_time: i64, answer: &str) -> bool {
-    let told = match begin(alloc, base(alloc, emergency_time, authority), 7) {
+    let told = match begin(alloc, built_up(alloc, emergency_time), authority) {
         Some(Ok(_)) => return answer == "begun",
         Some(Err(fault)) => format!(in alloc; "{fault:?}: {fault}"),
         None => return false,

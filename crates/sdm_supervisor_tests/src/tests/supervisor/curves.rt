@@ -6,11 +6,11 @@ ghost use Rattle.sdm_rules.specs.declared.data.SlopeKind.TheVariants.{Safe};
 ghost use Rattle.sdm_rules.specs.Decelerations.{slopes_of};
 ghost use Rattle.sdm_rules.specs.Slopes.{meaning_of};
 
-use crate::tests::data::{Parts, accepted, changed};
+use crate::tests::plain::{plain, stop};
+use crate::tests::supervisor::restriction;
 use sdm_curve::BandMap;
 use sdm_decel::safe;
 use sdm_num::Speed;
-use sdm_speed::Restriction;
 use sdm_supervisor::Supervisor;
 use sdm_targets::Authority;
 use std::alloc::Global;
@@ -74,24 +74,17 @@ struct Lender {
     map: BandMap,
 }
 
-/// Of these data.
-fn opened(alloc: Global, parts: Parts, authority: Authority) -> Option<Lender>
-    ensures { IfSome result (λ o. meaning_of o.map ≡ slopes_of Safe o.supervisor.train_and_track) }
-{
-    let map = safe(alloc, &parts.train, &parts.national, &parts.track).ok()?;
-    match Supervisor::begin(alloc, parts.train, parts.national, parts.track, authority) {
-        Ok(supervisor) => Some(Lender { supervisor, map }),
-        Err(_) => None,
-    }
-}
-
-/// With 160 km/h on 2 km, up to an EOA at their end.
+/// With the EOA and the SvL at the end of the track, at 2 km.
 fn begun(alloc: Global) -> Option<Lender>
     ensures { IfSome result (λ o. meaning_of o.map ≡ slopes_of Safe o.supervisor.train_and_track) }
 {
-    let data = changed(alloc, "end 200000 200000 0")?;
-    let authority = data.authority;
-    opened(alloc, accepted(data)?, authority)
+    let parts = plain(alloc)?;
+    let map = safe(alloc, &parts.train, &parts.national, &parts.track).ok()?;
+    let end = stop(200_000, 200_000);
+    match Supervisor::begin(alloc, parts.train, parts.national, parts.track, end) {
+        Ok(supervisor) => Some(Lender { supervisor, map }),
+        Err(_) => None,
+    }
 }
 
 /// Takes a restriction to 80 km/h from 500 m to 600 m, until the train's end has left it at 700 m; whether the curves
@@ -100,14 +93,7 @@ fn is_restricted_by(supervisor: &mut Supervisor, map: &BandMap) -> bool
     requires { meaning_of map.now ≡ slopes_of Safe supervisor.old.train_and_track }
     ensures { meaning_of map.now ≡ slopes_of Safe supervisor.new.train_and_track }
 {
-    let restriction = Restriction {
-        id: 1,
-        start: 50_000,
-        end: 60_000,
-        speed: 80,
-        delayed: true,
-    };
-    supervisor.restrict(restriction).is_ok()
+    supervisor.restrict(restriction(1, 50_000, 60_000)).is_ok()
         && is_restricted(supervisor, map)
         && falls_once(supervisor)
 }
@@ -130,12 +116,7 @@ fn is_limited_by(supervisor: &mut Supervisor, map: &BandMap) -> bool
 fn is_as_it_began(supervisor: &mut Supervisor, map: &BandMap) -> bool
     requires { meaning_of map.now ≡ slopes_of Safe supervisor.old.train_and_track }
 {
-    let authority = Authority::Stop {
-        eoa: 200_000,
-        svl: 200_000,
-        release: 0,
-    };
-    supervisor.authority(authority).is_ok()
+    supervisor.authority(stop(200_000, 200_000)).is_ok()
         && supervisor.revoke(1).is_ok()
         && is_at_2_km(supervisor, map)
 }
