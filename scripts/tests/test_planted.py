@@ -80,8 +80,8 @@ PLANTED = [
             Fault("scripts/own-reasons.txt", r"^\S+/Commands\.antt: .*\n", "", "no reason for what is own in"),
             Fault(
                 "scripts/shown-by.txt",
-                " train_fault: sdm_base_tests::",
-                " train_fault: sdm_limit_tests::",
+                " train_fault: sdm_library_tests::",
+                " train_fault: sdm_run_tests::",
                 "is no test of a function",
             ),
         ],

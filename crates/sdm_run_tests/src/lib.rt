@@ -1,5 +1,5 @@
-//! Tests of the commands, from words and bytes to bytes and an outcome. They are a crate of their own, so that
-//! `sdm_run` is proved once and not again with its tests.
+//! Tests of streams, of the data part, of records, of generated journeys, and of the commands from words and bytes to bytes
+//! and an outcome. They are a crate of their own, so that the crates below are proved once and not again with their tests.
 #![tactic(auto)]
 
 #[cfg(test)]

@@ -2,11 +2,15 @@
 //! they make of words and inputs where no stream fails is shown by runs of the built program, in worked/, examples/ and
 //! vectors/. In the tables `/` stands for a line feed and `-` for nothing. A test owns its inputs and streams in one
 //! function and judges them in another, which takes them by reference: the proof of a function counts what each of its
-//! exits drops.
+//! exits drops. Tests of the crates below `sdm_run` stand in files of their names.
 
+mod data;
+mod events;
 mod faults;
 mod inputs;
+mod io;
 mod runs;
+mod trial;
 
 use faults::{CERTIFY, CHECK, DRIVE, FLAT, RUN, TRIAL, UNTOLD, UPGRADE};
 use inputs::{fields_of, put_bytes, put_part};

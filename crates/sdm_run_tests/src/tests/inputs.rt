@@ -15,6 +15,14 @@ pub fn fields_of<'a>(line: &'a str, between: char, count: usize) -> [&'a str; 7]
     fields
 }
 
+/// The number of 32 bits that a field writes.
+pub fn natural(field: &str) -> Result<u32, &'static str> {
+    match field.parse::<u32>() {
+        Ok(number) => Ok(number),
+        Err(_) => Err("not a natural number"),
+    }
+}
+
 /// The byte that a sign of a field writes.
 fn byte_of(sign: u8) -> u8 {
     match sign {
