@@ -38,17 +38,14 @@ class Comparison:
                 each = difference(held, lines, pair, name, allowed)
                 if each is not None:
                     self.found[name].append(each)
-        self.beyond = {
-            name: [each for each in found if is_beyond(each, allowed)] for name, found in self.found.items()
-        }
+        self.beyond = {name: [each for each in found if is_beyond(each, allowed)] for name, found in self.found.items()}
 
     def outcome(self) -> str:
         """In a sentence, how the rows and the recording agree."""
         differing = {each.row for found in self.beyond.values() for each in found}
-        matching = (
-            f"{len(self.pairs)} rows compared; {len(self.rows) - len(self.pairs)} rows have no line of their time, "
-            f"{self.unmatched} lines no row. "
-        )
+        alone = len(self.rows) - len(self.pairs)
+        matching = f"{len(self.pairs)} rows compared; {alone} rows have no line of their time, "
+        matching += f"{self.unmatched} lines no row. "
         if not differing:
             return matching + "Nothing differs by more than the tolerances."
         first = min((found[0] for found in self.beyond.values() if found), key=lambda each: each.row)
@@ -58,7 +55,17 @@ class Comparison:
 
     def table(self) -> Table:
         """The statistics by column, under a head; a column that the recording lacks says so."""
-        head = ["column", "compared", "differ", "beyond tolerance", "first", "least", "mean", "greatest", "farthest off"]
+        head = [
+            "column",
+            "compared",
+            "differ",
+            "beyond tolerance",
+            "first",
+            "least",
+            "mean",
+            "greatest",
+            "farthest off",
+        ]
         return [head] + [self.statistics(name) for name in COLUMNS]
 
     def statistics(self, name: str) -> list[str]:
@@ -89,8 +96,7 @@ class Comparison:
             "line": steps_of(self.lines.get(row) for row in range(len(self.rows))),
             "columns": [self.column(name) for name in self.columns],
             "firsts": [
-                {"column": each.column, "row": each.row - 1, "text": told_of(each, self.rows)}
-                for each in self.firsts()
+                {"column": each.column, "row": each.row - 1, "text": told_of(each, self.rows)} for each in self.firsts()
             ],
         }
 

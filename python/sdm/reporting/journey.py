@@ -1,9 +1,9 @@
 """A journey as a report has it: each reading with its row, why the row is as it is, and the curves that counted.
 
-All of it becomes one JSON object, which page.js draws. Columns of numbers are lists of steps from one value to the next,
-since a hundred thousand readings then take a fraction of the room; None stays None. Places are in mm and speeds in mm/s,
-as in readings and rows; those of curves are in cm and thousandths of a km/h. What counts for some readings alone has the
-numbers of the first one and of the one behind the last, from 0.
+All of it becomes one JSON object, which page.js draws. Columns of numbers are lists of steps from one value to the
+next, since a hundred thousand readings then take a fraction of the room; None stays None. Places are in mm and speeds
+in mm/s, as in readings and rows; those of curves are in cm and thousandths of a km/h. What counts for some readings
+alone has the numbers of the first one and of the one behind the last, from 0.
 """
 
 import collections

@@ -22,6 +22,7 @@ from .statistics import journey_table
 
 ALLOWED: Allowed = {"mm": Fraction(2), "km/h": Fraction(1, 2), "ds": 0}  # where nothing else is said
 MOST_FINDINGS = 40
+ABOUT = f'<p>Made by sdm {sdm.__version__}; <a href="#facts">what was run</a>, with digests.</p>\n'
 
 
 @dataclass(frozen=True)
@@ -89,10 +90,6 @@ def mapping_text(recorded: Recorded | None) -> str:
     return f"<details><summary>The mapping</summary><pre>{escape(text)}</pre></details>\n"
 
 
-def short_digest(source: Source) -> str:
-    return hashlib.sha256(source.data).hexdigest()[:12]
-
-
 def outcome_of(result: Result) -> str:
     """How the run ended, in a sentence."""
     if result.code == 0:
@@ -133,7 +130,7 @@ def report_of(
     not those of the input, the recording can't be compared, or d3 is missing."""
     rows = rows_of(result.rows)
     facts = table(run_facts(source, result, ran, recorded), "facts") + mapping_text(recorded)
-    head = [link, f'<p class="outcome" id="outcome">{escape(outcome_of(result))}</p>\n']
+    head = [link, ABOUT, f'<p class="outcome" id="outcome">{escape(outcome_of(result))}</p>\n']
     about = [section("What was run", facts), findings_section(source, result)]
     if not rows:
         if recorded is not None:

@@ -1,6 +1,7 @@
-"""The page of a report: one HTML file that asks for nothing from elsewhere, with the plot's data and the library d3 in it.
+"""The page of a report: one HTML file with the plot's data and the library d3 in it. It loads nothing from elsewhere,
+which its own policy forbids a browser.
 
-d3 is Debian's; its licence stands in the page, as it asks for. The page's own policy forbids a browser to load anything.
+d3 is Debian's; its licence stands in the page, as the licence asks.
 """
 
 import base64
@@ -97,7 +98,7 @@ def scripts(data: Json) -> str:
     return (
         f"<details><summary>Licence of d3, which this page contains</summary><pre>{escape(licence)}</pre></details>\n"
         f'<script type="text/plain" id="data">{packed(data)}</script>\n'
-        f'<script>{text}</script>\n<script>\n{own}</script>\n'
+        f"<script>{text}</script>\n<script>\n{own}</script>\n"
     )
 
 

@@ -2,9 +2,11 @@
 // given and keeps no cursor, which page.js does. Of many readings as many are drawn as a screen can show.
 "use strict";
 
-const MARGIN = {left: 78, right: 14, top: 26, bottom: 34};
+const MARGIN = {left: 78, right: 14, top: 40, bottom: 34};
+const LEVELS = [3, 14, 25]; // how far above the plot names stand
 const SPOT = 3; // half the height of a difference that is a number alone
 const MOST_MARKS = 500; // readings in view, above which no reading has a mark of its own
+const GRADES = {"-1": "#F3C9B1", 0: "#EEEEEE", 1: "#CFE6D2"}; // downhill, level, uphill
 const LINES = { // how a curve or a limit is drawn: its name, colour and dash
     ebi: ["EBI", "#D55E00", ""],
     sbi: ["SBI", "#000000", "7 4"],
@@ -148,14 +150,21 @@ function drawForce(plot, n) {
         element(plot.force, "rect", "restriction").attr("x", x(from / 1000)).attr("y", y(kmh))
             .attr("width", Math.max(x(end) - x(from / 1000), 1)).attr("height", Math.max(y(0) - y(kmh), 0));
     });
-    let taken = -Infinity;
+    const named = new Map();
     journey.ends.filter(holds).sort((a, b) => a[1] - b[1]).forEach(([name, mm]) => {
         const at = x(mm / 1000);
         if (at < x.range()[0] || at > x.range()[1]) return;
         straight(plot.force, name === "start of R" ? "end release" : "end", at, MARGIN.top, at, y.range()[0]);
-        element(plot.names, "text", "end").attr("x", at).attr("y", at - taken < 60 ? MARGIN.top - 14 : MARGIN.top - 3)
-            .attr("text-anchor", at > x.range()[1] - 40 ? "end" : "middle").text(name);
-        taken = at;
+        named.set(at, named.has(at) ? `${named.get(at)}, ${name}` : name);
+    });
+    const free = LEVELS.map(() => -Infinity); // where each level of names is free from
+    named.forEach((names, at) => {
+        const half = 3.2 * names.length;
+        const middle = Math.min(at, x.range()[1] - half);
+        const level = Math.max(free.findIndex(from => middle - half > from), 0);
+        free[level] = middle + half;
+        element(plot.names, "text", "end").attr("x", middle).attr("y", MARGIN.top - LEVELS[level])
+            .attr("text-anchor", "middle").text(names);
     });
 }
 
@@ -240,6 +249,39 @@ function drawStrips(strips) {
             }
         });
     });
+}
+
+// The strips of the track over place, in a holder: gradients, and areas where there are any.
+function trackPlot(holder, width, journey) {
+    const {gradients, adhesion, no_special} = journey.track;
+    const sloped = (gradients.length ? gradients : [[0, 0]]).map(([mm, grade], i) => {
+        const next = gradients[i + 1];
+        return [i ? mm / 1000 : -Infinity, next ? next[0] / 1000 : Infinity, `${grade}`, GRADES[Math.sign(grade)]];
+    });
+    const areas = (found, colour) => found.map(([from, to]) => [from / 1000, to / 1000, "", colour]);
+    const rows = [["gradient (‰)", sloped], ["adhesion", areas(adhesion, "#A9D3EE")],
+        ["no special", areas(no_special, "#D8C6E6")]].filter(row => row[1].length);
+    const svg = element(d3.select(holder), "svg", "track").attr("viewBox", `0 0 ${width} ${16 * rows.length + 4}`)
+        .attr("role", "img").attr("aria-label", "gradients and areas of the track over place");
+    rows.forEach(([name], i) => element(svg, "text", "name").attr("x", MARGIN.left - 6).attr("y", 16 * i + 12)
+        .attr("text-anchor", "end").text(name));
+    const x = d3.scaleLinear().range([MARGIN.left, width - MARGIN.right]);
+    return {svg, rows, x, fields: element(svg, "g", "fields")};
+}
+
+// Draws the strips of the track for the places that the scale has.
+function drawTrack(track) {
+    const {rows, x} = track;
+    const [low, high] = x.domain();
+    track.fields.html("");
+    rows.forEach(([, fields], i) => fields.forEach(([from, to, text, colour]) => {
+        const [left, right] = [x(Math.max(from, low)), x(Math.min(to, high))];
+        if (right <= left) return;
+        element(track.fields, "rect", "").attr("x", left).attr("y", 16 * i + 1).attr("width", right - left)
+            .attr("height", 14).attr("fill", colour);
+        if (right - left < 8 * text.length) return;
+        element(track.fields, "text", "letter").attr("x", (left + right) / 2).attr("y", 16 * i + 12).text(text);
+    }));
 }
 
 // A panel of the differences of a column over place, in a holder; by how much, or of words that they differ.

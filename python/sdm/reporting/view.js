@@ -12,7 +12,7 @@ function viewOf(journey, comparison) {
     const whole = d3.scaleLinear().domain(wholeReach(journey)).range(plot.x.range());
     const differing = comparison ? comparison.columns.filter(column => column.row.length) : [];
     return {
-        journey, comparison, plot, whole, n: 0, isHeld: false,
+        journey, comparison, plot, whole, n: 0, isHeld: false, track: trackPlot(by("track"), WIDTH, journey),
         strips: stripPlot(by("strips"), WIDTH, stripRows(journey, comparison), journey),
         panels: differing.map(column => differencePlot(by("differences"), WIDTH, column, journey)),
     };
@@ -26,6 +26,8 @@ function draw(view) {
     drawJourney(plot);
     strips.x.domain(timesIn(journey, plot.x.domain()));
     drawStrips(strips);
+    view.track.x.domain(plot.x.domain());
+    drawTrack(view.track);
     view.panels.forEach(panel => {
         panel.x.domain(plot.x.domain());
         drawDifferences(panel);

@@ -15,11 +15,12 @@ from sdm.laboratory.program import Fault, Result, add_program, built, run
 from sdm.laboratory.walk import read, write
 
 from .made import ALLOWED, Recorded, Report, Source, program_fact, report_of
+from .overview import write_overview
 
 
 def source_of(path: str) -> Source:
-    """A file that the words name."""
-    return Source("standard input" if path == "-" else Path(path).name, read(path))
+    """A file that the words name, called by its name and that of its folder."""
+    return Source("standard input" if path == "-" else "/".join(Path(path).absolute().parts[-2:]), read(path))
 
 
 def recorded_of(words: argparse.Namespace) -> Recorded | None:
@@ -44,8 +45,9 @@ def journey_report(words: argparse.Namespace) -> Report:
     """The report that the words ask for."""
     source = source_of(words.input)
     result, ran = result_of(words, source)
-    title = words.title or f"sdm run: {source.name}" + (f" and {Path(words.recording).name}" if words.recording else "")
-    return report_of(title, source, result, ran, recorded_of(words))
+    recorded = recorded_of(words)
+    beside = f", beside {recorded.recording.name}" if recorded else ""
+    return report_of(words.title or f"sdm run: {source.name}{beside}", source, result, ran, recorded)
 
 
 def words_of(args: list[str]) -> argparse.Namespace:
@@ -75,9 +77,7 @@ def main(args: list[str]) -> int:
     words = words_of(args)
     try:
         if words.input != "-" and Path(words.input).is_dir():
-            from .overview import overview
-
-            write(words.out, overview(Path(words.input), Path(words.out), words.title, words.most))
+            write_overview(Path(words.input), Path(words.out), words.title, words.most)
         else:
             write(words.out, journey_report(words).html)
     except Fault as why:
