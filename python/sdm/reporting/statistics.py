@@ -55,7 +55,8 @@ def command_text(name: str, readings: Sequence[Reading], rows: Sequence[Row]) ->
         return "never"
     comes = [n for n in held if n == 0 or rows[n - 1][name] == "0"]
     times = "once" if len(comes) == 1 else f"{len(comes)} times"
-    return f"{len(held):,} rows; it comes {times}, first in {at(comes[0], readings[comes[0]])}"
+    rows_held = "1 row" if len(held) == 1 else f"{len(held):,} rows"
+    return f"{rows_held}; it comes {times}, first in {at(comes[0], readings[comes[0]])}"
 
 
 def least_way(name: str, readings: Sequence[Reading], rows: Sequence[Row]) -> str:
