@@ -10,6 +10,7 @@ COMMANDS = {
     "import": "sdm.importing.words",
     "campaign": "sdm.campaign",
     "plot": "sdm.picture",
+    "report": "sdm.reporting.words",
     "rides": "sdm.rides",
     "model": "sdm.model.words",
     "journeys": "sdm.model.journeys",
