@@ -1,19 +1,22 @@
-"""Why a row of `sdm run` is as it is, by tools/model: tools/why INPUT N
+"""Why rows of `sdm run` are as they are, by tools/model: tools/why INPUT N, or tools/why INPUT N..M
 
-N counts the rows from 1, and INPUT is what `sdm run` reads, `-` for standard input. The answer has the targets in order
-with their curves and limits, exact and as they are printed, the triggers that hold with their causes, and for each
-command by which rule it was set, held or released. It says so where the row of the program is another.
+N and M count the rows from 1, and INPUT is what `sdm run` reads, `-` for standard input. The answer has the targets in
+order with their curves and limits, exact and as they are printed, the triggers that hold with their causes, and for
+each command by which rule it was set, held or released. It says so where the row of the program is another.
 """
 
 import argparse
+import re
 import sys
+from collections.abc import Iterator
 from fractions import Fraction
+from pathlib import Path
 
 from sdm.laboratory.program import Fault, add_program, built, run
 from sdm.laboratory.texts import metres, number, seconds, short, speed, target
-from sdm.laboratory.walk import at_row, read
+from sdm.laboratory.walk import at_rows, read
 from sdm.model.data import Stop
-from sdm.model.journey import Cycle, Supervisor
+from sdm.model.journey import MOST_RECORDS, Cycle, Supervisor
 from sdm.model.limits import Situation, TargetLimits
 from sdm.model.records import Reading
 from sdm.model.speeds import dV_ebi, dV_sbi, dV_warning, no_margin
@@ -185,27 +188,37 @@ def covered_text(cycle: Cycle) -> str:
     return "past the EBI of " + ", ".join(past) if past else "no target is past its EBI with V_bec above the foot speed"
 
 
-def row_lines(cycle: Cycle, source: bytes, words: argparse.Namespace) -> list[str]:
-    """The row with the targets that its places are of, and the program's row where it is another."""
+def row_lines(cycle: Cycle, theirs: str) -> list[str]:
+    """The row with the targets that its places are of, and what is told of the program's."""
     V, lines = cycle.situation.reading.V_est, [cycle.row.text().rstrip("\n")]
     slower = [each for each in cycle.situation.targets if each.target.V_target * NOTCHES_PER_KM_H <= V]
     for name, field in LIMITS.items():
         places = [getattr(each, field) for each in slower if getattr(each, field) is not None]
         of = [short(each.target) for each in slower if places and getattr(each, field) == min(places)]
         lines.append(f"{name:4}{printed(min(places)) if places else '-'}" + (f" of {', '.join(of)}" if of else ""))
-    try:
-        program = built(words.program)
-    except Fault as why:
-        return lines + [f"This row is the model's alone. {why}"]
-    got = run(program, ["run"], source).rows.splitlines()
-    theirs = got[words.row - 1] if words.row <= len(got) else "(no such row)"
-    same = theirs == lines[0]
-    return lines + ["The program's row is the same." if same else f"The program's row differs: {theirs}"]
+    return lines + ["The program's row is the same." if theirs == lines[0] else theirs]
 
 
-def answer(words: argparse.Namespace) -> list[str]:
-    source = read(words.input)
-    supervisor, reading, cycle, before = at_row(source, words.row)
+class ProgramRows:
+    """The rows of the program for an input, where there is a program."""
+
+    def __init__(self, program: Path, source: bytes) -> None:
+        self.rows: list[str] = []
+        self.absent = ""
+        try:
+            self.rows = run(built(program), ["run"], source).rows.splitlines()
+        except Fault as why:
+            self.absent = f"This row is the model's alone. {why}"
+
+    def told(self, number: int, due: str) -> str:
+        """What is told of a row beside the model's."""
+        theirs = self.rows[number - 1] if number <= len(self.rows) else "(no such row)"
+        return self.absent or (theirs if theirs == due else f"The program's row differs: {theirs}")
+
+
+def row_answer(supervisor: Supervisor, cycle: Cycle, before: Commands, theirs: str) -> list[str]:
+    """Why one row is as it is."""
+    reading = cycle.situation.reading
     exact = supervisor.situation(reading, exact=True).targets
     lines = section("reading", reading_lines(reading)) + section("in force", force_lines(supervisor))
     lines += section("decided on", situation_lines(cycle.situation))
@@ -213,16 +226,38 @@ def answer(words: argparse.Namespace) -> list[str]:
     for i, (each, true) in enumerate(pairs, 1):
         lines += section(f"target {i}", target_lines(each, true, reading.V_est))
     lines += section("triggers", trigger_lines(cycle)) + section("commands", command_lines(cycle, before))
-    return lines + section("row", row_lines(cycle, source, words))
+    return lines + section("row", row_lines(cycle, theirs))
+
+
+def answers(source: bytes, numbers: range, program: Path) -> Iterator[str]:
+    """Why some rows are as they are, each with its number where they are several."""
+    theirs = ProgramRows(program, source)
+    for number, (supervisor, cycle, before) in zip(numbers, at_rows(source, numbers)):
+        lines = [f"row {number}"] if len(numbers) > 1 else []
+        lines += row_answer(supervisor, cycle, before, theirs.told(number, cycle.row.text().rstrip("\n")))
+        yield "\n".join(lines + [""] * (number < numbers[-1]))
+
+
+def some_rows(text: str) -> range:
+    """The numbers that a word tells: N, or N..M with both."""
+    found = re.fullmatch(r"(\d{1,6})(?:\.\.(\d{1,6}))?", text, re.ASCII)
+    numbers = range(int(found[1]), int(found[2] or found[1]) + 1) if found else range(0)
+    if numbers.start < 1 or not numbers or numbers.stop > MOST_RECORDS + 1:
+        raise argparse.ArgumentTypeError(f"{text!r} is no row: rows are N or N..M, from 1 to {MOST_RECORDS:,}")
+    return numbers
 
 
 def main(args: list[str]) -> int:
     parser = argparse.ArgumentParser(prog="tools/why", description=__doc__.split("\n\n")[0])
     parser.add_argument("input", metavar="INPUT", help="the input of sdm run, - for standard input")
-    parser.add_argument("row", metavar="N", type=int, help="which row, counted from 1")
+    parser.add_argument(
+        "rows", metavar="N", type=some_rows, help="which row, counted from 1, or N..M for the rows from N to M"
+    )
     add_program(parser)
+    words = parser.parse_args(args)
     try:
-        print("\n".join(answer(parser.parse_args(args))))
+        for text in answers(read(words.input), words.rows, words.program):
+            print(text)
     except Fault as why:
         print(f"why: {why}", file=sys.stderr)
         return 1

@@ -105,9 +105,10 @@ def records(data: bytes) -> Iterator[list[bytes]]:
     return (fields for _, fields in placed_records(data))
 
 
-def placed_records(data: bytes) -> Iterator[tuple[int, list[bytes]]]:
-    """Each record's fields, and where among the bytes it begins."""
-    at = 3 if data.startswith(b"\xef\xbb\xbf") else 0
+def placed_records(data: bytes, at: int = 0) -> Iterator[tuple[int, list[bytes]]]:
+    """Each record's fields, and where among the bytes it begins, from the beginning of one on."""
+    if at == 0 and data.startswith(b"\xef\xbb\xbf"):
+        at = 3
     while at < len(data):
         begin, fields, more = at, [], data[at] not in b"\r\n"
         while more:
