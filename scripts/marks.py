@@ -1,4 +1,5 @@
-"""Which program the scripts and tools take, and how it gets the mark that says from which sources it was built.
+"""Which program, and which library for C, the scripts and tools take, and how these get the marks that say from which
+sources they were built.
 
     scripts/program                prints its path; fails where it isn't of these sources
     scripts/program --program PATH prints the path of another one, which is taken as it is
@@ -7,10 +8,15 @@
     scripts/program mark SOURCES   marks what `rt ci` built, if the sources still have the checksum that they had before
     scripts/program build          proves and builds it by `rt run`, where that wasn't done, and marks it
 
-The mark shows that the program, byte for byte, is the one that a proved build left, and that the sources were the same
-before the build, after it, and are now. It doesn't show that nobody changed them in between and put them back, nor that
-nobody wrote a mark by hand. Tests, definitions and proofs count as sources, so that a marked program is also proved by
-what lies here.
+    scripts/library                prints its path; fails where it isn't of these sources
+    scripts/library tell           prints its mark too
+    scripts/library build          proves and builds it, and marks it: by `rt lib`, or, where PROVED_BY_RT_CI is set,
+                                   over the libraries below it that `rt ci` proved
+
+A mark shows that the program or library, byte for byte, is the one that a proved build left, and that the sources were
+the same before the build, after it, and are now. It doesn't show that nobody changed them in between and put them back,
+nor that nobody wrote a mark by hand. Tests, definitions and proofs count as sources, so that what is marked is also
+proved by what lies here.
 """
 
 import os
@@ -18,8 +24,20 @@ import subprocess
 import sys
 from pathlib import Path
 
-from sdm.laboratory.program import BUILT, CRATE, MARK, Fault, Result, built, run, sum_of, sum_of_sources
 from sdm.laboratory.cases import text_of
+from sdm.laboratory.program import (
+    CRATE,
+    LIBRARY,
+    PROGRAM,
+    TOP,
+    Fault,
+    Product,
+    Result,
+    built,
+    run,
+    sum_of,
+    sum_of_sources,
+)
 from piped import end
 
 TOOLCHAIN = ["rt", "version"]
@@ -31,52 +49,111 @@ def stored_run() -> tuple[list[str], bytes, Result]:
     return text_of(CRATE / "args", "").splitlines(), text_of(CRATE / "stdin", "").encode(), due
 
 
-def mark(before: str, by: str) -> None:
-    """Marks the program as built from the sources that had a checksum before; only where it answers its stored run."""
+def mark(product: Product, before: str, by: str) -> None:
+    """Marks what was built from the sources that had a checksum before; a program only where it answers its stored
+    run."""
     if sum_of_sources() != before:
-        raise Fault("The sources changed while the program was built, so it isn't marked.")
-    if not BUILT.is_file():
-        raise Fault(f"There is no program at {BUILT} to mark.")
-    words, data, due = stored_run()
-    if run(BUILT, words, data) != due:
-        raise Fault(f"{BUILT} doesn't write what crates/sdm/stdout has, so it isn't marked.")
+        raise Fault(f"The sources changed while the {product.kind} was built, so it isn't marked.")
+    if not product.path.is_file():
+        raise Fault(f"There is no {product.kind} at {product.path} to mark.")
+    if product == PROGRAM:
+        words, data, due = stored_run()
+        if run(product.path, words, data) != due:
+            raise Fault(f"{product.path} doesn't write what crates/sdm/stdout has, so it isn't marked.")
     kit = subprocess.run(TOOLCHAIN, capture_output=True, text=True, check=True).stdout.strip()
-    MARK.write_text(f"sources {before}\nprogram {sum_of(BUILT)}\nkit {kit}\nby {by}, with LLVM\n")
+    product.mark.write_text(f"sources {before}\n{product.kind} {sum_of(product.path)}\nkit {kit}\nby {by}, with LLVM\n")
 
 
-def build() -> None:
+def build_program() -> None:
     """Proves and builds the program over what earlier checks kept, and marks it."""
     before, (words, data, _) = sum_of_sources(), stored_run()
-    MARK.unlink(missing_ok=True)
-    os.environ.pop("RT_BACKEND", None)  # else another compiler than LLVM may be chosen
+    PROGRAM.mark.unlink(missing_ok=True)
     if subprocess.run(["rt", "run", "--", *words], cwd=CRATE, input=data, stdout=subprocess.DEVNULL).returncode:
         raise Fault("`rt run` failed, so no program was built.")
-    mark(before, "rt run")
+    mark(PROGRAM, before, "rt run")
 
 
-def main(words: list[str]) -> int:
-    try:
-        if words == ["sources"]:
+def words_over_proved() -> list[str]:
+    """The command with which `rt lib` ends, over the libraries that `rt ci` proved and left. `rt lib` itself takes only
+    what `rt check` kept, and where that is nothing it proves each crate below once more."""
+    told = subprocess.run(["rt", "doc"], capture_output=True, text=True, check=True).stdout
+    kit = Path(told.strip()).parent
+    line = next(line for line in (TOP / "crates.txt").read_text().splitlines() if line.startswith("sdm_c staticlib:"))
+    words = [str(kit / "bin" / "rattle"), "build", "--crate-name", "sdm_c", "--crate-type", "staticlib", "src/lib.rt"]
+    for name in ["std", *line.partition(":")[2].split()]:
+        folder = TOP / "crates" / name / "out" / "rlib" if name.startswith("sdm_") else kit / "rlibs"
+        words += ["--extern", f"{name}={folder / name}.rlib"]
+    for folder in [kit / "rlibs", *sorted(TOP.glob("crates/*/out/rlib"))]:
+        words += ["-L", f"dependency={folder}"]
+    words += ["--links", "sdm_c=", "--antt-project", str(kit / "rattle" / "logic" / "antt-project.json")]
+    words += ["--logic-built", str(kit / "logic_built"), "--toolchain", str(kit / "toolchain")]
+    return [*words, "--jobs", str(os.cpu_count()), "-o", str(LIBRARY.path)]
+
+
+def build_library() -> None:
+    """Proves and builds the library for C, and marks it. What the toolchain tells goes to standard error."""
+    before, is_proved_below = sum_of_sources(), bool(os.environ.get("PROVED_BY_RT_CI"))
+    LIBRARY.mark.unlink(missing_ok=True)
+    words = words_over_proved() if is_proved_below else ["rt", "lib"]
+    LIBRARY.path.parent.mkdir(exist_ok=True)
+    if subprocess.run(words, cwd=TOP / "crates" / "sdm_c", stdout=sys.stderr).returncode:
+        raise Fault("The library isn't proved and built.")
+    mark(LIBRARY, before, "rattle build over what rt ci proved" if is_proved_below else "rt lib")
+
+
+def tell(product: Product, with_mark: bool) -> None:
+    """Prints the path of what was built, and its mark; a fault where the mark doesn't hold."""
+    fault = product.fault()
+    if fault:
+        raise Fault(f"{fault}: .ci/run or `scripts/{product.kind} build` builds it.")
+    print(product.path)
+    if with_mark:
+        print(product.mark.read_text(), end="")
+
+
+def of_program(words: list[str]) -> None:
+    """What scripts/program does for its words, of which there are none or two."""
+    match words:
+        case ["sources"]:
             print(sum_of_sources())
-            return 0
-        if words[:1] == ["--program"] and len(words) == 2:
-            print(built(Path(words[1])))
-            return 0
-        if words[:1] == ["mark"] and len(words) == 2:
-            mark(words[1], "rt ci")
-        elif words == ["build"]:
-            build()
-        elif words not in ([], ["tell"]):
-            print(__doc__.strip(), file=sys.stderr)
-            return 2
-        print(built(BUILT))
-        if words:
-            print(MARK.read_text(), end="")
+            return
+        case ["--program", path]:
+            print(built(Path(path)))
+            return
+        case ["mark", before]:
+            mark(PROGRAM, before, "rt ci")
+        case ["build"]:
+            build_program()
+    tell(PROGRAM, bool(words))
+
+
+def of_library(words: list[str]) -> None:
+    """What scripts/library does for its words."""
+    if words == ["build"]:
+        build_library()
+    tell(LIBRARY, bool(words))
+
+
+FORMS = {
+    "program": ([[], ["tell"], ["sources"], ["build"]], ["--program", "mark"], of_program),
+    "library": ([[], ["tell"], ["build"]], [], of_library),
+}
+
+
+def main(kind: str, words: list[str]) -> int:
+    """The exit status of scripts/program or scripts/library for its words."""
+    whole, with_one_more, does = FORMS[kind]
+    if words not in whole and not (len(words) == 2 and words[0] in with_one_more):
+        print(__doc__.strip(), file=sys.stderr)
+        return 2
+    os.environ.pop("RT_BACKEND", None)  # else another compiler than LLVM may be chosen
+    try:
+        does(words)
     except Fault as why:
-        print(f"program: {why}", file=sys.stderr)
+        print(f"{kind}: {why}", file=sys.stderr)
         return 1
     return 0
 
 
 if __name__ == "__main__":
-    end(lambda: main(sys.argv[1:]))
+    end(lambda: main(sys.argv[1], sys.argv[2:]))

@@ -1,60 +1,62 @@
-"""Packs a release of the commit that lies here into dist/: an archive, a Debian package and their checksums.
+"""Packs a release of the commit that lies here into dist/: an archive, two Debian packages and their
+checksums.
 
     scripts/release
 
 It takes a clean work tree alone; the program alone that scripts/program marked as built, proved, from these sources;
-and the library for C as `rt lib` proves and builds it now. It packs twice, in two folders, and leaves dist/ as it was
-where the bytes differ. `scripts/setup release` installs what it needs. docs/LIBRARY.md has what is packed,
-scripts/check-release tries it."""
+and the library for C that scripts/library marked so, which it has built first where there is none. It packs twice, in
+two folders, and leaves dist/ as it was where the bytes differ. `scripts/setup release` installs what it needs.
+docs/LIBRARY.md has what is packed, scripts/check-release tries it."""
 
-import os
-import subprocess
+import re
 import sys
 import time
 
 import header
 import manual
+import marks
 from packing.facts import TOP, Fault, Release, ran
 from packing.work import pack
 from piped import end
+from sdm.laboratory import program
+from sdm.laboratory.program import LIBRARY, PROGRAM
 
-PROGRAM = TOP / "crates" / "sdm" / "out" / "sdm"
-LIBRARY = TOP / "crates" / "sdm_c" / "out" / "libsdm_c.a"
 DIST = TOP / "dist"
+UNRELEASED = re.compile(r"^## \[Unreleased\]\n(.*?)(?=^## \[)", re.M | re.S)
 
 
-def mark_of_program() -> dict[str, str]:
-    """What the mark of the built program says; a fault where it isn't of these sources."""
-    done = subprocess.run([TOP / "scripts" / "program", "tell"], capture_output=True, text=True)
-    if done.returncode:
-        raise Fault(done.stderr.strip())
-    return dict(line.split(" ", 1) for line in done.stdout.splitlines()[1:])
+def version_of(commit: str) -> str:
+    """The changelog's version; of a commit that has changes since, with the beginning of its name."""
+    since = UNRELEASED.search((TOP / "CHANGELOG.md").read_text())
+    return f"{manual.version()}+{commit[:8]}" if since and since[1].strip() else manual.version()
 
 
-def build_library() -> None:
-    """Proves and builds the library for C, over what earlier checks kept."""
-    environment = {name: value for name, value in os.environ.items() if name != "RT_BACKEND"}  # so that LLVM compiles
-    words = ["rt", "lib"]
-    if subprocess.run(words, cwd=TOP / "crates" / "sdm_c", env=environment, stdout=subprocess.DEVNULL).returncode:
-        raise Fault("`rt lib` failed, so there is no library to pack.")
+def build_library_where_due() -> None:
+    """Has the library for C proved and built, unless what is there is of these sources."""
+    if LIBRARY.fault():
+        marks.build_library()
 
 
-def facts(version: str, mark: dict[str, str]) -> Release:
+def facts(mark: dict[str, str]) -> Release:
     """What is told of the release of the commit that lies here."""
     commit, epoch, author = ran("git", "log", "-1", "--format=%H%n%ct%n%an <%ae>").decode().splitlines()
     text = header.text()
     calls = tuple(call.name for call in header.calls(text))
-    return Release(version, commit, int(epoch), author, mark["kit"], mark["sources"], header.layout(text), calls)
+    return Release(
+        version_of(commit), commit, int(epoch), author, mark["kit"], mark["sources"], header.layout(text), calls
+    )
 
 
 def release() -> None:
     """Packs the release, or ends with a fault."""
     if ran("git", "status", "--porcelain"):
         raise Fault("The work tree isn't clean, so what lies here is no commit.")
-    mark = mark_of_program()
-    build_library()
+    fault = PROGRAM.fault()
+    if fault:
+        raise Fault(f"{fault}: .ci/run or `scripts/program build` builds it.")
+    build_library_where_due()
     begun = time.monotonic()
-    for path in pack(facts(manual.version(), mark), PROGRAM, LIBRARY, DIST):
+    for path in pack(facts(PROGRAM.marked()), PROGRAM.path, LIBRARY.path, DIST):
         print(f"{path.relative_to(TOP)}: {path.stat().st_size:,} bytes")
     print(f"packed twice, with the same bytes, in {time.monotonic() - begun:.0f} s")
     print((DIST / "SHA256SUMS").read_text(), end="")
@@ -66,7 +68,7 @@ def main(words: list[str]) -> int:
         return 2
     try:
         release()
-    except Fault as why:
+    except (Fault, program.Fault) as why:
         print(f"release: {why}", file=sys.stderr)
         return 1
     return 0

@@ -6,10 +6,8 @@ import subprocess
 import sys
 from pathlib import Path
 
-from .laboratory.program import TOP
+from .laboratory.program import LIBRARY, TOP
 from .library import PLACES
-
-ARCHIVE = TOP / "crates" / "sdm_c" / "out" / "libsdm_c.a"
 
 
 def build(archive: Path, out: Path) -> None:
@@ -22,9 +20,9 @@ def build(archive: Path, out: Path) -> None:
 
 def main(words: list[str]) -> int:
     """Builds it from the words' archive, else from that of the repository."""
-    archive = Path(words[0]) if words else ARCHIVE
+    archive = Path(words[0]) if words else LIBRARY.path
     if not archive.is_file():
-        print(f"build_library: {archive} isn't there; `rt lib` in crates/sdm_c proves and builds it", file=sys.stderr)
+        print(f"build_library: {archive} isn't there; `scripts/library build` proves and builds it", file=sys.stderr)
         return 1
     build(archive, Path(words[1]) if words[1:] else PLACES[1])
     return 0

@@ -1,4 +1,4 @@
-"""What scripts/release packs: an archive and a Debian package of a program and a library that were built. Nothing here
+"""What scripts/release packs: an archive and two Debian packages of a program and a library that were built. Nothing here
 builds either of them, or knows whether it was proved: scripts/release sees to that.
 
 facts       what is told of a release: version, commit, time, toolchain
@@ -8,7 +8,8 @@ web         the pages as HTML
 bill        the bill of materials, in SPDX
 tree        all files below a prefix
 archive     the tar file
+python      the Python package, as a wheel and as Debian has it
 sums        checksums
 work        all of it, twice
-debian      the Debian package
+debian      the Debian packages
 """

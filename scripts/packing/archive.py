@@ -2,7 +2,7 @@
 
 from pathlib import Path
 
-from . import bill, sums, tree
+from . import bill, python, sums, tree
 from .facts import Contents, Release, filled, ran
 
 
@@ -24,13 +24,14 @@ def pack_folder(release: Release, top: Path, to: Path) -> None:
     to.write_bytes(ran("gzip", "-9", "--no-name", given=tar))
 
 
-def write(release: Release, contents: Contents, scratch: Path, into: Path) -> Path:
-    """Writes the archive into a folder; its path."""
+def write(release: Release, contents: Contents, scratch: Path, into: Path) -> list[Path]:
+    """Writes the archive into a folder; its path, as the only one."""
     top, packed = scratch / release.name, into / f"{release.name}.tar.gz"
     tree.write(release, contents, top, "${pcfiledir}/../..", "lib", scratch)
+    python.write_wheel(release, contents, top / "lib" / release.shared_name, scratch, top / "share" / "sdm" / "python")
     (top / "README").write_text(filled("README", version=release.version))
     bill.write(release, contents, top)
     (top / sums.NAME).write_text(sums.of_files_below(top))
     tree.settle(release, top)
     pack_folder(release, top, packed)
-    return packed
+    return [packed]

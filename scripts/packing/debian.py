@@ -1,11 +1,12 @@
-"""The Debian package of a release, by Debian's own tools: dpkg-shlibdeps tells what it depends on, dpkg-gensymbols and
-dpkg-gencontrol write what dpkg reads, dpkg-deb packs it."""
+"""The Debian packages of a release, by Debian's own tools: dpkg-shlibdeps tells what one depends on, dpkg-gensymbols
+and dpkg-gencontrol write what dpkg reads, dpkg-deb packs it. `sdm` has what the archive has, but for the wheel;
+`python3-sdm` has the Python package."""
 
 import hashlib
 from email.utils import formatdate
 from pathlib import Path
 
-from . import bill, sums, tree
+from . import bill, python, sums, tree
 from .facts import Contents, Release, filled, ran
 
 LIBRARIES = "lib/x86_64-linux-gnu"
@@ -13,8 +14,8 @@ DOCUMENTS = "share/doc/sdm"
 
 
 def write_source(release: Release, work: Path) -> None:
-    """Writes the files from which Debian's tools read what the package is."""
-    (work / "debian").mkdir()
+    """Writes the files from which Debian's tools read what the packages are."""
+    (work / "debian").mkdir(parents=True)
     date = formatdate(release.epoch)
     for name in ("control", "changelog"):
         (work / "debian" / name).write_text(filled(name, author=release.author, version=release.version, date=date))
@@ -31,16 +32,10 @@ def write_documents(release: Release, work: Path, usr: Path) -> None:
         page.unlink()
 
 
-def write_control(release: Release, work: Path, root: Path) -> None:
-    """Writes DEBIAN/, which dpkg reads."""
-    control = root / "DEBIAN"
-    control.mkdir()
-    usr, libraries = root / "usr", root / "usr" / LIBRARIES
-    depends = (
-        ran("dpkg-shlibdeps", "-O", f"-e{usr / 'bin' / 'sdm'}", f"-e{libraries / release.shared_name}", into=work)
-        .decode()
-        .strip()
-    )
+def write_dependencies(release: Release, work: Path, root: Path) -> str:
+    """Writes into DEBIAN/ what others depend on of the libraries; what they and the program depend on."""
+    control, usr = root / "DEBIAN", root / "usr"
+    library = usr / LIBRARIES / release.shared_name
     (control / "shlibs").write_text(f"libsdm {release.layout} sdm (>= {release.version})\n")
     (control / "triggers").write_text("activate-noawait ldconfig\n")
     ran(
@@ -48,11 +43,17 @@ def write_control(release: Release, work: Path, root: Path) -> None:
         "-psdm",
         f"-v{release.version}",
         f"-P{root}",
-        f"-e{libraries / release.shared_name}",
+        f"-e{library}",
         f"-O{control / 'symbols'}",
         into=work,
     )
-    files = sorted(path for path in usr.rglob("*") if path.is_file() and not path.is_symlink())
+    return ran("dpkg-shlibdeps", "-O", f"-e{usr / 'bin' / 'sdm'}", f"-e{library}", into=work).decode().strip()
+
+
+def build(release: Release, work: Path, root: Path, package: str, *variables: str) -> bytes:
+    """A package of the files below a root, in which the words that control leaves open have the values of variables."""
+    control = root / "DEBIAN"
+    files = sorted(path for path in (root / "usr").rglob("*") if path.is_file() and not path.is_symlink())
     (control / "md5sums").write_text(
         "".join(
             f"{hashlib.md5(path.read_bytes()).hexdigest()}  {path.relative_to(root).as_posix()}\n" for path in files
@@ -60,27 +61,39 @@ def write_control(release: Release, work: Path, root: Path) -> None:
     )
     ran(
         "dpkg-gencontrol",
-        "-psdm",
+        f"-p{package}",
         f"-P{root}",
-        f"-V{depends}",
+        *(f"-V{each}" for each in variables),
         f"-O{control / 'control'}",
         f"-f{work / 'files'}",
         into=work,
         epoch=release.epoch,
     )
-
-
-def write(release: Release, contents: Contents, scratch: Path, into: Path) -> Path:
-    """Writes the package into a folder; its path."""
-    work, root = scratch / "debian-source", scratch / "debian-root"
-    work.mkdir()
-    write_source(release, work)
-    tree.write(release, contents, root / "usr", "/usr", LIBRARIES, scratch)
-    write_documents(release, work, root / "usr")
-    bill.write(release, contents, root / "usr")
-    (root / "usr" / DOCUMENTS / sums.NAME).write_text(sums.of_files_below(root / "usr"))
-    write_control(release, work, root)
     tree.settle(release, root)
-    packed = into / f"sdm_{release.version}_amd64.deb"
+    packed = work / f"{package}.deb"
     ran("dpkg-deb", "--build", "--root-owner-group", "-Zxz", "--threads-max=1", root, packed, epoch=release.epoch)
-    return packed
+    return packed.read_bytes()
+
+
+def write(release: Release, contents: Contents, scratch: Path, into: Path) -> list[Path]:
+    """Writes the packages into a folder; their paths."""
+    work, root, python_root = scratch / "debian-source", scratch / "debian-root", scratch / "python-root"
+    write_source(release, work)
+    usr = root / "usr"
+    tree.write(release, contents, usr, "/usr", LIBRARIES, scratch)
+    write_documents(release, work, usr)
+    bill.write(release, contents, usr)
+    (usr / DOCUMENTS / sums.NAME).write_text(sums.of_files_below(usr))
+    (root / "DEBIAN").mkdir()
+    whole = into / f"sdm_{release.version}_amd64.deb"
+    whole.write_bytes(build(release, work, root, "sdm", write_dependencies(release, work, root)))
+    for_python = into / f"python3-sdm_{release.version}_all.deb"
+    library = usr / LIBRARIES / release.shared_name
+    python.write_for_debian(
+        python.write_wheel(release, contents, library, scratch, scratch / "wheels"), python_root / "usr"
+    )
+    (python_root / "DEBIAN").mkdir()
+    for name in ("postinst", "prerm"):
+        (python_root / "DEBIAN" / name).write_text(filled(f"python3-sdm.{name}"))
+    for_python.write_bytes(build(release, work, python_root, "python3-sdm"))
+    return [whole, for_python]

@@ -5,13 +5,11 @@ import subprocess
 from dataclasses import dataclass
 from pathlib import Path
 
-TOP = Path(__file__).resolve().parents[2]
+from sdm.laboratory.program import TOP, Fault
+
 TEMPLATES = Path(__file__).resolve().parent / "templates"
 MACHINE = "x86_64-linux"
-
-
-class Fault(Exception):
-    """Why nothing can be packed, in a sentence."""
+UMASK = 0o022  # of what is run, so that no mode depends on who packs
 
 
 @dataclass(frozen=True)
@@ -40,7 +38,7 @@ class Release:
 
     @property
     def name(self) -> str:
-        """The name of the archive, and of the folder in it."""
+        """The name of the archive without its ending, and of the folder in it."""
         return f"sdm-{self.version}-{MACHINE}"
 
     @property
@@ -55,7 +53,7 @@ def ran(*words: str | Path, into: Path | None = None, epoch: int | None = None, 
     more = {} if epoch is None else {"SOURCE_DATE_EPOCH": str(epoch)}
     environment = {**os.environ, "LC_ALL": "C.UTF-8", "TZ": "UTC", **more}
     try:
-        done = subprocess.run(words, cwd=into or TOP, env=environment, input=given, capture_output=True)
+        done = subprocess.run(words, cwd=into or TOP, env=environment, input=given, capture_output=True, umask=UMASK)
     except FileNotFoundError:
         raise Fault(f"{words[0]} is missing; `scripts/setup release` installs it.") from None
     if done.returncode:

@@ -14,7 +14,7 @@ WHOLE = {  # these files
 }
 # These folders, with what is in them, but what is left out.
 FOLDERS = {"c": "share/sdm/c", "examples": "share/sdm/examples", "vectors": "share/sdm/vectors"}
-LEFT_OUT = ["tools", "c/.clang-format", "vectors/make", "vectors/maker", "vectors/mutants"]
+LEFT_OUT = ["tools", "c/.clang-format", "vectors/make", "vectors/maker", "vectors/mutants", "examples/recording/make"]
 
 
 def is_below(path: str, folder: str) -> bool:

@@ -74,10 +74,15 @@ def write(release: Release, contents: Contents, prefix: Path, root: str, librari
     write_libraries(release, contents, prefix, root, libraries, scratch)
 
 
+def is_run(path: Path) -> bool:
+    """Whether a file is a program."""
+    with path.open("rb") as file:
+        return file.read(4).startswith((b"#!", b"\x7fELF")) and ".so" not in path.suffixes
+
+
 def settle(release: Release, top: Path) -> None:
     """Gives each file below a folder the mode and the time that it has in every release of a commit."""
     for path in [top, *top.rglob("*")]:
         if not path.is_symlink():
-            is_open = path.is_dir() or path.parent.name == "bin"
-            path.chmod(0o755 if is_open else 0o644)
+            path.chmod(0o755 if path.is_dir() or path.parent.name == "bin" or is_run(path) else 0o644)
         os.utime(path, (release.epoch, release.epoch), follow_symlinks=False)

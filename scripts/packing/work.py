@@ -1,4 +1,4 @@
-"""Packs a release: the archive, the Debian package and their checksums, twice in two folders, and only where both are
+"""Packs a release: the archive, the Debian packages and their checksums, twice in two folders, and only where both are
 the same."""
 
 import filecmp
@@ -19,7 +19,7 @@ def files_of(release: Release, into: Path) -> Path:
 
 def pack_once(release: Release, program: Path, library: Path, into: Path) -> list[Path]:
     """Writes what is packed into a folder that is empty; the paths."""
-    packed = []
+    packed: list[Path] = []
     with tempfile.TemporaryDirectory(prefix="sdm-packing-") as name:
         scratch = Path(name)
         contents = Contents(program, library, files_of(release, scratch / "commit"), scratch / "placed")
@@ -27,7 +27,7 @@ def pack_once(release: Release, program: Path, library: Path, into: Path) -> lis
         for write in (archive.write, debian.write):
             place = scratch / write.__module__
             place.mkdir()
-            packed.append(write(release, contents, place, into))
+            packed += write(release, contents, place, into)
     checksums = into / sums.NAME
     checksums.write_text(sums.of_files_below(into))
     return [*packed, checksums]

@@ -1,5 +1,5 @@
-"""Packs files that nobody proved, to try the packing by. What comes out is named `VERSION~unmarked`, so that nobody
-takes it for a release: scripts/release packs nothing but a marked program and a library that `rt lib` built.
+"""Packs files that nobody proved, to try the packing by. What comes out is named `VERSION+unmarked`, so that nobody
+takes it for a release: scripts/release packs nothing but a marked program and a marked library.
 
     python3 -B scripts/tests/trial_release.py PROGRAM LIBRARY FOLDER
 """
@@ -17,8 +17,8 @@ from packing.work import pack
 
 def trial_facts() -> Release:
     """What is told of a trial."""
-    facts = release.facts(manual.version(), {"kit": "unmarked", "sources": "unmarked"})
-    return replace(facts, version=f"{facts.version}~unmarked")
+    facts = release.facts({"kit": "unmarked", "sources": "unmarked"})
+    return replace(facts, version=f"{manual.version()}+unmarked")
 
 
 def main(words: list[str]) -> int:

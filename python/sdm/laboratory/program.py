@@ -2,20 +2,21 @@
 
 Scripts and tools take `crates/sdm/out/sdm`, and only where its mark, `sdm.sources` beside it, has the checksum of these
 sources and that of the program. `scripts/program` writes the mark when the program was built. A program that is named
-by `--program` is taken as it is.
+by `--program` is taken as it is. Where the package is installed, the tools take the `sdm` that the path has.
 """
 import argparse
 import hashlib
 import os
+import shutil
 import subprocess
 from collections.abc import Sequence
+from dataclasses import dataclass
 from pathlib import Path
 from typing import NamedTuple
 
 TOP = Path(__file__).resolve().parents[3]
+IS_REPOSITORY = (TOP / "crates.txt").is_file()
 CRATE = TOP / "crates" / "sdm"
-BUILT = CRATE / "out" / "sdm"
-MARK = CRATE / "out" / "sdm.sources"
 READ_BY_THE_PROVER = ["crates/*/src", "crates/*/specs", "crates/*/proofs"]
 PATIENCE = 120  # s, for one run
 
@@ -53,25 +54,41 @@ def sum_of(path: Path) -> str:
     return hashlib.sha256(path.read_bytes()).hexdigest()
 
 
-def marked() -> dict[str, str]:
-    """What the mark beside the built program says: `sources`, `program`, `kit` and `by`."""
-    if not MARK.is_file():
-        return {}
-    return dict(line.split(" ", 1) for line in MARK.read_text().splitlines() if " " in line)
+@dataclass(frozen=True)
+class Product:
+    """What a proved build leaves, with a mark beside it that says of which sources it is."""
+
+    kind: str  # as messages and the mark tell it
+    path: Path
+
+    @property
+    def mark(self) -> Path:
+        """The file of the mark."""
+        return self.path.with_suffix(".sources")
+
+    def marked(self) -> dict[str, str]:
+        """What the mark says: `sources`, the checksum under the kind, `kit` and `by`. Nothing, where there is none."""
+        if not self.mark.is_file():
+            return {}
+        return dict(line.split(" ", 1) for line in self.mark.read_text().splitlines() if " " in line)
+
+    def fault(self) -> str | None:
+        """Why it isn't taken, if it isn't."""
+        mark = self.marked()
+        if not self.path.is_file():
+            return f"There is no {self.kind} at {self.path}"
+        if not mark:
+            return f"{self.path} has no mark of the sources that it is built from"
+        if mark.get(self.kind) != sum_of(self.path):
+            return f"{self.path} is another {self.kind} than the one that was marked"
+        if mark.get("sources") != sum_of_sources():
+            return f"{self.path} is built from other sources than these"
+        return None
 
 
-def fault_of_built() -> str | None:
-    """Why the built program isn't taken, if it isn't."""
-    mark = marked()
-    if not BUILT.is_file():
-        return f"There is no program at {BUILT}"
-    if not mark:
-        return f"{BUILT} has no mark of the sources that it is built from"
-    if mark.get("program") != sum_of(BUILT):
-        return f"{BUILT} is another program than the one that was marked"
-    if mark.get("sources") != sum_of_sources():
-        return f"{BUILT} is built from other sources than these"
-    return None
+PROGRAM = Product("program", CRATE / "out" / "sdm")
+LIBRARY = Product("library", TOP / "crates" / "sdm_c" / "out" / "libsdm_c.a")
+BUILT = PROGRAM.path if IS_REPOSITORY else Path(shutil.which("sdm") or "sdm")
 
 
 def add_program(parser: argparse.ArgumentParser) -> None:
@@ -81,16 +98,20 @@ def add_program(parser: argparse.ArgumentParser) -> None:
         type=Path,
         default=BUILT,
         metavar="PATH",
-        help="the program to run, where it isn't crates/sdm/out/sdm",
+        help="the program to run, where it isn't " + ("crates/sdm/out/sdm" if IS_REPOSITORY else "the path's sdm"),
     )
 
 
 def built(program: Path) -> Path:
     """The program to take, as a whole path: the built one where it is of these sources, or the one that was named."""
     program = program.resolve()
-    fault = fault_of_built() if program == BUILT else None if program.is_file() else f"There is no program at {program}"
+    if program == PROGRAM.path and IS_REPOSITORY:
+        fault = PROGRAM.fault()
+    else:
+        fault = None if program.is_file() else f"There is no program at {program}"
     if fault:
-        raise Fault(f"{fault}: .ci/run or `scripts/program build` builds it, and --program names another one.")
+        makers = ".ci/run or `scripts/program build` builds it, and --program" if IS_REPOSITORY else "--program"
+        raise Fault(f"{fault}: {makers} names another one.")
     if not os.access(program, os.X_OK):
         raise Fault(f"{program} is no program.")
     return program

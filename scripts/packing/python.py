@@ -1,0 +1,57 @@
+"""The Python package of a release: a wheel for pip, which has the shared library in it, and the files of a Debian
+package, which takes the library of the package sdm."""
+
+import re
+import shutil
+import sys
+from pathlib import Path
+from zipfile import ZipFile
+
+from . import tree
+from .facts import Contents, Fault, Release, filled, ran
+
+SYSTEM = "manylinux_2_34_x86_64"  # what pip calls an x86-64 Linux with that C library or a later one
+MODULES = "lib/python3/dist-packages"
+LIBRARY = "sdm/libsdm.so"  # in the wheel, where sdm.library looks for it first
+NOT_DEBIANS = re.compile(r"sdm/libsdm\.so|.*\.dist-info/RECORD")  # which lists files for pip, and Debian leaves out
+
+
+def source(release: Release, contents: Contents, library: Path, scratch: Path) -> Path:
+    """Writes the folder of which setuptools makes the wheel."""
+    into = scratch / "wheel"
+    shutil.copytree(contents.files / "python", into, ignore=shutil.ignore_patterns("tests"))
+    shutil.copyfile(library, into / LIBRARY)
+    head = into / "sdm" / "__init__.py"
+    text, count = re.subn(r'^__version__ = ".*"$', f'__version__ = "{release.version}"', head.read_text(), flags=re.M)
+    if count != 1:
+        raise Fault("python/sdm/__init__.py has no version.")
+    head.write_text(text)
+    tree.settle(release, into)
+    return into
+
+
+def write_wheel(release: Release, contents: Contents, library: Path, scratch: Path, into: Path) -> Path:
+    """Writes the wheel, with a shared library, into a folder; its path."""
+    into.mkdir(parents=True, exist_ok=True)
+    ran(
+        sys.executable,
+        "-c",
+        "import setuptools; setuptools.setup()",
+        "bdist_wheel",
+        f"--plat-name={SYSTEM}",
+        f"--dist-dir={into}",
+        into=source(release, contents, library, scratch),
+        epoch=release.epoch,
+    )
+    return next(into.glob("*.whl"))
+
+
+def write_for_debian(wheel: Path, usr: Path) -> None:
+    """Writes what the wheel has, but for the library, to where Debian has it."""
+    with ZipFile(wheel) as packed:
+        packed.extractall(usr / MODULES, [name for name in packed.namelist() if not NOT_DEBIANS.fullmatch(name)])
+    (usr / "bin").mkdir()
+    (usr / "bin" / "sdm-tools").write_text(filled("sdm-tools"))
+    documents = usr / "share" / "doc"
+    documents.mkdir(parents=True)
+    (documents / "python3-sdm").symlink_to("sdm")
