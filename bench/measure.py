@@ -26,8 +26,8 @@ def ending(program, words, path):
 
 
 def spent(program, words, path):
-    """What one run takes: seconds of processor time, of the program and of the system for it, and the most memory in KiB
-    that was resident at once. The rows go to /dev/null."""
+    """What one run takes: seconds of processor time, of the program and of the system for it, and the most memory that
+    was resident at once, in KiB. The rows go to /dev/null."""
     with open(path, "rb") as source:
         run = subprocess.Popen([program, *words], stdin=source, stdout=subprocess.DEVNULL, stderr=subprocess.DEVNULL)
         _, status, usage = os.wait4(run.pid, 0)
