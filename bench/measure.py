@@ -1,16 +1,14 @@
-"""The tools that measure a program over an input: hyperfine for time, callgrind for instructions, GNU time for memory;
-and what is to be told of the machine beside their figures."""
+"""What a program takes over an input: processor time and memory as the system counts them, instructions as callgrind
+does; and what is to be told of the machine beside these figures."""
 
-import json
 import os
 import re
-import shlex
 import shutil
 import subprocess
 from pathlib import Path
 
 ROOT = Path(__file__).resolve().parent.parent
-TOOLS = ["hyperfine", "valgrind", "/usr/bin/time"]
+TOOLS = ["valgrind"]
 
 
 def tools_missing():
@@ -27,15 +25,14 @@ def ending(program, words, path):
     return ran.returncode, ran.stderr.decode(errors="replace").strip()
 
 
-def times(program, words, path, runs, folder):
-    """The mean and the least wall time in seconds of so many runs, after one that isn't counted. The rows go to
-    /dev/null, and hyperfine takes off the time of the shell."""
-    report = folder / "times.json"
-    command = shlex.join([str(program), *words]) + " < " + shlex.quote(str(path))
-    options = ["--style", "none", "--warmup", "1", "--runs", str(runs), "--export-json", str(report)]
-    subprocess.run(["hyperfine", *options, command], stdout=subprocess.DEVNULL, stderr=subprocess.DEVNULL, check=True)
-    result = json.loads(report.read_text())["results"][0]
-    return result["mean"], result["min"]
+def spent(program, words, path):
+    """What one run takes: seconds of processor time, of the program and of the system for it, and the most memory that
+    was resident at once, in KiB. The rows go to /dev/null."""
+    with open(path, "rb") as source:
+        run = subprocess.Popen([program, *words], stdin=source, stdout=subprocess.DEVNULL, stderr=subprocess.DEVNULL)
+        _, status, usage = os.wait4(run.pid, 0)
+    run.returncode = os.waitstatus_to_exitcode(status)
+    return usage.ru_utime + usage.ru_stime, usage.ru_maxrss
 
 
 def instructions(program, words, path, profile):
@@ -52,20 +49,6 @@ def instructions(program, words, path, profile):
             env={},
         )
     return int(re.search(r"^(?:summary|totals): (\d+)", profile.read_text(), re.MULTILINE).group(1))
-
-
-def peak_kib(program, words, path, folder):
-    """The most memory of one run that was resident at once, in KiB."""
-    report = folder / "memory"
-    with open(path, "rb") as source:
-        subprocess.run(
-            ["/usr/bin/time", "-f", "%M", "-o", report, program, *words],
-            stdin=source,
-            stdout=subprocess.DEVNULL,
-            stderr=subprocess.DEVNULL,
-            check=True,
-        )
-    return int(report.read_text().split()[-1])
 
 
 def said(command):

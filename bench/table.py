@@ -15,20 +15,12 @@ import measure
 from sdm.laboratory.program import Fault, add_program, built, sum_of
 from piped import end
 
-COLUMNS = [
-    "Input",
-    "Records",
-    "Counted",
-    "ns each",
-    "Least ns",
-    "A second",
-    "Instructions each",
-    "Peak memory, MiB",
-    "Start-up, ms",
-    "Start-up, instructions",
-]
+COUNTS = ["Input", "Records", "Counted"]
+TIMES = ["ns each"]
+BESIDE = ["Reference, ns each", "Of the reference"]
+REST = ["Instructions each", "Peak memory, MiB", "Start-up, ms", "Start-up, instructions"]
 
-BUSY = 1.5  # a load above this means that others ran beside the program
+BUSY = 1.5  # a load above this means that others ran beside the programs
 
 
 def options():
@@ -43,8 +35,11 @@ def options():
         default=list(inputs.MAKERS),
         help="measure these inputs alone: " + ", ".join(inputs.MAKERS),
     )
+    parser.add_argument(
+        "--reference", type=Path, help="another program, run in turn with it: as a rule that of the last release"
+    )
     parser.add_argument("--seed", type=int, default=1, help="what the inputs are made from; else 1")
-    parser.add_argument("--runs", type=int, default=10, help="how often each input is timed; else 10 times")
+    parser.add_argument("--runs", type=int, default=20, help="how often each input is timed; else 20 times")
     parser.add_argument(
         "--folder",
         type=Path,
@@ -61,27 +56,49 @@ def stored(made, folder):
     return whole, one
 
 
-def figures(made, whole, one, chosen, folder):
-    """The cells of an input's row after its counts. What one reading costs, or one record where none is a reading, is
-    what the whole input takes above the input with one, by those but that one, so that neither the start of the process
-    nor the opening is in it."""
-    program, more = chosen.program, made.counted - 1
-    mean, least = measure.times(program, made.words, whole, chosen.runs, folder)
-    mean_of_one, least_of_one = measure.times(program, made.words_of_one, one, 5 * chosen.runs, folder)
+class Least:
+    """The least that a program took over an input, and over the same with one reading, of several runs."""
+
+    def __init__(self, program, made):
+        self.program, self.made = program, made
+        self.whole = self.one = float("inf")
+        self.peak_kib = 0
+
+    def run(self, whole, one):
+        """Runs the program over both once more."""
+        seconds, peak_kib = measure.spent(self.program, self.made.words, whole)
+        self.whole, self.peak_kib = min(self.whole, seconds), max(self.peak_kib, peak_kib)
+        self.one = min(self.one, measure.spent(self.program, self.made.words_of_one, one)[0])
+
+    def ns_each(self):
+        """What one reading costs, or one record where none is a reading: what the whole takes above the input with one,
+        by those but that one, so that neither the start of the process nor the opening is in it."""
+        return 1e9 * (self.whole - self.one) / (self.made.counted - 1)
+
+
+def figures(made, whole, one, chosen):
+    """The cells of an input's row after its counts."""
+    program = chosen.program
+    timed = [Least(each, made) for each in (program, chosen.reference) if each]
+    for _ in range(chosen.runs):
+        for each in timed:
+            each.run(whole, one)
+    cells = [f"{each.ns_each():,.0f}" for each in timed]
+    if chosen.reference:
+        cells.append(f"{timed[0].ns_each() / timed[1].ns_each():.2f}")
     count = measure.instructions(program, made.words, whole, whole.with_suffix(".callgrind"))
     count_of_one = measure.instructions(program, made.words_of_one, one, one.with_suffix(".callgrind"))
-    peak = measure.peak_kib(program, made.words, whole, folder)
-    seconds, least_seconds = (mean - mean_of_one) / more, (least - least_of_one) / more
-    a_second = f"{1 / seconds:,.0f}" if seconds > 0 else "-"
-    return [
-        f"{1e9 * seconds:,.0f}",
-        f"{1e9 * least_seconds:,.0f}",
-        a_second,
-        f"{(count - count_of_one) / more:,.0f}",
-        f"{peak / 1024:.1f}",
-        f"{1e3 * mean_of_one:.1f}",
+    return cells + [
+        f"{(count - count_of_one) / (made.counted - 1):,.0f}",
+        f"{timed[0].peak_kib / 1024:.1f}",
+        f"{1e3 * timed[0].one:.1f}",
         f"{count_of_one:,}",
     ]
+
+
+def columns(chosen):
+    """The heads of the table's columns."""
+    return COUNTS + TIMES + (BESIDE if chosen.reference else []) + REST
 
 
 def row(made, chosen, folder, digest):
@@ -92,23 +109,29 @@ def row(made, chosen, folder, digest):
     counts = [made.name, f"{records:,}" if made.lines else "none", f"{made.counted:,}"]
     status, fault = measure.ending(chosen.program, made.words, whole)
     if status == 0:
-        cells = figures(made, whole, one, chosen, folder)
+        cells = figures(made, whole, one, chosen)
     else:
-        cells = [f"not measured: ended with {status}, `{fault}`"] + ["-"] * (len(COLUMNS) - len(counts) - 1)
+        cells = [f"not measured: ended with {status}, `{fault}`"] + ["-"] * (len(columns(chosen)) - len(counts) - 1)
     return "| " + " | ".join(counts + cells) + " |"
 
 
 def measured(chosen, folder):
     """Measures the chosen inputs and prints the table, each row as it comes, and what must be known beside it."""
     before, digest = measure.load(), hashlib.sha256()
-    print("| " + " | ".join(COLUMNS) + " |")
-    print("|---|" + "---:|" * (len(COLUMNS) - 1), flush=True)
+    print("| " + " | ".join(columns(chosen)) + " |")
+    print("|---|" + "---:|" * (len(columns(chosen)) - 1), flush=True)
     for name in chosen.only:
         print(row(inputs.MAKERS[name](chosen.seed), chosen, folder, digest), flush=True)
     after = measure.load()
-    busy = "; it was busy, so compare the instructions" if max(before, after) > BUSY else ""
+    busy = (
+        "; it was busy, so compare the times of one line alone, and the instructions"
+        if max(before, after) > BUSY
+        else ""
+    )
     print(f"\n- Machine: {measure.machine()}; load {before:.1f} before and {after:.1f} after{busy}")
-    print(f"- Commit {measure.commit()}; {measure.said(['rt', 'version'])}; program {sum_of(chosen.program)[:12]}")
+    beside = f", reference {sum_of(chosen.reference)[:12]}" if chosen.reference else ""
+    toolchain = measure.said(["rt", "version"])
+    print(f"- Commit {measure.commit()}; {toolchain}; program {sum_of(chosen.program)[:12]}{beside}")
     print(
         f"- Inputs {', '.join(chosen.only)} of seed {chosen.seed}: {digest.hexdigest()[:12]}; {chosen.runs} runs each"
     )
@@ -122,7 +145,7 @@ def main():
         sys.exit(f"bench/run: {why}")
     missing = measure.tools_missing()
     if missing:
-        sys.exit(f"bench/run: {', '.join(missing)} is missing; `scripts/setup tools` installs it")
+        sys.exit(f"bench/run: {', '.join(missing)} is missing; `scripts/setup` installs it")
     if chosen.folder:
         chosen.folder.mkdir(parents=True, exist_ok=True)
         measured(chosen, chosen.folder.resolve())

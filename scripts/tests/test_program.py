@@ -62,14 +62,13 @@ class Marks(OverACopy):
             self.assertIn("has no mark", self.told(*words))
 
     def test_bench_looks_for_its_program_before_its_tools(self):
-        """The gate runs where scripts/setup alone was run, which doesn't install them."""
         folder = self.top / "python-alone"
         folder.mkdir()
         for name, path in (("python3", sys.executable), ("bash", "/bin/bash"), ("dirname", "/usr/bin/dirname")):
             (folder / name).symlink_to(path)
         self.assertIn("has no mark", copies.ended(self.top, "bench/run", path=str(folder))[1])
         copies.mark(self.top)
-        self.assertIn("`scripts/setup tools` installs it", copies.ended(self.top, "bench/run", path=str(folder))[1])
+        self.assertIn("`scripts/setup` installs it", copies.ended(self.top, "bench/run", path=str(folder))[1])
 
     def test_another_program_is_not_taken(self):
         copies.mark(self.top)

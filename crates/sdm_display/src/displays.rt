@@ -3,7 +3,7 @@
 ghost use Rattle.std.specs.Prelude.{◌≡◌};
 ghost use Rattle.sdm_rules.specs.Display.{display_of};
 
-use crate::speeds::{Passed, greatest};
+use crate::speeds::{Passed, greatest, greatest_near};
 use sdm_num::Reading;
 use sdm_rules::{Display, LimitName};
 use sdm_supervisor::{Sight, Supervisor};
@@ -31,6 +31,23 @@ pub fn display_of(supervisor: &Supervisor, reading: &Reading) -> Display
         permitted: greatest(&sight, LimitName::Permitted),
         sbi: greatest(&sight, LimitName::Sbi),
         ebi: greatest(&sight, LimitName::Ebi),
+        release: supervisor.release(),
+        shown: sight.shown(),
+    }
+}
+
+/// The same, with the speeds sought from those of another display: best that of the reading before. Which one it is
+/// changes nothing but the time. (own)
+pub fn display_near(supervisor: &Supervisor, reading: &Reading, near: &Display) -> Display
+    ensures { result ≡ display_of supervisor.now reading.now }
+{
+    let time = reading.time();
+    let sight = supervisor.sight(reading);
+    Display {
+        time,
+        permitted: greatest_near(&sight, LimitName::Permitted, near.permitted),
+        sbi: greatest_near(&sight, LimitName::Sbi, near.sbi),
+        ebi: greatest_near(&sight, LimitName::Ebi, near.ebi),
         release: supervisor.release(),
         shown: sight.shown(),
     }

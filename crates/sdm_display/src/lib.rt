@@ -7,6 +7,6 @@ mod displays;
 mod speeds;
 
 pub use display_lines::display_bytes;
-pub use displays::display_of;
+pub use displays::{display_near, display_of};
 pub use sdm_rules::{Display, LimitName, Shown, TargetKind};
-pub use speeds::{Passed, greatest};
+pub use speeds::{Passed, greatest, greatest_near};

@@ -1,7 +1,7 @@
 //! A limit as a speed: the greatest whole speed at which it isn't passed. A faster train passes every limit that a
-//! slower one does, so the speed is found by halving.
+//! slower one does, so the speed is found by halving, and sooner where one near it is known.
 
-ghost use Rattle.std.specs.Prelude.{◌≡◌, ◌≤◌, ℕ, Bool, not, false};
+ghost use Rattle.std.specs.Prelude.{◌≡◌, ◌+◌, ◌<◌, ◌≤◌, ℕ, Bool, not, false, true};
 ghost use Rattle.sdm_num.specs.Units.{top_kmh};
 ghost use Rattle.sdm_rules.specs.declared.display.LimitName.{LimitName};
 ghost use Rattle.sdm_rules.specs.Machines.{Implies};
@@ -21,6 +21,81 @@ pub trait Passed {
         ensures { result ≡ passed self.now limit kmh };
 }
 
+/// A speed at which a limit isn't passed, and a greater one at which it is, or 501 km/h. (own)
+#[derive(Clone, Copy)]
+struct Between {
+    within: u16,
+    past: u16,
+}
+
+const ALL_SPEEDS: Between = Between {
+    within: 0,
+    past: TOP_KMH as u16 + 1,
+};
+
+/// Two such speeds, found from a speed in steps that double: a few steps away, where the limit is near it. (own)
+fn around<P: Passed>(places: &P, limit: LimitName, near: u16) -> Between
+    requires standstill { P.passed places.now limit 0 ≡ false }
+    requires near { near ≤ top_kmh }
+    ensures apart { result.within < result.past }
+    ensures top { result.past ≤ top_kmh + 1 }
+    ensures within { P.passed places.now limit result.within ≡ false }
+    ensures past { result.past ≤ top_kmh → P.passed places.now limit result.past ≡ true }
+{
+    let mut step = 1;
+    if places.passed(limit, near) {
+        let mut past = near;
+        'down: while step < past {
+            let within = past - step;
+            if !places.passed(limit, within) {
+                return Between { within, past };
+            }
+            past = within;
+            step *= 2;
+        }
+        return Between { within: 0, past };
+    }
+    let mut within = near;
+    'up: while step <= TOP_KMH as u16 - within {
+        let past = within + step;
+        if places.passed(limit, past) {
+            return Between { within, past };
+        }
+        within = past;
+        step *= 2;
+    }
+    Between {
+        within,
+        past: TOP_KMH as u16 + 1,
+    }
+}
+
+/// The greatest speed at which a limit isn't passed, between two such speeds. (own)
+fn halve<P: Passed>(places: &P, limit: LimitName, between: Between) -> u16
+    requires upwards { (v v' : ℕ) → v ≤ v' → v' ≤ top_kmh →
+        Implies (P.passed places.now limit v) (P.passed places.now limit v') }
+    requires apart { between.within < between.past }
+    requires top { between.past ≤ top_kmh + 1 }
+    requires within { P.passed places.now limit between.within ≡ false }
+    requires past { between.past ≤ top_kmh → P.passed places.now limit between.past ≡ true }
+    ensures value { result ≡ greatest_up_to top_kmh (λ kmh. not (P.passed places.now limit kmh)) }
+    ensures range { result ≤ top_kmh }
+{
+    let Between {
+        mut within,
+        mut past,
+    } = between;
+    while past - within > 1 {
+        let middle = within + (past - within) / 2;
+        if places.passed(limit, middle) {
+            past = middle;
+        } else {
+            within = middle;
+        }
+    }
+    within
+}
+
 /// A limit as a speed in km/h: the greatest whole speed from 0 to 500 at which it isn't passed. A train at standstill
 /// doesn't pass it, and a faster one does where a slower one does. It is asked at most nine times, and no memory is
 /// taken. (own)
@@ -31,15 +106,21 @@ pub fn greatest<P: Passed>(places: &P, limit: LimitName) -> u16
     ensures value { result ≡ greatest_up_to top_kmh (λ kmh. not (P.passed places.now limit kmh)) }
     ensures range { result ≤ top_kmh }
 {
-    let mut within = 0;
-    let mut past = TOP_KMH as u16 + 1;
-    while past - within > 1 {
-        let middle = within + (past - within) / 2;
-        if places.passed(limit, middle) {
-            past = middle;
-        } else {
-            within = middle;
-        }
-    }
-    within
+    halve(places, limit, ALL_SPEEDS)
+}
+
+/// The same speed, sought from one that may be near it, in km/h: where that one is it, `places` is asked twice. Which one it
+/// is changes nothing but the time. (own)
+pub fn greatest_near<P: Passed>(places: &P, limit: LimitName, near: u16) -> u16
+    requires standstill { P.passed places.now limit 0 ≡ false }
+    requires upwards { (v v' : ℕ) → v ≤ v' → v' ≤ top_kmh →
+        Implies (P.passed places.now limit v) (P.passed places.now limit v') }
+    ensures value { result ≡ greatest_up_to top_kmh (λ kmh. not (P.passed places.now limit kmh)) }
+    ensures range { result ≤ top_kmh }
+{
+    halve(
+        places,
+        limit,
+        around(places, limit, near.min(TOP_KMH as u16)),
+    )
 }

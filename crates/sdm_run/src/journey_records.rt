@@ -16,6 +16,7 @@ ghost use Rattle.sdm_run.specs.Shapes.{IsOutcomeIn, records_shape};
 
 use crate::endings::Ended;
 use crate::tellers::Teller;
+use sdm_display::Display;
 use sdm_events::{ByteRecord, Event, EventFault, Records, event_of};
 use sdm_io::Sink;
 use sdm_num::NoMemory;
@@ -24,6 +25,16 @@ use sdm_rules::{MOST_RECORDS, TripFault};
 use sdm_supervisor::{CycleFault, Supervisor};
 use sdm_text::RowBuf;
 use std::alloc::Global;
+
+// Near what the first display is sought.
+const NOTHING_SHOWN: Display = Display {
+    time: 0,
+    permitted: 0,
+    sbi: 0,
+    ebi: 0,
+    release: 0,
+    shown: None,
+};
 
 /// What comes of a record that is taken. (own)
 #[derive(Clone, Copy)]
@@ -58,6 +69,7 @@ pub fn run_records<O: Sink>(
 {
     let mut records = Records::begin(alloc, bytes);
     let mut record = ByteRecord::new(alloc);
+    let mut last = NOTHING_SHOWN;
     let mut text = RowBuf::new();
     let mut number = 0u32;
     'records: loop {
@@ -67,7 +79,9 @@ pub fn run_records<O: Sink>(
             Err(NoMemory) => return Ended::new(Outcome::Memory, is_flush_due),
         }
         number += 1;
-        match take_record(alloc, teller, supervisor, number, &record, &mut text, out) {
+        match take_record(
+            alloc, teller, supervisor, number, &record, &mut last, &mut text, out,
+        ) {
             Ok(Taken::Untold) => {}
             Ok(Taken::Told(after)) => {
                 teller = after;
@@ -87,6 +101,7 @@ fn take_record<O: Sink>(
     supervisor: &mut Supervisor,
     number: u32,
     fields: &ByteRecord,
+    last: &mut Display,
     text: &mut RowBuf,
     out: &mut O,
 ) -> Result<Taken, EventCause>
@@ -112,7 +127,7 @@ fn take_record<O: Sink>(
         Event::Read(reading) => match supervisor.cycle(&reading) {
             Ok(row) => {
                 return Ok(
-                    match teller.tell(alloc, &reading, &row, supervisor, text, out) {
+                    match teller.tell(alloc, &reading, &row, supervisor, last, text, out) {
                         Ok(after) => Taken::Told(after),
                         Err(ended) => Taken::Cut(ended),
                     },

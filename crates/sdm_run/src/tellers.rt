@@ -14,7 +14,7 @@ ghost use Rattle.sdm_run.specs.Shapes.{IsOutcomeIn, records_shape};
 use crate::certify_texts::{write_certificate, write_map};
 use crate::endings::Ended;
 use sdm_certify::certificate_of;
-use sdm_display::{display_bytes, display_of};
+use sdm_display::{Display, display_bytes, display_near};
 use sdm_io::{Failed, Sink, write_piece};
 use sdm_num::{NoMemory, Reading};
 use sdm_report::{Outcome, row_bytes};
@@ -56,7 +56,8 @@ impl Teller {
     }
 
     /// Tells of a reading that was taken, with its row and the supervisor after it, and answers what tells of the
-    /// next; else how the command ends: WriteFault, where out failed, or Memory. `text` is room for a line. (own)
+    /// next; else how the command ends: WriteFault, where out failed, or Memory. `text` is room for a line, and `last` what
+    /// was shown last, if anything was. (own)
     // In line in the loop over records, its one caller.
     #[inline(always)]
     pub fn tell<O: Sink>(
@@ -65,6 +66,7 @@ impl Teller {
         reading: &Reading,
         row: &Row,
         after: &Supervisor,
+        last: &mut Display,
         text: &mut RowBuf,
         out: &mut O,
     ) -> Result<Teller, Ended>
@@ -78,7 +80,7 @@ impl Teller {
         text.clear();
         match self {
             Teller::Rows => row_bytes(row, text),
-            Teller::Displays => put_shown(reading, after, text),
+            Teller::Displays => put_shown(reading, after, last, text),
             Teller::Certificates { left } => {
                 return certify(alloc, left, reading, row, after, out);
             }
@@ -90,15 +92,16 @@ impl Teller {
     }
 }
 
-/// Puts what is shown of a reading in the state after it.
+/// Puts what is shown of a reading in the state after it. The speeds are near those that were shown last, as a rule.
 // Out of line, as `certify`, so that the loop over records stays small enough to have in line what each record calls.
 #[cold]
 #[inline(never)]
-fn put_shown(reading: &Reading, after: &Supervisor, text: &mut RowBuf)
+fn put_shown(reading: &Reading, after: &Supervisor, last: &mut Display, text: &mut RowBuf)
     requires { text.old ≡ [] }
     ensures { text.new ≡ display_text (display_of after.now reading.now) }
 {
-    display_bytes(&display_of(after, reading), text);
+    *last = display_near(after, reading, last);
+    display_bytes(last, text);
 }
 
 /// Writes the certificate of a covered reading under a stop, where so many are left.

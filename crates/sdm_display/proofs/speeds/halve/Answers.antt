@@ -1,14 +1,7 @@
+-- Halving ends where the greater speed is the next one.
 use Rattle.std.proofs.Common.{arith}
 use Rattle.sdm_display.proofs.Halving.{halved}
-use Rattle.sdm_display.proofs.speeds.greatest.Goals as goal
-
-pub loop-past-init : goal.loop-past-init
-loop-past-init g c = record {
-  apart = omega arith;
-  top = omega arith;
-  within = c.requires.standstill;
-  past = λ le. absurd (omega arith);
-}
+use Rattle.sdm_display.proofs.speeds.halve.Goals as goal
 
 pub returns-clause-value : goal.returns-clause-value
 returns-clause-value g c =

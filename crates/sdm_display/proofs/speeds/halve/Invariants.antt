@@ -1,7 +1,7 @@
 -- At the lesser speed the limit isn't passed, at the greater one it is, unless none is left above.
 use Rattle.std.proofs.Common.{◌≡◌, ◌≤◌, ◌<◌, ◌+◌, ◌-◌, true, false}
 use Rattle.sdm_num.specs.Units.{top_kmh}
-use Rattle.sdm_display.proofs.speeds.greatest.Given as goal
+use Rattle.sdm_display.proofs.speeds.halve.Given as goal
 
 abbrev pub invariant-loop-past : goal.invariant-loop-past
 invariant-loop-past g l = record {
