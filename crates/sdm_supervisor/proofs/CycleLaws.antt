@@ -11,6 +11,12 @@ use Rattle.sdm_rules.specs.Supervision.{Supervision, row_in, row_of}
 use Rattle.sdm_laws.proofs.Rows.Headline.{machines, stop, release}
 use Rattle.sdm_laws.proofs.Rows.Gaps.{gaps}
 use Rattle.sdm_laws.proofs.Rows.Ceiling.{within_ceiling}
+use Rattle.sdm_laws.specs.Falls.{MeetsFalls}
+use Rattle.sdm_laws.proofs.Rows.Falls.{falls}
+use Rattle.sdm_row_laws.specs.AllCommands.{KeepsAllOrder}
+use Rattle.sdm_row_laws.specs.ServiceStop.{CommandsNoBrake, StopsByItsEoa}
+use Rattle.sdm_row_laws.proofs.AllOrder.{all_commands}
+use Rattle.sdm_row_laws.proofs.Service.{service_rows}
 use Rattle.sdm_braking.specs.Braking.{IsSupervisable}
 
 -- a state whose train and track are accepted is open
@@ -31,6 +37,19 @@ module _ (s : Supervision) (r : OdometerReading) where
     -- only gaps keep a row from being covered
     pub gaps_of : row.held.eb ≡ false → HasOnlyGaps s r
     gaps_of eb = gaps s r (subst (λ (x : Row). x.held.eb ≡ false) is eb)
+
+    -- the order of all commands
+    pub commands_of : IsOpen s → KeepsAllOrder s r row
+    commands_of opened = subst (KeepsAllOrder s r) (sym is) (all_commands s r opened)
+
+    -- the EOA from a row that commands no brake
+    pub eoa_of : IsOpen s → CommandsNoBrake r row → StopsByItsEoa s r
+    eoa_of opened free = service_rows s r opened (subst (CommandsNoBrake r) is free)
+
+    -- each fall from a covered row without an emergency command
+    pub falls_of : IsOpen s → IsTrue row.covered → row.held.eb ≡ false → MeetsFalls s r
+    falls_of opened covered eb = falls s r opened (subst (λ (x : Row). IsTrue x.covered) is covered)
+        (subst (λ (x : Row). x.held.eb ≡ false) is eb)
 
     -- the speed is within the ceiling
     pub ceiling_of : row.held.eb ≡ false → IsWithinCeiling r row

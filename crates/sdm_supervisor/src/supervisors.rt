@@ -1,7 +1,7 @@
 //! The supervisor of a journey. All its memory is taken when it begins; a record takes none. What it is worth is said
-//! by the clauses of `cycle`: its emergency command lies between that of a machine with exact limits of targets and
-//! that of the same machine with each a millimetre earlier, and from every covered row every motion within the
-//! reading's bounds stops at or before the SvL, if there is one.
+//! by the clauses of `cycle`: its commands lie between those of a machine with exact limits of targets and those of the
+//! same machine with each a millimetre earlier, and from every covered row every motion within the reading's bounds
+//! stops at or before the SvL, if there is one.
 
 ghost use Rattle.std.specs.Prelude.{◌≡◌, ◌≤◌, ◌≤ℤ◌, pos, MatchOption, IsTrue, false, None, Some, IfOk, IfErr, OnOk};
 ghost use Rattle.std.specs.Prelude.{OnErr};
@@ -22,7 +22,10 @@ ghost use Rattle.sdm_supervisor.specs.Supervised.{IsAuthorityCurve, IsFallCurve}
 ghost use Rattle.sdm_braking.specs.Braking.{IsRefusal};
 ghost use Rattle.sdm_supervisor.specs.Sights.{seen_at};
 ghost use Rattle.sdm_rules.specs.declared.display.LimitName.{LimitName};
+ghost use Rattle.sdm_laws.specs.Falls.{MeetsFalls};
 ghost use Rattle.sdm_laws.specs.SupervisionLaws.{IsPassedUpwards};
+ghost use Rattle.sdm_row_laws.specs.AllCommands.{KeepsAllOrder};
+ghost use Rattle.sdm_row_laws.specs.ServiceStop.{CommandsNoBrake, StopsByItsEoa};
 
 mod within;
 
@@ -316,17 +319,23 @@ impl Supervisor {
     /// Judges a reading, and takes its time and the commands after it. TimeBack comes exactly where its time is before
     /// that of the last reading, and changes nothing. (SUBSET-026-3 3.13.10; own)
     ///
-    /// The row is that of the definitions. Its emergency command keeps the order of the three machines: that with
-    /// exact limits of targets, this one, and that with every limit one millimetre earlier. From a covered row every
-    /// motion within the bounds of the reading stops by the SvL, where there is one, and meets each speed target; a
-    /// row without emergency command that isn't covered has a gap, which is a speed target. Without emergency command
-    /// the estimated speed is at most the ceiling with its EBI margin.
+    /// The row is that of the definitions. Its commands, its status and its state keep the order of the three machines:
+    /// that with exact limits of targets, this one, and that with every limit one millimetre earlier. From a covered
+    /// row every motion within the bounds of the reading stops by the SvL, where there is one, and meets each speed
+    /// target; without emergency command it meets each fall that isn't behind the min safe front end, too. A row
+    /// without emergency command that isn't covered has a gap, which is a speed target. From the row of a moving train
+    /// under a stop that commands no brake, outside release speed monitoring, the service brake stops it by the EOA.
+    /// Without emergency command the estimated speed is at most the ceiling with its EBI margin.
     pub fn cycle(&mut self, reading: &Reading) -> Result<Row, CycleFault>
         ensures in_time { OnOk result (time_fault self.old.last_time reading.now.time ≡ None) }
         ensures row { IfOk result (λ row. row ≡ row_of self.old reading.now) }
         ensures taken { OnOk result (self.new ≡ after_reading self.old reading.now) }
         ensures order { IfOk result (λ row. KeepsOrder self.old reading.now row.held.eb) }
+        ensures commands { IfOk result (λ row. KeepsAllOrder self.old reading.now row) }
         ensures safe { IfOk result (λ row. IsTrue row.covered → IsSafe self.old reading.now) }
+        ensures eoa { IfOk result (λ row. CommandsNoBrake reading.now row → StopsByItsEoa self.old reading.now) }
+        ensures falls { IfOk result
+            (λ row. IsTrue row.covered → row.held.eb ≡ false → MeetsFalls self.old reading.now) }
         ensures gaps { IfOk result (λ row. row.held.eb ≡ false → HasOnlyGaps self.old reading.now) }
         ensures ceiling { IfOk result (λ row. row.held.eb ≡ false → IsWithinCeiling reading.now row) }
         ensures release { OnOk result (BeginsReleaseMonitoring self.old reading.now) }

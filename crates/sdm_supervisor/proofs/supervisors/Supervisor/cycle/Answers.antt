@@ -3,7 +3,8 @@
 use Rattle.std.proofs.Common.{◌≡◌, Some, ◌∙◌, sym, subst}
 use Rattle.sdm_rules.specs.Supervision.{Supervision, row_in, row_of, after_reading}
 use Rattle.sdm_supervisor.specs.Sights.{seen_at}
-use Rattle.sdm_supervisor.proofs.CycleLaws.{order_of, safe_of, gaps_of, ceiling_of, release_of}
+use Rattle.sdm_supervisor.proofs.CycleLaws.{commands_of, order_of, safe_of, eoa_of, falls_of, gaps_of, ceiling_of}
+use Rattle.sdm_supervisor.proofs.CycleLaws.{release_of}
 use Rattle.sdm_supervisor.proofs.FindLaws.{state_of}
 use Rattle.sdm_supervisor.proofs.supervisors.Supervisor.cycle.Goals as goal
 use Rattle.sdm_supervisor.proofs.supervisors.Supervisor.cycle.Goals.{After-row-row}
@@ -61,3 +62,15 @@ returns-clause-ceiling c = ceiling_of c.args.self.now c.args.reading.now c.row-r
 
 pub returns-clause-release : goal.returns-clause-release
 returns-clause-release c = release_of c.args.self.now c.args.reading.now c.sight.ensures.accepted
+
+pub returns-clause-commands : goal.returns-clause-commands
+returns-clause-commands c = commands_of c.args.self.now c.args.reading.now c.row-row.result
+    (row ((goal.at.returns-clause-commands c).After-row-row)) c.sight.ensures.accepted
+
+pub returns-clause-eoa : goal.returns-clause-eoa
+returns-clause-eoa c = eoa_of c.args.self.now c.args.reading.now c.row-row.result
+    (row ((goal.at.returns-clause-eoa c).After-row-row)) c.sight.ensures.accepted
+
+pub returns-clause-falls : goal.returns-clause-falls
+returns-clause-falls c = falls_of c.args.self.now c.args.reading.now c.row-row.result
+    (row ((goal.at.returns-clause-falls c).After-row-row)) c.sight.ensures.accepted
