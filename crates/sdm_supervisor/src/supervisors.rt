@@ -24,6 +24,7 @@ ghost use Rattle.sdm_supervisor.specs.Sights.{seen_at};
 ghost use Rattle.sdm_rules.specs.declared.display.LimitName.{LimitName};
 ghost use Rattle.sdm_laws.specs.SupervisionLaws.{IsPassedUpwards};
 
+mod take_over;
 mod within;
 
 use crate::sight::Sight;
