@@ -23,6 +23,8 @@ use Rattle.sdm_speed.specs.Zones.{has_start}
 use Rattle.sdm_speed.proofs.ChangeLaws.{imposed_starts, lifted_starts}
 use Rattle.sdm_speed.proofs.KeptLaws.{with_held}
 use Rattle.sdm_speed.proofs.RestrictLaws.{accepted}
+use Rattle.sdm_speed.proofs.TakenLaws.{fresh_starts}
+use Rattle.std.specs.Ordering.{nat_cmp}
 use Rattle.sdm_speed.proofs.StartLaws.{starts_at_fall}
 use Rattle.sdm_speed.proofs.ZoneLaws.{int_gap_is}
 use Rattle.sdm_targets.proofs.CountLaws.{zones_few}
@@ -243,3 +245,19 @@ module _ (d : TrainAndTrack) (p q : ProfileData) (changed : Changed) (v : KeptFa
         (subst (λ (x : ProfileData). has_start (zones_of x) c ≡ true) is
         (starts_at_fall q.max_speed (zones_of q) c falls));
   }
+
+  -- all restrictions of another profile, where none is in force
+  pub after_taken : (m : finite.FinMap nat_cmp Restriction) → finite.len m ≤ most_restrictions →
+      p.restrictions ≡ finite.empty → q ≡ record p { restrictions = m } → AreOfProfileBefore d q changed v
+  after_taken m held fresh is =
+      let few = zones_few (record p { restrictions = m }) (with_held p m in_range held) in
+      record {
+        old = p;
+        kept = kept;
+        speeds = ap (λ (x : ProfileData). x.speeds) is;
+        same = same;
+        zones = zones_of q;
+        few = rw is (omega (arith, few, kept.room));
+        old_starts = λ c falls. rw is (fresh_starts p m c fresh (starts_at_fall p.max_speed (zones_of p) c falls));
+        starts = λ c falls. starts_at_fall q.max_speed (zones_of q) c falls;
+      }

@@ -1,6 +1,7 @@
 pub mod Sights
 pub mod Verdicts
 pub mod Supervised
+pub mod TakeOvers
 pub mod FlatLines
 pub mod Flats
 pub mod FlatLaws

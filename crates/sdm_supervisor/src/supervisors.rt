@@ -27,6 +27,7 @@ ghost use Rattle.sdm_laws.specs.SupervisionLaws.{IsPassedUpwards};
 ghost use Rattle.sdm_row_laws.specs.AllCommands.{KeepsAllOrder};
 ghost use Rattle.sdm_row_laws.specs.ServiceStop.{CommandsNoBrake, StopsByItsEoa};
 
+mod take_over;
 mod within;
 
 use crate::sight::Sight;
