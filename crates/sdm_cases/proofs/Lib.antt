@@ -25,3 +25,4 @@ mod TrialCases
 mod RideLine
 mod RideCases
 mod ServiceRideCases
+mod EoaRideCases
