@@ -26,3 +26,4 @@ mod TrialCases
 mod RideLine
 mod RideCases
 mod ServiceRideCases
+mod EoaRideCases

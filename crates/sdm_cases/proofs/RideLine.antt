@@ -51,29 +51,47 @@ line_accepted service kind = record { strong = strong; even = even }
     even zero l cell cell' = rw (line_slope service kind cell, line_slope service kind cell') (omega (arith, ints))
     even (suc band) l cell cell' = absurd (omega arith)
 
-pub line_open : (service : ℤ) → IsOpen (opening (ride_line service) authority)
+pub line_open_under : (service : ℤ) (a : Authority) → IsOpen (opening (ride_line service) a)
 unfolding ride_line plain_train_and_track plain_national plain_band
-line_open service = record { bands = record { few = omega arith; in_order = refl }; usable = line_accepted service }
+line_open_under service a =
+    record { bands = record { few = omega arith; in_order = refl }; usable = line_accepted service }
 
-each_slope : (service : ℤ) (band : ℕ) (cell : ℤ) →
-    unsigned_abs (slope_at Safe (ride_line service) band cell) ≡ plain_slope band cell
+pub line_open : (service : ℤ) → IsOpen (opening (ride_line service) authority)
+line_open service = line_open_under service authority
+
+each_slope : (service : ℤ) (kind : SlopeKind) (band : ℕ) (cell : ℤ) →
+    unsigned_abs (slope_at kind (ride_line service) band cell) ≡ plain_slope band cell
 unfolding ride_line plain_train_and_track plain_national plain_band slope_at plain_slope
-each_slope service zero (pos cell) = refl
-each_slope service zero (negsuc cell) = refl
-each_slope service (suc band) (pos cell) = refl
-each_slope service (suc band) (negsuc cell) = refl
+each_slope service Safe zero (pos cell) = refl
+each_slope service Safe zero (negsuc cell) = refl
+each_slope service Safe (suc band) (pos cell) = refl
+each_slope service Safe (suc band) (negsuc cell) = refl
+each_slope service Expected zero (pos cell) = refl
+each_slope service Expected zero (negsuc cell) = refl
+each_slope service Expected (suc band) (pos cell) = refl
+each_slope service Expected (suc band) (negsuc cell) = refl
+each_slope service Normal zero (pos cell) = refl
+each_slope service Normal zero (negsuc cell) = refl
+each_slope service Normal (suc band) (pos cell) = refl
+each_slope service Normal (suc band) (negsuc cell) = refl
 
-safe_slopes : (service : ℤ) → slopes_of Safe (ride_line service) ≡ plain_slopes
+line_slopes : (service : ℤ) (kind : SlopeKind) → slopes_of kind (ride_line service) ≡ plain_slopes
 unfolding ride_line plain_train_and_track plain_band slopes_of plain_slopes
-safe_slopes service = ap (λ f. record { q = 100; uppers = []; slope = f })
-    (fun_ext (λ band. fun_ext (λ cell. each_slope service band cell)))
+line_slopes service kind = ap (λ f. record { q = 100; uppers = []; slope = f })
+    (fun_ext (λ band. fun_ext (λ cell. each_slope service kind band cell)))
 
--- a step of braking with 1 m/s²
+-- a step of braking with 1 m/s², on the slopes of each kind
+pub braking_in : (service : ℤ) (kind : SlopeKind) (x y : Point) →
+    BrakesAtLeast plain_slopes 200_000_000_000 x.place x.square y.place y.square →
+    IsStep (slopes_of kind (ride_line service)) 1 x y
+braking_in service kind x y brakes =
+    subst (λ (on : Slopes). IsStep on 1 x y) (sym (line_slopes service kind)) (a_step x y brakes)
+
+-- on those of A_safe
 pub braking_step : (service : ℤ) (x y : Point) →
     BrakesAtLeast plain_slopes 200_000_000_000 x.place x.square y.place y.square →
     IsStep (slopes_of Safe (ride_line service)) 1 x y
-braking_step service x y brakes =
-    subst (λ (on : Slopes). IsStep on 1 x y) (sym (safe_slopes service)) (a_step x y brakes)
+braking_step service x y brakes = braking_in service Safe x y brakes
 
 -- ---- its times
 

@@ -1,6 +1,7 @@
--- How a computer goes on with each kind of happening, over plain computers: what its supervisor answered, and what came
--- of its order.
-use Rattle.std.proofs.Common.{◌≡◌, ◌||◌, ℕ, Bool, true, Option, Some, None, refl, subst, sym, ap, ◌∙◌}
+-- How a computer goes on with each kind of happening, over plain computers and any judging: what its supervisor answered,
+-- and what came of its order.
+use Rattle.std.proofs.Common.{◌≡◌, ◌&&◌, ◌||◌, not, ℕ, Bool, true, false, Option, Some, None, refl, subst, sym}
+use Rattle.std.proofs.Common.{ap, ◌∙◌}
 use Rattle.std.specs.Prelude.{Result, Ok, Err}
 use Rattle.std.proofs.lemmas.Option.{none-some, same_Some}
 use Rattle.sdm_num.specs.Readings.{OdometerReading}
@@ -20,15 +21,16 @@ use Rattle.sdm_rules.specs.Supervision.{Supervision, after_authority, after_read
 use Rattle.sdm_rules.specs.Supervision.{after_revocation, row_of}
 use Rattle.sdm_ride.specs.declared.happenings.Happening.{Happening}
 use Rattle.sdm_ride.specs.declared.happenings.Happening.TheVariants.{Record, Unread, Overdue}
-use Rattle.sdm_ride.specs.Moments.{by_rows, is_ordered}
+use Rattle.sdm_ride.specs.Moments.{Judging, is_ordered, is_release}
 use Rattle.sdm_ride.specs.Orders.{Computer, GoesOn, reading_if, taken_or}
+use Rattle.sdm_service_ride.specs.ServiceMoments.{commands_brake}
 
 -- a record in which no reading is judged, where it takes no order away
-pub recorded : (before now : Computer) (e : Event) (t : Result Supervision EventCause) →
+pub recorded : (j : Judging) (before now : Computer) (e : Event) (t : Result Supervision EventCause) →
     step before.supervision e ≡ t → now.supervision ≡ taken_or before.supervision t → reading_if e t ≡ None →
-    (before.emergency ≡ true → now.emergency ≡ true) →
-    GoesOn by_rows before (Record e) now
-recorded before now e t is same none stands = record {
+    (before.orders_brake ≡ true → now.orders_brake ≡ true) →
+    GoesOn j before (Record e) now
+recorded j before now e t is same none stands = record {
   supervision = same ∙ ap (taken_or before.supervision) (sym is);
   judged = λ r judged orders. absurd (none-some r (sym none ∙ ap (reading_if e) (sym is) ∙ judged));
   overdue = λ other. absurd cc;
@@ -36,13 +38,13 @@ recorded before now e t is same none stands = record {
 }
 
 -- a reading that is judged
-pub judged : (before now : Computer) (r : OdometerReading) →
+pub judged : (j : Judging) (before now : Computer) (r : OdometerReading) →
     time_fault before.supervision.last_time r.time ≡ None →
     now.supervision ≡ after_reading before.supervision r →
-    (is_ordered (row_of before.supervision r) ≡ true → now.emergency ≡ true) →
-    GoesOn by_rows before (Record (record_kinds.Read r)) now
+    (j.orders before.supervision r ≡ true → now.orders_brake ≡ true) →
+    GoesOn j before (Record (record_kinds.Read r)) now
 unfolding step
-judged before now r in_time taken orders =
+judged j before now r in_time taken orders =
     let s = before.supervision in
     let e = record_kinds.Read r in
     let is : step s e ≡ Ok (after_reading s r) = ap (λ f. unless time_cause f (after_reading s r)) in_time in
@@ -50,88 +52,102 @@ judged before now r in_time taken orders =
       supervision = taken ∙ ap (taken_or s) (sym is);
       judged = λ q is_judged asks.
           let same : r ≡ q = same_Some r q (ap (reading_if e) (sym is) ∙ is_judged) in
-          orders (subst (λ (x : OdometerReading). is_ordered (row_of s x) ≡ true) (sym same) asks);
+          orders (subst (λ (x : OdometerReading). j.orders s x ≡ true) (sym same) asks);
       overdue = λ other. absurd cc;
       stands = λ none _. absurd (none-some r (sym none ∙ ap (reading_if e) is));
     }
 
--- the order of the row of a reading is that of the ride
+-- the order of the emergency brake after the row of a reading is that of the ride
 pub row_orders : (row row' : Row) (unsupervised emergency : Bool) →
     emergency ≡ (is_ordered row || unsupervised) → row ≡ row' → is_ordered row' ≡ true → emergency ≡ true
 row_orders row row' unsupervised emergency is same orders =
     is ∙ ap (λ b. b || unsupervised) (ap is_ordered same ∙ orders)
 
+-- so is that of the service brake
+either_brake : (sb eb more unsupervised : Bool) → (sb || eb) ≡ true → (sb || ((eb || more) || unsupervised)) ≡ true
+either_brake true eb more unsupervised e = refl
+either_brake false true more unsupervised e = refl
+either_brake false false more unsupervised e = absurd cc
+
+pub row_serves : (row row' : Row) (unsupervised emergency service : Bool) →
+    emergency ≡ (is_ordered row || unsupervised) → service ≡ (row.held.sb || emergency) → row ≡ row' →
+    commands_brake row' ≡ true → service ≡ true
+row_serves row row' unsupervised emergency service is serves same brakes =
+    serves ∙ ap (λ b. row.held.sb || b) is
+    ∙ either_brake row.held.sb row.held.eb (not row.covered && not (is_release row.state)) unsupervised
+    (ap commands_brake same ∙ brakes)
+
 -- a reading whose time goes back
-pub refused : (before now : Computer) (r : OdometerReading) (fault : CycleFault) →
+pub refused : (j : Judging) (before now : Computer) (r : OdometerReading) (fault : CycleFault) →
     time_fault before.supervision.last_time r.time ≡ Some fault → now.supervision ≡ before.supervision →
-    (before.emergency ≡ true → now.emergency ≡ true) →
-    GoesOn by_rows before (Record (record_kinds.Read r)) now
+    (before.orders_brake ≡ true → now.orders_brake ≡ true) →
+    GoesOn j before (Record (record_kinds.Read r)) now
 unfolding step
-refused before now r fault back same stands =
-    recorded before now (record_kinds.Read r) (Err (time_cause fault))
+refused j before now r fault back same stands =
+    recorded j before now (record_kinds.Read r) (Err (time_cause fault))
     (ap (λ f. unless time_cause f (after_reading before.supervision r)) back) same refl stands
 
 -- an authority that is taken, and one that is refused
-pub authority : (before now : Computer) (a : Authority) →
+pub authority : (j : Judging) (before now : Computer) (a : Authority) →
     authority_fault before.supervision.train_and_track.track.length_cm a ≡ None →
-    now.supervision ≡ after_authority before.supervision a → (before.emergency ≡ true → now.emergency ≡ true) →
-    GoesOn by_rows before (Record (record_kinds.Authority a)) now
+    now.supervision ≡ after_authority before.supervision a → (before.orders_brake ≡ true → now.orders_brake ≡ true) →
+    GoesOn j before (Record (record_kinds.Authority a)) now
 unfolding step
-authority before now a none taken stands =
-    recorded before now (record_kinds.Authority a) (Ok (after_authority before.supervision a))
+authority j before now a none taken stands =
+    recorded j before now (record_kinds.Authority a) (Ok (after_authority before.supervision a))
     (ap (λ f. unless causes.Authority f (after_authority before.supervision a)) none) taken refl stands
 
-pub refused_authority : (before now : Computer) (a : Authority) (fault : AuthorityFault) →
+pub refused_authority : (j : Judging) (before now : Computer) (a : Authority) (fault : AuthorityFault) →
     authority_fault before.supervision.train_and_track.track.length_cm a ≡ Some fault →
-    now.supervision ≡ before.supervision → (before.emergency ≡ true → now.emergency ≡ true) →
-    GoesOn by_rows before (Record (record_kinds.Authority a)) now
+    now.supervision ≡ before.supervision → (before.orders_brake ≡ true → now.orders_brake ≡ true) →
+    GoesOn j before (Record (record_kinds.Authority a)) now
 unfolding step
-refused_authority before now a fault is same stands =
-    recorded before now (record_kinds.Authority a) (Err (causes.Authority fault))
+refused_authority j before now a fault is same stands =
+    recorded j before now (record_kinds.Authority a) (Err (causes.Authority fault))
     (ap (λ f. unless causes.Authority f (after_authority before.supervision a)) is) same refl stands
 
 -- a restriction
-pub restriction : (before now : Computer) (r : Restriction) →
+pub restriction : (j : Judging) (before now : Computer) (r : Restriction) →
     restrict_fault before.supervision.train_and_track.track.length_cm before.supervision.restrictions r ≡ None →
-    now.supervision ≡ after_restriction before.supervision r → (before.emergency ≡ true → now.emergency ≡ true) →
-    GoesOn by_rows before (Record (record_kinds.Restrict r)) now
+    now.supervision ≡ after_restriction before.supervision r → (before.orders_brake ≡ true → now.orders_brake ≡ true) →
+    GoesOn j before (Record (record_kinds.Restrict r)) now
 unfolding step
-restriction before now r none taken stands =
-    recorded before now (record_kinds.Restrict r) (Ok (after_restriction before.supervision r))
+restriction j before now r none taken stands =
+    recorded j before now (record_kinds.Restrict r) (Ok (after_restriction before.supervision r))
     (ap (λ f. unless causes.Restrict f (after_restriction before.supervision r)) none) taken refl stands
 
-pub refused_restriction : (before now : Computer) (r : Restriction) (fault : RestrictFault) →
+pub refused_restriction : (j : Judging) (before now : Computer) (r : Restriction) (fault : RestrictFault) →
     restrict_fault before.supervision.train_and_track.track.length_cm before.supervision.restrictions r ≡ Some fault →
-    now.supervision ≡ before.supervision → (before.emergency ≡ true → now.emergency ≡ true) →
-    GoesOn by_rows before (Record (record_kinds.Restrict r)) now
+    now.supervision ≡ before.supervision → (before.orders_brake ≡ true → now.orders_brake ≡ true) →
+    GoesOn j before (Record (record_kinds.Restrict r)) now
 unfolding step
-refused_restriction before now r fault is same stands =
-    recorded before now (record_kinds.Restrict r) (Err (causes.Restrict fault))
+refused_restriction j before now r fault is same stands =
+    recorded j before now (record_kinds.Restrict r) (Err (causes.Restrict fault))
     (ap (λ f. unless causes.Restrict f (after_restriction before.supervision r)) is) same refl stands
 
 -- a revocation
-pub revocation : (before now : Computer) (id : ℕ) → revoke_fault before.supervision.restrictions id ≡ None →
-    now.supervision ≡ after_revocation before.supervision id → (before.emergency ≡ true → now.emergency ≡ true) →
-    GoesOn by_rows before (Record (record_kinds.Revoke id)) now
+pub revocation : (j : Judging) (before now : Computer) (id : ℕ) → revoke_fault before.supervision.restrictions id ≡ None →
+    now.supervision ≡ after_revocation before.supervision id → (before.orders_brake ≡ true → now.orders_brake ≡ true) →
+    GoesOn j before (Record (record_kinds.Revoke id)) now
 unfolding step
-revocation before now id none taken stands =
-    recorded before now (record_kinds.Revoke id) (Ok (after_revocation before.supervision id))
+revocation j before now id none taken stands =
+    recorded j before now (record_kinds.Revoke id) (Ok (after_revocation before.supervision id))
     (ap (λ f. unless causes.Revoke f (after_revocation before.supervision id)) none) taken refl stands
 
-pub refused_revocation : (before now : Computer) (id : ℕ) (fault : RevokeFault) →
+pub refused_revocation : (j : Judging) (before now : Computer) (id : ℕ) (fault : RevokeFault) →
     revoke_fault before.supervision.restrictions id ≡ Some fault →
-    now.supervision ≡ before.supervision → (before.emergency ≡ true → now.emergency ≡ true) →
-    GoesOn by_rows before (Record (record_kinds.Revoke id)) now
+    now.supervision ≡ before.supervision → (before.orders_brake ≡ true → now.orders_brake ≡ true) →
+    GoesOn j before (Record (record_kinds.Revoke id)) now
 unfolding step
-refused_revocation before now id fault is same stands =
-    recorded before now (record_kinds.Revoke id) (Err (causes.Revoke fault))
+refused_revocation j before now id fault is same stands =
+    recorded j before now (record_kinds.Revoke id) (Err (causes.Revoke fault))
     (ap (λ f. unless causes.Revoke f (after_revocation before.supervision id)) is) same refl stands
 
 -- a record out of its form
-pub unread : (before now : Computer) → now.supervision ≡ before.supervision →
-    (before.emergency ≡ true → now.emergency ≡ true) →
-    GoesOn by_rows before Unread now
-unread before now same stands = record {
+pub unread : (j : Judging) (before now : Computer) → now.supervision ≡ before.supervision →
+    (before.orders_brake ≡ true → now.orders_brake ≡ true) →
+    GoesOn j before Unread now
+unread j before now same stands = record {
   supervision = same;
   judged = λ r judged orders. absurd (none-some r judged);
   overdue = λ other. absurd cc;
@@ -139,9 +155,9 @@ unread before now same stands = record {
 }
 
 -- a missing reading
-pub overdue : (before now : Computer) → now.supervision ≡ before.supervision → now.emergency ≡ true →
-    GoesOn by_rows before Overdue now
-overdue before now same braked = record {
+pub overdue : (j : Judging) (before now : Computer) → now.supervision ≡ before.supervision → now.orders_brake ≡ true →
+    GoesOn j before Overdue now
+overdue j before now same braked = record {
   supervision = same;
   judged = λ r judged orders. absurd (none-some r judged);
   overdue = λ _. braked;
@@ -149,9 +165,9 @@ overdue before now same braked = record {
 }
 
 -- an order more than is asked for
-pub braked : (before now later : Computer) (h : Happening) → later.supervision ≡ now.supervision →
-    later.emergency ≡ true → GoesOn by_rows before h now → GoesOn by_rows before h later
-braked before now later h same is g = record {
+pub braked : (j : Judging) (before now later : Computer) (h : Happening) → later.supervision ≡ now.supervision →
+    later.orders_brake ≡ true → GoesOn j before h now → GoesOn j before h later
+braked j before now later h same is g = record {
   supervision = same ∙ g.supervision;
   judged = λ r judged orders. is;
   overdue = λ _. is;

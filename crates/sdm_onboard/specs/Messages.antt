@@ -8,6 +8,8 @@ use Rattle.sdm_ride.specs.declared.happenings.Happening.{Happening}
 use Rattle.sdm_ride.specs.declared.happenings.Happening.TheVariants.{Record, Unread, Overdue, Tick}
 use Rattle.sdm_ride.specs.Moments.{Moment, by_rows}
 use Rattle.sdm_ride.specs.Orders.{AllOrderAs, Computer, GoesOn, OrdersAs}
+use Rattle.sdm_service_ride.specs.ServiceMoments.{Allowance, by_eoa}
+use Rattle.sdm_service_ride.specs.ServiceOrders.{AllServeAs}
 use Rattle.sdm_onboard.specs.declared.messages.Message.{Message}
 use Rattle.sdm_onboard.specs.declared.messages.Message.TheVariants as messages
 use Rattle.sdm_onboard.specs.declared.messages.Odometry.{Odometry}
@@ -36,11 +38,17 @@ IsFor (messages.Revocation id) h = h ≡ Record (record_kinds.Revoke id)
 
 -- what the computer's supervisor holds, and whether the emergency brake stands at its interface (own)
 abbrev pub computer_of : Onboard → Computer
-computer_of o = record { supervision = o.supervisor; emergency = o.orders.emergency }
+computer_of o = record { supervision = o.supervisor; orders_brake = o.orders.emergency }
 
--- over a happening the computer goes on as the ride does, judged by the rows (own)
-abbrev pub Follows : Onboard → Happening → Onboard → Type 0
-Follows before h now = GoesOn by_rows (computer_of before) h (computer_of now)
+-- the same of the service brake (own)
+abbrev pub service_of : Onboard → Computer
+service_of o = record { supervision = o.supervisor; orders_brake = o.orders.service }
+
+-- over a happening the computer goes on as the ride does: with the emergency brake as one that is judged by the rows,
+-- with the service brake as one that is judged by the EOA (own)
+pub record Follows (before : Onboard) (h : Happening) (now : Onboard) : Type 0 where
+  pub emergency : GoesOn by_rows (computer_of before) h (computer_of now)
+  pub service : GoesOn by_eoa (service_of before) h (service_of now)
 
 -- so it does with a message (own)
 pub record Takes (before : Onboard) (message : Message) (h : Happening) (now : Onboard) : Type 0 where
@@ -66,3 +74,10 @@ abbrev pub LawOfMessages : Type 0
 LawOfMessages =
     (m : Moment) (o : Onboard) (hs : List Happening) (os : List Onboard) → OrdersAs m (computer_of o) →
     IsRun o hs os → AllOrderAs by_rows m hs (map computer_of os)
+
+-- over every list of messages, with any ticks between them, the service brake stands at the interface wherever a ride
+-- under the service brake counts an order of it
+abbrev pub LawOfServiceMessages : Type 0
+LawOfServiceMessages =
+    (a : Allowance) (m : Moment) (o : Onboard) (hs : List Happening) (os : List Onboard) →
+    OrdersAs m (service_of o) → IsRun o hs os → AllServeAs a m hs (map service_of os)

@@ -83,8 +83,8 @@ impl Onboard {
         self.orders
     }
 
-    /// Takes a message: the supervisor goes on as in a ride, and where the ride counts an order of the emergency brake,
-    /// the brake stands at the interface.
+    /// Takes a message: the supervisor goes on as in a ride, and where the ride counts an order of the emergency brake or
+    /// of the service brake, that brake stands at the interface.
     pub fn take(&mut self, message: &Message) -> News
         ensures { (h : Happening) × Takes self.old message.now h self.new }
     {
@@ -114,6 +114,7 @@ impl Onboard {
     fn not_judged(&mut self, fault: ReadingFault) -> News
         ensures supervisor { self.new.supervisor ≡ self.old.supervisor }
         ensures braked { IsTrue self.new.orders.emergency }
+        ensures served { IsTrue self.new.orders.service }
     {
         self.orders = Orders::BRAKE;
         News::NotJudged(fault)

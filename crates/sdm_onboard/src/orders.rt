@@ -28,7 +28,7 @@ impl Orders {
     /// monitoring, where none is promised.
     pub fn of(row: &Row, is_unsupervised: bool) -> Orders
         ensures emergency { result.emergency ≡ (is_ordered row.now || is_unsupervised) }
-        ensures service { IsTrue row.now.held.sb → IsTrue result.service }
+        ensures service { result.service ≡ (row.now.held.sb || result.emergency) }
         ensures cut_off { IsTrue row.now.held.tco → IsTrue result.traction_off }
         ensures no_traction_against_brakes { IsTrue result.emergency ⊎ IsTrue result.service
             → IsTrue result.traction_off }

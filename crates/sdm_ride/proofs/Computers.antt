@@ -70,14 +70,14 @@ record_orders j m (record_kinds.Revoke id) (Ok t) before now asks stands both is
 
 -- after a happening, of a computer whose supervisor is that of the ride
 still_ordered : (j : Judging) (m : Moment) (c : Computer) (h : Happening) (d : Computer) →
-    c.supervision ≡ m.supervision → GoesOn j c h d → (is_some m.order ≡ true → c.emergency ≡ true) →
-    is_some (after j m h).order ≡ true → d.emergency ≡ true
+    c.supervision ≡ m.supervision → GoesOn j c h d → (is_some m.order ≡ true → c.orders_brake ≡ true) →
+    is_some (after j m h).order ≡ true → d.orders_brake ≡ true
 unfolding after
 still_ordered j m c (Record e) d same g both is =
-    record_orders j m e (step m.supervision e) c.emergency d.emergency
+    record_orders j m e (step m.supervision e) c.orders_brake d.orders_brake
     (subst (λ (s : Supervision). (r : OdometerReading) → judged_in s (Record e) ≡ Some r →
-    j.orders s r ≡ true → d.emergency ≡ true) same g.judged)
-    (subst (λ (s : Supervision). judged_in s (Record e) ≡ None → c.emergency ≡ true → d.emergency ≡ true) same
+    j.orders s r ≡ true → d.orders_brake ≡ true) same g.judged)
+    (subst (λ (s : Supervision). judged_in s (Record e) ≡ None → c.orders_brake ≡ true → d.orders_brake ≡ true) same
     g.stands)
     both is
 still_ordered j m c Unread d same g both is = g.stands refl (both is)
@@ -85,7 +85,7 @@ still_ordered j m c Overdue d same g both is = g.overdue refl
 still_ordered j m c (Tick to length) d same g both is = g.stands refl (both (was_there m.order is))
 
 -- one happening
-orders_on : (j : Judging) (m : Moment) (c : Computer) (h : Happening) (d : Computer) → OrdersAs m c →
+pub orders_on : (j : Judging) (m : Moment) (c : Computer) (h : Happening) (d : Computer) → OrdersAs m c →
     GoesOn j c h d → OrdersAs (after j m h) d
 orders_on j m c h d same g = record {
   supervision = g.supervision ∙ ap (λ s. supervision_after s h) same.supervision ∙ sym (leads j m h);

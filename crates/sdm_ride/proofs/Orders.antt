@@ -26,11 +26,11 @@ use Rattle.sdm_ride.proofs.Promises.{mapped, timed_rides}
 -- ---- what an order does in time
 
 -- the reading of the promise is no older than the silence, or at most a period older than the order
-record IsTimely (w : Delays) (s silence : ℕ) (order : Option ℕ) (d : TrainAndTrack) (c : Promise) : Type 0 where
-  data_stay : c.under.train_and_track ≡ d
-  heard : silence ≤ s * w.period
-  none : order ≡ None → c.age ≤ silence
-  some : (o : ℕ) → order ≡ Some o → c.age ≤ s * w.period + o
+pub record IsTimely (w : Delays) (s silence : ℕ) (order : Option ℕ) (d : TrainAndTrack) (c : Promise) : Type 0 where
+  pub data_stay : c.under.train_and_track ≡ d
+  pub heard : silence ≤ s * w.period
+  pub none : order ≡ None → c.age ≤ silence
+  pub some : (o : ℕ) → order ≡ Some o → c.age ≤ s * w.period + o
 
 -- times at a scale
 too_old : (s p c k t age silence : ℕ) → p + c + k ≤ t → s * t ≤ age → silence < s * p → age ≤ silence → ⊥
@@ -40,13 +40,13 @@ order_works : (s p c k t age o : ℕ) → p + c + k ≤ t → s * t ≤ age → 
 order_works s p c k t age o h from le = omega (arith, mul-le-mul_left s h)
 
 -- an order that has stood long enough
-record IsOrdered (s c k : ℕ) (order : Option ℕ) : Type 0 where
-  since : ℕ
-  is : order ≡ Some since
-  long : s * (c + k) ≤ since
+pub record IsOrdered (s c k : ℕ) (order : Option ℕ) : Type 0 where
+  pub since : ℕ
+  pub is : order ≡ Some since
+  pub long : s * (c + k) ≤ since
 
 -- one has from the time on that holds the delays
-long_ordered : (s p c k t age silence : ℕ) (order : Option ℕ) → p + c + k ≤ t → s * t ≤ age → silence < s * p →
+pub long_ordered : (s p c k t age silence : ℕ) (order : Option ℕ) → p + c + k ≤ t → s * t ≤ age → silence < s * p →
     (order ≡ None → age ≤ silence) →
     ((o : ℕ) → order ≡ Some o → age ≤ s * p + o) → IsOrdered s c k order
 long_ordered s p c k t age silence None h from quiet none some =
@@ -80,7 +80,7 @@ record AreTimely (w : Delays) (s : ℕ) (d : TrainAndTrack) (m : Moment) : Type 
   promise : (c : Promise) → m.promise ≡ Some c → IsTimely w s m.silence m.order d c
 
 -- an order after any silence keeps it timely
-order_timely : (w : Delays) (s silence : ℕ) (order : Option ℕ) (d : TrainAndTrack) (c : Promise) →
+pub order_timely : (w : Delays) (s silence : ℕ) (order : Option ℕ) (d : TrainAndTrack) (c : Promise) →
     IsTimely w s silence order d c →
     IsTimely w s 0 (ordered order) d c
 order_timely w s silence None d c h =
@@ -96,7 +96,7 @@ order_timely w s silence (Some o) d c h =
     record { data_stay = h.data_stay; heard = omega arith; none = λ n. absurd (none-some _ (sym n)); some = h.some }
 
 -- a tick in time keeps it timely
-tick_timely : (w : Delays) (s silence : ℕ) (order : Option ℕ) (d : TrainAndTrack) (c : Promise) →
+pub tick_timely : (w : Delays) (s silence : ℕ) (order : Option ℕ) (d : TrainAndTrack) (c : Promise) →
     silence < s * w.period → IsTimely w s silence order d c →
     IsTimely w s (suc silence) (option_map (λ o. suc o) order) d (aged c)
 tick_timely w s silence order d c quiet h = record {
@@ -122,7 +122,7 @@ new_timely w s order d c same new =
     record { data_stay = same; heard = omega arith; none = λ _. omega arith; some = λ o is. omega arith }
 
 -- the promise after a reading is timely
-read_timely_if : (w : Delays) (s silence : ℕ) (order : Option ℕ) (d : TrainAndTrack) (promises orders : Bool)
+pub read_timely_if : (w : Delays) (s silence : ℕ) (order : Option ℕ) (d : TrainAndTrack) (promises orders : Bool)
     (new : Promise) (last : Option Promise) (c : Promise) → new.under.train_and_track ≡ d → new.age ≡ 0 →
     ((c : Promise) → last ≡ Some c → IsTimely w s silence order d c) →
     promise_after promises orders new last ≡ Some c →

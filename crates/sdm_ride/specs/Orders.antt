@@ -10,10 +10,11 @@ use Rattle.sdm_ride.specs.declared.happenings.Happening.{Happening}
 use Rattle.sdm_ride.specs.declared.happenings.Happening.TheVariants.{Record, Unread, Overdue, Tick}
 use Rattle.sdm_ride.specs.Moments.{Judging, Moment, after}
 
--- what the supervisor of a computer holds, and whether the computer orders the emergency brake (own)
+-- what the supervisor of a computer holds, and whether the computer orders the brake of the ride, the emergency brake or
+-- the service brake (own)
 pub record Computer : Type 0 where
   pub supervision : Supervision
-  pub emergency : Bool
+  pub orders_brake : Bool
 
 -- the supervision state after a record: one that is refused changes nothing (own)
 abbrev pub taken_or : Supervision → Result Supervision EventCause → Supervision
@@ -43,14 +44,14 @@ judged_in s Unread = None
 judged_in s Overdue = None
 judged_in s (Tick to length) = None
 
--- a computer goes on as a ride does: its supervisor takes what happens; it orders the emergency brake after a reading
--- that orders it, and where a reading is missing; and nothing but a reading that is judged takes an order away (own)
+-- a computer goes on as a ride does: its supervisor takes what happens; it orders the brake after a reading that orders
+-- it, and where a reading is missing; and nothing but a reading that is judged takes an order away (own)
 pub record GoesOn (j : Judging) (before : Computer) (h : Happening) (now : Computer) : Type 0 where
   pub supervision : now.supervision ≡ supervision_after before.supervision h
   pub judged : (r : OdometerReading) → judged_in before.supervision h ≡ Some r →
-      j.orders before.supervision r ≡ true → now.emergency ≡ true
-  pub overdue : h ≡ Overdue → now.emergency ≡ true
-  pub stands : judged_in before.supervision h ≡ None → before.emergency ≡ true → now.emergency ≡ true
+      j.orders before.supervision r ≡ true → now.orders_brake ≡ true
+  pub overdue : h ≡ Overdue → now.orders_brake ≡ true
+  pub stands : judged_in before.supervision h ≡ None → before.orders_brake ≡ true → now.orders_brake ≡ true
 
 -- a computer goes on so over a list of happenings, from what it was before the first (own)
 abbrev pub AllGoOn : Judging → Computer → List Happening → List Computer → Type 0
@@ -59,10 +60,10 @@ AllGoOn j c [] (d ∷ ds) = ⊥
 AllGoOn j c (h ∷ hs) [] = ⊥
 AllGoOn j c (h ∷ hs) (d ∷ ds) = GoesOn j c h d × AllGoOn j d hs ds
 
--- the computer's supervisor is that of the ride, and it orders the emergency brake where the ride counts an order (own)
+-- the computer's supervisor is that of the ride, and it orders the brake where the ride counts an order (own)
 pub record OrdersAs (m : Moment) (c : Computer) : Type 0 where
   pub supervision : c.supervision ≡ m.supervision
-  pub ordered : is_some m.order ≡ true → c.emergency ≡ true
+  pub ordered : is_some m.order ≡ true → c.orders_brake ≡ true
 
 -- so it is after each happening (own)
 abbrev pub AllOrderAs : Judging → Moment → List Happening → List Computer → Type 0
@@ -70,8 +71,8 @@ AllOrderAs j m [] cs = ⊤
 AllOrderAs j m (h ∷ hs) [] = ⊤
 AllOrderAs j m (h ∷ hs) (c ∷ cs) = OrdersAs (after j m h) c × AllOrderAs j (after j m h) hs cs
 
--- a computer that goes on as a ride does orders the emergency brake after each happening after which the ride counts an
--- order, over every list of happenings
+-- a computer that goes on as a ride does orders the brake after each happening after which the ride counts an order, over
+-- every list of happenings
 abbrev pub LawOfOrders : Type 0
 LawOfOrders =
     (j : Judging) (m : Moment) (c : Computer) (hs : List Happening) (cs : List Computer) → OrdersAs m c →

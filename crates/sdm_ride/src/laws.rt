@@ -43,8 +43,8 @@ pub fn law_of_ridden_rows<Record>()
     ensures { LawOfRiddenRows Record }
 {}
 
-/// A computer that does what its builder owes the ride orders the emergency brake wherever the ride counts an order,
-/// over every list of happenings.
+/// A computer that does what its builder owes the ride orders the brake wherever the ride counts an order, over every
+/// list of happenings.
 #[tactic(auto, using(crate::proofs::Computers::orders))]
 pub fn law_of_orders()
     ensures { LawOfOrders }

@@ -144,8 +144,8 @@ has_slower on usable f z w v past =
       positive = r_pos;
       reached =
           still_past s b f x0 _ _ x0_pos (exact_positive on s z v u usable s_pos)
-              (exact_positive on s z v (suc u) usable s_pos) past same near
-              (omega (arith, mul-le-mul_left r r_pos));
+          (exact_positive on s z v (suc u) usable s_pos) past same near
+          (omega (arith, mul-le-mul_left r r_pos));
     }
   where
     -- a square one less is in the band, too

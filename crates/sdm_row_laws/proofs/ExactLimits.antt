@@ -71,7 +71,7 @@ stops_exactly on usable start f h s p u xs first more m =
     All-weaker (IsHeldByCurve on (s * s) f 0) (IsBy s f) (λ y k. k.standing refl) (first ∷ more) held
 
 -- the limit of a start is the exact place of V_bec, less D_bec
-exact_limit : (on : Slopes) → IsUsable on → (start : Start) (f : ℤ) (v d : ℕ) → v_bec (build_up_of start) 0 ≡ v →
+pub exact_limit : (on : Slopes) → IsUsable on → (start : Start) (f : ℤ) (v d : ℕ) → v_bec (build_up_of start) 0 ≡ v →
     d_bec (build_up_of start) 0 ≡ d → IsExactLimit on start f (less (exact on f 0 v) d)
 unfolding exact
 exact_limit on usable start f v d speed distance = record {

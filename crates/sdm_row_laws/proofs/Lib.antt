@@ -5,3 +5,4 @@ pub mod Following
 pub mod Tight
 pub mod ExactLimits
 pub mod OpenTurns
+pub mod ReleaseLimits

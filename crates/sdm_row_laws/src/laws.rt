@@ -4,6 +4,8 @@ ghost use Rattle.sdm_row_laws.specs.AllCommands.{LawOfAllCommands, LawOfAllJourn
 ghost use Rattle.sdm_row_laws.specs.AllCommands.{LawOfEmergencyOrder, LawOfRowMachine};
 ghost use Rattle.sdm_row_laws.specs.OpenTurns.{LawOfFallJourneys, LawOfOpenTurns};
 ghost use Rattle.sdm_row_laws.specs.OpenTurns.{LawOfPromisedTurns, LawOfServiceJourneys};
+ghost use Rattle.sdm_row_laws.specs.ReleaseLimits.{LawOfExactStart, LawOfExactTrip};
+ghost use Rattle.sdm_row_laws.specs.ReleaseLimits.{LawOfTightRelease, LawOfTightStart};
 ghost use Rattle.sdm_row_laws.specs.ServiceStop.{LawOfServiceRows, LawOfServiceStop};
 ghost use Rattle.sdm_row_laws.specs.Tightness.{LawOfExactEoa, LawOfExactSvl, LawOfExactTarget};
 ghost use Rattle.sdm_row_laws.specs.Tightness.{LawOfRefutation, LawOfTightEoa, LawOfTightSvl};
@@ -75,6 +77,33 @@ pub fn law_of_tight_eoa()
 #[tactic(auto, using(crate::proofs::ExactLimits::exact_target))]
 pub fn law_of_exact_target()
     ensures { LawOfExactTarget }
+{}
+
+/// The exact latest trip at a speed is the limit of where the emergency brake stops a tripped train by the SvL.
+#[tactic(auto, using(crate::proofs::ReleaseLimits::exact_trip))]
+pub fn law_of_exact_trip()
+    ensures { LawOfExactTrip }
+{}
+
+/// At one km/h more than the calculated release speed some train that is tripped at most a millimetre past the place
+/// passes the SvL.
+#[tactic(auto, using(crate::proofs::ReleaseLimits::tight_release))]
+pub fn law_of_tight_release()
+    ensures { LawOfTightRelease }
+{}
+
+/// The exact start of release speed monitoring is the limit of where both brakes stop a train at the release speed in
+/// time.
+#[tactic(auto, using(crate::proofs::ReleaseLimits::exact_start))]
+pub fn law_of_exact_start()
+    ensures { LawOfExactStart }
+{}
+
+/// Release speed monitoring begins where both brakes would still stop such a train in time, or less than a millimetre
+/// before they wouldn't.
+#[tactic(auto, using(crate::proofs::ReleaseLimits::tight_start))]
+pub fn law_of_tight_start()
+    ensures { LawOfTightStart }
 {}
 
 /// Where some motion passes a place, not every one stops by it; and where one is faster there, not every one slows.

@@ -1,0 +1,4 @@
+pub mod ServicePromises
+pub mod ServiceDelays
+pub mod Drivers
+pub mod ServiceComputers

@@ -1,0 +1,5 @@
+pub mod ServiceMoments
+pub mod ServiceRides
+pub mod ServiceRideLaws
+pub mod CutOffs
+pub mod ServiceOrders
