@@ -3,7 +3,6 @@
 
 ghost use Rattle.std.specs.Prelude.{◌≡◌, ◌<◌, ◌≤◌, ◌≤ℤ◌, pos, negsuc, drop, length, Ok, IfOk, IfErr};
 ghost use Rattle.std.specs.Str.{bytes_eq};
-ghost use Rattle.csv.specs.Records.{fields_of};
 ghost use Rattle.sdm_num.specs.Readings.{reading_of};
 ghost use Rattle.sdm_formats.specs.Forms.{end_form, endcalc_form, event_of, limit_form, read_form, restrict_form};
 ghost use Rattle.sdm_formats.specs.Forms.{revoke_form};
@@ -11,7 +10,7 @@ ghost use Rattle.sdm_formats.specs.Numbers.{read_int};
 ghost use Rattle.sdm_events.specs.Columns.{IsColumnFault, column_of};
 ghost use Rattle.sdm_events.specs.Journey.{IsInForm};
 
-use csv::ByteRecord;
+use crate::fields::RecordFields;
 use sdm_num::Reading;
 use sdm_rules::{Authority, Event, EventFault, LONGEST_TRACK_CM, Restriction, TOP_KMH};
 use sdm_text::read_int;
@@ -23,8 +22,8 @@ use sdm_text::read_int;
 // which takes a few compares, where `==` of slices calls a loop.
 #[inline(always)]
 #[tactic(auto, unfolding(sdm_formats::specs::Forms::event_of))]
-pub fn event_of(fields: &ByteRecord) -> Result<Event, EventFault>
-    ensures value { result ≡ event_of (fields_of fields.now) }
+pub fn event_of<F: RecordFields>(fields: &F) -> Result<Event, EventFault>
+    ensures value { result ≡ event_of (F.fields fields.now) }
     ensures form { IfOk result IsInForm }
 {
     let Some(kind) = fields.get(0) else {
@@ -50,13 +49,13 @@ pub fn event_of(fields: &ByteRecord) -> Result<Event, EventFault>
 /// The number of a column, from `least` to `greatest`, or the column's fault.
 // A reading has seven, at each cycle: in line its number goes into the event by no result in memory.
 #[inline(always)]
-fn number(fields: &ByteRecord, column: u32, least: i32, greatest: i32) -> Result<i32, EventFault>
+fn number<F: RecordFields>(fields: &F, column: u32, least: i32, greatest: i32) -> Result<i32, EventFault>
     requires first { 0 < column }
-    requires last { column ≤ length (fields_of fields.now) }
-    ensures value { IfOk result (λ n. read_int (column_of (fields_of fields.now) column) least greatest ≡ Ok n) }
+    requires last { column ≤ length (F.fields fields.now) }
+    ensures value { IfOk result (λ n. read_int (column_of (F.fields fields.now) column) least greatest ≡ Ok n) }
     ensures range { IfOk result (λ n. (least ≤ℤ n) × (n ≤ℤ greatest)) }
     ensures fault { IfErr result
-        (IsColumnFault column (read_int (column_of (fields_of fields.now) column) least greatest)) }
+        (IsColumnFault column (read_int (column_of (F.fields fields.now) column) least greatest)) }
 {
     let field = fields.get(column as usize - 1).unwrap();
     match read_int(field, i64::from(least), i64::from(greatest)) {
@@ -69,8 +68,8 @@ fn number(fields: &ByteRecord, column: u32, least: i32, greatest: i32) -> Result
 // In line, as `event_of`.
 #[inline(always)]
 #[tactic(auto, unfolding(sdm_formats::specs::Forms::read_form))]
-fn read_event(fields: &ByteRecord) -> Result<Event, EventFault>
-    ensures value { result ≡ read_form (drop 1 (fields_of fields.now)) }
+fn read_event<F: RecordFields>(fields: &F) -> Result<Event, EventFault>
+    ensures value { result ≡ read_form (drop 1 (F.fields fields.now)) }
     ensures form { IfOk result IsInForm }
 {
     if fields.len() != 8 {
@@ -97,8 +96,8 @@ fn read_event(fields: &ByteRecord) -> Result<Event, EventFault>
 
 /// `end`: an authority that ends in a stop.
 #[tactic(auto, unfolding(sdm_formats::specs::Forms::end_form))]
-fn end_event(fields: &ByteRecord) -> Result<Event, EventFault>
-    ensures value { result ≡ end_form (drop 1 (fields_of fields.now)) }
+fn end_event<F: RecordFields>(fields: &F) -> Result<Event, EventFault>
+    ensures value { result ≡ end_form (drop 1 (F.fields fields.now)) }
     ensures form { IfOk result IsInForm }
 {
     if fields.len() != 4 {
@@ -112,8 +111,8 @@ fn end_event(fields: &ByteRecord) -> Result<Event, EventFault>
 
 /// `endcalc`: an authority that ends in a stop, whose release speed is calculated.
 #[tactic(auto, unfolding(sdm_formats::specs::Forms::endcalc_form))]
-fn endcalc_event(fields: &ByteRecord) -> Result<Event, EventFault>
-    ensures value { result ≡ endcalc_form (drop 1 (fields_of fields.now)) }
+fn endcalc_event<F: RecordFields>(fields: &F) -> Result<Event, EventFault>
+    ensures value { result ≡ endcalc_form (drop 1 (F.fields fields.now)) }
     ensures form { IfOk result IsInForm }
 {
     if fields.len() != 4 {
@@ -127,8 +126,8 @@ fn endcalc_event(fields: &ByteRecord) -> Result<Event, EventFault>
 
 /// `limit`: an authority that ends at a speed.
 #[tactic(auto, unfolding(sdm_formats::specs::Forms::limit_form))]
-fn limit_event(fields: &ByteRecord) -> Result<Event, EventFault>
-    ensures value { result ≡ limit_form (drop 1 (fields_of fields.now)) }
+fn limit_event<F: RecordFields>(fields: &F) -> Result<Event, EventFault>
+    ensures value { result ≡ limit_form (drop 1 (F.fields fields.now)) }
     ensures form { IfOk result IsInForm }
 {
     if fields.len() != 3 {
@@ -141,8 +140,8 @@ fn limit_event(fields: &ByteRecord) -> Result<Event, EventFault>
 
 /// `restrict`: a temporary speed restriction.
 #[tactic(auto, unfolding(sdm_formats::specs::Forms::restrict_form))]
-fn restrict_event(fields: &ByteRecord) -> Result<Event, EventFault>
-    ensures value { result ≡ restrict_form (drop 1 (fields_of fields.now)) }
+fn restrict_event<F: RecordFields>(fields: &F) -> Result<Event, EventFault>
+    ensures value { result ≡ restrict_form (drop 1 (F.fields fields.now)) }
     ensures form { IfOk result IsInForm }
 {
     if fields.len() != 6 {
@@ -164,8 +163,8 @@ fn restrict_event(fields: &ByteRecord) -> Result<Event, EventFault>
 
 /// `revoke`: the end of a temporary speed restriction.
 #[tactic(auto, unfolding(sdm_formats::specs::Forms::revoke_form))]
-fn revoke_event(fields: &ByteRecord) -> Result<Event, EventFault>
-    ensures value { result ≡ revoke_form (drop 1 (fields_of fields.now)) }
+fn revoke_event<F: RecordFields>(fields: &F) -> Result<Event, EventFault>
+    ensures value { result ≡ revoke_form (drop 1 (F.fields fields.now)) }
     ensures form { IfOk result IsInForm }
 {
     if fields.len() != 2 {

@@ -1,16 +1,15 @@
 -- The number that was read lies between two of 32 bits.
 use Rattle.std.proofs.Common.{◌≤ℤ◌, ◌≡◌, to_z, of_z, w32, w64, ◌∙◌, refl, sym, arith, rules}
 use Rattle.std.proofs.lemmas.Int.{ints, to_z-of_z}
-use Rattle.csv.specs.Records.{fields_of}
 use Rattle.sdm_events.specs.Columns.{column_of}
 use Rattle.sdm_text.proofs.Between.{between_fits}
 use Rattle.sdm_events.proofs.Fields.{field_found, field_is}
 use Rattle.sdm_events.proofs.events.number.Goals as goal
 
 pub unwrap-field-requires : goal.unwrap-field-requires
-unwrap-field-requires c = field_found (fields_of c.args.fields.now) _ _ c.get.ensures.value (omega arith)
+unwrap-field-requires g c = field_found (g.F.RecordFields.fields c.args.fields.now) _ _ c.get.ensures (omega arith)
 
-module _ (c : goal.In-Ok) where
+module _ (g : goal.Row) (c : goal.In-Ok g) where
   -- the bounds are themselves in 64 bits: the least
   least : to_z w64 (of_z w64 c.from.result) ≡ c.args.least
   least = to_z-of_z w64 c.from.result (search (rules, ints))
@@ -34,26 +33,26 @@ module _ (c : goal.In-Ok) where
   same = rw number (to_z-of_z w32 _ (between_fits w32 _ _ _ c.ranges.least c.ranges.greatest bounds.0 bounds.1))
 
   -- the field is that of the column
-  field : c.unwrap-field.result.now ≡ column_of (fields_of c.args.fields.now) c.args.column
-  field = field_is (fields_of c.args.fields.now) _ _ _ c.get.ensures.value c.unwrap-field.ensures
+  field : c.unwrap-field.result.now ≡ column_of (g.F.RecordFields.fields c.args.fields.now) c.args.column
+  field = field_is (g.F.RecordFields.fields c.args.fields.now) _ _ _ c.get.ensures c.unwrap-field.ensures
 
 pub overflow_cast-result : goal.overflow_cast-result
-overflow_cast-result c =
-    rw (number c) (between_fits w32 _ _ _ c.ranges.least c.ranges.greatest (bounds c).0 (bounds c).1)
+overflow_cast-result g c =
+    rw (number g c) (between_fits w32 _ _ _ c.ranges.least c.ranges.greatest (bounds g c).0 (bounds g c).1)
 
 pub returns-in-Ok-clause-value : goal.returns-in-Ok-clause-value
-returns-in-Ok-clause-value c =
-    rw (same c, ← least c, ← greatest c, ← field c) (sym c.read_int.ensures.value ∙ c.in-Ok.is)
+returns-in-Ok-clause-value g c =
+    rw (same g c, ← least g c, ← greatest g c, ← field g c) (sym c.read_int.ensures.value ∙ c.in-Ok.is)
 
 pub returns-in-Ok-clause-range : goal.returns-in-Ok-clause-range
-returns-in-Ok-clause-range c = rw (same c) (bounds c)
+returns-in-Ok-clause-range g c = rw (same g c) (bounds g c)
 
 pub returns-in-Err-clause-fault : goal.returns-in-Err-clause-fault
-returns-in-Err-clause-fault c =
+returns-in-Err-clause-fault g c =
     let least : to_z w64 (of_z w64 c.from.result) ≡ c.args.least = to_z-of_z w64 c.from.result (search (rules, ints))
     ∙ (c.from.ensures ∙ to_z-of_z w32 c.args.least c.ranges.least) in
     let greatest : to_z w64 (of_z w64 c.from-2.result) ≡ c.args.greatest = to_z-of_z w64 c.from-2.result
     (search (rules, ints)) ∙ (c.from-2.ensures ∙ to_z-of_z w32 c.args.greatest c.ranges.greatest) in
-    let field : c.unwrap-field.result.now ≡ column_of (fields_of c.args.fields.now) c.args.column = field_is
-    (fields_of c.args.fields.now) _ _ _ c.get.ensures.value c.unwrap-field.ensures in
+    let field : c.unwrap-field.result.now ≡ column_of (g.F.RecordFields.fields c.args.fields.now) c.args.column = field_is
+    (g.F.RecordFields.fields c.args.fields.now) _ _ _ c.get.ensures c.unwrap-field.ensures in
     (c.in-Err.fault, rw (← least, ← greatest, ← field) (sym c.read_int.ensures.value ∙ c.in-Err.is), refl)

@@ -4,7 +4,6 @@ use Rattle.std.proofs.Common.{Option, Some, None, unsigned_abs, lit<, arith, rul
 use Rattle.std.specs.Option.{SomeIff}
 use Rattle.std.proofs.lemmas.Grind.{common_steps}
 use Rattle.std.proofs.lemmas.Int.{ints, to_z-of_z}
-use Rattle.csv.specs.Records.{fields_of}
 use Rattle.sdm_num.specs.Readings.{IsReading, reading_of}
 use Rattle.sdm_formats.specs.Forms.{read_form}
 use Rattle.sdm_text.proofs.Between.{between_fits}
@@ -77,7 +76,7 @@ pub returns-clause-value : goal.returns-clause-value
 unfolding read_form
 returns-clause-value c =
     let before = (goal.at.returns-clause-value c).After-new-reading in
-    let F = fields_of c.args.fields.now in
+    let F = g.F.RecordFields.fields c.args.fields.now in
     let seven : drop 1 F ≡ get_or F 1 [] ∷ get_or F 2 [] ∷ get_or F 3 [] ∷ get_or F 4 [] ∷ get_or F 5 []
     ∷ get_or F 6 [] ∷ get_or F 7 [] ∷ [] = grind (arith, common_steps) in
     let read : c.unwrap.result ≡ reading_of (unsigned_abs c.in_ok-time.time) c.in_ok-est.est c.in_ok-min.min

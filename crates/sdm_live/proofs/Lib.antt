@@ -1,0 +1,5 @@
+mod Along
+mod Handing
+mod Taking
+mod Serving
+pub mod DueLines
