@@ -101,10 +101,7 @@ fn put_refused(cause: EventCause, into: &mut RowBuf)
 
 /// Takes a record: the row of a reading, or none of another that is taken; else why it is refused.
 #[tactic(auto, unfolding(sdm_rules::specs::Records::step), using(crate::proofs::Taken::taken_records))]
-fn take_record(
-    supervisor: &mut Supervisor,
-    fields: &LineFields,
-) -> Result<Option<Row>, EventCause>
+fn take_record(supervisor: &mut Supervisor, fields: &LineFields) -> Result<Option<Row>, EventCause>
     ensures taken { IfOk result (IsTakenRecord supervisor.old supervisor.new (event_of (fields_of fields.now))) }
     ensures refused { IfErr result (λ cause. turn_of supervisor.old (event_of (fields_of fields.now)) ≡ Err cause) }
     ensures unchanged { OnErr result (supervisor.new ≡ supervisor.old) }
