@@ -1,11 +1,12 @@
 -- The fields of a record by their indices: what a look-up finds, and the list of all that follow an index.
 use Rattle.std.proofs.Common.{◌≡◌, ◌≢◌, ◌<◌, ◌∙◌, ℕ, Bool, false, List, [], ◌∷◌, length, drop, Option, Some, None, Bor}
-use Rattle.std.proofs.Common.{IsSome, option_map, get_or, refl, sym, ap}
+use Rattle.std.proofs.Common.{IsSome, option_map, get_or, refl, sym, ap, arith}
 use Rattle.std.specs.Bool.{one_answer}
 use Rattle.std.specs.Option.{MatchOption, option_eq}
 use Rattle.std.specs.Array.{IsWholeChunk}
 use Rattle.std.specs.Str.{bytes_eq}
 use Rattle.std.proofs.lemmas.Bool.{false≢true}
+use Rattle.std.proofs.lemmas.List.{drop_all, drop_more}
 use Rattle.std.proofs.lemmas.Slice.Eq.{bytes_eq-Decides}
 use Rattle.csv.specs.Records.{field_at}
 use Rattle.csv.proofs.RecordFacts.{field-get, field-there}
@@ -35,6 +36,20 @@ pub no_fields : (fields : List (List ℕ)) (o : Option (Bor (List ℕ))) → opt
 unfolding field_at
 no_fields [] o is none = refl
 no_fields (k ∷ more) o is none = cc (rw none at is)
+
+-- the fields after the first, of eight
+pub seven_columns : (fields : List (List ℕ)) → length fields ≡ 8 →
+    drop 1 fields ≡ get_or fields 1 [] ∷ get_or fields 2 [] ∷ get_or fields 3 [] ∷ get_or fields 4 [] ∷ get_or fields 5 []
+    ∷ get_or fields 6 [] ∷ get_or fields 7 [] ∷ []
+seven_columns fields is =
+    drop_more fields 1 [] (omega (arith, is))
+    ∙ ap (λ t. get_or fields 1 [] ∷ t) (drop_more fields 2 [] (omega (arith, is))
+    ∙ ap (λ t. get_or fields 2 [] ∷ t) (drop_more fields 3 [] (omega (arith, is))
+    ∙ ap (λ t. get_or fields 3 [] ∷ t) (drop_more fields 4 [] (omega (arith, is))
+    ∙ ap (λ t. get_or fields 4 [] ∷ t) (drop_more fields 5 [] (omega (arith, is))
+    ∙ ap (λ t. get_or fields 5 [] ∷ t) (drop_more fields 6 [] (omega (arith, is))
+    ∙ ap (λ t. get_or fields 6 [] ∷ t) (drop_more fields 7 [] (omega (arith, is))
+    ∙ ap (λ t. get_or fields 7 [] ∷ t) (drop_all 8 fields (omega (arith, is)))))))))
 
 -- ---- whether a field is a text
 

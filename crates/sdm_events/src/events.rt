@@ -10,7 +10,7 @@ ghost use Rattle.sdm_formats.specs.Numbers.{read_int};
 ghost use Rattle.sdm_events.specs.Columns.{IsColumnFault, column_of};
 ghost use Rattle.sdm_events.specs.Journey.{IsInForm};
 
-use crate::fields::RecordFields;
+use crate::record_fields::RecordFields;
 use sdm_num::Reading;
 use sdm_rules::{Authority, Event, EventFault, LONGEST_TRACK_CM, Restriction, TOP_KMH};
 use sdm_text::read_int;
@@ -49,7 +49,12 @@ pub fn event_of<F: RecordFields>(fields: &F) -> Result<Event, EventFault>
 /// The number of a column, from `least` to `greatest`, or the column's fault.
 // A reading has seven, at each cycle: in line its number goes into the event by no result in memory.
 #[inline(always)]
-fn number<F: RecordFields>(fields: &F, column: u32, least: i32, greatest: i32) -> Result<i32, EventFault>
+fn number<F: RecordFields>(
+    fields: &F,
+    column: u32,
+    least: i32,
+    greatest: i32,
+) -> Result<i32, EventFault>
     requires first { 0 < column }
     requires last { column ≤ length (F.fields fields.now) }
     ensures value { IfOk result (λ n. read_int (column_of (F.fields fields.now) column) least greatest ≡ Ok n) }

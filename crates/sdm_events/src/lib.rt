@@ -2,11 +2,11 @@
 #![tactic(auto)]
 
 mod events;
-mod fields;
+mod record_fields;
 mod stream;
 
 pub use csv::ByteRecord;
 pub use events::event_of;
-pub use fields::RecordFields;
+pub use record_fields::RecordFields;
 pub use sdm_rules::{Authority, Event, EventFault, FieldFault, Restriction};
 pub use stream::Records;

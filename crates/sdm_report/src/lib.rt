@@ -13,6 +13,7 @@ mod row_lines;
 
 pub use outcome::{InputFault, Outcome};
 pub use outcome_lines::outcome_bytes;
+pub use refusal_lines::put_cause;
 pub use row_lines::row_bytes;
 pub use sdm_formats::DriveCause;
 pub use sdm_rules::EventCause;

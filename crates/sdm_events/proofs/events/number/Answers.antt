@@ -5,11 +5,12 @@ use Rattle.sdm_events.specs.Columns.{column_of}
 use Rattle.sdm_text.proofs.Between.{between_fits}
 use Rattle.sdm_events.proofs.Fields.{field_found, field_is}
 use Rattle.sdm_events.proofs.events.number.Goals as goal
+use Rattle.sdm_events.proofs.events.number.Given.{Over}
 
 pub unwrap-field-requires : goal.unwrap-field-requires
 unwrap-field-requires g c = field_found (g.F.RecordFields.fields c.args.fields.now) _ _ c.get.ensures (omega arith)
 
-module _ (g : goal.Row) (c : goal.In-Ok g) where
+module _ (g : Over) (c : goal.In-Ok g) where
   -- the bounds are themselves in 64 bits: the least
   least : to_z w64 (of_z w64 c.from.result) ≡ c.args.least
   least = to_z-of_z w64 c.from.result (search (rules, ints))

@@ -1,14 +1,15 @@
 -- Each number that was read is that of its column, and the types of a reading keep it.
-use Rattle.std.proofs.Common.{◌≡◌, ◌≤◌, ◌≤ℤ◌, ℕ, ℤ, pos, negsuc, drop, ◌∷◌, [], get_or, to_z, of_z, w16, w32, refl}
+use Rattle.std.proofs.Common.{◌≡◌, ◌≤◌, ◌≤ℤ◌, ℕ, ℤ, pos, negsuc, drop, ◌∷◌, [], get_or, to_z, of_z, w16, w32, refl, sym, ◌∙◌}
 use Rattle.std.proofs.Common.{Option, Some, None, unsigned_abs, lit<, arith, rules}
 use Rattle.std.specs.Option.{SomeIff}
-use Rattle.std.proofs.lemmas.Grind.{common_steps}
 use Rattle.std.proofs.lemmas.Int.{ints, to_z-of_z}
 use Rattle.sdm_num.specs.Readings.{IsReading, reading_of}
 use Rattle.sdm_formats.specs.Forms.{read_form}
 use Rattle.sdm_text.proofs.Between.{between_fits}
+use Rattle.sdm_events.proofs.Fields.{seven_columns}
 use Rattle.sdm_events.proofs.events.read_event.Goals as goal
 use Rattle.sdm_events.proofs.events.read_event.Goals.{After-new-reading}
+use Rattle.sdm_events.proofs.events.read_event.Given.{Over}
 
 -- numbers in their ranges are a reading
 is_reading : (time : ℕ) (est min max : ℤ) (speed : ℕ) (accel : ℤ) (under : ℕ) → time ≤ 100_000_000 →
@@ -32,7 +33,7 @@ found : {T : Type 0} (o : Option T) (P : Type 0) (v : T) → SomeIff o P v → P
 found None P v none is = absurd (none is)
 found (Some x) P v some is = let same = some.1 in cc
 
-module _ (c : After-new-reading) where
+module _ (g : Over) (c : After-new-reading g) where
   time : to_z w32 (of_z w32 c.in_ok-time.time) ≡ c.in_ok-time.time
   time = to_z-of_z w32 _ (search (rules, ints))
 
@@ -70,24 +71,25 @@ module _ (c : After-new-reading) where
       c.in_ok-accel.ensures.range.1 (omega (arith, ints, c.in_ok-under.ensures.range)))
 
 pub unwrap-requires : goal.unwrap-requires
-unwrap-requires c = rw (is c) refl
+unwrap-requires g c = rw (is g c) refl
 
 pub returns-clause-value : goal.returns-clause-value
 unfolding read_form
-returns-clause-value c =
-    let before = (goal.at.returns-clause-value c).After-new-reading in
+returns-clause-value g c =
+    let before = (goal.at.returns-clause-value g c).After-new-reading in
     let F = g.F.RecordFields.fields c.args.fields.now in
     let seven : drop 1 F ≡ get_or F 1 [] ∷ get_or F 2 [] ∷ get_or F 3 [] ∷ get_or F 4 [] ∷ get_or F 5 []
-    ∷ get_or F 6 [] ∷ get_or F 7 [] ∷ [] = grind (arith, common_steps) in
+    ∷ get_or F 6 [] ∷ get_or F 7 [] ∷ [] =
+    seven_columns F (sym c.len.ensures ∙ c.if-len-ne8.false) in
     let read : c.unwrap.result ≡ reading_of (unsigned_abs c.in_ok-time.time) c.in_ok-est.est c.in_ok-min.min
     c.in_ok-max.max (unsigned_abs c.in_ok-speed.speed) c.in_ok-accel.accel (unsigned_abs c.in_ok-under.under) =
-    let found = is before in cc in
+    let found = is g before in cc in
     rw (
       seven,
       c.in_ok-time.ensures.value,
       c.in_ok-est.ensures.value,
-      rw (est before) at c.in_ok-min.ensures.value,
-      rw (est before) at c.in_ok-max.ensures.value,
+      rw (est g before) at c.in_ok-min.ensures.value,
+      rw (est g before) at c.in_ok-max.ensures.value,
       c.in_ok-speed.ensures.value,
       c.in_ok-accel.ensures.value,
       c.in_ok-under.ensures.value,

@@ -1,0 +1,54 @@
+-- The fields of one line, with commas between them and quotes as in RFC 4180, as `csv` reads them (own).
+use Rattle.std.specs.Prelude.{ℕ, List, [], ◌∷◌, ◌++◌, ◌==◌, if◌then◌else◌}
+use Rattle.csv.specs.Records.{Row, fields_of, partial_of}
+use Rattle.sdm_live_records.specs.declared.line_fields.Within.{Within}
+use Rattle.sdm_live_records.specs.declared.line_fields.Within.TheVariants.{Start, Plain, Quotes, AfterQuote}
+
+-- the fields so far, the bytes of the field at hand, and where the line stands within it
+pub record Split : Type 0 where
+  pub fields : List (List ℕ)
+  pub field : List ℕ
+  pub within : Within
+
+-- a byte that no quote governs: a comma ends the field
+abbrev pub plain_byte : Split → ℕ → Split
+plain_byte s c =
+    if c == 44 then record { fields = s.fields ++ s.field ∷ []; field = []; within = Start }
+    else record { fields = s.fields; field = s.field ++ c ∷ []; within = Plain }
+
+-- a byte: quotes stand at the start of a field, and two of them within quotes are one
+abbrev pub byte_in : Within → Split → ℕ → Split
+byte_in Start s c =
+    if c == 34 then record { fields = s.fields; field = s.field; within = Quotes } else plain_byte s c
+byte_in Plain s c = plain_byte s c
+byte_in Quotes s c =
+    if c == 34 then record { fields = s.fields; field = s.field; within = AfterQuote }
+    else record { fields = s.fields; field = s.field ++ c ∷ []; within = Quotes }
+byte_in AfterQuote s c =
+    if c == 34 then record { fields = s.fields; field = s.field ++ c ∷ []; within = Quotes } else plain_byte s c
+
+abbrev pub split_byte : Split → ℕ → Split
+split_byte s c = byte_in s.within s c
+
+abbrev pub split_bytes : Split → List ℕ → Split
+split_bytes s [] = s
+split_bytes s (c ∷ cs) = split_bytes (split_byte s c) cs
+
+abbrev pub nothing_split : Split
+nothing_split = record { fields = []; field = []; within = Start }
+
+-- at the end of the line the field at hand ends
+abbrev pub fields_at_end : Split → List (List ℕ)
+fields_at_end s = s.fields ++ s.field ∷ []
+
+-- THE FIELDS of a line
+abbrev pub line_fields : List ℕ → List (List ℕ)
+line_fields line = fields_at_end (split_bytes nothing_split line)
+
+-- ---- in memory
+
+abbrev pub row_from : List ℕ → List ℕ → Row
+row_from bytes ends = record { bytes = bytes; ends = ends }
+
+abbrev pub split_of : Row → Within → Split
+split_of row within = record { fields = fields_of row; field = partial_of row; within = within }
