@@ -7,7 +7,7 @@ from typing import TypeVar
 from .values import Reading
 
 T = TypeVar("T")
-MOST_MARKS = 500  # readings, all of which are drawn
+MOST_MARKS = 200  # readings, all of which are drawn
 LINE, MARK = 1.0, 6.0  # pixels between two points of a line and between two marks of a series, where some are left out
 
 
