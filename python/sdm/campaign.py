@@ -3,8 +3,10 @@
 A journey is a folder with `input`, as in examples/ and vectors/, at any depth. What the program makes of it is written
 beside it: got.rows, got.err, got.code. Started again, it runs those alone that have no got.code yet. At the end it
 tells how the journeys ended, and where they differ from the `rows`, `err` and `code` that lie beside their inputs. It
-ends with 0 where all ran and nothing differs, with 1 where something does, with 2 where it can't run. GNU parallel does
-the work; `parallel --version` must tell that it is installed (scripts/setup installs it).
+ends with 0 where all ran and nothing differs, with 1 where something does, with 2 where it can't run. With --statistics
+it tells how often each command and status came, the least margins and the slowest journeys; --csv writes a line for
+each journey. GNU parallel does the work; `parallel --version` must tell that it is installed (scripts/setup installs
+it).
 """
 
 import argparse
@@ -15,8 +17,9 @@ import tempfile
 import time
 from pathlib import Path
 
-from sdm.laboratory.cases import case_of, difference, text_of
+from sdm.laboratory.cases import Case, case_of, difference, text_of
 from sdm.laboratory.program import Fault, Result, add_program, built
+from sdm.laboratory.statistics import Figures, Statistics, figures_of, microseconds_of, statistics_of
 
 WORKER = Path(__file__).resolve().parent / "laboratory" / "run-journeys"
 A_JOB = 20  # journeys, since to start a job costs more than a journey
@@ -39,12 +42,17 @@ OUTCOMES = dict(
 )  # by the code
 
 
+def journeys_in(folder: Path) -> list[Path]:
+    """The folders of all journeys."""
+    found = sorted(path.parent for path in folder.resolve().rglob("input"))
+    if not found:
+        raise Fault(f"{folder} has no journey in it: a journey is a folder with a file `input`.")
+    return found
+
+
 def journeys(words: argparse.Namespace) -> list[Path]:
     """The folders of all journeys, or of a part of them."""
-    found = sorted(path.parent for path in words.folder.resolve().rglob("input"))
-    if not found:
-        raise Fault(f"{words.folder} has no journey in it: a journey is a folder with a file `input`.")
-    return found[words.part[0] - 1 :: words.part[1]]
+    return journeys_in(words.folder)[words.part[0] - 1 :: words.part[1]]
 
 
 def code_of(folder: Path) -> str:
@@ -87,6 +95,38 @@ def got(folder: Path) -> Result | None:
     return Result(text_of(folder / "got.rows", ""), text_of(folder / "got.err", ""), int(code)) if code else None
 
 
+def differences(case: Case, made: Result) -> list[str]:
+    """Where what the program made of a journey differs from what is due, in lines."""
+    return difference(("due", "made"), case.due, made, case.words) if case.due else []
+
+
+def statistics(folder: Path) -> Statistics:
+    """What a campaign's journeys have in numbers. Raises Fault where the folder has no journey, or one can't be read."""
+    return statistics_of(figures_in(each, folder.resolve()) for each in journeys_in(folder))
+
+
+def figures_in(folder: Path, top: Path) -> Figures:
+    """A journey in numbers."""
+    case, made = case_of(folder, str(folder.relative_to(top))), got(folder)
+    verdict = "not run" if made is None else "nothing due" if case.due is None else "as due"
+    if made is not None and differences(case, made):
+        verdict = "differs"
+    return figures_of(case, verdict, made, microseconds_of(folder))
+
+
+def tell_statistics(words: argparse.Namespace, folders: list[Path]) -> None:
+    """Prints the statistics, or writes them, as the words ask for."""
+    found = statistics_of(figures_in(each, words.folder.resolve()) for each in folders)
+    if words.statistics:
+        print("\n".join(["", *found.lines()]))
+    if words.csv:
+        try:
+            with words.csv.open("w", encoding="utf-8", newline="") as out:
+                found.write(out)
+        except OSError as why:
+            raise Fault(f"{words.csv} can't be written: {why.strerror}.") from None
+
+
 def summary(words: argparse.Namespace, folders: list[Path]) -> bool:
     """Tells how the journeys ended and which differ from what lies beside them; whether all is well."""
     ends: collections.Counter[int] = collections.Counter()
@@ -98,7 +138,7 @@ def summary(words: argparse.Namespace, folders: list[Path]) -> bool:
             continue
         case = case_of(folder, str(folder.relative_to(words.folder.resolve())))
         ends[made.code] += 1
-        lines = difference(("due", "made"), case.due, made, case.words) if case.due else []
+        lines = differences(case, made)
         same, differ = same + bool(case.due and not lines), differ + bool(lines)
         if lines and differ <= words.most:
             print("\n".join([f"{case.name} differs", *lines]))
@@ -144,6 +184,10 @@ def words_of(args: list[str]) -> argparse.Namespace:
     parser.add_argument(
         "--most", metavar="N", type=int, default=20, help="how many differences are shown, 20 where it isn't said"
     )
+    parser.add_argument(
+        "--statistics", action="store_true", help="tells how often each command came, the least margins, the slowest"
+    )
+    parser.add_argument("--csv", metavar="FILE", type=Path, help="writes a line for each journey there, as CSV")
     add_program(parser)
     return parser.parse_args(args)
 
@@ -160,6 +204,8 @@ def main(args: list[str]) -> int:
         if left:
             run(words, left)
         well = summary(words, folders)
+        if words.statistics or words.csv:
+            tell_statistics(words, folders)
     except Fault as why:
         print(f"campaign: {why}", file=sys.stderr)
         return 2

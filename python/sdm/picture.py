@@ -10,6 +10,7 @@ tools/README.md.
 from __future__ import annotations
 
 import argparse
+import hashlib
 import os
 import subprocess
 import sys
@@ -18,13 +19,14 @@ from dataclasses import dataclass, field
 from pathlib import Path
 from typing import TYPE_CHECKING
 
+import sdm
 from sdm.drawing.certificate import check_journey
 from sdm.drawing.drive import drive_journey
 from sdm.drawing.journey import display_journey, flat_journey, run_journey
 from sdm.drawing.places import place_panel
-from sdm.drawing.sheet import BETWEEN, HEIGHT, WIDTH
+from sdm.drawing.sheet import BETWEEN, HEIGHT, WIDTH, Sheet
 from sdm.drawing.strips import height_of, strip_panel
-from sdm.drawing.values import Journey, Span
+from sdm.drawing.values import Journey, Span, Window
 from sdm.laboratory.program import Fault
 from sdm.laboratory.walk import read
 from sdm.model.outcome import Outcome
@@ -37,6 +39,8 @@ if TYPE_CHECKING:
 
 TERMINALS = {".svg": "svg", ".png": "pngcairo fontscale 0.75"}
 ALL = (float("-inf"), float("inf"))
+MOST_NOTES = 8  # rows that the model has otherwise, that are told
+LEAST_PIXELS, MOST_PIXELS = (480, 400), 8_000
 JOURNEYS = {"run": run_journey, "display": display_journey, "check": check_journey}  # of the commands that are one word
 NUMBERED: dict[str, tuple[Callable[..., Journey], tuple[int, int], tuple[int, int], str]] = {
     # of those with two numbers: the journey, the range of each, and how it is told
@@ -53,17 +57,37 @@ def write(path: str, picture: bytes) -> None:
         raise Fault(f"{path} can't be written: {why.strerror}.") from None
 
 
-def script_of(journey: Journey, form: str, places: Span | None = None, speeds: Span | None = None) -> str:
+def sheet_of(journey: Journey, size: tuple[int, int], title: str) -> Sheet:
+    """The sheet of a picture: its notes say of the first rows that the model has otherwise which columns, and how
+    much."""
+    notes = journey.notes[:MOST_NOTES]
+    more = len(journey.notes) - len(notes)
+    return Sheet(*size, title, tuple(notes + [f"and {more} rows more"] * bool(more)))
+
+
+def script_of(
+    journey: Journey,
+    form: str,
+    places: Span | None = None,
+    speeds: Span | None = None,
+    size: tuple[int, int] = (WIDTH, HEIGHT),
+    title: str = "",
+) -> str:
     """The script for gnuplot of a picture of a form, .svg or .png: both panels, one above the other."""
+    sheet, (width, height) = sheet_of(journey, size, title), size
     lines = [
         "set encoding utf8",
-        f"set terminal {TERMINALS[form]} size {WIDTH},{HEIGHT} font 'sans-serif,12' noenhanced background '#FFFFFF'",
+        f"set terminal {TERMINALS[form]} size {width},{height} font 'sans-serif,12' noenhanced background '#FFFFFF'",
         "set multiplot; set tics nomirror; set border lw 0.8",
     ]
-    lines += (
-        place_panel(journey, height_of(journey) + BETWEEN, places, speeds) + strip_panel(journey) + ["unset multiplot"]
-    )
-    return "\n".join(lines) + "\n"
+    lines += place_panel(journey, sheet, height_of(journey, sheet) + BETWEEN, places, speeds)
+    return "\n".join(lines + strip_panel(journey, sheet) + ["unset multiplot"]) + "\n"
+
+
+def title_of(words: list[str], readings: int, **texts: bytes) -> str:
+    """What a picture says of itself: the words, the readings, the version, and the beginnings of SHA-256 sums."""
+    sums = ", ".join(f"{name} {hashlib.sha256(text).hexdigest()[:12]}" for name, text in texts.items())
+    return f"{' '.join(['sdm', *words])}: {readings:,} readings; sdm {sdm.__version__}; SHA-256 of {sums}"
 
 
 def drawn(script: str, title: str) -> bytes:
@@ -77,12 +101,12 @@ def drawn(script: str, title: str) -> bytes:
     return done.stdout.replace(b"<title>Gnuplot</title>", b"<title>" + title.encode() + b"</title>", 1)
 
 
-def journey_of(words: argparse.Namespace) -> Journey:
-    """The journey of the words' files."""
-    source, rows = read(words.input), read(words.rows).decode(errors="replace")
+def journey_of(words: argparse.Namespace, source: bytes, rows: str) -> Journey:
+    """The journey of an input and its rows, for the words."""
+    window = Window(words.times, words.places)
     if len(words.words) == 1:
-        return JOURNEYS[words.words[0]](source, rows, words.times)
-    return NUMBERED[words.words[0]][0](source, rows, *map(int, words.words[1:]), words.times)
+        return JOURNEYS[words.words[0]](source, rows, window)
+    return NUMBERED[words.words[0]][0](source, rows, *map(int, words.words[1:]), window)
 
 
 @dataclass(frozen=True)
@@ -107,17 +131,20 @@ def plot(
     times: tuple[float, float] = ALL,
     places: tuple[float, float] | None = None,
     speeds: tuple[float, float] | None = None,
+    size: tuple[int, int] = (WIDTH, HEIGHT),
+    title: str = "",
 ) -> Picture:
-    """The picture of a journey: times in s, places in m and speeds in km/h draw a part of it. Where no rows are given,
-    the journey is run. Raises sdm.laboratory.program.Fault where the rows are not those of the records, and where
-    gnuplot is missing."""
+    """The picture of a journey: times in s, places in m and speeds in km/h draw a part of it. Its size is in pixels; a
+    title stands above it. Where no rows are given, the journey is run. Raises sdm.laboratory.program.Fault where the
+    rows are not those of the records, and where gnuplot is missing."""
     from .arrays import records_in, text
     from .runs import run
 
     held = records_in(records)
     shown = run(data, held) if rows is None else rows
-    journey = run_journey(input_of(data, held), text(shown), times)
-    return Picture(drawn(script_of(journey, ".svg", places, speeds), f"sdm run: {len(journey.readings)} readings"))
+    journey = run_journey(input_of(data, held), text(shown), Window(times, places))
+    script = script_of(journey, ".svg", places, speeds, size, title)
+    return Picture(drawn(script, f"sdm run: {len(journey.readings)} readings"))
 
 
 def words_of(args: list[str]) -> argparse.Namespace:
@@ -143,6 +170,20 @@ def words_of(args: list[str]) -> argparse.Namespace:
     parser.add_argument(
         "--speeds", nargs=2, type=float, metavar=("FROM", "TO"), help="the speeds that are shown, in km/h"
     )
+    parser.add_argument(
+        "--size",
+        nargs=2,
+        type=int,
+        metavar=("WIDTH", "HEIGHT"),
+        default=(WIDTH, HEIGHT),
+        help=f"the size in pixels, {WIDTH} {HEIGHT} where it isn't said",
+    )
+    parser.add_argument(
+        "--title",
+        metavar="TEXT",
+        help="the text above the picture, '' for none; where it isn't said, the words, the version and the digests of "
+        "INPUT and ROWS",
+    )
     words = parser.parse_args(args)
     words.words = words.words or ["run"]
     if Path(words.out).suffix not in TERMINALS:
@@ -151,6 +192,8 @@ def words_of(args: list[str]) -> argparse.Namespace:
         part = getattr(words, name)
         if part and not part[0] < part[1]:
             parser.error(f"--{name} is {part[0]:g} to {part[1]:g}: the first must be below the second")
+    if any(not least <= size <= MOST_PIXELS for least, size in zip(LEAST_PIXELS, words.size)):
+        parser.error(f"--size is {LEAST_PIXELS[0]} to {MOST_PIXELS} by {LEAST_PIXELS[1]} to {MOST_PIXELS} pixels")
     if len(words.words) > 1 or words.words[0] not in JOURNEYS:
         number_words(words.words, parser)
     return words
@@ -174,10 +217,14 @@ def number_words(words: list[str], parser: argparse.ArgumentParser) -> None:
 def main(args: list[str]) -> int:
     words = words_of(args)
     try:
-        journey = journey_of(words)
-        title = f"{' '.join(['sdm', *words.words])}: {len(journey.readings)} readings"
-        script = script_of(journey, Path(words.out).suffix, words.places, words.speeds)
-        write(words.out, drawn(script, title))
+        source, rows = read(words.input), read(words.rows)
+        journey = journey_of(words, source, rows.decode(errors="replace"))
+        count = len(journey.readings)
+        title = title_of(words.words, count, input=source, rows=rows) if words.title is None else words.title
+        script = script_of(
+            journey, Path(words.out).suffix, words.places, words.speeds, (words.size[0], words.size[1]), title
+        )
+        write(words.out, drawn(script, f"{' '.join(['sdm', *words.words])}: {count} readings"))
         if journey.note:
             print(f"plot: {journey.note}; tools/why tells of a row why it is as the model has it.", file=sys.stderr)
     except Fault as why:

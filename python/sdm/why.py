@@ -232,10 +232,10 @@ def row_answer(supervisor: Supervisor, cycle: Cycle, before: Commands, theirs: s
 def answers(source: bytes, numbers: range, program: Path) -> Iterator[str]:
     """Why some rows are as they are, each with its number where they are several."""
     theirs = ProgramRows(program, source)
-    for number, (supervisor, cycle, before) in zip(numbers, at_rows(source, numbers)):
-        lines = [f"row {number}"] if len(numbers) > 1 else []
-        lines += row_answer(supervisor, cycle, before, theirs.told(number, cycle.row.text().rstrip("\n")))
-        yield "\n".join(lines + [""] * (number < numbers[-1]))
+    for row, (supervisor, cycle, before) in zip(numbers, at_rows(source, numbers)):
+        lines = [f"row {row}"] if len(numbers) > 1 else []
+        lines += row_answer(supervisor, cycle, before, theirs.told(row, cycle.row.text().rstrip("\n")))
+        yield "\n".join(lines + [""] * (row < numbers[-1]))
 
 
 def some_rows(text: str) -> range:

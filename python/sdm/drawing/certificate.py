@@ -13,7 +13,7 @@ from sdm.model.outcome import Outcome
 from sdm.model.units import GRAINS_PER_MM, NOTCHES_PER_KM_H
 
 from .journey import counted
-from .values import End, Held, Journey, Line, Reading, SeriesData, Span
+from .values import End, Held, Journey, Line, Reading, SeriesData, Span, Window
 from .sheet import BLACK, WHITE, Shade
 
 GRAINS_PER_M = 1000 * GRAINS_PER_MM
@@ -29,13 +29,13 @@ SERIES = {
 }
 
 
-def check_journey(source: bytes, text: str, times: Span) -> Journey:
+def check_journey(source: bytes, text: str, window: Window) -> Journey:
     """The claims of a text of certificates as readings, with the answers that were given to them."""
     brake, claims, fault = claims_of(source)
     answers = answers_of(text)
     counted(answers, len(claims), fault)
     readings = [reading_of(brake, *each, answer) for each, answer in zip(claims, answers)]
-    kept = [n for n, reading in enumerate(readings) if times[0] <= reading.time <= times[1]]
+    kept = [n for n, reading in enumerate(readings) if window.has(reading.time)]
     if not kept:
         raise Fault("No claim lies within these times.")
     journey = Journey([readings[n] for n in kept], ends_of(claims[n][0] for n in kept))
@@ -85,7 +85,7 @@ def reading_of(brake: Brake, claim: Claim, marks: list[Mark], answer: re.Match[s
         claim.speed / NOTCHES_PER_KM_H,
         row,
         {},
-        differs="" if due == answer[2] else "1",
+        differs="" if due == answer[2] else "holds",
     )
 
 

@@ -10,12 +10,12 @@ from sdm.model.units import GRAINS_PER_MM, NOTCHES_PER_KM_H
 from sdm.model.words import opened
 
 from .journey import run_journey
-from .values import Journey, Span
+from .values import Journey, Span, Window
 
 GRAINS_PER_M = 1000 * GRAINS_PER_MM
 
 
-def drive_journey(source: bytes, text: str, number: int, cycles: int, times: Span) -> Journey:
+def drive_journey(source: bytes, text: str, number: int, cycles: int, window: Window) -> Journey:
     """The journey of an input of `drive` for its words, and its five lines. Of the limits it has those that this train
     obeys."""
     try:
@@ -27,8 +27,8 @@ def drive_journey(source: bytes, text: str, number: int, cycles: int, times: Spa
     for _ in range(cycles):
         taken.append(drive.step().cycle)
         trains.append((drive.time + STEP_TIME, drive.train))
-    journey = run_journey(source + b"\n%%\n" + records_of(taken), "".join(cycle.row.text() for cycle in taken), times)
-    journey.true = [point_of(train) for time, train in trains if times[0] <= time / 10 <= times[1]]
+    journey = run_journey(source + b"\n%%\n" + records_of(taken), "".join(cycle.row.text() for cycle in taken), window)
+    journey.true = [point_of(train) for time, train in trains if window.has(time / 10)]
     journey.curves = {"EBD": journey.curves["EBD"]}
     for reading in journey.readings:
         reading.limits = {"ebi": reading.limits["ebi"]}

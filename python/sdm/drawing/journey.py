@@ -11,8 +11,9 @@ import re
 from collections.abc import Callable, Iterator, Sequence
 from fractions import Fraction
 
+from sdm.laboratory.events import events_of
 from sdm.laboratory.program import Fault
-from sdm.laboratory.rows import LIMITS, Row, rows_of
+from sdm.laboratory.rows import LIMITS, UNITS, Row, rows_of
 from sdm.laboratory.texts import short
 from sdm.laboratory.walk import Walk, at_speed
 from sdm.model import records
@@ -23,16 +24,21 @@ from sdm.model.display import display_of
 from sdm.model.flat import numbers_of
 from sdm.model.journey import Cycle, Supervisor
 from sdm.model.limits import Situation, Target
+from sdm.model.outcome import Outcome, Refused
 from sdm.model.records import Event
 from sdm.model.speeds import Zone, restriction_zone, static_zones
 from sdm.model.units import GRAINS_PER_CM, GRAINS_PER_MM, NOTCHES_PER_KM_H
+from sdm.model.words import open_run
 
 from . import display
-from .values import T, End, Held, Journey, Line, Reading, Span
+from .overview import braking_curves, near_ends
+from .values import T, End, Held, Journey, Line, Reading, Span, Window
 
-Read = tuple[records.Reading, Cycle]
+Read = tuple[records.Reading, Cycle | None]  # None where the row isn't looked at
 CM_PER_M, GRAINS_PER_M, TENTHS = 100, 1000 * GRAINS_PER_MM, 10  # TENTHS of a per mille, the model's unit of gradients
 FIELDS = dict(zip(LIMITS, "d_EBI d_SBI d_W d_P d_I".split()))  # the model's names
+# What a column is called in a picture, where that is another word.
+NAMES = {"ebi": "EBI", "sbi": "SBI", "warning": "W", "permitted": "P", "indication": "I"}
 FLAT_ROW = re.compile(r"\d+,-?\d+,[01],[01]", re.ASCII)
 
 
@@ -73,10 +79,11 @@ def counted(rows: Sequence[object], readings: int, fault: str) -> None:
 
 
 class Course:
-    """Goes through the records of an input, and keeps what counts at each reading."""
+    """Goes through the records of an input, and keeps what counts at each reading; those of some numbers, counted from
+    1, are worked out."""
 
-    def __init__(self, source: bytes) -> None:
-        self.walk = Walk(source)
+    def __init__(self, source: bytes, judged: range) -> None:
+        self.walk, self.judged = Walk(source, judged), judged
         self.supervisor = self.walk.supervisor
         self.readings: list[Read] = []
         self.authorities = [Held(self.supervisor.authority, 0)]
@@ -87,8 +94,8 @@ class Course:
 
     def take(self, event: Event, cycle: Cycle | None) -> None:
         now = len(self.readings)
-        if cycle is not None:
-            self.readings.append((cycle.situation.reading, cycle))
+        if isinstance(event, records.Reading):
+            self.readings.append((event, cycle))
         elif self.supervisor.authority is not self.authorities[-1].what:
             self.authorities[-1].until = now
             self.authorities.append(Held(self.supervisor.authority, now))
@@ -99,55 +106,98 @@ class Course:
             self.in_force.pop(event.identity).until = now
 
 
-def run_journey(source: bytes, text: str, times: Span) -> Journey:
+def window_of(source: bytes, rows: list[Row], window: Window) -> range:
+    """The numbers of the readings that a window shows, from the first to the last of them."""
+    shown = [n for n, row in enumerate(rows, 1) if window.has(int(row["time"]) / 10)]
+    if not shown and rows:
+        raise Fault("No reading lies within these times.")
+    if window.places and shown:
+        low, high = (1000 * place for place in window.places)
+        near = set()
+        try:
+            walked = (event for event in events_of(open_run(source)[1]) if isinstance(event, records.Reading))
+            near = {n for n, reading in enumerate(walked, 1) if reading.min <= high and reading.max >= low}
+        except Outcome as outcome:
+            raise Fault(f"The input has no rows: {outcome.line}.") from None
+        except Refused:
+            pass  # the journey is drawn up to there
+        shown = [n for n in shown if n in near] or shown
+    return range(shown[0], shown[-1] + 1) if shown else range(1, 2)
+
+
+def run_journey(source: bytes, text: str, window: Window) -> Journey:
     """The journey of an input of `run` and its rows."""
-    course = Course(source)
-    readings = readings_of(course, rows_of(text), lambda cycle: cycle.row.text())
+    rows = rows_of(text)
+    course = Course(source, window_of(source, rows, window))
+    readings = readings_of(course, rows, lambda cycle: cycle.row.text())
     for reading, (_, cycle) in zip(readings, course.readings):
-        reading.limits = {name: int(reading.row[name]) / 1000 for name in LIMITS if reading.row[name] != "-"}
-        reading.counts = counts_of(cycle.situation)
-        if cycle.situation.in_release and isinstance(cycle.situation.authority, Stop):
-            reading.release = cycle.situation.authority.release
-    journey, counting = part_of(course, readings, times)
-    journey.curves = curves_of(course.supervisor, counting, highest(journey.readings))
+        if cycle is not None:
+            reading.limits = {name: int(reading.row[name]) / 1000 for name in LIMITS if reading.row[name] != "-"}
+            reading.counts = counts_of(cycle.situation)
+            if cycle.situation.in_release and isinstance(cycle.situation.authority, Stop):
+                reading.release = cycle.situation.authority.release
+    journey, counting = part_of(course, readings)
+    if journey.is_long:
+        journey.ends = near_ends(journey)
+        journey.curves = braking_curves(course.supervisor, counting, highest(journey.readings))
+    else:
+        journey.curves = curves_of(course.supervisor, counting, highest(journey.readings))
     return journey
 
 
-def display_journey(source: bytes, text: str, times: Span) -> Journey:
+def display_journey(source: bytes, text: str, window: Window) -> Journey:
     """The journey of an input of `display` and its lines."""
-    course = Course(source)
+    rows = display.rows_of(text)
+    course = Course(source, window_of(source, rows, window))
     text_of = lambda cycle: display_of(course.supervisor, cycle.situation).text()
-    readings = readings_of(course, display.rows_of(text), text_of)
+    readings = readings_of(course, rows, text_of)
     for reading in readings:
         reading.shown = display.speeds_of(reading.row)
-    return part_of(course, readings, times)[0]
+    journey, _ = part_of(course, readings)
+    if journey.is_long:
+        journey.ends = near_ends(journey)
+    return journey
 
 
 def readings_of(course: Course, rows: list[Row], text_of: Callable[[Cycle], str]) -> list[Reading]:
-    """The readings of an input with their rows; those are marked whose row isn't the model's text."""
+    """The readings of an input with their rows; of those that are worked out, the columns that the model has
+    otherwise."""
     counted(rows, len(course.readings), course.walk.fault)
     readings = []
     for n, ((event, cycle), row) in enumerate(zip(course.readings, rows), 1):
         readings.append(reading_of(n, event, row))
-        readings[-1].differs = "" if text_of(cycle).rstrip("\n") == ",".join(row.values()) else "1"
+        if cycle is not None and (due := text_of(cycle).rstrip("\n")) != ",".join(row.values()):
+            readings[-1].otherwise = otherwise_of(row, dict(zip(row, due.split(","))))
+            readings[-1].differs = " ".join(NAMES.get(name, name) for name, _ in readings[-1].otherwise)
     return readings
 
 
-def part_of(course: Course, readings: list[Reading], times: Span) -> tuple[Journey, list[Read]]:
-    """The journey, up to a record that is refused, of those readings alone whose times count; and their events and
+def otherwise_of(row: Row, due: Row) -> list[tuple[str, str]]:
+    """The columns that a row has otherwise than the model, and what is told of each."""
+    found = []
+    for name in row:
+        if row[name] != due[name]:
+            text = f"{NAMES.get(name, name)} {row[name]}, the model's {due[name]}"
+            if name in UNITS and "-" not in (row[name], due[name]):
+                more = int(row[name]) - int(due[name])
+                text += f" ({abs(more):,} {UNITS[name]} {'more' if more > 0 else 'less'})"
+            found.append((name, text))
+    return found
+
+
+def part_of(course: Course, readings: list[Reading]) -> tuple[Journey, list[Read]]:
+    """The journey, up to a record that is refused, of those readings alone that are worked out; and their events and
     cycles."""
-    kept = [n for n, reading in enumerate(readings) if times[0] <= reading.time <= times[1]]
-    if not kept:
-        raise Fault("No reading lies within these times.")
-    first, last, differ = kept[0], kept[-1] + 1, [n for n, reading in enumerate(readings, 1) if reading.differs]
-    note = (
-        f"rows that the model has otherwise: {', '.join(map(str, differ[:10]))}{' ...' if differ[10:] else ''}"
-        if differ
-        else ""
-    )
+    first, last = course.judged.start - 1, min(course.judged.stop - 1, len(readings))
+    differ = [(n, reading) for n, reading in enumerate(readings, 1) if reading.otherwise]
+    numbers = ", ".join(str(n) for n, _ in differ[:10])
+    note = f"rows that the model has otherwise: {numbers}{' ...' if differ[10:] else ''}" if differ else ""
     ends = ends_held(seen(course.authorities, len(readings))) + release_starts(course.readings)
     restrictions = within(seen(course.restrictions, len(readings)), first, last)
     journey = Journey(readings[first:last], within(seen(ends, len(readings)), first, last), restrictions, note=note)
+    journey.notes = [
+        f"row {n} at {reading.time:g} s: " + "; ".join(text for _, text in reading.otherwise) for n, reading in differ
+    ]
     return with_track(journey, course.supervisor.data), course.readings[first:last]
 
 
@@ -212,7 +262,7 @@ def release_starts(readings: list[Read]) -> list[Held[End]]:
     """The starts of release speed monitoring, each for as long as it stands."""
     starts: list[Held[End]] = []
     for n, (_, cycle) in enumerate(readings):
-        start = cycle.situation.release_start
+        start = None if cycle is None else cycle.situation.release_start
         end = None if start is None else End("start of R", float(start / GRAINS_PER_M))
         if end and starts and starts[-1].what == end and starts[-1].until == n:
             starts[-1].until = n + 1
@@ -231,7 +281,8 @@ def curves_of(supervisor: Supervisor, readings: list[Read], highest_kmh: float) 
     """
     sets = collections.defaultdict(list)
     for event, cycle in readings:
-        sets[tuple(each.target for each in cycle.situation.targets)].append(event)
+        if cycle is not None:
+            sets[tuple(each.target for each in cycle.situation.targets)].append(event)
     curves: dict[str, list[Line]] = collections.defaultdict(list)
     for targets, events in sets.items():
         (accel, under), _ = collections.Counter((event.accel, event.under) for event in events).most_common(1)[0]
@@ -282,7 +333,7 @@ def places_at(
 # ---- a journey of `flat`
 
 
-def flat_journey(source: bytes, text: str, A: int, END: int, times: Span) -> Journey:
+def flat_journey(source: bytes, text: str, A: int, END: int, window: Window) -> Journey:
     """The journey of an input of `flat` for its words, and its rows."""
     lines: list[list[int]] = []
     given = source.split(b"\n")
@@ -303,7 +354,7 @@ def flat_journey(source: bytes, text: str, A: int, END: int, times: Span) -> Jou
             raise Fault(f"The rows are not those of the input: row {n} has the time {row['time']}, its line {time}.")
         place = front / 1000
         readings.append(Reading(time / 10, place, place, place, speed * 0.0036, row, {"ebi": int(row["ebi"]) / 1000}))
-    readings = [reading for reading in readings if times[0] <= reading.time <= times[1]]
+    readings = [reading for reading in readings if window.has(reading.time)]
     if not readings:
         raise Fault("No reading lies within these times.")
     curve = BrakeCurve(Brake("flat", 100, (), (), ((A * 2 * 10**9,),)), END * GRAINS_PER_CM, 0, exact=True)

@@ -5,28 +5,22 @@ that the upper panel and the strips are read together.
 """
 
 import math
-from collections.abc import Callable, Iterable
-from dataclasses import dataclass, replace
-from typing import Any, Self
+from collections.abc import Iterable
 
-from sdm.model.speeds import Zone, dV_ebi, dV_sbi, dV_warning
+from sdm.model.speeds import dV_ebi, dV_sbi, dV_warning
 from sdm.model.units import NOTCHES_PER_KM_H
 
 from . import certificate, display
 from .journey import CM_PER_M, highest, steps
-from .sheet import ABOVE, BLACK, COMMAND, GREY, HEIGHT, LEFT, LETTER, LEVEL, PALE, RIGHT, SMALL, STATUSES, STRIP, WHITE
-from .sheet import WIDTH, Shade, block, frame, label, rgb, seconds, spot, up
-from .values import Held, Journey, Line, Reading, SeriesData, Span
+from .labels import fields_of, label_lines, placed, wanted_labels
+from .sheet import BLACK, COMMAND, GREY, LEFT, LEVEL, PALE, SMALL, STATUSES, STRIP, WHITE, Shade, Sheet, block, rgb
+from .track import track_rows, track_strip
+from .values import Journey, Line, Reading, SeriesData, Span
+from .view import LINE, MARK, MOST_MARKS, View, changes
 
 # Limits and targets farther from the train than this many m, or than twice the distance that it runs, are left out.
 LEAST_REACH = 5000
 LEAST_WIDTH = 100
-
-# At most so many levels of labels stand above the plot; names that lie nearer than so many pixels share a label.
-LEVELS, NEAR = 5, 12
-
-GRADES = {-1: "#F3C9B1", 0: "#EEEEEE", 1: "#CFE6D2"}  # downhill, level, uphill
-AREAS = {"adhesion": ("reduced", "#A9D3EE"), "special brake": ("not used", "#D8C6E6")}  # row: text, colour
 
 LIMITS = {
     # limit: name, colour, dash, mark
@@ -48,79 +42,47 @@ COMMANDS = ("tco", "sb", "eb")
 MOST_CHANGES = 24  # of commands, that are named
 
 
-def place_panel(journey: Journey, low_edge: int, places: Span | None = None, speeds: Span | None = None) -> list[str]:
+def place_panel(
+    journey: Journey, sheet: Sheet, low_edge: int, places: Span | None = None, speeds: Span | None = None
+) -> list[str]:
     """The panel's part of the script, above a height; for places and speeds of its own where they are given."""
     low, high = places or reach_of(journey)
-    track = track_strip(journey, low, high, low_edge)
+    track = track_strip(journey, sheet, low, high, low_edge)
     low_edge += STRIP * len(track_rows(journey, low, high))
-    labels = placed(wanted_labels(journey, low, high))
-    high_edge = HEIGHT - ABOVE - LEVEL * (1 + max((at.level for at in labels), default=0))
+    labels = placed(wanted_labels(journey, sheet, low, high), sheet.width)
+    high_edge = sheet.top - LEVEL * (1 + max((at.level for at in labels), default=0))
     bottom, top = speeds or (0, highest(journey.readings))
-    data = within_speeds(series_data(journey, low, high), top)
+    view = View(low, high, bottom, top, sheet.right - LEFT, high_edge - low_edge)
+    data = within_speeds(series_data(journey, view), top)
     lines = [line for name in data for line in block(name, data[name])]
-    lines += (
-        frame(low_edge, high_edge)
-        + end_lines(journey)
-        + label_lines(labels, high_edge)
-        + change_lines(journey, (high - low) / (RIGHT - LEFT))
-    )
+    lines += sheet.words() + sheet.frame(low_edge, high_edge) + end_lines(journey)
+    lines += label_lines(labels, sheet, high_edge) + change_lines(journey, (high - low) / view.width)
     lines += [
         f"set xrange [{low:.3f}:{high:.3f}]; set yrange [{bottom:.3f}:{top:.3f}]",
         "set ylabel 'speed (km/h)' offset 0.5,0"
-        + ("; set format x ''" if track else "; set xlabel 'place (m)' offset 0,0.4"),
+        + ("; set format x ''" if track else f"; set xlabel 'place ({'km' if journey.is_long else 'm'})' offset 0,0.4"),
+        *([kilometres(low, high, not track)] if journey.is_long else []),
         f"set grid lc rgb '{PALE}' lt 1 lw 0.6",
-        f"set key at {spot(RIGHT + 10, high_edge - 2)} left top Left reverse samplen 3.2 spacing 1.2 {SMALL}",
+        f"set key at {sheet.spot(sheet.right + 10, high_edge - 2)} left top Left reverse samplen 3.2 spacing 1.2 "
+        + SMALL,
     ]
     series = drawn_series(data, len(journey.readings)) + key_of(data, train_of(journey))
-    return lines + ["plot " + ", ".join(series)] + track
+    return lines + ["plot " + ", ".join(series)] + with_kilometres(track, journey, low, high)
 
 
-# ---- the strip of the track
+def kilometres(low: float, high: float, is_named: bool) -> str:
+    """The marks of the axis of places, at whole kilometres."""
+    step = next(km for km in (1, 2, 5, 10, 20, 50, 100) if (high - low) / 1000 / km <= 14)
+    whole = range(math.ceil(low / 1000 / step) * step, math.floor(high / 1000) + 1, step)
+    return "set xtics (" + ", ".join(f'"{km if is_named else ""}" {1000 * km}' for km in whole) + ")"
 
 
-def track_rows(journey: Journey, low: float, high: float) -> list[str]:
-    """The rows of the strip: what the track tells within these places."""
-    is_within = lambda area: area[0] < high and area[1] > low
-    within = [name for name, areas in areas_of(journey).items() if any(map(is_within, areas))]
-    return ["gradient"] * any(grad for _, _, grad in journey.gradients) + within
-
-
-def areas_of(journey: Journey) -> dict[str, list[Span]]:
-    """The areas of each row, as pairs of m."""
-    return dict(zip(AREAS, (journey.adhesion, journey.no_special)))
-
-
-def track_strip(journey: Journey, low: float, high: float, edge: int) -> list[str]:
-    """The strip's part of the script, over the same places: gradients in per mille, areas of reduced adhesion, those
-    without the special brake."""
-    rows = track_rows(journey, low, high)
-    if not rows:
-        return []
-    boxes, letters, scale = [], [], (RIGHT - LEFT) / (high - low)
-    grades = [(start, end, grad, GRADES[(grad > 0) - (grad < 0)]) for start, end, grad in journey.gradients]
-    parts = [("gradient", start, end, f"{grad:g}", colour) for start, end, grad, colour in grades]
-    parts += [(name, start, end, *AREAS[name]) for name, areas in areas_of(journey).items() for start, end in areas]
-    for row, start, end, text, shade in parts:
-        start, end = max(start, low), min(end, high)
-        if row in rows and start < end:
-            y = len(rows) - rows.index(row) - 0.5
-            boxes.append(f"{start:.3f} {y} {start:.3f} {end:.3f} {y - 0.42:.2f} {y + 0.42:.2f} {rgb(shade)}")
-            if (end - start) * scale > LETTER * len(text) + 4:
-                letters.append(f'{(start + end) / 2:.3f} {y} "{text}"')
-    names = ", ".join(
-        f'"{"gradient (‰)" if row == "gradient" else row}" {len(rows) - k - 0.5}' for k, row in enumerate(rows)
-    )
-    lines = block("track", boxes) + (block("tracktext", letters) if letters else [])
-    lines += [
-        "unset arrow; unset label; unset key; unset ylabel; unset grid; set format x; "
-        "set xlabel 'place (m)' offset 0,0.4"
-    ]
-    lines += frame(edge, edge + STRIP * len(rows)) + [
-        f"set yrange [0:{len(rows)}]; set ytics scale 0 {SMALL} ({names})"
-    ]
-    series = ["$track using 1:2:3:4:5:6:7 with boxxyerror fs solid noborder lc rgb variable notitle"]
-    series += [f"$tracktext using 1:2:3 with labels font ',10' tc rgb '{BLACK}' notitle"] if letters else []
-    return lines + ["plot " + ", ".join(series)]
+def with_kilometres(track: list[str], journey: Journey, low: float, high: float) -> list[str]:
+    """The strip of the track, which has the axis of places where it is there."""
+    if not (track and journey.is_long):
+        return track
+    lines = [line.replace("place (m)", "place (km)") for line in track]
+    return [*lines[:-1], kilometres(low, high, True), lines[-1]]
 
 
 # ---- the places that are shown
@@ -139,106 +101,7 @@ def reach_of(journey: Journey) -> Span:
     return min(near) - margin, max(near) + margin
 
 
-# ---- the labels above the plot
-
-
-@dataclass
-class Label:
-    """A name above the plot, with a hair line down to its place in m. `line`, `start` and `end` are pixels."""
-
-    name: str
-    when: str
-    until: int
-    place: float
-    line: float
-    start: float = 0
-    level: int = 0
-
-    @property
-    def words(self) -> str:
-        """The whole text."""
-        return self.name + self.when
-
-    @property
-    def width(self) -> float:
-        """How wide the text is at most."""
-        return LETTER * len(self.words)
-
-    @property
-    def end(self) -> float:
-        """Where the text ends."""
-        return self.start + self.width
-
-    def free_of(self, other: Self) -> bool:
-        """Whether neither of the two touches the other's text, with its own text or its hair line."""
-        if self.level == other.level:
-            return self.end + 8 <= other.start or other.end + 8 <= self.start
-        lower, upper = (self, other) if self.level < other.level else (other, self)
-        return not lower.start - 3 < upper.line < lower.end + 3
-
-
-def period(held: Held[Any], readings: list[Reading]) -> str:
-    """When something counts, where that is not the whole journey."""
-    since = seconds(readings[held.since].time) if held.since else ""
-    if held.until == len(readings):
-        return f" from {since} s" if since else ""
-    return f" {since} to {seconds(readings[held.until].time)} s".replace("  ", " ")
-
-
-def wanted_labels(journey: Journey, low: float, high: float) -> list[Label]:
-    """The labels of what ends an authority and of restrictions that come or go, the last ones in force first."""
-    scale = (RIGHT - LEFT) / (high - low)
-    labels: list[Label] = []
-
-    def label_of(name: str, held: Held[Any], place: float) -> Label:
-        return Label(name, period(held, journey.readings), held.until, place, LEFT + (place - low) * scale)
-
-    for held in sorted(journey.ends, key=lambda end: (-end.until, end.what.place)):
-        wanted, last = label_of(held.what.name, held, held.what.place), labels[-1] if labels else None
-        if last and last.when == wanted.when and wanted.line - last.line < NEAR:
-            last.name += ", " + wanted.name
-        else:
-            labels.append(wanted)
-    for zone in journey.restrictions:
-        fields = fields_of(zone.what, journey.profile, low, high)
-        if fields and period(zone, journey.readings):
-            labels.append(label_of(f"{zone.what.speed} km/h", zone, (fields[0][0] + fields[-1][1]) / 2))
-    return sorted((at for at in labels if low <= at.place <= high), key=lambda at: (-at.until, -at.place))
-
-
-def placed(labels: list[Label]) -> list[Label]:
-    """The labels that find room: on few levels, or where this gives room to more of them, as stairs that rise to the
-    left."""
-    low_first = placed_by(labels, lambda level, side: (level, side))
-    stairs = placed_by(sorted(labels, key=lambda at: -at.line), lambda level, side: (side, level))
-    return max(low_first, stairs, key=len)
-
-
-def placed_by(labels: list[Label], order: Callable[[int, int], tuple[int, int]]) -> list[Label]:
-    """The labels, each at the first place in an order where it touches none before it; side 0 is right of the hair
-    line."""
-    spots = sorted(((level, side) for level in range(LEVELS) for side in (0, 1)), key=lambda spot: order(*spot))
-    done: list[Label] = []
-    for wanted in labels:
-        starts = (wanted.line + 4, wanted.line - wanted.width - 4)
-        for level, side in spots:
-            at = replace(wanted, level=level, start=starts[side])
-            if 4 <= at.start and at.end <= WIDTH - 4 and all(at.free_of(other) for other in done):
-                done.append(at)
-                break
-    return done
-
-
-def label_lines(labels: list[Label], edge: int) -> list[str]:
-    """The labels, each with its hair line."""
-    lines = []
-    for at in labels:
-        y = edge + 10 + LEVEL * at.level
-        x = f"{at.place:.3f}"
-        lines.append(f"set arrow from {x},graph 1 to {x},screen {up(y + 5)} nohead lw 0.6 lc rgb '{BLACK}'")
-        right = at.start > at.line
-        lines.append(label(at.words, at.start if right else at.end, y, ("left " if right else "right ") + SMALL))
-    return lines
+# ---- upright lines
 
 
 def end_lines(journey: Journey) -> list[str]:
@@ -285,28 +148,38 @@ def change_lines(journey: Journey, scale: float) -> list[str]:
 # ---- the data of the series
 
 
-def series_data(journey: Journey, low: float, high: float) -> SeriesData:
+def series_data(journey: Journey, view: View) -> SeriesData:
     """The data of each series that the panel has, by name."""
     readings, differ = journey.readings, any(r.front < r.most for r in journey.readings)
+    is_thinned = len(readings) > MOST_MARKS
+    at = lambda r: (r.front, r.speed)
+    line = view.thinned(readings, at, LINE, colour_of) if is_thinned else readings
+    marks = view.thinned(readings, at, MARK, colour_of) if is_thinned else readings
+    held = [r for r in readings if "ceiling" in r.row]
+    held = changes(held, "ceiling") if is_thinned else held
     data = {
-        "restrictions": restriction_lines(journey, low, high),
-        "ceiling": [f"{r.front:.3f} {r.row['ceiling']}" for r in readings if "ceiling" in r.row],
+        "restrictions": restriction_lines(journey, view.low, view.high),
+        "ceiling": [f"{r.front:.3f} {r.row['ceiling']}" for r in held],
         "release": broken_lines((r.front, r.release) for r in readings),
-        "profile": profile_lines(journey, low, high),
-        "train": [f"{r.front:.3f} {r.speed:.4f} {rgb(colour_of(r))}" for r in readings],
-        "most": [f"{r.most:.3f} {r.speed:.4f}" for r in readings if not journey.true and differ],
-        "bars": [f"{r.least:.3f} {r.speed:.4f} {r.most - r.least:.3f}" for r in readings if r.least < r.most],
+        "profile": profile_lines(journey, view.low, view.high),
+        "trace": [f"{r.front:.3f} {r.speed:.4f}" for r in line],
+        "train": [f"{r.front:.3f} {r.speed:.4f} {rgb(colour_of(r))}" for r in marks],
     }
+    if not journey.is_long:
+        data["most"] = [f"{r.most:.3f} {r.speed:.4f}" for r in line if not journey.true and differ]
+        data["bars"] = [f"{r.least:.3f} {r.speed:.4f} {r.most - r.least:.3f}" for r in marks if r.least < r.most]
     data["true"] = [f"{place:.3f} {kmh:.4f}" for place, kmh in journey.true]
-    data |= display.series_data(readings) | certificate.series_data(journey)
-    for limit, margin in MARGINS.items():
-        over = [(r.front, int(r.row["ceiling"])) for r in readings if "ceiling" in r.row]
+    data |= display.series_data(line) | certificate.series_data(journey)
+    for limit, margin in ({} if journey.is_long else MARGINS).items():
+        over = [(r.front, int(r.row["ceiling"])) for r in held]
         data["over_" + limit] = [f"{front:.3f} {M + margin(M) / NOTCHES_PER_KM_H:.4f}" for front, M in over]
     for name in (*CURVES, *LIMITS):
-        data["curve_" + name] = curve_lines(journey.curves.get(name, []), low, high)
-    for limit in LIMITS:
+        data["curve_" + name] = curve_lines(journey.curves.get(name, []), view.low, view.high)
+    for limit in () if journey.is_long else LIMITS:
         points = [(r.limits.get(limit, math.inf), r.speed) for r in readings]
-        data[limit] = [f"{x:.3f} {y:.4f}" for x, y in points if low <= x <= high]
+        points = [point for point in points if view.low <= point[0] <= view.high]
+        points = view.thinned(points, lambda point: point, MARK) if is_thinned else points
+        data[limit] = [f"{x:.3f} {y:.4f}" for x, y in points]
     return {name: lines for name, lines in data.items() if lines}
 
 
@@ -342,18 +215,6 @@ def profile_lines(journey: Journey, low: float, high: float) -> list[str]:
     """The static speed profile, to be drawn in steps."""
     pairs = [(max(cm / CM_PER_M, low), kmh) for cm, kmh in steps(journey.profile) if cm / CM_PER_M < high]
     return [f"{x:.3f} {kmh}" for x, kmh in pairs + [(high, kmh) for _, kmh in pairs[-1:]]]
-
-
-def fields_of(zone: Zone, profile: list[Zone], low: float, high: float) -> list[tuple[float, float, int, int]]:
-    """The rectangles between the speed of a restriction and the static speed profile above it: from, to in m, km/h,
-    km/h."""
-    fields, pairs = [], steps(profile)
-    for (cm, kmh), (next_cm, _) in zip(pairs, pairs[1:] + [(math.inf, 0)]):
-        start = max(max(cm, zone.start) / CM_PER_M, low)
-        end = min(min(next_cm, zone.end) / CM_PER_M, high)
-        if start < end and zone.speed < kmh:
-            fields.append((start, end, zone.speed, kmh))
-    return fields
 
 
 def restriction_lines(journey: Journey, low: float, high: float) -> list[str]:
@@ -412,7 +273,7 @@ def drawn_series(data: SeriesData, count: int) -> list[str]:
         *((limit, "1:2", mark_style(limit, count)) for limit in LIMITS),
         ("most", "1:2", f"lines lw 0.9 lc rgb '{GREY}' dt (4,3)"),
         ("bars", "1:2:3:(0)", f"vectors nohead lw 1 lc rgb '{GREY}'"),
-        *([] if "marks" in data else [("train", "1:2", f"lines lw 1.4 lc rgb '{BLACK}'")]),  # claims are no journey
+        *([] if "marks" in data else [("trace", "1:2", f"lines lw 1.4 lc rgb '{BLACK}'")]),  # claims are no journey
         ("true", "1:2", TRUE),
         ("train", "1:2", f"points pt 6 ps {1.4 * marks:.2f} lc rgb '{BLACK}'"),
         ("train", "1:2:3", f"points pt 7 ps {1.2 * marks:.2f} lc rgb variable"),

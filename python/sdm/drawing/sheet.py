@@ -3,10 +3,10 @@
 from dataclasses import dataclass
 
 # In pixels, from the lower left corner: the sides of both panels, the foot of the lower one, the height of a strip, the
-# room between the panels and above them.
+# room between the panels and above them; the heights of a title and of a note below the panels.
 WIDTH, HEIGHT = 900, 660
-LEFT, RIGHT = 116, 720
-FOOT, STRIP, BETWEEN, ABOVE = 62, 18, 58, 14
+LEFT, BESIDE = 116, 180
+FOOT, STRIP, BETWEEN, ABOVE, TITLE, NOTE = 62, 18, 58, 14, 18, 14
 
 # So wide is a letter of the small font on average, so high a level of labels.
 LETTER, LEVEL = 5.8, 15
@@ -52,34 +52,70 @@ def seconds(time: float) -> str:
     return f"{time:.1f}".removesuffix(".0")
 
 
-def across(x: float) -> str:
-    """A pixel as a part of the picture's width."""
-    return f"{x / WIDTH:.5f}"
-
-
-def up(y: float) -> str:
-    """A pixel as a part of the picture's height."""
-    return f"{y / HEIGHT:.5f}"
-
-
-def spot(x: float, y: float) -> str:
-    """A pixel as gnuplot's place on the sheet."""
-    return f"screen {across(x)},{up(y)}"
-
-
 def block(name: str, lines: list[str]) -> list[str]:
     """Data of a script, under a name; an empty line breaks a series."""
     return [f"${name} << END", *lines, "END"]
 
 
-def label(words: str, x: float, y: float, rest: str) -> str:
-    """A text that stands by itself, at a pixel."""
-    return f'set label "{words}" at {spot(x, y)} {rest}'
+def quoted(text: str) -> str:
+    """A text as gnuplot reads it."""
+    shown = "".join(each if each.isprintable() else " " for each in text)
+    return '"' + shown.replace("\\", "\\\\").replace('"', '\\"') + '"'
 
 
-def frame(low: int, high: int) -> list[str]:
-    """The room of a panel between two heights."""
-    return [
-        f"set lmargin at screen {across(LEFT)}; set rmargin at screen {across(RIGHT)}",
-        f"set bmargin at screen {up(low)}; set tmargin at screen {up(high)}",
-    ]
+@dataclass(frozen=True)
+class Sheet:
+    """What a picture is drawn on: its size in pixels, a title above the panels, and notes below them."""
+
+    width: int = WIDTH
+    height: int = HEIGHT
+    title: str = ""
+    notes: tuple[str, ...] = ()
+
+    @property
+    def right(self) -> int:
+        """The right side of both panels."""
+        return self.width - BESIDE
+
+    @property
+    def foot(self) -> int:
+        """The foot of the lower panel."""
+        return FOOT + NOTE * len(self.notes)
+
+    @property
+    def top(self) -> int:
+        """Where the upper panel ends with its labels."""
+        return self.height - ABOVE - TITLE * bool(self.title)
+
+    def across(self, x: float) -> str:
+        """A pixel as a part of the picture's width."""
+        return f"{x / self.width:.5f}"
+
+    def up(self, y: float) -> str:
+        """A pixel as a part of the picture's height."""
+        return f"{y / self.height:.5f}"
+
+    def spot(self, x: float, y: float) -> str:
+        """A pixel as gnuplot's place on the sheet."""
+        return f"screen {self.across(x)},{self.up(y)}"
+
+    def label(self, words: str, x: float, y: float, rest: str) -> str:
+        """A text that stands by itself, at a pixel."""
+        return f'set label "{words}" at {self.spot(x, y)} {rest}'
+
+    def frame(self, low: int, high: int) -> list[str]:
+        """The room of a panel between two heights."""
+        return [
+            f"set lmargin at screen {self.across(LEFT)}; set rmargin at screen {self.across(self.right)}",
+            f"set bmargin at screen {self.up(low)}; set tmargin at screen {self.up(high)}",
+        ]
+
+    def words(self) -> list[str]:
+        """The title and the notes."""
+        lines = []
+        if self.title:
+            lines.append(f"set label {quoted(self.title)} at {self.spot(12, self.height - 14)} left {SMALL}")
+        for k, note in enumerate(reversed(self.notes)):
+            place = self.spot(12, 10 + NOTE * k)
+            lines.append(f"set label {quoted(note)} at {place} left {SMALL} tc rgb '#CC0000'")
+        return lines

@@ -6,8 +6,8 @@ their axis tell both.
 
 from . import certificate, display
 from .values import Journey, Reading
-from .sheet import BLACK, COMMAND, COVERED, FOOT, GREY, LEFT, RIGHT, SMALL, STATES, STATUSES, STRIP, TARGETS, WHITE
-from .sheet import Shade, block, frame, label, rgb, seconds, spot
+from .sheet import BLACK, COMMAND, COVERED, GREY, LEFT, SMALL, STATES, STATUSES, STRIP, TARGETS, WHITE
+from .sheet import Shade, Sheet, block, rgb, seconds
 
 STRIPS: dict[str, tuple[str, dict[str, Shade] | None]] = {
     # column of the row: name, how its values are shown
@@ -21,7 +21,7 @@ STRIPS: dict[str, tuple[str, dict[str, Shade] | None]] = {
     "counts": ("target of P", None),
     "target": ("shown target", None),
     "holds": ("holds", certificate.ANSWERS),
-    "differs": ("not the model's", {"1": Shade("#CC0000")}),
+    "differs": ("not the model's", None),
 }
 
 # What stands beside the strips of a column: letters with their shades.
@@ -32,9 +32,9 @@ KEYS = {"status": list((STATES | STATUSES).items()), "zone": [("", shade) for sh
 APART, ROOM, LEAST_STEP = 50, 12, 13
 
 
-def height_of(journey: Journey) -> int:
+def height_of(journey: Journey, sheet: Sheet) -> int:
     """The upper edge of the panel in pixels."""
-    return FOOT + STRIP * len(columns_of(journey))
+    return sheet.foot + STRIP * len(columns_of(journey))
 
 
 def columns_of(journey: Journey) -> list[str]:
@@ -55,27 +55,30 @@ def shade_of(column: str, value: str) -> Shade | None:
     """How a value is shown; nothing where it isn't."""
     if column in ("counts", "target"):
         return Shade(TARGETS.get(value.split(" ")[0], WHITE), BLACK, value) if value else None
+    if column == "differs":
+        return Shade("#CC0000", WHITE, value) if value else None
     if column == "covered" and value == "R":
         return Shade("#EEEEEE", BLACK, "none is promised")
     return (STRIPS[column][1] or {}).get(value)
 
 
-def strip_panel(journey: Journey) -> list[str]:
+def strip_panel(journey: Journey, sheet: Sheet) -> list[str]:
     """The panel's part of the script."""
-    readings, columns, edge = journey.readings, columns_of(journey), height_of(journey)
-    end = end_of(readings)
-    boxes, letters = strip_lines(readings, columns, end)
+    readings, columns, edge = journey.readings, columns_of(journey), height_of(journey, sheet)
+    end, unit = end_of(readings), "km" if journey.is_long else "m"
+    boxes, letters = strip_lines(readings, columns, end, sheet.right - LEFT)
+    tics = tics_of(journey, end, sheet.right - LEFT)
     names = ", ".join(f'"{STRIPS[column][0]}" {len(columns) - k - 0.5}' for k, column in enumerate(columns))
     lines = [
         "unset arrow; unset label; unset grid; unset xlabel; unset ylabel; unset key; set format x",
-        *frame(FOOT, edge),
+        *sheet.frame(sheet.foot, edge),
     ]
-    lines += [line for column, shades in KEYS.items() if column in columns for line in key_of(edge, shades)]
+    lines += [line for column, shades in KEYS.items() if column in columns for line in key_of(sheet, edge, shades)]
     lines += block("boxes", boxes) + block("letters", letters)
     lines += [
         f"set xrange [{readings[0].time:.1f}:{end:.3f}]; set yrange [0:{len(columns)}]",
-        f"set ytics scale 0 {SMALL} ({names}); set xtics out scale 0.5 {SMALL} ({tics_of(readings, end)})",
-        label("time (s)\\nfront end (m)", LEFT - 32, FOOT - 20, "right " + SMALL),
+        f"set ytics scale 0 {SMALL} ({names}); set xtics out scale 0.5 {SMALL} ({tics})",
+        sheet.label(f"time (s)\\nfront end ({unit})", LEFT - 32, sheet.foot - 20, "right " + SMALL),
     ]
     series = ["$boxes using 1:2:3:4:5:6:7 with boxxyerror fs solid noborder lc rgb variable notitle"] if boxes else []
     series += ["$letters using 1:2:3:4 with labels font ',10' tc rgb variable notitle"] if letters else []
@@ -102,10 +105,10 @@ def runs_of(readings: list[Reading], column: str, end: float) -> list[tuple[floa
     return [(since, until, value) for (since, value), until in zip(runs, ends)]
 
 
-def strip_lines(readings: list[Reading], columns: list[str], end: float) -> tuple[list[str], list[str]]:
+def strip_lines(readings: list[Reading], columns: list[str], end: float, width: int) -> tuple[list[str], list[str]]:
     """The rectangles of the strips, and the letters that have room in them."""
     boxes, letters = [], []
-    scale = (RIGHT - LEFT) / (end - readings[0].time)
+    scale = width / (end - readings[0].time)
     for k, column in enumerate(columns):
         y = len(columns) - k - 0.5
         for since, until, value in runs_of(readings, column, end):
@@ -119,15 +122,17 @@ def strip_lines(readings: list[Reading], columns: list[str], end: float) -> tupl
     return boxes, letters
 
 
-def tics_of(readings: list[Reading], end: float) -> str:
+def tics_of(journey: Journey, end: float, width: int) -> str:
     """Labels of the time axis at readings: the time, and below it the place of the front end."""
-    apart = APART * (end - readings[0].time) / (RIGHT - LEFT)
+    readings = journey.readings
+    apart = APART * (end - readings[0].time) / width
     step = round_step(readings, apart)
     shown = readings[:1]
     for reading in readings:
         if reading.time - shown[-1].time >= apart and tenths(reading) // step > tenths(shown[-1]) // step:
             shown.append(reading)
-    return ", ".join(f'"{seconds(r.time)}\\n{r.front:.0f}" {r.time:.1f}' for r in shown)
+    places = [f"{r.front / 1000:.1f}" if journey.is_long else f"{r.front:.0f}" for r in shown]
+    return ", ".join(f'"{seconds(r.time)}\\n{place}" {r.time:.1f}' for r, place in zip(shown, places))
 
 
 def tenths(reading: Reading) -> int:
@@ -148,12 +153,14 @@ def round_step(readings: list[Reading], apart: float) -> int:
     return best
 
 
-def key_of(edge: int, shades: list[tuple[str, Shade]]) -> list[str]:
+def key_of(sheet: Sheet, edge: int, shades: list[tuple[str, Shade]]) -> list[str]:
     """What the letters of the strips, and the colours of the train's marks, are."""
     lines = []
     for k, (letter, shade) in enumerate(shades, 1):
-        y = edge + 2 - k * max((edge - FOOT) / len(shades), LEAST_STEP)
-        box = f"from {spot(RIGHT + 14, y)} to {spot(RIGHT + 28, y + 10)}"
+        y = edge + 2 - k * max((edge - sheet.foot) / len(shades), LEAST_STEP)
+        box = f"from {sheet.spot(sheet.right + 14, y)} to {sheet.spot(sheet.right + 28, y + 10)}"
         lines.append(f"set object rectangle {box} fs solid border lc rgb '{GREY}' fc rgb '{shade.colour}'")
-        lines.append(label(f"{letter}  {shade.name}".strip(), RIGHT + 34, y + 5, f"left {SMALL} tc rgb '{BLACK}'"))
+        lines.append(
+            sheet.label(f"{letter}  {shade.name}".strip(), sheet.right + 34, y + 5, f"left {SMALL} tc rgb '{BLACK}'")
+        )
     return lines

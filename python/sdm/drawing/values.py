@@ -1,4 +1,5 @@
 """What a picture shows, as values."""
+import math
 import sys
 from dataclasses import dataclass, field
 from typing import Generic, TypeVar
@@ -10,12 +11,26 @@ T = TypeVar("T")
 Span = tuple[float, float]  # from, to
 Line = list[tuple[float, float]]  # of m and km/h
 SeriesData = dict[str, list[str]]
+LONG_WAY = 20_000  # m; of a longer way the picture is an overview
+
+
+@dataclass(frozen=True)
+class Window:
+    """The part of a journey that is drawn: the readings between two times in s, and of these those between two places
+    in m where there are any."""
+
+    times: Span = (-math.inf, math.inf)
+    places: Span | None = None
+
+    def has(self, time: float) -> bool:
+        """Whether a time lies in it."""
+        return self.times[0] <= time <= self.times[1]
 
 
 @dataclass
 class Reading:
-    """A reading with its row, the target that its permitted limit is of, and whether the model has another row
-    ("1")."""
+    """A reading with its row, the target that its permitted limit is of, and the columns that the model has
+    otherwise."""
 
     time: float  # s
     front: float  # m, the estimated front end
@@ -28,6 +43,7 @@ class Reading:
     release: int | None = None  # km/h, in release speed monitoring
     counts: str = ""
     differs: str = ""
+    otherwise: list[tuple[str, str]] = field(default_factory=list)  # the same, with what is told of each
 
 
 @dataclass
@@ -62,4 +78,10 @@ class Journey:
     curves: dict[str, list[Line]] = field(default_factory=dict)
     true: Line = field(default_factory=list)  # the train itself, of `drive`
     certificates: dict[str, list[Line]] = field(default_factory=dict)  # of `check`, by the name of their series
-    note: str = ""
+    note: str = ""  # what is told of rows that the model has otherwise
+    notes: list[str] = field(default_factory=list)  # the same of each row, in words
+
+    @property
+    def is_long(self) -> bool:
+        """Whether the picture is an overview, by kilometres."""
+        return max(r.front for r in self.readings) - min(r.front for r in self.readings) > LONG_WAY

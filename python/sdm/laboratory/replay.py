@@ -1,10 +1,10 @@
 """Readings whose rows aren't asked for, at a hundredth of what a row costs.
 
-Such a reading counts for the later ones by what it leaves: commands, status and time. It is quiet where V_est is at most
-the ceiling, where no front end is past the P of a slower target, and where the min safe front end isn't past the EOA.
-Then none of over, warn, serv and emer holds, since W, SBI and EBI lie behind P. So the commands follow without a limit of
-its own. That a front end isn't past P is known from a higher speed, acceleration and under-reading amount, at which P
-lies no later: those that are the same for many readings, so that their P is worked out once.
+Such a reading counts for the later ones by what it leaves: commands, status and time. It is quiet where V_est is at
+most the ceiling, where no front end is past the P of a slower target, and where the min safe front end isn't past the
+EOA. Then none of over, warn, serv and emer holds, since W, SBI and EBI lie no nearer than P. So the commands follow
+without a limit of its own. That a front end isn't past P is known from a higher speed, acceleration and under-reading
+amount, at which P lies no later: those that are the same for many readings, so that their P is worked out once.
 """
 from bisect import bisect_right
 

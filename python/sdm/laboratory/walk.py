@@ -39,8 +39,8 @@ ALL = range(1, sys.maxsize)
 class Walk:
     """The records of an input that are accepted, one after the other; `fault` tells the end once they are through.
 
-    Of the readings, counted from 1, those of `judged` are worked out. Those before it are replayed: they leave what they
-    would leave. Of those behind it the form and the time alone are looked at."""
+    Of the readings, counted from 1, those of `judged` are worked out. Those before it are replayed: they leave what
+    they would leave. Of those behind it the form and the time alone are looked at."""
 
     def __init__(self, data: bytes, judged: range = ALL) -> None:
         self.fault, self.judged, self.readings = "", judged, 0

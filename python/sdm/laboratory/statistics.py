@@ -1,0 +1,169 @@
+"""What the journeys of a campaign have in numbers: how often each command and status, the least margins, the slowest.
+
+Of a journey of `run` the rows are counted, with the readings of its input; of other words the end and the time alone.
+"""
+
+import csv
+from collections import Counter
+from collections.abc import Iterable, Iterator, Sequence
+from dataclasses import dataclass, field
+from pathlib import Path
+from typing import TextIO
+
+from sdm.model.data import split
+from sdm.model.outcome import Outcome, Refused
+from sdm.model.records import Reading
+
+from .cases import Case, text_of
+from .events import events_of
+from .program import Fault, Result
+from .rows import Row, rows_of
+
+COMMANDS = {"tco": "traction cut-off", "sb": "service brake", "eb": "emergency brake"}
+STATUSES = {"N": "normal", "I": "indication", "O": "overspeed", "W": "warning", "X": "intervention"}
+MARGINS = {"ebi": "EBI", "permitted": "P"}  # the limits to which a way is told, by their columns
+SLOWEST = 3
+
+
+@dataclass(frozen=True)
+class Margin:
+    """The least way from the max safe front end to a limit of its row, in mm; below 0 where it is past the limit."""
+
+    mm: int
+    row: int  # counted from 1
+
+
+@dataclass
+class Figures:
+    """A journey in numbers. `code` is None where it wasn't run, `microseconds` where no time was taken."""
+
+    name: str
+    words: str
+    verdict: str  # as due, differs, nothing due, not run
+    code: int | None = None
+    microseconds: int | None = None
+    readings: int = 0
+    covered: int = 0  # readings, as the next ones
+    commanded: Counter[str] = field(default_factory=Counter)  # by the column of the command
+    statuses: Counter[str] = field(default_factory=Counter)
+    set: Counter[str] = field(default_factory=Counter)  # how often a command came, by its column
+    margins: dict[str, Margin] = field(default_factory=dict)  # by the column of the limit
+    fastest_mm_s: int = 0
+    way_mm: int = 0  # from the first estimated front end to the last one
+
+    def cells(self) -> dict[str, object]:
+        """The line of the summary, by its columns."""
+        line: dict[str, object] = {"journey": self.name, "words": self.words, "verdict": self.verdict}
+        line |= {"code": self.code, "time_us": self.microseconds, "readings": self.readings, "covered": self.covered}
+        line |= {f"status_{status}": self.statuses[status] for status in STATUSES}
+        for name in COMMANDS:
+            line |= {f"{name}_readings": self.commanded[name], f"{name}_times": self.set[name]}
+        for name in MARGINS:
+            margin = self.margins.get(name)
+            line |= {f"least_to_{name}_mm": margin and margin.mm, f"least_to_{name}_row": margin and margin.row}
+        return line | {"fastest_mm_s": self.fastest_mm_s, "way_mm": self.way_mm}
+
+
+@dataclass(frozen=True)
+class Statistics:
+    """All journeys of a campaign in numbers, by their paths."""
+
+    journeys: Sequence[Figures]
+
+    @property
+    def readings(self) -> int:
+        """The readings of all journeys."""
+        return sum(each.readings for each in self.journeys)
+
+    def commanded(self, name: str) -> tuple[int, int, int]:
+        """How often a command is given: the readings, the times that it came, and the journeys."""
+        with_it = [each for each in self.journeys if each.commanded[name]]
+        return sum(each.commanded[name] for each in with_it), sum(each.set[name] for each in with_it), len(with_it)
+
+    def least(self, name: str) -> Figures | None:
+        """The journey with the least margin to a limit."""
+        near = [each for each in self.journeys if name in each.margins]
+        return min(near, key=lambda each: each.margins[name].mm) if near else None
+
+    def slowest(self, count: int = SLOWEST) -> list[Figures]:
+        """The journeys that took longest."""
+        timed = [each for each in self.journeys if each.microseconds is not None]
+        return sorted(timed, key=lambda each: -(each.microseconds or 0))[:count]
+
+    def lines(self) -> Iterator[str]:
+        """What is printed."""
+        yield f"{self.readings} readings in {sum(each.readings > 0 for each in self.journeys)} journeys of run"
+        yield f"{'':18}{'readings':>9}{'times':>7}{'journeys':>10}"
+        for name, title in COMMANDS.items():
+            readings, times, journeys = self.commanded(name)
+            yield f"{title:18}{readings:>9}{times:>7}{journeys:>10}"
+        for status, title in STATUSES.items():
+            having = [each.statuses[status] for each in self.journeys if each.statuses[status]]
+            yield f"{status + ' ' + title:18}{sum(having):>9}{'':7}{len(having):>10}"
+        yield f"{'covered':18}{sum(each.covered for each in self.journeys):>9}"
+        for name, title in MARGINS.items():
+            least = self.least(name)
+            if least is not None:
+                at = least.margins[name]
+                yield f"least way from the max safe front end to {title}: {at.mm:,} mm, {least.name} row {at.row}"
+        for each in self.slowest():
+            yield f"slow: {(each.microseconds or 0) / 1000:.1f} ms, {each.readings} readings, {each.name}"
+
+    def write(self, out: TextIO) -> None:
+        """The summary as CSV: a line for each journey."""
+        lines = [each.cells() for each in self.journeys]
+        writer = csv.DictWriter(out, list(lines[0]) if lines else ["journey"], lineterminator="\n")
+        writer.writeheader()
+        writer.writerows(lines)
+
+
+def readings_in(data: bytes) -> Iterator[Reading]:
+    """The readings of an input, up to the first record of a form that is refused."""
+    try:
+        yield from (event for event in events_of(split(data)[1]) if isinstance(event, Reading))
+    except (Outcome, Refused):
+        return
+
+
+def figures_of(case: Case, verdict: str, made: Result | None, microseconds: int | None) -> Figures:
+    """A journey in numbers, of what the program made of it."""
+    found = Figures(case.name, " ".join(case.words), verdict, made.code if made else None, microseconds)
+    if made is None or case.words != ["run"]:
+        return found
+    try:
+        rows = rows_of(made.rows)
+    except Fault:  # rows of another program: they are none to be counted
+        return found
+    count(found, list(zip(rows, readings_in(case.data))))
+    return found
+
+
+def count(found: Figures, pairs: list[tuple[Row, Reading]]) -> None:
+    """Counts rows with their readings."""
+    held = dict.fromkeys(COMMANDS, "0")
+    for number, (row, reading) in enumerate(pairs, 1):
+        found.covered += row["covered"] == "1"
+        found.statuses[row["status"]] += 1
+        for name in COMMANDS:
+            found.commanded[name] += row[name] == "1"
+            found.set[name] += (held[name], row[name]) == ("0", "1")
+            held[name] = row[name]
+        for name in MARGINS:
+            if row[name] != "-":
+                margin = Margin(int(row[name]) - reading.max, number)
+                found.margins[name] = min(found.margins.get(name, margin), margin, key=lambda each: each.mm)
+    if pairs:
+        found.readings = len(pairs)
+        found.fastest_mm_s = max(int(reading.speed) for _, reading in pairs)
+        found.way_mm = pairs[-1][1].est - pairs[0][1].est
+
+
+def microseconds_of(folder: Path) -> int | None:
+    """The time that a journey took, where it was taken."""
+    text = text_of(folder / "got.time", "").strip()
+    return int(text) if text.isdecimal() else None
+
+
+def statistics_of(figures: Iterable[Figures]) -> Statistics:
+    """The journeys of a campaign in numbers, by their paths."""
+    return Statistics(sorted(figures, key=lambda each: each.name))
