@@ -1,9 +1,10 @@
 """A journey as a report has it: each reading with its row, why the row is as it is, and the curves that counted.
 
 All of it becomes one JSON object, which page.js draws. Columns of numbers are lists of steps from one value to the
-next, since a hundred thousand readings then take a fraction of the room; None stays None. Places are in mm and speeds
-in mm/s, as in readings and rows; those of curves are in cm and thousandths of a km/h. What counts for some readings
-alone has the numbers of the first one and of the one behind the last, from 0.
+next, some of them of what they are more than another column, since a hundred thousand readings then take a fraction of
+the room; None stays None. Places are in mm and speeds in mm/s, as in readings and rows; those of curves are in cm and
+thousandths of a km/h. What counts for some readings alone has the numbers of the first one and of the one behind the
+last, from 0.
 """
 
 import collections
@@ -30,6 +31,8 @@ from sdm.why import command_lines, force_lines, section, situation_lines, trigge
 READING = ["time", "est", "min", "max", "speed", "accel", "under"]
 WORDS = ["state", "status", "tco", "sb", "eb", "covered"]  # columns of a row with a letter each
 NUMBERS = ["ceiling", *LIMITS]
+# The columns that are kept as what they are more than another one.
+BASES = {"min": "est", "max": "est", **dict(zip(LIMITS[1:], LIMITS))}
 Json = dict[str, Any]
 
 
@@ -41,6 +44,17 @@ def steps_of(values: Iterable[int | None]) -> list[int | None]:
         found.append(None if value is None else value - last)
         last = last if value is None else value
     return found
+
+
+def columns_of(values: dict[str, list[int | None]]) -> dict[str, list[int | None]]:
+    """Columns as they are kept: as steps, of what a column is more than its base; a base that is None counts as 0."""
+    kept = {}
+    for name, column in values.items():
+        bases = values[BASES[name]] if name in BASES else [0] * len(column)
+        kept[name] = steps_of(
+            None if value is None else value - (base or 0) for value, base in zip(column, bases, strict=True)
+        )
+    return kept
 
 
 class Texts:
@@ -212,12 +226,12 @@ def release_of(situation: Situation) -> int | None:
 
 def columns_json(readings: Sequence[records.Reading], rows: Sequence[Row]) -> Json:
     """The columns of the readings and of the rows."""
+    words = {name: "".join(row[name] for row in rows) for name in WORDS}
+    numbers = {name: [None if row[name] == "-" else int(row[name]) for row in rows] for name in NUMBERS}
     return {
-        "reading": {name: steps_of(getattr(each, name) for each in readings) for name in READING},
-        "row": {
-            **{name: "".join(row[name] for row in rows) for name in WORDS},
-            **{name: steps_of(None if row[name] == "-" else int(row[name]) for row in rows) for name in NUMBERS},
-        },
+        "reading": columns_of({name: [getattr(each, name) for each in readings] for name in READING}),
+        "row": {**words, **columns_of(numbers)},
+        "bases": BASES,
     }
 
 

@@ -18,14 +18,22 @@ function summed(steps) {
     return steps.map(step => step === null ? null : (last += step));
 }
 
+// Columns as values: of letters a text, of numbers the sums of their steps, some of them more than another column.
+function columnsOf(packed, bases) {
+    const columns = {};
+    for (const name of Object.keys(packed)) {
+        if (typeof packed[name] === "string") columns[name] = packed[name];
+        else columns[name] = summed(packed[name]);
+        const base = columns[bases[name]];
+        if (base) columns[name] = columns[name].map((more, n) => more === null ? null : more + (base[n] || 0));
+    }
+    return columns;
+}
+
 // The journey with its columns as values: places of readings in m, speeds in km/h, curves in m and km/h.
 function journeyOf(packed) {
-    const reading = {};
-    Object.keys(packed.reading).forEach(name => { reading[name] = summed(packed.reading[name]); });
-    const row = {};
-    Object.keys(packed.row).forEach(name => {
-        row[name] = typeof packed.row[name] === "string" ? packed.row[name] : summed(packed.row[name]);
-    });
+    const reading = columnsOf(packed.reading, packed.bases);
+    const row = columnsOf(packed.row, packed.bases);
     const metres = name => reading[name].map(mm => mm / 1000);
     for (const each of [packed.force, packed.causes, packed.counting, packed.curves]) each.at = summed(each.at);
     packed.curves.sets.forEach(set => {

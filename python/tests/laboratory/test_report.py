@@ -67,11 +67,20 @@ def data_of(text):
     return page.unpacked(re.search(r'id="data">([^<]*)</script>', text)[1])
 
 
+def columns_in(journey, part):
+    """The columns of a page's journey, of its readings or its rows."""
+    columns = {}
+    for name, values in journey[part].items():
+        columns[name] = values if isinstance(values, str) else summed(values)
+        if name in journey["bases"]:
+            bases = columns[journey["bases"][name]]
+            columns[name] = [None if more is None else more + (base or 0) for more, base in zip(columns[name], bases)]
+    return columns
+
+
 def rows_in(journey):
     """The rows that a page's journey holds, as text."""
-    columns = {"time": summed(journey["reading"]["time"])}
-    for name, values in journey["row"].items():
-        columns[name] = values if isinstance(values, str) else summed(values)
+    columns = columns_in(journey, "row") | {"time": summed(journey["reading"]["time"])}
     lines = zip(*(columns[name] for name in COLUMNS))
     return "".join(",".join("-" if value is None else str(value) for value in line) + "\n" for line in lines)
 
@@ -109,7 +118,7 @@ class Journeys(InAFolder):
             self.assertEqual(rows_in(journey), (EXAMPLES / name / "rows").read_text(), name)
             records = (EXAMPLES / name / "input").read_text().split("%%\n")[1].splitlines()
             due = [line.split(",")[1:] for line in records if line.startswith("read,")]
-            got = zip(*(summed(journey["reading"][column]) for column in READING))
+            got = zip(*(columns_in(journey, "reading")[column] for column in READING))
             self.assertEqual([list(map(str, each)) for each in got], due, name)
 
     def test_the_causes_are_those_of_why(self):
