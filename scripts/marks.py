@@ -101,11 +101,16 @@ def build_library() -> None:
     mark(LIBRARY, before, "rattle build over what rt ci proved" if is_proved_below else "rt lib")
 
 
-def tell(product: Product, with_mark: bool) -> None:
-    """Prints the path of what was built, and its mark; a fault where the mark doesn't hold."""
+def must_hold(product: Product) -> None:
+    """A fault where the mark of what was built doesn't hold."""
     fault = product.fault()
     if fault:
         raise Fault(f"{fault}: .ci/run or `scripts/{product.kind} build` builds it.")
+
+
+def tell(product: Product, with_mark: bool) -> None:
+    """Prints the path of what was built, and its mark; a fault where the mark doesn't hold."""
+    must_hold(product)
     print(product.path)
     if with_mark:
         print(product.mark.read_text(), end="")

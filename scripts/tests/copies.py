@@ -81,6 +81,6 @@ def mark(top: Path) -> tuple[int, str]:
 
 def marked_as_it_is(top: Path) -> None:
     """Marks the program of a copy, whatever it answers."""
-    code = "from sdm.laboratory.program import BUILT, MARK, sum_of, sum_of_sources; "
-    code += "MARK.write_text(f'sources {sum_of_sources()}\\nprogram {sum_of(BUILT)}\\n')"
+    code = "from sdm.laboratory.program import PROGRAM, sum_of, sum_of_sources; "
+    code += "PROGRAM.mark.write_text(f'sources {sum_of_sources()}\\nprogram {sum_of(PROGRAM.path)}\\n')"
     subprocess.run([sys.executable, "-B", "-c", code], cwd=top / "python", check=True)
