@@ -106,7 +106,7 @@ def build_library() -> None:
     LIBRARY.path.parent.mkdir(exist_ok=True)
     if ended(words, "sdm_c"):
         raise Fault("The library isn't proved and built.")
-    mark(LIBRARY, before, "rattle build over what rt ci proved" if is_proved_below else "rt lib")
+    mark(LIBRARY, before, "rattle build over proved libraries" if is_proved_below else "rt lib")
 
 
 def must_hold(product: Product) -> None:
