@@ -23,9 +23,9 @@ DIST = TOP / "dist"
 UNRELEASED = re.compile(r"^## \[Unreleased\]\n(.*?)(?=^## \[)", re.M | re.S)
 
 
-def version_of(commit: str) -> str:
+def version_of(commit: str, changelog: str) -> str:
     """The changelog's version; of a commit that has changes since, with the beginning of its name."""
-    since = UNRELEASED.search((TOP / "CHANGELOG.md").read_text())
+    since = UNRELEASED.search(changelog)
     return f"{manual.version()}+{commit[:8]}" if since and since[1].strip() else manual.version()
 
 
@@ -34,9 +34,8 @@ def facts(mark: dict[str, str]) -> Release:
     commit, epoch, author = ran("git", "log", "-1", "--format=%H%n%ct%n%an <%ae>").decode().splitlines()
     text = header.text()
     calls = tuple(call.name for call in header.calls(text))
-    return Release(
-        version_of(commit), commit, int(epoch), author, mark["kit"], mark["sources"], header.layout(text), calls
-    )
+    version = version_of(commit, (TOP / "CHANGELOG.md").read_text())
+    return Release(version, commit, int(epoch), author, mark["kit"], mark["sources"], header.layout(text), calls)
 
 
 def release() -> None:
