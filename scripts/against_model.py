@@ -15,16 +15,14 @@ import collections
 import subprocess
 import sys
 import time
-from pathlib import Path
 
 from sdm.laboratory.cases import Case, cases_under, difference
-from sdm.laboratory.program import Fault, Result, add_program, built, run
+from sdm.laboratory.program import TOP, Fault, Result, add_program, built, run
 from sdm.model.certified import a_certify, a_check
 from sdm.model.journeys import a_drive, make
 from sdm.model.words import collect
 from piped import end
 
-TOP = Path(__file__).resolve().parents[1]
 GATE_JOURNEYS = 1000
 PROGRESS = 2000  # journeys between two lines of progress
 SHARE = 3  # each so many seeds an input is given to the other commands too; `display` costs the model more than `run`

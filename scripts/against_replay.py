@@ -17,7 +17,7 @@ from pathlib import Path
 
 from against_model import GATE_JOURNEYS, made
 from sdm.laboratory.cases import Case, cases_under, difference
-from sdm.laboratory.program import Fault, Result, add_program, built, run
+from sdm.laboratory.program import TOP, Fault, Result, add_program, built, run
 from sdm.model.data import split
 from sdm.model.journeys import specials
 from sdm.model.outcome import Outcome
@@ -25,7 +25,6 @@ from sdm.model.records import records
 from sdm.model.words import MOST_BYTES
 from piped import end
 
-TOP = Path(__file__).resolve().parents[1]
 SHOWN = 3  # each so many seeds an input is given to `display` too
 NOT_TAKEN = Result("", "replay: the records have a quote, a blank line, a CR or a byte order mark\n", 64)
 BYTE_ORDER_MARK = b"\xef\xbb\xbf"

@@ -14,11 +14,10 @@ from pathlib import Path
 
 from against_model import BESIDES, GATE_JOURNEYS, besides, made, shown
 from sdm.laboratory.cases import Case, cases_under, difference
-from sdm.laboratory.program import BUILT, Fault, add_program, built, run
+from sdm.laboratory.program import BUILT, TOP, Fault, add_program, built, run
 from piped import end
 from worked import cases_of, tables
 
-TOP = Path(__file__).resolve().parents[1]
 OTHER = BUILT.with_name(f"{BUILT.name}.by-rattle")
 NAMES = ("LLVM", "rattle")
 

@@ -64,11 +64,19 @@ def mark(product: Product, before: str, by: str) -> None:
     product.mark.write_text(f"sources {before}\n{product.kind} {sum_of(product.path)}\nkit {kit}\nby {by}, with LLVM\n")
 
 
+def ended(words: list[str], crate: str, data: bytes = b"") -> int:
+    """The exit status of a command of the toolchain in the folder of a crate, by LLVM and no other compiler. What it
+    prints goes to standard error."""
+    environment = {name: value for name, value in os.environ.items() if name != "RT_BACKEND"}
+    folder = TOP / "crates" / crate
+    return subprocess.run(words, cwd=folder, env=environment, input=data, stdout=sys.stderr).returncode
+
+
 def build_program() -> None:
     """Proves and builds the program over what earlier checks kept, and marks it."""
     before, (words, data, _) = sum_of_sources(), stored_run()
     PROGRAM.mark.unlink(missing_ok=True)
-    if subprocess.run(["rt", "run", "--", *words], cwd=CRATE, input=data, stdout=subprocess.DEVNULL).returncode:
+    if ended(["rt", "run", "--", *words], "sdm", data):
         raise Fault("`rt run` failed, so no program was built.")
     mark(PROGRAM, before, "rt run")
 
@@ -91,21 +99,26 @@ def words_over_proved() -> list[str]:
 
 
 def build_library() -> None:
-    """Proves and builds the library for C, and marks it. What the toolchain tells goes to standard error."""
+    """Proves and builds the library for C, and marks it."""
     before, is_proved_below = sum_of_sources(), bool(os.environ.get("PROVED_BY_RT_CI"))
     LIBRARY.mark.unlink(missing_ok=True)
     words = words_over_proved() if is_proved_below else ["rt", "lib"]
     LIBRARY.path.parent.mkdir(exist_ok=True)
-    if subprocess.run(words, cwd=TOP / "crates" / "sdm_c", stdout=sys.stderr).returncode:
+    if ended(words, "sdm_c"):
         raise Fault("The library isn't proved and built.")
-    mark(LIBRARY, before, "rattle build over what rt ci proved" if is_proved_below else "rt lib")
+    mark(LIBRARY, before, "rattle build over proved libraries" if is_proved_below else "rt lib")
+
+
+def must_hold(product: Product) -> None:
+    """A fault where the mark of what was built doesn't hold."""
+    fault = product.fault()
+    if fault:
+        raise Fault(f"{fault}: .ci/run or `scripts/{product.kind} build` builds it.")
 
 
 def tell(product: Product, with_mark: bool) -> None:
     """Prints the path of what was built, and its mark; a fault where the mark doesn't hold."""
-    fault = product.fault()
-    if fault:
-        raise Fault(f"{fault}: .ci/run or `scripts/{product.kind} build` builds it.")
+    must_hold(product)
     print(product.path)
     if with_mark:
         print(product.mark.read_text(), end="")
@@ -146,7 +159,6 @@ def main(kind: str, words: list[str]) -> int:
     if words not in whole and not (len(words) == 2 and words[0] in with_one_more):
         print(__doc__.strip(), file=sys.stderr)
         return 2
-    os.environ.pop("RT_BACKEND", None)  # else another compiler than LLVM may be chosen
     try:
         does(words)
     except Fault as why:

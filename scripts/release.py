@@ -1,5 +1,4 @@
-"""Packs a release of the commit that lies here into dist/: an archive, two Debian packages and their
-checksums.
+"""Packs a release of the commit that lies here into dist/: an archive, two Debian packages and their checksums.
 
     scripts/release
 
@@ -18,23 +17,16 @@ import marks
 from packing.facts import TOP, Fault, Release, ran
 from packing.work import pack
 from piped import end
-from sdm.laboratory import program
 from sdm.laboratory.program import LIBRARY, PROGRAM
 
 DIST = TOP / "dist"
 UNRELEASED = re.compile(r"^## \[Unreleased\]\n(.*?)(?=^## \[)", re.M | re.S)
 
 
-def version_of(commit: str) -> str:
+def version_of(commit: str, changelog: str) -> str:
     """The changelog's version; of a commit that has changes since, with the beginning of its name."""
-    since = UNRELEASED.search((TOP / "CHANGELOG.md").read_text())
+    since = UNRELEASED.search(changelog)
     return f"{manual.version()}+{commit[:8]}" if since and since[1].strip() else manual.version()
-
-
-def build_library_where_due() -> None:
-    """Has the library for C proved and built, unless what is there is of these sources."""
-    if LIBRARY.fault():
-        marks.build_library()
 
 
 def facts(mark: dict[str, str]) -> Release:
@@ -42,19 +34,19 @@ def facts(mark: dict[str, str]) -> Release:
     commit, epoch, author = ran("git", "log", "-1", "--format=%H%n%ct%n%an <%ae>").decode().splitlines()
     text = header.text()
     calls = tuple(call.name for call in header.calls(text))
-    return Release(
-        version_of(commit), commit, int(epoch), author, mark["kit"], mark["sources"], header.layout(text), calls
-    )
+    version = version_of(commit, (TOP / "CHANGELOG.md").read_text())
+    return Release(version, commit, int(epoch), author, mark["kit"], mark["sources"], header.layout(text), calls)
 
 
 def release() -> None:
     """Packs the release, or ends with a fault."""
     if ran("git", "status", "--porcelain"):
         raise Fault("The work tree isn't clean, so what lies here is no commit.")
-    fault = PROGRAM.fault()
-    if fault:
-        raise Fault(f"{fault}: .ci/run or `scripts/program build` builds it.")
-    build_library_where_due()
+    marks.must_hold(PROGRAM)
+    if LIBRARY.fault():
+        marks.build_library()
+    if PROGRAM.marked()["kit"] != LIBRARY.marked()["kit"]:
+        raise Fault("The program and the library were built by two toolchains.")
     begun = time.monotonic()
     for path in pack(facts(PROGRAM.marked()), PROGRAM.path, LIBRARY.path, DIST):
         print(f"{path.relative_to(TOP)}: {path.stat().st_size:,} bytes")
@@ -68,7 +60,7 @@ def main(words: list[str]) -> int:
         return 2
     try:
         release()
-    except (Fault, program.Fault) as why:
+    except Fault as why:
         print(f"release: {why}", file=sys.stderr)
         return 1
     return 0

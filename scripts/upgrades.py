@@ -11,14 +11,12 @@ line is left out.
 import argparse
 import sys
 import tomllib
-from pathlib import Path
 
 from sdm.laboratory.cases import cases_under
-from sdm.laboratory.program import Fault, Result, add_program, built, run
+from sdm.laboratory.program import TOP, Fault, Result, add_program, built, run
 from sdm.model.data import DIVIDING_LINE, data_of, read_document, table_of
 from piped import end
 
-TOP = Path(__file__).resolve().parents[1]
 BAD_DATA = 5
 
 

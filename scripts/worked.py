@@ -7,14 +7,12 @@
 import argparse
 import re
 import sys
-from pathlib import Path
 
 from sdm.laboratory.cases import Case, difference
-from sdm.laboratory.program import Fault, Result, add_program, built, run
+from sdm.laboratory.program import TOP, Fault, Result, add_program, built, run
 import journeys
 from piped import end
 
-TOP = Path(__file__).resolve().parents[1]
 WORKED = TOP / "worked"
 REPEATED = re.compile(r"\((.*?)\)\*(\d+)")
 COUNTED = re.compile(r"(?:(-?\d+)([+-]))?(\d*)#")

@@ -20,8 +20,7 @@ from pathlib import Path
 from random import Random
 from typing import NamedTuple
 
-from .build_library import ARCHIVE
-from .laboratory.program import TOP, Fault
+from .laboratory.program import LIBRARY, TOP, Fault
 from .ride_worlds import Scenario, World, a_scenario, a_world, scenario_text, world_text
 
 RIDES_OF_A_WORLD, RIDES_AT_ONCE = 20, 1_000
@@ -114,7 +113,9 @@ def words_of(args: list[str]) -> argparse.Namespace:
     parser.add_argument("--late", type=int, default=0, metavar="DS", help="how much later than E the brakes work")
     parser.add_argument("--ignored", type=int, default=0, metavar="N", help="how many orders aren't handed on")
     parser.add_argument("--jobs", type=int, default=1, metavar="N", help="how many programs ride at once; 1")
-    parser.add_argument("--library", type=Path, default=ARCHIVE, metavar="PATH", help="another library than that built")
+    parser.add_argument(
+        "--library", type=Path, default=LIBRARY.path, metavar="PATH", help="another library than that built"
+    )
     return parser.parse_args(args)
 
 

@@ -1,14 +1,10 @@
 """Checksums, as sha256sum writes and checks them."""
 
-import hashlib
 from pathlib import Path
 
+from sdm.laboratory.program import sum_of
+
 NAME = "SHA256SUMS"
-
-
-def sum_of(path: Path) -> str:
-    """The checksum of a file's bytes."""
-    return hashlib.sha256(path.read_bytes()).hexdigest()
 
 
 def of_files_below(top: Path) -> str:

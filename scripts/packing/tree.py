@@ -6,7 +6,9 @@ import shutil
 from concurrent.futures import ThreadPoolExecutor
 from pathlib import Path
 
-from . import library, sums, web
+from sdm.laboratory.program import sum_of
+
+from . import library, web
 from .facts import Contents, Release, filled
 from .places import place_of, place_or_none
 
@@ -64,7 +66,7 @@ def build_record(release: Release, contents: Contents) -> str:
     """What a release was built from, in lines."""
     return (
         f"version {release.version}\ncommit {release.commit}\nsources {release.sources}\nkit {release.kit}\n"
-        f"program {sums.sum_of(contents.program)}\nlibrary {sums.sum_of(contents.library)}\n"
+        f"program {sum_of(contents.program)}\nlibrary {sum_of(contents.library)}\n"
     )
 
 

@@ -79,8 +79,8 @@ def mark(top: Path) -> tuple[int, str]:
     return ended(top, "scripts/program", "mark", ended(top, "scripts/program", "sources")[1].strip())
 
 
-def marked_as_it_is(top: Path) -> None:
-    """Marks the program of a copy, whatever it answers."""
-    code = "from sdm.laboratory.program import BUILT, MARK, sum_of, sum_of_sources; "
-    code += "MARK.write_text(f'sources {sum_of_sources()}\\nprogram {sum_of(BUILT)}\\n')"
+def marked_as_it_is(top: Path, product: str = "PROGRAM") -> None:
+    """Marks the program of a copy, whatever it answers, or the library."""
+    code = f"from sdm.laboratory.program import {product} as it, sum_of, sum_of_sources; "
+    code += "it.mark.write_text(f'sources {sum_of_sources()}\\n{it.kind} {sum_of(it.path)}\\n')"
     subprocess.run([sys.executable, "-B", "-c", code], cwd=top / "python", check=True)

@@ -98,6 +98,27 @@ class Marks(OverACopy):
         self.assertIn("doesn't write what crates/sdm/stdout has", copies.mark(self.top)[1])
 
 
+class LibraryMarks(OverACopy):
+    OVER_IT = ["scripts/library", "scripts/check-rides", "scripts/check-library"]
+
+    def test_a_library_of_these_sources_alone_is_taken(self):
+        self.assertIn("There is no library at", self.told("scripts/library"))
+        built = self.top / "crates/sdm_c/out/libsdm_c.a"
+        built.parent.mkdir(parents=True)
+        built.write_text("an archive")
+        for script in self.OVER_IT:
+            self.assertIn("has no mark", self.told(script))
+        copies.marked_as_it_is(self.top, "LIBRARY")
+        self.assertEqual(self.told("scripts/library", status=0).strip(), str(built))
+        built.write_text("another")
+        for script in self.OVER_IT:
+            self.assertIn("another library than the one that was marked", self.told(script))
+        built.write_text("an archive")
+        copies.alter(self.top, "crates/sdm/src/main.rt", r"\Z", "\n")
+        for script in self.OVER_IT:
+            self.assertIn("built from other sources", self.told(script))
+
+
 class Answers(OverACopy):
     parts = [*OverACopy.parts, *examples("approach", "flat", "realistic", "refused-data", "refused-record"), "worked"]
 

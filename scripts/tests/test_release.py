@@ -6,12 +6,15 @@ import subprocess
 import tempfile
 import unittest
 from pathlib import Path
+from zipfile import ZipFile
 
 from . import copies
 
 
 import header
-from packing import archive, bill, library, places, sums, tree, web
+import manual
+import release
+from packing import archive, bill, library, places, python, sums, tree, web
 from packing.facts import Contents, Fault, Release
 
 TEXT = header.text()
@@ -181,6 +184,7 @@ class Bytes(Scratch):
         (top / "bin" / "sdm").write_text("program")
         (top / "page").write_text("text")
         (top / "page").chmod(0o600 if name == "one" else 0o666)
+        (top / "tool").write_text("#!/bin/sh\n")
         (top / sums.NAME).write_text(sums.of_files_below(top))
         tree.settle(RELEASE, top)
         archive.pack_folder(RELEASE, top, self.top / f"{name}.tar.gz")
@@ -190,6 +194,7 @@ class Bytes(Scratch):
         self.assertEqual(self.packed("one"), self.packed("other"))
         listed = printed("tar", "--list", "--verbose", "--file", self.top / "one.tar.gz")
         self.assertRegex(listed, r"-rwxr-xr-x 0/0 +7 2023-11-14 \d\d:\d\d sdm-1.2.3-x86_64-linux/bin/sdm\n")
+        self.assertRegex(listed, r"-rwxr-xr-x 0/0 +10 2023-11-14 \d\d:\d\d sdm-1.2.3-x86_64-linux/tool\n")
         self.assertRegex(listed, r"-rw-r--r-- 0/0 +4 2023-11-14 \d\d:\d\d sdm-1.2.3-x86_64-linux/page\n")
         printed("tar", "--extract", "--directory", self.top, "--file", self.top / "one.tar.gz")
         checked = subprocess.run(
@@ -198,7 +203,27 @@ class Bytes(Scratch):
             capture_output=True,
             text=True,
         )
-        self.assertEqual((checked.returncode, checked.stdout), (0, "bin/sdm: OK\npage: OK\n"))
+        self.assertEqual((checked.returncode, checked.stdout), (0, "bin/sdm: OK\npage: OK\ntool: OK\n"))
+
+
+class Named(Scratch):
+    def test_a_commit_with_changes_since_the_version_is_named_too(self):
+        changelog = "# Changelog\n\n## [Unreleased]\n\n## [1.2.3] - 2026-01-02\n\n### Added\n\n- It.\n"
+        self.assertEqual(release.version_of("c0ffee1234", changelog), manual.version())
+        changed = changelog.replace("[Unreleased]\n", "[Unreleased]\n\n### Fixed\n\n- More.\n")
+        self.assertEqual(release.version_of("c0ffee1234", changed), f"{manual.version()}+c0ffee12")
+
+    def test_debian_has_the_modules_of_the_wheel_without_its_library(self):
+        wheel, usr = self.top / "sdm.whl", self.folder("usr")
+        with ZipFile(wheel, "w") as packed:
+            for name in ("sdm/__init__.py", "sdm/libsdm.so", "sdm-1.dist-info/METADATA", "sdm-1.dist-info/RECORD"):
+                packed.writestr(name, "")
+        python.write_for_debian(wheel, usr)
+        modules = ["sdm-1.dist-info/METADATA", "sdm/__init__.py"]
+        self.assertEqual(
+            sorted(path.relative_to(usr).as_posix() for path in usr.rglob("*") if path.is_file()),
+            ["bin/sdm-tools", *(f"lib/python3/dist-packages/{name}" for name in modules)],
+        )
 
 
 class Refused(unittest.TestCase):

@@ -6,6 +6,7 @@ from collections.abc import Iterable
 from math import isqrt
 
 from sdm.laboratory.program import Fault
+from sdm.laboratory.rows import lines_of
 from sdm.model.certificates import Claim, Mark, until_it_works
 from sdm.model.checker import Lines, hold, is_accepted, read_claim, read_map
 from sdm.model.decelerations import Brake
@@ -47,13 +48,7 @@ def check_journey(source: bytes, text: str, window: Window) -> Journey:
 
 def answers_of(text: str) -> list[re.Match[str]]:
     """The lines of `check`, each as its time and its answer."""
-    answers = []
-    for number, line in enumerate(text.splitlines(), 1):
-        answer = FORM.fullmatch(line)
-        if answer is None:
-            raise Fault(f"Line {number} of the rows is no line of sdm check: {line!r}.")
-        answers.append(answer)
-    return answers
+    return lines_of(text, FORM, "line of sdm check")
 
 
 def claims_of(source: bytes) -> tuple[Brake, list[tuple[Claim, list[Mark]]], str]:

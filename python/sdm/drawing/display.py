@@ -3,8 +3,7 @@ that tell where the train's own speed lies among them and which target is shown.
 
 import re
 
-from sdm.laboratory.program import Fault
-from sdm.laboratory.rows import Row
+from sdm.laboratory.rows import Row, lines_of
 
 from .sheet import BLACK, WHITE, Shade
 from .values import Reading, SeriesData
@@ -30,12 +29,7 @@ ZONES = {
 
 def rows_of(text: str) -> list[Row]:
     """The lines of `display`, each as its values by the names of its fields."""
-    rows = []
-    for number, line in enumerate(text.splitlines(), 1):
-        if not FORM.fullmatch(line):
-            raise Fault(f"Line {number} of the rows is no line of sdm display: {line!r}.")
-        rows.append(dict(zip(COLUMNS, line.split(","))))
-    return rows
+    return [dict(zip(COLUMNS, line[0].split(","))) for line in lines_of(text, FORM, "line of sdm display")]
 
 
 def speeds_of(row: Row) -> dict[str, int]:

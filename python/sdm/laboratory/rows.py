@@ -19,11 +19,17 @@ def text_of(row: Row) -> str:
     return ",".join(row[name] for name in COLUMNS)
 
 
+def lines_of(text: str, form: re.Pattern[str], kind: str) -> list[re.Match[str]]:
+    """The lines of what a command wrote, by the form that each has. Raises Fault of one that has another."""
+    lines = []
+    for number, line in enumerate(text.splitlines(), 1):
+        found = form.fullmatch(line)
+        if found is None:
+            raise Fault(f"Line {number} of the rows is no {kind}: {line!r}.")
+        lines.append(found)
+    return lines
+
+
 def rows_of(text: str) -> list[Row]:
     """The rows of a text, each as its values by the names of the columns."""
-    rows = []
-    for number, line in enumerate(text.splitlines(), 1):
-        if not is_row(line):
-            raise Fault(f"Line {number} of the rows is no row of sdm run: {line!r}.")
-        rows.append(dict(zip(COLUMNS, line.split(","))))
-    return rows
+    return [dict(zip(COLUMNS, line[0].split(","))) for line in lines_of(text, FORM, "row of sdm run")]
