@@ -120,7 +120,7 @@ module _ (on : Slopes) (usable : IsUsable on) (svl : ℤ) (k m : ℕ) (k_pos : 0
       let two : IsAtMost (whole (pos m *ℤ (pos k *ℤ p))) fine_b = at_most_trans _ fine_a fine_b fine_a_pos one falls in
       at_most_in _ b (down k m p b.n fine_b.n b.m fine_b.m k_pos fine_b_pos (at_most_out _ fine_b two) b_is.crossed)
     where
-      pub up : (m : ℕ) (p y_n b_n : ℤ) (y_m b_m : ℕ) → 0 < y_m → (pos y_m *ℤ p) ≤ℤ y_n →
+      up : (m : ℕ) (p y_n b_n : ℤ) (y_m b_m : ℕ) → 0 < y_m → (pos y_m *ℤ p) ≤ℤ y_n →
           pos y_m *ℤ b_n ≡ pos b_m *ℤ (pos m *ℤ y_n) → IsAtMost (whole (pos m *ℤ p)) (record { n = b_n; m = b_m })
       up m p y_n b_n y_m b_m y_pos h same =
           let one = simp scales at (scale-≤ b_m _ _ (scale-≤ m _ _ h)) in
@@ -128,7 +128,7 @@ module _ (on : Slopes) (usable : IsUsable on) (svl : ℤ) (k m : ℕ) (k_pos : 0
           at_most_in (pos m *ℤ p) (record { n = b_n; m = b_m })
           (scale-≤_cancel y_m _ _ y_pos (simp scales (omega (arith, ints, one, two))))
 
-      pub down : (k m : ℕ) (p y_n b_n : ℤ) (y_m b_m : ℕ) → 0 < k → 0 < b_m →
+      down : (k m : ℕ) (p y_n b_n : ℤ) (y_m b_m : ℕ) → 0 < k → 0 < b_m →
           (pos b_m *ℤ (pos m *ℤ (pos k *ℤ p))) ≤ℤ b_n → pos y_m *ℤ b_n ≡ pos b_m *ℤ (pos k *ℤ y_n) →
           (pos y_m *ℤ (pos m *ℤ p)) ≤ℤ y_n
       down k m p y_n b_n y_m b_m k_pos b_pos h same =

@@ -33,10 +33,10 @@ row_safe must may s r o h =
     }
 
 -- a record is safe, and leads to an open state in which the commands are in order
-record Leads (must may : Bool) (s : Supervision) (e : Event) (t : Supervision) : Type 0 where
-  safe : IsRecordSafe must may s e
-  open_after : IsOpen t
-  order : InOrder (over_record must_after s e must) t.commands.eb (over_record may_after s e may)
+pub record Leads (must may : Bool) (s : Supervision) (e : Event) (t : Supervision) : Type 0 where
+  pub safe : IsRecordSafe must may s e
+  pub open_after : IsOpen t
+  pub order : InOrder (over_record must_after s e must) t.commands.eb (over_record may_after s e may)
 
 -- each record is safe and leads on
 pub leads : (must may : Bool) (s : Supervision) → IsOpen s → InOrder must s.commands.eb may → (e : Event) →
