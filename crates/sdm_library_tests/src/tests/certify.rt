@@ -77,7 +77,7 @@ fn claim_on_two() -> Claim
 {
     Claim {
         time: 20,
-        front: Place::new(-5_400_000_000_000),
+        front: Place::new(-5_400_000_000_000_000),
         speed: Speed::new(824_958),
         accel1: 50,
         accel2: 40,
