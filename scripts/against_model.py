@@ -1,4 +1,5 @@
-"""Holds the built program against the model: over examples/, over vectors/, and over journeys made from a seed.
+"""Holds the built program against the model: over examples/, over vectors/, over the mistakes of which the tests of
+tools/explain say what is told, and over journeys made from a seed.
 
     scripts/check-model                             what the gate runs, after the model's own tests
     scripts/check-model --seed 5000 --journeys 9000 the journeys of the seeds 5000 to 13999 alone
@@ -17,6 +18,7 @@ import sys
 import time
 
 from sdm.laboratory.cases import Case, cases_under, difference
+from sdm.laboratory.mistakes import mistakes
 from sdm.laboratory.program import TOP, Fault, Result, add_program, built, run
 from sdm.model.certified import a_certify, a_check
 from sdm.model.journeys import a_drive, make
@@ -43,6 +45,16 @@ def made(first, count, step=1):
     for seed in range(first, first + count, step):
         words, name, data = make(seed)
         yield Case(f"seed {seed} ({name})", words, data, None)
+
+
+def mistaken():
+    """The inputs of the tests of tools/explain, with the fault line that is due, as cases of `run`."""
+    table = (TOP / "python" / "tests" / "laboratory" / "mistakes.txt").read_text()
+    whole = (TOP / "examples" / "every-key" / "input").read_text()
+    for number, case in enumerate(mistakes(table, whole), 1):
+        data = case.text.encode()
+        rows, _, code = collect(["run"], data)
+        yield Case(f"mistake {number}", ["run"], data, Result(rows, case.fault + "\n", code))
 
 
 def shown(first, count):
@@ -106,6 +118,7 @@ def main(args):
             bad += not own_tests()
             for folder in ("examples", "vectors"):
                 bad += compare(folder, program, cases_under(TOP / folder), 0)
+            bad += compare("mistakes of tools/explain", program, mistaken(), 0)
         first = words.seed or 0
         title = f"made journeys, seeds {first} to {first + words.journeys - 1}"
         bad += compare(title, program, made(first, words.journeys), words.journeys)

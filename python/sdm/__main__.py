@@ -1,4 +1,6 @@
 """`python3 -m sdm COMMAND WORDS`: the command lines of the package."""
+import os
+import signal
 import sys
 from importlib import import_module
 
@@ -18,9 +20,17 @@ COMMANDS = {
 }
 
 
+READER_GONE = 128 + signal.SIGPIPE  # the status that a shell tells of a program that the system ends for it
+
+
 def run(command: str, words: list[str]) -> int:
-    """The exit status of a command for its words."""
-    code: int = import_module(COMMANDS[command]).main(words)
+    """The exit status of a command for its words. A reader that closes the pipe ends it without a word."""
+    try:
+        code: int = import_module(COMMANDS[command]).main(words)
+        sys.stdout.flush()
+    except BrokenPipeError:
+        os.dup2(os.open(os.devnull, os.O_WRONLY), sys.stdout.fileno())
+        return READER_GONE
     return code
 
 

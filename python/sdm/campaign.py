@@ -101,7 +101,7 @@ def differences(case: Case, made: Result) -> list[str]:
 
 
 def statistics(folder: Path) -> Statistics:
-    """What a campaign's journeys have in numbers. Raises Fault where the folder has no journey, or one can't be read."""
+    """What a campaign's journeys have in numbers. Raises Fault where there is no journey, or one can't be read."""
     return statistics_of(figures_in(each, folder.resolve()) for each in journeys_in(folder))
 
 

@@ -46,7 +46,7 @@ def due_of(name: str, text: str) -> Value:
     """A row's value as a recording has it."""
     if name not in UNITS:
         return text
-    return None if text == "-" else Fraction(text)
+    return None if text == "-" else int(text)
 
 
 def matched(rows: list[Row], lines: list[Line], most: int) -> list[tuple[int, int]]:
@@ -85,7 +85,7 @@ def difference(
     due, got = due_of(name, rows[i][name]), lines[at][1][name]
     if due == got:
         return None
-    deviation = abs(got - due) if name in UNITS and None not in (due, got) else None
+    deviation = Fraction(abs(got - due)) if name in UNITS and None not in (due, got) else None
     if deviation is None and name not in UNITS and comes_near(lines, at, name, due, allowed["ds"]):
         return None
     return Difference(i + 1, lines[at][0], name, due, got, deviation)

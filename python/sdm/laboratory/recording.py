@@ -14,6 +14,7 @@ A time may be a timestamp; `origin` is the one that counts as 0, the first one w
 """
 import csv
 import io
+import re
 import tomllib
 from fractions import Fraction
 from typing import Any
@@ -26,6 +27,7 @@ Table = dict[str, Any]
 Mapping = tuple[str, str, dict[str, Table]]  # delimiter, decimal point, the table of each column
 Value = Any  # a number, a word, or None for none
 Line = tuple[int, dict[str, Value]]  # its number, and its values by the columns of a row
+WHOLE = re.compile(r"-?[0-9]{1,18}")
 KEYS = {"column", "scale", "shift", "none", "values"}
 
 
@@ -73,6 +75,14 @@ def own_mapping(text: str) -> tuple[Mapping, bool]:
     return (",", ".", {name: {"column": name} for name in names}), "time" not in header
 
 
+def exact(value: Any) -> int | Fraction:
+    """A number as it is, whole where it is one, since whole numbers are worked with ten times faster. Raises ValueError
+    where a text is none."""
+    if isinstance(value, str) and WHOLE.fullmatch(value):
+        return int(value)
+    return value if isinstance(value, (int, Fraction)) else Fraction(value)
+
+
 def value_of(name: str, table: Table, text: str, decimal: str, line: int) -> Value:
     """A field as the row's column has it: a number, a word, or None for none."""
     text = text.strip()
@@ -82,8 +92,8 @@ def value_of(name: str, table: Table, text: str, decimal: str, line: int) -> Val
     if name not in UNITS:
         return str(text)
     try:
-        scale, shift = Fraction(table.get("scale", 1)), Fraction(table.get("shift", 0))
-        number = Fraction(str(text).replace(decimal, ".")) * scale + shift
+        scale, shift = (exact(table.get(key, absent)) for key, absent in (("scale", 1), ("shift", 0)))
+        number = exact(str(text).replace(decimal, ".")) * scale + shift
     except ValueError:
         raise Fault(f"Line {line} of the recording: {text!r} in the column {table['column']!r} is no number.") from None
     return number

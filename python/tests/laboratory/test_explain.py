@@ -5,7 +5,7 @@ import unittest
 from pathlib import Path
 
 import sdm
-from sdm.laboratory.program import BUILT, run
+from sdm.laboratory.mistakes import FAULT, edited, mistakes
 from sdm.model.data import data_of, read_document
 from sdm.model.drive import Drive
 from sdm.model.words import collect
@@ -14,28 +14,9 @@ from ..folders import EXAMPLES, TOP
 from ..tool import tool
 
 TABLE = (Path(__file__).parent / "mistakes.txt").read_text()
-WHOLE = (EXAMPLES / "every-key" / "input").read_text().split("\n")
+WHOLE = (EXAMPLES / "every-key" / "input").read_text()
 JOURNEY = (EXAMPLES / "interventions" / "input").read_text()
 BREAK_PHYSICS = {"approach", "band-border", "every-key", "written-otherwise"}  # their readings are scenes of their own
-FAULT = "sdm: "
-
-
-def cases():
-    """Each case: the lines of the table, without comments."""
-    text = "\n".join(line for line in TABLE.split("\n") if not line.startswith("#"))
-    return [block.split("\n") for block in re.split(r"\n{2,}", text.strip("\n"))]
-
-
-def edited(edits):
-    """The whole input with lines changed, and others put before a line."""
-    lines, before = WHOLE.copy(), {}
-    for edit in edits:
-        number, sign, text = re.fullmatch(r"(\d+) ([=>]) ?(.*)", edit).groups()
-        if sign == "=":
-            lines[int(number) - 1] = text
-        else:
-            before.setdefault(int(number), []).append(text)
-    return "\n".join(line for i, each in enumerate(lines, 1) for line in [*before.get(i, []), each])
 
 
 def readings(change):
@@ -63,16 +44,15 @@ def scaled(place=1.0, speed=1.0, time=1.0, only=None):
 
 class Mistakes(unittest.TestCase):
     def test_each_is_told_with_its_line_and_what_is_expected(self):
-        self.assertGreaterEqual(len(cases()), 40)
-        for lines in cases():
-            at = next(i for i, line in enumerate(lines) if line.startswith(FAULT))
-            text = edited(lines[:at])
-            with self.subTest(lines[:at]):
-                told = sdm.explanation(text.encode())
-                self.assertEqual(FAULT + told.fault, lines[at])
-                self.assertEqual(collect(["run"], text.encode())[1], lines[at] + "\n")
-                self.assertEqual(len(told.findings), len(lines) - at - 1, "\n".join(map(str, told.findings)))
-                for finding, due in zip(told.findings, lines[at + 1 :]):
+        cases = list(mistakes(TABLE, WHOLE))
+        self.assertGreaterEqual(len(cases), 40)
+        for case in cases:
+            with self.subTest(case.edits):
+                told = sdm.explanation(case.text.encode())
+                self.assertEqual(FAULT + told.fault, case.fault)
+                self.assertEqual(collect(["run"], case.text.encode())[1], case.fault + "\n")
+                self.assertEqual(len(told.findings), len(case.findings), "\n".join(map(str, told.findings)))
+                for finding, due in zip(told.findings, case.findings):
                     self.is_due(finding, due)
 
     def is_due(self, finding, due):
@@ -85,13 +65,6 @@ class Mistakes(unittest.TestCase):
         self.assertIn(hint, finding.hint)
         self.assertEqual(hint == "", finding.hint == "")
         self.assertTrue(finding.is_refusal)
-
-    @unittest.skipUnless(BUILT.is_file(), "the program isn't built")
-    def test_the_program_tells_their_fault_lines(self):
-        for lines in cases():
-            at = next(i for i, line in enumerate(lines) if line.startswith(FAULT))
-            with self.subTest(lines[:at]):
-                self.assertEqual(run(BUILT, ["run"], edited(lines[:at]).encode()).err, lines[at] + "\n")
 
 
 class Faults(unittest.TestCase):
@@ -180,7 +153,9 @@ class Tool(unittest.TestCase):
         page = (TOP / "tools" / "README.md").read_text()
         section = page[page.index("## Why an input is refused") :].split("\n## ")[0]
         texts = {
-            "mistakes": edited(["4 = lenght = 10000", "10 = service_time = 32", "76 = read,10,520000,519000,521000"]),
+            "mistakes": edited(
+                WHOLE, ["4 = lenght = 10000", "10 = service_time = 32", "76 = read,10,520000,519000,521000"]
+            ),
             "in-cm": scaled(place=0.1),
         }
         blocks = re.findall(r"    tools/explain (\S+)\n\n((?:    .*\n)+)", section)
