@@ -27,7 +27,7 @@ class Page(unittest.TestCase):
     def test_its_examples(self):
         with tempfile.TemporaryDirectory() as room, contextlib.chdir(room):
             os.symlink(EXAMPLES, "examples")
-            table, sweep, loop, recording = BLOCKS
+            table, sweep, loop, recording, report = BLOCKS
             names = {}
             exec(table, names)
             self.assertEqual(sdm.text(names["rows"]), (EXAMPLES / "interventions" / "rows").read_text())
@@ -49,6 +49,8 @@ class Page(unittest.TestCase):
             self.assertTrue(5_005 < names["stopped"] < 5_006 and names["driven"][-1].eb)
             exec(recording, names)
             self.assertEqual(sdm.text(names["supervised"]), (EXAMPLES / "recording" / "rows").read_text())
+            exec(report, names)
+            self.assertIn("200 rows compared", Path("report.html").read_text())
 
     def test_ten_lines_for_a_thousand_variations_and_a_picture(self):
         self.assertLessEqual(len(TEN_LINES.splitlines()), 10)
