@@ -91,6 +91,4 @@ def main(args: list[str]) -> int:
     except Fault as why:
         print(f"curves: {why}", file=sys.stderr)
         return 1
-    except BrokenPipeError:
-        return 1
     return 0
