@@ -9,5 +9,6 @@ sys.path.insert(0, str(Path(__file__).resolve().parents[1] / "python"))
 def command(name: str) -> None:
     """Ends this process with a command of the package, for its own words."""
     from sdm.__main__ import run
+    from sdm.laboratory.piped import end
 
-    sys.exit(run(name, sys.argv[1:]))
+    end(lambda: run(name, sys.argv[1:]))

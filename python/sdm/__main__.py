@@ -3,6 +3,9 @@ import os
 import signal
 import sys
 from importlib import import_module
+from typing import NoReturn
+
+from .laboratory.piped import end
 
 COMMANDS = {
     "explain": "sdm.explain_input",
@@ -34,13 +37,18 @@ def run(command: str, words: list[str]) -> int:
     return code
 
 
-def main() -> int:
-    """Runs the command that the words of this process name."""
+def chosen() -> int:
+    """Runs the command that the words of this process name; its exit status."""
     if sys.argv[1:2] and sys.argv[1] in COMMANDS:
         return run(sys.argv[1], sys.argv[2:])
     print(f"usage: python3 -m sdm {{{','.join(COMMANDS)}}} ...", file=sys.stderr)
     return 2
 
 
+def main() -> NoReturn:
+    """Ends this process with the command that its words name."""
+    end(chosen)
+
+
 if __name__ == "__main__":
-    sys.exit(main())
+    main()
