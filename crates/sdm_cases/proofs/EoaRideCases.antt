@@ -1,23 +1,27 @@
 -- There are rides under the service brake: a train runs at 0.2 m/s, and its reading 12 cm before the EOA, at the SBI,
 -- promises the EOA. The next one, 0.1 s later, commands the service brake, as all that follow do. The brake works 0.4 s
 -- after the order, and the train stops at the EOA to the grain. The scale is 1.
-use Rattle.std.proofs.Common.{◌≡◌, ℕ, ℤ, suc, pos, Bool, true, false, List, [], ◌∷◌, ◌+◌, ◌*◌, ◌≤◌, ◌+ℤ◌}
+use Rattle.std.proofs.Common.{◌≡◌, ℕ, ℤ, suc, pos, Bool, true, false, List, [], ◌∷◌, ◌+◌, ◌-◌, ◌*◌, ◌≤◌}
+use Rattle.std.proofs.Common.{◌+ℤ◌, ◌*ℤ◌}
 use Rattle.std.proofs.Common.{refl, subst, sym, ap, ◌∙◌, arith}
-use Rattle.std.specs.Prelude.{Option, Some, None, nat_le, not, ◌&&◌, ◌||◌, if◌then◌else◌, option_map}
-use Rattle.std.proofs.lemmas.Bool.{true≢false}
+use Rattle.std.specs.Prelude.{Option, Some, None, int_le, nat_le, not, ◌&&◌, ◌||◌, if◌then◌else◌, option_map}
+use Rattle.std.proofs.lemmas.Bool.{and_parts, le-leb, le-ltb, leb-true, true≢false}
 use Rattle.std.proofs.lemmas.Int.{ints}
-use Rattle.std.proofs.lemmas.Option.{none-some, same_Some}
+use Rattle.std.proofs.lemmas.Nat.{mul-le}
+use Rattle.std.proofs.lemmas.Option.{same_Some}
 use Rattle.sdm_num.specs.Readings.{OdometerReading, estimate_of}
+use Rattle.sdm_num.proofs.Comparisons.{le_of}
 use Rattle.sdm_rules.specs.declared.authorities.Authority.{Authority}
 use Rattle.sdm_rules.specs.declared.authorities.Authority.TheVariants.{Stop}
 use Rattle.sdm_rules.specs.declared.commands.Held.{Held}
 use Rattle.sdm_rules.specs.declared.data.SlopeKind.TheVariants.{Expected}
+use Rattle.sdm_rules.specs.declared.faults.CycleFault.TheVariants.{TimeBack}
 use Rattle.sdm_rules.specs.declared.limits.LimitKind.TheVariants.{Sbi}
 use Rattle.sdm_rules.specs.declared.records.Event.TheVariants as record_kinds
 use Rattle.sdm_rules.specs.declared.rows.Row.{Row}
 use Rattle.sdm_rules.specs.Cells.{place_of_cell}
 use Rattle.sdm_rules.specs.Commands.{commands_after, emergency_after, nothing_held}
-use Rattle.sdm_rules.specs.Curves.{place_at, corner, arc, stepped, arc_back, back}
+use Rattle.sdm_rules.specs.Curves.{place_at, corner, arc, stepped, arc_back, back, grain_energy}
 use Rattle.sdm_rules.specs.Data.{TrainAndTrack}
 use Rattle.sdm_rules.specs.Decelerations.{slope_at, slopes_of}
 use Rattle.sdm_rules.specs.Limits.{computed, limits_of, release_start}
@@ -87,8 +91,8 @@ first_brakes = ap commands_brake (opening_row line authority first) ∙ refl
 
 -- ---- readings past the SBI
 
-abbrev IsPastSbi : OdometerReading → Type 0
-IsPastSbi r = is_passed Sbi (limits_of computed line (estimate_of r)) 0 (situation_with line authority [] r) ≡ true
+abbrev is_past_sbi : OdometerReading → Bool
+is_past_sbi r = is_passed Sbi (limits_of computed line (estimate_of r)) 0 (situation_with line authority [] r)
 
 -- the state after the opening with these commands held
 abbrev holding : ℕ → Held → Supervision
@@ -104,7 +108,7 @@ unfolding ride_line plain_train_and_track plain_national situation_with
 in_use r = refl
 
 -- their rows command a brake
-brakes_past : (time : ℕ) (held : Held) (r : OdometerReading) → IsPastSbi r →
+brakes_past : (time : ℕ) (held : Held) (r : OdometerReading) → is_past_sbi r ≡ true →
     commands_brake (row_of (holding time held) r) ≡ true
 unfolding row_in commands_in commands_after triggers_of
 brakes_past time held r past =
@@ -166,69 +170,91 @@ go a b m m' h hs end e may rest = record {
 }
 
 -- an order has stood for the latency and the build-up
-abbrev IsOld : ℕ → Option ℕ → Type 0
-IsOld b None = ⊥
-IsOld b (Some o) = 1 * (1 + b) ≤ o
+abbrev is_old : ℕ → Option ℕ → Bool
+is_old b None = false
+is_old b (Some o) = nat_le (1 * (1 + b)) o
 
-old : (b o : ℕ) (order : Option ℕ) → order ≡ Some o → 1 * (1 + b) ≤ o → IsOld b order
-old b o order is long = subst (λ (x : Option ℕ). IsOld b x) (sym is) long
+old_is : (b o : ℕ) (order : Option ℕ) → order ≡ Some o → 1 * (1 + b) ≤ o → is_old b order ≡ true
+old_is b o order is long = subst (λ (x : Option ℕ). is_old b x ≡ true) (sym is) (le-leb _ _ long)
 
 -- a move of the train in a ds
 record Move : Type 0 where
   to : ℕ
   length : ℕ
 
--- it gains no more than the allowance, moves at most its mean speed, and brakes with 1 m/s² once the order is old
-record IsMove (a : Allowance) (b : ℕ) (order : Option ℕ) (p : ℤ) (v : ℕ) (x : Move) : Type 0 where
-  steady : nat_le x.to (v + 54 * a.accel) ≡ true
-  moves : Moves v x.to x.length
-  brakes : IsOld b order →
-      BrakesAtLeast plain_slopes 200_000_000_000 p (v * v) (p +ℤ pos x.length) (x.to * x.to)
+-- it brakes at least with 1 m/s²
+abbrev is_braking : ℤ → ℕ → Move → Bool
+is_braking p v x =
+    nat_le x.to v
+    && int_le (pos (27 * 200_000_000_000) *ℤ (p +ℤ pos x.length))
+    (pos (27 * 200_000_000_000) *ℤ p +ℤ pos (grain_energy plain_slopes (v * v - x.to * x.to)))
+
+braking_is : (p : ℤ) (v : ℕ) (x : Move) → is_braking p v x ≡ true →
+    BrakesAtLeast plain_slopes 200_000_000_000 p (v * v) (p +ℤ pos x.length) (x.to * x.to)
+braking_is p v x e =
+    let parts = and_parts (nat_le x.to v) _ e in
+    let le = leb-true x.to v parts.0 in
+    record { forward = omega (arith, ints); slower = mul-le _ _ _ _ le le; enough = le_of _ _ parts.1 }
+
+-- it gains no more than the allowance, is at most its mean speed long, and brakes once the order is old
+abbrev may_move : Allowance → ℕ → Option ℕ → ℤ → ℕ → Move → Bool
+may_move a b order p v x =
+    nat_le x.to (v + 54 * a.accel)
+    && (nat_le (2 * x.length) (1_000_000 * (v + x.to)) && (not (is_old b order) || is_braking p v x))
+
+if_old : (old braking : Bool) → (not old || braking) ≡ true → old ≡ true → braking ≡ true
+if_old true braking e is = e
+if_old false braking e is = absurd (true≢false (sym is))
 
 -- a tick of a move
 goes : (a : Allowance) (b : ℕ) (s : Supervision) (p : ℤ) (v age : ℕ) (order : Option ℕ) (x : Move)
-    (hs : List Happening) (end : ℤ) → IsMove a b order p v x →
+    (hs : List Happening) (end : ℤ) → may_move a b order p v x ≡ true →
     Going a b (moment s (p +ℤ pos x.length) x.to 1 (option_map (λ o. suc o) order) (suc age)) hs end →
     Going a b (moment s p v 0 order age) (Tick x.to x.length ∷ hs) end
 unfolding after
-goes a b s p v age order x hs end move rest =
+goes a b s p v age order x hs end may rest =
     let next = moment s (p +ℤ pos x.length) x.to 1 (option_map (λ o. suc o) order) (suc age) in
+    let steady = and_parts (nat_le x.to (v + 54 * a.accel)) _ may in
+    let moves = and_parts (nat_le (2 * x.length) (1_000_000 * (v + x.to))) _ steady.1 in
     go a b (moment s p v 0 order age) next (Tick x.to x.length) hs end
-    (ap (λ (steady : Bool). if steady then next else record next { promise = None }) move.steady)
+    (ap (λ (steady : Bool). if steady then next else record next { promise = None }) steady.0)
     (λ c is. subst (λ (c : Promise). IsByServiceOrders (delays b) 1 c (moment s p v 0 order age) x.to x.length)
     (same_Some _ c is)
     (record {
       in_time = omega arith;
-      moves = move.moves;
-      brakes = λ o is long. ([], braking_in (pos 5) Expected _ _ (move.brakes (old b o order is long)));
+      moves = leb-true _ _ moves.0;
+      brakes = λ o is long. (
+        [],
+        braking_in (pos 5) Expected _ _
+            (braking_is p v x (if_old (is_old b order) _ moves.1 (old_is b o order is long))),
+      );
     })) rest
 
 abbrev reads : ℕ → ℤ → ℕ → Happening
 reads time place speed = Record (record_kinds.Read (reading_at time place speed))
 
--- a reading that is past the SBI, in time
-record IsReadPast (last : ℕ) (p : ℤ) (v : ℕ) : Type 0 where
-  in_order : time_fault (Some last) (suc last) ≡ None
-  past : IsPastSbi (reading_at (suc last) p v)
+-- the next ds is in order
+later : (last : ℕ) → time_fault (Some last) (suc last) ≡ None
+later last = ap (λ (b : Bool). if b then Some (TimeBack last (suc last)) else None) (le-ltb (suc last) last (omega arith))
 
--- after it the service brake is ordered, and the promise stands
+-- after a reading past the SBI the service brake is ordered, and the promise stands
 read_past : (a : Allowance) (b last : ℕ) (held : Held) (p : ℤ) (v age : ℕ) (order : Option ℕ) (hs : List Happening)
-    (end : ℤ) → IsReadPast last p v →
+    (end : ℤ) → is_past_sbi (reading_at (suc last) p v) ≡ true →
     ((held : Held) → Going a b (moment (holding (suc last) held) p v 0 (ordered order) age) hs end) →
     Going a b (moment (holding last held) p v 1 order age) (reads (suc last) p v ∷ hs) end
 unfolding after step after_reading reading_at
-read_past a b last held p v age order hs end read rest =
+read_past a b last held p v age order hs end past rest =
     let under = holding last held in
     let m = moment under p v 1 order age in
     let r = reading_at (suc last) p v in
     let row = row_of under r in
-    let brakes = brakes_past last held r read.past in
+    let brakes = brakes_past last held r past in
     let unpromised : promises_eoa under r ≡ false = no_promise _ _ _ brakes in
     let next = after_reading under r in
     let stood : Promise = record { under = before; reading = first; age = age } in
     let new : Promise = record { under = under; reading = r; age = 0 } in
     go a b m (moment next p v 0 (ordered order) age) (reads (suc last) p v) hs end
-    (ap (λ f. after_record by_eoa m (record_kinds.Read r) (unless time_cause f next)) read.in_order
+    (ap (λ f. after_record by_eoa m (record_kinds.Read r) (unless time_cause f next)) (later last)
     ∙ ap (λ (x : Bool). record {
       supervision = next;
       place = p;
@@ -254,38 +280,49 @@ drive last p (x ∷ xs) end =
     Tick x.to x.length ∷ reads (suc last) (p +ℤ pos x.length) x.to
     ∷ drive (suc last) (p +ℤ pos x.length) xs end
 
-abbrev MayDrive : Allowance → ℕ → ℕ → Option ℕ → ℤ → ℕ → List Move → Move → ℤ → Type 0
-MayDrive a b last order p v [] end at = IsMove a b order p v end × (p +ℤ pos end.length ≡ at)
-MayDrive a b last order p v (x ∷ xs) end at =
-    IsMove a b order p v x × IsReadPast last (p +ℤ pos x.length) x.to
-    × MayDrive a b (suc last) (ordered (option_map (λ o. suc o) order)) (p +ℤ pos x.length) x.to xs end at
+-- each move may be made, and each reading is past the SBI
+abbrev may_drive : Allowance → ℕ → ℕ → Option ℕ → ℤ → ℕ → List Move → Move → Bool
+may_drive a b last order p v [] end = may_move a b order p v end
+may_drive a b last order p v (x ∷ xs) end =
+    may_move a b order p v x
+    && (is_past_sbi (reading_at (suc last) (p +ℤ pos x.length) x.to)
+    && may_drive a b (suc last) (ordered (option_map (λ o. suc o) order)) (p +ℤ pos x.length) x.to xs end)
+
+-- where the last one ends
+abbrev end_of : ℤ → List Move → Move → ℤ
+end_of p [] end = p +ℤ pos end.length
+end_of p (x ∷ xs) end = end_of (p +ℤ pos x.length) xs end
 
 drives : (a : Allowance) (b last : ℕ) (held : Held) (p : ℤ) (v age : ℕ) (order : Option ℕ) (xs : List Move)
-    (end : Move) (at : ℤ) → MayDrive a b last order p v xs end at →
-    Going a b (moment (holding last held) p v 0 order age) (drive last p xs end) at
-drives a b last held p v age order [] end at may =
-    goes a b (holding last held) p v age order end [] at may.0
-    (record { ride = tt; ends = may.1; stands = refl })
-drives a b last held p v age order (x ∷ xs) end at may =
+    (end : Move) → may_drive a b last order p v xs end ≡ true →
+    Going a b (moment (holding last held) p v 0 order age) (drive last p xs end) (end_of p xs end)
+drives a b last held p v age order [] end may =
+    goes a b (holding last held) p v age order end [] (end_of p [] end) may
+    (record { ride = tt; ends = refl; stands = refl })
+drives a b last held p v age order (x ∷ xs) end may =
     let q = p +ℤ pos x.length in
     let stood = option_map (λ o. suc o) order in
-    goes a b (holding last held) p v age order x (reads (suc last) q x.to ∷ drive (suc last) q xs end) at may.0
-    (read_past a b last held q x.to (suc age) stood (drive (suc last) q xs end) at may.1
-    (λ now. drives a b (suc last) now q x.to (suc age) (ordered stood) xs end at may.2))
+    let parts = and_parts (may_move a b order p v x) _ may in
+    let rest = and_parts (is_past_sbi (reading_at (suc last) q x.to)) _ parts.1 in
+    goes a b (holding last held) p v age order x (reads (suc last) q x.to ∷ drive (suc last) q xs end)
+    (end_of q xs end) parts.0
+    (read_past a b last held q x.to (suc age) stood (drive (suc last) q xs end) (end_of q xs end) rest.0
+    (λ now. drives a b (suc last) now q x.to (suc age) (ordered stood) xs end rest.1))
 
 -- from the first reading on
 abbrev from_first : List Move → Move → List Happening
 from_first xs end = reads 0 (pos 5_335_200_000_000) 10_800 ∷ drive 0 (pos 5_335_200_000_000) xs end
 
-from_start : (a : Allowance) (b : ℕ) (xs : List Move) (end : Move) (at : ℤ) →
-    MayDrive a b 0 None (pos 5_335_200_000_000) 10_800 xs end at → Going a b start (from_first xs end) at
+from_start : (a : Allowance) (b : ℕ) (xs : List Move) (end : Move) →
+    may_drive a b 0 None (pos 5_335_200_000_000) 10_800 xs end ≡ true →
+    Going a b start (from_first xs end) (end_of (pos 5_335_200_000_000) xs end)
 unfolding after step after_reading reading_at
-from_start a b xs end at may =
+from_start a b xs end may =
     let next = after_reading before first in
     let row = row_of before first in
     let p : ℤ = pos 5_335_200_000_000 in
     let new : Promise = record { under = before; reading = first; age = 0 } in
-    go a b start (moment next p 10_800 0 None 0) (reads 0 p 10_800) (drive 0 p xs end) at
+    go a b start (moment next p 10_800 0 None 0) (reads 0 p 10_800) (drive 0 p xs end) (end_of p xs end)
     (ap (λ (x : Bool). record {
       supervision = next;
       place = p;
@@ -296,7 +333,7 @@ from_start a b xs end at may =
     }) first_promises
     ∙ ap (λ (x : Bool). moment next p 10_800 0 (if x then Some 0 else None) 0) first_brakes)
     (λ promises. record { front = omega (arith, ints); speed = omega arith })
-    (drives a b 0 _ p 10_800 0 None xs end at may)
+    (drives a b 0 _ p 10_800 0 None xs end may)
 
 -- ---- without an allowance
 
@@ -317,31 +354,7 @@ in_time = runs ∷ runs ∷ runs ∷ runs ∷ runs ∷ brakes ∷ []
 a_ride : Going no_allowance 3 start (from_first in_time stops) (pos 5_400_000_000_000)
 unfolding ride_line plain_train_and_track plain_national plain_band reading_at situation_with targets_of mrsp limits_of
     release_start reaction_times slopes_of slope_at stepped place_at corner arc arc_back back plain_slopes
-a_ride = from_start no_allowance 3 in_time stops (pos 5_400_000_000_000) (
-  record { steady = refl; moves = omega arith; brakes = λ late. absurd late },
-  record { in_order = refl; past = refl },
-  (
-    record { steady = refl; moves = omega arith; brakes = λ late. absurd (omega arith) },
-    record { in_order = refl; past = refl },
-    (
-      record { steady = refl; moves = omega arith; brakes = λ late. absurd (omega arith) },
-      record { in_order = refl; past = refl },
-      (
-        record { steady = refl; moves = omega arith; brakes = λ late. absurd (omega arith) },
-        record { in_order = refl; past = refl },
-        (
-          record { steady = refl; moves = omega arith; brakes = λ late. absurd (omega arith) },
-          record { in_order = refl; past = refl },
-          (
-            record { steady = refl; moves = omega arith; brakes = λ late. record { forward = omega (arith, ints); slower = omega arith; enough = omega (arith, ints) } },
-            record { in_order = refl; past = refl },
-            (record { steady = refl; moves = omega arith; brakes = λ late. record { forward = omega (arith, ints); slower = omega arith; enough = omega (arith, ints) } }, refl),
-          ),
-        ),
-      ),
-    ),
-  ),
-)
+a_ride = from_start no_allowance 3 in_time stops refl
 
 -- The same with a brake that works 0.1 s later is a ride by the orders, too, and ends 2 cm past the EOA: the T_bs that
 -- was handed in has to hold the delays
@@ -351,35 +364,7 @@ late = runs ∷ in_time
 a_late_ride : Going no_allowance 4 start (from_first late stops) (pos 5_410_800_000_000)
 unfolding ride_line plain_train_and_track plain_national plain_band reading_at situation_with targets_of mrsp limits_of
     release_start reaction_times slopes_of slope_at stepped place_at corner arc arc_back back plain_slopes
-a_late_ride = from_start no_allowance 4 late stops (pos 5_410_800_000_000) (
-  record { steady = refl; moves = omega arith; brakes = λ late. absurd late },
-  record { in_order = refl; past = refl },
-  (
-    record { steady = refl; moves = omega arith; brakes = λ late. absurd (omega arith) },
-    record { in_order = refl; past = refl },
-    (
-      record { steady = refl; moves = omega arith; brakes = λ late. absurd (omega arith) },
-      record { in_order = refl; past = refl },
-      (
-        record { steady = refl; moves = omega arith; brakes = λ late. absurd (omega arith) },
-        record { in_order = refl; past = refl },
-        (
-          record { steady = refl; moves = omega arith; brakes = λ late. absurd (omega arith) },
-          record { in_order = refl; past = refl },
-          (
-            record { steady = refl; moves = omega arith; brakes = λ late. absurd (omega arith) },
-            record { in_order = refl; past = refl },
-            (
-              record { steady = refl; moves = omega arith; brakes = λ late. record { forward = omega (arith, ints); slower = omega arith; enough = omega (arith, ints) } },
-              record { in_order = refl; past = refl },
-              (record { steady = refl; moves = omega arith; brakes = λ late. record { forward = omega (arith, ints); slower = omega arith; enough = omega (arith, ints) } }, refl),
-            ),
-          ),
-        ),
-      ),
-    ),
-  ),
-)
+a_late_ride = from_start no_allowance 4 late stops refl
 
 -- so what the law says is false of the second: while the promise of the first reading stands, the train is past its EOA
 late_passes : KeepsPromise IsByItsEoa 1 (last_of no_allowance start (from_first late stops)) → ⊥
@@ -429,48 +414,4 @@ gained =
 a_gaining_ride : Going gaining 3 start (from_first gained stops) (pos 5_589_000_000_000)
 unfolding ride_line plain_train_and_track plain_national plain_band reading_at situation_with targets_of mrsp limits_of
     release_start reaction_times slopes_of slope_at stepped place_at corner arc arc_back back plain_slopes
-a_gaining_ride = from_start gaining 3 gained stops (pos 5_589_000_000_000) (
-  record { steady = refl; moves = omega arith; brakes = λ late. absurd late },
-  record { in_order = refl; past = refl },
-  (
-    record { steady = refl; moves = omega arith; brakes = λ late. absurd (omega arith) },
-    record { in_order = refl; past = refl },
-    (
-      record { steady = refl; moves = omega arith; brakes = λ late. absurd (omega arith) },
-      record { in_order = refl; past = refl },
-      (
-        record { steady = refl; moves = omega arith; brakes = λ late. absurd (omega arith) },
-        record { in_order = refl; past = refl },
-        (
-          record { steady = refl; moves = omega arith; brakes = λ late. absurd (omega arith) },
-          record { in_order = refl; past = refl },
-          (
-            record { steady = refl; moves = omega arith; brakes = λ late. record { forward = omega (arith, ints); slower = omega arith; enough = omega (arith, ints) } },
-            record { in_order = refl; past = refl },
-            (
-              record { steady = refl; moves = omega arith; brakes = λ late. record { forward = omega (arith, ints); slower = omega arith; enough = omega (arith, ints) } },
-              record { in_order = refl; past = refl },
-              (
-                record { steady = refl; moves = omega arith; brakes = λ late. record { forward = omega (arith, ints); slower = omega arith; enough = omega (arith, ints) } },
-                record { in_order = refl; past = refl },
-                (
-                  record { steady = refl; moves = omega arith; brakes = λ late. record { forward = omega (arith, ints); slower = omega arith; enough = omega (arith, ints) } },
-                  record { in_order = refl; past = refl },
-                  (
-                    record { steady = refl; moves = omega arith; brakes = λ late. record { forward = omega (arith, ints); slower = omega arith; enough = omega (arith, ints) } },
-                    record { in_order = refl; past = refl },
-                    (
-                      record { steady = refl; moves = omega arith; brakes = λ late. record { forward = omega (arith, ints); slower = omega arith; enough = omega (arith, ints) } },
-                      record { in_order = refl; past = refl },
-                      (record { steady = refl; moves = omega arith; brakes = λ late. record { forward = omega (arith, ints); slower = omega arith; enough = omega (arith, ints) } }, refl),
-                    ),
-                  ),
-                ),
-              ),
-            ),
-          ),
-        ),
-      ),
-    ),
-  ),
-)
+a_gaining_ride = from_start gaining 3 gained stops refl

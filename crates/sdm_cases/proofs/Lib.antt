@@ -13,6 +13,7 @@ mod MachineCases
 mod MotionCases
 mod StopCases
 mod ReleaseCases
+mod ReleaseLimitCases
 mod DisplayCases
 mod PromiseCases
 mod HeadlineCases

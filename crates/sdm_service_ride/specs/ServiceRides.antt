@@ -45,7 +45,7 @@ IsServiceBraked s c m to length =
     × BrakesBy (slopes_of Expected c.under.train_and_track) (s * s) (point_of m) via
     (point_of (after_tick m to length))
 
--- T_bs of the reading that gave a promise, in ds (SUBSET-026-3 3.13.9.3.2)
+-- T_bs of the reading that gave a promise, in ds (SUBSET-026-3 3.13.9.3.3)
 abbrev pub service_time : Promise → ℕ
 service_time c = (reaction_times c.under.train_and_track).bs
 
