@@ -1,6 +1,7 @@
 -- The data part, from one read to the next.
 use Rattle.std.proofs.Common.{◌≡◌, ◌∙◌, ◌<◌, sym, ap, subst, refl, ℕ, List, [], ◌∷◌, ◌++◌, append-nil, append_assoc, true}
-use Rattle.std.proofs.Common.{Option, Some, None, length, drop, cc}
+use Rattle.std.proofs.Common.{Option, Some, None, length, drop, arith}
+use Rattle.std.proofs.lemmas.List.{drop_all}
 use Rattle.sdm_live.specs.Exchanges.{Along, Gave, Gave_fault, History, Told, asked_at, came, is_given_on, sent}
 use Rattle.sdm_live_data.specs.Divisions.{HasNoRecords}
 use Rattle.sdm_live_data.specs.Waiting.{IsGathered, IsUnanswered, IsWaiting, IsWaitingPrompt}
@@ -35,10 +36,7 @@ at_first (Some h) told bytes is =
     })
 
 pub none_begun : (bytes : List ℕ) → bytes ≡ [] → HasNoRecords bytes
-none_begun bytes is d r at = ap (λ xs. drop r xs) is ∙ drop_nil r
-  where
-    drop_nil : (n : ℕ) → drop n ([] : List ℕ) ≡ []
-    drop_nil n = search rules
+none_begun bytes is d r at = drop_all r bytes (omega (arith, ap length is))
 
 pub waiting : (bytes : List ℕ) → HasNoRecords bytes → (h k : History) → IsGathered bytes h k → IsWaiting h k
 waiting bytes none h k so_far = record {
