@@ -25,7 +25,7 @@ pub ruleset taken_records = (taken_event, refused_event)
 taken_turn : (s t : Supervision) (written : Result Event EventFault) (row : Option Row) →
     (taken : IsTakenRecord s t written row) →
     turn_of s written ≡ Ok (record { before = s; event = taken.0; after = t })
-taken_turn s t written row taken = rw (taken.1, taken.2.0) refl
+taken_turn s t written row taken = rw (taken.1, taken.2) refl
 
 pub taken_state : (s t : Supervision) (written : Result Event EventFault) (row : Option Row) →
     IsTakenRecord s t written row → t ≡ state_after s (turn_of s written)
@@ -34,6 +34,6 @@ taken_state s t written row taken = sym (ap (state_after s) (taken_turn s t writ
 pub taken_answer : (s t : Supervision) (written : Result Event EventFault) (row : Option Row) →
     IsTakenRecord s t written row → taken_text row ≡ answer_to (turn_of s written)
 taken_answer s t written row taken =
-    ap taken_text taken.2.1 ∙ sym (ap answer_to (taken_turn s t written row taken))
+    ap taken_text taken.3 ∙ sym (ap answer_to (taken_turn s t written row taken))
 
 pub ruleset answers = (taken_state, taken_answer)

@@ -25,9 +25,13 @@ pub struct LiveRecords {
 }
 
 impl Model for LiveRecords {
+    ghost use Rattle.std.specs.Coded.{codes};
+    ghost use Rattle.sdm_speed.specs.Codes.{coded_restrictions};
     ghost use Rattle.sdm_live_records.specs.Live.{LiveState};
 
     ghost Value = { LiveState };
+
+    ghost coded = { Prim.hlevel (codes, coded_restrictions) };
 
     ghost view = { λ r. record { supervision = r.supervisor; text = r.answer } };
 }
