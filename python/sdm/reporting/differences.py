@@ -49,9 +49,8 @@ class Comparison:
         if not differing:
             return matching + "Nothing differs by more than the tolerances."
         first = min((found[0] for found in self.beyond.values() if found), key=lambda each: each.row)
-        return matching + (
-            f"{len(differing)} rows differ by more than the tolerances, first {told_of(first, self.rows)}."
-        )
+        many = "1 row differs" if len(differing) == 1 else f"{len(differing)} rows differ"
+        return f"{matching}{many} by more than the tolerances, first {told_of(first, self.rows)}."
 
     def table(self) -> Table:
         """The statistics by column, under a head; a column that the recording lacks says so."""
