@@ -24,7 +24,7 @@ from sdm.drawing.certificate import check_journey
 from sdm.drawing.drive import drive_journey
 from sdm.drawing.journey import display_journey, flat_journey, run_journey
 from sdm.drawing.places import place_panel
-from sdm.drawing.sheet import BETWEEN, HEIGHT, WIDTH, Sheet
+from sdm.drawing.sheet import BETWEEN, HEIGHT, NOTE, WIDTH, Sheet
 from sdm.drawing.strips import height_of, strip_panel
 from sdm.drawing.values import Journey, Span, Window
 from sdm.laboratory.program import Fault
@@ -57,12 +57,14 @@ def write(path: str, picture: bytes) -> None:
         raise Fault(f"{path} can't be written: {why.strerror}.") from None
 
 
-def sheet_of(journey: Journey, size: tuple[int, int], title: str) -> Sheet:
+def sheet_of(journey: Journey, size: tuple[int, int] | None, title: str) -> Sheet:
     """The sheet of a picture: its notes say of the first rows that the model has otherwise which columns, and how
-    much."""
+    much. Where no size is given, it is higher by them."""
     notes = journey.notes[:MOST_NOTES]
     more = len(journey.notes) - len(notes)
-    return Sheet(*size, title, tuple(notes + [f"and {more} rows more"] * bool(more)))
+    notes += [f"and {more} rows more"] * bool(more)
+    width, height = size or (WIDTH, HEIGHT + NOTE * len(notes))
+    return Sheet(width, height, title, tuple(notes))
 
 
 def script_of(
@@ -70,14 +72,15 @@ def script_of(
     form: str,
     places: Span | None = None,
     speeds: Span | None = None,
-    size: tuple[int, int] = (WIDTH, HEIGHT),
+    size: tuple[int, int] | None = None,
     title: str = "",
 ) -> str:
     """The script for gnuplot of a picture of a form, .svg or .png: both panels, one above the other."""
-    sheet, (width, height) = sheet_of(journey, size, title), size
+    sheet = sheet_of(journey, size, title)
+    terminal = f"{TERMINALS[form]} size {sheet.width},{sheet.height}"
     lines = [
         "set encoding utf8",
-        f"set terminal {TERMINALS[form]} size {width},{height} font 'sans-serif,12' noenhanced background '#FFFFFF'",
+        f"set terminal {terminal} font 'sans-serif,12' noenhanced background '#FFFFFF'",
         "set multiplot; set tics nomirror; set border lw 0.8",
     ]
     lines += place_panel(journey, sheet, height_of(journey, sheet) + BETWEEN, places, speeds)
@@ -131,7 +134,7 @@ def plot(
     times: tuple[float, float] = ALL,
     places: tuple[float, float] | None = None,
     speeds: tuple[float, float] | None = None,
-    size: tuple[int, int] = (WIDTH, HEIGHT),
+    size: tuple[int, int] | None = None,
     title: str = "",
 ) -> Picture:
     """The picture of a journey: times in s, places in m and speeds in km/h draw a part of it. Its size is in pixels; a
@@ -175,7 +178,6 @@ def words_of(args: list[str]) -> argparse.Namespace:
         nargs=2,
         type=int,
         metavar=("WIDTH", "HEIGHT"),
-        default=(WIDTH, HEIGHT),
         help=f"the size in pixels, {WIDTH} {HEIGHT} where it isn't said",
     )
     parser.add_argument(
@@ -192,7 +194,8 @@ def words_of(args: list[str]) -> argparse.Namespace:
         part = getattr(words, name)
         if part and not part[0] < part[1]:
             parser.error(f"--{name} is {part[0]:g} to {part[1]:g}: the first must be below the second")
-    if any(not least <= size <= MOST_PIXELS for least, size in zip(LEAST_PIXELS, words.size)):
+    words.size = words.size and (words.size[0], words.size[1])
+    if words.size and any(not least <= size <= MOST_PIXELS for least, size in zip(LEAST_PIXELS, words.size)):
         parser.error(f"--size is {LEAST_PIXELS[0]} to {MOST_PIXELS} by {LEAST_PIXELS[1]} to {MOST_PIXELS} pixels")
     if len(words.words) > 1 or words.words[0] not in JOURNEYS:
         number_words(words.words, parser)
@@ -221,9 +224,7 @@ def main(args: list[str]) -> int:
         journey = journey_of(words, source, rows.decode(errors="replace"))
         count = len(journey.readings)
         title = title_of(words.words, count, input=source, rows=rows) if words.title is None else words.title
-        script = script_of(
-            journey, Path(words.out).suffix, words.places, words.speeds, (words.size[0], words.size[1]), title
-        )
+        script = script_of(journey, Path(words.out).suffix, words.places, words.speeds, words.size, title)
         write(words.out, drawn(script, f"{' '.join(['sdm', *words.words])}: {count} readings"))
         if journey.note:
             print(f"plot: {journey.note}; tools/why tells of a row why it is as the model has it.", file=sys.stderr)

@@ -1,15 +1,22 @@
 """campaign runs what is left, tells the ends, and shows where expected rows differ."""
+import csv
 import shutil
 import tempfile
 import unittest
 from pathlib import Path
 
+from sdm.campaign import statistics
+from sdm.laboratory.statistics import Margin
+
+from ..folders import EXAMPLES
 from ..tool import program, tool
 
 # A program whose rows are its input, and which ends with 7 where it reads a row `bad`.
 COPIES = (
     'cat > "$0.$$"; cat "$0.$$"; if grep -q bad "$0.$$"; then echo "sdm: bad event 2: line" >&2; exit 7; fi; rm "$0.$$"'
 )
+# A program that writes the rows of approach where it reads its input.
+WRITES = 'cat > "$0.$$"; cmp -s "$0.$$" {0}/approach/input && cat {0}/approach/rows; rm "$0.$$"'
 JOURNEYS = {"a": ("1\n", "", "0"), "b": ("2\n3\n", "", "0"), "c": ("4\nbad\n", "sdm: bad event 2: line\n", "7")}
 
 
@@ -88,6 +95,31 @@ class Campaign(unittest.TestCase):
             told = self.campaign("--again")[1]
             self.assertIn(due, told)
             self.assertIn("2 as due, 1 differ" if due else "3 as due, 0 differ", told)
+
+    def test_statistics(self):
+        """Those of approach, counted by hand from its rows and its readings."""
+        shutil.copytree(EXAMPLES / "approach", self.folder / "approach")
+        words = ("--program", program(self.room, WRITES.format(EXAMPLES)), "--jobs", "1", "--statistics")
+        _, told, _ = tool("campaign", self.folder, *words, "--csv", self.room / "summary.csv")
+        found = statistics(self.folder)
+        self.assertEqual([each.name for each in found.journeys], ["approach", "group/a", "group/b", "group/c"])
+        approach = found.journeys[0]
+        self.assertEqual((approach.verdict, approach.code, approach.readings, approach.covered), ("as due", 0, 4, 3))
+        self.assertEqual(approach.commanded, {"tco": 2, "sb": 1, "eb": 2})
+        self.assertEqual(approach.set, {"tco": 1, "sb": 1, "eb": 1})
+        self.assertEqual(approach.statuses, {"W": 1, "X": 2, "N": 1})
+        self.assertEqual(approach.margins, {"ebi": Margin(-10, 2), "permitted": Margin(-80_010, 2)})
+        self.assertEqual((approach.fastest_mm_s, approach.way_mm), (20_000, 100_010))
+        self.assertGreater(approach.microseconds, 0)
+        self.assertEqual((found.readings, found.commanded("eb"), found.journeys[1].readings), (4, (2, 1, 1), 0))
+        self.assertIn("least way from the max safe front end to EBI: -10 mm, approach row 2\n", told)
+        self.assertRegex(told, r"\nslow: [\d.]+ ms, \d readings, ")
+        with open(self.room / "summary.csv", newline="") as file:
+            lines = list(csv.DictReader(file))
+        self.assertEqual([line["journey"] for line in lines], [each.name for each in found.journeys])
+        self.assertEqual(
+            (lines[0]["eb_readings"], lines[0]["least_to_ebi_mm"], lines[0]["status_X"]), ("2", "-10", "2")
+        )
 
     def test_what_can_t_be_run(self):
         self.assertIn("There is no program at", tool("campaign", self.folder, "--program", self.room / "none")[2])

@@ -1,4 +1,5 @@
 """tools/plot draws what the pages of examples/ work out, and refuses in a sentence what can't be drawn."""
+import hashlib
 import os
 import re
 import subprocess
@@ -7,6 +8,10 @@ import unittest
 import xml.dom.minidom
 from pathlib import Path
 from unittest import mock
+
+import sdm
+from sdm.laboratory.line import a_run
+from sdm.model.words import collect
 
 from ..folders import EXAMPLES, TOP
 from ..tool import tool
@@ -128,6 +133,65 @@ class OfRun(Plot):
         self.assert_marks(self.drawn("-", APPROACH[1], *words, data=APPROACH[0].read_bytes()), 2)
 
 
+class OfLong(Plot):
+    """Journeys over a line, with rows by the model."""
+
+    @classmethod
+    def setUpClass(cls):
+        cls.source = a_run(5, 24, 4)
+        cls.rows = collect(["run"], cls.source)[0]
+
+    def files(self, rows=None):
+        paths = self.room / "input", self.room / "rows"
+        paths[0].write_bytes(self.source)
+        paths[1].write_text(self.rows if rows is None else rows)
+        return paths
+
+    def test_an_overview_by_kilometres_is_small(self):
+        svg = self.drawn(*self.files())
+        self.assert_texts(svg, "place (km); 10; 20; SvL")
+        self.assertLess(len(svg.text), 400_000)
+        readings = self.rows.count("\n")
+        self.assertTrue(100 < len(svg.marks(6)) < readings / 3, (len(svg.marks(6)), readings))
+
+    def test_a_window_of_places_has_its_readings_alone(self):
+        svg = self.drawn(*self.files(), "--places", "3000", "3400")
+        self.assert_texts(svg, "place (m)")
+        read = [list(map(int, line.split(b",")[1:])) for line in self.source.splitlines() if line.startswith(b"read")]
+        inside = [each for each in read if each[2] <= 3_400_000 and each[3] >= 3_000_000]
+        self.assertIn(f"{len(inside)} readings", svg.text)
+
+    def test_a_row_outside_a_window_isn_t_worked_out(self):
+        lines = self.rows.splitlines(True)
+        lines[0] = lines[0].replace(",N,", ",X,")
+        files = self.files("".join(lines))
+        self.drawn(*files, "--times", "100", "120")
+        self.drawn(*files, "--times", "0", "20", told="the model has otherwise: 1;")
+
+
+class OfSheets(Plot):
+    def test_a_title_has_the_version_and_digests(self):
+        svg = self.drawn(*APPROACH)
+        sums = [hashlib.sha256(path.read_bytes()).hexdigest()[:12] for path in APPROACH]
+        title = f"sdm run: 4 readings; sdm {sdm.__version__}; SHA-256 of input {sums[0]}, rows {sums[1]}"
+        self.assertIn(f"<text>{title}</text>", svg.text)
+        self.assert_texts(self.drawn(*APPROACH, "--title", 'my "own" \\ title'), 'my "own" \\ title')
+        self.assertNotIn(sdm.__version__, self.drawn(*APPROACH, "--title", "").text)
+
+    def test_a_size(self):
+        svg = self.drawn(*APPROACH, "--size", "1500", "800")
+        self.assertRegex(svg.text, r'<svg[^>]*\s+width="1500" height="800"')
+        png = self.drawn(*APPROACH, "--size", "1500", "800", name="approach.png")
+        self.assertEqual((int.from_bytes(png[16:20], "big"), int.from_bytes(png[20:24], "big")), (1500, 800))
+
+    def test_which_column_is_altered_and_how_much(self):
+        altered = self.altered("approach", "^10,T,X,0,0,1,1,160,887500", "10,T,X,0,0,0,1,160,887507")
+        svg = self.drawn(APPROACH[0], altered, told="the model has otherwise: 3;")
+        told = "row 3 at 1 s: eb 0, the model's 1; EBI 887507, the model's 887500 (7 mm more)"
+        self.assertIn(f"<text>{told}</text>", svg.text)
+        self.assert_texts(svg, "eb EBI")
+
+
 class OfOthers(Plot):
     def test_flat(self):
         self.assert_texts(self.example("flat", "flat", "100", "100000"), "END")
@@ -235,6 +299,7 @@ class Refused(Plot):
             (1, "no claims: bad event 1: line", source, answers, no, "check"),
             (2, "must end with .svg or .png", source, rows, self.room / "no.pdf"),
             (2, "the first must be below the second", source, rows, no, "--times", "5", "1"),
+            (2, "--size is 480 to 8000 by 400 to 8000 pixels", source, rows, no, "--size", "100", "660"),
             (2, "required: OUT", source, rows),
         ]:
             with self.subTest(told):
