@@ -7,6 +7,7 @@ bands are of odd seeds alone.
     tools/journeys lines FIRST COUNT        a line of JSON for each seed, to standard output
     tools/journeys input SEED               the input of one seed
     tools/journeys drive SEED               the input of its drive
+    tools/journeys line SEED KM             the input of a run over a line of so many km, 2 to 95
     tools/journeys specials DIR             a folder for each input at the limits of the formats
 
 A line has `seed`, `name` (what the journey is about), `args`, `input` (base64), `rows`, `err`, `code`.
@@ -23,6 +24,7 @@ from sdm.model.aimed import Maker
 from sdm.model.data import Limit, Stop, data_of
 from sdm.model.documents import SPEEDS, UPPERS, a_document, a_grad, an_open_document, some_starts
 from sdm.model.journey import Supervisor
+from sdm.model.line import a_run
 from sdm.model.outcome import Outcome, Refused
 from sdm.model.records import Calculated, Reading, Restriction, Revocation
 from sdm.model.release import release_start
@@ -352,6 +354,9 @@ def write_folder(folder: Path, words: list[str], name: str, data: bytes) -> None
 def main(words: list[str]) -> int:
     if len(words) == 2 and words[0] in ("input", "drive"):
         sys.stdout.buffer.write(make(int(words[1]))[-1] if words[0] == "input" else a_drive(int(words[1]))[-1])
+        return 0
+    if len(words) == 3 and words[0] == "line" and 2 <= int(words[2]) <= 95:
+        sys.stdout.buffer.write(a_run(int(words[1]), int(words[2])))
         return 0
     if len(words) == 2 and words[0] == "specials":
         for name, data in specials():

@@ -1,10 +1,10 @@
-"""What a replayed reading leaves is what it leaves where it is worked out; a late row of a long journey is told soon."""
+"""A replayed reading leaves what it leaves where it is worked out; a late row of a long journey is told soon."""
 import time
 import unittest
 from unittest import mock
 
 from sdm.laboratory.events import events_of
-from sdm.laboratory.line import a_run
+from sdm.model.line import a_run
 from sdm.laboratory.program import Fault
 from sdm.laboratory.walk import ALL, Walk, at_row, at_rows
 from sdm.model.journeys import make

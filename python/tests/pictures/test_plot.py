@@ -10,7 +10,7 @@ from pathlib import Path
 from unittest import mock
 
 import sdm
-from sdm.laboratory.line import a_run
+from sdm.model.line import a_run
 from sdm.model.words import collect
 
 from ..folders import EXAMPLES, TOP
