@@ -3,3 +3,4 @@ pub mod HandleSteps
 pub mod ReadingRanges
 pub mod Returned
 pub mod Answered
+pub mod CycleInC

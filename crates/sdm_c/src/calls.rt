@@ -9,6 +9,9 @@ ghost use Rattle.sdm_rules.specs.Release.{calculated};
 ghost use Rattle.sdm_rules.specs.Stop.{IsSafe};
 ghost use Rattle.sdm_rules.specs.Supervision.{after_authority, after_reading, after_restriction, after_revocation};
 ghost use Rattle.sdm_rules.specs.Supervision.{row_of};
+ghost use Rattle.sdm_laws.specs.Falls.{MeetsFalls};
+ghost use Rattle.sdm_row_laws.specs.AllCommands.{KeepsAllOrder};
+ghost use Rattle.sdm_row_laws.specs.ServiceStop.{CommandsNoBrake, StopsByItsEoa};
 ghost use Rattle.sdm_c.specs.Codes.{display_in_c, row_in_c};
 ghost use Rattle.sdm_c.specs.Numbers.{reading_from, restriction_from};
 ghost use Rattle.sdm_c.specs.Statuses.{authority_answer, calculated_answer, cycle_answer, display_answer};
@@ -30,7 +33,14 @@ pub fn cycle(supervisor: &mut Supervisor, reading: ReadingC, row: &mut RowC) -> 
     ensures row { result ≡ DONE → row.new ≡ row_in_c (row_of supervisor.old (reading_from reading)) }
     ensures taken { result ≡ DONE → supervisor.new ≡ after_reading supervisor.old (reading_from reading) }
     ensures order { result ≡ DONE → KeepsOrder supervisor.old (reading_from reading) (row.new.eb == 1) }
+    ensures commands { result ≡ DONE →
+        KeepsAllOrder supervisor.old (reading_from reading) (row_of supervisor.old (reading_from reading)) }
     ensures safe { result ≡ DONE → row.new.covered ≡ 1 → IsSafe supervisor.old (reading_from reading) }
+    ensures eoa { result ≡ DONE →
+        CommandsNoBrake (reading_from reading) (row_of supervisor.old (reading_from reading)) →
+        StopsByItsEoa supervisor.old (reading_from reading) }
+    ensures falls { result ≡ DONE → row.new.covered ≡ 1 → row.new.eb ≡ 0 →
+        MeetsFalls supervisor.old (reading_from reading) }
     ensures gaps { result ≡ DONE → row.new.eb ≡ 0 → HasOnlyGaps supervisor.old (reading_from reading) }
     ensures ceiling { result ≡ DONE → row.new.eb ≡ 0 →
         IsWithinCeiling (reading_from reading) (row_of supervisor.old (reading_from reading)) }

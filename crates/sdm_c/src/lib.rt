@@ -22,6 +22,9 @@ ghost use Rattle.sdm_rules.specs.Release.{calculated};
 ghost use Rattle.sdm_rules.specs.Stop.{IsSafe};
 ghost use Rattle.sdm_rules.specs.Supervision.{after_authority, after_reading, after_restriction, after_revocation};
 ghost use Rattle.sdm_rules.specs.Supervision.{row_of};
+ghost use Rattle.sdm_laws.specs.Falls.{MeetsFalls};
+ghost use Rattle.sdm_row_laws.specs.AllCommands.{KeepsAllOrder};
+ghost use Rattle.sdm_row_laws.specs.ServiceStop.{CommandsNoBrake, StopsByItsEoa};
 ghost use Rattle.sdm_report.specs.OutcomeLines.{outcome_line};
 ghost use Rattle.sdm_c.specs.Codes.{IsLine, display_in_c, row_in_c};
 ghost use Rattle.sdm_c.specs.Lending.{IsInit, with_state};
@@ -94,14 +97,23 @@ pub extern "C" fn sdm_open(alloc: Global, h: &mut Handle, given: &[u8], line: &m
 }
 
 /// Judges a reading and writes its row. Where the row is covered, every motion within the bounds of the reading stops
-/// at or before the SvL, if there is one. (SUBSET-026-3 3.13.10; statuses own)
+/// at or before the SvL, if there is one. Where it is of a moving train and commands no brake, outside release speed
+/// monitoring, the service brake stops the train at or before the EOA, if there is one. (SUBSET-026-3 3.13.10;
+/// statuses own)
 #[unsafe(no_mangle)]
 pub extern "C" fn sdm_cycle(h: &mut Handle, reading: &ReadingC, row: &mut RowC) -> u32
     ensures status { result ≡ cycle_status h.old reading.now }
     ensures row { result ≡ DONE → row.new ≡ row_in_c (row_of h.old.state (reading_from reading.now)) }
     ensures taken { result ≡ DONE → h.new ≡ with_state h.old (after_reading h.old.state (reading_from reading.now)) }
     ensures order { result ≡ DONE → KeepsOrder h.old.state (reading_from reading.now) (row.new.eb == 1) }
+    ensures commands { result ≡ DONE →
+        KeepsAllOrder h.old.state (reading_from reading.now) (row_of h.old.state (reading_from reading.now)) }
     ensures safe { result ≡ DONE → row.new.covered ≡ 1 → IsSafe h.old.state (reading_from reading.now) }
+    ensures eoa { result ≡ DONE →
+        CommandsNoBrake (reading_from reading.now) (row_of h.old.state (reading_from reading.now)) →
+        StopsByItsEoa h.old.state (reading_from reading.now) }
+    ensures falls { result ≡ DONE → row.new.covered ≡ 1 → row.new.eb ≡ 0 →
+        MeetsFalls h.old.state (reading_from reading.now) }
     ensures gaps { result ≡ DONE → row.new.eb ≡ 0 → HasOnlyGaps h.old.state (reading_from reading.now) }
     ensures ceiling { result ≡ DONE → row.new.eb ≡ 0 →
         IsWithinCeiling (reading_from reading.now) (row_of h.old.state (reading_from reading.now)) }

@@ -57,6 +57,7 @@ pub record IsMachineOf (s : Supervision) (r : OdometerReading) : Type 0 where
   pub must : (h : Held) → (must_hold s r h).eb ≡ must_after s r h.eb
   pub may : (h : Held) → (may_hold s r h).eb ≡ may_after s r h.eb
 
+-- so it is in every state, at every reading
 abbrev pub LawOfRowMachine : Type 0
 LawOfRowMachine = (s : Supervision) (r : OdometerReading) → IsMachineOf s r
 
@@ -109,6 +110,7 @@ LawOfEmergencyOrder = (s : Supervision) (r : OdometerReading) (row : Row) → Ke
 
 -- ---- every journey
 
+-- the row of a reading is in order; other records have no row
 abbrev pub IsTurnInOrder : Held → Held → Supervision → Event → Type 0
 IsTurnInOrder must may s (record_kinds.Read r) = IsRowInOrder must may s r (row_of s r)
 IsTurnInOrder must may s (record_kinds.Authority a) = ⊤

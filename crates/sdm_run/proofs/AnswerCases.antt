@@ -7,13 +7,17 @@ use Rattle.std.proofs.lemmas.List.{length-append}
 use Rattle.std.proofs.lemmas.Bool.{false≢true}
 use Rattle.std.proofs.lemmas.Int.{ints}
 use Rattle.std.specs.Prelude.{IsTrue, codes}
+use Rattle.sdm_num.specs.Readings.{OdometerReading}
 use Rattle.sdm_rules.specs.declared.faults.EventCause.TheVariants.{Line}
+use Rattle.sdm_rules.specs.declared.records.Event.TheVariants as record_kinds
 use Rattle.sdm_rules.specs.Curves.{exact, stepped, exact_at, place_at, corner, arc, arc_back, back}
 use Rattle.sdm_rules.specs.Headline.{AreTurnsSafe, IsRecordSafe, IsRowSafe}
 use Rattle.sdm_rules.specs.Motion.{IsInBand}
 use Rattle.sdm_rules.specs.Records.{Turn, rows_of, step}
 use Rattle.sdm_rules.specs.Stop.{IsMotionOn}
-use Rattle.sdm_rules.specs.Supervision.{opening, row_of}
+use Rattle.sdm_rules.specs.Supervision.{Supervision, opening, row_of}
+use Rattle.sdm_row_laws.specs.OpenTurns.{AreTurnsPromised}
+use Rattle.sdm_row_laws.specs.ServiceStop.{CommandsNoBrake, StopsByItsEoa}
 use Rattle.sdm_formats.specs.Flat.{Output, StopsByFlatEnd, flat_after, flat_line, flat_opening, flat_output, flat_row}
 use Rattle.sdm_formats.specs.Flat.{flat_slopes, flat_start}
 use Rattle.sdm_formats.specs.Input as ends
@@ -235,7 +239,16 @@ first_turn_told : (tell : Turn → List ℕ) (bytes : List ℕ) (output : Output
     (t : Turn) (ts : List Turn) → told.turns ≡ t ∷ ts → AreJourneyTurnsSafe tell bytes →
     IsRecordSafe false false t.before t.event
 first_turn_told tell bytes output told t ts is h =
-    (subst (λ (turns : List Turn). AreTurnsSafe false false turns) is (h output told)).0
+    (subst (λ (turns : List Turn). AreTurnsSafe false false turns) is (h output told).safe).0
+
+-- and a reading of a moving train that commands no brake, outside release speed monitoring, promises the EOA
+first_reading_stops : (tell : Turn → List ℕ) (bytes : List ℕ) (output : Output)
+    (told : IsJourneyOutput tell bytes output) (s after : Supervision) (r : OdometerReading) (ts : List Turn) →
+    told.turns ≡ record { before = s; event = record_kinds.Read r; after = after } ∷ ts → AreJourneyTurnsSafe tell bytes →
+    CommandsNoBrake r (row_of s r) → StopsByItsEoa s r
+first_reading_stops tell bytes output told s after r ts is h =
+    (subst (λ (turns : List Turn). AreTurnsPromised turns) is (h output told)).eoa 0
+    (record { before = s; event = record_kinds.Read r; after = after }) (omega arith)
 
 -- of `trial`: the text sums up the row of its one reading, which is safe
 text_of_one_cycle : AreTrialRowsSafe 7 1 → (trial_output 7 1).text
@@ -251,4 +264,4 @@ text_of_one_cycle h = h.text ∙ ap summary_text one_row
 first_cycle_is_safe : AreTrialRowsSafe 7 1 →
     IsRowSafe false false (opening trial_train_and_track trial_authority) (reading_in_cycle 7 1)
 unfolding step
-first_cycle_is_safe h = h.safe.0
+first_cycle_is_safe h = h.turns.safe.0

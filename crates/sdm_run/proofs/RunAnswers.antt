@@ -11,13 +11,13 @@ use Rattle.sdm_rules.specs.declared.faults.EventCause.{EventCause}
 use Rattle.sdm_rules.specs.Data.{TrainAndTrack, HasBands}
 use Rattle.sdm_rules.specs.Records.{Turn}
 use Rattle.sdm_rules.specs.Supervision.{Supervision, opening}
-use Rattle.sdm_rules.specs.Headline.{AreTurnsSafe}
 use Rattle.sdm_formats.specs.declared.faults.DataFault.{DataFault}
 use Rattle.sdm_formats.specs.Flat.{Output}
 use Rattle.sdm_formats.specs.Input.{most_bytes, End, IsRun, IsOpened, IsAfterData, IsAfterDocument, IsAfterDivision}
 use Rattle.sdm_formats.specs.Input.{journey_of}
 use Rattle.sdm_formats.specs.Input as ends
-use Rattle.sdm_laws.proofs.Rows.Journeys.{turns_safe}
+use Rattle.sdm_row_laws.specs.OpenTurns.{AreTurnsPromised}
+use Rattle.sdm_row_laws.proofs.OpenTurns.{none_promised, promised_turns}
 use Rattle.sdm_report.specs.declared.outcome.InputFault.TheVariants.{NoSplit, Toml, Data}
 use Rattle.sdm_report.specs.declared.outcome.Outcome.{Outcome}
 use Rattle.sdm_report.specs.declared.outcome.Outcome.TheVariants.{Done, Usage, ReadFault, WriteFault, TooLong, BadData}
@@ -207,42 +207,41 @@ module _ (teller : Teller) (bytes : List ℕ) (short : length bytes ≤ most_byt
 -- there are turns only after an accepted opening of data that break no rule, and those are safe
 module _ (records : List Record) (turns : List Turn) (end : End) where
   -- where there are none
-  none_safe : turns ≡ [] → AreTurnsSafe false false turns
-  none_safe none = rw none tt
+  none_safe : turns ≡ [] → AreTurnsPromised turns
+  none_safe none = rw none none_promised
 
   -- after an opening
   opened_safe : (d : TrainAndTrack) (a : Authority) → HasBands d.train.bands →
-      IsOpened run_reader d a records turns end → AreTurnsSafe false false turns
+      IsOpened run_reader d a records turns end → AreTurnsPromised turns
   opened_safe d a bands o =
       rw o.turns_are
-      (turns_safe _ 1 (opening d a) false false records (record { bands = bands; usable = o.accepted.0 })
-      (record { needed = λ h. h; allowed = λ h. h }))
+      (promised_turns _ 1 (opening d a) records (record { bands = bands; usable = o.accepted.0 }) refl)
 
   -- after data, by what they were read as
   after_data_safe : (members : Members) (r : Result (TrainAndTrack × Authority) DataFault) → data_of members ≡ r →
-      IsAfterData run_reader turns end records r → AreTurnsSafe false false turns
+      IsAfterData run_reader turns end records r → AreTurnsPromised turns
   after_data_safe members (Err fault) read h = none_safe h.0
   after_data_safe members (Ok x) read (inl o) = opened_safe x.0 x.1 (has_bands members x.0 x.1 read) o
   after_data_safe members (Ok x) read (inr f) = none_safe f.2
 
   -- after a document, where there is one
   after_document_safe : (document : Option Members) → IsAfterDocument run_reader turns end records document →
-      AreTurnsSafe false false turns
+      AreTurnsPromised turns
   after_document_safe None h = none_safe h.0
   after_document_safe (Some members) h = after_data_safe members (data_of members) refl h
 
 -- after the division of the input, where there is one
 after_division_safe : (bytes : List ℕ) (turns : List Turn) (end : End) (division : Option (ℕ × ℕ)) →
-    IsAfterDivision run_reader turns end bytes division → AreTurnsSafe false false turns
-after_division_safe bytes turns end None h = rw h.0 tt
+    IsAfterDivision run_reader turns end bytes division → AreTurnsPromised turns
+after_division_safe bytes turns end None h = rw h.0 none_promised
 after_division_safe bytes turns end (Some x) h =
     after_document_safe (records_of (drop x.1 bytes)) turns end (document_of (take x.0 bytes)) h
 
 -- of an input that is too long or not
 within_safe : (bytes : List ℕ) (turns : List Turn) (end : End) (long : Bool) →
     MatchBool long ((turns ≡ []) × (end ≡ ends.TooLong)) (IsAfterDivision run_reader turns end bytes (divide bytes)) →
-    AreTurnsSafe false false turns
-within_safe bytes turns end true h = rw h.0 tt
+    AreTurnsPromised turns
+within_safe bytes turns end true h = rw h.0 none_promised
 within_safe bytes turns end false h = after_division_safe bytes turns end (divide bytes) h
 
 -- each turn of a run is safe

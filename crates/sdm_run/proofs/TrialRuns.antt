@@ -17,7 +17,7 @@ use Rattle.sdm_formats.specs.Input.{end_of_journey}
 use Rattle.sdm_formats.specs.Input as ends
 use Rattle.sdm_formats.specs.Trial.{reading_in_cycle, reading_record, readings_from, summary_text, trial_authority}
 use Rattle.sdm_formats.specs.Trial.{trial_journey, trial_train_and_track, trial_output}
-use Rattle.sdm_laws.proofs.Rows.Journeys.{turns_safe}
+use Rattle.sdm_row_laws.proofs.OpenTurns.{promised_turns}
 use Rattle.sdm_laws.proofs.Openings.OneFault.{not_both}
 use Rattle.sdm_braking.specs.Braking.{IsRefusal}
 use Rattle.sdm_trial.specs.Made.{MadeReadings, TakesCycle}
@@ -131,10 +131,10 @@ trial_open = record {
   usable = accepted.0;
 }
 
--- each turn of a trial is safe
+-- what a command says of its rows holds of each turn of a trial
 pub trial_rows_safe : (seed cycles : ℕ) → AreTrialRowsSafe seed cycles
 trial_rows_safe seed cycles = record {
   text = refl;
-  safe = turns_safe (event_at reading_record) 1 (opening trial_train_and_track trial_authority) false false
-      (readings_from seed 1 cycles) trial_open (record { needed = λ h. h; allowed = λ h. h });
+  turns = promised_turns (event_at reading_record) 1 (opening trial_train_and_track trial_authority)
+      (readings_from seed 1 cycles) trial_open refl;
 }

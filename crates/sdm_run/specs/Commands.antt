@@ -1,7 +1,7 @@
 -- What each command defines for the bytes of its input, and what is promised of its rows (own).
 use Rattle.std.specs.Prelude.{◌≡◌, ℕ, false, List, [], Option, Some, None, ⊤, length, nat_lt, if◌then◌else◌}
-use Rattle.sdm_rules.specs.Headline.{AreTurnsSafe}
 use Rattle.sdm_rules.specs.Records.{Turn, rows_of}
+use Rattle.sdm_row_laws.specs.OpenTurns.{AreTurnsPromised}
 use Rattle.sdm_formats.specs.Flat.{Output, flat_output}
 use Rattle.sdm_formats.specs.Input.{most_bytes, TooLong}
 use Rattle.sdm_formats.specs.Text.{display_tells, run_tells}
@@ -38,16 +38,17 @@ pub record HasOneOutput (command : Command) (bytes : List ℕ) : Type 0 where
   pub is : IsOutputOf command bytes output
   pub only : (other : Output) → IsOutputOf command bytes other → other ≡ output
 
--- whatever turns make an output of a journey (its text is what is told of them), each of them is safe, from no command
--- held on
+-- whatever turns make an output of a journey (its text is what is told of them), what a command says of its rows holds
+-- of each of them, from no command held on
 abbrev pub AreJourneyTurnsSafe : (Turn → List ℕ) → List ℕ → Type 0
 AreJourneyTurnsSafe tell bytes =
-    (output : Output) (told : IsJourneyOutput tell bytes output) → AreTurnsSafe false false told.turns
+    (output : Output) (told : IsJourneyOutput tell bytes output) → AreTurnsPromised told.turns
 
--- the text of a trial sums up the rows of its turns, each of which is safe, from no command held on
+-- the text of a trial sums up the rows of its turns, of each of which what a command says of its rows holds, from no
+-- command held on
 pub record AreTrialRowsSafe (seed cycles : ℕ) : Type 0 where
   pub text : (trial_output seed cycles).text ≡ summary_text (rows_of (trial_journey seed cycles).turns)
-  pub safe : AreTurnsSafe false false (trial_journey seed cycles).turns
+  pub turns : AreTurnsPromised (trial_journey seed cycles).turns
 
 -- what is promised of the rows of a command, of `display` and `certify` of those that `run` has for its input;
 -- `upgrade` has none, and each answer of `check` carries its own promise (`IsAnswerTo`)
