@@ -6,20 +6,18 @@
  * It ends with 0 where every call answered as it should, changed nothing where it should change nothing, and no call
  * but sdm_open asked for memory; else it tells what differs and ends with 1. Where the data are refused there is no
  * supervisor to misuse: then the allocations alone are failed. */
-#include "heap_test.h"
-#include "journey.h"
+#include "fault.h"
 
 #include <inttypes.h>
 #include <limits.h>
 #include <stdlib.h>
 #include <string.h>
 
-enum { MOST_RESTRICTIONS = 32, HELD_ID = 7 };
+enum { MOST_RESTRICTIONS = 32 };
 
 static unsigned checks, failures;
 
-/* A fact that must hold, and what it is said of. */
-static void check(bool is_true, const char *fact, const char *of) {
+void check(bool is_true, const char *fact, const char *of) {
     checks++;
     if (is_true)
         return;
@@ -27,21 +25,18 @@ static void check(bool is_true, const char *fact, const char *of) {
     printf("fault: not so of %s: %s\n", of, fact);
 }
 
-static void check_answer(uint32_t status, uint32_t due, const char *of) {
+void check_answer(uint32_t status, uint32_t due, const char *of) {
     check(status == due, "the status that is due is answered", of);
     if (status != due)
         printf("    %" PRIu32 " in the place of %" PRIu32 "\n", status, due);
 }
 
-/* That no call of the heap came since the last heap_test_begin. */
-static void check_no_memory_moved(const char *of) {
+void check_no_memory_moved(const char *of) {
     struct heap_counts counts = heap_test_counts();
     check(counts.asked == 0 && counts.given_back == 0, "no memory is asked for or given back", of);
 }
 
-static bool is_same_handle(struct sdm one, struct sdm other) {
-    return one.at == other.at && one.is_open == other.is_open;
-}
+bool is_same_handle(struct sdm one, struct sdm other) { return one.at == other.at && one.is_open == other.is_open; }
 
 static bool is_closed(struct sdm h) {
     struct sdm closed = SDM_INIT;
@@ -253,8 +248,7 @@ static void open_twice(struct sdm *h, const struct journey *journey) {
     check_no_memory_moved("a second opening");
 }
 
-/* A reading of the same time and place on both: both must be in the same state, so their rows are the same. */
-static void compare(struct sdm *h, struct sdm *twin, const struct event *reading, const char *what) {
+void compare(struct sdm *h, struct sdm *twin, const struct event *reading, const char *what) {
     struct sdm_row row, twins_row;
     unwritten(&row, sizeof row);
     unwritten(&twins_row, sizeof twins_row);
@@ -301,6 +295,8 @@ static void misuse_open(struct sdm *h, struct sdm *twin, const struct journey *j
     struct event reading = a_reading(journey), restriction = {EVENT_RESTRICT, {HELD_ID, 0, 1, 500, 0}};
     open_twice(h, journey);
     compare(h, twin, &reading, "a second opening");
+    misuse_change(h, twin, &reading);
+    change_data(h, twin, journey, &reading, "a change of data");
     check_answer(event_take(h, &restriction, NULL), SDM_DONE, "a restriction");
     check_answer(event_take(twin, &restriction, NULL), SDM_DONE, "a restriction");
     for (size_t i = 0; i < sizeof misuses / sizeof misuses[0]; i++) {
@@ -308,6 +304,7 @@ static void misuse_open(struct sdm *h, struct sdm *twin, const struct journey *j
         compare(h, twin, &reading, misuses[i].what);
     }
     fill(h, twin, &reading);
+    change_data(h, twin, journey, &reading, "a change of data with all restrictions");
 }
 
 /* Plays the whole journey: no record takes memory, and a handle may be moved. */
@@ -360,10 +357,10 @@ static void misuse_supervisor(const struct journey *journey) {
 
 /* Each status has a text of its own, and so has a number that is none. */
 static void tell_statuses(void) {
-    for (uint32_t one = SDM_DONE; one <= SDM_UNKNOWN_ID + 1; one++)
+    for (uint32_t one = SDM_DONE; one <= SDM_NOT_FRESH + 1; one++)
         for (uint32_t other = SDM_DONE; other < one; other++)
             check(strcmp(sdm_status_text(one), sdm_status_text(other)) != 0, "it is its own", "the text of a status");
-    check(strcmp(sdm_status_text(SDM_UNKNOWN_ID + 1), sdm_status_text(UINT32_MAX)) == 0, "it is that of no status",
+    check(strcmp(sdm_status_text(SDM_NOT_FRESH + 1), sdm_status_text(UINT32_MAX)) == 0, "it is that of no status",
           "the text of a number that is none");
 }
 

@@ -1,7 +1,9 @@
 /* An onboard computer's loop in small: how a builder calls the library, and what an answer asks of the interfaces. It
  * takes an input of the program's `run` from standard input and writes what is ordered after each record.
  *
- *     onboard < INPUT
+ *     onboard [NEXT..] < INPUT
+ *
+ * Each word names a file with a further input, whose data take the place of the old ones in motion: a change of data.
  *
  * crates/sdm_onboard is the same in Rattle, and proved; this program is tested alone. */
 #include "journey.h"
@@ -80,35 +82,72 @@ static void take(struct onboard *onboard, const struct event *event) {
     abort();
 }
 
+/* Opens a supervisor over data; the line tells of data that are refused. */
+static uint32_t open_over(struct sdm *h, const struct journey *journey) {
+    struct sdm_line line;
+    memset(&line, 0, sizeof line);
+    uint32_t status = sdm_open(h, journey->data, journey->data_bytes, &line);
+    fwrite(line.bytes, 1, line.count, stderr);
+    return status;
+}
+
+/* Changes to new data between two readings. The next supervisor was opened at leisure, while the old one ran; only what
+ * is kept is taken over now. The new data bring an authority, so that none is missing any more. Where they are refused,
+ * the old supervisor runs on over the old data, as where an authority is refused. */
+static void change_data(struct onboard *onboard, struct sdm *next, uint32_t opened) {
+    uint32_t status = opened == SDM_DONE ? sdm_take_over(next, &onboard->supervisor) : opened;
+    note(onboard, &onboard->is_authority_missing, status != SDM_DONE);
+    if (status == SDM_DONE) {
+        struct sdm before = onboard->supervisor;
+        onboard->supervisor = *next;
+        *next = before;
+    }
+    sdm_close(next);
+}
+
 static void tell(unsigned number, struct orders orders) {
     printf("record %u:%s%s%s\n", number, orders.cuts_traction ? " traction cut-off" : "",
            orders.service_brake ? " service brake" : "", orders.emergency_brake ? " emergency brake" : "");
 }
 
 /* Takes the records up to the first whose form is refused. */
-static void run(struct onboard *onboard, const struct journey *journey) {
+static void run(struct onboard *onboard, const struct journey *journey, unsigned *number) {
     const uint8_t *at = journey->records;
     struct event event;
     unsigned column;
-    for (unsigned number = 1; at < journey->end; number++) {
+    for (; at < journey->end; ++*number) {
         if (event_read(&at, journey->end, &event, &column) != FORM_DONE)
             return;
         take(onboard, &event);
-        tell(number, onboard->orders);
+        tell(*number, onboard->orders);
     }
 }
 
-int main(void) {
+/* Takes a further input: its data, and then its records. */
+static void run_further(struct onboard *onboard, const char *name, unsigned *number) {
+    struct sdm next = SDM_INIT;
+    struct journey journey;
+    FILE *from = fopen(name, "rb");
+    if (from != NULL && journey_read(from, &journey) == JOURNEY_READ) {
+        change_data(onboard, &next, open_over(&next, &journey));
+        run(onboard, &journey, number);
+        journey_free(&journey);
+    }
+    if (from != NULL)
+        fclose(from);
+}
+
+int main(int count, char **words) {
     struct onboard onboard = {SDM_INIT, false, false, BRAKE};
     struct journey journey;
-    struct sdm_line line;
-    memset(&line, 0, sizeof line);
+    unsigned number = 1;
     if (sdm_layout() != SDM_LAYOUT || journey_read(stdin, &journey) != JOURNEY_READ)
         return 1;
-    uint32_t status = sdm_open(&onboard.supervisor, journey.data, journey.data_bytes, &line);
-    fwrite(line.bytes, 1, line.count, stderr);
+    uint32_t status = open_over(&onboard.supervisor, &journey);
     if (status == SDM_DONE)
-        run(&onboard, &journey);
+        run(&onboard, &journey, &number);
+    for (int i = 1; status == SDM_DONE && i < count; i++)
+        run_further(&onboard, words[i], &number);
     sdm_close(&onboard.supervisor);
     journey_free(&journey);
     return status != SDM_DONE;

@@ -4,6 +4,10 @@
  *     replay run       the rows of `sdm run`
  *     replay display   the lines of `sdm display`
  *
+ * Each word behind it names a file with a further input: a change of data. A supervisor that is opened over its data
+ * takes over from the one before, and is handed its records, whose numbers go on. Where the change is refused, the exit
+ * status is 9.
+ *
  * Rows, fault lines and exit status are those of docs/FORMATS.md, "How a run ends". An input whose records aren't
  * plain (journey.h) isn't taken, and nothing is written but that; so are other words. The exit status is then 64. */
 #include "journey.h"
@@ -24,6 +28,7 @@ enum outcome {
     OUTCOME_REFUSED = 6,
     OUTCOME_BAD_EVENT = 7,
     OUTCOME_NO_MEMORY = 8,
+    OUTCOME_CHANGE_REFUSED = 9,
     OUTCOME_NOT_TAKEN = 64,
     OUTCOME_WRONG_LIBRARY = 65
 };
@@ -148,11 +153,12 @@ static enum outcome play_record(struct sdm *h, bool is_display, unsigned number,
     return OUTCOME_WRONG_LIBRARY;
 }
 
-static enum outcome play(struct sdm *h, bool is_display, const struct journey *journey) {
+/* Plays the records of an input, the first of which has the number *number, and moves that behind the last. */
+static enum outcome play(struct sdm *h, bool is_display, const struct journey *journey, unsigned *number) {
     const uint8_t *at = journey->records;
     enum outcome outcome = OUTCOME_DONE;
-    for (unsigned number = 1; outcome == OUTCOME_DONE && at < journey->end; number++)
-        outcome = play_record(h, is_display, number, &at, journey->end);
+    for (; outcome == OUTCOME_DONE && at < journey->end; ++*number)
+        outcome = play_record(h, is_display, *number, &at, journey->end);
     return outcome;
 }
 
@@ -194,27 +200,63 @@ static enum outcome end_of(enum journey_end end) {
     abort();
 }
 
-static enum outcome replay(bool is_display) {
+/* Lets the next supervisor take over, where one runs already: then h is the next, and next the one before. */
+static enum outcome change_over(struct sdm *h, struct sdm *next, bool is_first) {
+    uint32_t status = is_first ? (uint32_t)SDM_DONE : sdm_take_over(next, h);
+    if (status != SDM_DONE) {
+        if (!is_written())
+            return OUTCOME_WRITE_FAULT;
+        fprintf(stderr, "replay: the change of data is answered by %" PRIu32 "\n", status);
+        return OUTCOME_CHANGE_REFUSED;
+    }
+    struct sdm before = *h;
+    *h = *next;
+    *next = before;
+    return OUTCOME_DONE;
+}
+
+/* Plays an input: the first one, or a change of data and the records after it. */
+static enum outcome play_part(struct sdm *h, bool is_display, FILE *from, unsigned *number) {
     struct journey journey;
-    struct sdm h = SDM_INIT;
-    enum outcome outcome = end_of(journey_read(stdin, &journey));
+    struct sdm next = SDM_INIT;
+    enum outcome outcome = end_of(journey_read(from, &journey));
     if (outcome != OUTCOME_DONE)
         return outcome;
-    outcome = open_supervisor(&h, &journey);
+    outcome = open_supervisor(&next, &journey);
     if (outcome == OUTCOME_DONE)
-        outcome = play(&h, is_display, &journey);
-    sdm_close(&h);
+        outcome = change_over(h, &next, from == stdin);
+    sdm_close(&next);
+    if (outcome == OUTCOME_DONE)
+        outcome = play(h, is_display, &journey, number);
     journey_free(&journey);
     return outcome;
 }
 
+/* Plays standard input, and then each file that a word names. */
+static enum outcome replay(bool is_display, char **further) {
+    struct sdm h = SDM_INIT;
+    unsigned number = 1;
+    enum outcome outcome = play_part(&h, is_display, stdin, &number);
+    for (; outcome == OUTCOME_DONE && *further != NULL; further++) {
+        FILE *from = fopen(*further, "rb");
+        if (from == NULL) {
+            outcome = tell(OUTCOME_READ_FAULT, "sdm: read fault");
+            break;
+        }
+        outcome = play_part(&h, is_display, from, &number);
+        fclose(from);
+    }
+    sdm_close(&h);
+    return outcome;
+}
+
 int main(int count, char **words) {
-    bool is_display = count == 2 && strcmp(words[1], "display") == 0;
-    if (!is_display && (count != 2 || strcmp(words[1], "run") != 0))
-        return tell(OUTCOME_NOT_TAKEN, "usage: replay run|display < INPUT");
+    bool is_display = count >= 2 && strcmp(words[1], "display") == 0;
+    if (!is_display && (count < 2 || strcmp(words[1], "run") != 0))
+        return tell(OUTCOME_NOT_TAKEN, "usage: replay run|display [NEXT..] < INPUT");
     if (sdm_layout() != SDM_LAYOUT)
         return tell(OUTCOME_WRONG_LIBRARY, "replay: the library is of another layout than sdm.h");
-    enum outcome outcome = replay(is_display);
+    enum outcome outcome = replay(is_display, words + 2);
     if (!is_written())
         return tell(OUTCOME_WRITE_FAULT, "sdm: write fault");
     return outcome;

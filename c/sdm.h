@@ -57,7 +57,8 @@ enum sdm_status {
     SDM_FULL = 12,          /* as many restrictions as may be (32) are held */
     SDM_ID_IN_USE = 13,     /* a restriction with this identity is held */
     SDM_BAD_PLACES = 14,    /* the restriction ends at or before its start, or past the track's end */
-    SDM_UNKNOWN_ID = 15     /* no restriction with this identity is held */
+    SDM_UNKNOWN_ID = 15,    /* no restriction with this identity is held */
+    SDM_NOT_FRESH = 16      /* sdm_take_over: the next supervisor has had a reading or a restriction */
 };
 
 /* A supervisor, or none. It is SDM_INIT at first, and then as the last call left it: it may be moved, never copied,
@@ -179,6 +180,13 @@ SDM_MUST_CHECK uint32_t sdm_restrict(struct sdm *h, const struct sdm_restriction
 
 /* Lifts the restriction with an identity. SDM_CLOSED, SDM_OUT_OF_RANGE, SDM_UNKNOWN_ID. */
 SDM_MUST_CHECK uint32_t sdm_revoke(struct sdm *h, uint32_t id);
+
+/* Lets a supervisor that was opened over new data take over from the one that ran before, between two readings: the
+ * restrictions in force, the time of the last reading, and the commands with the status. Its data and its authority stay,
+ * and the one before isn't changed. The two are two handles, and places of both data count from one origin. SDM_CLOSED
+ * where one of them has no supervisor, SDM_NOT_FRESH, SDM_BAD_PLACES where a restriction in force ends past the end of
+ * the new track. */
+SDM_MUST_CHECK uint32_t sdm_take_over(struct sdm *next, const struct sdm *before);
 
 /* Writes what the driver can be shown of a reading in what is in force; ask it once sdm_cycle has taken the reading.
  * It changes no supervisor. SDM_CLOSED, SDM_OUT_OF_RANGE. */

@@ -41,6 +41,7 @@ enum class Status : std::uint32_t {
     id_in_use = SDM_ID_IN_USE,
     bad_places = SDM_BAD_PLACES,
     unknown_id = SDM_UNKNOWN_ID,
+    not_fresh = SDM_NOT_FRESH,
     other_layout = UINT32_MAX /* Supervisor::open alone: the library was built for another layout of sdm.h */
 };
 
@@ -158,6 +159,11 @@ class Supervisor {
 
     /* Lifts the restriction with an identity. */
     [[nodiscard]] Status revoke(std::uint32_t id) noexcept { return Status(sdm_revoke(&handle_, id)); }
+
+    /* Takes over from the supervisor that ran before, where this one was opened over new data. */
+    [[nodiscard]] Status take_over(const Supervisor &before) noexcept {
+        return Status(sdm_take_over(&handle_, &before.handle_));
+    }
 
     /* What the driver can be shown of a reading that cycle has taken. */
     Expected<Display, Status> display(const Reading &reading) noexcept {

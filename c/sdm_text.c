@@ -36,6 +36,8 @@ const char *sdm_status_text(uint32_t status) {
         return "the restriction ends at or before its start, or past the track's end";
     case SDM_UNKNOWN_ID:
         return "no restriction with this identity is held";
+    case SDM_NOT_FRESH:
+        return "the next supervisor has had a reading or a restriction";
     }
     return "no status of this library";
 }

@@ -90,6 +90,21 @@ static void move(std::string_view data) {
     check(moved.cycle(LATER).has_value(), "one that is moved over itself stays", of);
 }
 
+/* A change to the same data: what is kept is there after it, and the one before is as it was. */
+static void change(std::string_view data) {
+    static const char of[] = "a change of data";
+    auto before = Supervisor::open(data), next = Supervisor::open(data);
+    check(before->set_restriction({7, 0, 1000, 5, 0}) == Status::done, "a restriction", of);
+    check(before->cycle(LATER).has_value(), "it judges", of);
+    check(next->take_over(*before) == Status::done, "it is taken", of);
+    check(next->cycle(AT_THE_START).error() == Status::time_back, "the time is kept", of);
+    check(next->set_restriction({7, 0, 1000, 5, 0}) == Status::id_in_use, "the restriction is kept", of);
+    check(before->cycle(LATER).has_value(), "the one before judges", of);
+    check(next->take_over(*before) == Status::not_fresh, "it is taken once", of);
+    Supervisor moved = std::move(*before);
+    check(next->take_over(*before) == Status::closed, "one that was moved from is closed", of);
+}
+
 /* Data that are refused, and want of memory. */
 static void fail(std::string_view data) {
     auto none = Supervisor::open({});
@@ -104,10 +119,10 @@ static void fail(std::string_view data) {
 
 /* Each status has a text of its own, and so have a number that is none and another layout. */
 static void tell() {
-    for (std::uint32_t one = 0; one <= SDM_UNKNOWN_ID + 1; one++)
+    for (std::uint32_t one = 0; one <= SDM_NOT_FRESH + 1; one++)
         for (std::uint32_t other = 0; other < one; other++)
             check(sdm_cpp::text(Status(one)) != sdm_cpp::text(Status(other)), "it is its own", "the text of a status");
-    check(sdm_cpp::text(Status::other_layout) != sdm_cpp::text(Status(SDM_UNKNOWN_ID + 1)), "it is its own",
+    check(sdm_cpp::text(Status::other_layout) != sdm_cpp::text(Status(SDM_NOT_FRESH + 1)), "it is its own",
           "the text of another layout");
 }
 
@@ -131,6 +146,7 @@ int main() {
     supervise(data);
     check(held() == 0, "all memory is given back", "supervisors whose names end");
     move(data);
+    change(data);
     fail(data);
     check(held() == 0, "all memory is given back", "supervisors whose names end");
     tell();

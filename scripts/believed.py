@@ -82,7 +82,10 @@ PROGRAM = of_program("any command", "")
 
 SUPERVISOR = Claim(
     "supervisor",
-    calls=[("sdm_supervisor", "Supervisor", name) for name in ("begin", "cycle", "authority", "restrict", "revoke")]
+    calls=[
+        ("sdm_supervisor", "Supervisor", name)
+        for name in ("begin", "cycle", "authority", "restrict", "revoke", "take_over", "is_fresh")
+    ]
     + [
         ("sdm_num", "Reading", "new"),
         ("sdm_train", "Train", "new"),
@@ -103,6 +106,7 @@ SUPERVISOR = Claim(
             "sdm_supervisor/src/supervisors.rt",
             "the value of a `Supervisor`; the clauses of `begin`, `cycle`, `authority`, `restrict`, `revoke`",
         ),
+        ("sdm_supervisor/src/supervisors/take_over.rt", "the clauses of `take_over`, `is_fresh`"),
         ("sdm_num/src/readings.rt", "the value of a `Reading`, and the clause of `Reading::new`"),
         ("sdm_num/src/places.rt", "the value of a `Place`"),
         ("sdm_num/src/speeds.rt", "the value of a `Speed`"),
@@ -125,6 +129,7 @@ C = Claim(
             "sdm_limit",
             "sdm_restrict",
             "sdm_revoke",
+            "sdm_take_over",
             "sdm_display",
             "sdm_close",
         )

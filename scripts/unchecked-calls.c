@@ -10,5 +10,6 @@ void look_at_nothing(struct sdm *h, struct sdm_line *line, const struct sdm_read
     sdm_limit(h, 0, 1);
     sdm_restrict(h, restriction);
     sdm_revoke(h, 0);
+    sdm_take_over(h, h);
     sdm_display(h, reading, display);
 }

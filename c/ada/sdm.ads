@@ -32,6 +32,7 @@ package SDM is
    Id_In_Use      : constant Word := 13;
    Bad_Places     : constant Word := 14;
    Unknown_Id     : constant Word := 15;
+   Not_Fresh      : constant Word := 16;
 
    --  A supervisor, or none: limited, so that nobody copies it.
    type Supervisor is limited private;
@@ -100,6 +101,9 @@ package SDM is
 
    function Revoke (H : in out Supervisor; Id : Word) return Word
      with Import, Convention => C, External_Name => "sdm_revoke";
+
+   function Take_Over (Next : in out Supervisor; Before : Supervisor) return Word
+     with Import, Convention => C, External_Name => "sdm_take_over";
 
    function Show (H : in out Supervisor; Read : Reading; Shown : in out Display) return Word
      with Import, Convention => C, External_Name => "sdm_display";

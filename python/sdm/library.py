@@ -99,6 +99,7 @@ CALLS: dict[str, list[Any]] = {
     "sdm_limit": [c_void_p, c_uint32, c_uint32],
     "sdm_restrict": [c_void_p, c_void_p],
     "sdm_revoke": [c_void_p, c_uint32],
+    "sdm_take_over": [c_void_p, c_void_p],
     "sdm_display": [c_void_p, c_void_p, c_void_p],
 }
 
@@ -230,6 +231,17 @@ class Supervisor:
     def revoke(self, revocation: Revocation) -> None:
         """Lifts a restriction. CLOSED, OUT_OF_RANGE, UNKNOWN_ID."""
         self._numbers("sdm_revoke", checked(revocation, Revocation))
+
+    def take_over(self, before: Supervisor) -> None:
+        """Takes over restrictions, time and commands from the supervisor that ran before, where this one was opened
+        over new data. CLOSED, NOT_FRESH, BAD_PLACES."""
+        if checked(before, Supervisor) is self:
+            raise TypeError("a supervisor can't take over from itself")
+        one, other = sorted((self, before), key=id)  # so that no two threads wait for each other
+        with one._lock, other._lock:
+            status = self._library.sdm_take_over(self._at, before._at)
+        if status != Status.DONE:
+            raise SdmError(Status(status))
 
     def _numbers(self, call: str, record: Record) -> None:
         self._call(call, *(number(name, value, c_uint32) for name, value in asdict(record).items()))

@@ -28,6 +28,7 @@ class Status(IntEnum):
     ID_IN_USE = 13
     BAD_PLACES = 14
     UNKNOWN_ID = 15
+    NOT_FRESH = 16
 
 
 # What each says; those that the program has a text for in docs/FORMATS.md, "Fault lines", in that text.
@@ -48,6 +49,7 @@ TEXTS = {
     Status.ID_IN_USE: "identity in use",
     Status.BAD_PLACES: "restriction value",
     Status.UNKNOWN_ID: "identity unknown",
+    Status.NOT_FRESH: "the next supervisor has had a reading or a restriction",
 }
 
 

@@ -247,7 +247,7 @@ class Answers(OverACopy):
         self.assertRegex(self.told(*AT_THE_CEILING), r"row \d+ differs")
 
 
-CALLS = ["open", "cycle", "end", "end_calculated", "limit", "restrict", "revoke", "display"]
+CALLS = ["open", "cycle", "end", "end_calculated", "limit", "restrict", "revoke", "take_over", "display"]
 CLOSED = "unsigned sdm_layout(void) { return 1; }\nvoid sdm_close(void *h) { (void)h; }\n" + "".join(
     f"unsigned sdm_{call}(void *h) {{ (void)h; return 1; }}\n" for call in CALLS
 )
@@ -299,10 +299,10 @@ class Replays(OverACopy):
 
     def test_a_call_whose_answer_may_be_overlooked_is_told(self):
         copies.alter(self.top, "c/sdm.h", r"^SDM_MUST_CHECK (uint32_t sdm_revoke)", r"\1")
-        self.assertIn("cc warns of 7 answers that aren't looked at, of 7", self.told("scripts/check-c", self.library()))
+        self.assertIn("cc warns of 8 answers that aren't looked at, of 8", self.told("scripts/check-c", self.library()))
         copies.alter(self.top, "c/sdm.h", r"^uint32_t sdm_revoke", "SDM_MUST_CHECK uint32_t sdm_revoke")
         copies.alter(self.top, "c/sdm.h", r"^#elif defined\(__GNUC__\)", "#elif 0")
-        self.assertIn("cc warns of 0 answers that aren't looked at, of 8", self.told("scripts/check-c", self.library()))
+        self.assertIn("cc warns of 0 answers that aren't looked at, of 9", self.told("scripts/check-c", self.library()))
 
     def test_a_library_that_asks_for_more_is_told(self):
         more = "int rand(void); int more(void); int more(void) { return rand(); }\n"

@@ -10,14 +10,17 @@ use Rattle.sdm_rules.specs.declared.faults.CycleFault.{CycleFault}
 use Rattle.sdm_rules.specs.declared.faults.RestrictFault.{RestrictFault}
 use Rattle.sdm_rules.specs.declared.faults.RestrictFault.TheVariants.{Full, IdInUse, Value}
 use Rattle.sdm_rules.specs.declared.faults.RevokeFault.{RevokeFault}
+use Rattle.sdm_rules.specs.declared.faults.TakeOverFault.{TakeOverFault}
 use Rattle.sdm_rules.specs.declared.faults.TripFault.{TripFault}
 use Rattle.sdm_rules.specs.declared.faults.TripFault.TheVariants as trip_faults
 use Rattle.sdm_rules.specs.Records.{authority_fault, restrict_fault, revoke_fault, time_fault, trip_fault}
 use Rattle.sdm_rules.specs.Supervision.{Supervision}
+use Rattle.sdm_rules.specs.TakeOver.{take_over_fault}
+use Rattle.sdm_supervisor.specs.TakeOvers.{is_fresh}
 use Rattle.sdm_c.specs.declared.statuses.TheConstants.{IN_USE, NO_MEMORY, BAD_DATA, REFUSED}
 use Rattle.sdm_c.specs.declared.statuses.TheConstants.{DONE, CLOSED, OUT_OF_RANGE, TIME_BACK, SVL_BEFORE_EOA}
 use Rattle.sdm_c.specs.declared.statuses.TheConstants.{BEYOND_TRACK, BAD_SPEED, BAD_TRIP, FULL, ID_IN_USE, BAD_PLACES}
-use Rattle.sdm_c.specs.declared.statuses.TheConstants.{UNKNOWN_ID}
+use Rattle.sdm_c.specs.declared.statuses.TheConstants.{NOT_FRESH, UNKNOWN_ID}
 use Rattle.sdm_c.specs.declared.structs.ReadingC.{ReadingC}
 use Rattle.sdm_c.specs.declared.structs.RestrictionC.{RestrictionC}
 use Rattle.sdm_c.specs.declared.handle.Handle.{Handle}
@@ -50,6 +53,11 @@ abbrev pub revoke_status : Option RevokeFault → ℕ
 revoke_status None = DONE
 revoke_status (Some fault) = UNKNOWN_ID
 
+-- of a change of data (own)
+abbrev pub change_status : Option TakeOverFault → ℕ
+change_status None = DONE
+change_status (Some fault) = BAD_PLACES
+
 -- of a reading's time (own)
 abbrev pub time_status : Option CycleFault → ℕ
 time_status None = DONE
@@ -81,6 +89,12 @@ restrict_answer s r = in_range (is_restriction r)
 -- of a revocation (own)
 abbrev pub revoke_answer : Supervision → ℕ → ℕ
 revoke_answer s id = in_range (is_identity id) (revoke_status (revoke_fault s.restrictions id))
+
+-- of a change of data to a supervisor from the one before, where the first had no reading and no restriction yet (own)
+abbrev pub take_over_answer : Supervision → Supervision → ℕ
+take_over_answer next before =
+    if is_fresh next then change_status (take_over_fault next.train_and_track.track.length_cm before.restrictions)
+    else NOT_FRESH
 
 -- of what is shown of a reading (own)
 abbrev pub display_answer : ReadingC → ℕ
@@ -123,6 +137,10 @@ restriction_status h r = unless_closed h (λ s. restrict_answer s r)
 -- of `sdm_revoke` (own)
 abbrev pub revocation_status : Handle → ℕ → ℕ
 revocation_status h id = unless_closed h (λ s. revoke_answer s id)
+
+-- of `sdm_take_over` (own)
+abbrev pub take_over_status : Handle → Handle → ℕ
+take_over_status next before = unless_closed next (λ n. unless_closed before (λ b. take_over_answer n b))
 
 -- of `sdm_display` (own)
 abbrev pub display_status : Handle → ReadingC → ℕ

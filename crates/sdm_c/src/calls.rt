@@ -12,15 +12,17 @@ ghost use Rattle.sdm_rules.specs.Supervision.{row_of};
 ghost use Rattle.sdm_laws.specs.Falls.{MeetsFalls};
 ghost use Rattle.sdm_row_laws.specs.AllCommands.{KeepsAllOrder};
 ghost use Rattle.sdm_row_laws.specs.ServiceStop.{CommandsNoBrake, StopsByItsEoa};
+ghost use Rattle.sdm_rules.specs.TakeOver.{taken_over};
 ghost use Rattle.sdm_c.specs.Codes.{display_in_c, row_in_c};
 ghost use Rattle.sdm_c.specs.Numbers.{reading_from, restriction_from};
 ghost use Rattle.sdm_c.specs.Statuses.{authority_answer, calculated_answer, cycle_answer, display_answer};
-ghost use Rattle.sdm_c.specs.Statuses.{restrict_answer, revoke_answer};
+ghost use Rattle.sdm_c.specs.Statuses.{restrict_answer, revoke_answer, take_over_answer};
 
 use crate::codes::{display_in_c, row_in_c};
 use crate::numbers::{identity_from, kmh_taken, reading_from, restriction_from};
 use crate::statuses::{
-    DONE, OUT_OF_RANGE, TIME_BACK, UNKNOWN_ID, of_authority, of_restriction, of_trip,
+    DONE, NOT_FRESH, OUT_OF_RANGE, TIME_BACK, UNKNOWN_ID, of_authority, of_restriction,
+    of_take_over, of_trip,
 };
 use crate::structs::{DisplayC, ReadingC, RestrictionC, RowC};
 use sdm_display::display_of;
@@ -133,6 +135,21 @@ pub fn revoke(supervisor: &mut Supervisor, id: u32) -> u32
     match supervisor.revoke(id) {
         Ok(()) => DONE,
         Err(_) => UNKNOWN_ID,
+    }
+}
+
+/// Takes over from the supervisor that ran before. (own)
+pub fn take_over(next: &mut Supervisor, before: &Supervisor) -> u32
+    ensures status { result ≡ take_over_answer next.old before.now }
+    ensures taken { result ≡ DONE → next.new ≡ taken_over next.old before.now }
+    ensures unchanged { ¬ (result ≡ DONE) → next.new ≡ next.old }
+{
+    if !next.is_fresh() {
+        return NOT_FRESH;
+    }
+    match next.take_over(before) {
+        Ok(()) => DONE,
+        Err(fault) => of_take_over(fault),
     }
 }
 

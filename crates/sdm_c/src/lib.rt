@@ -25,6 +25,7 @@ ghost use Rattle.sdm_rules.specs.Supervision.{row_of};
 ghost use Rattle.sdm_laws.specs.Falls.{MeetsFalls};
 ghost use Rattle.sdm_row_laws.specs.AllCommands.{KeepsAllOrder};
 ghost use Rattle.sdm_row_laws.specs.ServiceStop.{CommandsNoBrake, StopsByItsEoa};
+ghost use Rattle.sdm_rules.specs.TakeOver.{taken_over};
 ghost use Rattle.sdm_report.specs.OutcomeLines.{outcome_line};
 ghost use Rattle.sdm_c.specs.Codes.{IsLine, display_in_c, row_in_c};
 ghost use Rattle.sdm_c.specs.Lending.{IsInit, with_state};
@@ -32,6 +33,7 @@ ghost use Rattle.sdm_c.specs.Numbers.{reading_from, restriction_from};
 ghost use Rattle.sdm_c.specs.Openings.{IsBadData, IsOpeningOf, IsRefused};
 ghost use Rattle.sdm_c.specs.Statuses.{IsOpen, cycle_status, display_status, end_calculated_status, end_status};
 ghost use Rattle.sdm_c.specs.Statuses.{limit_status, is_open_status, restriction_status, revocation_status};
+ghost use Rattle.sdm_c.specs.Statuses.{take_over_status};
 
 use codes::put_line;
 use handle::Handle;
@@ -196,6 +198,24 @@ pub extern "C" fn sdm_revoke(h: &mut Handle, id: u32) -> u32
         return CLOSED;
     }
     calls::revoke(h.supervisor(), id)
+}
+
+/// Lets a supervisor that was opened over new data take over from the one that ran before: the restrictions in force,
+/// the time of the last reading, and the commands with the status. (own)
+#[unsafe(no_mangle)]
+pub extern "C" fn sdm_take_over(next: &mut Handle, before: &mut Handle) -> u32
+    ensures status { result ≡ take_over_status next.old before.old }
+    ensures taken { result ≡ DONE → next.new ≡ with_state next.old (taken_over next.old.state before.old.state) }
+    ensures unchanged { ¬ (result ≡ DONE) → next.new ≡ next.old }
+    ensures before { before.new ≡ before.old }
+{
+    if !next.is_open() {
+        return CLOSED;
+    }
+    if !before.is_open() {
+        return CLOSED;
+    }
+    calls::take_over(next.supervisor(), before.supervisor())
 }
 
 /// Writes what the driver can be shown of a reading in what is in force. (own)

@@ -1,9 +1,9 @@
 //! What a call answers: `enum sdm_status`. Each refusal of the supervisor has a status of its own.
 
 ghost use Rattle.std.specs.Prelude.{◌≡◌, Some};
-ghost use Rattle.sdm_c.specs.Statuses.{authority_status, restrict_status, trip_status};
+ghost use Rattle.sdm_c.specs.Statuses.{authority_status, change_status, restrict_status, trip_status};
 
-use sdm_rules::{AuthorityFault, RestrictFault, TripFault};
+use sdm_rules::{AuthorityFault, RestrictFault, TakeOverFault, TripFault};
 
 /// The call did what it is for.
 pub const DONE: u32 = 0;
@@ -47,11 +47,14 @@ pub const FULL: u32 = 12;
 /// A restriction with this identity is held.
 pub const ID_IN_USE: u32 = 13;
 
-/// The restriction ends at or before its start, or past the track's end.
+/// The restriction ends at or before its start, or past the track's end; at a change of data, past the new track's end.
 pub const BAD_PLACES: u32 = 14;
 
 /// No restriction with this identity is held.
 pub const UNKNOWN_ID: u32 = 15;
+
+/// The supervisor that is to take over has had a reading or a restriction.
+pub const NOT_FRESH: u32 = 16;
 
 /// The status of an authority that is refused. (own)
 pub fn of_authority(fault: AuthorityFault) -> u32
@@ -82,5 +85,14 @@ pub fn of_restriction(fault: RestrictFault) -> u32
         RestrictFault::Full => FULL,
         RestrictFault::IdInUse { .. } => ID_IN_USE,
         RestrictFault::Value => BAD_PLACES,
+    }
+}
+
+/// The status of a change of data that is refused. (own)
+pub fn of_take_over(fault: TakeOverFault) -> u32
+    ensures { result ≡ change_status (Some fault) }
+{
+    match fault {
+        TakeOverFault::BeyondTrack { .. } => BAD_PLACES,
     }
 }

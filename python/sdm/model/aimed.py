@@ -3,7 +3,7 @@ from random import Random
 
 from .data import Limit, Stop
 from .documents import SPEEDS
-from .journey import Supervisor
+from .journey import Cycle, Supervisor
 from .limits import Target
 from .records import Calculated, Event, Reading, Restriction, Revocation
 from .release import latest_trip
@@ -17,6 +17,7 @@ class Maker:
     def __init__(self, rng: Random, supervisor: Supervisor) -> None:
         self.rng, self.supervisor = rng, supervisor
         self.events: list[Event] = []
+        self.cycles: list[Cycle] = []
         self.place, self.time, self.accel, self.under = self.start(), 0, 0, 0
 
     def start(self) -> int:
@@ -215,8 +216,10 @@ class Maker:
     def add(self, event: Event | None) -> None:
         if event is None:
             return
-        self.supervisor.take(event)
+        cycle = self.supervisor.take(event)
         self.events.append(event)
+        if cycle is not None:
+            self.cycles.append(cycle)
         if isinstance(event, Reading):
             self.place, self.time = event.est, event.time
 

@@ -46,6 +46,14 @@ class Supervisor:
         self.restrictions: dict[int, Restriction] = {}
         self.profile = mrsp(data, ())
 
+    def take_over(self, before: "Supervisor") -> None:
+        """PROFILE "A change of data": takes over what is kept from the supervisor that ran before."""
+        if any(restriction.end > self.data.track.length for restriction in before.restrictions.values()):
+            raise Refused("restriction value")
+        self.restrictions = dict(before.restrictions)
+        self.time, self.commands = before.time, before.commands
+        self.profile = mrsp(self.data, self.restrictions.values())
+
     def take(self, event: Event) -> Cycle | None:
         """A record, taken whole or refused. A reading gives a Cycle, another record None."""
         if isinstance(event, Reading):

@@ -74,6 +74,32 @@ class Misuse(unittest.TestCase):
         self.supervisor.revoke(Revocation(3))
         is_refused(Status.ID_IN_USE, "restrict", Restriction(4, 0, 1, 5))
 
+    def test_a_change_of_data(self):
+        following = Supervisor(DATA)
+        self.addCleanup(following.close)
+        self.supervisor.restrict(Restriction(4, 590_000, 590_001, 160))
+        before = self.supervisor.cycle(SOME)
+        following.take_over(self.supervisor)
+        self.assertEqual(following.cycle(SOME), self.supervisor.cycle(SOME))
+        self.assertEqual(the_status(following.restrict, Restriction(4, 0, 1, 5)), Status.ID_IN_USE)
+        self.assertEqual(the_status(following.take_over, self.supervisor), Status.NOT_FRESH)
+        self.assertEqual(self.supervisor.cycle(SOME), before)
+        with Supervisor(DATA) as restricted:
+            restricted.restrict(Restriction(1, 0, 1, 5))
+            self.assertEqual(the_status(restricted.take_over, self.supervisor), Status.NOT_FRESH)
+        self.assertEqual(the_status(restricted.take_over, self.supervisor), Status.CLOSED)
+        self.assertEqual(the_status(Supervisor(DATA).take_over, restricted), Status.CLOSED)
+        with self.assertRaises(TypeError):
+            following.take_over(following)
+
+    def test_a_restriction_past_the_new_track(self):
+        shorter = Supervisor(DATA.replace("length = 600000", "length = 590000"))
+        self.addCleanup(shorter.close)
+        self.supervisor.restrict(Restriction(4, 590_000, 590_001, 160))
+        self.assertEqual(the_status(shorter.take_over, self.supervisor), Status.BAD_PLACES)
+        self.supervisor.revoke(Revocation(4))
+        shorter.take_over(self.supervisor)
+
     def test_data_that_are_refused_carry_the_line(self):
         for data, status, line in (
             ("", Status.BAD_DATA, "sdm: bad data: missing version"),
