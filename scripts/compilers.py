@@ -16,7 +16,7 @@ from against_model import BESIDES, GATE_JOURNEYS, besides, made, shown
 from sdm.laboratory.cases import Case, cases_under, difference
 from sdm.laboratory.program import BUILT, Fault, add_program, built, run
 from piped import end
-from worked import WORKED, cases_of
+from worked import cases_of, tables
 
 TOP = Path(__file__).resolve().parents[1]
 OTHER = BUILT.with_name(f"{BUILT.name}.by-rattle")
@@ -27,7 +27,7 @@ def stored() -> Iterable[Case]:
     """The runs that the repository keeps."""
     for folder in ("examples", "vectors"):
         yield from cases_under(TOP / folder)
-    for table in sorted(path.stem for path in WORKED.glob("*.txt")):
+    for table in tables():
         yield from cases_of(table)
 
 

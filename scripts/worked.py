@@ -2,7 +2,7 @@
 
     scripts/check-worked                    what the gate runs
     scripts/check-worked --program PATH     another program than crates/sdm/out/sdm
-    scripts/check-worked words check        these tables alone
+    scripts/check-worked words journeys/fronts   these tables alone
 """
 import argparse
 import re
@@ -11,18 +11,32 @@ from pathlib import Path
 
 from sdm.laboratory.cases import Case, difference
 from sdm.laboratory.program import Fault, Result, add_program, built, run
+import journeys
 from piped import end
 
 TOP = Path(__file__).resolve().parents[1]
 WORKED = TOP / "worked"
 REPEATED = re.compile(r"\((.*?)\)\*(\d+)")
+COUNTED = re.compile(r"(?:(-?\d+)([+-]))?(\d*)#")
 SHOWN = 160  # of a longer line no more is shown
+
+
+def counted(text, number):
+    """A text with a number in the place of each #, times what stands before it, and with what that is added to or
+    taken from."""
+
+    def value(found):
+        first, sign, factor = found.groups()
+        product = int(factor or 1) * number
+        return str(int(first or 0) + (-product if sign == "-" else product))
+
+    return COUNTED.sub(value, text)
 
 
 def repeated(found):
     """A text so many times, with the number of each, from 1 on, where it has a #."""
     text, count = found[1], int(found[2])
-    return "".join(text.replace("#", str(number + 1)) for number in range(count)) if "#" in text else text * count
+    return "".join(counted(text, number + 1) for number in range(count)) if "#" in text else text * count
 
 
 def signs(field):
@@ -70,12 +84,19 @@ def case_of(name, line):
     return Case(name, words.split() if words != "-" else [], given.encode(), due)
 
 
+def tables():
+    """The names of all tables, those of journeys with the folder that they are in."""
+    return sorted(path.relative_to(WORKED).with_suffix("").as_posix() for path in WORKED.rglob("*.txt"))
+
+
 def cases_of(table):
     """The runs of a table, by its name and the numbers of their lines."""
-    lines = (WORKED / f"{table}.txt").read_text().splitlines()
-    cases = [
-        case_of(f"{table}:{number}", line) for number, line in enumerate(lines, 1) if line and not line.startswith("#")
-    ]
+    path = WORKED / f"{table}.txt"
+    if table.startswith("journeys/"):
+        cases = list(journeys.cases_in(path, table, WORKED / "base.toml", signs))
+    else:
+        lines = enumerate(path.read_text().splitlines(), 1)
+        cases = [case_of(f"{table}:{number}", line) for number, line in lines if line and not line.startswith("#")]
     if not cases:
         raise Fault(f"{table} has no run.")
     return cases
@@ -101,8 +122,7 @@ def main(args):
     words = parser.parse_args(args)
     try:
         program = built(words.program)
-        tables = words.table or sorted(path.stem for path in WORKED.glob("*.txt"))
-        answers = [differs(program, case) for table in tables for case in cases_of(table)]
+        answers = [differs(program, case) for table in words.table or tables() for case in cases_of(table)]
     except BrokenPipeError:
         raise
     except (Fault, OSError) as why:

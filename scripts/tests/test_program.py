@@ -195,6 +195,20 @@ class Answers(OverACopy):
         (self.top / "worked/trial.txt").write_text("# none\n")
         self.assertIn("trial has no run", self.told("scripts/check-worked", "trial"))
 
+    def test_a_worked_journey_that_is_answered_otherwise_is_told(self):
+        self.assertIn("worked: 6 passed, 0 failed", self.told("scripts/check-worked", "journeys/records", status=0))
+        copies.alter(self.top, "worked/journeys/records.txt", "^end 200000 200000 0$", "end 200000 150000 0")
+        copies.alter(self.top, "worked/journeys/openings.txt", "= 6 refused: supervised .*$", "= taken")
+        told = self.told("scripts/check-worked", "journeys/records", "journeys/openings")
+        for part in ("journeys/records:", "journeys/openings:16: run\n  the fault line differs", "2 failed"):
+            self.assertIn(part, told)
+
+    def test_worked_journeys_that_can_not_be_read_are_told(self):
+        for section in ("gradient 0", "train length", "trains length 1", "end 1 2"):
+            with self.subTest(section):
+                (self.top / "worked/journeys/records.txt").write_text(f"{section}\nread,0,0,0,0,0,0,0 = taken\n")
+                self.assertIn("records:1 is no journey", self.told("scripts/check-worked", "journeys/records"))
+
     def test_certificates_that_are_answered_by_yes_pass(self):
         self.assertRegex(
             self.told("scripts/check-certificates", status=0), "certificates: [1-9][0-9]* passed, 0 failed"
