@@ -11,7 +11,7 @@ from pathlib import Path
 import sdm
 from sdm.compare import Allowed
 from sdm.findings import explanation
-from sdm.laboratory.program import BUILT, Fault, Result, marked
+from sdm.laboratory.program import PROGRAM, Fault, Result
 from sdm.laboratory.recording import recording_of
 from sdm.laboratory.rows import rows_of
 
@@ -62,7 +62,7 @@ class Report:
 def program_fact(program: Path) -> str:
     """Which program ran: its digest, and what the mark of the built one says of its sources."""
     text = Source(program.name, program.read_bytes()).fact()
-    mark = marked() if program == BUILT else {}
+    mark = PROGRAM.marked() if program == PROGRAM.path else {}
     return text + "".join(f"; {name} {mark[name]}" for name in ("sources", "kit") if name in mark)
 
 
