@@ -76,10 +76,12 @@ at_end input pre [] is unfed h = inr (inl (undivided input h))
 at_end input pre (b ∷ bs) is unfed h =
     let line = b ∷ bs in
     let first = line_alone line unfed (omega arith) in
+    let whole_input : length input - 0 ≡ length input = omega arith in
     elim (cases_Bool (is_dividing_line line)) [
       | inl here ↦ inr (inr (record {
         data_end = length input - length line;
-        divides = divided input line line [] h first (omega arith) here;
+        divides = divided input line line [] h first (omega arith) here
+            ∙ ap (λ i. Some (length input - length line, i)) whole_input;
         unfed = λ fed. last_unfed pre line unfed (omega arith)
             (subst (λ (xs : List ℕ). get_or xs (length xs - 1) 0 ≡ 10) is fed);
       }))
@@ -171,7 +173,7 @@ decided bytes = decide bytes [] [] bytes refl tt (λ more. all_left (bytes ++ mo
 
 -- ---- what a look at the last byte of the dividing line shows
 
-second : Option (ℕ × ℕ) → ℕ
+abbrev second : Option (ℕ × ℕ) → ℕ
 second None = 0
 second (Some x) = x.1
 
