@@ -76,14 +76,16 @@ at_end input pre [] is unfed h = inr (inl (undivided input h))
 at_end input pre (b ∷ bs) is unfed h =
     let line = b ∷ bs in
     let first = line_alone line unfed (omega arith) in
+    let whole_input : length input - 0 ≡ length input = omega arith in
     elim (cases_Bool (is_dividing_line line)) [
-      | inl yes ↦ inr (inr (record {
+      | inl here ↦ inr (inr (record {
         data_end = length input - length line;
-        divides = divided input line line [] h first (omega arith) yes;
+        divides = divided input line line [] h first (omega arith) here
+            ∙ ap (λ i. Some (length input - length line, i)) whole_input;
         unfed = λ fed. last_unfed pre line unfed (omega arith)
             (subst (λ (xs : List ℕ). get_or xs (length xs - 1) 0 ≡ 10) is fed);
       }))
-      | inr no ↦ inr (inl (undivided input (passed input line line [] h first (omega arith) no)))
+      | inr other ↦ inr (inl (undivided input (passed input line line [] h first (omega arith) other)))
     ]
 
 first_of : (line cs more : List ℕ) → IsUnfed line →
@@ -109,7 +111,7 @@ module _ (input pre line cs : List ℕ) (is : input ≡ pre ++ (line ++ 10 ∷ c
 
   closed : is_dividing_line (line ++ 10 ∷ []) ≡ true →
       IsClosed input (length input - length (line ++ 10 ∷ cs)) (length input - length cs)
-  closed yes =
+  closed divides_it =
       let n = size in
       let d = length-append line (10 ∷ cs) in
       record {
@@ -122,7 +124,7 @@ module _ (input pre line cs : List ℕ) (is : input ≡ pre ++ (line ++ 10 ∷ c
             let end : length (input ++ more) - length (cs ++ more) ≡ length input - length cs =
             omega (arith, a, c, n) in
             divided (input ++ more) ((line ++ 10 ∷ cs) ++ more) (line ++ 10 ∷ []) (cs ++ more) (h more)
-            (first_of line cs more unfed) (whole more) yes
+            (first_of line cs more unfed) (whole more) divides_it
             ∙ (ap (λ i. Some (i, length (input ++ more) - length (cs ++ more))) start
             ∙ ap (λ i. Some (length input - length (line ++ 10 ∷ cs), i)) end);
         order = omega (arith, n, d);
@@ -137,9 +139,9 @@ module _ (input pre line cs : List ℕ) (is : input ≡ pre ++ (line ++ 10 ∷ c
       }
 
   passed_on : is_dividing_line (line ++ 10 ∷ []) ≡ false → LeftOf input cs
-  passed_on no more =
+  passed_on other more =
       passed (input ++ more) ((line ++ 10 ∷ cs) ++ more) (line ++ 10 ∷ []) (cs ++ more) (h more)
-      (first_of line cs more unfed) (whole more) no
+      (first_of line cs more unfed) (whole more) other
 
 decide : (rest line pre input : List ℕ) → input ≡ pre ++ (line ++ rest) → IsUnfed line → LeftOf input (line ++ rest) →
     Decided input
@@ -154,11 +156,11 @@ decide (c ∷ cs) line pre input is unfed h =
           let is10 : input ≡ pre ++ (line ++ 10 ∷ cs) = is ∙ ap (λ x. pre ++ (line ++ x ∷ cs)) ten in
           let h10 : LeftOf input (line ++ 10 ∷ cs) = subst (λ (x : ℕ). LeftOf input (line ++ x ∷ cs)) ten h in
           elim (cases_Bool (is_dividing_line (line ++ 10 ∷ []))) [
-            | inl yes ↦ inl (_, _, closed input pre line cs is10 unfed h10 yes)
-            | inr no ↦ decide cs [] (pre ++ (line ++ 10 ∷ [])) input
+            | inl here ↦ inl (_, _, closed input pre line cs is10 unfed h10 here)
+            | inr passes ↦ decide cs [] (pre ++ (line ++ 10 ∷ [])) input
                 (is10 ∙ (ap (λ l. pre ++ l) (sym (append_assoc line (10 ∷ []) cs))
                 ∙ sym (append_assoc pre (line ++ 10 ∷ []) cs)))
-                tt (passed_on input pre line cs is10 unfed h10 no)
+                tt (passed_on input pre line cs is10 unfed h10 passes)
           ]
       | inr other ↦
           let same : line ++ c ∷ cs ≡ (line ++ c ∷ []) ++ cs = sym (append_assoc line (c ∷ []) cs) in
@@ -171,8 +173,12 @@ decided bytes = decide bytes [] [] bytes refl tt (λ more. all_left (bytes ++ mo
 
 -- ---- what a look at the last byte of the dividing line shows
 
+abbrev second : Option (ℕ × ℕ) → ℕ
+second None = 0
+second (Some x) = x.1
+
 same_place : (bytes : List ℕ) (d r e s : ℕ) → divide bytes ≡ Some (d, r) → divide bytes ≡ Some (e, s) → r ≡ s
-same_place bytes d r e s p q = cc (sym p ∙ q)
+same_place bytes d r e s p q = ap second (sym p ∙ q)
 
 nothing_after : (bytes : List ℕ) (r : ℕ) → r ≡ length bytes → drop r bytes ≡ []
 nothing_after bytes r is = drop_all r bytes (omega (arith, is))
@@ -184,7 +190,7 @@ closed_now bytes d r c = ap divide (sym (append-nil bytes)) ∙ c.divides []
 pub division_found : (bytes : List ℕ) (d r : ℕ) → divide bytes ≡ Some (d, r) → 0 < r →
     get_or bytes (r - 1) 0 ≡ 10 → (more : List ℕ) → divide (bytes ++ more) ≡ Some (d, r)
 division_found bytes d r is some fed more = elim (decided bytes) [
-  | inl closed ↦ closed.2.2.divides more ∙ (sym (closed_now bytes closed.0 closed.1 closed.2.2) ∙ is)
+  | inl whole ↦ whole.2.divides more ∙ (sym (closed_now bytes whole.0 whole.1 whole.2) ∙ is)
   | inr (inl none) ↦ cc (sym none ∙ is)
   | inr (inr last) ↦
       let end = same_place bytes d r last.data_end (length bytes) is last.divides in
@@ -195,10 +201,10 @@ division_found bytes d r is some fed more = elim (decided bytes) [
 pub division_wanting : (bytes : List ℕ) (d r : ℕ) → divide bytes ≡ Some (d, r) →
     ((0 < r) → get_or bytes (r - 1) 0 ≡ 10 → ⊥) → HasNoRecords bytes
 division_wanting bytes d r is unfed e s at = elim (decided bytes) [
-  | inl closed ↦
-      let same = same_place bytes closed.0 closed.1 d r (closed_now bytes closed.0 closed.1 closed.2.2) is in
-      absurd (unfed (omega (arith, same, closed.2.2.some))
-      (ap (λ i. get_or bytes (i - 1) 0) (sym same) ∙ closed.2.2.fed))
+  | inl whole ↦
+      let same = same_place bytes whole.0 whole.1 d r (closed_now bytes whole.0 whole.1 whole.2) is in
+      absurd (unfed (omega (arith, same, whole.2.some))
+      (ap (λ i. get_or bytes (i - 1) 0) (sym same) ∙ whole.2.fed))
   | inr (inl none) ↦ cc (sym none ∙ is)
   | inr (inr last) ↦ nothing_after bytes s (same_place bytes e s last.data_end (length bytes) at last.divides)
 ]

@@ -33,7 +33,10 @@ fn whole_division(bytes: &[u8]) -> Option<Division>
     ensures wanting { IfNone result (HasNoRecords bytes.now) }
 {
     let (data_end, records_start) = split(bytes)?;
-    if records_start == 0 || bytes[records_start - 1] != b'\n' {
+    if records_start == 0 {
+        return None;
+    }
+    if bytes[records_start - 1] != b'\n' {
         return None;
     }
     Some(Division {

@@ -2,7 +2,6 @@
 //! has come.
 #![tactic(auto)]
 
-mod data_parts;
 mod live_run;
 mod streams;
 
