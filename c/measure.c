@@ -21,15 +21,17 @@
 enum { STACK_BYTES = 1 << 20, PAINT = 0xa5, OPENINGS = 20, NOTHINGS = 10000 };
 
 /* The kinds of calls: those of an event as in enum event_kind, and then the others. */
-enum call { CALL_DISPLAY = EVENT_REVOKE + 1, CALL_OPEN, CALL_CLOSE, CALL_NOTHING, CALLS };
+enum call { CALL_DISPLAY = EVENT_REVOKE + 1, CALL_OPEN, CALL_CLOSE, CALL_TAKE_OVER, CALL_NOTHING, CALLS };
 
-static const char *const names[CALLS] = {"sdm_cycle",  "sdm_end",     "sdm_end_calculated", "sdm_limit", "sdm_restrict",
-                                         "sdm_revoke", "sdm_display", "sdm_open",           "sdm_close", "nothing"};
+static const char *const names[CALLS] = {
+    "sdm_cycle",   "sdm_end",  "sdm_end_calculated", "sdm_limit",     "sdm_restrict", "sdm_revoke",
+    "sdm_display", "sdm_open", "sdm_close",          "sdm_take_over", "nothing"};
 
 /* A call that is to be made, and what it answers. */
 struct job {
     enum call call;
     struct sdm *h;
+    struct sdm *next; /* which is to take over */
     const struct journey *journey;
     const struct event *event;
     uint32_t status;
@@ -58,6 +60,9 @@ static void perform(struct job *job) {
         break;
     case CALL_CLOSE:
         sdm_close(job->h);
+        break;
+    case CALL_TAKE_OVER:
+        job->status = sdm_take_over(job->next, job->h);
         break;
     case CALL_NOTHING:
         break;
@@ -123,11 +128,25 @@ static size_t depth_of(enum call call) {
     return (size_t)(tops[call] - lowest);
 }
 
+/* Changes to the same data as often as they were opened, each time from what is in force now. */
+static void take_over(struct job *job, void (*make)(struct job *)) {
+    static struct sdm_line line;
+    for (int i = 0; i < OPENINGS; i++) {
+        struct sdm next = SDM_INIT;
+        if (sdm_open(&next, job->journey->data, job->journey->data_bytes, &line) != SDM_DONE)
+            return;
+        job->call = CALL_TAKE_OVER;
+        job->next = &next;
+        make(job);
+        sdm_close(&next);
+    }
+}
+
 /* Makes each call of a journey in one of the two ways. */
 static void play(const struct journey *journey, void (*make)(struct job *)) {
     struct sdm h = SDM_INIT;
     struct event event;
-    struct job job = {CALL_NOTHING, &h, journey, &event, SDM_DONE};
+    struct job job = {CALL_NOTHING, &h, NULL, journey, &event, SDM_DONE};
     const uint8_t *at = journey->records;
     unsigned column;
     for (int i = 0; i < NOTHINGS; i++)
@@ -146,6 +165,7 @@ static void play(const struct journey *journey, void (*make)(struct job *)) {
             make(&job);
         }
     }
+    take_over(&job, make);
     sdm_close(&h);
 }
 

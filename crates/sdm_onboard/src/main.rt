@@ -10,14 +10,22 @@ mod onboard;
 mod opening;
 mod orders;
 
-use messages::journey;
+use messages::{beginning, journey};
+use onboard::Onboard;
 use std::io;
 
 fn main(rt: HostRuntime) -> io::Result<()> {
     let mut onboard = match opening::open(rt.alloc()) {
-        Ok(onboard) => onboard,
+        Ok(supervisor) => Onboard::over(supervisor),
         Err(fault) => return println!(rt; "no supervisor, so brake: {fault}"),
     };
+    for message in beginning() {
+        let news = onboard.take(&message);
+        println!(rt; "{message}: {news}; {}", onboard.orders())?;
+    }
+    // New data come, which are the same here. Their supervisor is opened beside the old one, which could run meanwhile.
+    let news = onboard.change_data(opening::open(rt.alloc()));
+    println!(rt; "new data: {news}; {}", onboard.orders())?;
     for message in journey() {
         let news = onboard.take(&message);
         println!(rt; "{message}: {news}; {}", onboard.orders())?;

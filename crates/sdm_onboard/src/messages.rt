@@ -1,4 +1,4 @@
-//! What comes in: the odometer's readings, and what the radio and the balises bring. The list is a journey in which
+//! What comes in: the odometer's readings, and what the radio and the balises bring. The lists are a journey in which
 //! each call of the supervisor is made and refused; of two readings that aren't judged one has a clock that goes back,
 //! and one a speed out of range.
 
@@ -98,11 +98,14 @@ fn slow(id: u16, start: u32, end: u32) -> Message {
     })
 }
 
-/// The journey.
-pub fn journey() -> [Message; 21] {
+/// The journey up to the change of data.
+pub fn beginning() -> [Message; 2] {
+    [read(0, 1_000_000, 20_000, 0), slow(7, 140_000, 160_000)]
+}
+
+/// The journey from there on.
+pub fn journey() -> [Message; 19] {
     [
-        read(0, 1_000_000, 20_000, 0),
-        slow(7, 140_000, 160_000),
         read(5, 1_010_000, 20_000, 0),
         Message::Revocation(7),
         Message::Revocation(7),

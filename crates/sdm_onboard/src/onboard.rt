@@ -8,12 +8,17 @@ ghost use Rattle.sdm_ride.specs.declared.happenings.Happening.TheVariants.{Recor
 ghost use Rattle.sdm_rules.specs.declared.records.Event.TheVariants as record_kinds;
 ghost use Rattle.sdm_onboard.specs.declared.messages.Message.TheVariants as messages;
 ghost use Rattle.sdm_onboard.specs.Messages.{Follows, Takes};
+ghost use Rattle.std.specs.Prelude.{IfOk};
+ghost use Rattle.std.specs.FinMap as finite;
+ghost use Rattle.sdm_rules.specs.TakeOver.{taken_over};
 
 use crate::messages::{Message, Odometry};
+use crate::opening::OpeningFault;
 use crate::orders::Orders;
 use sdm_num::Reading;
 use sdm_rules::{
     Authority, AuthorityFault, CycleFault, RestrictFault, Restriction, RevokeFault, Row,
+    TakeOverFault,
 };
 use sdm_supervisor::Supervisor;
 use std::fmt;
@@ -48,6 +53,8 @@ pub enum News {
     AuthorityRefused(AuthorityFault),
     RestrictionRefused(RestrictionFault),
     RevocationRefused(RevokeFault),
+    DataRefused(OpeningFault),
+    NotTakenOver(TakeOverFault),
 }
 
 /// The computer.
@@ -95,6 +102,43 @@ impl Onboard {
             Message::Restriction(restriction) => self.take_restriction(*restriction),
             Message::Revocation(id) => self.revoke(*id),
         }
+    }
+
+    /// Changes to new data between two messages, with what came of the opening over them: the supervisor over them
+    /// takes over and the old one ends. The new data bring an authority, so that none is missing any more. Where they
+    /// are refused the old supervisor runs on, as where an authority is refused.
+    pub fn change_data(&mut self, opened: Result<Supervisor, OpeningFault>) -> News
+        requires fresh { IfOk opened (λ next. next.restrictions ≡ finite.empty) }
+        ensures taken { result ≡ News.Taken →
+            IfOk opened (λ next. self.new.supervisor ≡ taken_over next self.old.supervisor) }
+        ensures stands { IsTrue self.old.orders.emergency → IsTrue self.new.orders.emergency }
+        ensures refused { result ≡ News.Taken
+            ⊎ (IsTrue self.new.is_authority_missing × IsTrue self.new.orders.emergency) }
+    {
+        let mut next = match opened {
+            Ok(next) => next,
+            Err(fault) => return self.keep_data(News::DataRefused(fault)),
+        };
+        match next.take_over(&self.supervisor) {
+            Ok(()) => {
+                self.supervisor = next;
+                self.is_authority_missing = false;
+                News::Taken
+            }
+            Err(fault) => self.keep_data(News::NotTakenOver(fault)),
+        }
+    }
+
+    /// The authority that came with new data is missing where they are refused.
+    fn keep_data(&mut self, news: News) -> News
+        ensures news { result ≡ news }
+        ensures supervisor { self.new.supervisor ≡ self.old.supervisor }
+        ensures missing { IsTrue self.new.is_authority_missing }
+        ensures braked { IsTrue self.new.orders.emergency }
+    {
+        self.is_authority_missing = true;
+        self.orders = Orders::BRAKE;
+        news
     }
 
     /// A reading that can't be judged leaves the train without supervision, so it brakes.
@@ -210,6 +254,8 @@ impl fmt::Display for News {
             News::AuthorityRefused(fault) => write!(f, "refused, {fault}"),
             News::RestrictionRefused(fault) => write!(f, "refused, {fault}"),
             News::RevocationRefused(fault) => write!(f, "refused, {fault}"),
+            News::DataRefused(fault) => write!(f, "refused, {fault}"),
+            News::NotTakenOver(fault) => write!(f, "refused, {fault}"),
         }
     }
 }

@@ -1,7 +1,9 @@
 //! The data of the journey, and the supervisor that is opened over them. A train that brakes with 1 m/s² on a level
 //! track of 3 km; the times are those that docs/INTEGRATION.md derives for readings every 0.5 s.
 
-use crate::onboard::Onboard;
+ghost use Rattle.std.specs.Prelude.{◌≡◌, IfOk};
+ghost use Rattle.std.specs.FinMap as finite;
+
 use sdm_national::National;
 use sdm_rules::{
     Authority, Band, MOST_BANDS, NationalFault, NationalFields, OpenFault, SpeedStep, TrackFault,
@@ -79,13 +81,14 @@ const SPEED: SpeedStep = SpeedStep {
     delayed: true,
 };
 
-/// The computer with its supervisor, or the first thing that is refused.
-pub fn open(alloc: Global) -> Result<Onboard, OpeningFault> {
+/// The supervisor over the data, or the first thing that is refused.
+pub fn open(alloc: Global) -> Result<Supervisor, OpeningFault>
+    ensures { IfOk result (λ supervisor. supervisor.restrictions ≡ finite.empty) }
+{
     let train = Train::new(TRAIN).map_err(OpeningFault::Train)?;
     let national = National::new(NATIONAL).map_err(OpeningFault::National)?;
     let track = level_track(alloc)?;
-    let supervisor = Supervisor::begin(alloc, train, national, track, FIRST_AUTHORITY);
-    Ok(Onboard::over(supervisor.map_err(OpeningFault::Open)?))
+    Supervisor::begin(alloc, train, national, track, FIRST_AUTHORITY).map_err(OpeningFault::Open)
 }
 
 /// Without gradients and without areas.

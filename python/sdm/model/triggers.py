@@ -98,7 +98,8 @@ def decide(data: Data, situation: Situation, triggers: Triggers, before: Command
     early = "early release" if data.national.early_release and not over else ""
     eb, why_eb = command(emer, before.eb, "standstill" if situation.reading.V_est == 0 else early)
     slow = "" if over else "the permitted speed"
-    sb, why_sb = command(serv and situation.times.in_use, before.sb, slow)
+    in_use = situation.times.in_use
+    sb, why_sb = command(serv and in_use, before.sb and in_use, slow)  # it may be held over a change of data
     tco, why_tco = command(warn or serv or emer, before.tco, slow)
     state = state_of(situation)
     rules = (
