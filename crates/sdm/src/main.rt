@@ -2,7 +2,6 @@
 #![tactic(auto)]
 
 use sdm_io::{BlockSink, StdSink, StdSource};
-use sdm_live_run::{StreamPeer, sdm_live_main};
 use sdm_run::{Outcome, sdm_main, told};
 use std::env;
 use std::io::ErrorKind;
@@ -26,24 +25,12 @@ fn words_of(rt: &HostRuntime) -> Option<Vec<String>> {
     Some(words)
 }
 
-/// Whether the words ask for `live`, the one command that answers while its input comes.
-fn is_live(words: &[String]) -> bool {
-    match words {
-        [word] => word.as_str() == "live",
-        _ => false,
-    }
-}
-
 fn main(rt: HostRuntime) -> ExitCode {
     let mut err = StdSink::new(rt.stderr());
     let outcome = match (words_of(&rt), BlockSink::new(rt.alloc(), rt.stdout())) {
         (Some(words), Ok(mut out)) => {
             let mut input = StdSource::new(rt.stdin());
-            if is_live(&words) {
-                sdm_live_main(rt.alloc(), &mut StreamPeer::new(input, out), &mut err)
-            } else {
-                sdm_main(rt.alloc(), &words, &mut input, &mut out, &mut err)
-            }
+            sdm_main(rt.alloc(), &words, &mut input, &mut out, &mut err)
         }
         _ => told(Outcome::Memory, &mut err),
     };

@@ -1,9 +1,0 @@
-//! The command `live`: the data part, which opens a supervisor, and then an answer to each record as soon as its line
-//! has come.
-#![tactic(auto)]
-
-mod live_run;
-mod streams;
-
-pub use live_run::sdm_live_main;
-pub use streams::StreamPeer;
