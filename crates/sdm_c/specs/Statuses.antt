@@ -17,55 +17,121 @@ use Rattle.sdm_rules.specs.Records.{authority_fault, restrict_fault, revoke_faul
 use Rattle.sdm_rules.specs.Supervision.{Supervision}
 use Rattle.sdm_rules.specs.TakeOver.{take_over_fault}
 use Rattle.sdm_supervisor.specs.TakeOvers.{is_fresh}
-use Rattle.sdm_c.specs.declared.statuses.TheConstants.{IN_USE, NO_MEMORY, BAD_DATA, REFUSED}
-use Rattle.sdm_c.specs.declared.statuses.TheConstants.{DONE, CLOSED, OUT_OF_RANGE, TIME_BACK, SVL_BEFORE_EOA}
-use Rattle.sdm_c.specs.declared.statuses.TheConstants.{BEYOND_TRACK, BAD_SPEED, BAD_TRIP, FULL, ID_IN_USE, BAD_PLACES}
-use Rattle.sdm_c.specs.declared.statuses.TheConstants.{NOT_FRESH, UNKNOWN_ID}
 use Rattle.sdm_c.specs.declared.structs.ReadingC.{ReadingC}
 use Rattle.sdm_c.specs.declared.structs.RestrictionC.{RestrictionC}
 use Rattle.sdm_c.specs.declared.handle.Handle.{Handle}
 use Rattle.sdm_c.specs.Numbers.{is_identity, is_reading, is_restriction, restriction_from}
 
+-- ---- THE NUMBERS of `enum sdm_status`, as C has them
+
+-- the call did what it is for (own)
+abbrev pub done : ℕ
+done = 0
+
+-- the handle has no supervisor (own)
+abbrev pub closed : ℕ
+closed = 1
+
+-- the handle has a supervisor already (own)
+abbrev pub in_use : ℕ
+in_use = 2
+
+-- memory was refused (own)
+abbrev pub no_memory : ℕ
+no_memory = 3
+
+-- the data break a rule (own)
+abbrev pub bad_data : ℕ
+bad_data = 4
+
+-- the slopes or the first authority are refused (own)
+abbrev pub refused : ℕ
+refused = 5
+
+-- a number is outside its range (own)
+abbrev pub out_of_range : ℕ
+out_of_range = 6
+
+-- the reading's time is before that of the last one (own)
+abbrev pub time_back : ℕ
+time_back = 7
+
+-- the SvL lies before the EOA (own)
+abbrev pub svl_before_eoa : ℕ
+svl_before_eoa = 8
+
+-- the SvL or the LOA lies past the track's end (own)
+abbrev pub beyond_track : ℕ
+beyond_track = 9
+
+-- the limit's speed is 0 or too high, or the release speed is too high (own)
+abbrev pub bad_speed : ℕ
+bad_speed = 10
+
+-- the trip's place lies before the EOA or past the SvL (own)
+abbrev pub bad_trip : ℕ
+bad_trip = 11
+
+-- as many restrictions as may be are held (own)
+abbrev pub full : ℕ
+full = 12
+
+-- a restriction with this identity is held (own)
+abbrev pub id_in_use : ℕ
+id_in_use = 13
+
+-- the restriction ends at or before its start, or past the track's end (own)
+abbrev pub bad_places : ℕ
+bad_places = 14
+
+-- no restriction with this identity is held (own)
+abbrev pub unknown_id : ℕ
+unknown_id = 15
+
+-- the next supervisor has had a reading or a restriction (own)
+abbrev pub not_fresh : ℕ
+not_fresh = 16
+
 -- ---- of what the supervisor answers
 
 -- of an authority (own)
 abbrev pub authority_status : Option AuthorityFault → ℕ
-authority_status None = DONE
-authority_status (Some SvlBeforeEoa) = SVL_BEFORE_EOA
-authority_status (Some BeyondTrack) = BEYOND_TRACK
-authority_status (Some BadSpeed) = BAD_SPEED
+authority_status None = done
+authority_status (Some SvlBeforeEoa) = svl_before_eoa
+authority_status (Some BeyondTrack) = beyond_track
+authority_status (Some BadSpeed) = bad_speed
 
 -- of a stop with the place of a trip (own)
 abbrev pub trip_status : Option TripFault → ℕ
-trip_status None = DONE
+trip_status None = done
 trip_status (Some (trip_faults.Authority fault)) = authority_status (Some fault)
-trip_status (Some trip_faults.BadTrip) = BAD_TRIP
+trip_status (Some trip_faults.BadTrip) = bad_trip
 
 -- of a restriction (own)
 abbrev pub restrict_status : Option RestrictFault → ℕ
-restrict_status None = DONE
-restrict_status (Some Full) = FULL
-restrict_status (Some (IdInUse id)) = ID_IN_USE
-restrict_status (Some Value) = BAD_PLACES
+restrict_status None = done
+restrict_status (Some Full) = full
+restrict_status (Some (IdInUse id)) = id_in_use
+restrict_status (Some Value) = bad_places
 
 -- of a revocation (own)
 abbrev pub revoke_status : Option RevokeFault → ℕ
-revoke_status None = DONE
-revoke_status (Some fault) = UNKNOWN_ID
+revoke_status None = done
+revoke_status (Some fault) = unknown_id
 
 -- of a change of data (own)
 abbrev pub change_status : Option TakeOverFault → ℕ
-change_status None = DONE
-change_status (Some fault) = BAD_PLACES
+change_status None = done
+change_status (Some fault) = bad_places
 
 -- of a reading's time (own)
 abbrev pub time_status : Option CycleFault → ℕ
-time_status None = DONE
-time_status (Some fault) = TIME_BACK
+time_status None = done
+time_status (Some fault) = time_back
 
 -- a status, unless a number is outside its range (own)
 abbrev pub in_range : Bool → ℕ → ℕ
-in_range is status = if is then status else OUT_OF_RANGE
+in_range is status = if is then status else out_of_range
 
 -- ---- of a call with a supervisor
 
@@ -94,11 +160,11 @@ revoke_answer s id = in_range (is_identity id) (revoke_status (revoke_fault s.re
 abbrev pub take_over_answer : Supervision → Supervision → ℕ
 take_over_answer next before =
     if is_fresh next then change_status (take_over_fault next.train_and_track.track.length_cm before.restrictions)
-    else NOT_FRESH
+    else not_fresh
 
 -- of what is shown of a reading (own)
 abbrev pub display_answer : ReadingC → ℕ
-display_answer r = in_range (is_reading r) DONE
+display_answer r = in_range (is_reading r) done
 
 -- ---- of a call with a handle
 
@@ -108,11 +174,11 @@ IsOpen h = h.is_open ≡ 1
 
 -- the statuses of `sdm_open` (own)
 abbrev pub is_open_status : ℕ → Bool
-is_open_status n = n == DONE || n == IN_USE || n == NO_MEMORY || n == BAD_DATA || n == REFUSED
+is_open_status n = n == done || n == in_use || n == no_memory || n == bad_data || n == refused
 
 -- an answer of the supervisor, where the handle has one (own)
 abbrev pub unless_closed : Handle → (Supervision → ℕ) → ℕ
-unless_closed h answer = if h.is_open == 1 then answer h.state else CLOSED
+unless_closed h answer = if h.is_open == 1 then answer h.state else closed
 
 -- of `sdm_cycle` (own)
 abbrev pub cycle_status : Handle → ReadingC → ℕ

@@ -51,7 +51,7 @@ pub const LAYOUT: u32 = 1;
 /// The number of the layout of `sdm.h`, which a program compares with its own when it starts. (own)
 #[unsafe(no_mangle)]
 pub extern "C" fn sdm_layout() -> u32
-    ensures { result ≡ LAYOUT }
+    ensures { result ≡ 1 }
 {
     LAYOUT
 }

@@ -13,6 +13,7 @@ abbrev pub lines_after : List ℕ → List ℕ → List (List ℕ)
 lines_after line [] = begun line []
 lines_after line (c ∷ cs) = if ends_line c then begun line (lines_after [] cs) else lines_after (line ++ c ∷ []) cs
 
+-- THE LINES of a text (own)
 abbrev pub lines_of : List ℕ → List (List ℕ)
 lines_of text = lines_after [] text
 

@@ -12,6 +12,7 @@ pub data Exchange : Type 0 where
   Given_on : Exchange  -- what was taken before is with the peer
   Held_fault : Exchange  -- giving it on failed
 
+-- the calls so far, the newest first (own)
 abbrev pub History : Type 0
 History = List Exchange
 
@@ -70,14 +71,17 @@ pub record IsPrompt (due : List ℕ → List ℕ) (start now : History) : Type 0
 
 -- ---- one call
 
+-- what an ask was, by its answer and what the buffer has after it (own)
 abbrev pub asked : {E : Type 0} → Result ℕ E → List ℕ → Exchange
 asked (Ok n) buffer = Gave (take n buffer)
 asked (Err e) buffer = Gave_fault
 
+-- what a handing over was, by its answer and the piece (own)
 abbrev pub handed : {E : Type 0} → Result ℕ E → List ℕ → Exchange
 handed (Ok n) piece = Took (take n piece)
 handed (Err e) piece = Took_fault
 
+-- what a flush was, by its answer (own)
 abbrev pub flushed : {A E : Type 0} → Result A E → Exchange
 flushed (Ok a) = Given_on
 flushed (Err e) = Held_fault

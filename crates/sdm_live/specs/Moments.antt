@@ -6,10 +6,11 @@ use Rattle.sdm_live.specs.Progress.{Rules, due, start, whole, with_bytes}
 use Rattle.sdm_live.specs.Taken.{IsPieceAnswered, standing}
 
 module _ {S : Type 0} (rules : Rules S) (first : S) (given : List ℕ) where
-  -- what is due, and the whole text, of the bytes given and those that came
+  -- what is due of the bytes given and those that came (own)
   abbrev pub due_after : List ℕ → List ℕ
   due_after bytes = due rules first (given ++ bytes)
 
+  -- the whole text of them (own)
   abbrev pub whole_after : List ℕ → List ℕ
   whole_after bytes = whole rules first (given ++ bytes)
 

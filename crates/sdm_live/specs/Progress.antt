@@ -32,6 +32,7 @@ module _ {S : Type 0} (rules : Rules S) where
       let after = rules.next p.state (b ∷ bs) in
       record { state = after; line = []; is_over = false; text = p.text ++ rules.told after }
 
+  -- the line that has come so far ends (own)
   abbrev pub with_end : Progress S → Progress S
   with_end p = end_of p.line p
 
@@ -46,9 +47,11 @@ module _ {S : Type 0} (rules : Rules S) where
   byte_of true p b = with_end p
   byte_of false p b = more_of p.is_over (nat_lt (length p.line) longest_line) p b
 
+  -- one byte more (own)
   abbrev pub with_byte : Progress S → ℕ → Progress S
   with_byte p b = byte_of (ends_line b) p b
 
+  -- bytes more, one after the other (own)
   abbrev pub with_bytes : Progress S → List ℕ → Progress S
   with_bytes p [] = p
   with_bytes p (b ∷ bs) = with_bytes (with_byte p b) bs

@@ -40,6 +40,7 @@ module _ {S : Type 0} (rules : Rules S) (state : S) (line : Coming) where
     pub leads : with_end rules (standing state line (sent before)) ≡ standing after left (sent now)
     pub quiet : DidNotAsk before now
 
+  -- the end of a line was told in part, where the writing failed (own)
   pub record IsEndedPart (before now : History) : Type 0 where
     pub begins : Begins (sent now) (with_end rules (standing state line (sent before))).text
     pub quiet : DidNotAsk before now
@@ -49,6 +50,7 @@ module _ {S : Type 0} (rules : Rules S) (state : S) (line : Coming) where
     pub taken : IsTaken bytes after left before now
     pub given_on : is_given_on now ≡ true
 
+  -- the last line ended, and all that was told of it is with the peer (own)
   pub record IsRestAnswered (after : S) (left : Coming) (before now : History) : Type 0 where
     pub taken : IsEnded after left before now
     pub given_on : is_given_on now ≡ true

@@ -27,13 +27,16 @@ byte_in Quotes s c =
 byte_in AfterQuote s c =
     if c == 34 then record { fields = s.fields; field = s.field ++ c ∷ []; within = Quotes } else plain_byte s c
 
+-- a byte, by where the line stands (own)
 abbrev pub split_byte : Split → ℕ → Split
 split_byte s c = byte_in s.within s c
 
+-- bytes, one after the other (own)
 abbrev pub split_bytes : Split → List ℕ → Split
 split_bytes s [] = s
 split_bytes s (c ∷ cs) = split_bytes (split_byte s c) cs
 
+-- nothing of the line has come (own)
 abbrev pub nothing_split : Split
 nothing_split = record { fields = []; field = []; within = Start }
 
@@ -47,8 +50,10 @@ line_fields line = fields_at_end (split_bytes nothing_split line)
 
 -- ---- in memory
 
+-- the fields in memory: their bytes, and where each ends (own)
 abbrev pub row_from : List ℕ → List ℕ → Row
 row_from bytes ends = record { bytes = bytes; ends = ends }
 
+-- where the dividing of a line stands in memory (own)
 abbrev pub split_of : Row → Within → Split
 split_of row within = record { fields = fields_of row; field = partial_of row; within = within }

@@ -25,6 +25,7 @@ refused_text cause = codes "refused: " ++ cause_text cause ++ codes "\n"
 unfoldable pub too_long_text : List ℕ
 too_long_text = codes "refused: line too long\n"
 
+-- THE ANSWER to a record, by its turn or why it is refused (own)
 abbrev pub answer_to : Result Turn EventCause → List ℕ
 answer_to (Ok t) = taken_text (row_of_turn t)
 answer_to (Err cause) = refused_text cause
@@ -43,6 +44,7 @@ pub record LiveState : Type 0 where
   pub supervision : Supervision
   pub text : List ℕ
 
+-- the state after a record, with the answer to it (own)
 abbrev pub answered : Supervision → Result Turn EventCause → LiveState
 answered s turn = record { supervision = state_after s turn; text = answer_to turn }
 
