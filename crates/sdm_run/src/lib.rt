@@ -19,6 +19,7 @@ mod upgrade_run;
 mod words;
 
 pub use answers::{law_of_outputs, outcome_of, sdm_main, told};
+pub use journey_openings::opened;
 pub use sdm_report::{EventCause, InputFault, Outcome};
 pub use sdm_supervisor::{CycleFault, Flat, FlatRow};
 pub use words::Command;
