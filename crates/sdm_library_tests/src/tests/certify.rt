@@ -45,13 +45,34 @@ const ON_TWO: [Numbers; 8] = [
 
 /// Over ten bands, by the same model.
 const ON_TEN: [Numbers; 9] = [
-    (10_725_214_614_884_790, 8_938_609_298_658_000_000_000_000_000),
-    (10_860_167_094_230_415, 6_863_512_500_000_000_000_000_000_000),
-    (10_962_492_675_625_764, 5_200_312_500_000_000_000_000_000_000),
-    (10_991_344_101_064_361, 4_774_050_000_000_000_000_000_000_000),
-    (11_008_431_297_956_007, 4_500_000_000_000_000_000_000_000_000),
-    (11_072_537_070_395_113, 3_289_612_500_000_000_000_000_000_000),
-    (11_161_991_940_815_131, 1_487_812_500_000_000_000_000_000_000),
+    (
+        10_725_214_614_884_790,
+        8_938_609_298_658_000_000_000_000_000,
+    ),
+    (
+        10_860_167_094_230_415,
+        6_863_512_500_000_000_000_000_000_000,
+    ),
+    (
+        10_962_492_675_625_764,
+        5_200_312_500_000_000_000_000_000_000,
+    ),
+    (
+        10_991_344_101_064_361,
+        4_774_050_000_000_000_000_000_000_000,
+    ),
+    (
+        11_008_431_297_956_007,
+        4_500_000_000_000_000_000_000_000_000,
+    ),
+    (
+        11_072_537_070_395_113,
+        3_289_612_500_000_000_000_000_000_000,
+    ),
+    (
+        11_161_991_940_815_131,
+        1_487_812_500_000_000_000_000_000_000,
+    ),
     (11_252_749_364_905_889, 19_012_500_000_000_000_000_000_000),
     (11_254_032_000_000_000, 0),
 ];
@@ -116,10 +137,8 @@ fn claim_at_standstill() -> Claim
 /// Whether marks have these numbers.
 fn are(marks: &[Mark], numbers: &[Numbers]) -> bool {
     marks.len() == numbers.len()
-        && marks
-            .iter()
-            .zip(numbers)
-            .all(|(mark, (place, energy))| mark.place == *place && mark.energy == *energy)
+        && marks.iter().zip(numbers).all(|(mark, (place, energy))| mark.place == *place
+            && mark.energy == *energy)
 }
 
 /// Whether the marks that are made for a claim on a map have these numbers, and hold.
@@ -136,12 +155,7 @@ fn are_made(alloc: Global, map: &BandMap, claim: &Claim, numbers: &[Numbers]) ->
 }
 
 /// Whether the marks of a map that there is are made so.
-fn are_made_on(
-    alloc: Global,
-    map: Option<BandMap>,
-    claim: &Claim,
-    numbers: &[Numbers],
-) -> bool
+fn are_made_on(alloc: Global, map: Option<BandMap>, claim: &Claim, numbers: &[Numbers]) -> bool
     requires { IsClaimInRange claim.now }
 {
     match map {
@@ -179,7 +193,9 @@ fn no_marks_hold_for_no_claim(rt: HostRuntime) {
 fn certifies(alloc: Global, supervisor: &Supervisor, front: i32) -> Option<bool> {
     let reading = Reading::new(0, front, front, front, 20_000, 0, 0)?;
     match certificate_of(alloc, supervisor, &reading) {
-        Ok(Some(found)) => Some(found.claim == claim_on_level() && are(found.marks.get(), &ON_LEVEL)),
+        Ok(Some(found)) => Some(
+            found.claim == claim_on_level() && are(found.marks.get(), &ON_LEVEL),
+        ),
         Ok(None) => Some(false),
         Err(_) => None,
     }

@@ -94,7 +94,10 @@ fn each_row_has_its_fields_in_order(rt: HostRuntime) {
     for (row, text) in ROWS {
         let mut told = RowBuf::new();
         row_bytes(&row, &mut told);
-        assert!(rt; text_of(told.bytes(), b"") == Some(text.as_bytes()), "{text}");
+        assert!(rt;
+            text_of(told.bytes(), b"") == Some(text.as_bytes()),
+            "{text}"
+        );
     }
 }
 
@@ -217,7 +220,13 @@ fn each_cause_has_its_text(rt: HostRuntime) {
     let text = "field 4294967295: out of range";
     assert!(rt; says(last_record(field), b"sdm: bad event 4294967295: ", text));
     let speed = EventCause::Authority(AuthorityFault::BadSpeed);
-    assert!(rt; says(last_record(speed), b"sdm: bad event 4294967295: ", "bad speed"));
+    assert!(rt;
+        says(
+            last_record(speed),
+            b"sdm: bad event 4294967295: ",
+            "bad speed"
+        )
+    );
 }
 
 #[test]

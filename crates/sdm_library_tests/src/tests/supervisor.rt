@@ -296,7 +296,11 @@ fn slow_to_brake(alloc: Global) -> Option<Parts> {
 
 #[test]
 fn a_supervisor_tells_how_its_emergency_brake_works(rt: HostRuntime) {
-    let told = match opened(rt.alloc(), slow_to_brake(rt.alloc()), stop(100_000, 100_000)) {
+    let told = match opened(
+        rt.alloc(),
+        slow_to_brake(rt.alloc()),
+        stop(100_000, 100_000),
+    ) {
         Some(supervisor) => tells_how_it_brakes(&supervisor),
         None => false,
     };
@@ -308,7 +312,11 @@ fn release_of(supervisor: &mut Supervisor, eoa: u32, svl: u32, trip: u32) -> Opt
     match supervisor.calculated_stop(eoa, svl, trip) {
         Ok(()) => {
             let kmh = supervisor.release_for(svl, trip);
-            if supervisor.release() == kmh { Some(kmh) } else { None }
+            if supervisor.release() == kmh {
+                Some(kmh)
+            } else {
+                None
+            }
         }
         Err(_) => None,
     }
@@ -324,7 +332,11 @@ fn releases_in_time(supervisor: &mut Supervisor) -> bool {
 
 #[test]
 fn a_release_speed_is_told_for_a_trip(rt: HostRuntime) {
-    let told = match opened(rt.alloc(), slow_to_brake(rt.alloc()), stop(100_000, 100_000)) {
+    let told = match opened(
+        rt.alloc(),
+        slow_to_brake(rt.alloc()),
+        stop(100_000, 100_000),
+    ) {
         Some(mut supervisor) => releases_in_time(&mut supervisor),
         None => false,
     };
@@ -369,8 +381,12 @@ fn is_as_by_hand(supervisor: &Supervisor) -> bool {
         (LimitName::Sbi, 50),
         (LimitName::Ebi, 50),
     ];
-    is_shown(supervisor, reading(0, 799_990, 20_000), at_20_m_s, Some(end))
-        && is_shown(supervisor, reading(0, 900_000, 0), at_standstill, None)
+    is_shown(
+        supervisor,
+        reading(0, 799_990, 20_000),
+        at_20_m_s,
+        Some(end),
+    ) && is_shown(supervisor, reading(0, 900_000, 0), at_standstill, None)
 }
 
 #[test]

@@ -72,8 +72,7 @@ pub fn two(alloc: Global) -> Option<BandMap> {
 
 /// The upper speeds of all bands but the tenth, in notches.
 const UPPERS_OF_TEN: [u32; 9] = [
-    195_000, 1_725_000, 2_565_000, 3_000_000, 3_090_000, 3_225_000, 3_705_000, 4_260_000,
-    4_440_000,
+    195_000, 1_725_000, 2_565_000, 3_000_000, 3_090_000, 3_225_000, 3_705_000, 4_260_000, 4_440_000,
 ];
 
 /// The slopes of the ten bands before 19,433.78 m, and past it, where they are greater by as much.

@@ -1,7 +1,7 @@
 //! What the reading loop reads, and over how many calls, as tables.
 
-use crate::tests::io::{bytes_of, gives, source_of};
 use crate::tests::inputs::{fields_of, natural};
+use crate::tests::io::{bytes_of, gives, source_of};
 use sdm_io::{FixedSource, MemSource, Unread, read_to_end};
 use std::alloc::Global;
 
