@@ -7,7 +7,7 @@ from pathlib import Path
 from random import Random
 
 from sdm import rides
-from sdm.build_library import ARCHIVE
+from sdm.laboratory import program
 from sdm.laboratory.program import Fault
 from sdm.model.data import data_of, read_document
 from sdm.model.journey import Supervisor
@@ -17,7 +17,7 @@ from sdm.ride_worlds import Happening, Scenario, World, a_scenario, a_world, los
 from ..folders import EXAMPLES
 from ..tool import tool
 
-LIBRARY = Path(os.environ.get("SDM_ARCHIVE", ARCHIVE))
+LIBRARY = Path(os.environ.get("SDM_ARCHIVE", program.LIBRARY.path))
 
 
 def setUpModule():
