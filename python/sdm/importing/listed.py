@@ -6,7 +6,6 @@ import math
 from collections.abc import Iterator
 from fractions import Fraction
 
-from sdm.laboratory.texts import number as number_text
 from sdm.records import End, EndCalculated, Limit, Restriction
 
 from .events import Authority, Events
@@ -19,7 +18,6 @@ from .track import Areas, Profile, Stretch
 from .track import Line as TrackLine
 
 Values = dict[str, Fraction | None]
-NEARLY = Fraction(1, 10)  # km/h
 
 
 def changes(mapping: Mapping, part: Part) -> Iterator[tuple[FileLine, int, Values]]:
@@ -30,19 +28,10 @@ def changes(mapping: Mapping, part: Part) -> Iterator[tuple[FileLine, int, Value
         if part.is_recording and values == last:
             continue
         last, time = values, times.of(line)
-        warn_of_nearly_whole(mapping, part, line, values)
+        for key, column in part.columns.items():
+            column.warn_if_nearly_whole(values[key], part.table, line, mapping.findings)
         if time is not None:
             yield line, time, values
-
-
-def warn_of_nearly_whole(mapping: Mapping, part: Part, line: FileLine, values: Values) -> None:
-    """Warns of a speed that is rounded down from just below a whole km/h, as that of a recording in other units."""
-    for key, column in part.columns.items():
-        value = values[key]
-        if column.unit == "km/h" and value is not None and 0 < math.ceil(value) - value < NEARLY:
-            text = f"{number_text(value, 3)} km/h for `{column.key}` count as {math.floor(value)}"
-            text += f"; where {math.ceil(value)} is meant, give the column a `shift` of {float(NEARLY):g}"
-            mapping.findings.warn(part.table.at(line, column.name), text, once=f"nearly whole {column.key}")
 
 
 def down(value: Fraction | None) -> int | None:

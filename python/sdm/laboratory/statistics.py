@@ -140,9 +140,13 @@ class Statistics:
             if least is not None:
                 yield name, least
 
+    def total(self) -> str:
+        """How many readings there are, in how many journeys."""
+        return f"{self.readings} readings in {sum(each.readings > 0 for each in self.journeys)} journeys of run"
+
     def lines(self) -> Iterator[str]:
         """What is printed."""
-        yield f"{self.readings} readings in {sum(each.readings > 0 for each in self.journeys)} journeys of run"
+        yield self.total()
         for title, readings, times, journeys in [["", "readings", "times", "journeys"], *self.counts()]:
             yield f"{title:18}{readings:>9}{times:>7}{journeys:>10}".rstrip()
         for name, least in self.nearest():

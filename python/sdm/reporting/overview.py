@@ -81,7 +81,7 @@ def statistics_section(found: Statistics, pages: Pages) -> str:
     for figures in found.slowest():
         slow = f"slow: {milliseconds(figures)}, {figures.readings:,} readings"
         lines.append(f"<li>{slow}, {linked(figures, pages)}</li>\n")
-    return section("In numbers", f'{counts}<ul id="extremes">\n{"".join(lines)}</ul>\n')
+    return section("In numbers", f'<p>{found.total()}</p>\n{counts}<ul id="extremes">\n{"".join(lines)}</ul>\n')
 
 
 def write_pages(journeys: Sequence[Figures], top: Path, out: Path, most: int) -> Pages:

@@ -345,6 +345,16 @@ class Packets(Room):
         self.assertIn('kind = "end"\neoa = 50000\nsvl = 55000\nrelease = 0\n', journey)
         self.assertIn("%%\nendcalc,50000,55000,51001\nread,0,", journey)
 
+    def test_a_release_speed_in_mph(self):
+        """12.4274 mph is 20 km/h, written with four digits."""
+        packets = "t,ref,NID_PACKET,Q_SCALE,V_LOA,L_ENDSECTION,D_DP,V_RELEASEDP,mph\n0,0,12,1,0,500,50,126,12.4274\n"
+        for shift, kmh, warned in (("", 19, True), (", shift = 0.1", 20, False)):
+            mapping = MAPPING + PACKETS + f'release = {{column = "mph", scale = 1.609344{shift}}}\n'
+            code, journey, told = self.run_import(mapping=mapping, data=DATA, packets=packets)
+            self.assertEqual(code, 0, told)
+            self.assertIn(f"\nrelease = {kmh}\n", journey)
+            self.assertEqual("packets.csv, line 2, column 'mph': 19.999… km/h for" in told, warned, told)
+
     def test_restrictions(self):
         """From 100 m; the same again is left out, another one of the identity revokes first, 255 takes a free one."""
         tsr = "NID_PACKET=65 Q_SCALE=1 ref=100"
@@ -463,7 +473,10 @@ class Faults(Room):
         for change, told_of in [
             (("[import.reading]", "[import.readings]"), "mapping.toml: found "),
             (('"x", scale', '"y", scale'), "recording.csv, line 1: found no column 'y' for `import.reading.est`"),
-            (("\ntime", '\ndelimiter = ";"\ntime'), "no column 't' for `time`, expected another `delimiter`, or 't,x,v"),
+            (
+                ("\ntime", '\ndelimiter = ";"\ntime'),
+                "no column 't' for `time`, expected another `delimiter`, or 't,x,v",
+            ),
             (("scale = 1000", "scal = 1000"), "key import.reading.est.scal: found the key, expected one of column"),
             (("scale = 1000", 'scale = "km"'), "key import.reading.est.scale: found 'km', expected a number"),
             (("accel = {value = 0}\n", ""), "key import.reading: found no key `accel`, expected it, in cm/s²"),

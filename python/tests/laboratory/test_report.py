@@ -360,6 +360,7 @@ class Campaigns(InAFolder):
         told = self.overview()
         self.holds(
             told,
+            "<p>4 readings in 1 journeys of run</p>",
             "<td>traction cut-off</td><td>2</td><td>1</td><td>1</td>",
             "<td>service brake</td><td>1</td><td>1</td><td>1</td>",
             "<td>emergency brake</td><td>2</td><td>1</td><td>1</td>",
