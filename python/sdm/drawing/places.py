@@ -254,6 +254,16 @@ def mark_style(limit: str, count: int) -> str:
     return f"points lc rgb '{colour}' pt {mark} ps {mark_size(count)}"
 
 
+def limit_key(limit: str, data: SeriesData) -> str:
+    """A limit in the key: its curve, its marks, or both, as they are drawn."""
+    mark = f"pt {LIMITS[limit][3]} ps 0.7"
+    if limit not in data:
+        return limit_style(limit)
+    if "curve_" + limit not in data:
+        return f"points lc rgb '{LIMITS[limit][1]}' {mark}"
+    return f"{limit_style(limit).replace('lines', 'linespoints', 1)} {mark}"
+
+
 def drawn_series(data: SeriesData, count: int) -> list[str]:
     """The series from back to front."""
     marks = mark_size(count)
@@ -289,6 +299,7 @@ def train_of(journey: Journey) -> str:
 
 def key_of(data: SeriesData, train: str) -> list[str]:
     """The lines of the key from top to bottom."""
+    has_margins = any("over_" + limit in data for limit in MARGINS)
     keys = [
         ("train", f"{'points' if train == 'claim' else 'linespoints lw 1.4'} pt 7 ps 0.8 lc rgb '{BLACK}'", train),
         ("true", TRUE, "true train"),
@@ -296,19 +307,12 @@ def key_of(data: SeriesData, train: str) -> list[str]:
         ("bars", f"lines lw 1 lc rgb '{GREY}'", "safe front ends"),
         *display.keys(),
         *certificate.keys(),
-        ("ceiling", "lines lw 4 lc rgb '#BBBBBB'", "ceiling, its margins"),
+        ("ceiling", "lines lw 4 lc rgb '#BBBBBB'", f"ceiling{', its margins' if has_margins else ''}"),
         ("release", "lines lw 4 lc rgb '#56B4E9'", "release speed"),
         ("profile", f"lines lw 1 lc rgb '{BLACK}'", "static profile"),
         ("restrictions", f"boxes lc rgb '{GREY}' fs solid 0.25 border lc rgb '{GREY}'", "restriction"),
         *(("curve_" + name, f"lines lw 0.8 lc rgb '{CURVES[name][1]}' dt (2,2)", CURVES[name][0]) for name in CURVES),
-        *(
-            (
-                limit,
-                limit_style(limit).replace("lines", "linespoints", 1) + f" pt {LIMITS[limit][3]} ps 0.7",
-                LIMITS[limit][0],
-            )
-            for limit in LIMITS
-        ),
+        *((limit, limit_key(limit, data), LIMITS[limit][0]) for limit in LIMITS),
     ]
     shown = {name.removeprefix("curve_") if name.removeprefix("curve_") in LIMITS else name for name in data}
     return [f"keyentry with {style} title '{title}'" for name, style, title in keys if name in shown]

@@ -28,6 +28,8 @@ def changes(mapping: Mapping, part: Part) -> Iterator[tuple[FileLine, int, Value
         if part.is_recording and values == last:
             continue
         last, time = values, times.of(line)
+        for key, column in part.columns.items():
+            column.warn_if_nearly_whole(values[key], part.table, line, mapping.findings)
         if time is not None:
             yield line, time, values
 

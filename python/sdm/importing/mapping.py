@@ -215,9 +215,9 @@ def check_columns(mapping: Mapping, table: Table, columns: Iterable[Column]) -> 
     """A column that the file lacks is a fault."""
     for column in columns:
         if column.value is None and table.columns and column.name not in table.columns:
-            mapping.findings.fault(
-                Place(table.name, 1), f"no column {column.name!r} for `{column.key}`", one_of(table.columns)
-            )
+            is_one = len(table.columns) == 1  # as where the mapping doesn't say what stands between columns
+            expected = f"another `delimiter`, or {list(table.columns)[0]!r}" if is_one else one_of(table.columns)
+            mapping.findings.fault(Place(table.name, 1), f"no column {column.name!r} for `{column.key}`", expected)
 
 
 def are_texts(value: Any) -> bool:

@@ -265,7 +265,11 @@ class Packets:
     def mapped(self, row: Line, key: str) -> Fraction | None:
         """A quantity that the mapping adds to packets."""
         column = self.part.columns.get(key)
-        return None if column is None else column.number(self.table, row, self.findings)
+        if column is None:
+            return None
+        value = column.number(self.table, row, self.findings)
+        column.warn_if_nearly_whole(value, self.table, row, self.findings)
+        return value
 
     def gradients(self, packet: Packet) -> None:
         """Packet 21: tenths of a per mille, uphill positive."""

@@ -1,15 +1,19 @@
 """CSV files as lines, and their fields as quantities by the columns that a mapping names."""
 import csv
 import io
+import math
 from collections.abc import Iterator
 from dataclasses import dataclass
 from fractions import Fraction
 from pathlib import Path
 from typing import Any
 
+from sdm.laboratory.texts import number as number_text
+
 from .faults import Findings, Place
 
 NONE = ("", "-")  # what stands for no value where the mapping names nothing
+NEARLY = Fraction(1, 10)  # km/h
 
 
 @dataclass(frozen=True)
@@ -64,6 +68,13 @@ class Column:
             findings.fault(table.at(line, self.name), repr(text), f"a number for `{self.key}` ({self.unit})")
             return None
         return number * self.scale + self.shift
+
+    def warn_if_nearly_whole(self, value: Fraction | None, table: Table, line: Line, findings: Findings) -> None:
+        """Warns of a speed that is rounded down from just below a whole km/h, as that of a recording in other units."""
+        if self.unit == "km/h" and value is not None and 0 < math.ceil(value) - value < NEARLY:
+            text = f"{number_text(value, 3)} km/h for `{self.key}` count as {math.floor(value)}"
+            text += f"; where {math.ceil(value)} is meant, give the column a `shift` of {float(NEARLY):g}"
+            findings.warn(table.at(line, self.name), text, once=f"nearly whole {self.key}")
 
 
 def decimal_of(text: str, decimal: str) -> Fraction | None:

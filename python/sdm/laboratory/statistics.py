@@ -1,4 +1,4 @@
-"""What the journeys of a campaign have in numbers: how often each command and status, the least margins, the slowest.
+"""What journeys have in numbers: how often each command and status, the least margins; of a campaign the slowest.
 
 Of a journey of `run` the rows are counted, with the readings of its input; of other words the end and the time alone.
 """
@@ -8,7 +8,7 @@ from collections import Counter
 from collections.abc import Iterable, Iterator, Sequence
 from dataclasses import dataclass, field
 from pathlib import Path
-from typing import TextIO
+from typing import TextIO, TypeVar
 
 from sdm.model.data import split
 from sdm.model.outcome import Outcome, Refused
@@ -23,6 +23,7 @@ COMMANDS = {"tco": "traction cut-off", "sb": "service brake", "eb": "emergency b
 STATUSES = {"N": "normal", "I": "indication", "O": "overspeed", "W": "warning", "X": "intervention"}
 MARGINS = {"ebi": "EBI", "permitted": "P"}  # the limits to which a way is told, by their columns
 SLOWEST = 3
+C = TypeVar("C", bound="Counts")
 
 
 @dataclass(frozen=True)
@@ -30,26 +31,57 @@ class Margin:
     """The least way from the max safe front end to a limit of its row, in mm; below 0 where it is past the limit."""
 
     mm: int
-    row: int  # counted from 1
+    row: int  # counted from 1, as all rows here
+
+
+@dataclass(kw_only=True)
+class Counts:
+    """What the rows of a journey have in numbers, with their readings."""
+
+    readings: int = 0
+    covered: int = 0  # readings, as the next ones
+    commanded: Counter[str] = field(default_factory=Counter)  # by the column of the command
+    states: Counter[str] = field(default_factory=Counter)
+    statuses: Counter[str] = field(default_factory=Counter)
+    set: Counter[str] = field(default_factory=Counter)  # how often a command came, by its column
+    first_set: dict[str, int] = field(default_factory=dict)  # the row in which it came first
+    margins: dict[str, Margin] = field(default_factory=dict)  # of a train that moves, by the column of the limit
+    fastest_mm_s: int = 0
+    fastest_row: int | None = None
+    way_mm: int = 0  # from the first estimated front end to the last one
+
+    def add(self, row: Row, reading: Reading) -> None:
+        """Counts one row more."""
+        self.readings += 1
+        self.covered += row["covered"] == "1"
+        self.states[row["state"]] += 1
+        self.statuses[row["status"]] += 1
+        for name in MARGINS if reading.speed > 0 else ():
+            if row[name] != "-":
+                margin = Margin(int(row[name]) - reading.max, self.readings)
+                self.margins[name] = min(self.margins.get(name, margin), margin, key=lambda each: each.mm)
+        if self.fastest_row is None or reading.speed > self.fastest_mm_s:
+            self.fastest_mm_s, self.fastest_row = int(reading.speed), self.readings
+
+    def add_commands(self, row: Row, before: Row | None) -> None:
+        """Counts the commands of the row that was counted last, and those that the row before it hadn't."""
+        for name in COMMANDS:
+            comes = row[name] == "1" and (before is None or before[name] == "0")
+            self.commanded[name] += row[name] == "1"
+            self.set[name] += comes
+            if comes:
+                self.first_set.setdefault(name, self.readings)
 
 
 @dataclass
-class Figures:
-    """A journey in numbers. `code` is None where it wasn't run, `microseconds` where no time was taken."""
+class Figures(Counts):
+    """A journey of a campaign in numbers. `code` is None where it wasn't run, `microseconds` where it wasn't timed."""
 
     name: str
     words: str
     verdict: str  # as due, differs, nothing due, not run
     code: int | None = None
     microseconds: int | None = None
-    readings: int = 0
-    covered: int = 0  # readings, as the next ones
-    commanded: Counter[str] = field(default_factory=Counter)  # by the column of the command
-    statuses: Counter[str] = field(default_factory=Counter)
-    set: Counter[str] = field(default_factory=Counter)  # how often a command came, by its column
-    margins: dict[str, Margin] = field(default_factory=dict)  # by the column of the limit
-    fastest_mm_s: int = 0
-    way_mm: int = 0  # from the first estimated front end to the last one
 
     def cells(self) -> dict[str, object]:
         """The line of the summary, by its columns."""
@@ -90,24 +122,38 @@ class Statistics:
         timed = [each for each in self.journeys if each.microseconds is not None]
         return sorted(timed, key=lambda each: -(each.microseconds or 0))[:count]
 
-    def lines(self) -> Iterator[str]:
-        """What is printed."""
-        yield f"{self.readings} readings in {sum(each.readings > 0 for each in self.journeys)} journeys of run"
-        yield f"{'':18}{'readings':>9}{'times':>7}{'journeys':>10}"
+    def counts(self) -> list[list[str]]:
+        """How often commands and statuses stand, a line for each: its name, the readings that have it, the times that
+        it came, the journeys; empty where that isn't counted."""
+        found = []
         for name, title in COMMANDS.items():
-            readings, times, journeys = self.commanded(name)
-            yield f"{title:18}{readings:>9}{times:>7}{journeys:>10}"
+            found.append([title, *map(str, self.commanded(name))])
         for status, title in STATUSES.items():
             having = [each.statuses[status] for each in self.journeys if each.statuses[status]]
-            yield f"{status + ' ' + title:18}{sum(having):>9}{'':7}{len(having):>10}"
-        yield f"{'covered':18}{sum(each.covered for each in self.journeys):>9}"
-        for name, title in MARGINS.items():
+            found.append([f"{status} {title}", str(sum(having)), "", str(len(having))])
+        return [*found, ["covered", str(sum(each.covered for each in self.journeys)), "", ""]]
+
+    def nearest(self) -> Iterator[tuple[str, Figures]]:
+        """The limits that trains came near to, by their columns, each with the journey of the least margin."""
+        for name in MARGINS:
             least = self.least(name)
             if least is not None:
-                at = least.margins[name]
-                yield f"least way from the max safe front end to {title}: {at.mm:,} mm, {least.name} row {at.row}"
+                yield name, least
+
+    def total(self) -> str:
+        """How many readings there are, in how many journeys."""
+        return f"{self.readings} readings in {sum(each.readings > 0 for each in self.journeys)} journeys of run"
+
+    def lines(self) -> Iterator[str]:
+        """What is printed."""
+        yield self.total()
+        for title, readings, times, journeys in [["", "readings", "times", "journeys"], *self.counts()]:
+            yield f"{title:18}{readings:>9}{times:>7}{journeys:>10}".rstrip()
+        for name, least in self.nearest():
+            at = least.margins[name]
+            yield f"least way from the max safe front end to {MARGINS[name]}: {at.mm:,} mm, {least.name} row {at.row}"
         for each in self.slowest():
-            yield f"slow: {(each.microseconds or 0) / 1000:.1f} ms, {each.readings} readings, {each.name}"
+            yield f"slow: {milliseconds(each)}, {each.readings} readings, {each.name}"
 
     def write(self, out: TextIO) -> None:
         """The summary as CSV: a line for each journey."""
@@ -134,28 +180,24 @@ def figures_of(case: Case, verdict: str, made: Result | None, microseconds: int 
         rows = rows_of(made.rows)
     except Fault:  # rows of another program: they are none to be counted
         return found
-    count(found, list(zip(rows, readings_in(case.data))))
+    return count(found, zip(rows, readings_in(case.data)))
+
+
+def count(found: C, pairs: Iterable[tuple[Row, Reading]]) -> C:
+    """Counts rows with their readings."""
+    before, begun = None, 0
+    for row, reading in pairs:
+        if before is None:
+            begun = reading.est
+        found.add(row, reading)
+        found.add_commands(row, before)
+        found.way_mm, before = reading.est - begun, row
     return found
 
 
-def count(found: Figures, pairs: list[tuple[Row, Reading]]) -> None:
-    """Counts rows with their readings."""
-    held = dict.fromkeys(COMMANDS, "0")
-    for number, (row, reading) in enumerate(pairs, 1):
-        found.covered += row["covered"] == "1"
-        found.statuses[row["status"]] += 1
-        for name in COMMANDS:
-            found.commanded[name] += row[name] == "1"
-            found.set[name] += (held[name], row[name]) == ("0", "1")
-            held[name] = row[name]
-        for name in MARGINS:
-            if row[name] != "-":
-                margin = Margin(int(row[name]) - reading.max, number)
-                found.margins[name] = min(found.margins.get(name, margin), margin, key=lambda each: each.mm)
-    if pairs:
-        found.readings = len(pairs)
-        found.fastest_mm_s = max(int(reading.speed) for _, reading in pairs)
-        found.way_mm = pairs[-1][1].est - pairs[0][1].est
+def milliseconds(figures: Figures) -> str:
+    """The time that a journey took, as a text."""
+    return f"{(figures.microseconds or 0) / 1000:.1f} ms"
 
 
 def microseconds_of(folder: Path) -> int | None:

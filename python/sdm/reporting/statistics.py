@@ -1,13 +1,13 @@
-"""A table of what happened on a journey, by its rows and readings."""
+"""A table of what happened on a journey, by its rows and readings, as sdm.laboratory.statistics counts them."""
 
 from collections import Counter
 from collections.abc import Sequence
 
-from sdm.drawing.sheet import STATES, STATUSES
+from sdm.drawing.sheet import STATES
 from sdm.laboratory.rows import Row
+from sdm.laboratory.statistics import COMMANDS, MARGINS, STATUSES, Counts, count
 from sdm.model.records import Reading
 
-COMMANDS = {"tco": "traction cut-off", "sb": "service brake", "eb": "emergency brake"}
 Table = list[list[str]]
 
 
@@ -19,54 +19,47 @@ def seconds(ds: int) -> str:
     return f"{ds / 10:,.1f} s"
 
 
-def at(number: int, reading: Reading) -> str:
+def at(row: int, readings: Sequence[Reading]) -> str:
     """Where a row stands: its number from 1, its time and place."""
-    return f"row {number + 1}, at {seconds(reading.time)} and {metres(reading.est)}"
+    reading = readings[row - 1]
+    return f"row {row}, at {seconds(reading.time)} and {metres(reading.est)}"
 
 
-def shares(rows: Sequence[Row], column: str, names: dict[str, str]) -> str:
+def shares(counts: Counter[str], names: dict[str, str]) -> str:
     """How many rows have each value of a column."""
-    counts = Counter(row[column] for row in rows)
     return ", ".join(f"{counts[value]} {value} ({name})" for value, name in names.items() if counts[value])
 
 
 def journey_table(readings: Sequence[Reading], rows: Sequence[Row]) -> Table:
     """The table of a journey that has rows."""
+    found = count(Counts(), zip(rows, readings))
     first, last = readings[0], readings[-1]
-    fastest = max(range(len(readings)), key=lambda n: readings[n].speed)
-    speed = float(readings[fastest].speed)
+    speed = f"{found.fastest_mm_s * 0.0036:.3f} km/h ({found.fastest_mm_s / 1000:.3f} m/s)"
     return [
-        ["readings", f"{len(readings):,}"],
+        ["readings", f"{found.readings:,}"],
         ["time", f"{seconds(first.time)} to {seconds(last.time)}"],
         ["estimated front end", f"{metres(first.est)} to {metres(last.est)}"],
-        ["greatest speed", f"{speed * 0.0036:.3f} km/h ({speed / 1000:.3f} m/s): {at(fastest, readings[fastest])}"],
-        ["states", shares(rows, "state", {key: f"{shade.name} monitoring" for key, shade in STATES.items()})],
-        ["statuses", shares(rows, "status", {key: shade.name for key, shade in STATUSES.items()})],
-        *[[COMMANDS[name], command_text(name, readings, rows)] for name in COMMANDS],
-        ["covered", f"{sum(row['covered'] == '1' for row in rows):,} rows"],
-        ["least way to the EBI", least_way("ebi", readings, rows)],
+        ["greatest speed", f"{speed}: {at(found.fastest_row or 1, readings)}"],
+        ["states", shares(found.states, {key: f"{shade.name} monitoring" for key, shade in STATES.items()})],
+        ["statuses", shares(found.statuses, STATUSES)],
+        *[[title, command_text(name, found, readings)] for name, title in COMMANDS.items()],
+        ["covered", f"{found.covered:,} rows"],
+        *[[f"least way to the {title}", least_way(name, found, readings)] for name, title in MARGINS.items()],
     ]
 
 
-def command_text(name: str, readings: Sequence[Reading], rows: Sequence[Row]) -> str:
+def command_text(name: str, found: Counts, readings: Sequence[Reading]) -> str:
     """In how many rows a command stands, how often it comes, and where first."""
-    held = [n for n, row in enumerate(rows) if row[name] == "1"]
-    if not held:
+    if name not in found.first_set:
         return "never"
-    comes = [n for n in held if n == 0 or rows[n - 1][name] == "0"]
-    times = "once" if len(comes) == 1 else f"{len(comes)} times"
-    rows_held = "1 row" if len(held) == 1 else f"{len(held):,} rows"
-    return f"{rows_held}; it comes {times}, first in {at(comes[0], readings[comes[0]])}"
+    times = "once" if found.set[name] == 1 else f"{found.set[name]} times"
+    rows = "1 row" if found.commanded[name] == 1 else f"{found.commanded[name]:,} rows"
+    return f"{rows}; it comes {times}, first in {at(found.first_set[name], readings)}"
 
 
-def least_way(name: str, readings: Sequence[Reading], rows: Sequence[Row]) -> str:
+def least_way(name: str, found: Counts, readings: Sequence[Reading]) -> str:
     """The least way from the max safe front end to the place of a limit, of a train that moves."""
-    ways = [
-        (int(row[name]) - reading.max, n)
-        for n, (reading, row) in enumerate(zip(readings, rows))
-        if row[name] != "-" and reading.speed > 0
-    ]
-    if not ways:
+    if name not in found.margins:
         return "none"
-    way, n = min(ways)
-    return f"{metres(way)} from the max safe front end: {at(n, readings[n])}"
+    margin = found.margins[name]
+    return f"{metres(margin.mm)} from the max safe front end: {at(margin.row, readings)}"

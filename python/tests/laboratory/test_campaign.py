@@ -6,7 +6,9 @@ import unittest
 from pathlib import Path
 
 from sdm.campaign import statistics
-from sdm.laboratory.statistics import Margin
+from sdm.laboratory.rows import rows_of
+from sdm.laboratory.statistics import Counts, Margin, count
+from sdm.model.records import Reading
 
 from ..folders import EXAMPLES
 from ..tool import program, tool
@@ -107,7 +109,9 @@ class Campaign(unittest.TestCase):
         self.assertEqual((approach.verdict, approach.code, approach.readings, approach.covered), ("as due", 0, 4, 3))
         self.assertEqual(approach.commanded, {"tco": 2, "sb": 1, "eb": 2})
         self.assertEqual(approach.set, {"tco": 1, "sb": 1, "eb": 1})
+        self.assertEqual((approach.first_set, approach.fastest_row), ({"tco": 1, "sb": 2, "eb": 2}, 1))
         self.assertEqual(approach.statuses, {"W": 1, "X": 2, "N": 1})
+        self.assertEqual(approach.states, {"T": 3, "C": 1})
         self.assertEqual(approach.margins, {"ebi": Margin(-10, 2), "permitted": Margin(-80_010, 2)})
         self.assertEqual((approach.fastest_mm_s, approach.way_mm), (20_000, 100_010))
         self.assertGreater(approach.microseconds, 0)
@@ -120,6 +124,13 @@ class Campaign(unittest.TestCase):
         self.assertEqual(
             (lines[0]["eb_readings"], lines[0]["least_to_ebi_mm"], lines[0]["status_X"]), ("2", "-10", "2")
         )
+
+    def test_a_train_that_stands_has_no_way_to_a_limit(self):
+        (row,) = rows_of("50,C,N,0,0,0,1,160,1000000,1000000,-,-,-\n")
+        reading = Reading(50, 1_000_010, 1_000_010, 1_000_010, 0, 0, 0)
+        self.assertEqual(count(Counts(), [(row, reading)]).margins, {})
+        found = count(Counts(), [(row, reading._replace(speed=1))])
+        self.assertEqual(found.margins, {"ebi": Margin(-10, 1)})
 
     def test_what_can_t_be_run(self):
         self.assertIn("There is no program at", tool("campaign", self.folder, "--program", self.room / "none")[2])

@@ -220,6 +220,29 @@ class Listed(Room):
         mapping = MAPPING.replace('"x", scale = 1000', '"x", scale = -1000, shift = 9_000')
         self.assertEqual(self.records("t,x,v\n0,8,1\n", mapping), ["read,0,1000,-4000,6000,1000,0,100"])
 
+    def test_a_speed_just_below_a_whole_one_is_warned_of(self):
+        """74.5645 mph is 120 km/h, written with four digits; 74.5 mph is 119.896 km/h, and 74 mph is 119.091."""
+        of_speeds = '[import.speed]\nfile = "speeds.csv"\nstart = {column = "s"}\n'
+        of_speeds += 'speed = {column = "mph", scale = 1.609344}\n'
+        for mph, more, warned, kmh in (
+            (
+                "74.5645",
+                "",
+                "speeds.csv, line 2, column 'mph': 119.999… km/h for `import.speed.speed` count as 119",
+                119,
+            ),
+            ("74.5645", ", shift = 0.1", "", 120),
+            ("74.5", "", "", 119),
+            ("74", "", "", 119),
+        ):
+            mapping = MAPPING + of_speeds.replace("1.609344", "1.609344" + more)
+            data = DATA.split("[track]")[0] + AUTHORITY
+            code, journey, told = self.run_import(mapping=mapping, data=data, speeds=f"s,mph\n0,{mph}\n")
+            self.assertEqual(code, 0, told)
+            self.assertIn(f"speed = {kmh}\n", journey)
+            self.assertEqual("count as" in told, bool(warned), (mph, more))
+            self.assertIn(warned, told)
+
     def test_files_of_their_own(self):
         mapping = (
             MAPPING
@@ -321,6 +344,16 @@ class Packets(Room):
         self.assertEqual(code, 0, told)
         self.assertIn('kind = "end"\neoa = 50000\nsvl = 55000\nrelease = 0\n', journey)
         self.assertIn("%%\nendcalc,50000,55000,51001\nread,0,", journey)
+
+    def test_a_release_speed_in_mph(self):
+        """12.4274 mph is 20 km/h, written with four digits."""
+        packets = "t,ref,NID_PACKET,Q_SCALE,V_LOA,L_ENDSECTION,D_DP,V_RELEASEDP,mph\n0,0,12,1,0,500,50,126,12.4274\n"
+        for shift, kmh, warned in (("", 19, True), (", shift = 0.1", 20, False)):
+            mapping = MAPPING + PACKETS + f'release = {{column = "mph", scale = 1.609344{shift}}}\n'
+            code, journey, told = self.run_import(mapping=mapping, data=DATA, packets=packets)
+            self.assertEqual(code, 0, told)
+            self.assertIn(f"\nrelease = {kmh}\n", journey)
+            self.assertEqual("packets.csv, line 2, column 'mph': 19.999… km/h for" in told, warned, told)
 
     def test_restrictions(self):
         """From 100 m; the same again is left out, another one of the identity revokes first, 255 takes a free one."""
@@ -440,6 +473,10 @@ class Faults(Room):
         for change, told_of in [
             (("[import.reading]", "[import.readings]"), "mapping.toml: found "),
             (('"x", scale', '"y", scale'), "recording.csv, line 1: found no column 'y' for `import.reading.est`"),
+            (
+                ("\ntime", '\ndelimiter = ";"\ntime'),
+                "no column 't' for `time`, expected another `delimiter`, or 't,x,v",
+            ),
             (("scale = 1000", "scal = 1000"), "key import.reading.est.scal: found the key, expected one of column"),
             (("scale = 1000", 'scale = "km"'), "key import.reading.est.scale: found 'km', expected a number"),
             (("accel = {value = 0}\n", ""), "key import.reading: found no key `accel`, expected it, in cm/s²"),

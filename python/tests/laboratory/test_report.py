@@ -168,6 +168,8 @@ class Journeys(InAFolder):
             "<th>traction cut-off</th><td>20 rows; it comes once, first in row 10, at 14.0 s",
             "<th>emergency brake</th><td>19 rows; it comes once, first in row 19, at 23.0 s and 4,112.650 m</td>",
             "<th>covered</th><td>35 rows</td>",
+            "<th>least way to the EBI</th><td>-61.352 m from the max safe front end: row 21",
+            "<th>least way to the P</th><td>-359.752 m from the max safe front end: row 21",
         )
         self.holds(self.of("temporary-restriction"), "<th>service brake</th><td>never</td>")
 
@@ -332,9 +334,11 @@ class Campaigns(InAFolder):
 
     def test_the_overview_leads_to_pages_that_lead_back(self):
         made = Page(self.overview())
-        self.assertEqual(made.links, ["guidance/report.html", "approach/report.html"])
+        pages = ["guidance/report.html", "approach/report.html"]
+        self.assertEqual([link for link in made.links if "#" not in link], pages)
+        self.assertEqual({link.split("#row-")[0] for link in made.links}, set(pages))
         self.assertEqual((made.leads, made.scripts), ([], []))
-        for link in made.links:
+        for link in pages:
             text = (self.folder / link).read_text()
             self.assertEqual(Page(text).links, ["../index.html", "#facts"])
             self.assertEqual(rows_in(data_of(text)["journey"]), (self.folder / link).with_name("got.rows").read_text())
@@ -348,8 +352,28 @@ class Campaigns(InAFolder):
         self.assertEqual(cells[1][1:], ["run", "0 done", "as due", "4", "2", "1", "2"])
         self.assertEqual(cells[3][2], "not run")
 
+    def test_the_overview_has_the_statistics_of_the_campaign(self):
+        """Those of approach, counted by hand from its rows and its readings; the other journeys aren't counted, since
+        nothing is of `run`, or they weren't run."""
+        shutil.rmtree(self.folder / "guidance")
+        (self.folder / "approach" / "got.time").write_text("1500\n")
+        told = self.overview()
+        self.holds(
+            told,
+            "<p>4 readings in 1 journeys of run</p>",
+            "<td>traction cut-off</td><td>2</td><td>1</td><td>1</td>",
+            "<td>service brake</td><td>1</td><td>1</td><td>1</td>",
+            "<td>emergency brake</td><td>2</td><td>1</td><td>1</td>",
+            "<td>X intervention</td><td>2</td><td></td><td>1</td>",
+            "<td>covered</td><td>3</td>",
+            'to EBI: -10 mm, <a href="approach/report.html#row-2">approach, row 2</a>',
+            'to P: -80,010 mm, <a href="approach/report.html#row-2">approach, row 2</a>',
+            'slow: 1.5 ms, 4 readings, <a href="approach/report.html">approach</a>',
+        )
+
     def test_at_most_so_many_pages(self):
-        self.assertEqual(Page(self.overview("--most", "1")).links, ["guidance/report.html"])
+        links = Page(self.overview("--most", "1")).links
+        self.assertEqual({link.split("#row-")[0] for link in links}, {"guidance/report.html"})
         self.assertFalse((self.folder / "approach/report.html").exists())
 
 

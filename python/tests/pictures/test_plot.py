@@ -154,6 +154,13 @@ class OfLong(Plot):
         readings = self.rows.count("\n")
         self.assertTrue(100 < len(svg.marks(6)) < readings / 3, (len(svg.marks(6)), readings))
 
+    def test_the_key_of_an_overview_has_no_marks_of_limits(self):
+        """EBI and P are curves alone, and the ceilings have no margins."""
+        svg = self.drawn(*self.files())
+        self.assert_texts(svg, "EBI; permitted; ceiling")
+        self.assertEqual([len(svg.marks(mark)) for mark in (3, 11, 7, 9, 1)], [0] * 5)
+        self.assertNotIn("margins", svg.text)
+
     def test_a_window_of_places_has_its_readings_alone(self):
         svg = self.drawn(*self.files(), "--places", "3000", "3400")
         self.assert_texts(svg, "place (m)")
