@@ -19,7 +19,7 @@ struct orders {
     bool emergency_brake;
 };
 
-static const struct orders BRAKE = {true, false, true};
+static const struct orders BRAKE = {true, true, true};
 
 struct onboard {
     struct sdm supervisor;
