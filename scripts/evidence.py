@@ -13,6 +13,8 @@ CLAIM = re.compile(r"≡|\b(?:Is|Are|Has|Keeps|Stops|Slows|Meets|Takes|Comes|Lea
 TEST = re.compile(r"(#\[test\]\s*(?:#\[[^\n]*\]\s*)*)?\bfn\s+(\w+)")
 CALL = re.compile(r"(?<![.\w])(?<!fn )(?:(\w+)::)?(\w+)\(")
 SHOWN_BY = specs.ROOT / "scripts" / "shown-by.txt"
+# Its cases draw conclusions from promises, and name much that they don't show; docs/WRONG-DEFINITIONS.md names them.
+CONCLUSIONS = "sdm_command_cases"
 
 
 def blocks(text):
@@ -37,7 +39,7 @@ class Cases:
 
     def __init__(self, graph):
         self.by_definition = defaultdict(list)
-        for crate in specs.crates():
+        for crate in [each for each in specs.crates() if each != CONCLUSIONS]:
             for path in sorted((CRATES / crate / "proofs").glob("*Cases.antt")):
                 self.read(crate, path, graph)
 

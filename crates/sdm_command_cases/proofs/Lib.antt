@@ -1,0 +1,11 @@
+mod StandingTrain
+mod CheckerCases
+mod DriveRowCases
+mod DriveLawCases
+mod CalculatedCases
+mod WithinCases
+mod UpgradeCases
+mod CertificateCases
+mod ToldRowCases
+mod ShapeCases
+mod SlackCases
