@@ -24,7 +24,7 @@ static const struct orders BRAKE = {true, true, true};
 struct onboard {
     struct sdm supervisor;
     bool is_authority_missing;   /* the last authority was refused */
-    bool is_restriction_missing; /* a restriction was refused: it takes a new supervisor to run on */
+    bool is_restriction_missing; /* a restriction was refused: it takes a restart to run on */
     struct orders orders;
 };
 
