@@ -1,5 +1,5 @@
-"""What a program takes over an input: processor time and memory as the system counts them, instructions as callgrind
-does; and what is to be told of the machine beside these figures."""
+"""What a program takes over an input: processor time as the system counts it, instructions as callgrind does, memory as GNU
+time does; and what is to be told of the machine beside these figures."""
 
 import os
 import re
@@ -8,7 +8,7 @@ import subprocess
 from pathlib import Path
 
 ROOT = Path(__file__).resolve().parent.parent
-TOOLS = ["valgrind"]
+TOOLS = ["valgrind", "/usr/bin/time"]
 
 
 def tools_missing():
@@ -26,13 +26,28 @@ def ending(program, words, path):
 
 
 def spent(program, words, path):
-    """What one run takes: seconds of processor time, of the program and of the system for it, and the most memory that
-    was resident at once, in KiB. The rows go to /dev/null."""
+    """The seconds of processor time, of the program and of the system for it, that one run takes. The rows go to
+    /dev/null."""
     with open(path, "rb") as source:
         run = subprocess.Popen([program, *words], stdin=source, stdout=subprocess.DEVNULL, stderr=subprocess.DEVNULL)
         _, status, usage = os.wait4(run.pid, 0)
     run.returncode = os.waitstatus_to_exitcode(status)
-    return usage.ru_utime + usage.ru_stime, usage.ru_maxrss
+    return usage.ru_utime + usage.ru_stime
+
+
+def peak_kib(program, words, path, folder):
+    """The most memory of one run that was resident at once, in KiB. GNU time starts the program, since the system counts
+    what its starter had at first, and Python has more than the program."""
+    report = folder / "memory"
+    with open(path, "rb") as source:
+        subprocess.run(
+            ["/usr/bin/time", "-f", "%M", "-o", report, program, *words],
+            stdin=source,
+            stdout=subprocess.DEVNULL,
+            stderr=subprocess.DEVNULL,
+            check=True,
+        )
+    return int(report.read_text().split()[-1])
 
 
 def instructions(program, words, path, profile):

@@ -62,13 +62,11 @@ class Least:
     def __init__(self, program, made):
         self.program, self.made = program, made
         self.whole = self.one = float("inf")
-        self.peak_kib = 0
 
     def run(self, whole, one):
         """Runs the program over both once more."""
-        seconds, peak_kib = measure.spent(self.program, self.made.words, whole)
-        self.whole, self.peak_kib = min(self.whole, seconds), max(self.peak_kib, peak_kib)
-        self.one = min(self.one, measure.spent(self.program, self.made.words_of_one, one)[0])
+        self.whole = min(self.whole, measure.spent(self.program, self.made.words, whole))
+        self.one = min(self.one, measure.spent(self.program, self.made.words_of_one, one))
 
     def ns_each(self):
         """What one reading costs, or one record where none is a reading: what the whole takes above the input with one,
@@ -76,7 +74,7 @@ class Least:
         return 1e9 * (self.whole - self.one) / (self.made.counted - 1)
 
 
-def figures(made, whole, one, chosen):
+def figures(made, whole, one, chosen, folder):
     """The cells of an input's row after its counts."""
     program = chosen.program
     timed = [Least(each, made) for each in (program, chosen.reference) if each]
@@ -90,7 +88,7 @@ def figures(made, whole, one, chosen):
     count_of_one = measure.instructions(program, made.words_of_one, one, one.with_suffix(".callgrind"))
     return cells + [
         f"{(count - count_of_one) / (made.counted - 1):,.0f}",
-        f"{timed[0].peak_kib / 1024:.1f}",
+        f"{measure.peak_kib(program, made.words, whole, folder) / 1024:.1f}",
         f"{1e3 * timed[0].one:.1f}",
         f"{count_of_one:,}",
     ]
@@ -109,7 +107,7 @@ def row(made, chosen, folder, digest):
     counts = [made.name, f"{records:,}" if made.lines else "none", f"{made.counted:,}"]
     status, fault = measure.ending(chosen.program, made.words, whole)
     if status == 0:
-        cells = figures(made, whole, one, chosen)
+        cells = figures(made, whole, one, chosen, folder)
     else:
         cells = [f"not measured: ended with {status}, `{fault}`"] + ["-"] * (len(columns(chosen)) - len(counts) - 1)
     return "| " + " | ".join(counts + cells) + " |"
@@ -145,7 +143,7 @@ def main():
         sys.exit(f"bench/run: {why}")
     missing = measure.tools_missing()
     if missing:
-        sys.exit(f"bench/run: {', '.join(missing)} is missing; `scripts/setup` installs it")
+        sys.exit(f"bench/run: {', '.join(missing)} is missing; `scripts/setup tools` installs it")
     if chosen.folder:
         chosen.folder.mkdir(parents=True, exist_ok=True)
         measured(chosen, chosen.folder.resolve())

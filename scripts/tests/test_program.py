@@ -68,7 +68,7 @@ class Marks(OverACopy):
             (folder / name).symlink_to(path)
         self.assertIn("has no mark", copies.ended(self.top, "bench/run", path=str(folder))[1])
         copies.mark(self.top)
-        self.assertIn("`scripts/setup` installs it", copies.ended(self.top, "bench/run", path=str(folder))[1])
+        self.assertIn("`scripts/setup tools` installs it", copies.ended(self.top, "bench/run", path=str(folder))[1])
 
     def test_another_program_is_not_taken(self):
         copies.mark(self.top)
