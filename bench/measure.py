@@ -1,5 +1,5 @@
-"""What a program takes over an input: processor time as the system counts it, instructions as callgrind does, memory as GNU
-time does; and what is to be told of the machine beside these figures."""
+"""What a program takes over an input: processor time as the system counts it, instructions as callgrind does, memory as
+GNU time does; and what is to be told of the machine beside these figures."""
 
 import os
 import re
@@ -37,7 +37,7 @@ def spent(program, words, path):
 
 def peak_kib(program, words, path, folder):
     """The most memory of one run that was resident at once, in KiB. GNU time starts the program, since the system counts
-    what its starter had at first, and Python has more than the program."""
+    what its starter had at first, which of Python is more than the program takes."""
     report = folder / "memory"
     with open(path, "rb") as source:
         subprocess.run(
