@@ -36,8 +36,8 @@ def spent(program, words, path):
 
 
 def peak_kib(program, words, path, folder):
-    """The most memory of one run that was resident at once, in KiB. GNU time starts the program, since the system counts
-    what its starter had at first, which of Python is more than the program takes."""
+    """The most memory of one run that was resident at once, in KiB. GNU time starts the program: the system counts
+    what the starter of a program had at first, and Python has more than the program takes."""
     report = folder / "memory"
     with open(path, "rb") as source:
         subprocess.run(
