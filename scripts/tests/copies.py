@@ -21,11 +21,15 @@ shutil.copytree(TOP / "python" / "sdm", Path(SCRATCH.name) / "sdm")
 compileall.compile_dir(SCRATCH.name, quiet=1)
 MODEL = f"PYTHONPATH={SCRATCH.name} {sys.executable} -S -B -m sdm.model"
 
+PACKAGE = "python/sdm"  # every script ends as the package's tools do
+
 
 @contextmanager
 def a_copy(parts: list[str]) -> Iterator[Path]:
     """A copy of the files that are kept of some parts of the repository, as a repository of its own. Parts are told as
-    to git; the whole takes seconds to copy, so a copy has what the script under test reads."""
+    to git; the whole takes seconds to copy, so a copy has what the script under test reads, and the package."""
+    if not all(part.startswith(":!") for part in parts):
+        parts = [*parts, PACKAGE]
     words = ["git", "-C", str(TOP), "ls-files", "-z", "--cached", "--others", "--exclude-standard", "--", *parts]
     names = subprocess.run(words, check=True, capture_output=True, text=True).stdout.split("\0")
     with tempfile.TemporaryDirectory() as scratch:

@@ -63,7 +63,7 @@ class Header(unittest.TestCase):
         for name, number in header.statuses(TEXT).items():
             self.assertIn(f"    {name.lower()} = SDM_{name},\n", wrapper)
             self.assertRegex(binding, rf"(?i)\n   {name} +: constant Word := {number};")
-        self.assertEqual(len(header.statuses(TEXT)), 16)
+        self.assertEqual(len(header.statuses(TEXT)), 17)
 
     def test_the_binding_is_of_the_headers_layout(self):
         self.assertIn(
