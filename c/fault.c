@@ -134,22 +134,26 @@ static const struct misuse misuses[] = {
     {"an identity that is a held one in 16 bits", SDM_OUT_OF_RANGE, {EVENT_REVOKE, {65536 + HELD_ID}}},
 };
 
-/* Makes a call that is refused: it answers what is due, and writes nothing. Of a reading the display is asked too,
- * which knows no last time. */
+/* Makes a call that is refused: it answers what is due, and writes nothing. Of a reading the display and the
+ * causes are asked too, which know no last time. */
 static void refuse(struct sdm *h, const struct misuse *misuse) {
     struct sdm before = *h;
     struct sdm_row row;
     struct sdm_display display;
+    struct sdm_causes causes;
     unwritten(&row, sizeof row);
     unwritten(&display, sizeof display);
+    unwritten(&causes, sizeof causes);
     heap_test_begin(0, 0);
     check_answer(event_take(h, &misuse->event, &row), misuse->due, misuse->what);
     if (misuse->event.kind == EVENT_READ && misuse->due != SDM_TIME_BACK) {
         struct sdm_reading reading = event_reading(&misuse->event);
         check_answer(sdm_display(h, &reading, &display), misuse->due, misuse->what);
+        check_answer(sdm_causes(h, &reading, &causes), misuse->due, misuse->what);
     }
     check(is_unwritten(&row, sizeof row), "the row isn't written", misuse->what);
     check(is_unwritten(&display, sizeof display), "the display isn't written", misuse->what);
+    check(is_unwritten(&causes, sizeof causes), "the causes aren't written", misuse->what);
     check(is_same_handle(*h, before), "the handle stays", misuse->what);
     check_no_memory_moved(misuse->what);
 }
@@ -307,6 +311,19 @@ static void misuse_open(struct sdm *h, struct sdm *twin, const struct journey *j
     change_data(h, twin, journey, &reading, "a change of data with all restrictions");
 }
 
+/* The causes of a reading tell its commands, and a cause wherever one of them is set. */
+static void check_standings(const struct sdm_causes *causes, const struct sdm_row *row) {
+    static const char of[] = "causes";
+    bool serv = causes->serv.rule != SDM_NO_RULE, emer = causes->emer.rule != SDM_NO_RULE;
+    bool any = serv || emer || causes->warn.rule != SDM_NO_RULE;
+    check((causes->tco != SDM_OFF) == (row->tco == 1), "they tell of the traction cut-off", of);
+    check((causes->sb != SDM_OFF) == (row->sb == 1), "they tell of the service brake", of);
+    check((causes->eb != SDM_OFF) == (row->eb == 1), "they tell of the emergency brake", of);
+    check((causes->tco == SDM_SET) == any, "the traction cut-off is set where it has a cause", of);
+    check(causes->sb != SDM_SET || serv, "the service brake is set where it has a cause", of);
+    check((causes->eb == SDM_SET) == emer, "the emergency brake is set where it has a cause", of);
+}
+
 /* Plays the whole journey: no record takes memory, and a handle may be moved. */
 static void play(struct sdm *h, const struct journey *journey) {
     const uint8_t *at = journey->records;
@@ -316,14 +333,18 @@ static void play(struct sdm *h, const struct journey *journey) {
         struct event event;
         struct sdm_row row;
         struct sdm_display display;
+        struct sdm_causes causes;
         struct sdm moved = *h, closed = SDM_INIT;
         *h = closed;
         unwritten(&row, sizeof row);
         unwritten(&display, sizeof display);
+        unwritten(&causes, sizeof causes);
         if (event_read(&at, journey->end, &event, &column) == FORM_DONE &&
             event_take(&moved, &event, &row) == SDM_DONE && event.kind == EVENT_READ) {
             struct sdm_reading reading = event_reading(&event);
             check_answer(sdm_display(&moved, &reading, &display), SDM_DONE, "a display");
+            check_answer(sdm_causes(&moved, &reading, &causes), SDM_DONE, "causes");
+            check_standings(&causes, &row);
             readings++;
         }
         *h = moved;

@@ -21,11 +21,11 @@
 enum { STACK_BYTES = 1 << 20, PAINT = 0xa5, OPENINGS = 20, NOTHINGS = 10000 };
 
 /* The kinds of calls: those of an event as in enum event_kind, and then the others. */
-enum call { CALL_DISPLAY = EVENT_REVOKE + 1, CALL_OPEN, CALL_CLOSE, CALL_TAKE_OVER, CALL_NOTHING, CALLS };
+enum call { CALL_DISPLAY = EVENT_REVOKE + 1, CALL_CAUSES, CALL_OPEN, CALL_CLOSE, CALL_TAKE_OVER, CALL_NOTHING, CALLS };
 
-static const char *const names[CALLS] = {
-    "sdm_cycle",   "sdm_end",  "sdm_end_calculated", "sdm_limit",     "sdm_restrict", "sdm_revoke",
-    "sdm_display", "sdm_open", "sdm_close",          "sdm_take_over", "nothing"};
+static const char *const names[CALLS] = {"sdm_cycle",    "sdm_end",    "sdm_end_calculated", "sdm_limit",
+                                         "sdm_restrict", "sdm_revoke", "sdm_display",        "sdm_causes",
+                                         "sdm_open",     "sdm_close",  "sdm_take_over",      "nothing"};
 
 /* A call that is to be made, and what it answers. */
 struct job {
@@ -52,6 +52,7 @@ static const uint8_t *tops[CALLS];
 static void perform(struct job *job) {
     static struct sdm_row row;
     static struct sdm_display display;
+    static struct sdm_causes causes;
     static struct sdm_line line;
     struct sdm_reading reading;
     switch (job->call) {
@@ -69,6 +70,10 @@ static void perform(struct job *job) {
     case CALL_DISPLAY:
         reading = event_reading(job->event);
         job->status = sdm_display(job->h, &reading, &display);
+        break;
+    case CALL_CAUSES:
+        reading = event_reading(job->event);
+        job->status = sdm_causes(job->h, &reading, &causes);
         break;
     default:
         job->status = event_take(job->h, job->event, &row);
@@ -162,6 +167,8 @@ static void play(const struct journey *journey, void (*make)(struct job *)) {
         make(&job);
         if (job.status == SDM_DONE && event.kind == EVENT_READ) {
             job.call = CALL_DISPLAY;
+            make(&job);
+            job.call = CALL_CAUSES;
             make(&job);
         }
     }

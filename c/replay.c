@@ -3,6 +3,7 @@
  *
  *     replay run       the rows of `sdm run`
  *     replay display   the lines of `sdm display`
+ *     replay why       the lines of `sdm why`
  *
  * Each word behind it names a file with a further input: a change of data. A supervisor that is opened over its data
  * takes over from the one before, and is handed its records, whose numbers go on. Where the change is refused, the exit
@@ -32,6 +33,9 @@ enum outcome {
     OUTCOME_NOT_TAKEN = 64,
     OUTCOME_WRONG_LIBRARY = 65
 };
+
+/* What is told of each reading. */
+enum told { TOLD_ROWS, TOLD_DISPLAYS, TOLD_CAUSES };
 
 static enum outcome tell(enum outcome outcome, const char *line) {
     fprintf(stderr, "%s\n", line);
@@ -66,19 +70,57 @@ static void put_display(const struct sdm_display *display) {
         printf(",%c,%" PRId64 "\n", "-MESL"[display->target], display -> distance_mm);
 }
 
-/* Writes what a reading leads to once its row is there. */
-static uint32_t put_reading(struct sdm *h, bool is_display, const struct event *event, const struct sdm_row *row) {
-    if (!is_display) {
-        put_row(row);
-        return SDM_DONE;
-    }
-    struct sdm_reading reading = event_reading(event);
+static void put_cause(const struct sdm_cause *cause) {
+    static const char *const rules[] = {
+        "-", "ceiling", "target", "end of authority", "release speed", "no service brake"};
+    printf(",%s", rules[cause->rule]);
+    if (cause->rule != SDM_PAST_TARGET)
+        return;
+    char letter = "-MESL"[cause->target];
+    printf(" %c %" PRId64 " %" PRIu32 " %" PRId64, letter, cause->target_mm, cause->target_kmh, cause->limit_mm);
+}
+
+static void put_causes(const struct sdm_causes *causes) {
+    static const char *const standings[] = {"off", "set", "held until permitted speed", "held until standstill",
+                                            "held until standstill or permitted speed"};
+    printf("%" PRIu32, causes->time_ds);
+    put_cause(&causes->over);
+    put_cause(&causes->warn);
+    put_cause(&causes->serv);
+    put_cause(&causes->emer);
+    printf(",%s,%s,%s\n", standings[causes->tco], standings[causes->sb], standings[causes->eb]);
+}
+
+static uint32_t show(struct sdm *h, const struct sdm_reading *reading) {
     struct sdm_display display;
     memset(&display, 0, sizeof display);
-    uint32_t status = sdm_display(h, &reading, &display);
+    uint32_t status = sdm_display(h, reading, &display);
     if (status == SDM_DONE)
         put_display(&display);
     return status;
+}
+
+static uint32_t explain(struct sdm *h, const struct sdm_reading *reading) {
+    struct sdm_causes causes;
+    memset(&causes, 0, sizeof causes);
+    uint32_t status = sdm_causes(h, reading, &causes);
+    if (status == SDM_DONE)
+        put_causes(&causes);
+    return status;
+}
+
+/* Writes what a reading leads to once its row is there. */
+static uint32_t put_reading(struct sdm *h, enum told told, const struct event *event, const struct sdm_row *row) {
+    struct sdm_reading reading = event_reading(event);
+    switch (told) {
+    case TOLD_DISPLAYS:
+        return show(h, &reading);
+    case TOLD_CAUSES:
+        return explain(h, &reading);
+    case TOLD_ROWS:
+        put_row(row);
+    }
+    return SDM_DONE;
 }
 
 /* The text of a refusal that a record can lead to; null where there is none. */
@@ -130,7 +172,7 @@ static enum outcome bad_form(unsigned number, enum form_fault fault, unsigned co
 }
 
 /* Hands over a record, and writes what it leads to. */
-static enum outcome play_record(struct sdm *h, bool is_display, unsigned number, const uint8_t **at,
+static enum outcome play_record(struct sdm *h, enum told told, unsigned number, const uint8_t **at,
                                 const uint8_t *end) {
     struct event event;
     unsigned column = 0;
@@ -143,7 +185,7 @@ static enum outcome play_record(struct sdm *h, bool is_display, unsigned number,
     memset(&row, 0, sizeof row);
     uint32_t status = event_take(h, &event, &row);
     if (status == SDM_DONE && event.kind == EVENT_READ)
-        status = put_reading(h, is_display, &event, &row);
+        status = put_reading(h, told, &event, &row);
     if (status == SDM_DONE)
         return OUTCOME_DONE;
     const char *text = text_of(status);
@@ -154,11 +196,11 @@ static enum outcome play_record(struct sdm *h, bool is_display, unsigned number,
 }
 
 /* Plays the records of an input, the first of which has the number *number, and moves that behind the last. */
-static enum outcome play(struct sdm *h, bool is_display, const struct journey *journey, unsigned *number) {
+static enum outcome play(struct sdm *h, enum told told, const struct journey *journey, unsigned *number) {
     const uint8_t *at = journey->records;
     enum outcome outcome = OUTCOME_DONE;
     for (; outcome == OUTCOME_DONE && at < journey->end; ++*number)
-        outcome = play_record(h, is_display, *number, &at, journey->end);
+        outcome = play_record(h, told, *number, &at, journey->end);
     return outcome;
 }
 
@@ -216,7 +258,7 @@ static enum outcome change_over(struct sdm *h, struct sdm *next, bool is_first) 
 }
 
 /* Plays an input: the first one, or a change of data and the records after it. */
-static enum outcome play_part(struct sdm *h, bool is_display, FILE *from, unsigned *number) {
+static enum outcome play_part(struct sdm *h, enum told told, FILE *from, unsigned *number) {
     struct journey journey;
     struct sdm next = SDM_INIT;
     enum outcome outcome = end_of(journey_read(from, &journey));
@@ -227,23 +269,23 @@ static enum outcome play_part(struct sdm *h, bool is_display, FILE *from, unsign
         outcome = change_over(h, &next, from == stdin);
     sdm_close(&next);
     if (outcome == OUTCOME_DONE)
-        outcome = play(h, is_display, &journey, number);
+        outcome = play(h, told, &journey, number);
     journey_free(&journey);
     return outcome;
 }
 
 /* Plays standard input, and then each file that a word names. */
-static enum outcome replay(bool is_display, char **further) {
+static enum outcome replay(enum told told, char **further) {
     struct sdm h = SDM_INIT;
     unsigned number = 1;
-    enum outcome outcome = play_part(&h, is_display, stdin, &number);
+    enum outcome outcome = play_part(&h, told, stdin, &number);
     for (; outcome == OUTCOME_DONE && *further != NULL; further++) {
         FILE *from = fopen(*further, "rb");
         if (from == NULL) {
             outcome = tell(OUTCOME_READ_FAULT, "sdm: read fault");
             break;
         }
-        outcome = play_part(&h, is_display, from, &number);
+        outcome = play_part(&h, told, from, &number);
         fclose(from);
     }
     sdm_close(&h);
@@ -251,12 +293,15 @@ static enum outcome replay(bool is_display, char **further) {
 }
 
 int main(int count, char **words) {
-    bool is_display = count >= 2 && strcmp(words[1], "display") == 0;
-    if (!is_display && (count < 2 || strcmp(words[1], "run") != 0))
-        return tell(OUTCOME_NOT_TAKEN, "usage: replay run|display [NEXT..] < INPUT");
+    static const char *const commands[] = {"run", "display", "why"}; /* in the order of enum told */
+    unsigned told = 0;
+    while (count >= 2 && told <= TOLD_CAUSES && strcmp(words[1], commands[told]) != 0)
+        told++;
+    if (count < 2 || told > TOLD_CAUSES)
+        return tell(OUTCOME_NOT_TAKEN, "usage: replay run|display|why [NEXT..] < INPUT");
     if (sdm_layout() != SDM_LAYOUT)
         return tell(OUTCOME_WRONG_LIBRARY, "replay: the library is of another layout than sdm.h");
-    enum outcome outcome = replay(is_display, words + 2);
+    enum outcome outcome = replay((enum told)told, words + 2);
     if (!is_written())
         return tell(OUTCOME_WRITE_FAULT, "sdm: write fault");
     return outcome;

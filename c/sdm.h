@@ -1,10 +1,9 @@
 /* sdm: the speed and distance monitoring of ETCS (SUBSET-026-3 3.13, issue 3.6.0, in the profile of docs/PROFILE.md),
  * for C.
  *
- * Open a supervisor once over the data of a journey; then hand it every reading of the odometer, movement authority
- * and restriction in the order in which they come. All memory is taken by sdm_open and given back by sdm_close; no
- * other call takes any. Each call answers an enum sdm_status; with any but SDM_DONE nothing is changed but the line of
- * sdm_open.
+ * Open a supervisor once over the data of a journey; then pass it every reading of the odometer, movement authority
+ * and restriction in the order in which they come. sdm_open takes all memory, and sdm_close frees it; no other call
+ * takes any. Each call returns an enum sdm_status; with any but SDM_DONE it changes nothing but the line of sdm_open.
  *
  * Units: times in tenths of a second (ds), places of the front end in millimetres, places of the track in centimetres,
  * speeds in km/h, those of a reading in mm/s. What the columns of a row mean: docs/FORMATS.md.
@@ -21,15 +20,15 @@ extern "C" {
 #endif
 
 /* The number of this header's layout: compare it with sdm_layout() before the first other call. The shared library
- * carries it in its name, libsdm.so.1, and in the version of each symbol, SDM_1.
+ * carries it in its name, libsdm.so.2, and in the version of each symbol, SDM_2.
  *
- * It is raised by what makes a program wrong that was compiled with the header before: another size, offset, unit,
- * range or meaning of what is there already, another number of a status, or a call that is gone, has other arguments or
- * needs another order. It is kept by what is only added: a call, or a status. So take each status but SDM_DONE for a
- * refusal, also one that isn't listed here. */
-#define SDM_LAYOUT 1u
+ * It rises with each change that breaks programs compiled with the header before: another size, offset, unit, range or
+ * meaning of what exists, another number of a status, or a call that is gone, has other arguments or needs another
+ * order. A new call or a new status leaves it as it is. So take each status but SDM_DONE for a refusal, also one that
+ * isn't listed here. */
+#define SDM_LAYOUT 2u
 
-/* Makes a compiler that can tell warn where the answer of a call isn't looked at. */
+/* Makes compilers warn of a call whose status is ignored, where they can. */
 #if defined(__cplusplus) && __cplusplus >= 201703L
 #define SDM_MUST_CHECK [[nodiscard]]
 #elif defined(__STDC_VERSION__) && __STDC_VERSION__ >= 202311L
@@ -40,14 +39,14 @@ extern "C" {
 #define SDM_MUST_CHECK
 #endif
 
-/* What a call answers. */
+/* What a call returns. */
 enum sdm_status {
     SDM_DONE = 0,
     SDM_CLOSED = 1,         /* the handle has no supervisor: sdm_open comes first */
     SDM_IN_USE = 2,         /* sdm_open: the handle has one already */
-    SDM_NO_MEMORY = 3,      /* sdm_open: memory is wanting */
-    SDM_BAD_DATA = 4,       /* sdm_open: the data break a rule; the line tells which */
-    SDM_REFUSED = 5,        /* sdm_open: the slopes or the first authority are refused; the line tells why */
+    SDM_NO_MEMORY = 3,      /* sdm_open: memory is refused */
+    SDM_BAD_DATA = 4,       /* sdm_open: the data break a rule; the line says which */
+    SDM_REFUSED = 5,        /* sdm_open: the slopes or the first authority are refused; the line says why */
     SDM_OUT_OF_RANGE = 6,   /* a number is outside its range */
     SDM_TIME_BACK = 7,      /* the reading's time is before that of the last one taken */
     SDM_SVL_BEFORE_EOA = 8, /* the supervised location lies before the end of authority */
@@ -61,8 +60,8 @@ enum sdm_status {
     SDM_NOT_FRESH = 16      /* sdm_take_over: the next supervisor has had a reading or a restriction */
 };
 
-/* A supervisor, or none. It is SDM_INIT at first, and then as the last call left it: it may be moved, never copied,
- * and no one else reads or writes it. */
+/* A supervisor, or none. It begins as SDM_INIT; after that the calls alone read and write it. It may be moved, never
+ * copied. */
 struct sdm {
     void *at;
     uint32_t is_open;
@@ -107,7 +106,7 @@ struct sdm_row {
     uint32_t tco;     /* the traction cut-off is commanded */
     uint32_t sb;      /* the service brake is commanded */
     uint32_t eb;      /* the emergency brake is commanded */
-    uint32_t covered; /* every motion that keeps to the reading's bounds and brakes by the times handed in stops at or
+    uint32_t covered; /* every motion within the reading's bounds that brakes within the configured times stops at or
                        * before the supervised location, where the authority has one, and passes each speed target with
                        * at most its speed and its EBI margin (docs/ASSUMPTIONS.md, "What covered promises") */
     uint32_t ceiling_kmh;
@@ -128,7 +127,7 @@ struct sdm_restriction {
     uint32_t is_delayed; /* 0, or 1: its end counts for the rear end of the train */
 };
 
-/* The kind of the target that counts: a fall of the speed profile, the end of authority, the supervised location, the
+/* The kind of a target: a fall of the speed profile, the end of authority, the supervised location, the
  * limit of authority. */
 enum sdm_target { SDM_NO_TARGET = 0, SDM_FALL = 1, SDM_EOA = 2, SDM_SVL = 3, SDM_LOA = 4 };
 
@@ -141,37 +140,80 @@ struct sdm_display {
     uint32_t ebi_kmh;
     uint32_t release_kmh; /* 0 where the authority has none */
     uint32_t target;      /* enum sdm_target */
+    uint32_t target_kmh;  /* its speed; 0 for an end of authority and a supervised location, and where there is none */
     int64_t distance_mm;  /* to the target; 0 where it is passed, or where there is none */
 };
 
-/* The comment of each call ends with what it answers but SDM_DONE, in the order in which that is looked for. Pointers
- * are valid and none of them null, as docs/FROM-C.md says. */
+/* Why a trigger holds: above the ceiling; past the limit of a target; past the end of authority; above the release
+ * speed; past a limit of the service brake, which isn't in use. */
+enum sdm_rule {
+    SDM_NO_RULE = 0,
+    SDM_ABOVE_CEILING = 1,
+    SDM_PAST_TARGET = 2,
+    SDM_PAST_END = 3,
+    SDM_ABOVE_RELEASE = 4,
+    SDM_NO_SERVICE_BRAKE = 5
+};
+
+/* The first cause of a trigger, in the order of enum sdm_rule and of the targets; none where it doesn't hold. */
+struct sdm_cause {
+    uint32_t rule;       /* enum sdm_rule */
+    uint32_t target;     /* enum sdm_target; SDM_NO_TARGET but for SDM_PAST_TARGET, and then all below is 0 */
+    uint32_t target_kmh; /* its speed */
+    int64_t target_mm;   /* its place */
+    int64_t limit_mm;    /* its limit that is passed, rounded down */
+};
+
+/* How a command stands: it isn't commanded; a cause of it stands; none does, and it is held until the train is within
+ * the permitted speed, until it stands, or until either. */
+enum sdm_standing {
+    SDM_OFF = 0,
+    SDM_SET = 1,
+    SDM_HELD_TO_PERMITTED_SPEED = 2,
+    SDM_HELD_TO_STANDSTILL = 3,
+    SDM_HELD_TO_EITHER = 4
+};
+
+/* Why a reading triggers, and how each command stands after it. */
+struct sdm_causes {
+    uint32_t time_ds;      /* the reading's */
+    uint32_t tco;          /* the traction cut-off: enum sdm_standing */
+    uint32_t sb;           /* the service brake: enum sdm_standing */
+    uint32_t eb;           /* the emergency brake: enum sdm_standing */
+    struct sdm_cause over; /* above the permitted speed */
+    struct sdm_cause warn; /* past a warning limit: it cuts traction off */
+    struct sdm_cause serv; /* past a limit of the service brake: it commands that, and cuts traction off */
+    struct sdm_cause emer; /* an emergency: it commands the emergency brake, and cuts traction off */
+};
+
+/* The comment of each call ends with what it returns but SDM_DONE, in the order in which it checks. Pointers are valid
+ * and none of them null, as docs/FROM-C.md says. */
 
 /* The number of the layout that the library was built for: SDM_LAYOUT, or the two don't belong together. */
 uint32_t sdm_layout(void);
 
-/* What a status says, in a few English words with a zero at their end, which stay as long as the program runs. They are
- * for people: another version may word them otherwise. A number that is no status has words too. */
+/* The text of a status: a few English words with a zero at their end, which stay as long as the program runs. They are
+ * for people: another version may word them differently. A number that is no status has a text too. */
 const char *sdm_status_text(uint32_t status);
 
-/* Opens a supervisor over a data part in TOML, of version 1 or 2 (docs/FORMATS.md), which is not kept. SDM_BAD_DATA and
- * SDM_REFUSED write the line; all others leave it as it is. SDM_IN_USE, SDM_BAD_DATA, SDM_REFUSED; SDM_NO_MEMORY in the
- * place of each but SDM_IN_USE. */
+/* Opens a supervisor over a data part in TOML, of version 1 or 2 (docs/FORMATS.md), which it doesn't keep. SDM_BAD_DATA
+ * and SDM_REFUSED write the line; all others leave it as it is. SDM_IN_USE, SDM_BAD_DATA, SDM_REFUSED; SDM_NO_MEMORY
+ * may replace each but SDM_IN_USE. */
 SDM_MUST_CHECK uint32_t sdm_open(struct sdm *h, const uint8_t *data, size_t data_bytes, struct sdm_line *line);
 
 /* Judges a reading and writes its row. SDM_CLOSED, SDM_OUT_OF_RANGE, SDM_TIME_BACK. */
 SDM_MUST_CHECK uint32_t sdm_cycle(struct sdm *h, const struct sdm_reading *reading, struct sdm_row *row);
 
-/* Takes a movement authority to an end in the place of the last one, with a supervised location and a release speed (0
- * to 500; 0: none). SDM_CLOSED, SDM_SVL_BEFORE_EOA, SDM_BEYOND_TRACK, SDM_BAD_SPEED. */
+/* Replaces the movement authority by one to an end, with a supervised location and a release speed (0 to 500; 0:
+ * none). SDM_CLOSED, SDM_SVL_BEFORE_EOA, SDM_BEYOND_TRACK, SDM_BAD_SPEED. */
 SDM_MUST_CHECK uint32_t sdm_end(struct sdm *h, uint32_t eoa_cm, uint32_t svl_cm, uint32_t release_kmh);
 
-/* Takes the same with the calculated release speed for a trip at a place (SUBSET-026-3 3.13.9.4.8). SDM_CLOSED,
+/* As sdm_end, with the calculated release speed for a trip at a place (SUBSET-026-3 3.13.9.4.8). SDM_CLOSED,
  * SDM_SVL_BEFORE_EOA, SDM_BEYOND_TRACK, SDM_BAD_TRIP. */
 SDM_MUST_CHECK uint32_t sdm_end_calculated(struct sdm *h, uint32_t eoa_cm, uint32_t svl_cm, uint32_t trip_cm);
 
-/* Takes a movement authority to a limit, which is passed at its speed (1 to 500). SDM_CLOSED, SDM_BEYOND_TRACK,
- * SDM_BAD_SPEED. */
+/* Replaces the movement authority by one to a limit, which is passed at its speed (1 to 500). SDM_CLOSED,
+ * SDM_BEYOND_TRACK, SDM_BAD_SPEED. */
 SDM_MUST_CHECK uint32_t sdm_limit(struct sdm *h, uint32_t loa_cm, uint32_t speed_kmh);
 
 /* Puts a temporary speed restriction into force. SDM_CLOSED, SDM_OUT_OF_RANGE, SDM_FULL, SDM_ID_IN_USE,
@@ -188,11 +230,15 @@ SDM_MUST_CHECK uint32_t sdm_revoke(struct sdm *h, uint32_t id);
  * the new track. */
 SDM_MUST_CHECK uint32_t sdm_take_over(struct sdm *next, const struct sdm *before);
 
-/* Writes what the driver can be shown of a reading in what is in force; ask it once sdm_cycle has taken the reading.
+/* Writes what the driver can be shown of a reading, by what is in force; call it after sdm_cycle has taken the reading.
  * It changes no supervisor. SDM_CLOSED, SDM_OUT_OF_RANGE. */
 SDM_MUST_CHECK uint32_t sdm_display(struct sdm *h, const struct sdm_reading *reading, struct sdm_display *display);
 
-/* Gives the memory back and leaves the handle as SDM_INIT. Of a handle that has no supervisor nothing happens. */
+/* Writes why a reading triggers, and how each command stands after it; ask it once sdm_cycle has taken the reading, so
+ * that the commands are those of its row. It changes no supervisor. SDM_CLOSED, SDM_OUT_OF_RANGE. */
+SDM_MUST_CHECK uint32_t sdm_causes(struct sdm *h, const struct sdm_reading *reading, struct sdm_causes *causes);
+
+/* Frees the memory and leaves the handle as SDM_INIT. Does nothing to a handle that has no supervisor. */
 void sdm_close(struct sdm *h);
 
 /* The layout that the library was built for. Where one of these fails, the target isn't one for which it was built. */
@@ -247,14 +293,32 @@ SDM_AT(sdm_restriction, end_cm, 8);
 SDM_AT(sdm_restriction, speed_kmh, 12);
 SDM_AT(sdm_restriction, is_delayed, 16);
 
-SDM_SIZE(sdm_display, 32);
+SDM_SIZE(sdm_display, 40);
 SDM_AT(sdm_display, time_ds, 0);
 SDM_AT(sdm_display, permitted_kmh, 4);
 SDM_AT(sdm_display, sbi_kmh, 8);
 SDM_AT(sdm_display, ebi_kmh, 12);
 SDM_AT(sdm_display, release_kmh, 16);
 SDM_AT(sdm_display, target, 20);
-SDM_AT(sdm_display, distance_mm, 24);
+SDM_AT(sdm_display, target_kmh, 24);
+SDM_AT(sdm_display, distance_mm, 32);
+
+SDM_SIZE(sdm_cause, 32);
+SDM_AT(sdm_cause, rule, 0);
+SDM_AT(sdm_cause, target, 4);
+SDM_AT(sdm_cause, target_kmh, 8);
+SDM_AT(sdm_cause, target_mm, 16);
+SDM_AT(sdm_cause, limit_mm, 24);
+
+SDM_SIZE(sdm_causes, 144);
+SDM_AT(sdm_causes, time_ds, 0);
+SDM_AT(sdm_causes, tco, 4);
+SDM_AT(sdm_causes, sb, 8);
+SDM_AT(sdm_causes, eb, 12);
+SDM_AT(sdm_causes, over, 16);
+SDM_AT(sdm_causes, warn, 48);
+SDM_AT(sdm_causes, serv, 80);
+SDM_AT(sdm_causes, emer, 112);
 
 #undef SDM_AT
 #undef SDM_SIZE

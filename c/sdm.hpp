@@ -22,6 +22,7 @@ using Reading = sdm_reading;
 using Row = sdm_row;
 using Restriction = sdm_restriction;
 using Display = struct ::sdm_display; /* the struct, and not the call */
+using Causes = struct ::sdm_causes;   /* the struct, and not the call */
 
 /* What a call answers: enum sdm_status. */
 enum class Status : std::uint32_t {
@@ -169,6 +170,12 @@ class Supervisor {
     Expected<Display, Status> display(const Reading &reading) noexcept {
         Display display = {};
         return answered(sdm_display(&handle_, &reading, &display), display);
+    }
+
+    /* Why a reading that cycle has taken triggers, and how each command stands after it. */
+    Expected<Causes, Status> causes(const Reading &reading) noexcept {
+        Causes causes = {};
+        return answered(sdm_causes(&handle_, &reading, &causes), causes);
     }
 
   private:

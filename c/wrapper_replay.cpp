@@ -1,6 +1,6 @@
 /* Plays a recorded journey by the wrapper of sdm.hpp, and beside it by the calls of sdm.h: reads an input of the
- * program's `run` from standard input, whose records are plain, and compares each answer, each row and what a driver
- * can be shown. Link it with journey.c, sdm_text.c and a heap.
+ * program's `run` from standard input, whose records are plain, and compares each answer, each row, what a driver
+ * can be shown, and the causes. Link it with journey.c, sdm_text.c and a heap.
  *
  *     wrapper_replay < INPUT
  *
@@ -24,10 +24,21 @@ static std::uint32_t word(std::int64_t number) { return static_cast<std::uint32_
 static bool is_same_display(const sdm_cpp::Display &one, const sdm_cpp::Display &other) {
     return one.time_ds == other.time_ds && one.permitted_kmh == other.permitted_kmh && one.sbi_kmh == other.sbi_kmh &&
            one.ebi_kmh == other.ebi_kmh && one.release_kmh == other.release_kmh && one.target == other.target &&
-           one.distance_mm == other.distance_mm;
+           one.target_kmh == other.target_kmh && one.distance_mm == other.distance_mm;
 }
 
-/* Judges a reading by both, and asks both for what a driver can be shown. */
+static bool is_same_cause(const sdm_cause &one, const sdm_cause &other) {
+    return one.rule == other.rule && one.target == other.target && one.target_kmh == other.target_kmh &&
+           one.target_mm == other.target_mm && one.limit_mm == other.limit_mm;
+}
+
+static bool are_same_causes(const sdm_cpp::Causes &one, const sdm_cpp::Causes &other) {
+    return one.time_ds == other.time_ds && one.tco == other.tco && one.sb == other.sb && one.eb == other.eb &&
+           is_same_cause(one.over, other.over) && is_same_cause(one.warn, other.warn) &&
+           is_same_cause(one.serv, other.serv) && is_same_cause(one.emer, other.emer);
+}
+
+/* Judges a reading by both, and asks both for what a driver can be shown and for the causes. */
 static bool read(Pair &pair, const struct event &event) {
     struct sdm_reading reading = event_reading(&event);
     struct sdm_row row = {};
@@ -40,7 +51,12 @@ static bool read(Pair &pair, const struct event &event) {
         return false;
     due = Status(sdm_display(&pair.plain, &reading, &display));
     auto shown = pair.wrapped.display(reading);
-    return due == Status::done && shown && is_same_display(*shown, display);
+    if (due != Status::done || !shown || !is_same_display(*shown, display))
+        return false;
+    sdm_cpp::Causes causes = {};
+    due = Status(sdm_causes(&pair.plain, &reading, &causes));
+    auto told = pair.wrapped.causes(reading);
+    return due == Status::done && told && are_same_causes(*told, causes);
 }
 
 /* What the wrapper answers to an event that is no reading. */

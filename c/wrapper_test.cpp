@@ -47,6 +47,7 @@ static void refuse(Supervisor &supervisor) {
     check(supervisor.cycle(TOO_FAST).error() == Status::out_of_range, "a reading out of its range", of);
     check(supervisor.cycle(EARLIER).error() == Status::time_back, "a reading of an earlier time", of);
     check(supervisor.display(TOO_FAST).error() == Status::out_of_range, "a display out of its range", of);
+    check(supervisor.causes(TOO_FAST).error() == Status::out_of_range, "causes out of their range", of);
     check(supervisor.end(1, 0, 0) == Status::svl_before_eoa, "an SvL before the EOA", of);
     check(supervisor.end(0, 10000001, 0) == Status::beyond_track, "an SvL past the track", of);
     check(supervisor.end(0, 0, 501) == Status::bad_speed, "a release speed that is too high", of);
@@ -61,15 +62,19 @@ static void take(Supervisor &supervisor) {
     static const char of[] = "a record that is taken";
     check(supervisor.limit(5000, 1) == Status::done, "a limit that is slower than the train", of);
     auto shown = supervisor.display(LATER);
-    check(shown && shown->target == SDM_LOA && shown->distance_mm == 50000, "it is the target", of);
+    check(shown && shown->target == SDM_LOA && shown->target_kmh == 1 && shown->distance_mm == 50000,
+          "it is the target", of);
     check(supervisor.end_calculated(5000, 6000, 6000) == Status::done, "a calculated end", of);
     check(supervisor.end(5000, 6000, 0) == Status::done, "an end", of);
     shown = supervisor.display(LATER);
-    check(shown && shown->target == SDM_EOA && shown->distance_mm == 50000, "it is the target", of);
-    check(supervisor.set_restriction({7, 0, 1000, 5, 0}) == Status::done, "a restriction", of);
+    check(shown && shown->target == SDM_EOA && shown->target_kmh == 0 && shown->distance_mm == 50000,
+          "it is the target", of);
+    check(supervisor.set_restriction({7, 0, 1000, 3, 0}) == Status::done, "a restriction", of);
     auto row = supervisor.cycle(LATER);
-    check(row && row->time_ds == 10 && row->ceiling_kmh == 5, "it is the ceiling", of);
-    check(supervisor.set_restriction({7, 0, 1000, 5, 0}) == Status::id_in_use, "its identity is in use", of);
+    check(row && row->time_ds == 10 && row->ceiling_kmh == 3, "it is the ceiling", of);
+    auto told = supervisor.causes(LATER);
+    check(told && told->time_ds == 10 && told->over.rule == SDM_ABOVE_CEILING, "it is the cause", of);
+    check(supervisor.set_restriction({7, 0, 1000, 3, 0}) == Status::id_in_use, "its identity is in use", of);
     check(supervisor.revoke(7) == Status::done, "a revocation", of);
 }
 
@@ -94,11 +99,11 @@ static void move(std::string_view data) {
 static void change(std::string_view data) {
     static const char of[] = "a change of data";
     auto before = Supervisor::open(data), next = Supervisor::open(data);
-    check(before->set_restriction({7, 0, 1000, 5, 0}) == Status::done, "a restriction", of);
+    check(before->set_restriction({7, 0, 1000, 3, 0}) == Status::done, "a restriction", of);
     check(before->cycle(LATER).has_value(), "it judges", of);
     check(next->take_over(*before) == Status::done, "it is taken", of);
     check(next->cycle(AT_THE_START).error() == Status::time_back, "the time is kept", of);
-    check(next->set_restriction({7, 0, 1000, 5, 0}) == Status::id_in_use, "the restriction is kept", of);
+    check(next->set_restriction({7, 0, 1000, 3, 0}) == Status::id_in_use, "the restriction is kept", of);
     check(before->cycle(LATER).has_value(), "the one before judges", of);
     check(next->take_over(*before) == Status::not_fresh, "it is taken once", of);
     Supervisor moved = std::move(*before);

@@ -5,8 +5,9 @@ tools/explain say what is told, and over journeys made from a seed.
     scripts/check-model --seed 5000 --journeys 9000 the journeys of the seeds 5000 to 13999 alone
     scripts/check-model --program PATH              another program than crates/sdm/out/sdm
 
-The input of each third seed is given to `display` and to `certify` too, and each third seed makes a drive, and a text
-for `check`, besides. Of each difference it tells the input, the first row or line that differs, and both texts.
+Each journey of examples/ and vectors/ is given to `why` besides. The input of each third seed is given to `display`, to
+`why` and to `certify` too, and each third seed makes a drive, and a text for `check`, besides. Of each difference it
+tells the input, the first row or line that differs, and both texts.
 `tools/journeys input SEED` writes the journey of a seed, `drive SEED` its drive, and `tools/certified SEED` its text
 for `check`.
 """
@@ -17,17 +18,19 @@ import subprocess
 import sys
 import time
 
-from sdm.laboratory.cases import Case, cases_under, difference
+from sdm.laboratory.cases import Case, difference
 from sdm.laboratory.mistakes import mistakes
 from sdm.laboratory.program import TOP, Fault, Result, add_program, built, run
 from sdm.model.certified import a_certify, a_check
 from sdm.model.journeys import a_drive, make
 from sdm.model.words import collect
 from piped import end
+from stored import FOLDERS, journeys_in
 
 GATE_JOURNEYS = 1000
 PROGRESS = 2000  # journeys between two lines of progress
 SHARE = 3  # each so many seeds an input is given to the other commands too; `display` costs the model more than `run`
+JOURNEYS = (["run"], ["display"], ["certify"])  # the commands whose input is a journey
 BESIDES = [("drive", a_drive), ("certify", a_certify), ("check", a_check)]
 
 
@@ -57,10 +60,17 @@ def mistaken():
         yield Case(f"mistake {number}", ["run"], data, Result(rows, case.fault + "\n", code))
 
 
-def shown(first, count):
-    """The inputs of each third of some seeds, whatever their words, as cases of `display`."""
+def by(word, first, count):
+    """The inputs of each third of some seeds, whatever their words, as cases of another command."""
     for case in made(first, count, SHARE):
-        yield case._replace(words=["display"])
+        yield case._replace(words=[word])
+
+
+def explained(cases):
+    """The journeys among some cases as cases of `why`, with nothing due."""
+    for case in cases:
+        if case.words[:1] in JOURNEYS:
+            yield case._replace(words=["why"], due=None)
 
 
 def besides(what, of_seed, first, count):
@@ -95,6 +105,12 @@ def compare(title, program, cases, count):
     return differ if done else 1
 
 
+def modelled(cases):
+    """The cases of commands that the model has: it has no `live`, whose rows scripts/check-live holds beside those of
+    `run`."""
+    return (case for case in cases if case.words != ["live"])
+
+
 def words_of(args):
     parser = argparse.ArgumentParser(prog="scripts/check-model", description=__doc__.split("\n\n")[0])
     parser.add_argument("--seed", type=int, metavar="N", help="made journeys alone, from this seed on")
@@ -116,15 +132,16 @@ def main(args):
         bad = 0
         if words.seed is None:
             bad += not own_tests()
-            for folder in ("examples", "vectors"):
-                bad += compare(folder, program, cases_under(TOP / folder), 0)
+            for folder in FOLDERS:
+                bad += compare(folder, program, modelled(journeys_in(folder)), 0)
+                bad += compare(f"journeys of {folder} by why", program, explained(journeys_in(folder)), 0)
             bad += compare("mistakes of tools/explain", program, mistaken(), 0)
         first = words.seed or 0
         title = f"made journeys, seeds {first} to {first + words.journeys - 1}"
         bad += compare(title, program, made(first, words.journeys), words.journeys)
-        title = "each third of them by display"
         share = -(-words.journeys // SHARE)
-        bad += compare(title, program, shown(first, words.journeys), share)
+        for word in ("display", "why"):
+            bad += compare(f"each third of them by {word}", program, by(word, first, words.journeys), share)
         for what, of_seed in BESIDES:
             title = f"{what} of each third of these seeds"
             bad += compare(title, program, besides(what, of_seed, first, words.journeys), share)

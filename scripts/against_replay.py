@@ -6,7 +6,7 @@
     scripts/against_replay.py REPLAY --program PATH    another program than crates/sdm/out/sdm
 
 replay takes plain records alone. Where those of an input aren't plain, it must say so and write nothing; it is then
-given the same records written plainly. The input of each third seed is given to `display` too.
+given the same records written plainly. The input of each third seed is given to `display` and to `why` too.
 """
 
 import argparse
@@ -25,7 +25,8 @@ from sdm.model.records import records
 from sdm.model.words import MOST_BYTES
 from piped import end
 
-SHOWN = 3  # each so many seeds an input is given to `display` too
+SHOWN = 3  # each so many seeds an input is given to the other commands too
+OTHERS = ("display", "why")
 NOT_TAKEN = Result("", "replay: the records have a quote, a blank line, a CR or a byte order mark\n", 64)
 BYTE_ORDER_MARK = b"\xef\xbb\xbf"
 
@@ -79,16 +80,16 @@ def compare(title, program, replay, cases):
     return differ if hows else 1
 
 
-def both_words(cases):
-    """Cases with an input of `run`, once for each of the commands that read one."""
+def all_words(cases):
+    """Cases with an input of `run`, once for each of the commands that replay has."""
     for case in cases:
         if case.words in (["run"], ["display"]):
-            for word in ("run", "display"):
+            for word in ("run", *OTHERS):
                 yield case._replace(words=[word])
 
 
 def seeds(words, step=1):
-    """The inputs that check-model makes, whatever their words are there, for one of the two commands."""
+    """The inputs that check-model makes, whatever their words are there, for one of the commands."""
     return (case._replace(words=words) for case in made(0, GATE_JOURNEYS, step))
 
 
@@ -101,12 +102,13 @@ def main(args):
     replay = words.replay.resolve()
     try:
         program = built(words.program)
-        bad = compare("examples", program, replay, both_words(cases_under(TOP / "examples")))
+        bad = compare("examples", program, replay, all_words(cases_under(TOP / "examples")))
         if not words.examples:
             limits = [Case(name, ["run"], data, None) for name, data in specials()]
-            bad += compare("limits of the formats", program, replay, both_words(limits))
+            bad += compare("limits of the formats", program, replay, all_words(limits))
             bad += compare(f"made journeys, seeds 0 to {GATE_JOURNEYS - 1}", program, replay, seeds(["run"]))
-            bad += compare("each third of them by display", program, replay, seeds(["display"], SHOWN))
+            for word in OTHERS:
+                bad += compare(f"each third of them by {word}", program, replay, seeds([word], SHOWN))
     except (Fault, subprocess.SubprocessError) as why:
         print(f"against_replay: {why}", file=sys.stderr)
         return 1

@@ -34,6 +34,7 @@ PART = Part(
 COMMANDS = {
     "run": "Run",
     "display": "Display",
+    "why": "Why",
     "flat": "Flat",
     "trial": "Trial",
     "upgrade": "Upgrade",
@@ -84,9 +85,21 @@ SUPERVISOR = Claim(
     "supervisor",
     calls=[
         ("sdm_supervisor", "Supervisor", name)
-        for name in ("begin", "cycle", "authority", "restrict", "revoke", "take_over", "is_fresh")
+        for name in (
+            "begin",
+            "cycle",
+            "authority",
+            "release_for",
+            "calculated_stop",
+            "restrict",
+            "revoke",
+            "take_over",
+            "is_fresh",
+            "within_svl",
+        )
     ]
     + [
+        ("sdm_display", "", "display_of"),
         ("sdm_num", "Reading", "new"),
         ("sdm_train", "Train", "new"),
         ("sdm_national", "National", "new"),
@@ -104,9 +117,12 @@ SUPERVISOR = Claim(
     edge=[
         (
             "sdm_supervisor/src/supervisors.rt",
-            "the value of a `Supervisor`; the clauses of `begin`, `cycle`, `authority`, `restrict`, `revoke`",
+            "the value of a `Supervisor`; the clauses of `begin`, `cycle`, `authority`, `release_for`, "
+            "`calculated_stop`, `restrict`, `revoke`",
         ),
         ("sdm_supervisor/src/supervisors/take_over.rt", "the clauses of `take_over`, `is_fresh`"),
+        ("sdm_supervisor/src/supervisors/within.rt", "the clause of `within_svl`"),
+        ("sdm_display/src/displays.rt", "the clause of `display_of`"),
         ("sdm_num/src/readings.rt", "the value of a `Reading`, and the clause of `Reading::new`"),
         ("sdm_num/src/places.rt", "the value of a `Place`"),
         ("sdm_num/src/speeds.rt", "the value of a `Speed`"),

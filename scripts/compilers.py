@@ -12,10 +12,11 @@ import sys
 from collections.abc import Iterable
 from pathlib import Path
 
-from against_model import BESIDES, GATE_JOURNEYS, besides, made, shown
-from sdm.laboratory.cases import Case, cases_under, difference
-from sdm.laboratory.program import BUILT, TOP, Fault, add_program, built, run
+from against_model import BESIDES, GATE_JOURNEYS, besides, by, made
+from sdm.laboratory.cases import Case, difference
+from sdm.laboratory.program import BUILT, Fault, add_program, built, run
 from piped import end
+from stored import FOLDERS, journeys_in
 from worked import cases_of, tables
 
 OTHER = BUILT.with_name(f"{BUILT.name}.by-rattle")
@@ -23,9 +24,9 @@ NAMES = ("LLVM", "rattle")
 
 
 def stored() -> Iterable[Case]:
-    """The runs that the repository keeps."""
-    for folder in ("examples", "vectors"):
-        yield from cases_under(TOP / folder)
+    """The runs that are stored."""
+    for folder in FOLDERS:
+        yield from journeys_in(folder)
     for table in tables():
         yield from cases_of(table)
 
@@ -33,7 +34,8 @@ def stored() -> Iterable[Case]:
 def generated(first: int, count: int) -> Iterable[Case]:
     """Journeys of some seeds, and what is made of each third of them for the other commands."""
     yield from made(first, count)
-    yield from shown(first, count)
+    for word in ("display", "why"):
+        yield from by(word, first, count)
     for what, of_seed in BESIDES:
         yield from besides(what, of_seed, first, count)
 

@@ -39,7 +39,7 @@ class Journey:
     def keeps_rows_at_want_of_memory(self):
         """Whether rows may stand when memory is wanting: `flat` and `trial` take all their memory first, `upgrade` and
         `drive` before they write."""
-        return self.words[0] in ("run", "display", "certify", "check")
+        return self.words[0] in ("run", "display", "why", "certify", "check")
 
 
 def example(name):
@@ -127,8 +127,14 @@ def memory_wanting(journey, ended):
 
 
 def read_failed(journey, ended):
-    """A read failed: nothing was written, and the line says so."""
-    return None if ended == Ended(2, b"", READ_LINE) else "it isn't code 2 with its line alone"
+    """A read failed: nothing was written, by `live` whole answers, and the line says so."""
+    if ended.code != 2 or ended.err != READ_LINE:
+        return "it isn't code 2 with its line"
+    if journey.words != ("live",):
+        return "out holds rows" if ended.out else None
+    if not journey.whole.out.startswith(ended.out) or not is_whole_lines(ended.out):
+        return "out holds no whole answers"
+    return None
 
 
 def write_failed(journey, ended):

@@ -1,7 +1,7 @@
 """Holds three texts of the interface for C against each other: the header (c/sdm.h), the source (crates/sdm_c/src) and
-the binding for Ada (c/ada/sdm.ads). The numbers of the layout and of the statuses, the codes of a row and a display,
-the fields of each struct with their types in their order, and the arguments of each call in theirs must be the same. A
-number that is handed over is compared by its name too, so that no two of one type can be swapped.
+the binding for Ada (c/ada/sdm.ads). The numbers of the layout and of the statuses, the codes of a row, of a display and
+of causes, the fields of each struct with their types in their order, and the arguments of each call in theirs must be
+the same. A number that is handed over is compared by its name too, so that no two of one type can be swapped.
 
     scripts/check-interface    fails where they differ
 """
@@ -24,6 +24,8 @@ STRUCTS = {
     "sdm_row": ("RowC", "Row"),
     "sdm_restriction": ("RestrictionC", "Restriction"),
     "sdm_display": ("DisplayC", "Display"),
+    "sdm_cause": ("CauseC", "Cause"),
+    "sdm_causes": ("CausesC", "Causes"),
     "sdm_line": ("LineC", "Line"),
 }
 NUMBERS = {"uint32_t": ("u32", "Word"), "int32_t": ("i32", "Signed_Word"), "int64_t": ("i64", "Signed_Long")}
@@ -44,6 +46,16 @@ CODES = {
     "SDM_EOA": "TargetKind::Eoa",
     "SDM_SVL": "TargetKind::Svl",
     "SDM_LOA": "TargetKind::Loa",
+    "SDM_ABOVE_CEILING": "Cause::Ceiling",
+    "SDM_PAST_TARGET": "Cause::Passed",
+    "SDM_PAST_END": "Cause::EndOfAuthority",
+    "SDM_ABOVE_RELEASE": "Cause::ReleaseSpeed",
+    "SDM_NO_SERVICE_BRAKE": "Cause::NoServiceBrake",
+    "SDM_OFF": "Standing::Off",
+    "SDM_SET": "Standing::Set",
+    "SDM_HELD_TO_PERMITTED_SPEED": "Until::PermittedSpeed",
+    "SDM_HELD_TO_STANDSTILL": "Until::Standstill",
+    "SDM_HELD_TO_EITHER": "Until::StandstillOrPermittedSpeed",
 }
 IN_C_ALONE = "sdm_status_text"  # the library doesn't have it
 
@@ -78,7 +90,7 @@ def of_source() -> Listed:
     said: Listed = {"the layout": int(re.findall(r"const LAYOUT: u32 = (\d+);", text)[0])}
     statuses = (SOURCE / "statuses.rt").read_text()
     said |= {f"the status {name.lower()}": int(n) for name, n in re.findall(r"const (\w+): u32 = (\d+);", statuses)}
-    arms = dict(re.findall(r"(\w+::\w+) => (\d+),", text))
+    arms = dict(re.findall(r"(\w+::\w+)(?:\(_\))? => (\d+),", text))
     said |= {f"the code {name}": int(arms[arm]) for name, arm in CODES.items() if arm in arms}
     for name, body in re.findall(r"^pub struct (\w+) \{\n(.*?)^\}", text, re.M | re.S):
         if name in OF_SOURCE and name != "Handle":

@@ -1,15 +1,16 @@
-"""Writes the manual: the parts of docs/sdm.1 that docs/commands.toml has, docs/sdm.h.3 from c/sdm.h, and the version of
-both from CHANGELOG.md.
+"""Writes the manual: the parts of docs/sdm.1 that docs/commands.toml has, docs/sdm.h.3 from c/sdm.h, and the texts of
+`sdm version` and `sdm help`; the version of all from CHANGELOG.md, the toolchain's line from README.md.
 
-    scripts/manual help     prints the commands, as `sdm help` is to print them
-    scripts/manual write    writes both pages
-    scripts/manual check    fails where a page is stale, or README.md has another version
+    scripts/manual help     prints the commands, as `sdm help` prints them
+    scripts/manual write    writes the pages and the texts
+    scripts/manual check    fails where one is stale, or README.md has another version
 """
 
 import re
 import sys
 import tomllib
 from dataclasses import dataclass
+from pathlib import Path
 from typing import Iterator
 
 import header
@@ -20,6 +21,8 @@ from specs import ROOT
 COMMANDS = ROOT / "docs" / "commands.toml"
 PROGRAM_PAGE = ROOT / "docs" / "sdm.1"
 HEADER_PAGE = ROOT / "docs" / "sdm.h.3"
+TEXTS = ROOT / "crates" / "sdm_words" / "src" / "texts.rt"
+TOOLCHAIN = re.compile(r"rattle-kit-\w+ logic [0-9a-f]+")
 WRITER = "scripts/manual write"
 MARKUP = re.compile(r"`([^`]*)`|\b_([A-Z]+)_\b")
 HELP_WIDTH = 22  # of the words of a command
@@ -155,19 +158,44 @@ def header_page() -> str:
 
 
 def help_text() -> str:
-    """What `sdm help` is to print."""
-    lines = [f"sdm {version()}: {tomllib.loads(COMMANDS.read_text())['summary']}", ""]
+    """What `sdm help` prints."""
+    told_of = tomllib.loads(COMMANDS.read_text())
+    lines = [f"sdm {version()}: {told_of['summary']}", ""]
     for command in commands():
         words = " ".join(["sdm", command.name, *command.arguments])
         given = f" < {command.input}" if command.input else ""
         lines.append(f"  {words + given:<{HELP_WIDTH + 8}}  {command.short}")
-    return "\n".join([*lines, "", tomllib.loads(COMMANDS.read_text())["input"], ""])
+    return "\n".join([*lines, "", told_of["input"].strip(), told_of["units"].strip(), "", told_of["more"], ""])
 
 
-def faults_of_header_page() -> list[str]:
-    """What is wrong with docs/sdm.h.3."""
-    has = HEADER_PAGE.read_text() if HEADER_PAGE.is_file() else ""
-    return [] if has == header_page() else [f"docs/{HEADER_PAGE.name}: stale, run {WRITER}"]
+def version_text() -> str:
+    """What `sdm version` prints: the program's version, and the toolchain's line as README.md has it."""
+    toolchain = TOOLCHAIN.search((ROOT / "README.md").read_text())
+    return f"sdm {version()}\n{toolchain.group() if toolchain else ''}\n"
+
+
+def source_of_texts() -> str:
+    """The source with both texts."""
+    texts = "".join(f'    "\\\n{text}",\n' for text in (version_text(), help_text()))
+    return (
+        f"//! The texts of `version` and `help`, written by {WRITER}.\n\n"
+        "/// The text of `version`, and that of `help`: an array, since a clause can cite one.\n"
+        f"pub const TEXTS: [&str; 2] = [\n{texts}];\n"
+    )
+
+
+def written_files() -> dict[Path, str]:
+    """The files that are written whole, with their texts."""
+    return {HEADER_PAGE: header_page(), TEXTS: source_of_texts()}
+
+
+def faults_of_files() -> list[str]:
+    """What is wrong with the files that are written whole."""
+    return [
+        f"{path.relative_to(ROOT)}: stale, run {WRITER}"
+        for path, text in written_files().items()
+        if not path.is_file() or path.read_text() != text
+    ]
 
 
 def faults_of_readme() -> list[str]:
@@ -185,12 +213,13 @@ def main(words: list[str]) -> int:
     if words == ["write"]:
         for part, text in parts_of_program_page():
             part.write(text)
-        HEADER_PAGE.write_text(header_page())
+        for path, text in written_files().items():
+            path.write_text(text)
         return 0
     if words == ["check"]:
         parts = parts_of_program_page()
         faults = [fault for part, text in parts for fault in part.faults(text)]
-        return told("manual", len(parts) + 2, faults + faults_of_header_page() + faults_of_readme())
+        return told("manual", len(parts) + 3, faults + faults_of_files() + faults_of_readme())
     print(__doc__.strip(), file=sys.stderr)
     return 2
 

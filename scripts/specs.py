@@ -12,6 +12,7 @@ CRATES = ROOT / "crates"
 
 PUBLIC = re.compile(r"^\s*(?:abbrev pub|unfoldable pub|pub record|pub data|pub)\s+([^\s:({]+)")
 NO_DEFINITION = ("pub mod", "pub use")
+NUMBER = re.compile(r"abbrev pub (\w+) : ℕ\s+\1 = [\d_]+")  # a constant
 SOURCE = re.compile(r"\(((?:[^()]|\([^()]*\))*?(?:SUBSET-026-3|\bown\b)(?:[^()]|\([^()]*\))*)\)")
 
 
@@ -116,13 +117,16 @@ def comment_above(lines, i):
 
 @cache
 def definitions(path):
-    """The public definitions of a file, in order."""
+    """The public definitions of a file, in order. Numbers that follow one another under one comment share it."""
     lines = path.read_text().splitlines()
     found, made = list(starts(lines)), []
     ends = [i for i, _ in found[1:]] + [len(lines)]
     for (i, name), end in zip(found, ends):
         text = "\n".join(re.sub(r"--.*", "", line) for line in lines[i:end])
-        made.append(Definition(path, name, i + 1, comment_above(lines, i), text))
+        comment = comment_above(lines, i)
+        if not comment and made and all(NUMBER.fullmatch(each.strip()) for each in (made[-1].text, text)):
+            comment = made[-1].comment
+        made.append(Definition(path, name, i + 1, comment, text))
     return made
 
 

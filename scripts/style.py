@@ -1,5 +1,6 @@
 """Checks the style of the pages: words that have a plainer one, sentences that are too long, and versions and dates
-on a page that says what is. Of words and sentences tables and code aren't read, and what scripts write not at all.
+on a page that says what is. The words of code and of headings aren't read, sentences of tables and captions aren't
+counted, and what scripts write isn't read at all.
 
     scripts/check-style
 """
@@ -27,17 +28,22 @@ PLAINER = {  # a pattern, and what to write in its place
     r"in the place of": "instead of",
     r"as (?:many|much|long) as one likes": "any number",
     r"anew": "again",
+    r"(?:comes?|came) to (?!stand)": "reaches, amounts to",
+    r"(?<!by )hand(?:s|ed)? (?:in|on)": "pass, give",
+    r"gives? back": "frees, returns",
+    r"(?:is|are) said of": "holds for",
     r"who(?:ever)? (?:calls|runs|relies|looks|links|changes|works|asks|hands)": "a caller, a user",
 }
 DATED = {"CHANGELOG.md", "README.md", "bench/README.md", "docs/RELEASES.md"}  # may name a version or a date
 DATE = re.compile(r"\b0\.\d+\.\d+\b|\b20\d\d-\d\d-\d\d\b")
 SENTENCE = re.compile(r"(?<=[.!?;])\s+")
-UNREAD = re.compile(r"^(?:    |\||#|<!--|!\[)")
+UNREAD = re.compile(r"^(?:    |#|<!--)")
+UNCOUNTED = re.compile(r"^(?:\||!\[)")  # a line of a table, a picture with its caption
 TARGET = re.compile(r"\]\([^)]*\)")
 
 
 def lines_of(page: Path) -> list[tuple[int, str]]:
-    """The lines of prose of a page with their numbers, each piece of code as one word."""
+    """The lines of a page that are read with their numbers, each piece of code as one word."""
     text = page.read_text()
     for unread in (WRITTEN, FENCE):
         text = unread.sub(lambda part: re.sub(r"[^\n]", "", part.group()), text)
@@ -56,7 +62,8 @@ def faults_of(line: str) -> list[str]:
         for word, plain in PLAINER.items()
         for found in re.finditer(rf"\b(?:{word})\b", line, re.I)
     ]
-    counts = [(len(sentence.split()), sentence) for sentence in SENTENCE.split(line)]
+    sentences = [] if UNCOUNTED.match(line) else SENTENCE.split(line)
+    counts = [(len(sentence.split()), sentence) for sentence in sentences]
     return words + [f"{count} words in a sentence: {sentence[:60]}" for count, sentence in counts if count > MOST_WORDS]
 
 

@@ -33,6 +33,7 @@ TABLE = ROOT / "scripts" / "traces.toml"
 WRONG = ROOT / "docs" / "WRONG-DEFINITIONS.md"
 PROMISES = ROOT / "docs" / "PROMISES.md"
 MARK = re.compile(r"<!-- trace: ([\w, -]+) -->")
+TO_TRACE = re.compile(r"\[([^\]]*)\]\(docs/TRACES\.md#(\d+)-readme\)")  # README's link to the trace of a sentence
 SENTENCE_END = re.compile(r"[.!?][)*]* (?=[A-Z])")
 
 
@@ -60,15 +61,24 @@ def ids_in(line: str) -> list[str]:
     return [each.strip() for mark in MARK.findall(line) for each in mark.split(",")]
 
 
+def promise_lines() -> list[str]:
+    """The lines of README's promise that are or should be marked, one a sentence."""
+    section = (ROOT / "README.md").read_text().partition("\n## The promise\n")[2].partition("\n## ")[0]
+    return [line for line in section.splitlines() if ids_in(line) or line.startswith("- ")]
+
+
 def promise() -> list[tuple[str, list[str]]]:
     """The sentences of README's promise, each with the ids of its marks, and their links as they are from docs/."""
-    section = (ROOT / "README.md").read_text().partition("\n## The promise\n")[2].partition("\n## ")[0]
-    found = []
-    for line in section.splitlines():
-        ids = ids_in(line)
-        if ids or line.startswith("- "):
-            found.append((from_docs(MARK.sub("", line).removeprefix("- ").strip()), ids))
-    return found
+    return [(from_docs(MARK.sub("", line).removeprefix("- ").strip()), ids_in(line)) for line in promise_lines()]
+
+
+def link_faults() -> list[str]:
+    """The sentences of README's promise that don't link to their own trace, or to another one too."""
+    return [
+        f"README.md: a sentence that doesn't link to trace {number} alone: {line[:50]}"
+        for number, line in enumerate(promise_lines(), 1)
+        if [to for _, to in TO_TRACE.findall(line)] != [str(number)]
+    ]
 
 
 def more_promised() -> list[tuple[str, list[str]]]:
@@ -81,11 +91,11 @@ def more_promised() -> list[tuple[str, list[str]]]:
 
 
 def from_docs(sentence: str) -> str:
-    """A sentence of README with its links as they are from docs/."""
+    """A sentence of README with its links as they are from docs/, and without that to its trace."""
     return re.sub(
         r"\]\((?![a-z]+:)(#|docs/)?",
         lambda found: {"#": "](../README.md#", "docs/": "]("}.get(found[1], "](../"),
-        sentence,
+        TO_TRACE.sub(r"\1", sentence),
     )
 
 
@@ -195,6 +205,7 @@ def lines_of(trace: Trace, places: Places) -> list[str]:
 def listed(traces: dict[str, Trace], faults: list[str]) -> str:
     """The traces in Markdown, by sentences; what is wrong with them is added to faults."""
     places, out, seen = Places(), [], set()
+    faults += link_faults()
     sentences = [("README", *each) for each in promise()] + [("PROMISES", *each) for each in more_promised()]
     for number, (page, sentence, ids) in enumerate(sentences, 1):
         out += ["", f"## {number}. {page}", "", f"> {sentence}"]

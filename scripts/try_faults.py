@@ -33,10 +33,12 @@ EXAMPLES = [
     "refused-opening",
     "flat",
     "display",
+    "causes",
     "upgrade",
     "drive",
     "certificate",
     "certificate-forged",
+    "live",
 ]
 
 # what is faulted, the call and its file, the kind of fault, its error, what it may change

@@ -111,12 +111,16 @@ PIECES = [
 ROWS = {
     "run": rb"(\d+,[CTR],[NIOWX],[01],[01],[01],[01],\d+(,(-?\d+|-)){5}\n)*",
     "display": rb"(\d+(,\d+){4},(-,-|[MLES],\d+)\n)*",
+    "why": rb"(\d+(,(-|[a-z ]+|target [MLES]( -?\d+){3})){4}(,(off|set|held until [a-z ]+)){3}\n)*",
     "flat": rb"(\d+,-?\d+,[01],[01]\n)*",
     "trial": rb"(rows \d+\ncovered \d+\nemergency \d+\nservice \d+\nebi -?\d+\n)?",
     "certify": rb"(map(,\d+){3}\n(uppers(,\d+)+\n)?(seg,\d+(,\d+)+\n)+"
     rb"(claim,\d+,-?\d+(,\d+){7}\n(mark,-?\d+,\d+\n)+)*)?",
     "check": rb"(\d+,(yes|no)\n)*",
     "drive": rb"(cycles \d+\nemergency \d+\nstops \d+\nfront \d+\nleast \d+\n)?",
+    "live": rb"((\d+,[CTR],[NIOWX],[01],[01],[01],[01],\d+(,(-?\d+|-)){5}|taken|refused: [^\n]+)\n)*",
+    "version": rb"sdm \d+\.\d+\.\d+\n[^\n]+\n",
+    "help": rb"sdm \d+\.\d+\.\d+: ([^\n]*\n)+",
     "upgrade": rb"(([a-z_]+ = (-?\d+|true|false|\"(end|limit)\")|\[[a-z]+\]|\[\[[a-z]+\.[a-z_]+\]\])?\n)*",
 }
 
@@ -259,9 +263,14 @@ def words_changed(numbers, words):
         ("run\n",),
         ("upgrade", "1"),
         ("display", "1"),
+        ("why", "1"),
         ("drive", "7"),
         ("certify", "0"),
         ("check", "1"),
+        ("live", "1"),
+        ("version",),
+        ("help",),
+        ("version", "help"),
     ]
     if numbers.draw(0, 1):
         return kinds[numbers.draw(0, len(kinds) - 1)]
@@ -273,7 +282,8 @@ def words_changed(numbers, words):
 def near_the_limit(numbers, seed):
     """An input of about the most bytes: a long comment, a long text, or many lines, in the data part or after it."""
     about = MOST_BYTES - len(seed.given) + numbers.draw(-2, 2)
-    kind = numbers.draw(0, 4)
+    # `live` searches its data part again with each read, so one of so many bytes takes it minutes
+    kind = numbers.draw(2, 3) if seed.words == ("live",) else numbers.draw(0, 4)
     if kind == 0:
         return b"#" + b"a" * (about - 2) + b"\n" + seed.given
     if kind == 1:
@@ -340,6 +350,8 @@ def fault_of(one, code, out, err, seconds):
         return "out isn't whole rows"
     if out and code not in WITH_ROWS:
         return f"out holds rows at code {code}"
+    if command == "live" and code == 7:
+        return "live ended by a record"
     if code in (2, 3, 8):
         return f"code {code}, and nothing failed"
     if seconds > SECONDS:
@@ -356,6 +368,7 @@ def options():
     parser.add_argument(
         "--each-large", type=int, default=2_000, help="each such one has about 16 MiB; else each 2,000th"
     )
+    parser.add_argument("--only", metavar="WORD", help="the inputs of run alone, by this word, such as live")
     parser.add_argument("--jobs", type=int, default=4, help="how many runs at a time; else 4")
     parser.add_argument(
         "--keep", type=Path, default=Path("try-inputs-found"), help="where inputs that were wrong are kept"
@@ -377,6 +390,8 @@ def main():
     except Fault as why:
         sys.exit(f"try-inputs: {why}")
     found, codes, wrong = seeds(), Counter(), []
+    if chosen.only:
+        found = [Given((chosen.only,), seed.given) for seed in found if seed.words[0] in ("run", chosen.only)]
     with tempfile.TemporaryDirectory() as scratch:
 
         def tried(number):

@@ -2,7 +2,8 @@
 #include "../c/sdm.h"
 
 void look_at_nothing(struct sdm *h, struct sdm_line *line, const struct sdm_reading *reading, struct sdm_row *row,
-                     const struct sdm_restriction *restriction, struct sdm_display *display) {
+                     const struct sdm_restriction *restriction, struct sdm_display *display,
+                     struct sdm_causes *causes) {
     sdm_open(h, line->bytes, line->count, line);
     sdm_cycle(h, reading, row);
     sdm_end(h, 0, 0, 0);
@@ -12,4 +13,5 @@ void look_at_nothing(struct sdm *h, struct sdm_line *line, const struct sdm_read
     sdm_revoke(h, 0);
     sdm_take_over(h, h);
     sdm_display(h, reading, display);
+    sdm_causes(h, reading, causes);
 }

@@ -12,10 +12,10 @@ import argparse
 import sys
 import tomllib
 
-from sdm.laboratory.cases import cases_under
-from sdm.laboratory.program import TOP, Fault, Result, add_program, built, run
+from sdm.laboratory.program import Fault, Result, add_program, built, run
 from sdm.model.data import DIVIDING_LINE, data_of, read_document, table_of
 from piped import end
+from stored import FOLDERS, journeys_in
 
 BAD_DATA = 5
 
@@ -45,7 +45,7 @@ def main(args):
     passed = failed = 0
     try:
         program = built(parser.parse_args(args).program)
-        for case in [case for folder in ("examples", "vectors") for case in cases_under(TOP / folder)]:
+        for case in [case for folder in FOLDERS for case in journeys_in(folder)]:
             line = DIVIDING_LINE.search(case.data)
             if case.words != ["run"] or line is None:
                 continue

@@ -13,7 +13,7 @@ package SDM is
    subtype Signed_Long is Interfaces.Integer_64;
 
    --  The number of the layout that this binding is written for: compare it with Layout before the first other call.
-   Layout_Of_Binding : constant Word := 1;
+   Layout_Of_Binding : constant Word := 2;
 
    --  What a call answers.
    Done           : constant Word := 0;
@@ -72,8 +72,21 @@ package SDM is
 
    --  Targets: 0 none, 1 a fall of the speed profile, 2 EOA, 3 SvL, 4 LOA.
    type Display is record
-      Time_Ds, Permitted_Kmh, Sbi_Kmh, Ebi_Kmh, Release_Kmh, Target : Word := 0;
-      Distance_Mm                                                   : Signed_Long := 0;
+      Time_Ds, Permitted_Kmh, Sbi_Kmh, Ebi_Kmh, Release_Kmh, Target, Target_Kmh : Word := 0;
+      Distance_Mm                                                               : Signed_Long := 0;
+   end record with Convention => C;
+
+   --  Rules: 0 none, 1 above the ceiling, 2 past a target, 3 past the end of authority, 4 above the release speed,
+   --  5 past a limit of the service brake, which isn't in use.
+   type Cause is record
+      Rule, Target, Target_Kmh : Word := 0;
+      Target_Mm, Limit_Mm      : Signed_Long := 0;
+   end record with Convention => C;
+
+   --  How a command stands: 0 off, 1 set, 2 held until the permitted speed, 3 until standstill, 4 until either.
+   type Causes is record
+      Time_Ds, Tco, Sb, Eb   : Word := 0;
+      Over, Warn, Serv, Emer : Cause;
    end record with Convention => C;
 
    function Layout return Word
@@ -108,6 +121,9 @@ package SDM is
    function Show (H : in out Supervisor; Read : Reading; Shown : in out Display) return Word
      with Import, Convention => C, External_Name => "sdm_display";
 
+   function Explain (H : in out Supervisor; Read : Reading; Told : in out Causes) return Word
+     with Import, Convention => C, External_Name => "sdm_causes";
+
    --  What a status says, for people.
    function Text (Status : Word) return String;
 
@@ -133,6 +149,8 @@ private
    for Place'Size use 128;
    for Row'Size use 896;
    for Restriction'Size use 160;
-   for Display'Size use 256;
+   for Display'Size use 320;
+   for Cause'Size use 256;
+   for Causes'Size use 1152;
 
 end SDM;

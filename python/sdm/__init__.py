@@ -13,7 +13,7 @@ if TYPE_CHECKING:  # for mypy and editors; _HOMES says the same where it runs
     from .picture import Picture, plot
     from .records import End, EndCalculated, Limit, Reading, Record, Restriction, Revocation, records_of
     from .reporting import Report, report
-    from .rows import Display, Row, SdmError, State, Status, Supervision, Target
+    from .rows import Cause, Causes, Display, Row, Rule, SdmError, Standing, State, Status, Supervision, Target
     from .runs import run
     from .sweeps import summary, sweep
 
@@ -26,7 +26,19 @@ _HOMES = {
     "picture": ["Picture", "plot"],
     "records": ["End", "EndCalculated", "Limit", "Reading", "Record", "Restriction", "Revocation", "records_of"],
     "reporting": ["Report", "report"],
-    "rows": ["Display", "Row", "SdmError", "State", "Status", "Supervision", "Target"],
+    "rows": [
+        "Cause",
+        "Causes",
+        "Display",
+        "Row",
+        "Rule",
+        "SdmError",
+        "Standing",
+        "State",
+        "Status",
+        "Supervision",
+        "Target",
+    ],
     "runs": ["run"],
     "sweeps": ["summary", "sweep"],
 }

@@ -17,6 +17,7 @@ COMMANDS = {
     "plot": "sdm.picture",
     "report": "sdm.reporting.words",
     "rides": "sdm.rides",
+    "bench-live": "sdm.bench",
     "model": "sdm.model.words",
     "journeys": "sdm.model.journeys",
     "certified": "sdm.model.certified",

@@ -19,17 +19,30 @@ from types import TracebackType
 from typing import TYPE_CHECKING, Any
 
 from .records import Data, End, EndCalculated, Limit, Reading, Record, Restriction, Revocation, toml_of
-from .rows import TEXTS, Display, Row, SdmError, State, Status, Supervision, Target
+from .rows import (
+    TEXTS,
+    Cause,
+    Causes,
+    Display,
+    Row,
+    Rule,
+    SdmError,
+    Standing,
+    State,
+    Status,
+    Supervision,
+    Target,
+)
 
 if TYPE_CHECKING:
     from .arrays import Array
 
-LAYOUT = 1  # SDM_LAYOUT
+LAYOUT = 2  # SDM_LAYOUT
 HERE = Path(__file__).resolve().parent
 # Where the library is looked for, after SDM_LIBRARY: where an installed package has it, where sdm.build_library puts it
 # in the repository, and what the system's loader finds.
 PLACES = (HERE / "libsdm.so", HERE.parents[1] / "crates" / "sdm_c" / "out" / "libsdm.so")
-INSTALLED = "libsdm.so.1"
+INSTALLED = "libsdm.so.2"
 
 
 class Handle(ctypes.Structure):
@@ -87,7 +100,29 @@ SPEEDS = ("permitted_kmh", "sbi_kmh", "ebi_kmh", "release_kmh")
 class DisplayStruct(ctypes.Structure):
     """struct sdm_display."""
 
-    _fields_ = [*((name, c_uint32) for name in ("time_ds", *SPEEDS, "target")), ("distance_mm", c_int64)]
+    _fields_ = [*((name, c_uint32) for name in ("time_ds", *SPEEDS, "target", "target_kmh")), ("distance_mm", c_int64)]
+
+
+class CauseStruct(ctypes.Structure):
+    """struct sdm_cause."""
+
+    _fields_ = [
+        *((name, c_uint32) for name in ("rule", "target", "target_kmh")),
+        *((name, c_int64) for name in ("target_mm", "limit_mm")),
+    ]
+
+
+COMMANDS = ("tco", "sb", "eb")
+TRIGGERS = ("over", "warn", "serv", "emer")
+
+
+class CausesStruct(ctypes.Structure):
+    """struct sdm_causes."""
+
+    _fields_ = [
+        *((name, c_uint32) for name in ("time_ds", *COMMANDS)),
+        *((name, CauseStruct) for name in TRIGGERS),
+    ]
 
 
 CALLS: dict[str, list[Any]] = {
@@ -101,6 +136,7 @@ CALLS: dict[str, list[Any]] = {
     "sdm_revoke": [c_void_p, c_uint32],
     "sdm_take_over": [c_void_p, c_void_p],
     "sdm_display": [c_void_p, c_void_p, c_void_p],
+    "sdm_causes": [c_void_p, c_void_p, c_void_p],
 }
 
 
@@ -150,6 +186,14 @@ def row_of(struct: RowStruct) -> Row:
     flags = {name: bool(getattr(struct, name)) for name in FLAGS}
     places = {f"{name}_mm": place.mm if place.is_some else None for name in LIMITS for place in [getattr(struct, name)]}
     return Row(struct.time_ds, state, status, ceiling_kmh=struct.ceiling_kmh, **flags, **places)
+
+
+def cause_of(struct: CauseStruct) -> Cause | None:
+    """The first cause of a trigger, None where it doesn't hold."""
+    if struct.rule == Rule.NONE:
+        return None
+    target = Target(struct.target)
+    return Cause(Rule(struct.rule), target, struct.target_kmh, struct.target_mm, struct.limit_mm)
 
 
 class Supervisor:
@@ -288,7 +332,16 @@ class Supervisor:
         given, shown = filled(ReadingStruct, checked(reading, Reading)), DisplayStruct()
         self._call("sdm_display", ctypes.addressof(given), ctypes.addressof(shown))
         speeds = {name: getattr(shown, name) for name in SPEEDS}
-        return Display(shown.time_ds, target=Target(shown.target), distance_mm=shown.distance_mm, **speeds)
+        target = {"target": Target(shown.target), "target_kmh": shown.target_kmh, "distance_mm": shown.distance_mm}
+        return Display(shown.time_ds, **speeds, **target)
+
+    def causes(self, reading: Reading) -> Causes:
+        """Why a reading that was judged triggers, and how each command stands after it. CLOSED, OUT_OF_RANGE."""
+        given, told = filled(ReadingStruct, checked(reading, Reading)), CausesStruct()
+        self._call("sdm_causes", ctypes.addressof(given), ctypes.addressof(told))
+        tco, sb, eb = (Standing(getattr(told, name)) for name in COMMANDS)
+        over, warn, serv, emer = (cause_of(getattr(told, name)) for name in TRIGGERS)
+        return Causes(told.time_ds, tco, sb, eb, over, warn, serv, emer)
 
     def close(self) -> None:
         """Gives the memory back; of one that is closed nothing happens."""

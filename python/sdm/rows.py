@@ -93,7 +93,36 @@ class Target(IntEnum):
     LOA = 4
 
 
+class Rule(IntEnum):
+    """Why a trigger holds."""
+
+    NONE = 0
+    CEILING = 1
+    TARGET = 2
+    END = 3
+    RELEASE_SPEED = 4
+    NO_SERVICE_BRAKE = 5
+
+
+class Standing(IntEnum):
+    """How a command stands after a reading: a cause of it stands where it is SET, none where it is held."""
+
+    OFF = 0
+    SET = 1
+    HELD_TO_PERMITTED_SPEED = 2
+    HELD_TO_STANDSTILL = 3
+    HELD_TO_EITHER = 4
+
+
 STATES, SUPERVISIONS, TARGETS = "CTR", "NIOWX", "-MESL"  # how the program writes them
+RULES = ("-", "ceiling", "target", "end of authority", "release speed", "no service brake")
+STANDINGS = (
+    "off",
+    "set",
+    "held until permitted speed",
+    "held until standstill",
+    "held until standstill or permitted speed",
+)
 
 
 @dataclass(frozen=True)
@@ -133,6 +162,7 @@ class Display:
     ebi_kmh: int
     release_kmh: int
     target: Target
+    target_kmh: int
     distance_mm: int
 
     def text(self) -> str:
@@ -140,3 +170,41 @@ class Display:
         distance = "-" if self.target == Target.NONE else str(self.distance_mm)
         speeds = f"{self.permitted_kmh},{self.sbi_kmh},{self.ebi_kmh},{self.release_kmh}"
         return f"{self.time_ds},{speeds},{TARGETS[self.target]},{distance}\n"
+
+
+@dataclass(frozen=True)
+class Cause:
+    """The first cause of a trigger. The target with its speed, its place and the limit that is passed is there where
+    the rule is TARGET; else it is NONE, and the numbers are 0."""
+
+    rule: Rule
+    target: Target
+    target_kmh: int
+    target_mm: int
+    limit_mm: int
+
+    def text(self) -> str:
+        """Its words, as the program writes them."""
+        if self.rule != Rule.TARGET:
+            return RULES[self.rule]
+        return f"target {TARGETS[self.target]} {self.target_mm} {self.target_kmh} {self.limit_mm}"
+
+
+@dataclass(frozen=True)
+class Causes:
+    """How each command stands after a reading, and why it triggers; a trigger that doesn't hold is None."""
+
+    time_ds: int
+    tco: Standing
+    sb: Standing
+    eb: Standing
+    over: Cause | None
+    warn: Cause | None
+    serv: Cause | None
+    emer: Cause | None
+
+    def text(self) -> str:
+        """Its line, as the program writes it."""
+        triggers = ("-" if cause is None else cause.text() for cause in (self.over, self.warn, self.serv, self.emer))
+        commands = (STANDINGS[standing] for standing in (self.tco, self.sb, self.eb))
+        return ",".join([str(self.time_ds), *triggers, *commands]) + "\n"

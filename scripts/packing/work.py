@@ -11,9 +11,10 @@ from .facts import Contents, Fault, Release, ran
 
 
 def files_of(release: Release, into: Path) -> Path:
-    """Writes the files of the release's commit into a folder that is made."""
+    """Writes the files of the release's commit into a folder that is made, and the vectors, which no commit has."""
     into.mkdir()
     ran("tar", "--extract", f"--directory={into}", given=ran("git", "archive", "--format=tar", release.commit))
+    ran(into / "vectors" / "make")
     return into
 
 

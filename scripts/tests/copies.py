@@ -69,6 +69,23 @@ def alter(top: Path, file: str, pattern: str, new: str) -> None:
     (top / file).write_text(text)
 
 
+def keep_groups(top: Path, *groups: str) -> None:
+    """Leaves some groups of vectors/ to the maker of a copy, which would take its time for all."""
+    fewer = f"GROUPS = {{name: GROUPS[name] for name in {groups}}}\n\n\n"
+    alter(top, "vectors/maker/files.py", "^(?=def files_of)", fewer)
+    digests = top / "vectors" / "DIGESTS"
+    lines = digests.read_text().splitlines(keepends=True)
+    digests.write_text("".join(line for line in lines if line.startswith(tuple(f"{group} " for group in groups))))
+
+
+def no_vectors(top: Path) -> None:
+    """Puts a maker into a copy without vectors/ that makes none."""
+    maker = top / "vectors" / "make"
+    maker.parent.mkdir()
+    maker.write_text("#!/bin/bash\n")
+    maker.chmod(0o755)
+
+
 def stand_in(top: Path, filtered: str = "cat", status: str = "", name: str = "crates/sdm/out/sdm") -> None:
     """A program in a copy that does as the model of this repository, its rows through a filter, or with another exit
     status."""

@@ -9,7 +9,11 @@ CLAIMS = [
     ("run", ["IsRun", "IsSafe", "run_shape"], ["Trial.antt", "sdm_drive/", "sdm_certify/", "flat_shape", "IsReadBack"]),
     ("flat", ["flat_output", "flat_shape"], ["sdm_data/", "sdm_events/", "Trial.antt", "IsRun"]),
     ("upgrade", ["IsReadBack", "upgrade_shape"], ["sdm_events/", "IsSafe", "row_of"]),
-    ("supervisor", ["IsSafe", "row_of"], ["sdm_data/", "sdm_run/", "Input.antt"]),
+    (
+        "supervisor",
+        ["IsSafe", "row_of", "display_of", "IsReleaseSpeed", "is_within_svl"],
+        ["sdm_data/", "sdm_run/", "Input.antt"],
+    ),
     ("C", ["IsSafe", "row_of", "display_of"], ["sdm_run/", "sdm_events/"]),
 ]
 

@@ -40,6 +40,7 @@ class OverACopy(unittest.TestCase):
         copy = copies.a_copy(self.parts)
         self.top = copy.__enter__()
         self.addCleanup(copy.__exit__, None, None, None)
+        copies.no_vectors(self.top)
 
     def told(self, *words: str, status: int = 1) -> str:
         """What a script tells that ends with a status."""
@@ -180,6 +181,14 @@ class Answers(OverACopy):
         self.assertRegex(self.told("scripts/examples"), "the rows differ")
         self.assertRegex(self.told(*AT_THE_CEILING), r"row \d+ differs")
 
+    def test_a_live_program_that_tells_no_rows_is_told(self):
+        copies.stand_in(self.top, "cat", name="model")
+        live = 'sed -n "/^%%$/,\\$p" | sed "1d;s/.*/taken/"'
+        program = self.top / "crates/sdm/out/sdm"
+        program.write_text(f'#!/bin/bash\n[ "$1" = live ] || exec {self.top}/model "$@"\n{live}\n')
+        copies.marked_as_it_is(self.top)
+        self.assertIn("approach: other rows than those of run", self.told("scripts/check-live"))
+
     def test_a_build_that_differs_from_the_other_is_told(self):
         words = ["scripts/check-compilers", "--seed", "10", "--journeys", "1"]
         self.assertIn("There is no program at", self.told(*words))
@@ -247,8 +256,8 @@ class Answers(OverACopy):
         self.assertRegex(self.told(*AT_THE_CEILING), r"row \d+ differs")
 
 
-CALLS = ["open", "cycle", "end", "end_calculated", "limit", "restrict", "revoke", "take_over", "display"]
-CLOSED = "unsigned sdm_layout(void) { return 1; }\nvoid sdm_close(void *h) { (void)h; }\n" + "".join(
+CALLS = ["open", "cycle", "end", "end_calculated", "limit", "restrict", "revoke", "take_over", "display", "causes"]
+CLOSED = "unsigned sdm_layout(void) { return 2; }\nvoid sdm_close(void *h) { (void)h; }\n" + "".join(
     f"unsigned sdm_{call}(void *h) {{ (void)h; return 1; }}\n" for call in CALLS
 )
 
@@ -280,7 +289,7 @@ class Replays(OverACopy):
         return self.told("compare", status=status)
 
     def test_a_replay_that_does_as_the_program_passes(self):
-        self.assertIn("examples: 8 the same, 0 differ", self.compared(status=0))
+        self.assertIn("examples: 12 the same, 0 differ", self.compared(status=0))
 
     def test_another_row_line_or_code_is_told(self):
         told = self.compared("sed 's/^0,T,W/0,T,X/; s/,0,E,200010$/,0,S,200010/'")
@@ -299,10 +308,12 @@ class Replays(OverACopy):
 
     def test_a_call_whose_answer_may_be_overlooked_is_told(self):
         copies.alter(self.top, "c/sdm.h", r"^SDM_MUST_CHECK (uint32_t sdm_revoke)", r"\1")
-        self.assertIn("cc warns of 8 answers that aren't looked at, of 8", self.told("scripts/check-c", self.library()))
+        self.assertIn("cc warns of 9 answers that aren't looked at, of 9", self.told("scripts/check-c", self.library()))
         copies.alter(self.top, "c/sdm.h", r"^uint32_t sdm_revoke", "SDM_MUST_CHECK uint32_t sdm_revoke")
         copies.alter(self.top, "c/sdm.h", r"^#elif defined\(__GNUC__\)", "#elif 0")
-        self.assertIn("cc warns of 0 answers that aren't looked at, of 9", self.told("scripts/check-c", self.library()))
+        self.assertIn(
+            "cc warns of 0 answers that aren't looked at, of 10", self.told("scripts/check-c", self.library())
+        )
 
     def test_a_library_that_asks_for_more_is_told(self):
         more = "int rand(void); int more(void); int more(void) { return rand(); }\n"

@@ -87,8 +87,9 @@ class Libraries(Scratch):
         self.assertEqual(
             sorted(shown), sorted([f"SDM_{RELEASE.layout}", *(f"{call}@@SDM_{RELEASE.layout}" for call in CALLS)])
         )
-        dynamic = printed("readelf", "--dynamic", self.top / "lib" / "libsdm.so.1")
-        self.assertIn("[libsdm.so.1]", dynamic)
+        name = f"libsdm.so.{RELEASE.layout}"
+        dynamic = printed("readelf", "--dynamic", self.top / "lib" / name)
+        self.assertIn(f"[{name}]", dynamic)
         self.assertEqual(dynamic.count("(NEEDED)"), 1)
         self.assertIn("[libc.so.6]", dynamic)
 

@@ -11,6 +11,7 @@ import importlib.abc
 import importlib.util
 import os
 import resource
+import subprocess
 import sys
 from pathlib import Path
 
@@ -116,6 +117,7 @@ def main(words):
     if len(words) > 1 or words[:1] == ["--help"]:
         print(__doc__.strip())
         return 2
+    subprocess.run([VECTORS / "make", "missing"], check=True)
     lines = list(lines_of(words[0] if words and words != ["write"] else ""))
     missed = sum("**none**" in line for line in lines)
     print(f"mutants: {len(lines) - missed} of {len(lines)} are found")

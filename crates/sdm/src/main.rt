@@ -2,7 +2,9 @@
 #![tactic(auto)]
 
 use sdm_io::{BlockSink, StdSink, StdSource};
+use sdm_live_run::{StreamPeer, sdm_live_main};
 use sdm_run::{Outcome, sdm_main, told};
+use sdm_words::{Asked, asked_of, tell_about};
 use std::env;
 use std::io::ErrorKind;
 use std::process::ExitCode;
@@ -30,7 +32,13 @@ fn main(rt: HostRuntime) -> ExitCode {
     let outcome = match (words_of(&rt), BlockSink::new(rt.alloc(), rt.stdout())) {
         (Some(words), Ok(mut out)) => {
             let mut input = StdSource::new(rt.stdin());
-            sdm_main(rt.alloc(), &words, &mut input, &mut out, &mut err)
+            match asked_of(&words) {
+                Asked::Live => {
+                    sdm_live_main(rt.alloc(), &mut StreamPeer::new(input, out), &mut err)
+                }
+                Asked::About(about) => told(tell_about(about, &mut out), &mut err),
+                Asked::Command => sdm_main(rt.alloc(), &words, &mut input, &mut out, &mut err),
+            }
         }
         _ => told(Outcome::Memory, &mut err),
     };

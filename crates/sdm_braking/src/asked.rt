@@ -5,6 +5,7 @@
 ghost use Rattle.std.specs.Prelude.{◌≡◌};
 ghost use Rattle.sdm_rules.specs.Data.{TrainAndTrack};
 ghost use Rattle.sdm_rules.specs.Limits.{v_bec_for};
+ghost use Rattle.sdm_rules.specs.Reaction.{v_delta0};
 ghost use Rattle.sdm_rules.specs.Supervision.{is_met_by_speed};
 ghost use Rattle.sdm_rules.specs.Targets.{foot_speed_of};
 ghost use Rattle.sdm_targets.specs.Lists.{IsTarget};
@@ -35,6 +36,19 @@ pub struct AskedEstimate {
 }
 
 impl Braking {
+    /// V_delta0: by how much the true speed may be above an estimated one that is read too low by so much; 0 where the
+    /// compensation of under-reading is inhibited. (SUBSET-026-3 3.13.9.3.2)
+    #[inline]
+    pub fn v_delta0(&self, under: Speed) -> Speed
+        ensures { result ≡ v_delta0 self.now under }
+    {
+        if self.inhibits_under_reading() {
+            Speed::new(0)
+        } else {
+            under
+        }
+    }
+
     /// An estimate with what the limits of this journey ask of it.
     // In line, as the limits that ask by it.
     #[inline(always)]
@@ -43,12 +57,7 @@ impl Braking {
         ensures asked { IsAsked self.now result }
     {
         let v_est = estimate.speed();
-        // V_delta0 is 0 where the compensation of under-reading is inhibited (SUBSET-026-3 3.13.9.3.2)
-        let v_delta0 = if self.inhibits_under_reading() {
-            Speed::new(0)
-        } else {
-            estimate.under()
-        };
+        let v_delta0 = self.v_delta0(estimate.under());
         let build_up = BuildUp::of(self.times(), v_est, v_delta0, estimate.accel());
         // the slowest of the targets stands for all that are no faster than the train
         let reaction = build_up.reaction(Speed::new(0));

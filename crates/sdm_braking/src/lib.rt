@@ -13,6 +13,7 @@ mod kept_targets;
 mod limits;
 mod releases;
 mod speeds;
+mod train_and_track;
 
 pub use asked::AskedEstimate;
 pub use braking::Braking;
@@ -23,3 +24,4 @@ pub use kept_falls::KeptFalls;
 pub use kept_targets::KeptTarget;
 pub use releases::Release;
 pub use speeds::SpeedLimits;
+pub use train_and_track::TrainAndTrack;

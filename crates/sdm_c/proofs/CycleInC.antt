@@ -7,6 +7,8 @@ use Rattle.sdm_rules.specs.declared.rows.Row.{Row}
 use Rattle.sdm_rules.specs.Supervision.{Supervision, row_of}
 use Rattle.sdm_laws.specs.Falls.{MeetsFalls}
 use Rattle.sdm_row_laws.specs.AllCommands.{KeepsAllOrder}
+use Rattle.sdm_row_laws.specs.CoveredFalls.{MeetsEachFall}
+use Rattle.sdm_row_laws.specs.OpenTurns.{HasNearLimits}
 use Rattle.sdm_row_laws.specs.ServiceStop.{CommandsNoBrake, StopsByItsEoa}
 use Rattle.sdm_c.specs.declared.handle.Handle.{Handle}
 use Rattle.sdm_c.specs.declared.structs.RowC.{RowC}
@@ -38,6 +40,15 @@ module _ (s : Supervision) (r given : OdometerReading) (row : Row) (same : r ≡
       let covered_is : flag row.covered ≡ 1 = subst (λ (x : RowC). x.covered ≡ 1) is covered in
       let eb_is : flag row.held.eb ≡ 0 = subst (λ (x : RowC). x.eb ≡ 0) is eb in
       subst (MeetsFalls s) same (meets (set_is row.covered covered_is) (clear_is row.held.eb eb_is))
+
+  pub each_fall_in_c : (told : RowC) → told ≡ row_in_c row → (IsTrue row.covered → MeetsEachFall s r) →
+      told.covered ≡ 1 → MeetsEachFall s given
+  each_fall_in_c told is meets covered =
+      let covered_is : flag row.covered ≡ 1 = subst (λ (x : RowC). x.covered ≡ 1) is covered in
+      subst (MeetsEachFall s) same (meets (set_is row.covered covered_is))
+
+  pub limits_in_c : HasNearLimits s r → HasNearLimits s given
+  limits_in_c near = subst (HasNearLimits s) same near
 
 -- the supervisor that is lent is in the state of the handle
 pub lent_state : (h asked : Handle) (lent : Supervision) → asked ≡ h → lent ≡ asked.state → lent ≡ h.state

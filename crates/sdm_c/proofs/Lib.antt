@@ -2,5 +2,4 @@ pub mod RawBoxSteps
 pub mod HandleSteps
 pub mod ReadingRanges
 pub mod Returned
-pub mod Answered
 pub mod CycleInC

@@ -1,4 +1,4 @@
--- What is told to C: codes for enums, 0 and 1 for flags (own). `sdm.h` names the codes.
+-- The values that C receives: codes for enums, 0 and 1 for flags (own). `sdm.h` names the codes.
 use Rattle.std.specs.Prelude.{◌≡◌, ℕ, ℤ, pos, Bool, List, Option, Some, None, length, take, if◌then◌else◌}
 use Rattle.sdm_rules.specs.declared.commands.State.{State}
 use Rattle.sdm_rules.specs.declared.commands.State.TheVariants.{C, T, R}
@@ -9,6 +9,16 @@ use Rattle.sdm_rules.specs.declared.display.Shown.{Shown}
 use Rattle.sdm_rules.specs.declared.rows.Row.{Row}
 use Rattle.sdm_rules.specs.declared.targets.TargetKind.{TargetKind}
 use Rattle.sdm_rules.specs.declared.targets.TargetKind.TheVariants.{Mrsp, Loa, Eoa, Svl}
+use Rattle.sdm_causes.specs.declared.causes.Cause.{Cause}
+use Rattle.sdm_causes.specs.declared.causes.Cause.TheVariants.{Ceiling, Passed, EndOfAuthority, ReleaseSpeed}
+use Rattle.sdm_causes.specs.declared.causes.Cause.TheVariants.{NoServiceBrake}
+use Rattle.sdm_causes.specs.declared.causes.Causes.{Causes}
+use Rattle.sdm_causes.specs.declared.causes.Standing.{Standing}
+use Rattle.sdm_causes.specs.declared.causes.Standing.TheVariants.{Off, Set, Held}
+use Rattle.sdm_causes.specs.declared.causes.Until.{Until}
+use Rattle.sdm_causes.specs.declared.causes.Until.TheVariants.{PermittedSpeed, Standstill, StandstillOrPermittedSpeed}
+use Rattle.sdm_c.specs.declared.structs.CauseC.{CauseC}
+use Rattle.sdm_c.specs.declared.structs.CausesC.{CausesC}
 use Rattle.sdm_c.specs.declared.structs.DisplayC.{DisplayC}
 use Rattle.sdm_c.specs.declared.structs.LineC.{LineC}
 use Rattle.sdm_c.specs.declared.structs.PlaceC.{PlaceC}
@@ -68,6 +78,11 @@ abbrev pub target_code : Option Shown → ℕ
 target_code None = 0
 target_code (Some shown) = kind_code shown.kind
 
+-- the speed of the target that counts in km/h; 0 where there is none (own)
+abbrev pub target_kmh_in_c : Option Shown → ℕ
+target_kmh_in_c None = 0
+target_kmh_in_c (Some shown) = shown.speed
+
 -- the distance to the target that counts in mm; 0 where there is none (own)
 abbrev pub distance_in_c : Option Shown → ℤ
 distance_in_c None = pos 0
@@ -82,7 +97,60 @@ display_in_c display = record {
   ebi_kmh = display.ebi;
   release_kmh = display.release;
   target = target_code display.shown;
+  target_kmh = target_kmh_in_c display.shown;
   distance_mm = distance_in_c display.shown;
+}
+
+-- the rule of a cause: the ceiling, a target, the end of the authority, the release speed, no service brake in use (own)
+abbrev pub rule_code : Cause → ℕ
+rule_code Ceiling = 1
+rule_code (Passed target) = 2
+rule_code EndOfAuthority = 3
+rule_code ReleaseSpeed = 4
+rule_code NoServiceBrake = 5
+
+-- a rule alone, of no target; 0 for none (own)
+abbrev pub rule_in_c : ℕ → CauseC
+rule_in_c rule = record { rule = rule; target = 0; target_kmh = 0; target_mm = pos 0; limit_mm = pos 0 }
+
+-- the cause of a trigger, none where it doesn't hold (own)
+abbrev pub cause_in_c : Option Cause → CauseC
+cause_in_c None = rule_in_c 0
+cause_in_c (Some Ceiling) = rule_in_c (rule_code Ceiling)
+cause_in_c (Some (Passed target)) = record {
+  rule = rule_code (Passed target);
+  target = kind_code target.kind;
+  target_kmh = target.speed;
+  target_mm = target.place;
+  limit_mm = target.limit;
+}
+cause_in_c (Some EndOfAuthority) = rule_in_c (rule_code EndOfAuthority)
+cause_in_c (Some ReleaseSpeed) = rule_in_c (rule_code ReleaseSpeed)
+cause_in_c (Some NoServiceBrake) = rule_in_c (rule_code NoServiceBrake)
+
+-- until what a command is held: the permitted speed, standstill, either (own)
+abbrev pub until_code : Until → ℕ
+until_code PermittedSpeed = 2
+until_code Standstill = 3
+until_code StandstillOrPermittedSpeed = 4
+
+-- how a command stands: off, set, held until something (own)
+abbrev pub standing_code : Standing → ℕ
+standing_code Off = 0
+standing_code Set = 1
+standing_code (Held until) = until_code until
+
+-- the causes of a reading (own)
+unfoldable pub causes_in_c : Causes → CausesC
+causes_in_c causes = record {
+  time_ds = causes.time;
+  tco = standing_code causes.tco;
+  sb = standing_code causes.sb;
+  eb = standing_code causes.eb;
+  over = cause_in_c causes.over;
+  warn = cause_in_c causes.warn;
+  serv = cause_in_c causes.serv;
+  emer = cause_in_c causes.emer;
 }
 
 -- the line is this text: so many of its bytes (own)

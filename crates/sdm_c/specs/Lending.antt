@@ -1,4 +1,4 @@
--- What a handle is: as it was first, and once the supervisor that it lent comes back (own).
+-- A handle: its initial value, and its value once the supervisor that it lends comes back (own).
 use Rattle.std.specs.Prelude.{◌≡◌}
 use Rattle.std.specs.Borrow.{Lends, MutBor, Fml}
 use denote.RawPtr.{null_ptr}

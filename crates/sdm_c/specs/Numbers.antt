@@ -1,4 +1,4 @@
--- C's numbers: which are in their ranges, and what they are then (ranges own).
+-- The numbers that C passes: which are in their ranges, and the values that those stand for (ranges own).
 use Rattle.std.specs.Prelude.{ℕ, ℤ, pos, negsuc, Bool, ◌&&◌, ◌==◌, nat_le, if◌then◌else◌}
 use Rattle.sdm_num.specs.Readings.{OdometerReading, reading_of}
 use Rattle.sdm_rules.specs.declared.restrictions.Restriction.{Restriction}

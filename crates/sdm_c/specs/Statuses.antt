@@ -1,6 +1,5 @@
--- THE STATUS OF EACH CALL, as a function of the supervision state and the numbers that are handed in (own). Where more
--- than one thing is wrong a closed handle comes first, then a number outside its range, then what the supervisor
--- refuses.
+-- The status of each call, as a function of the supervision state and the numbers passed (own). A call with several
+-- faults returns the first of these: the handle is closed, a number is outside its range, the supervisor refuses.
 use Rattle.std.specs.Prelude.{◌≡◌, ℕ, Bool, Option, Some, None, ◌==◌, ◌||◌, if◌then◌else◌}
 use Rattle.sdm_rules.specs.declared.authorities.Authority.{Authority}
 use Rattle.sdm_rules.specs.declared.authorities.Authority.TheVariants.{Stop, Limit}
@@ -162,7 +161,7 @@ take_over_answer next before =
     if is_fresh next then change_status (take_over_fault next.train_and_track.track.length_cm before.restrictions)
     else not_fresh
 
--- of what is shown of a reading (own)
+-- of what is told of a reading, what a driver is shown or its causes (own)
 abbrev pub display_answer : ReadingC → ℕ
 display_answer r = in_range (is_reading r) done
 
@@ -208,6 +207,6 @@ revocation_status h id = unless_closed h (λ s. revoke_answer s id)
 abbrev pub take_over_status : Handle → Handle → ℕ
 take_over_status next before = unless_closed next (λ n. unless_closed before (λ b. take_over_answer n b))
 
--- of `sdm_display` (own)
+-- of `sdm_display` and `sdm_causes` (own)
 abbrev pub display_status : Handle → ReadingC → ℕ
 display_status h r = unless_closed h (λ s. display_answer r)

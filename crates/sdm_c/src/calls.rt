@@ -11,20 +11,23 @@ ghost use Rattle.sdm_rules.specs.Supervision.{after_authority, after_reading, af
 ghost use Rattle.sdm_rules.specs.Supervision.{row_of};
 ghost use Rattle.sdm_laws.specs.Falls.{MeetsFalls};
 ghost use Rattle.sdm_row_laws.specs.AllCommands.{KeepsAllOrder};
+ghost use Rattle.sdm_row_laws.specs.CoveredFalls.{MeetsEachFall};
+ghost use Rattle.sdm_row_laws.specs.OpenTurns.{HasNearLimits};
 ghost use Rattle.sdm_row_laws.specs.ServiceStop.{CommandsNoBrake, StopsByItsEoa};
 ghost use Rattle.sdm_rules.specs.TakeOver.{taken_over};
-ghost use Rattle.sdm_c.specs.Codes.{display_in_c, row_in_c};
+ghost use Rattle.sdm_causes.specs.Causes.{causes_of};
+ghost use Rattle.sdm_c.specs.Codes.{causes_in_c, display_in_c, row_in_c};
 ghost use Rattle.sdm_c.specs.Numbers.{reading_from, restriction_from};
 ghost use Rattle.sdm_c.specs.Statuses.{authority_answer, calculated_answer, cycle_answer, display_answer};
 ghost use Rattle.sdm_c.specs.Statuses.{restrict_answer, revoke_answer, take_over_answer};
 
-use crate::codes::{display_in_c, row_in_c};
+use crate::codes::{causes_in_c, display_in_c, row_in_c};
 use crate::numbers::{identity_from, kmh_taken, reading_from, restriction_from};
 use crate::statuses::{
     DONE, NOT_FRESH, OUT_OF_RANGE, TIME_BACK, UNKNOWN_ID, of_authority, of_restriction,
     of_take_over, of_trip,
 };
-use crate::structs::{DisplayC, ReadingC, RestrictionC, RowC};
+use crate::structs::{CausesC, DisplayC, ReadingC, RestrictionC, RowC};
 use sdm_display::display_of;
 use sdm_rules::Authority;
 use sdm_supervisor::Supervisor;
@@ -43,6 +46,9 @@ pub fn cycle(supervisor: &mut Supervisor, reading: ReadingC, row: &mut RowC) -> 
         StopsByItsEoa supervisor.old (reading_from reading) }
     ensures falls { result ≡ DONE → row.new.covered ≡ 1 → row.new.eb ≡ 0 →
         MeetsFalls supervisor.old (reading_from reading) }
+    ensures each_fall { result ≡ DONE → row.new.covered ≡ 1 →
+        MeetsEachFall supervisor.old (reading_from reading) }
+    ensures limits { result ≡ DONE → HasNearLimits supervisor.old (reading_from reading) }
     ensures gaps { result ≡ DONE → row.new.eb ≡ 0 → HasOnlyGaps supervisor.old (reading_from reading) }
     ensures ceiling { result ≡ DONE → row.new.eb ≡ 0 →
         IsWithinCeiling (reading_from reading) (row_of supervisor.old (reading_from reading)) }
@@ -163,5 +169,18 @@ pub fn display(supervisor: &Supervisor, reading: ReadingC, display: &mut Display
         return OUT_OF_RANGE;
     };
     *display = display_in_c(display_of(supervisor, &reading));
+    DONE
+}
+
+/// Writes the causes of a reading. (own)
+pub fn causes(supervisor: &Supervisor, reading: ReadingC, causes: &mut CausesC) -> u32
+    ensures status { result ≡ display_answer reading }
+    ensures told { result ≡ DONE → causes.new ≡ causes_in_c (causes_of supervisor.now (reading_from reading)) }
+    ensures same_causes { ¬ (result ≡ DONE) → causes.new ≡ causes.old }
+{
+    let Some(reading) = reading_from(reading) else {
+        return OUT_OF_RANGE;
+    };
+    *causes = causes_in_c(supervisor.causes(&reading));
     DONE
 }

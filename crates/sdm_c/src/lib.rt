@@ -24,34 +24,39 @@ ghost use Rattle.sdm_rules.specs.Supervision.{after_authority, after_reading, af
 ghost use Rattle.sdm_rules.specs.Supervision.{row_of};
 ghost use Rattle.sdm_laws.specs.Falls.{MeetsFalls};
 ghost use Rattle.sdm_row_laws.specs.AllCommands.{KeepsAllOrder};
+ghost use Rattle.sdm_row_laws.specs.CoveredFalls.{MeetsEachFall};
+ghost use Rattle.sdm_row_laws.specs.OpenTurns.{HasNearLimits};
 ghost use Rattle.sdm_row_laws.specs.ServiceStop.{CommandsNoBrake, StopsByItsEoa};
 ghost use Rattle.sdm_rules.specs.TakeOver.{taken_over};
 ghost use Rattle.sdm_report.specs.OutcomeLines.{outcome_line};
-ghost use Rattle.sdm_c.specs.Codes.{IsLine, display_in_c, row_in_c};
+ghost use Rattle.sdm_causes.specs.Causes.{causes_of};
+ghost use Rattle.sdm_opening.specs.Openings.{IsOpeningOf};
+ghost use Rattle.sdm_c.specs.Codes.{IsLine, causes_in_c, display_in_c, row_in_c};
 ghost use Rattle.sdm_c.specs.Lending.{IsInit, with_state};
 ghost use Rattle.sdm_c.specs.Numbers.{reading_from, restriction_from};
-ghost use Rattle.sdm_c.specs.Openings.{IsBadData, IsOpeningOf, IsRefused};
+ghost use Rattle.sdm_c.specs.Openings.{IsBadData, IsRefused};
 ghost use Rattle.sdm_c.specs.Statuses.{IsOpen, cycle_status, display_status, end_calculated_status, end_status};
 ghost use Rattle.sdm_c.specs.Statuses.{limit_status, is_open_status, restriction_status, revocation_status};
 ghost use Rattle.sdm_c.specs.Statuses.{take_over_status};
 
 use codes::put_line;
 use handle::Handle;
-use openings::{NoOpening, opened};
+use openings::opened_on_heap;
 use raw_boxes::RawBox;
+use sdm_opening::NoOpening;
 use sdm_report::{Outcome, outcome_bytes};
 use sdm_text::RowBuf;
 use statuses::{BAD_DATA, CLOSED, DONE, IN_USE, NO_MEMORY, REFUSED};
 use std::alloc::Global;
-use structs::{DisplayC, LineC, ReadingC, RestrictionC, RowC};
+use structs::{CausesC, DisplayC, LineC, ReadingC, RestrictionC, RowC};
 
 /// The number of the layout of `sdm.h`.
-pub const LAYOUT: u32 = 1;
+pub const LAYOUT: u32 = 2;
 
 /// The number of the layout of `sdm.h`, which a program compares with its own when it starts. (own)
 #[unsafe(no_mangle)]
 pub extern "C" fn sdm_layout() -> u32
-    ensures { result ≡ 1 }
+    ensures { result ≡ 2 }
 {
     LAYOUT
 }
@@ -81,7 +86,7 @@ pub extern "C" fn sdm_open(alloc: Global, h: &mut Handle, given: &[u8], line: &m
     if h.is_open() {
         return IN_USE;
     }
-    match opened(alloc, given) {
+    match opened_on_heap(alloc, given) {
         Ok(supervisor) => {
             std::mem::replace(h, Handle::of(RawBox::of(supervisor))).discard();
             DONE
@@ -116,6 +121,9 @@ pub extern "C" fn sdm_cycle(h: &mut Handle, reading: &ReadingC, row: &mut RowC) 
         StopsByItsEoa h.old.state (reading_from reading.now) }
     ensures falls { result ≡ DONE → row.new.covered ≡ 1 → row.new.eb ≡ 0 →
         MeetsFalls h.old.state (reading_from reading.now) }
+    ensures each_fall { result ≡ DONE → row.new.covered ≡ 1 →
+        MeetsEachFall h.old.state (reading_from reading.now) }
+    ensures limits { result ≡ DONE → HasNearLimits h.old.state (reading_from reading.now) }
     ensures gaps { result ≡ DONE → row.new.eb ≡ 0 → HasOnlyGaps h.old.state (reading_from reading.now) }
     ensures ceiling { result ≡ DONE → row.new.eb ≡ 0 →
         IsWithinCeiling (reading_from reading.now) (row_of h.old.state (reading_from reading.now)) }
@@ -230,6 +238,20 @@ pub extern "C" fn sdm_display(h: &mut Handle, reading: &ReadingC, display: &mut 
         return CLOSED;
     }
     calls::display(h.supervisor(), *reading, display)
+}
+
+/// Writes why a reading triggers, and how each command stands after it, in the state after it. (own)
+#[unsafe(no_mangle)]
+pub extern "C" fn sdm_causes(h: &mut Handle, reading: &ReadingC, causes: &mut CausesC) -> u32
+    ensures status { result ≡ display_status h.old reading.now }
+    ensures told { result ≡ DONE → causes.new ≡ causes_in_c (causes_of h.old.state (reading_from reading.now)) }
+    ensures same_causes { ¬ (result ≡ DONE) → causes.new ≡ causes.old }
+    ensures unchanged { h.new ≡ h.old }
+{
+    if !h.is_open() {
+        return CLOSED;
+    }
+    calls::causes(h.supervisor(), *reading, causes)
 }
 
 /// Gives the memory back; a handle without a supervisor stays as it is. (own)

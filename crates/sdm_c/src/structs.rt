@@ -95,8 +95,48 @@ pub struct DisplayC {
     pub release_kmh: u32,
     /// The kind of the target that counts: `enum sdm_target`.
     pub target: u32,
+    /// That target's speed in km/h; 0 where there is none.
+    pub target_kmh: u32,
     /// From the train to that target in mm; 0 where there is none.
     pub distance_mm: i64,
+}
+
+/// Why a trigger of a reading holds, or that it doesn't: `struct sdm_cause`.
+#[repr(C)]
+#[derive(Clone, Copy)]
+pub struct CauseC {
+    /// By which rule: `enum sdm_rule`.
+    pub rule: u32,
+    /// The kind of the target that is passed: `enum sdm_target`.
+    pub target: u32,
+    /// That target's speed in km/h; 0 where there is none.
+    pub target_kmh: u32,
+    /// That target's place in mm; 0 where there is none.
+    pub target_mm: i64,
+    /// The limit by which it is passed, in mm; 0 where there is none.
+    pub limit_mm: i64,
+}
+
+/// Why a reading triggers, and how each command stands after it: `struct sdm_causes`.
+#[repr(C)]
+#[derive(Clone, Copy)]
+pub struct CausesC {
+    /// Time of the reading in ds.
+    pub time_ds: u32,
+    /// Traction cut-off: `enum sdm_standing`.
+    pub tco: u32,
+    /// Service brake: `enum sdm_standing`.
+    pub sb: u32,
+    /// Emergency brake: `enum sdm_standing`.
+    pub eb: u32,
+    /// Why the train is above the permitted speed.
+    pub over: CauseC,
+    /// Why a warning limit is passed.
+    pub warn: CauseC,
+    /// Why an SBI is passed.
+    pub serv: CauseC,
+    /// Why there is an emergency.
+    pub emer: CauseC,
 }
 
 /// The line of data that are refused: `struct sdm_line`.
@@ -120,6 +160,10 @@ const _: () = prove!(size_of::<RowC>() == 112);
 
 const _: () = prove!(size_of::<RestrictionC>() == 20);
 
-const _: () = prove!(size_of::<DisplayC>() == 32);
+const _: () = prove!(size_of::<DisplayC>() == 40);
+
+const _: () = prove!(size_of::<CauseC>() == 32);
+
+const _: () = prove!(size_of::<CausesC>() == 144);
 
 const _: () = prove!(size_of::<LineC>() == 196);

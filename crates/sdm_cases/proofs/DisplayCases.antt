@@ -162,14 +162,14 @@ shown_at v targets est front = shown_target short_line (reading_at 0 front v) (t
 
 -- EOA and SvL at one place have the same permitted limit: the first counts, and the estimated front end
 eoa_before_svl : shown_at 540_000 (target_at Eoa 10 0 ∷ target_at Svl 10 0 ∷ []) (metres 7) (metres 8)
-    ≡ Some (record { kind = Eoa; distance = pos 3_000 })
+    ≡ Some (record { kind = Eoa; speed = 0; distance = pos 3_000 })
 unfolding towards target_at metres reading_at plain_train_and_track plain_national plain_band counting_target
     limits_of reaction_times slopes_of slope_at stepped place_at corner arc arc_back back
 eoa_before_svl = refl
 
 -- the SvL, if it comes first, with the max safe front end
 svl_before_eoa : shown_at 540_000 (target_at Svl 10 0 ∷ target_at Eoa 10 0 ∷ []) (metres 7) (metres 8)
-    ≡ Some (record { kind = Svl; distance = pos 2_000 })
+    ≡ Some (record { kind = Svl; speed = 0; distance = pos 2_000 })
 unfolding towards target_at metres reading_at plain_train_and_track plain_national plain_band counting_target
     limits_of reaction_times slopes_of slope_at stepped place_at corner arc arc_back back
 svl_before_eoa = refl
@@ -181,14 +181,14 @@ fall_and_end = target_at Mrsp 9 36 ∷ target_at Eoa 200 0 ∷ []
 -- at 36 km/h the fall doesn't count, though its permitted limit is the earlier one: at 9 + 23 - 40 m, since its curve
 -- runs on 23 m past it to this speed, against 200 - 50 - 40 m
 at_the_target_speed : shown_at 540_000 fall_and_end (metres 7) (metres 8)
-    ≡ Some (record { kind = Eoa; distance = pos 193_000 })
+    ≡ Some (record { kind = Eoa; speed = 0; distance = pos 193_000 })
 unfolding fall_and_end towards target_at metres reading_at plain_train_and_track plain_national plain_band
     counting_target limits_of reaction_times slopes_of slope_at stepped place_at corner arc arc_back back
 at_the_target_speed = refl
 
 -- a notch faster it does
 above_the_target_speed : shown_at 540_001 fall_and_end (metres 7) (metres 8)
-    ≡ Some (record { kind = Mrsp; distance = pos 1_000 })
+    ≡ Some (record { kind = Mrsp; speed = 36; distance = pos 1_000 })
 unfolding fall_and_end towards target_at metres reading_at plain_train_and_track plain_national plain_band
     counting_target limits_of reaction_times slopes_of slope_at stepped place_at corner arc arc_back back
 above_the_target_speed = refl
@@ -196,7 +196,7 @@ above_the_target_speed = refl
 -- the nearer target is not the one that counts where the farther one's permitted limit is earlier: an EOA at 30 m has
 -- it at 30 - 50 - 40 m, a fall to 35 km/h at 9 m at 9 + 19.7 - 40 m
 farther_but_sooner : shown_at 540_000 (target_at Mrsp 9 35 ∷ target_at Eoa 30 0 ∷ []) (metres 7) (metres 8)
-    ≡ Some (record { kind = Eoa; distance = pos 23_000 })
+    ≡ Some (record { kind = Eoa; speed = 0; distance = pos 23_000 })
 unfolding towards target_at metres reading_at plain_train_and_track plain_national plain_band counting_target
     limits_of reaction_times slopes_of slope_at stepped place_at corner arc arc_back back
 farther_but_sooner = refl
@@ -219,7 +219,7 @@ guided_line =
 by_the_permitted_limit :
     shown_target guided_line (reading_at 0 (metres 4) 108_000)
     (towards (target_at Svl 5 0 ∷ target_at Eoa 10 0 ∷ []) (metres 4) (metres 4))
-    ≡ Some (record { kind = Eoa; distance = pos 6_000 })
+    ≡ Some (record { kind = Eoa; speed = 0; distance = pos 6_000 })
 unfolding guided_line towards target_at metres reading_at plain_train_and_track plain_national plain_band
     counting_target limits_of reaction_times slopes_of slope_at stepped place_at corner arc arc_back back
 by_the_permitted_limit = refl
@@ -233,7 +233,7 @@ to_10_m est = shown_at 540_000 (target_at Eoa 10 0 ∷ []) est (metres 11)
 -- 1.5 mm, a grain, nothing, half a millimetre and a metre past it: rounded down, and never below 0
 distances : map to_10_m (pos 5_399_190_000_000 ∷ pos 5_399_999_999_999 ∷ pos 5_400_000_000_000
     ∷ pos 5_400_270_000_000 ∷ metres 11 ∷ [])
-    ≡ map (λ mm. Some (record { kind = Eoa; distance = pos mm })) (1 ∷ 0 ∷ 0 ∷ 0 ∷ 0 ∷ [])
+    ≡ map (λ mm. Some (record { kind = Eoa; speed = 0; distance = pos mm })) (1 ∷ 0 ∷ 0 ∷ 0 ∷ 0 ∷ [])
 unfolding towards target_at metres reading_at plain_train_and_track plain_national plain_band counting_target
     limits_of reaction_times slopes_of slope_at stepped place_at corner arc arc_back back
 distances = refl

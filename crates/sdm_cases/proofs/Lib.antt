@@ -19,6 +19,8 @@ mod PromiseCases
 mod HeadlineCases
 mod TakeOverCases
 mod RowPromiseCases
+mod CoveredFallCases
+mod NearLimitCases
 mod InputCases
 mod LineCases
 mod TextCases

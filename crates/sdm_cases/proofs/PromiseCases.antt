@@ -1,6 +1,6 @@
 -- What the promises exclude: of each, something that it says is false, so that a text which promises less is seen. The
 -- train is that of StopCases, which comes from 760 m at 20 m/s exactly to the SvL at 1000 m.
-use Rattle.std.proofs.Common.{ℕ, pos, true, false, [], ◌∷◌, refl, arith}
+use Rattle.std.proofs.Common.{ℕ, pos, true, false, [], refl, arith}
 use Rattle.std.proofs.lemmas.Int.{ints}
 use Rattle.std.specs.Prelude.{Contains, None}
 use Rattle.sdm_num.specs.Readings.{OdometerReading}
@@ -21,9 +21,9 @@ use Rattle.sdm_rules.specs.Supervision.{opening}
 use Rattle.sdm_rules.specs.Targets.{targets_of}
 use Rattle.sdm_cases.proofs.Journeys.{plain_national, plain_train_and_track, reading_at}
 use Rattle.sdm_cases.proofs.Openings.{opening_situation, situation_with}
-use Rattle.sdm_cases.proofs.StopCases.{at_780_m, at_800_m, before_braking, braked_line, braking, reading_at_760_m}
-use Rattle.sdm_cases.proofs.StopCases.{standing, stands_before_the_front, stopping, stops_at_the_svl}
-use Rattle.sdm_cases.proofs.StopCases.{stops_before_braking, where_it_stands}
+use Rattle.sdm_cases.proofs.StopCases.{at_780_m, at_800_m, before_braking, before_the_front, braked_line, braking}
+use Rattle.sdm_cases.proofs.StopCases.{reading_at_760_m, stands_before_the_front, stopping, stops_at_the_svl}
+use Rattle.sdm_cases.proofs.StopCases.{stops_before_braking, to_780_m, to_the_svl, where_it_stands}
 
 -- ---- points, at scale 2: four places to a grain
 
@@ -49,29 +49,28 @@ fast_before_it le = absurd (omega (arith, ints, le))
 no_stop_before_the_svl : StopsBy (slopes_of Safe braked_line) (reaction_start braked_line reading_at_760_m)
     (pos 539_999_999_999_999) → ⊥
 unfolding at_800_m braking
-no_stop_before_the_svl h = let k = h 1 (pos 410_400_000_000_000) 1_080_000 before_braking at_800_m braking
+no_stop_before_the_svl h = let k = h to_the_svl
     stops_at_the_svl 3 at_800_m (omega arith) in omega (arith, ints, k)
 
 -- a place a grain before the front end is passed by a train that stands, at its only point
 no_stop_before_where_it_stands : StopsBy (slopes_of Safe braked_line) (reaction_start braked_line reading_at_760_m)
     (pos 410_399_999_999_999) → ⊥
 unfolding where_it_stands
-no_stop_before_where_it_stands h = let k = h 2 (pos 1_641_599_999_999_999) 0
-    (standing ∷ []) where_it_stands [] stands_before_the_front 0 where_it_stands (omega arith)
+no_stop_before_where_it_stands h = let k = h before_the_front stands_before_the_front 0 where_it_stands (omega arith)
     in omega (arith, ints, k)
 
 -- a notch less than the speed at 780 m is not kept at the end of a slice
 not_slow_at_a_slice_end : SlowsTo (slopes_of Safe braked_line) (reaction_start braked_line reading_at_760_m)
     (pos 421_200_000_000_000) 1_079_999 → ⊥
 unfolding stopping at_780_m
-not_slow_at_a_slice_end h = let k = h 1 (pos 410_400_000_000_000) 1_080_000 stopping at_780_m [] stops_before_braking 0
+not_slow_at_a_slice_end h = let k = h to_780_m stops_before_braking 0
     at_780_m (omega arith) (omega (arith, ints)) in omega (arith, k)
 
 -- nor is the speed at 850 m at a braking point
 not_slow_while_braking : SlowsTo (slopes_of Safe braked_line) (reaction_start braked_line reading_at_760_m)
     (pos 459_000_000_000_000) 935_307 → ⊥
 unfolding before_braking at_800_m braking
-not_slow_while_braking h = let k = h 1 (pos 410_400_000_000_000) 1_080_000 before_braking at_800_m braking
+not_slow_while_braking h = let k = h to_the_svl
     stops_at_the_svl 4 at_800_m (omega arith) (omega (arith, ints)) in omega (arith, k)
 
 -- ---- of a reading
@@ -79,7 +78,7 @@ not_slow_while_braking h = let k = h 1 (pos 410_400_000_000_000) 1_080_000 befor
 -- an SvL a centimetre earlier is passed
 no_stop_by_an_earlier_svl : StopsBySvl braked_line reading_at_760_m 99_999 → ⊥
 unfolding at_800_m braking
-no_stop_by_an_earlier_svl h = let k = h 1 (pos 410_400_000_000_000) 1_080_000 before_braking at_800_m braking
+no_stop_by_an_earlier_svl h = let k = h to_the_svl
     stops_at_the_svl 3 at_800_m (omega arith) in omega (arith, ints, k)
 
 -- 64 km/h with its margin are 71.5 km/h; at 800 m the train may run 72 km/h
@@ -88,7 +87,7 @@ at_64_km_h = record { kind = Loa; place = pos 432_000_000_000_000; speed = 64 }
 
 too_fast_for_the_target : MeetsTarget braked_line reading_at_760_m at_64_km_h → ⊥
 unfolding before_braking at_800_m braking
-too_fast_for_the_target h = let k = h 1 (pos 410_400_000_000_000) 1_080_000 before_braking at_800_m braking
+too_fast_for_the_target h = let k = h to_the_svl
     stops_at_the_svl 3 at_800_m (omega arith) (omega (arith, ints)) in omega (arith, k)
 
 not_safe_before_the_svl : IsSafe (opening braked_line (Stop 99_999 99_999 0)) reading_at_760_m → ⊥

@@ -23,8 +23,8 @@ use Rattle.sdm_rules.specs.Release.{IsReleaseSpeed, calculated, fits, greatest_u
 use Rattle.sdm_rules.specs.Supervision.{Supervision}
 use Rattle.sdm_formats.specs.Flat.{flat_slopes}
 use Rattle.sdm_cases.proofs.Journeys.{plain_band, plain_national, plain_train_and_track, reading_at}
-use Rattle.sdm_cases.proofs.StopCases.{at_800_m, before_braking, braked_line, braking, reading_at_760_m}
-use Rattle.sdm_cases.proofs.StopCases.{stops_at_the_svl}
+use Rattle.sdm_cases.proofs.StopCases.{at_800_m, braked_line, braking, reading_at_760_m}
+use Rattle.sdm_cases.proofs.StopCases.{stops_at_the_svl, to_the_svl}
 
 -- ---- the greatest that passes
 
@@ -76,10 +76,9 @@ start_without_traction = refl
 a_centimetre_nearer : IsReleaseSpeed braked_line 99_999 76_000 72 → ⊥
 unfolding at_800_m braking
 a_centimetre_nearer h =
-    let motion = subst (λ (start : Start). IsMotionOn (slopes_of Safe braked_line) start 1 (pos 410_400_000_000_000)
-    1_080_000 before_braking at_800_m braking) (sym start_of_a_trip) stops_at_the_svl in
-    let k = h.stops 1 (pos 410_400_000_000_000) 1_080_000 before_braking at_800_m braking motion 3 at_800_m
-    (omega arith) in omega (arith, ints, k)
+    let is_motion = subst (λ (start : Start). IsMotionOn (slopes_of Safe braked_line) start to_the_svl)
+    (sym start_of_a_trip) stops_at_the_svl in
+    let k = h.stops to_the_svl is_motion 3 at_800_m (omega arith) in omega (arith, ints, k)
 
 -- a train of 1 m that brakes at 1 m/s² at once
 unfoldable braked_at_once : TrainAndTrack

@@ -1,7 +1,10 @@
 -- The calculated release speed and the start of release speed monitoring at 1 m/s², to the centimetre and to the grain.
 -- From 10 km/h, with a brake that works after 0.3 s, the train comes 0.833 m and 3.858 m further, so the latest trip for
 -- an SvL at 10 m lies at 5.309 m. From 9 km/h it brakes 3.125 m.
-use Rattle.std.proofs.Common.{◌≡◌, ◌⊎◌, ℕ, ℤ, pos, true, false, refl, inl, inr}
+use Rattle.std.proofs.Common.{◌≡◌, ℕ, ℤ, suc, pos, ◌+ℤ◌, refl, subst, arith, inl, inr}
+use Rattle.std.specs.Prelude.{◌≢◌}
+use Rattle.sdm_num.specs.Readings.{OdometerReading}
+use Rattle.sdm_rules.specs.declared.commands.State.TheVariants.{R}
 use Rattle.sdm_rules.specs.declared.data.SlopeKind.TheVariants.{Expected, Safe}
 use Rattle.sdm_rules.specs.Cells.{place_of_cell}
 use Rattle.sdm_rules.specs.Curves.{exact, exact_at, place_at, corner, arc, arc_back, back}
@@ -9,11 +12,11 @@ use Rattle.sdm_rules.specs.Data.{TrainAndTrack}
 use Rattle.sdm_rules.specs.Decelerations.{slope_at, slopes_of}
 use Rattle.sdm_rules.specs.Limits.{release_start}
 use Rattle.sdm_rules.specs.Reaction.{reaction_times}
-use Rattle.sdm_rules.specs.Release.{trip_start}
+use Rattle.sdm_rules.specs.Release.{calculated, trip_start}
 use Rattle.sdm_rules.specs.Stop.{StopsBy}
-use Rattle.sdm_rules.specs.Supervision.{Supervision, opening}
-use Rattle.sdm_row_laws.specs.ReleaseLimits.{MayPassAtRelease, StopsAtRelease, at_release}
-use Rattle.sdm_row_laws.specs.ReleaseLimits.{until_emergency, until_service}
+use Rattle.sdm_rules.specs.Supervision.{Supervision, opening, row_of}
+use Rattle.sdm_row_laws.specs.ReleaseLimits.{IsReleaseNeeded, LawOfTightRelease, MayPassAtRelease, StopsAtRelease}
+use Rattle.sdm_row_laws.specs.ReleaseLimits.{at_release, millimetre_later, until_emergency, until_service}
 use Rattle.sdm_row_laws.specs.Tightness.{MayPass}
 use Rattle.sdm_row_laws.proofs.ExactLimits.{refuted}
 use Rattle.sdm_row_laws.proofs.ReleaseLimits.{exact_start, exact_trip}
@@ -93,3 +96,41 @@ unfolding ride_line plain_train_and_track plain_national plain_band release_star
 past_eoa_doesn't_stop =
     not_both slow_service 900 1100 9 (pos 2_497_500_000_001)
     ((exact_start slow_state 900 1100 9 (pos 2_497_500_000_001) (line_open (pos 5))).passes refl)
+
+-- ---- what the laws of tightness say, from which a weaker text wouldn't give it
+
+-- the millimetre is one, after 5.30 m
+millimetre_on : millimetre_later line 530 11 ≡ record {
+  front = pos 2_862_540_000_000;
+  speed = 165_000;
+  accel1 = 0;
+  accel2 = 0;
+  traction = 0;
+  berem = 3;
+}
+unfolding ride_line plain_train_and_track plain_national plain_band
+millimetre_on = refl
+
+-- where 10 km/h is the calculated release speed, some train that is tripped at 11 km/h there passes the SvL
+one_more_passes : LawOfTightRelease → calculated line 1000 530 ≡ 10 →
+    MayPass (slopes_of Safe line) (millimetre_later line 530 11) (place_of_cell (pos 1000))
+one_more_passes tight is =
+    subst (λ (kmh : ℕ). MayPass (slopes_of Safe line) (millimetre_later line 530 (suc kmh)) (place_of_cell (pos 1000))) is
+    (tight state 1000 530 (line_open (pos 0)) (omega arith) (rw is (omega arith)))
+
+-- in a row in release speed monitoring some motion from a millimetre further on passes the EOA or the SvL, and in another
+-- both brakes stop the train from the max safe front end on
+needed_at : (r : OdometerReading) → IsReleaseNeeded state r 1000 1000 9 → (row_of state r).state ≡ R →
+    MayPassAtRelease line 1000 1000 9 (r.max +ℤ pos 540_000_000)
+needed_at r h in_release = h.needed in_release
+
+not_yet_at : (r : OdometerReading) → IsReleaseNeeded state r 1000 1000 9 → (row_of state r).state ≢ R →
+    StopsAtRelease line 1000 1000 9 r.max
+not_yet_at r h before = h.not_yet before
+
+-- both brakes count: the EOA at 9 m by the service brake, the SvL at 11 m by the emergency brake
+both_count : StopsAtRelease slow_service 900 1100 9 (pos 0) →
+    StopsBy (slopes_of Expected slow_service) (at_release (pos 0) 9 5) (place_of_cell (pos 900))
+    × StopsBy (slopes_of Safe slow_service) (at_release (pos 0) 9 8) (place_of_cell (pos 1100))
+unfolding ride_line plain_train_and_track plain_national plain_band reaction_times
+both_count h = (h.by_eoa, h.by_svl)

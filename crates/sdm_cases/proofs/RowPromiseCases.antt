@@ -50,7 +50,7 @@ use Rattle.sdm_cases.proofs.RowCases.{short_line}
 
 -- the short line with two bands of one deceleration, whose traction is cut off within 0.2 s, whose emergency brake
 -- works within 0.3 s and whose service brake within 1 s, and with the fall
-unfoldable line : TrainAndTrack
+unfoldable pub line : TrainAndTrack
 line = record short_line {
   train = record (short_line.train) {
     cut_off_time = pos 2;
@@ -93,10 +93,10 @@ line_accepted kind = record { strong = strong; even = even }
 abbrev authority : Authority
 authority = Stop 1000 1100 0
 
-abbrev before : Supervision
+abbrev pub before : Supervision
 before = opening line authority
 
-before_open : IsOpen before
+pub before_open : IsOpen before
 unfolding line plain_train_and_track plain_national plain_band
 before_open = record {
   bands = record { few = omega arith; in_order = (pos 1, refl, omega (arith, ints), refl) };
@@ -250,7 +250,7 @@ past_ebi_doesn't_stop h = refuted _ _ _ past_ebi_passes h
 -- ---- a speed target
 
 -- the fall to 5 km/h, with a foot speed of 12.5 km/h
-fall : Target
+unfoldable pub fall : Target
 fall = record { kind = Mrsp; place = place_of_cell (pos 500); speed = 5 }
 
 -- at 3.7 m/s, a fraction of a grain before its exact EBI
@@ -278,7 +278,7 @@ past_target_exceeds =
 -- ---- a fall that is no target any more
 
 -- 10 cm before the fall and 5 cm past it at most
-at_fall : OdometerReading
+unfoldable pub at_fall : OdometerReading
 at_fall = record {
   time = 0;
   est = pos 2_673_000_000_000;
@@ -312,7 +312,7 @@ at_fall_allowance : allowance line at_fall (pos 500) ≡ 12_960
 unfolding line plain_train_and_track plain_national plain_band at_fall reaction_times
 at_fall_allowance = refl
 
-profile_is : (cell : ℤ) → profile_of before cell ≡ mrsp line.train line.track [] cell
+pub profile_is : (cell : ℤ) → profile_of before cell ≡ mrsp line.train line.track [] cell
 profile_is cell = ap (λ es. mrsp line.train line.track (map (λ e. e.1) es) cell) none_in_force
 
 at_fall_ahead : IsFallAhead before at_fall (pos 500)
@@ -361,7 +361,7 @@ two_readings : List Event
 two_readings = record_kinds.Read at_sbi ∷ record_kinds.Read past_sbi ∷ []
 
 -- the turn of a reading
-turn_at : Supervision → OdometerReading → Turn
+unfoldable pub turn_at : Supervision → OdometerReading → Turn
 turn_at s r = record { before = s; event = record_kinds.Read r; after = after_reading s r }
 
 promised : AreTurnsPromised (journey_from (λ n e. Ok e) 1 before two_readings).turns

@@ -14,7 +14,7 @@ use Rattle.sdm_rules.specs.declared.motions.Slice.{Slice}
 use Rattle.sdm_rules.specs.Slopes.{Slopes}
 use Rattle.sdm_rules.specs.Data.{TrainAndTrack}
 use Rattle.sdm_rules.specs.Decelerations.{slope_at, slopes_of}
-use Rattle.sdm_rules.specs.Motion.{AreSlices, BrakesAtLeast, IsBraking, IsIn, IsInBand, IsStep}
+use Rattle.sdm_rules.specs.Motion.{AreSlices, BrakesAtLeast, IsBraking, IsIn, IsInBand, IsStep, Motion}
 use Rattle.sdm_rules.specs.Reaction.{reaction_times, reaction_start}
 use Rattle.sdm_rules.specs.Stop.{IsMotionOn}
 use Rattle.sdm_cases.proofs.Journeys.{plain_band, plain_national, plain_train_and_track, reading_at}
@@ -176,9 +176,18 @@ the_braking = (
   ),
 )
 
+abbrev pub to_the_svl : Motion
+to_the_svl = record {
+  scale = 1;
+  place = pos 410_400_000_000_000;
+  speed = 1_080_000;
+  slices = before_braking;
+  first = at_800_m;
+  more = braking;
+}
+
 -- it stops at the SvL to the grain
-pub stops_at_the_svl : IsMotionOn (slopes_of Safe braked_line) (reaction_start braked_line reading_at_760_m) 1
-    (pos 410_400_000_000_000) 1_080_000 before_braking at_800_m braking
+pub stops_at_the_svl : IsMotionOn (slopes_of Safe braked_line) (reaction_start braked_line reading_at_760_m) to_the_svl
 unfolding braked_line plain_train_and_track plain_national reading_at_760_m reading_at reaction_times before_braking
     at_800_m
 stops_at_the_svl = rw safe_slopes (
@@ -210,9 +219,19 @@ standing = record { phase = Build; time = 40; to = 0; length = 0 }
 unfoldable pub where_it_stands : Point
 where_it_stands = record { place = pos 1_641_599_999_999_999; square = 0 }
 
+abbrev pub before_the_front : Motion
+before_the_front = record {
+  scale = 2;
+  place = pos 1_641_599_999_999_999;
+  speed = 0;
+  slices = standing ∷ [];
+  first = where_it_stands;
+  more = [];
+}
+
 -- it is a motion from the reading
-pub stands_before_the_front : IsMotionOn (slopes_of Safe braked_line) (reaction_start braked_line reading_at_760_m) 2
-    (pos 1_641_599_999_999_999) 0 (standing ∷ []) where_it_stands []
+pub stands_before_the_front :
+    IsMotionOn (slopes_of Safe braked_line) (reaction_start braked_line reading_at_760_m) before_the_front
 unfolding braked_line plain_train_and_track plain_national reading_at_760_m reading_at reaction_times standing
     where_it_stands
 stands_before_the_front = (
@@ -257,9 +276,19 @@ all_stopping (suc (suc k)) d l = absurd (omega arith)
 unfoldable pub at_780_m : Point
 at_780_m = record { place = pos 421_200_000_000_000; square = 0 }
 
+abbrev pub to_780_m : Motion
+to_780_m = record {
+  scale = 1;
+  place = pos 410_400_000_000_000;
+  speed = 1_080_000;
+  slices = stopping;
+  first = at_780_m;
+  more = [];
+}
+
 -- it is a motion from the reading, too
-pub stops_before_braking : IsMotionOn (slopes_of Safe braked_line) (reaction_start braked_line reading_at_760_m) 1
-    (pos 410_400_000_000_000) 1_080_000 stopping at_780_m []
+pub stops_before_braking :
+    IsMotionOn (slopes_of Safe braked_line) (reaction_start braked_line reading_at_760_m) to_780_m
 unfolding braked_line plain_train_and_track plain_national reading_at_760_m reading_at reaction_times stopping at_780_m
 stops_before_braking = (
   omega arith,

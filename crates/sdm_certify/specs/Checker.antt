@@ -1,4 +1,4 @@
--- What a checker of a certificate text holds, and what it answers (own).
+-- The state of a checker of a certificate text, and its answers (own).
 use Rattle.std.specs.Prelude.{◌≡◌, ◌↔◌, ℕ, List, [], ◌∷◌, ◌++◌, Option, Some, None, Ok, Err, IsTrue, codes, decimal}
 use Rattle.std.specs.Prelude.{if◌then◌else◌}
 use Rattle.sdm_rules.specs.declared.certificates.Claim.{Claim}

@@ -1,5 +1,5 @@
--- Fields of a line that are read one after the other (own). What is read of the first of them stands with the fields
--- after it; there is none where it isn't of the form due.
+-- Fields of a line, read one after the other (own). Each reader returns the value of the first field together with the
+-- fields after it, or nothing if the first field hasn't the form that it expects.
 use Rattle.std.specs.Prelude.{ℕ, zero, suc, ℤ, pos, neg_ℤ, Bool, true, false, List, [], ◌∷◌, ◌++◌, Option, Some}
 use Rattle.std.specs.Prelude.{None, Result}
 use Rattle.std.specs.Prelude.{Ok, Err, ◌^◌, unsigned_abs, if◌then◌else◌}

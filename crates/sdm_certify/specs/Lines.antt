@@ -1,4 +1,4 @@
--- The text of stop certificates, read line by line: the map, and then claims, each with its marks (own).
+-- The text of stop certificates, read line by line: first the map, then claims, each with its marks (own).
 use Rattle.std.specs.Prelude.{ℕ, zero, suc, ℤ, pos, negsuc, neg_ℤ, List, [], ◌∷◌, ◌++◌, Option, Some, None, Result}
 use Rattle.std.specs.Prelude.{Ok, Err, ◌+◌, ◌-◌, ◌*◌, ◌^◌, ◌+ℤ◌, codes, nat_le, unsigned_abs, slice_index_or}
 use Rattle.std.specs.Prelude.{if◌then◌else◌}

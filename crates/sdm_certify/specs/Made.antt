@@ -1,6 +1,6 @@
--- The marks that the program makes for a claim: those of the brake curve that stops at the claim's place, on the
--- claim's slopes, from the place of V_bec on (own). Going back from the stop there is a mark where the speed band
--- changes, and one where the slope of the present band does.
+-- The marks that the program makes for a claim (own). They lie on the brake curve that stops at the claim's place, on
+-- the claim's slopes, from the place of V_bec on: one wherever the speed band changes, and one wherever the slope of
+-- the present band does.
 use Rattle.std.specs.Prelude.{ℕ, zero, suc, ℤ, pos, neg_ℤ, List, [], ◌∷◌, ◌++◌, ◌+◌, ◌*◌, ◌≤ℤ◌, ◌+ℤ◌, unsigned_abs}
 use Rattle.std.specs.Prelude.{All, ◌≤◌, length, slice_index, nat_eq, nat_lt, if◌then◌else◌}
 use Rattle.sdm_rules.specs.declared.certificates.Claim.{Claim}

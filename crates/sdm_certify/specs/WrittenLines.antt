@@ -1,4 +1,4 @@
--- The lines of a certificate text as they are written (own).
+-- The lines that the program writes into a certificate text (own).
 use Rattle.std.specs.Prelude.{ℕ, zero, suc, pos, Bool, true, not, ◌&&◌, ◌==◌, nat_le, List, [], ◌∷◌, ◌++◌, map, length}
 use Rattle.std.specs.Prelude.{codes, decimal, slice_index_or, if◌then◌else◌}
 use Rattle.std.specs.Fmt.{signed_decimal}

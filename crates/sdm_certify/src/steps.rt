@@ -9,8 +9,7 @@ ghost use Rattle.sdm_curve.specs.Integrals.{slope_of};
 ghost use Rattle.sdm_certify.specs.Steps.{AreLeading, IsNextIn, TakesEnoughIn};
 
 use sdm_curve::BandMap;
-use sdm_motion::Point;
-use sdm_motion::slopes::{first_met, have_slope};
+use sdm_motion::slopes::{Stretch, first_met, have_slope};
 use sdm_num::Place;
 use sdm_rules::Mark;
 
@@ -56,13 +55,14 @@ fn is_in_band(map: &BandMap, band: usize, energy: u128) -> bool
     is_below(map, band, energy)
 }
 
-/// The mark as a point, for the slopes on its way.
-fn point_of(mark: &Mark) -> Point
-    ensures { result.place ≡ mark.now.place }
+/// The stretch from one mark to another.
+fn stretch_of(from: &Mark, to: &Mark) -> Stretch
+    ensures from { result.from ≡ from.now.place }
+    ensures to { result.to ≡ to.now.place }
 {
-    Point {
-        place: i128::from(mark.place),
-        square: mark.energy,
+    Stretch {
+        from: i128::from(from.place),
+        to: i128::from(to.place),
     }
 }
 
@@ -100,13 +100,12 @@ fn takes_enough_in(map: &BandMap, band: usize, from: &Mark, to: &Mark) -> bool
     requires falls { to.now.energy ≤ from.now.energy }
     ensures { IsTrue result ↔ TakesEnoughIn (meaning_of map.now) band from.now to.now }
 {
-    let x = point_of(from);
-    let y = point_of(to);
-    let Some(i) = first_met(1, map, &x, &y) else {
+    let stretch = stretch_of(from, to);
+    let Some(i) = first_met(1, map, stretch) else {
         return from.energy == to.energy;
     };
     let slope = map.natural_slope(band, i);
-    if !have_slope(1, map, band, &x, &y, slope) {
+    if !have_slope(1, map, band, stretch, slope) {
         return false;
     }
     takes_enough(map, band, i, from, to)

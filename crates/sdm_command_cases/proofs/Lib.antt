@@ -9,3 +9,7 @@ mod CertificateCases
 mod ToldRowCases
 mod ShapeCases
 mod SlackCases
+mod CauseLineCases
+mod CauseLawCases
+mod FirstCauseCases
+mod NoCauseLineCases

@@ -6,6 +6,7 @@ use Rattle.std.specs.Prelude.{None, Some}
 use Rattle.sdm_rules.specs.declared.motions.Start.{Start}
 use Rattle.sdm_rules.specs.Data.{TrainAndTrack}
 use Rattle.sdm_rules.specs.Slopes.{Slopes}
+use Rattle.sdm_rules.specs.Motion.{Motion}
 use Rattle.sdm_rules.specs.Stop.{IsMotionOn, StopsBy}
 
 -- a train of 1 m that brakes at 10 m/s² at once, on a level track of 2 km
@@ -60,8 +61,19 @@ standing_at p = record {
   berem = 0;
 }
 
--- standing is a motion
-stands : (on : Slopes) (p : ℤ) → IsMotionOn on (standing_at p) 1 p 0 [] (record { place = p; square = 0 }) []
+-- standing there
+abbrev standing : ℤ → Motion
+standing p = record {
+  scale = 1;
+  place = p;
+  speed = 0;
+  slices = [];
+  first = record { place = p; square = 0 };
+  more = [];
+}
+
+-- is a motion
+stands : (on : Slopes) (p : ℤ) → IsMotionOn on (standing_at p) (standing p)
 stands on p = (
   omega arith,
   record {
@@ -87,5 +99,5 @@ stands on p = (
 -- so the train stops by no place before
 pub no_stop_before : (on : Slopes) (p place : ℤ) → place <ℤ p → StopsBy on (standing_at p) place → ⊥
 no_stop_before on p place before h =
-    let k = h 1 p 0 [] (record { place = p; square = 0 }) [] (stands on p) 0 (record { place = p; square = 0 })
-    (omega arith) in omega (arith, ints, k, before)
+    let k = h (standing p) (stands on p) 0 (record { place = p; square = 0 }) (omega arith) in
+    omega (arith, ints, k, before)

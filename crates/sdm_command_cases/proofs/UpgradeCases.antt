@@ -6,7 +6,7 @@ use Rattle.sdm_rules.specs.Data.{TrainAndTrack}
 use Rattle.sdm_data.proofs.TablesBack.{read_again}
 use Rattle.sdm_data.specs.Document.{document_of}
 use Rattle.sdm_data.specs.Tables.{table_of}
-use Rattle.sdm_run.specs.RunParts.{IsDataOf}
+use Rattle.sdm_opening.specs.Openings.{IsDataOf}
 use Rattle.sdm_run.specs.Upgrades.{IsReadBack, upgrade_output}
 
 -- the document of the text is the table of these data, and no other

@@ -17,12 +17,12 @@ use Rattle.sdm_data.specs.Sections.{track_in, authority_in, end_in}
 use Rattle.sdm_data.specs.Journey.{data_of}
 
 -- the members of a table
-members : List (List ℕ × Data) → Members
+unfoldable pub members : List (List ℕ × Data) → Members
 members [] = no_members
 members (entry ∷ more) = member entry.0 entry.1 (members more)
 
 -- an array of tables
-tables : List (List (List ℕ × Data)) → Data
+unfoldable pub tables : List (List (List ℕ × Data)) → Data
 tables entries = array (items entries)
   where
     items : List (List (List ℕ × Data)) → Items

@@ -11,3 +11,4 @@ pub mod EntryTables
 pub mod PlainTables
 mod DivisionCases
 mod DataCases
+mod KeyCases

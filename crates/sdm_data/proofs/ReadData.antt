@@ -7,7 +7,7 @@ use Rattle.std.specs.Str.{bytes_eq}
 use Rattle.toml.specs.Data.{Members, as_str, as_integer}
 use Rattle.sdm_rules.specs.declared.authorities.Authority.{Authority}
 use Rattle.sdm_rules.specs.declared.faults.Section.TheVariants as sections
-use Rattle.sdm_rules.specs.declared.keys.TheConstants as keys
+use Rattle.sdm_rules.specs.Keys as keys
 use Rattle.sdm_rules.specs.Data.{TrainAndTrack}
 use Rattle.sdm_rules.specs.Ranges.{is_within, longest_track, top_kmh, train_fault, national_fault, track_fault}
 use Rattle.sdm_formats.specs.declared.faults.DataFault.{DataFault}
@@ -70,14 +70,14 @@ end_range : (s : SectionMembers) (a : Authority) → end_in s ≡ Ok a → IsAut
 unfolding end_in
 end_range s a e =
     let keys_known = from_first (known s end_keys) _ a e in
-    let eoa = from_first (number s keys.AUTHORITY_EOA 0 longest_track) _ a keys_known.2 in
-    let svl = from_first (number s keys.AUTHORITY_SVL 0 longest_track) _ a eoa.2 in
-    let kmh = from_first (optional as_integer s keys.AUTHORITY_RELEASE) _ a svl.2 in
-    let release = from_first (within s keys.AUTHORITY_RELEASE 0 top_kmh (unwrap_or kmh.0 (pos 0))) _ a kmh.2 in
+    let eoa = from_first (number s keys.authority_eoa 0 longest_track) _ a keys_known.2 in
+    let svl = from_first (number s keys.authority_svl 0 longest_track) _ a eoa.2 in
+    let kmh = from_first (optional as_integer s keys.authority_release) _ a svl.2 in
+    let release = from_first (within s keys.authority_release 0 top_kmh (unwrap_or kmh.0 (pos 0))) _ a kmh.2 in
     subst IsAuthorityInRange (same_Ok _ a _ refl release.2) (
-      (number_range s keys.AUTHORITY_EOA 0 longest_track eoa.0 eoa.1).1,
-      (number_range s keys.AUTHORITY_SVL 0 longest_track svl.0 svl.1).1,
-      (within_range s keys.AUTHORITY_RELEASE 0 top_kmh (unwrap_or kmh.0 (pos 0)) release.0 release.1).1,
+      (number_range s keys.authority_eoa 0 longest_track eoa.0 eoa.1).1,
+      (number_range s keys.authority_svl 0 longest_track svl.0 svl.1).1,
+      (within_range s keys.authority_release 0 top_kmh (unwrap_or kmh.0 (pos 0)) release.0 release.1).1,
     )
 
 -- so is a limit of authority
@@ -85,11 +85,11 @@ limit_range : (s : SectionMembers) (a : Authority) → limit_in s ≡ Ok a → I
 unfolding limit_in
 limit_range s a e =
     let keys_known = from_first (known s limit_keys) _ a e in
-    let loa = from_first (number s keys.AUTHORITY_LOA 0 longest_track) _ a keys_known.2 in
-    let speed = from_first (number s keys.AUTHORITY_SPEED 1 top_kmh) _ a loa.2 in
-    let in_range = number_range s keys.AUTHORITY_SPEED 1 top_kmh speed.0 speed.1 in
+    let loa = from_first (number s keys.authority_loa 0 longest_track) _ a keys_known.2 in
+    let speed = from_first (number s keys.authority_speed 1 top_kmh) _ a loa.2 in
+    let in_range = number_range s keys.authority_speed 1 top_kmh speed.0 speed.1 in
     subst IsAuthorityInRange (same_Ok _ a _ refl speed.2) (
-      (number_range s keys.AUTHORITY_LOA 0 longest_track loa.0 loa.1).1,
+      (number_range s keys.authority_loa 0 longest_track loa.0 loa.1).1,
       in_range.0,
       in_range.1,
     )
@@ -106,7 +106,7 @@ authority_range : (members : Members) (a : Authority) → authority_in members �
 unfolding authority_in
 authority_range members a e =
     let s = section_of sections.Authority 0 members in
-    let kind = from_first (required as_str s keys.AUTHORITY_KIND) _ a e in
+    let kind = from_first (required as_str s keys.authority_kind) _ a e in
     kinds_range (bytes_eq kind.0 (codes "end")) (bytes_eq kind.0 (codes "limit")) s _ a kind.2
 
 -- ---- the whole

@@ -1,12 +1,11 @@
 -- What the sections that were read stand for in the definitions (own).
 use Rattle.std.specs.Prelude.{take}
 use Rattle.toml.specs.View.{table_view}
-use Rattle.sdm_rules.specs.Data.{TrainData, TrackData, TrainAndTrack, train_of}
+use Rattle.sdm_rules.specs.Data.{TrainData, TrackData, train_of}
 use Rattle.sdm_rules.specs.Slopes.{most_bands}
 use Rattle.sdm_data.specs.declared.roots.Root.{Root}
 use Rattle.sdm_data.specs.declared.trains.GivenTrain.{GivenTrain}
 use Rattle.sdm_data.specs.declared.tracks.GivenTrack.{GivenTrack}
-use Rattle.sdm_data.specs.declared.journeys.JourneyData.{JourneyData}
 use Rattle.sdm_data.specs.Sections.{RootMembers}
 
 -- the root with its tables
@@ -36,7 +35,3 @@ given_track t = record {
   areas = t.areas.items;
   no_special = t.no_special.items;
 }
-
--- the data of a journey but for its authority
-abbrev pub train_and_track_of : JourneyData → TrainAndTrack
-train_and_track_of j = record { train = j.train; national = j.national; track = j.track }

@@ -1,4 +1,4 @@
--- THE DATA OF A JOURNEY in a document, or the first rule that it breaks (own).
+-- The data of a journey in a document, or the first rule that it breaks (own).
 use Rattle.std.specs.Prelude.{Option, Some, None, Result, Ok, Err, length}
 use Rattle.toml.specs.Data.{Members}
 use Rattle.sdm_rules.specs.declared.authorities.Authority.{Authority}

@@ -12,7 +12,7 @@ use Rattle.sdm_rules.specs.declared.data.SpeedStep.{SpeedStep}
 use Rattle.sdm_rules.specs.declared.data.Area.{Area}
 use Rattle.sdm_rules.specs.declared.faults.Section.{Section}
 use Rattle.sdm_rules.specs.declared.faults.Section.TheVariants as sections
-use Rattle.sdm_rules.specs.declared.keys.TheConstants as keys
+use Rattle.sdm_rules.specs.Keys as keys
 use Rattle.sdm_rules.specs.Data.{TrainData, TrackData}
 use Rattle.sdm_rules.specs.Ranges.{longest_track, top_kmh}
 use Rattle.sdm_formats.specs.declared.faults.DataFault.{DataFault}
@@ -38,12 +38,12 @@ unfoldable pub root_in : Members → Result RootMembers DataFault
 root_in members = do
   let root = section_of sections.Root 0 members
   _ ← known root (key_names sections.Root)
-  number ← required as_integer root keys.ROOT_VERSION
-  version ← or_fault (Value (at root keys.ROOT_VERSION)) (version_of number)
-  train ← required as_table root keys.ROOT_TRAIN
-  national ← required as_table root keys.ROOT_NATIONAL
-  track ← required as_table root keys.ROOT_TRACK
-  authority ← required as_table root keys.ROOT_AUTHORITY
+  number ← required as_integer root keys.root_version
+  version ← or_fault (Value (at root keys.root_version)) (version_of number)
+  train ← required as_table root keys.root_train
+  national ← required as_table root keys.root_national
+  track ← required as_table root keys.root_track
+  authority ← required as_table root keys.root_authority
   Ok (record { version = version; train = train; national = national; track = track; authority = authority })
 
 -- ---- the train
@@ -53,15 +53,15 @@ unfoldable pub band_in : Version → ℕ → Members → Result Band DataFault
 band_in version index members = do
   let band = section_of sections.Band index members
   _ ← known band (known_keys version sections.Band)
-  upper ← optional as_integer band keys.BAND_UPPER
-  emergency ← required as_integer band keys.BAND_EMERGENCY
-  service ← required as_integer band keys.BAND_SERVICE
-  normal ← required as_integer band keys.BAND_NORMAL
-  kdry ← required as_integer band keys.BAND_KDRY
-  kwet ← required as_integer band keys.BAND_KWET
-  kn_up ← required as_integer band keys.BAND_KN_UP
-  kn_down ← required as_integer band keys.BAND_KN_DOWN
-  emergency_reduced ← optional as_integer band keys.BAND_EMERGENCY_REDUCED
+  upper ← optional as_integer band keys.band_upper
+  emergency ← required as_integer band keys.band_emergency
+  service ← required as_integer band keys.band_service
+  normal ← required as_integer band keys.band_normal
+  kdry ← required as_integer band keys.band_kdry
+  kwet ← required as_integer band keys.band_kwet
+  kn_up ← required as_integer band keys.band_kn_up
+  kn_down ← required as_integer band keys.band_kn_down
+  emergency_reduced ← optional as_integer band keys.band_emergency_reduced
   Ok (record {
     upper = upper;
     emergency = emergency;
@@ -80,15 +80,15 @@ unfoldable pub train_in : Version → Members → Result TrainData DataFault
 train_in version members = do
   let train = section_of sections.Train 0 members
   _ ← known train (known_keys version sections.Train)
-  length ← required as_integer train keys.TRAIN_LENGTH
-  max_speed ← required as_integer train keys.TRAIN_MAX_SPEED
-  rotating_mass ← optional as_integer train keys.TRAIN_ROTATING_MASS
-  cut_off_time ← required as_integer train keys.TRAIN_TRACTION_CUTOFF_TIME
-  cut_off_interface ← required as_bool train keys.TRAIN_TRACTION_CUTOFF_INTERFACE
-  emergency_time ← required as_integer train keys.TRAIN_EMERGENCY_TIME
-  service_time ← required as_integer train keys.TRAIN_SERVICE_TIME
-  service_brake ← required as_bool train keys.TRAIN_SERVICE_BRAKE
-  tables ← required as_tables train keys.TRAIN_BAND
+  length ← required as_integer train keys.train_length
+  max_speed ← required as_integer train keys.train_max_speed
+  rotating_mass ← optional as_integer train keys.train_rotating_mass
+  cut_off_time ← required as_integer train keys.train_traction_cutoff_time
+  cut_off_interface ← required as_bool train keys.train_traction_cutoff_interface
+  emergency_time ← required as_integer train keys.train_emergency_time
+  service_time ← required as_integer train keys.train_service_time
+  service_brake ← required as_bool train keys.train_service_brake
+  tables ← required as_tables train keys.train_band
   bands ← entries_from (band_in version) 1 tables
   Ok (record {
     length_cm = length;
@@ -109,12 +109,12 @@ unfoldable pub national_in : Version → Members → Result NationalFields DataF
 national_in version members = do
   let national = section_of sections.National 0 members
   _ ← known national (known_keys version sections.National)
-  avadh ← required as_integer national keys.NATIONAL_AVADH
-  adhesion_max ← required as_integer national keys.NATIONAL_ADHESION_MAX
-  guidance ← required as_bool national keys.NATIONAL_GUIDANCE
-  service_in_target ← required as_bool national keys.NATIONAL_SERVICE_IN_TARGET
-  early_release ← required as_bool national keys.NATIONAL_EARLY_RELEASE
-  inhibit_under_reading ← required as_bool national keys.NATIONAL_INHIBIT_UNDER_READING
+  avadh ← required as_integer national keys.national_avadh
+  adhesion_max ← required as_integer national keys.national_adhesion_max
+  guidance ← required as_bool national keys.national_guidance
+  service_in_target ← required as_bool national keys.national_service_in_target
+  early_release ← required as_bool national keys.national_early_release
+  inhibit_under_reading ← required as_bool national keys.national_inhibit_under_reading
   Ok (record {
     avadh = avadh;
     adhesion_max = adhesion_max;
@@ -131,8 +131,8 @@ unfoldable pub gradient_in : Version → ℕ → Members → Result Gradient Dat
 gradient_in version index members = do
   let gradient = section_of sections.Gradient index members
   _ ← known gradient (known_keys version sections.Gradient)
-  start ← required as_integer gradient keys.GRADIENT_START
-  grad ← required as_integer gradient keys.GRADIENT_GRAD
+  start ← required as_integer gradient keys.gradient_start
+  grad ← required as_integer gradient keys.gradient_grad
   Ok (record { start = start; grad = in_tenths version grad })
 
 -- an entry of the static speed profile; `delayed` may be absent and is true then
@@ -140,9 +140,9 @@ unfoldable pub speed_in : Version → ℕ → Members → Result SpeedStep DataF
 speed_in version index members = do
   let speed = section_of sections.Speed index members
   _ ← known speed (known_keys version sections.Speed)
-  start ← required as_integer speed keys.SPEED_START
-  kmh ← required as_integer speed keys.SPEED_SPEED
-  delayed ← optional as_bool speed keys.SPEED_DELAYED
+  start ← required as_integer speed keys.speed_start
+  kmh ← required as_integer speed keys.speed_speed
+  delayed ← optional as_bool speed keys.speed_delayed
   Ok (record { start = start; speed = kmh; delayed = unwrap_or delayed true })
 
 -- an area of one of the lists of areas
@@ -150,8 +150,8 @@ unfoldable pub area_in : Section → Version → ℕ → Members → Result Area
 area_in list version index members = do
   let area = section_of list index members
   _ ← known area (known_keys version list)
-  start ← required as_integer area keys.AREA_START
-  end ← required as_integer area keys.AREA_END
+  start ← required as_integer area keys.area_start
+  end ← required as_integer area keys.area_end
   Ok (record { start = start; end = end })
 
 -- no tables where the key of a list is absent
@@ -163,11 +163,11 @@ unfoldable pub track_in : Version → Members → Result TrackData DataFault
 track_in version members = do
   let track = section_of sections.Track 0 members
   _ ← known track (known_keys version sections.Track)
-  length ← required as_integer track keys.TRACK_LENGTH
-  gradient_tables ← optional as_tables track keys.TRACK_GRADIENT
-  speed_tables ← required as_tables track keys.TRACK_SPEED
-  area_tables ← optional as_tables track keys.TRACK_ADHESION
-  no_special_tables ← optional as_tables track keys.TRACK_NO_SPECIAL
+  length ← required as_integer track keys.track_length
+  gradient_tables ← optional as_tables track keys.track_gradient
+  speed_tables ← required as_tables track keys.track_speed
+  area_tables ← optional as_tables track keys.track_adhesion
+  no_special_tables ← optional as_tables track keys.track_no_special
   gradients ← entries_from (gradient_in version) 1 (or_no_tables gradient_tables)
   speeds ← entries_from (speed_in version) 1 speed_tables
   areas ← entries_from (area_in sections.Adhesion version) 1 (or_no_tables area_tables)
@@ -180,25 +180,25 @@ track_in version members = do
 unfoldable pub end_in : SectionMembers → Result Authority DataFault
 end_in authority = do
   _ ← known authority end_keys
-  eoa ← number authority keys.AUTHORITY_EOA 0 longest_track
-  svl ← number authority keys.AUTHORITY_SVL 0 longest_track
-  kmh ← optional as_integer authority keys.AUTHORITY_RELEASE
-  release ← within authority keys.AUTHORITY_RELEASE 0 top_kmh (unwrap_or kmh (pos 0))
+  eoa ← number authority keys.authority_eoa 0 longest_track
+  svl ← number authority keys.authority_svl 0 longest_track
+  kmh ← optional as_integer authority keys.authority_release
+  release ← within authority keys.authority_release 0 top_kmh (unwrap_or kmh (pos 0))
   Ok (Stop eoa svl release)
 
 -- an authority to a limit
 unfoldable pub limit_in : SectionMembers → Result Authority DataFault
 limit_in authority = do
   _ ← known authority limit_keys
-  loa ← number authority keys.AUTHORITY_LOA 0 longest_track
-  speed ← number authority keys.AUTHORITY_SPEED 1 top_kmh
+  loa ← number authority keys.authority_loa 0 longest_track
+  speed ← number authority keys.authority_speed 1 top_kmh
   Ok (Limit loa speed)
 
 -- the authority: its kind comes first, since the other keys depend on it
 unfoldable pub authority_in : Members → Result Authority DataFault
 authority_in members = do
   let authority = section_of sections.Authority 0 members
-  kind ← required as_str authority keys.AUTHORITY_KIND
+  kind ← required as_str authority keys.authority_kind
   if bytes_eq kind (codes "end") then end_in authority
       else if bytes_eq kind (codes "limit") then limit_in authority
-      else Err (Value (at authority keys.AUTHORITY_KIND))
+      else Err (Value (at authority keys.authority_kind))

@@ -1,6 +1,5 @@
--- THE TABLE OF VERSION 2 of a journey's data: what a data part of version 2 writes for them (own). A key that may be
--- absent stands in it exactly where the data have a value, but for `delayed` and `release`, which always stand; a list
--- that may be absent is left out where it is empty.
+-- The table of version 2: how a data part of version 2 writes the data of a journey (own). An optional key is written
+-- exactly where the data have a value, `delayed` and `release` always. An optional list is left out if it is empty.
 use Rattle.std.specs.Prelude.{ℕ, pos, List, [], ◌∷◌, Option, Some, None, ◌≤◌, codes, map, option_map}
 use Rattle.std.specs.Ordering.{nat_cmp, match_ordering}
 use Rattle.std.specs.Cmp.Lexicographic.{slice_cmp}
@@ -15,7 +14,7 @@ use Rattle.sdm_rules.specs.declared.data.SpeedStep.{SpeedStep}
 use Rattle.sdm_rules.specs.declared.data.Area.{Area}
 use Rattle.sdm_rules.specs.declared.faults.Section.{Section}
 use Rattle.sdm_rules.specs.declared.faults.Section.TheVariants as sections
-use Rattle.sdm_rules.specs.declared.keys.TheConstants as keys
+use Rattle.sdm_rules.specs.Keys as keys
 use Rattle.sdm_rules.specs.Data.{TrainData, TrackData, TrainAndTrack}
 use Rattle.sdm_rules.specs.Ranges.{longest_track, top_kmh}
 use Rattle.sdm_formats.specs.FaultLines.{key_name}
@@ -58,92 +57,92 @@ array_if_any (first ∷ more) = Some (array_of (first ∷ more))
 -- a speed band
 unfoldable pub band_table : Band → Members
 band_table b = section_table sections.Band
-    ((keys.BAND_UPPER, option_map integer b.upper)
-    ∷ (keys.BAND_EMERGENCY, Some (integer b.emergency))
-    ∷ (keys.BAND_SERVICE, Some (integer b.service))
-    ∷ (keys.BAND_NORMAL, Some (integer b.normal))
-    ∷ (keys.BAND_KDRY, Some (integer b.kdry))
-    ∷ (keys.BAND_KWET, Some (integer b.kwet))
-    ∷ (keys.BAND_KN_UP, Some (integer b.kn_up))
-    ∷ (keys.BAND_KN_DOWN, Some (integer b.kn_down))
-    ∷ (keys.BAND_EMERGENCY_REDUCED, option_map integer b.emergency_reduced)
+    ((keys.band_upper, option_map integer b.upper)
+    ∷ (keys.band_emergency, Some (integer b.emergency))
+    ∷ (keys.band_service, Some (integer b.service))
+    ∷ (keys.band_normal, Some (integer b.normal))
+    ∷ (keys.band_kdry, Some (integer b.kdry))
+    ∷ (keys.band_kwet, Some (integer b.kwet))
+    ∷ (keys.band_kn_up, Some (integer b.kn_up))
+    ∷ (keys.band_kn_down, Some (integer b.kn_down))
+    ∷ (keys.band_emergency_reduced, option_map integer b.emergency_reduced)
     ∷ [])
 
 -- the train with its bands
 unfoldable pub train_table : TrainData → Members
 train_table t = section_table sections.Train
-    ((keys.TRAIN_LENGTH, Some (integer t.length_cm))
-    ∷ (keys.TRAIN_MAX_SPEED, Some (integer t.max_speed))
-    ∷ (keys.TRAIN_ROTATING_MASS, option_map integer t.rotating_mass)
-    ∷ (keys.TRAIN_TRACTION_CUTOFF_TIME, Some (integer t.cut_off_time))
-    ∷ (keys.TRAIN_TRACTION_CUTOFF_INTERFACE, Some (boolean t.cut_off_interface))
-    ∷ (keys.TRAIN_EMERGENCY_TIME, Some (integer t.emergency_time))
-    ∷ (keys.TRAIN_SERVICE_TIME, Some (integer t.service_time))
-    ∷ (keys.TRAIN_SERVICE_BRAKE, Some (boolean t.service_brake))
-    ∷ (keys.TRAIN_BAND, Some (array_of (map band_table t.bands)))
+    ((keys.train_length, Some (integer t.length_cm))
+    ∷ (keys.train_max_speed, Some (integer t.max_speed))
+    ∷ (keys.train_rotating_mass, option_map integer t.rotating_mass)
+    ∷ (keys.train_traction_cutoff_time, Some (integer t.cut_off_time))
+    ∷ (keys.train_traction_cutoff_interface, Some (boolean t.cut_off_interface))
+    ∷ (keys.train_emergency_time, Some (integer t.emergency_time))
+    ∷ (keys.train_service_time, Some (integer t.service_time))
+    ∷ (keys.train_service_brake, Some (boolean t.service_brake))
+    ∷ (keys.train_band, Some (array_of (map band_table t.bands)))
     ∷ [])
 
 -- the national values
 unfoldable pub national_table : NationalFields → Members
 national_table n = section_table sections.National
-    ((keys.NATIONAL_AVADH, Some (integer n.avadh))
-    ∷ (keys.NATIONAL_ADHESION_MAX, Some (integer n.adhesion_max))
-    ∷ (keys.NATIONAL_GUIDANCE, Some (boolean n.guidance))
-    ∷ (keys.NATIONAL_SERVICE_IN_TARGET, Some (boolean n.service_in_target))
-    ∷ (keys.NATIONAL_EARLY_RELEASE, Some (boolean n.early_release))
-    ∷ (keys.NATIONAL_INHIBIT_UNDER_READING, Some (boolean n.inhibit_under_reading))
+    ((keys.national_avadh, Some (integer n.avadh))
+    ∷ (keys.national_adhesion_max, Some (integer n.adhesion_max))
+    ∷ (keys.national_guidance, Some (boolean n.guidance))
+    ∷ (keys.national_service_in_target, Some (boolean n.service_in_target))
+    ∷ (keys.national_early_release, Some (boolean n.early_release))
+    ∷ (keys.national_inhibit_under_reading, Some (boolean n.inhibit_under_reading))
     ∷ [])
 
 -- a gradient, in tenths of a per mille
 unfoldable pub gradient_table : Gradient → Members
 gradient_table g = section_table sections.Gradient
-    ((keys.GRADIENT_START, Some (integer g.start)) ∷ (keys.GRADIENT_GRAD, Some (integer g.grad)) ∷ [])
+    ((keys.gradient_start, Some (integer g.start)) ∷ (keys.gradient_grad, Some (integer g.grad)) ∷ [])
 
 -- an entry of the static speed profile
 unfoldable pub speed_table : SpeedStep → Members
 speed_table s = section_table sections.Speed
-    ((keys.SPEED_START, Some (integer s.start))
-    ∷ (keys.SPEED_SPEED, Some (integer s.speed))
-    ∷ (keys.SPEED_DELAYED, Some (boolean s.delayed))
+    ((keys.speed_start, Some (integer s.start))
+    ∷ (keys.speed_speed, Some (integer s.speed))
+    ∷ (keys.speed_delayed, Some (boolean s.delayed))
     ∷ [])
 
 -- an area; the keys are the same in both lists of areas
 unfoldable pub area_table : Area → Members
 area_table a = section_table sections.Adhesion
-    ((keys.AREA_START, Some (integer a.start)) ∷ (keys.AREA_END, Some (integer a.end)) ∷ [])
+    ((keys.area_start, Some (integer a.start)) ∷ (keys.area_end, Some (integer a.end)) ∷ [])
 
 -- the track with its lists
 unfoldable pub track_table : TrackData → Members
 track_table t = section_table sections.Track
-    ((keys.TRACK_LENGTH, Some (integer t.length_cm))
-    ∷ (keys.TRACK_GRADIENT, array_if_any (map gradient_table t.gradients))
-    ∷ (keys.TRACK_SPEED, Some (array_of (map speed_table t.speeds)))
-    ∷ (keys.TRACK_ADHESION, array_if_any (map area_table t.areas))
-    ∷ (keys.TRACK_NO_SPECIAL, array_if_any (map area_table t.no_special))
+    ((keys.track_length, Some (integer t.length_cm))
+    ∷ (keys.track_gradient, array_if_any (map gradient_table t.gradients))
+    ∷ (keys.track_speed, Some (array_of (map speed_table t.speeds)))
+    ∷ (keys.track_adhesion, array_if_any (map area_table t.areas))
+    ∷ (keys.track_no_special, array_if_any (map area_table t.no_special))
     ∷ [])
 
 -- the authority, with the keys of its kind
 unfoldable pub authority_table : Authority → Members
 authority_table (Stop eoa svl release) = section_table sections.Authority
-    ((keys.AUTHORITY_KIND, Some (string (codes "end")))
-    ∷ (keys.AUTHORITY_EOA, Some (integer (pos eoa)))
-    ∷ (keys.AUTHORITY_SVL, Some (integer (pos svl)))
-    ∷ (keys.AUTHORITY_RELEASE, Some (integer (pos release)))
+    ((keys.authority_kind, Some (string (codes "end")))
+    ∷ (keys.authority_eoa, Some (integer (pos eoa)))
+    ∷ (keys.authority_svl, Some (integer (pos svl)))
+    ∷ (keys.authority_release, Some (integer (pos release)))
     ∷ [])
 authority_table (Limit loa speed) = section_table sections.Authority
-    ((keys.AUTHORITY_KIND, Some (string (codes "limit")))
-    ∷ (keys.AUTHORITY_LOA, Some (integer (pos loa)))
-    ∷ (keys.AUTHORITY_SPEED, Some (integer (pos speed)))
+    ((keys.authority_kind, Some (string (codes "limit")))
+    ∷ (keys.authority_loa, Some (integer (pos loa)))
+    ∷ (keys.authority_speed, Some (integer (pos speed)))
     ∷ [])
 
 -- THE TABLE of a journey's data
 unfoldable pub table_of : TrainAndTrack → Authority → Members
 table_of d authority = section_table sections.Root
-    ((keys.ROOT_VERSION, Some (integer (pos 2)))
-    ∷ (keys.ROOT_TRAIN, Some (table (train_table d.train)))
-    ∷ (keys.ROOT_NATIONAL, Some (table (national_table d.national)))
-    ∷ (keys.ROOT_TRACK, Some (table (track_table d.track)))
-    ∷ (keys.ROOT_AUTHORITY, Some (table (authority_table authority)))
+    ((keys.root_version, Some (integer (pos 2)))
+    ∷ (keys.root_train, Some (table (train_table d.train)))
+    ∷ (keys.root_national, Some (table (national_table d.national)))
+    ∷ (keys.root_track, Some (table (track_table d.track)))
+    ∷ (keys.root_authority, Some (table (authority_table authority)))
     ∷ [])
 
 -- ---- which data a table gives back

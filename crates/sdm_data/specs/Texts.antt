@@ -1,4 +1,4 @@
--- The text of a document, as `toml` prints it: of a document with no float, no date, and no array but of tables (own).
+-- The text that `toml` prints for a document without floats, without dates, and with no arrays but of tables (own).
 use Rattle.std.specs.Prelude.{ℕ, Bool, true, false, List, [], ◌∷◌, ◌++◌, codes, if◌then◌else◌}
 use Rattle.std.specs.Fmt.{signed_decimal}
 use Rattle.toml_writer.specs.Text.{string_text, dotted_text}

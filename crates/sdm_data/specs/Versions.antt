@@ -1,5 +1,4 @@
--- The versions of the data part, and the keys that its sections may have by them, of those that `key_names` numbers
--- (own).
+-- The versions of the data part, and the keys that each version allows in a section, out of those in `key_names` (own).
 use Rattle.std.specs.Prelude.{ℕ, ℤ, pos, neg_ℤ, ◌*ℤ◌, List, Option, Some, None, ◌++◌, take, drop, if◌then◌else◌}
 use Rattle.std.specs.Ordering.{int_eq}
 use Rattle.sdm_rules.specs.declared.faults.Section.{Section}

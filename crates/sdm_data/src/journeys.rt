@@ -2,7 +2,6 @@
 
 ghost use Rattle.std.specs.Prelude.{◌≡◌, ◌≢◌, IfErr, IfOk, Ok, Err};
 ghost use Rattle.toml.specs.View.{table_view};
-ghost use Rattle.sdm_data.specs.Given.{train_and_track_of};
 ghost use Rattle.sdm_data.specs.Journey.{data_of};
 
 use crate::authorities::authority_in;
@@ -16,6 +15,7 @@ use sdm_rules::Authority;
 use sdm_track::Track;
 use sdm_train::Train;
 use std::alloc::Global;
+use std::marker::Model;
 use toml::Table;
 
 /// What is known of a journey before it begins: the train, the national values, the track, and the first authority.
@@ -28,6 +28,15 @@ pub struct JourneyData {
     pub authority: Authority,
 }
 
+impl Model for JourneyData {
+    ghost use Rattle.sdm_rules.specs.declared.authorities.Authority.{Authority};
+    ghost use Rattle.sdm_rules.specs.Data.{TrainAndTrack};
+
+    ghost Value = { TrainAndTrack × Authority };
+
+    ghost view = { λ j. (record { train = j.train; national = j.national; track = j.track }, j.authority) };
+}
+
 /// The data that a document holds. Else the first rule that it breaks, unless memory was refused first; the rules are
 /// tested in this order (own):
 ///
@@ -38,7 +47,7 @@ pub struct JourneyData {
 /// - Train, and then National, and then Track: what `Train::new`, `National::new` and `Track::new` refuse.
 #[tactic(auto, unfolding(crate::specs::Journey::data_of))]
 pub fn data_of(alloc: Global, table: &Table) -> Result<JourneyData, DataFault>
-    ensures data { IfOk result (λ j. data_of (table_view table.now) ≡ Ok (train_and_track_of j, j.authority)) }
+    ensures data { IfOk result (λ j. data_of (table_view table.now) ≡ Ok j) }
     ensures refused { IfErr result (λ fault. fault ≢ DataFault.Memory → data_of (table_view table.now) ≡ Err fault) }
 {
     let root = root_in(table)?;

@@ -6,7 +6,6 @@ ghost use Rattle.toml.specs.View.{table_view};
 ghost use Rattle.sdm_rules.specs.declared.authorities.Authority.{Authority};
 ghost use Rattle.sdm_rules.specs.Data.{TrainAndTrack};
 ghost use Rattle.sdm_rules.specs.Ranges.{national_fault, track_fault, train_fault};
-ghost use Rattle.sdm_data.specs.Given.{train_and_track_of};
 ghost use Rattle.sdm_data.specs.Journey.{data_of};
 ghost use Rattle.sdm_data.specs.Tables.{IsAuthorityInRange, area_table, authority_table, band_table, gradient_table};
 ghost use Rattle.sdm_data.specs.Tables.{national_table, speed_table, table_of, track_table, train_table};
@@ -30,7 +29,7 @@ const VERSION: i64 = 2;
 /// list that may be absent is left out where it is empty. (own)
 #[tactic(auto, unfolding(crate::specs::Tables::table_of, sdm_formats::specs::FaultLines::key_names))]
 pub fn table_of(alloc: Global, journey: &JourneyData) -> Result<Table, NoMemory>
-    ensures { IfOk result (λ t. table_view t ≡ table_of (train_and_track_of journey.now) journey.now.authority) }
+    ensures { IfOk result (λ t. table_view t ≡ table_of journey.now.0 journey.now.1) }
 {
     let mut root = SectionWriter::new(alloc, Section::Root);
     root.integer(keys::ROOT_VERSION, VERSION)?;

@@ -2,7 +2,6 @@
 
 ghost use Rattle.std.specs.Prelude.{◌≡◌, IfOk, Some, string_bytes};
 ghost use Rattle.sdm_data.specs.Document.{document_of};
-ghost use Rattle.sdm_data.specs.Given.{train_and_track_of};
 ghost use Rattle.sdm_data.specs.Tables.{table_of};
 ghost use Rattle.sdm_data.specs.Texts.{document_text};
 
@@ -16,9 +15,9 @@ use std::alloc::Global;
 #[tactic(auto, using(crate::proofs::PlainTables::text_is, crate::proofs::PlainTables::not_deep))]
 pub fn text_of(alloc: Global, journey: &JourneyData) -> Result<String, NoMemory>
     ensures text { IfOk result (λ text. string_bytes text
-        ≡ document_text (table_of (train_and_track_of journey.now) journey.now.authority)) }
+        ≡ document_text (table_of journey.now.0 journey.now.1)) }
     ensures document { IfOk result (λ text. document_of (string_bytes text)
-        ≡ Some (table_of (train_and_track_of journey.now) journey.now.authority)) }
+        ≡ Some (table_of journey.now.0 journey.now.1)) }
 {
     let table = table_of(alloc, journey)?;
     let Ok(text) = toml::table_to_string(alloc, &table) else {

@@ -1,3 +1,4 @@
 pub mod Halving
 pub mod ShownFields
 pub mod Seen
+mod CausePieces

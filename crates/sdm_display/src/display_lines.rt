@@ -43,7 +43,7 @@ fn put_shown(shown: Option<Shown>, into: &mut RowBuf)
 }
 
 /// The letter of a kind of target.
-fn letter_of(kind: TargetKind) -> u8
+pub(crate) fn letter_of(kind: TargetKind) -> u8
     ensures { result ∷ [] ≡ kind_text kind }
 {
     match kind {

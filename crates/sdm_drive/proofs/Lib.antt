@@ -6,6 +6,7 @@ pub mod Readings
 pub mod Ranges
 pub mod Steps
 pub mod Ahead
+pub mod Journeys
 pub mod Moves
 pub mod Millimetres
 pub mod DriveCases

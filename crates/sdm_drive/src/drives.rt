@@ -7,7 +7,6 @@ ghost use Rattle.sdm_rules.specs.declared.authorities.Authority.{Authority};
 ghost use Rattle.sdm_rules.specs.declared.authorities.Authority.TheVariants.{Stop};
 ghost use Rattle.sdm_rules.specs.Cells.{place_of_cell};
 ghost use Rattle.sdm_rules.specs.Data.{TrainAndTrack};
-ghost use Rattle.sdm_decel.specs.Slopes.{train_and_track_from};
 ghost use Rattle.sdm_braking.specs.Braking.{IsRefusal};
 ghost use Rattle.sdm_drive.specs.Drive.{after_step, brake_delay, drive_row, drive_start, last_within};
 ghost use Rattle.sdm_drive.specs.Drive.{onset_after, step_time};
@@ -19,6 +18,7 @@ use crate::odometers::reading_by;
 use crate::orders::Orders;
 use crate::rows::DriveRow;
 use crate::trains::{STEP_TIME, TrueTrain};
+use sdm_braking::TrainAndTrack;
 use sdm_formats::next_number;
 use sdm_national::National;
 use sdm_num::{Place, Speed};
@@ -74,11 +74,10 @@ impl Model for Drive {
 }
 
 /// Whether a train may be driven under an authority, but for what the opening of a supervisor refuses.
-fn check(train: &Train, authority: &Authority) -> Result<(), DriveFault>
+fn check(train_and_track: &TrainAndTrack, authority: &Authority) -> Result<(), DriveFault>
     ensures stop { OnOk result (IsPlainStop authority.now) }
-    ensures build_up { OnOk result ((d : TrainAndTrack) → d.train ≡ train.now → HasBuildUp d) }
-    ensures refused { IfErr result
-        (λ fault. (d : TrainAndTrack) → d.train ≡ train.now → IsDriveRefusal d authority.now fault) }
+    ensures build_up { OnOk result (HasBuildUp train_and_track.now) }
+    ensures refused { IfErr result (IsDriveRefusal train_and_track.now authority.now) }
 {
     let Authority::Stop { release, .. } = *authority else {
         return Err(DriveFault::NoStop);
@@ -86,7 +85,7 @@ fn check(train: &Train, authority: &Authority) -> Result<(), DriveFault>
     if release > 0 {
         return Err(DriveFault::HasRelease { speed: release });
     }
-    let time = train.emergency_time() as u32;
+    let time = train_and_track.train.emergency_time() as u32;
     if time < STEP_TIME {
         return Err(DriveFault::ShortBuild { time });
     }
@@ -159,16 +158,37 @@ impl Drive {
         authority: Authority,
         seed: u16,
     ) -> Result<Drive, DriveFault>
-        ensures start { IfOk result
-            (λ drive. drive ≡ drive_start (train_and_track_from train national track) authority seed) }
-        ensures accepted { OnOk result (MayBeDriven (train_and_track_from train national track) authority) }
-        ensures refused { IfErr result (IsDriveRefusal (train_and_track_from train national track) authority) }
+        ensures start { IfOk result (λ drive.
+            drive ≡ drive_start (record { train = train; national = national; track = track }) authority seed) }
+        ensures accepted { OnOk result
+            (MayBeDriven (record { train = train; national = national; track = track }) authority) }
+        ensures refused { IfErr result
+            (IsDriveRefusal (record { train = train; national = national; track = track }) authority) }
     {
-        check(&train, &authority)?;
+        let train_and_track = TrainAndTrack {
+            train,
+            national,
+            track,
+        };
+        Drive::open(alloc, train_and_track, authority, seed)
+    }
+
+    /// The start of a drive of a train on its track, as `begin` says.
+    pub fn open(
+        alloc: Global,
+        train_and_track: TrainAndTrack,
+        authority: Authority,
+        seed: u16,
+    ) -> Result<Drive, DriveFault>
+        ensures start { IfOk result (λ drive. drive ≡ drive_start train_and_track authority seed) }
+        ensures accepted { OnOk result (MayBeDriven train_and_track authority) }
+        ensures refused { IfErr result (IsDriveRefusal train_and_track authority) }
+    {
+        check(&train_and_track, &authority)?;
         // with these it is told that the train and the track are in their ranges
-        prove!(1 <= train.band_count());
-        prove!(1 <= track.length_cm());
-        let supervisor = match Supervisor::begin(alloc, train, national, track, authority) {
+        prove!(1 <= train_and_track.train.band_count());
+        prove!(1 <= train_and_track.track.length_cm());
+        let supervisor = match Supervisor::open(alloc, train_and_track, authority) {
             Ok(supervisor) => supervisor,
             Err(fault) => return Err(of_opening(fault)),
         };

@@ -1,5 +1,6 @@
 //! The laws of the drive: proofs about its definitions alone. Each function makes no call and only states its law.
 
+ghost use Rattle.sdm_drive.specs.DriveJourneys.{LawOfDriveSteps};
 ghost use Rattle.sdm_drive.specs.DriveLaws.{LawOfBrakedDs, LawOfDrive, LawOfDriveRanges, LawOfDriveRows};
 ghost use Rattle.sdm_drive.specs.DriveLaws.{LawOfReactionDs};
 
@@ -27,4 +28,10 @@ pub fn law_of_drive_ranges()
 /// No row of a drive has its front end past the SvL, and how far the SvL was at least ahead is not negative.
 pub fn law_of_drive_rows()
     ensures { LawOfDriveRows }
+{}
+
+/// The rows of a drive are those of the journey of its readings, and what a command says of its rows holds of each; and
+/// each reading is true of the train.
+pub fn law_of_drive_steps()
+    ensures { LawOfDriveSteps }
 {}

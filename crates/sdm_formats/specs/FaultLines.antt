@@ -1,11 +1,11 @@
--- The line that tells how an input ended (own).
-use Rattle.std.specs.Prelude.{ℕ, zero, suc, List, [], ◌++◌, Option, Some, None, codes, decimal, map, slice_get}
+-- The line that says how an input ended (own).
+use Rattle.std.specs.Prelude.{ℕ, zero, suc, List, [], ◌∷◌, ◌++◌, Option, Some, None, codes, decimal, slice_get}
 use Rattle.std.specs.Fmt.{signed_decimal}
 use Rattle.sdm_rules.specs.declared.data.SlopeKind.{SlopeKind}
 use Rattle.sdm_rules.specs.declared.data.SlopeKind.TheVariants.{Safe, Expected, Normal}
 use Rattle.sdm_rules.specs.declared.faults.Section.{Section}
 use Rattle.sdm_rules.specs.declared.faults.Section.TheVariants as sections
-use Rattle.sdm_rules.specs.declared.keys.TheConstants as keys
+use Rattle.sdm_rules.specs.Keys as keys
 use Rattle.sdm_rules.specs.declared.faults.TrainFault.{TrainFault}
 use Rattle.sdm_rules.specs.declared.faults.TrainFault.TheVariants as train_faults
 use Rattle.sdm_rules.specs.declared.faults.NationalFault.{NationalFault}
@@ -35,22 +35,27 @@ use Rattle.sdm_formats.specs.Input.{End, Done, TooLong, NoSplit, Toml, Data, Und
 
 -- ---- keys of the data part
 
--- the bytes of each of these texts
-abbrev pub bytes_of_each : List record { now : List ℕ } → List (List ℕ)
-bytes_of_each texts = map (λ text. text.now) texts
-
 -- the names of a section's keys, by number from 1
 unfoldable pub key_names : Section → List (List ℕ)
-key_names sections.Root = bytes_of_each keys.ROOT
-key_names sections.Train = bytes_of_each keys.TRAIN
-key_names sections.Band = bytes_of_each keys.BAND
-key_names sections.National = bytes_of_each keys.NATIONAL
-key_names sections.Track = bytes_of_each keys.TRACK
-key_names sections.Gradient = bytes_of_each keys.GRADIENT
-key_names sections.Speed = bytes_of_each keys.SPEED
-key_names sections.Adhesion = bytes_of_each keys.AREA
-key_names sections.NoSpecial = bytes_of_each keys.AREA
-key_names sections.Authority = bytes_of_each keys.AUTHORITY
+key_names sections.Root = codes "version" ∷ codes "train" ∷ codes "national" ∷ codes "track" ∷ codes "authority" ∷ []
+key_names sections.Train =
+    codes "length" ∷ codes "max_speed" ∷ codes "rotating_mass" ∷ codes "traction_cutoff_time"
+    ∷ codes "traction_cutoff_interface" ∷ codes "emergency_time" ∷ codes "service_time" ∷ codes "service_brake"
+    ∷ codes "band" ∷ []
+key_names sections.Band =
+    codes "upper" ∷ codes "emergency" ∷ codes "service" ∷ codes "normal" ∷ codes "kdry" ∷ codes "kwet" ∷ codes "kn_up"
+    ∷ codes "kn_down" ∷ codes "emergency_reduced" ∷ []
+key_names sections.National =
+    codes "avadh" ∷ codes "adhesion_max" ∷ codes "guidance" ∷ codes "service_in_target" ∷ codes "early_release"
+    ∷ codes "inhibit_under_reading" ∷ []
+key_names sections.Track =
+    codes "length" ∷ codes "gradient" ∷ codes "speed" ∷ codes "adhesion" ∷ codes "no_special" ∷ []
+key_names sections.Gradient = codes "start" ∷ codes "grad" ∷ []
+key_names sections.Speed = codes "start" ∷ codes "speed" ∷ codes "delayed" ∷ []
+key_names sections.Adhesion = codes "start" ∷ codes "end" ∷ []
+key_names sections.NoSpecial = codes "start" ∷ codes "end" ∷ []
+key_names sections.Authority =
+    codes "kind" ∷ codes "eoa" ∷ codes "svl" ∷ codes "release" ∷ codes "loa" ∷ codes "speed" ∷ []
 
 -- the name of a key of a section, if it has one
 abbrev pub key_name : Section → ℕ → Option (List ℕ)

@@ -1,5 +1,4 @@
--- The supervisor of one brake curve on a level track: one band, one deceleration, and an end (own). It is the plainest
--- case of a brake curve, and its command stays beside the whole supervisor.
+-- The supervisor of `flat`: one brake curve on a level track, with one band, one deceleration, and an end (own).
 use Rattle.std.specs.Prelude.{ℕ, suc, ℤ, pos, negsuc, Bool, false, not, ◌&&◌, ◌||◌, List, [], ◌∷◌, ◌++◌, Option, Some}
 use Rattle.std.specs.Prelude.{None, Result, Ok, Err, ◌*◌, decimal, nat_lt, int_lt, unsigned_abs}
 use Rattle.std.specs.Fmt.{signed_decimal}

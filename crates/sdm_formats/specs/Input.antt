@@ -1,5 +1,5 @@
--- What `run` defines for the bytes of its input: the turns of its journey and its end, of which there is one pair for
--- all bytes (own).
+-- What `run` defines for the bytes of its input: the turns of the journey, and how the input ends (own). Any bytes have
+-- exactly one such pair.
 use Rattle.std.specs.Prelude.{◌≡◌, ◌⊎◌, MatchBool, nat_lt, ℕ, List, [], Option, Some, None, Result, Ok, Err, length}
 use Rattle.std.specs.Prelude.{take, drop}
 use Rattle.sdm_rules.specs.declared.authorities.Authority.{Authority}

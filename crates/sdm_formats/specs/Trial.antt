@@ -1,4 +1,4 @@
--- A journey from a number: fixed data, made readings, and a summary of the rows (own).
+-- A journey made from one number: fixed data, readings made from the number, and a summary of the rows (own).
 use Rattle.std.specs.Prelude.{ℕ, zero, suc, ℤ, pos, negsuc, true, false, Some, None, Result, Ok, List, [], ◌∷◌, ◌++◌}
 use Rattle.std.specs.Prelude.{◌+◌, ◌*◌, ◌%◌, ◌+ℤ◌, ◌-ℤ◌, codes, decimal, count_by, fold, length, unwrap_or}
 use Rattle.std.specs.Prelude.{unsigned_abs}

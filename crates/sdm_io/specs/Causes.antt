@@ -1,5 +1,4 @@
--- Why a source or a sink failed (own). Each counts its faults, and an answer of failure comes only with a fault
--- counted.
+-- Why a source or a sink fails (own). Each counts its faults, and a call returns an error only when it counts one.
 use Rattle.std.specs.Prelude.{ℕ, ◌+◌, ◌-◌, ◌^◌, ◌≤◌, min, Result, OnErr}
 
 -- a count after one more: it ends at 2^64 - 1 and stands there

@@ -1,4 +1,4 @@
--- Bytes that a source has left or a sink took, which some of them tell and others do not (own).
+-- The bytes that a source has left or that a sink has taken: some sources and sinks know them, others don't (own).
 use Rattle.std.specs.Prelude.{◌≡◌, ℕ, ◌<◌, ◌≤◌, List, [], ◌++◌, length, take, Option, IfSome}
 use Rattle.std.specs.Io.KnownBytes.{Appends, Consumes}
 

@@ -1,5 +1,5 @@
--- The energy that a distance asks for in one band. These are means of proof: no definition of the profile cites them
--- (own).
+-- The energy that a distance takes in one band (own). This serves proofs and certificates: no definition of the profile
+-- cites it.
 use Rattle.std.specs.Prelude.{ℕ, zero, suc, ℤ, pos, ◌+◌, ◌+ℤ◌}
 use Rattle.sdm_rules.specs.Slopes.{Slopes}
 use Rattle.sdm_rules.specs.Curves.{cell_at}

@@ -3,11 +3,10 @@
 use Rattle.std.specs.Prelude.{◌≡◌, ℕ, ℤ, pos, List, [], ◌∷◌, ◌++◌, ◌*◌, ◌<◌, ◌≤◌, ◌+ℤ◌, ◌*ℤ◌, ◌≤ℤ◌, All}
 use Rattle.sdm_num.specs.Fractions.{IsAtMost, whole}
 use Rattle.sdm_rules.specs.declared.motions.Point.{Point}
-use Rattle.sdm_rules.specs.declared.motions.Slice.{Slice}
 use Rattle.sdm_rules.specs.declared.motions.Start.{Start}
 use Rattle.sdm_rules.specs.Slopes.{Slopes, IsUsable}
 use Rattle.sdm_rules.specs.Curves.{exact_at}
-use Rattle.sdm_rules.specs.Motion.{IsInBand, HasPart, BrakesAtLeast, IsBraking, IsMotion, slice_ends}
+use Rattle.sdm_rules.specs.Motion.{IsInBand, HasPart, BrakesAtLeast, IsBraking, Motion, IsMotion, slice_ends}
 use Rattle.sdm_rules.specs.Reaction.{build_up_of, v_bec, d_bec}
 
 -- ---- braking, with places in 1/m grain and squares in 1/m squared notch
@@ -71,7 +70,5 @@ IsInReach s start target p =
 -- first braking point lie at most D_bec past the beginning, with a speed of at most V_bec, for any target speed.
 abbrev pub LawOfReaction : Type 0
 LawOfReaction =
-    (s : ℕ) (start : Start) (on : Slopes) (target : ℕ) (p : ℤ) (v : ℕ) (xs : List Slice) (first : Point)
-    (more : List Point) →
-    IsMotion s start on p v xs first more → v ≤ s * start.speed →
-    All (IsInReach s start target p) (slice_ends p v xs ++ first ∷ [])
+    (on : Slopes) (start : Start) (m : Motion) (target : ℕ) → IsMotion on start m → m.speed ≤ m.scale * start.speed →
+    All (IsInReach m.scale start target m.place) (slice_ends m.place m.speed m.slices ++ m.first ∷ [])

@@ -1,4 +1,4 @@
-mod Along
+pub mod Along
 mod Handing
 mod Taking
 mod Serving

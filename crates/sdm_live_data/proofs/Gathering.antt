@@ -7,23 +7,6 @@ use Rattle.sdm_live.specs.Exchanges.{Along, Gave, Gave_fault, History, Told, ask
 use Rattle.sdm_live_data.specs.Divisions.{HasNoRecords}
 use Rattle.sdm_live_data.specs.Waiting.{IsGathered, IsUnanswered, IsWaiting, IsWaitingPrompt}
 
-pub along_then : (a b c : Option History) (R Q T : History → History → Type 0) →
-    ((h k l : History) → R h k → Q k l → T h l) → Along a b R → Along b c Q → Along a c T
-along_then None None None R Q T f p q = tt
-along_then None None (Some l) R Q T f p q = absurd q
-along_then None (Some k) c R Q T f p q = absurd p
-along_then (Some h) None None R Q T f p q = tt
-along_then (Some h) None (Some l) R Q T f p q = absurd q
-along_then (Some h) (Some k) None R Q T f p q = tt
-along_then (Some h) (Some k) (Some l) R Q T f p q = f h k l p q
-
-pub along_map : (a b : Option History) (R T : History → History → Type 0) →
-    ((h k : History) → R h k → T h k) → Along a b R → Along a b T
-along_map None None R T f p = tt
-along_map None (Some k) R T f p = absurd p
-along_map (Some h) None R T f p = tt
-along_map (Some h) (Some k) R T f p = f h k p
-
 pub at_first : (a : Option History) → Told a (λ h. is_given_on h ≡ true) → (bytes : List ℕ) → bytes ≡ [] →
     Along a a (IsGathered bytes)
 at_first None told bytes is = tt

@@ -1,5 +1,6 @@
 -- The fields of one line, with commas between them and quotes as in RFC 4180, as `csv` reads them (own).
 use Rattle.std.specs.Prelude.{ℕ, List, [], ◌∷◌, ◌++◌, ◌==◌, if◌then◌else◌}
+use Rattle.csv.specs.Reading.{strip_bom}
 use Rattle.csv.specs.Records.{Row, fields_of, partial_of}
 use Rattle.sdm_live_records.specs.declared.line_fields.Within.{Within}
 use Rattle.sdm_live_records.specs.declared.line_fields.Within.TheVariants.{Start, Plain, Quotes, AfterQuote}
@@ -44,9 +45,13 @@ nothing_split = record { fields = []; field = []; within = Start }
 abbrev pub fields_at_end : Split → List (List ℕ)
 fields_at_end s = s.fields ++ s.field ∷ []
 
--- THE FIELDS of a line
+-- the fields of bytes, whatever they begin with
+abbrev pub split_fields : List ℕ → List (List ℕ)
+split_fields bytes = fields_at_end (split_bytes nothing_split bytes)
+
+-- THE FIELDS of a line: those of its bytes after a byte order mark, if one begins it
 abbrev pub line_fields : List ℕ → List (List ℕ)
-line_fields line = fields_at_end (split_bytes nothing_split line)
+line_fields line = split_fields (strip_bom line)
 
 -- ---- in memory
 

@@ -49,7 +49,7 @@ abbrev pub answered : Supervision → Result Turn EventCause → LiveState
 answered s turn = record { supervision = state_after s turn; text = answer_to turn }
 
 -- LIVE: how lines are taken
-abbrev pub live_rules : Rules LiveState
+unfoldable pub live_rules : Rules LiveState
 live_rules = record {
   next = λ s line. answered s.supervision (turn_of_line s.supervision line);
   told = λ s. s.text;

@@ -2,10 +2,10 @@
 //! each line would take memory each time.
 
 ghost use Rattle.std.specs.Prelude.{◌≡◌, ◌∷◌, ◌++◌, ◌+◌, ◌<◌, ◌≤◌, [], get_or, length, option_map};
+ghost use Rattle.csv.specs.Reading.{strip_bom};
 ghost use Rattle.csv.specs.Records.{field_at, fields_of, partial_of, prev};
 ghost use Rattle.sdm_live.specs.Progress.{longest_line};
-ghost use Rattle.sdm_live_records.specs.Fields.{fields_at_end, line_fields, nothing_split, split_byte};
-ghost use Rattle.sdm_live_records.specs.Fields.{split_of};
+ghost use Rattle.sdm_live_records.specs.Fields.{line_fields, nothing_split, split_byte, split_fields, split_of};
 
 use arrayvec::ArrayVec;
 use sdm_events::RecordFields;
@@ -59,14 +59,22 @@ impl LineFields {
         }
     }
 
-    /// Divides a line into its fields. (own)
+    /// Divides a line into its fields, after a byte order mark that begins it. (own)
     pub fn divide(&mut self, line: &[u8])
         requires { length line.now ≤ longest_line }
         ensures { fields_of self.new ≡ line_fields line.now }
     {
+        self.split(without_mark(line));
+    }
+
+    /// Divides bytes into their fields, whatever they begin with.
+    fn split(&mut self, bytes: &[u8])
+        requires { length bytes.now ≤ longest_line }
+        ensures { fields_of self.new ≡ split_fields bytes.now }
+    {
         self.clear();
         let mut within = Within::Start;
-        for byte in line {
+        for byte in bytes {
             within = self.take(within, *byte);
         }
         self.end_field();
@@ -165,6 +173,18 @@ impl RecordFields for LineFields {
         }
         let (start, end) = bounds(self.ends.as_slice(), index);
         Some(&self.bytes.as_slice()[start..end])
+    }
+}
+
+/// The bytes of a line after a byte order mark that begins it.
+#[tactic(auto, unfolding(csv::specs::Reading::strip_bom))]
+fn without_mark(line: &[u8]) -> &[u8]
+    ensures bytes { result.now ≡ strip_bom line.now }
+    ensures fewer { length result.now ≤ length line.now }
+{
+    match line {
+        [0xEF, 0xBB, 0xBF, rest @ ..] => rest,
+        _ => line,
     }
 }
 

@@ -54,16 +54,19 @@ impl Step for LiveRecords {
 
     ghost rules = { live_rules };
 
+    #[tactic(auto, unfolding(crate::specs::Live::live_rules))]
     fn take(&mut self, line: &[u8]) {
         self.fields.divide(line);
         self.answer.clear();
         answer(&mut self.supervisor, &self.fields, &mut self.answer);
     }
 
+    #[tactic(auto, unfolding(crate::specs::Live::live_rules))]
     fn told(&self) -> &[u8] {
         self.answer.bytes()
     }
 
+    #[tactic(auto, unfolding(crate::specs::Live::live_rules))]
     fn too_long(&self) -> &[u8] {
         too_long_answer()
     }

@@ -18,7 +18,7 @@ map_braking map m f w x ys kept = braking (meaning_of map) m f w x ys (usable_of
 
 -- the law of the reaction
 pub map_reaction : LawOfMapReaction
-map_reaction map s start target = reaction s start (meaning_of map) target
+map_reaction map start m target = reaction (meaning_of map) start m target
 
 -- the square of a scale is above 0 too
 pub square_some : (s : ℕ) → 0 < s → 0 < s * s
@@ -26,5 +26,5 @@ square_some s some = omega (arith, mul-le-mul_left s some)
 
 -- the law of a whole motion
 pub map_motion : LawOfMapMotion
-map_motion map s start f w p v xs first more kept some motion =
-    map_braking map (s * s) f w first more kept (square_some s some) motion.braking
+map_motion map start m f w kept some is =
+    map_braking map (m.scale * m.scale) f w m.first m.more kept (square_some m.scale some) is.braking

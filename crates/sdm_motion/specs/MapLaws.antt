@@ -2,10 +2,9 @@
 -- notches and every scale (own).
 use Rattle.std.specs.Prelude.{ℕ, ℤ, List, [], ◌∷◌, ◌++◌, ◌*◌, ◌<◌, ◌≤◌, All}
 use Rattle.sdm_rules.specs.declared.motions.Point.{Point}
-use Rattle.sdm_rules.specs.declared.motions.Slice.{Slice}
 use Rattle.sdm_rules.specs.declared.motions.Start.{Start}
 use Rattle.sdm_rules.specs.Slopes.{SlopeMap, meaning_of}
-use Rattle.sdm_rules.specs.Motion.{BrakesAtLeast, IsBraking, IsMotion, slice_ends}
+use Rattle.sdm_rules.specs.Motion.{BrakesAtLeast, IsBraking, Motion, IsMotion, slice_ends}
 use Rattle.sdm_laws.specs.MotionLaws.{IsWithinCurve, IsSteepest, IsHeldByCurve, IsInReach}
 use Rattle.sdm_curve.specs.Maps.{handed_in, IsKeptMap}
 
@@ -29,16 +28,14 @@ LawOfMapBraking =
 -- first braking point lie at most D_bec past the beginning, with a speed of at most V_bec, for any target speed.
 abbrev pub LawOfMapReaction : Type 0
 LawOfMapReaction =
-    (map : SlopeMap) (s : ℕ) (start : Start) (target : ℕ) (p : ℤ) (v : ℕ) (xs : List Slice) (first : Point)
-    (more : List Point) →
-    IsMotion s start (meaning_of map) p v xs first more → v ≤ s * start.speed →
-    All (IsInReach s start target p) (slice_ends p v xs ++ first ∷ [])
+    (map : SlopeMap) (start : Start) (m : Motion) (target : ℕ) → IsMotion (meaning_of map) start m →
+    m.speed ≤ m.scale * start.speed →
+    All (IsInReach m.scale start target m.place) (slice_ends m.place m.speed m.slices ++ m.first ∷ [])
 
--- Of a whole motion, at the scale `s`: where its first braking point is within the curve, the curve holds it at every
+-- Of a whole motion, at its scale: where its first braking point is within the curve, the curve holds it at every
 -- braking point.
 abbrev pub LawOfMapMotion : Type 0
 LawOfMapMotion =
-    (map : SlopeMap) (s : ℕ) (start : Start) (f : ℤ) (w : ℕ) (p : ℤ) (v : ℕ) (xs : List Slice) (first : Point)
-    (more : List Point) →
-    IsKeptMap (handed_in map) → 0 < s → IsMotion s start (meaning_of map) p v xs first more →
-    IsWithinCurve (meaning_of map) (s * s) f w first → All (IsHeldByCurve (meaning_of map) (s * s) f w) (first ∷ more)
+    (map : SlopeMap) (start : Start) (m : Motion) (f : ℤ) (w : ℕ) → IsKeptMap (handed_in map) → 0 < m.scale →
+    IsMotion (meaning_of map) start m → IsWithinCurve (meaning_of map) (m.scale * m.scale) f w m.first →
+    All (IsHeldByCurve (meaning_of map) (m.scale * m.scale) f w) (m.first ∷ m.more)

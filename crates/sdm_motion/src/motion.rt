@@ -77,7 +77,7 @@ pub fn is_motion(
 ) -> bool
     requires some { 1 ≤ scale }
     requires few { scale ≤ 16 }
-    ensures { IsTrue result ↔ IsKnownMotion scale start.now (meaning_of map.now) slices.now points.now }
+    ensures { IsTrue result ↔ IsKnownMotion (meaning_of map.now) start.now scale slices.now points.now }
 {
     if !are_in_range(points) {
         return false;

@@ -8,7 +8,7 @@ ghost use Rattle.sdm_curve.specs.Integrals.{slope_of};
 ghost use Rattle.sdm_motion.specs.Motions.{IsPointInRange};
 ghost use Rattle.sdm_motion.specs.Steps.{AreBraking, BrakesIn, IsStepIn};
 
-use crate::slopes::{first_met, have_slope};
+use crate::slopes::{Stretch, first_met, have_slope};
 use sdm_curve::BandMap;
 use sdm_rules::Point;
 
@@ -71,6 +71,19 @@ fn brakes(map: &BandMap, band: usize, i: usize, from: &Point, to: &Point) -> boo
     u128::from(map.rate(band, i)) * distance_to(to, from.place) <= energy
 }
 
+/// The stretch between two points.
+fn stretch_of(from: &Point, to: &Point) -> Stretch
+    requires from { IsPointInRange from.now }
+    requires to { IsPointInRange to.now }
+    ensures from { result.from ≡ from.now.place }
+    ensures to { result.to ≡ to.now.place }
+{
+    Stretch {
+        from: from.place,
+        to: to.place,
+    }
+}
+
 /// Whether all cells of the stretch have one slope in the band, and the train brakes at least with it. A point that
 /// stays asks no slope.
 fn brakes_in(m: u32, map: &BandMap, band: usize, from: &Point, to: &Point) -> bool
@@ -82,11 +95,12 @@ fn brakes_in(m: u32, map: &BandMap, band: usize, from: &Point, to: &Point) -> bo
     requires slower { to.now.square ≤ from.now.square }
     ensures { IsTrue result ↔ BrakesIn (meaning_of map.now) m band from.now to.now }
 {
-    let Some(i) = first_met(m, map, from, to) else {
+    let stretch = stretch_of(from, to);
+    let Some(i) = first_met(m, map, stretch) else {
         return true;
     };
     let slope = map.natural_slope(band, i);
-    if !have_slope(m, map, band, from, to, slope) {
+    if !have_slope(m, map, band, stretch, slope) {
         return false;
     }
     brakes(map, band, i, from, to)

@@ -2,7 +2,7 @@
 //! that is refused changes nothing in the supervisor; what it asked is missing there, so the brake is commanded until
 //! it is there.
 
-ghost use Rattle.std.specs.Prelude.{◌≡◌, ◌⊎◌, IsTrue, OnOk};
+ghost use Rattle.std.specs.Prelude.{◌≡◌, ◌⊎◌, IsTrue, IsOkAnd, OnOk};
 ghost use Rattle.sdm_ride.specs.declared.happenings.Happening.{Happening};
 ghost use Rattle.sdm_ride.specs.declared.happenings.Happening.TheVariants.{Record};
 ghost use Rattle.sdm_rules.specs.declared.records.Event.TheVariants as record_kinds;
@@ -110,8 +110,11 @@ impl Onboard {
     pub fn change_data(&mut self, opened: Result<Supervisor, OpeningFault>) -> News
         requires fresh { IfOk opened (λ next. next.restrictions ≡ finite.empty) }
         ensures taken { result ≡ News.Taken →
-            IfOk opened (λ next. self.new.supervisor ≡ taken_over next self.old.supervisor) }
+            IsOkAnd opened (λ next. self.new.supervisor ≡ taken_over next self.old.supervisor) }
+        ensures changed { IsOkAnd opened (λ next. self.new.supervisor ≡ taken_over next self.old.supervisor)
+            ⊎ (self.new.supervisor ≡ self.old.supervisor) }
         ensures stands { IsTrue self.old.orders.emergency → IsTrue self.new.orders.emergency }
+        ensures serves { IsTrue self.old.orders.service → IsTrue self.new.orders.service }
         ensures refused { result ≡ News.Taken
             ⊎ (IsTrue self.new.is_authority_missing × IsTrue self.new.orders.emergency) }
     {
@@ -135,6 +138,7 @@ impl Onboard {
         ensures supervisor { self.new.supervisor ≡ self.old.supervisor }
         ensures missing { IsTrue self.new.is_authority_missing }
         ensures braked { IsTrue self.new.orders.emergency }
+        ensures served { IsTrue self.new.orders.service }
     {
         self.is_authority_missing = true;
         self.orders = Orders::BRAKE;

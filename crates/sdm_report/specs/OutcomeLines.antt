@@ -1,4 +1,4 @@
--- The line of the fault stream that tells an outcome, and the exit status (own).
+-- The line that reports an outcome on the fault stream, and the exit status (own).
 use Rattle.std.specs.Prelude.{ℕ, List, [], codes}
 use Rattle.sdm_formats.specs.Input as ends
 use Rattle.sdm_formats.specs.FaultLines.{fault_line, end_line, memory_text}

@@ -225,21 +225,27 @@ module _ (j : Judging) (s : ℕ) (t under : Supervision) (r : OdometerReading) (
 
 -- the law of motions as rides
 pub motion_rides : LawOfMotionRides
-motion_rides j s under r place speed xs first more o motion =
+motion_rides j under r m o is =
+    let s = m.scale in
+    let place = m.place in
+    let speed = m.speed in
+    let first = m.first in
+    let more = m.more in
+    let motion = is.1.motion in
     let start = start_of (record { under = under; reading = r; age = 0 }) in
     let on = slopes_of Safe under.train_and_track in
     let t = after_reading under r in
     let end = last_point first more in
-    let h = motion.1.motion.reaction in
+    let h = motion.reaction in
     let slices : AreSlices start speed (h.traction ++ h.build) = subst
     (λ (zs : List Slice). AreSlices start speed zs) h.split h.slices in
     let parts = slices_split start speed h.traction h.build slices in
     let middle = last_speed speed h.traction in
-    let whole : xs ≡ h.traction ++ h.build = h.split in
+    let whole : m.slices ≡ h.traction ++ h.build = h.split in
     let begins : first ≡ record {
       place = place +ℤ pos (distance_of (h.traction ++ h.build));
       square = last_speed speed (h.traction ++ h.build) * last_speed speed (h.traction ++ h.build);
-    } = motion.1.motion.begins
+    } = motion.begins
     ∙ ap (λ (zs : List Slice). last_point (record { place = place; square = speed * speed })
     (slice_ends place speed zs)) whole
     ∙ last_end place speed (h.traction ++ h.build) in
@@ -280,5 +286,5 @@ motion_rides j s under r place speed xs first more o motion =
     brakes_to j s t under r end
     ((place +ℤ pos (distance_of h.traction)) +ℤ pos (distance_of h.build)) (last_speed middle h.build) u' age'
     silence' more (open_usable under o Safe) faster' (omega arith)
-    (subst (λ (x : Point). IsBraking on (s * s) x more) at_last motion.1.motion.braking)
+    (subst (λ (x : Point). IsBraking on (s * s) x more) at_last motion.braking)
     (ap (λ (x : Point). last_point x more) (sym at_last))))

@@ -12,12 +12,11 @@ use Rattle.sdm_rules.specs.declared.authorities.Authority.TheVariants.{Stop}
 use Rattle.sdm_rules.specs.declared.data.SlopeKind.TheVariants.{Safe}
 use Rattle.sdm_rules.specs.declared.faults.EventCause.{EventCause}
 use Rattle.sdm_rules.specs.declared.motions.Point.{Point}
-use Rattle.sdm_rules.specs.declared.motions.Slice.{Slice}
 use Rattle.sdm_rules.specs.declared.records.Event.{Event}
 use Rattle.sdm_rules.specs.declared.records.Event.TheVariants as record_kinds
 use Rattle.sdm_rules.specs.Cells.{place_of_cell}
 use Rattle.sdm_rules.specs.Decelerations.{slopes_of}
-use Rattle.sdm_rules.specs.Motion.{KeepsTo, last_point, slice_ends}
+use Rattle.sdm_rules.specs.Motion.{Motion, KeepsTo, last_point, slice_ends}
 use Rattle.sdm_rules.specs.Opening.{IsOpen}
 use Rattle.sdm_rules.specs.Reaction.{reaction_start}
 use Rattle.sdm_rules.specs.Records.{step}
@@ -45,9 +44,8 @@ use Rattle.sdm_ride.proofs.Left.{build_tick, now_braking, now_build, now_tractio
 -- a reading that gives a promise promises it of every braking point of every motion
 abbrev pub Gives : Judging → Promised → Type 0
 Gives j what = (under : Supervision) (r : OdometerReading) → IsOpen under → j.promises under r ≡ true →
-    (s : ℕ) (p : ℤ) (v : ℕ) (xs : List Slice) (first : Point) (more : List Point) →
-    IsMotionOn (slopes_of Safe under.train_and_track) (reaction_start under.train_and_track r) s p v xs first more →
-    All (what s under r) (first ∷ more)
+    (m : Motion) → IsMotionOn (slopes_of Safe under.train_and_track) (reaction_start under.train_and_track r) m →
+    All (what m.scale under r) (m.first ∷ m.more)
 
 -- what holds of a list holds of its later part
 later_all : (Q : Point → Type 0) (xs ys : List Point) → All Q (xs ++ ys) → All Q ys
@@ -56,30 +54,30 @@ later_all Q (x ∷ xs) ys h = later_all Q xs ys (λ k d lt. h (suc k) d (omega a
 
 -- a covered row
 covered_gives : Gives by_rows IsAsCovered
-covered_gives under r o covered s p v xs first more motion =
+covered_gives under r o covered m is =
     let safe = stop under r o covered in
     λ k d lt. record {
-      stops = λ eoa svl release a. safe.stops eoa svl release a s p v xs first more motion k d lt;
-      meets = λ t is speed. later_all (KeepsTo s t.place (foot_speed_of t)) (slice_ends p v xs) (first ∷ more)
-          (safe.meets t is speed s p v xs first more motion) k d lt;
+      stops = λ eoa svl release a. safe.stops eoa svl release a m is k d lt;
+      meets = λ t among speed. later_all (KeepsTo m.scale t.place (foot_speed_of t))
+          (slice_ends m.place m.speed m.slices) (m.first ∷ m.more) (safe.meets t among speed m is) k d lt;
     }
 
 -- a free row
 free_gives : Gives by_free_rows IsAsFree
-free_gives under r o free s p v xs first more motion =
+free_gives under r o free m is =
     let parts = and_parts (row_of under r).covered (not (row_of under r).held.eb) free in
     let met = falls under r o parts.0 (not-true _ parts.1) in
     λ k d lt. record {
-      covered = covered_gives under r o parts.0 s p v xs first more motion k d lt;
-      falls = λ cell ahead. later_all (KeepsTo s (place_of_cell cell)
+      covered = covered_gives under r o parts.0 m is k d lt;
+      falls = λ cell ahead. later_all (KeepsTo m.scale (place_of_cell cell)
           (foot_speed_of (fall_at (profile_of under) cell) + allowance under.train_and_track r cell))
-          (slice_ends p v xs) (first ∷ more) (met cell ahead s p v xs first more motion) k d lt;
+          (slice_ends m.place m.speed m.slices) (m.first ∷ m.more) (met cell ahead m is) k d lt;
     }
 
 -- a reading within the SvL
 svl_gives : Gives by_svl IsByItsSvl
-svl_gives under r o within s p v xs first more motion =
-    λ k d lt eoa svl release a. within_stops under r o within eoa svl release a s p v xs first more motion k d lt
+svl_gives under r o within m is =
+    λ k d lt eoa svl release a. within_stops under r o within eoa svl release a m is k d lt
 
 -- ---- what is left by the clock
 
@@ -202,7 +200,15 @@ module _ (j : Judging) (what : Promised) (gives : Gives j what) (s : ℕ) (s_pos
   whole m r o promises told = λ traction build in_traction in_build time build_time slices more brakes.
       let xs = traction ++ build in
       let first = last_point (at m.place m.speed) (slice_ends m.place m.speed xs) in
-      gives m.supervision r o promises s m.place m.speed xs first more (
+      let motion : Motion = record {
+        scale = s;
+        place = m.place;
+        speed = m.speed;
+        slices = xs;
+        first = first;
+        more = more;
+      } in
+      gives m.supervision r o promises motion (
         s_pos,
         record {
           place = told.front;

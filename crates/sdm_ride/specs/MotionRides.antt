@@ -3,9 +3,8 @@ use Rattle.std.specs.Prelude.{◌≡◌, ℕ, ℤ, true, Bool, false, All, List,
 use Rattle.sdm_num.specs.Readings.{OdometerReading}
 use Rattle.sdm_rules.specs.declared.data.SlopeKind.TheVariants.{Safe}
 use Rattle.sdm_rules.specs.declared.motions.Point.{Point}
-use Rattle.sdm_rules.specs.declared.motions.Slice.{Slice}
 use Rattle.sdm_rules.specs.Decelerations.{slopes_of}
-use Rattle.sdm_rules.specs.Motion.{last_point}
+use Rattle.sdm_rules.specs.Motion.{Motion, last_point}
 use Rattle.sdm_rules.specs.Opening.{IsOpen}
 use Rattle.sdm_rules.specs.Reaction.{reaction_start}
 use Rattle.sdm_rules.specs.Stop.{IsMotionOn}
@@ -48,7 +47,6 @@ pub record ComesTo (j : Judging) (s : ℕ) (m : Moment) (end : Point) : Type 0 w
 -- each motion within the bounds of a reading ends where a ride by the clock does, at the same scale
 abbrev pub LawOfMotionRides : Type 0
 LawOfMotionRides =
-    (j : Judging) (s : ℕ) (under : Supervision) (r : OdometerReading) (place : ℤ) (speed : ℕ) (xs : List Slice)
-    (first : Point) (more : List Point) → IsOpen under →
-    IsMotionOn (slopes_of Safe under.train_and_track) (reaction_start under.train_and_track r) s place speed xs first
-    more → ComesTo j s (promised_at under r place speed) (last_point first more)
+    (j : Judging) (under : Supervision) (r : OdometerReading) (m : Motion) → IsOpen under →
+    IsMotionOn (slopes_of Safe under.train_and_track) (reaction_start under.train_and_track r) m →
+    ComesTo j m.scale (promised_at under r m.place m.speed) (last_point m.first m.more)

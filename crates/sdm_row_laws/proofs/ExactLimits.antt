@@ -3,7 +3,7 @@ use Rattle.std.proofs.Common.{◌≡◌, ℕ, ℤ, pos, neg_ℤ, true, false, �
 use Rattle.std.proofs.Common.{refl, subst, sym}
 use Rattle.std.proofs.lemmas.Int.{ints}
 use Rattle.std.proofs.lemmas.Option.{same_Some}
-use Rattle.std.proofs.Math.Nat.{mul-le-mul_left}
+use Rattle.std.proofs.Math.Nat.{mul-pos}
 use Rattle.std.specs.Prelude.{◌≢◌, Some, All, List, [], ◌∷◌, suc}
 use Rattle.sdm_rules.specs.declared.motions.Point.{Point}
 use Rattle.std.proofs.lemmas.List.Elements.{All-append, All-contains, All-weaker, Contains-append_right}
@@ -62,13 +62,14 @@ within_is x front d e =
 stops_exactly : (on : Slopes) → IsUsable on → (start : Start) (f : ℤ) →
     IsAtMost (whole (start.front +ℤ pos (d_bec (build_up_of start) 0)))
     (exact_at on 1 f 0 (v_bec (build_up_of start) 0 * v_bec (build_up_of start) 0)) → StopsBy on start f
-stops_exactly on usable start f h s p u xs first more m =
-    let s_pos : 0 < s * s = (let h = m.0 in omega (arith, mul-le-mul_left s h)) in
-    let reached = in_reach s start on 0 p u xs first more m.1.motion m.1.speed in
-    let within = within_first on usable s f 0 (v_bec (build_up_of start) 0) (d_bec (build_up_of start) 0) start.front p
-    first s_pos h m.1.place reached.begins in
-    let held = braking on (s * s) f 0 first more usable s_pos m.1.motion.braking within in
-    All-weaker (IsHeldByCurve on (s * s) f 0) (IsBy s f) (λ y k. k.standing refl) (first ∷ more) held
+stops_exactly on usable start f h m is =
+    let s = m.scale in
+    let s_pos : 0 < s * s = mul-pos is.0 is.0 in
+    let reached = in_reach on start m 0 is.1.motion is.1.speed in
+    let within = within_first on usable s f 0 (v_bec (build_up_of start) 0) (d_bec (build_up_of start) 0) start.front
+    m.place m.first s_pos h is.1.place reached.begins in
+    let held = braking on (s * s) f 0 m.first m.more usable s_pos is.1.motion.braking within in
+    All-weaker (IsHeldByCurve on (s * s) f 0) (IsBy s f) (λ y k. k.standing refl) (m.first ∷ m.more) held
 
 -- the limit of a start is the exact place of V_bec, less D_bec
 pub exact_limit : (on : Slopes) → IsUsable on → (start : Start) (f : ℤ) (v d : ℕ) → v_bec (build_up_of start) 0 ≡ v →
@@ -146,18 +147,19 @@ same_d_bec b t le =
 slows_exactly : (on : Slopes) → IsUsable on → (start : Start) (f : ℤ) (w : ℕ) →
     IsAtMost (whole (start.front +ℤ pos (d_bec (build_up_of start) 0)))
     (exact_at on 1 f w (v_bec (build_up_of start) 0 * v_bec (build_up_of start) 0)) → SlowsTo on start f w
-slows_exactly on usable start f w h s p u xs first more m =
-    let s_pos : 0 < s * s = (let h = m.0 in omega (arith, mul-le-mul_left s h)) in
+slows_exactly on usable start f w h m is =
+    let s = m.scale in
+    let s_pos : 0 < s * s = mul-pos is.0 is.0 in
     let K : Point → Type 0 = KeepsTo s f w in
-    let reached = in_reach s start on 0 p u xs first more m.1.motion m.1.speed in
-    let within : (y : Point) → IsInReach s start 0 p y → IsWithinCurve on (s * s) f w y = λ y b.
-    within_first on usable s f w (v_bec (build_up_of start) 0) (d_bec (build_up_of start) 0) start.front p y s_pos h
-    m.1.place b in
-    let held = braking on (s * s) f w first more usable s_pos m.1.motion.braking (within first reached.begins) in
+    let reached = in_reach on start m 0 is.1.motion is.1.speed in
+    let within : (y : Point) → IsInReach s start 0 m.place y → IsWithinCurve on (s * s) f w y = λ y b.
+    within_first on usable s f w (v_bec (build_up_of start) 0) (d_bec (build_up_of start) 0) start.front m.place y s_pos
+    h is.1.place b in
+    let held = braking on (s * s) f w m.first m.more usable s_pos is.1.motion.braking (within m.first reached.begins) in
     All-append K _ _
-    (All-weaker (IsInReach s start 0 p) K (λ y b. (within_held on (s * s) f w y usable s_pos (within y b)).past) _
+    (All-weaker (IsInReach s start 0 m.place) K (λ y b. (within_held on (s * s) f w y usable s_pos (within y b)).past) _
     reached.ends)
-    (All-weaker (IsHeldByCurve on (s * s) f w) K (λ y k. k.past) (first ∷ more) held)
+    (All-weaker (IsHeldByCurve on (s * s) f w) K (λ y k. k.past) (m.first ∷ m.more) held)
 
 exact_speed_limit : (on : Slopes) → IsUsable on → (start : Start) (f : ℤ) (w v d : ℕ) →
     v_bec (build_up_of start) 0 ≡ v → d_bec (build_up_of start) 0 ≡ d → w < v →
@@ -200,8 +202,8 @@ last_of P x (y ∷ ys) h = last_of P y ys (λ k d lt. h (suc k) d (omega arith))
 -- where some motion passes a place, not every one stops by it
 pub refuted : (on : Slopes) (start : Start) (place : ℤ) → MayPass on start place → StopsBy on start place → ⊥
 refuted on start place may stops =
-    let h = last_of (IsBy may.scale place) may.first may.more
-    (stops may.scale may.from may.speed may.slices may.first may.more may.motion) in
+    let m = may.motion in
+    let h = last_of (IsBy m.scale place) m.first m.more (stops m may.is_motion) in
     let past = may.past in
     omega (arith, ints)
 
@@ -209,10 +211,9 @@ refuted on start place may stops =
 pub refuted_speed : (on : Slopes) (start : Start) (place : ℤ) (w : ℕ) → MayExceed on start place w →
     SlowsTo on start place w → ⊥
 refuted_speed on start place w may slows =
-    let ends = slice_ends may.from may.speed may.slices in
-    let all = slows may.scale may.from may.speed may.slices may.first may.more may.motion in
-    let slow = All-contains (KeepsTo may.scale place w) _ may.point all
-    (Contains-append_right ends (may.first ∷ may.more) may.point may.there) in
+    let m = may.motion in
+    let slow = All-contains (KeepsTo m.scale place w) _ may.point (slows m may.is_motion)
+    (Contains-append_right (slice_ends m.place m.speed m.slices) (m.first ∷ m.more) may.point may.there) in
     let fast = may.fast in
     let kept = slow may.past in
     omega arith

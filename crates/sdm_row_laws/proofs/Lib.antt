@@ -4,5 +4,7 @@ pub mod CurvesThrough
 pub mod Following
 pub mod Tight
 pub mod ExactLimits
+pub mod CoveredFalls
+pub mod ShownTriggers
 pub mod OpenTurns
 pub mod ReleaseLimits

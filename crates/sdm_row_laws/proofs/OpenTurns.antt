@@ -11,14 +11,20 @@ use Rattle.sdm_rules.specs.Opening.{IsOpen}
 use Rattle.sdm_rules.specs.Records.{Journey, Turn, go_on, journey_from, step, turn_of, turn_to}
 use Rattle.sdm_rules.specs.Supervision.{Supervision, after_reading}
 use Rattle.sdm_laws.proofs.Rows.Falls.{falls}
-use Rattle.sdm_laws.proofs.Rows.Headline.{over_kinds, still_open}
+use Rattle.sdm_laws.proofs.Rows.Headline.{limits, over_kinds, still_open}
 use Rattle.sdm_laws.proofs.Rows.Journeys.{turns_safe}
+use Rattle.sdm_laws.proofs.Rows.PrintedLimits.{printed_limits}
 use Rattle.sdm_row_laws.specs.AllCommands.{AllInOrder}
-use Rattle.sdm_row_laws.specs.OpenTurns.{AreTurnsPromised, LawOfFallJourneys, LawOfOpenTurns, LawOfPromisedTurns}
-use Rattle.sdm_row_laws.specs.OpenTurns.{LawOfServiceJourneys, MeetsFallsIfFree, OfJourneys, OfReading}
+use Rattle.sdm_row_laws.specs.CoveredFalls.{MeetsEachFallIfCovered}
+use Rattle.sdm_row_laws.specs.OpenTurns.{AreTurnsPromised, HasNearLimits, LawOfCoveredFallJourneys, LawOfFallJourneys}
+use Rattle.sdm_row_laws.specs.OpenTurns.{LawOfLimitJourneys, LawOfOpenTurns, LawOfPromisedTurns, LawOfServiceJourneys}
+use Rattle.sdm_row_laws.specs.OpenTurns.{LawOfShownJourneys, MeetsFallsIfFree, OfJourneys, OfReading}
 use Rattle.sdm_row_laws.specs.ServiceStop.{StopsIfFree}
+use Rattle.sdm_row_laws.specs.ShownTriggers.{IsShownAsTriggered}
 use Rattle.sdm_row_laws.proofs.AllOrder.{all_journeys}
+use Rattle.sdm_row_laws.proofs.CoveredFalls.{covered_falls}
 use Rattle.sdm_row_laws.proofs.Service.{service_rows}
+use Rattle.sdm_row_laws.proofs.ShownTriggers.{shown_triggers}
 
 module _ (P : Supervision → OdometerReading → Type 0) (holds : (s : Supervision) (r : OdometerReading) → IsOpen s → P s r)
   where
@@ -66,6 +72,19 @@ service_journeys = journeys StopsIfFree service_rows
 pub fall_journeys : {Record : Type 0} → LawOfFallJourneys Record
 fall_journeys = journeys MeetsFallsIfFree falls
 
+pub covered_fall_journeys : {Record : Type 0} → LawOfCoveredFallJourneys Record
+covered_fall_journeys = journeys MeetsEachFallIfCovered covered_falls
+
+-- the limits of a reading
+pub near_limits : (s : Supervision) (r : OdometerReading) → IsOpen s → HasNearLimits s r
+near_limits s r o = record { computed = limits s r o; printed = printed_limits s r o }
+
+pub limit_journeys : {Record : Type 0} → LawOfLimitJourneys Record
+limit_journeys = journeys HasNearLimits near_limits
+
+pub shown_journeys : {Record : Type 0} → LawOfShownJourneys Record
+shown_journeys = journeys IsShownAsTriggered (λ s r o. shown_triggers s r)
+
 -- no turn
 pub none_promised : AreTurnsPromised []
 none_promised = record {
@@ -73,6 +92,9 @@ none_promised = record {
   in_order = tt;
   eoa = All-nil (λ (t : Turn). OfReading StopsIfFree t.before t.event);
   falls = All-nil (λ (t : Turn). OfReading MeetsFallsIfFree t.before t.event);
+  each_fall = All-nil (λ (t : Turn). OfReading MeetsEachFallIfCovered t.before t.event);
+  limits = All-nil (λ (t : Turn). OfReading HasNearLimits t.before t.event);
+  shown = All-nil (λ (t : Turn). OfReading IsShownAsTriggered t.before t.event);
 }
 
 -- the turns of a journey from an open state in which nothing is held
@@ -83,6 +105,9 @@ promised_turns form n s records o none = record {
   in_order = all_journeys form n s nothing_held nothing_held records o (rw none nothing_in_order);
   eoa = service_journeys form n s records o;
   falls = fall_journeys form n s records o;
+  each_fall = covered_fall_journeys form n s records o;
+  limits = limit_journeys form n s records o;
+  shown = shown_journeys form n s records o;
 }
   where
     nothing_in_order : AllInOrder nothing_held nothing_held nothing_held

@@ -17,7 +17,7 @@ use Rattle.sdm_rules.specs.declared.motions.Slice.{Slice}
 use Rattle.sdm_rules.specs.declared.motions.Start.{Start}
 use Rattle.sdm_rules.specs.Slopes.{Slopes, IsUsable}
 use Rattle.sdm_rules.specs.Curves.{exact_at}
-use Rattle.sdm_rules.specs.Motion.{IsBraking, IsIn, IsReaction, IsSlice}
+use Rattle.sdm_rules.specs.Motion.{IsBraking, IsIn, IsReaction, IsSlice, Motion}
 use Rattle.sdm_rules.specs.Reaction.{build_up_of, d_bec, v_bec, v_cut_off}
 use Rattle.sdm_rules.specs.Stop.{IsMotionOn}
 use Rattle.sdm_laws.proofs.BrakeCurves.Chains.{Chain}
@@ -96,6 +96,17 @@ module _ (s : ℕ) (start : Start) where
 
 -- ---- the motion
 
+-- from a place on the greatest reaction, and then these braking points
+abbrev greatest : ℕ → Start → ℤ → Point → List Point → Motion
+greatest s start from first more = record {
+  scale = s;
+  place = from;
+  speed = s * start.speed;
+  slices = pushed s start ∷ built s start ∷ [];
+  first = first;
+  more = more;
+}
+
 -- A motion from a start: after the greatest reaction the train follows the curve through the place that it has reached
 -- with its speed, `z` and `v`, down to the square `last` at the scale `m`. Its points count `s * s`, which is `k * m`.
 record Followed (on : Slopes) (start : Start) (z : ℤ) (v m last : ℕ) : Type 0 where
@@ -109,7 +120,7 @@ record Followed (on : Slopes) (start : Start) (z : ℤ) (v m last : ℕ) : Type 
   at_end : IsAt k (exact_at on m z v last) end
   goes : (ys : List Point) → IsBraking on (k * m) (point end (k * last)) ys →
       (way : BrakesTo on (s * s) first (point end (k * last)) ys)
-      × IsMotionOn on start s from (s * start.speed) (pushed s start ∷ built s start ∷ []) first way.more
+      × IsMotionOn on start (greatest s start from first way.more)
 
 -- there is one, where `m` is the square of `r`
 followed : (on : Slopes) → IsUsable on → (start : Start) (z : ℤ) (v d r last : ℕ) → v ≡ bec 0 start →
@@ -190,13 +201,8 @@ passes on usable start f before =
     let stopped : h.k * 0 ≡ 0 = omega arith in
     let way = h.goes [] stopped in
     record {
-      scale = h.s;
-      from = h.from;
-      speed = h.s * start.speed;
-      slices = pushed h.s start ∷ built h.s start ∷ [];
-      first = h.first;
-      more = way.0.more;
-      motion = way.1;
+      motion = greatest h.s start h.from h.first way.0.more;
+      is_motion = way.1;
       past = rw way.0.ends (foot_passed h.k h.s f h.end (exact_at on 1 z v 0) h.scale_is h.k_pos h.at_end.is past);
     }
   where
@@ -227,13 +233,8 @@ exceeds on usable start f w lt before =
     let stopped = then_braking on (h.k * m) there rest.via (point h.end 0) [] rest.steps refl in
     let way = h.goes (rest.via ++ point h.end 0 ∷ []) stopped in
     record {
-      scale = h.s;
-      from = h.from;
-      speed = h.s * start.speed;
-      slices = pushed h.s start ∷ built h.s start ∷ [];
-      first = h.first;
-      more = way.0.more;
-      motion = way.1;
+      motion = greatest h.s start h.from h.first way.0.more;
+      is_motion = way.1;
       point = there;
       there = way.0.has there (0, omega arith, refl);
       past = at_place h.k m h.s f h.end (exact_at on m z v last) h.scale_is

@@ -1,7 +1,7 @@
--- The three machines with all their commands, their status and their state. They differ in the limits of targets alone:
--- the exact machine has the exact ones, the row machine, which is the supervisor, the computed ones, the early machine
--- the exact ones one millimetre earlier. All take release speed monitoring from the row machine, and each holds its own
--- commands and status (own).
+-- The three machines with all their commands, their status and their state (own). They differ in the limits of targets
+-- alone. The exact machine has the exact limits, the row machine, which is the supervisor, the computed ones, and the
+-- early machine the exact ones one millimetre earlier. All take release speed monitoring from the row machine. Each
+-- holds its own commands and status.
 use Rattle.std.specs.Prelude.{◌≡◌, ◌≤◌, ℕ, List, [], ◌∷◌, Result, ⊤, is_some, ◌==◌, if◌then◌else◌}
 use Rattle.sdm_num.specs.Units.{millimetre}
 use Rattle.sdm_num.specs.Readings.{OdometerReading, estimate_of}

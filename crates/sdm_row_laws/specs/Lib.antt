@@ -1,5 +1,7 @@
 pub mod AllCommands
 pub mod ServiceStop
 pub mod Tightness
+pub mod CoveredFalls
+pub mod ShownTriggers
 pub mod OpenTurns
 pub mod ReleaseLimits

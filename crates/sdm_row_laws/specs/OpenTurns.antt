@@ -12,6 +12,10 @@ use Rattle.sdm_rules.specs.Supervision.{Supervision, row_of}
 use Rattle.sdm_rules.specs.Commands.{nothing_held}
 use Rattle.sdm_row_laws.specs.AllCommands.{AreTurnsInOrder}
 use Rattle.sdm_laws.specs.Falls.{MeetsFalls}
+use Rattle.sdm_laws.specs.PrintedLimits.{ArePrinted}
+use Rattle.sdm_laws.specs.SupervisionLaws.{AreEarly}
+use Rattle.sdm_row_laws.specs.CoveredFalls.{MeetsEachFallIfCovered}
+use Rattle.sdm_row_laws.specs.ShownTriggers.{IsShownAsTriggered}
 use Rattle.sdm_row_laws.specs.ServiceStop.{StopsIfFree}
 
 -- what is said of a reading, of the reading of a turn; of other records nothing
@@ -32,6 +36,11 @@ OfJourneys P Record =
 abbrev pub MeetsFallsIfFree : Supervision → OdometerReading → Type 0
 MeetsFallsIfFree s r = IsTrue (row_of s r).covered → (row_of s r).held.eb ≡ false → MeetsFalls s r
 
+-- the computed limits of a reading, and those that its row prints, are near the exact ones
+pub record HasNearLimits (s : Supervision) (r : OdometerReading) : Type 0 where
+  pub computed : AreEarly s.train_and_track r
+  pub printed : ArePrinted s r
+
 -- each reading is taken in an open state
 abbrev pub LawOfOpenTurns : Type 0 → Type 0
 LawOfOpenTurns Record = OfJourneys (λ s r. IsOpen s) Record
@@ -44,14 +53,29 @@ LawOfServiceJourneys Record = OfJourneys StopsIfFree Record
 abbrev pub LawOfFallJourneys : Type 0 → Type 0
 LawOfFallJourneys Record = OfJourneys MeetsFallsIfFree Record
 
+-- COVERED AND BRAKING, over every journey
+abbrev pub LawOfCoveredFallJourneys : Type 0 → Type 0
+LawOfCoveredFallJourneys Record = OfJourneys MeetsEachFallIfCovered Record
+
+-- WHAT IS SHOWN TRIGGERS, over every journey
+abbrev pub LawOfShownJourneys : Type 0 → Type 0
+LawOfShownJourneys Record = OfJourneys IsShownAsTriggered Record
+
+-- the limits of each reading, over every journey
+abbrev pub LawOfLimitJourneys : Type 0 → Type 0
+LawOfLimitJourneys Record = OfJourneys HasNearLimits Record
+
 -- WHAT A COMMAND SAYS OF ITS ROWS, from no command held on: the headline; all commands and states in order at each row;
--- the EOA from each row of a moving train that commands no brake; and each fall from each covered row without an
--- emergency command.
+-- the EOA from each row of a moving train that commands no brake; each fall from each covered row, without an emergency
+-- command and with one; limits near the exact ones; and at the reading's own speed those limits are passed that trigger.
 pub record AreTurnsPromised (turns : List Turn) : Type 0 where
   pub safe : AreTurnsSafe false false turns
   pub in_order : AreTurnsInOrder nothing_held nothing_held turns
   pub eoa : All (λ t. OfReading StopsIfFree t.before t.event) turns
   pub falls : All (λ t. OfReading MeetsFallsIfFree t.before t.event) turns
+  pub each_fall : All (λ t. OfReading MeetsEachFallIfCovered t.before t.event) turns
+  pub limits : All (λ t. OfReading HasNearLimits t.before t.event) turns
+  pub shown : All (λ t. OfReading IsShownAsTriggered t.before t.event) turns
 
 -- so it is of every list of records, by whatever form they are read, in an open state in which nothing is held
 abbrev pub LawOfPromisedTurns : Type 0 → Type 0

@@ -1,18 +1,17 @@
 -- The exact limits are limits: at or before one every motion stops in time, past it some motion doesn't (own).
-use Rattle.std.specs.Prelude.{◌∷◌, ◌<◌, ◌≤◌, ◌≤ℤ◌, Contains, ◌≡◌, ℕ, ℤ, pos, neg_ℤ, List, Some, true, false, IsTrue, ◌*◌, ◌+ℤ◌, ◌*ℤ◌, ◌<ℤ◌}
+use Rattle.std.specs.Prelude.{◌∷◌, ◌<◌, ◌≤◌, ◌≤ℤ◌, Contains, ◌≡◌, ℕ, ℤ, pos, neg_ℤ, Some, true, false, IsTrue, ◌*◌, ◌+ℤ◌, ◌*ℤ◌, ◌<ℤ◌}
 use Rattle.sdm_num.specs.Units.{millimetre}
 use Rattle.sdm_num.specs.Fractions.{Fraction}
 use Rattle.sdm_num.specs.Readings.{OdometerReading, estimate_of}
 use Rattle.sdm_rules.specs.declared.data.SlopeKind.TheVariants.{Expected, Safe}
 use Rattle.sdm_rules.specs.declared.motions.Point.{Point}
-use Rattle.sdm_rules.specs.declared.motions.Slice.{Slice}
 use Rattle.sdm_rules.specs.declared.motions.Start.{Start}
 use Rattle.sdm_rules.specs.Cells.{place_of_cell}
 use Rattle.sdm_rules.specs.Data.{TrainAndTrack}
 use Rattle.sdm_rules.specs.Decelerations.{slopes_of}
 use Rattle.sdm_rules.specs.declared.targets.Target.{Target}
 use Rattle.sdm_rules.specs.Limits.{computed, exact_places, limits_of, v_bec_for}
-use Rattle.sdm_rules.specs.Motion.{last_point}
+use Rattle.sdm_rules.specs.Motion.{Motion, last_point}
 use Rattle.sdm_rules.specs.Opening.{IsOpen}
 use Rattle.sdm_rules.specs.Reaction.{reaction_start, v_est_delta0}
 use Rattle.sdm_rules.specs.Slopes.{Slopes}
@@ -24,29 +23,19 @@ use Rattle.sdm_row_laws.specs.ServiceStop.{eoa_target, service_start}
 
 -- Some motion from the start, which brakes at least as the slopes ask, comes to stand past a place in grains.
 pub record MayPass (on : Slopes) (start : Start) (place : ℤ) : Type 0 where
-  pub scale : ℕ
-  pub from : ℤ
-  pub speed : ℕ
-  pub slices : List Slice
-  pub first : Point
-  pub more : List Point
-  pub motion : IsMotionOn on start scale from speed slices first more
-  pub past : (pos (scale * scale) *ℤ place) <ℤ (last_point first more).place
+  pub motion : Motion
+  pub is_motion : IsMotionOn on start motion
+  pub past : (pos (motion.scale * motion.scale) *ℤ place) <ℤ (last_point motion.first motion.more).place
 
 -- Some motion from the start, which brakes at least as the slopes ask, is faster than `w` notches at or past a place in
 -- grains.
 pub record MayExceed (on : Slopes) (start : Start) (place : ℤ) (w : ℕ) : Type 0 where
-  pub scale : ℕ
-  pub from : ℤ
-  pub speed : ℕ
-  pub slices : List Slice
-  pub first : Point
-  pub more : List Point
-  pub motion : IsMotionOn on start scale from speed slices first more
+  pub motion : Motion
+  pub is_motion : IsMotionOn on start motion
   pub point : Point
-  pub there : Contains (first ∷ more) point
-  pub past : (pos (scale * scale) *ℤ place) ≤ℤ point.place
-  pub fast : scale * scale * (w * w) < point.square
+  pub there : Contains (motion.first ∷ motion.more) point
+  pub past : (pos (motion.scale * motion.scale) *ℤ place) ≤ℤ point.place
+  pub fast : motion.scale * motion.scale * (w * w) < point.square
 
 -- Where the front end of the start is at or before the limit every motion stops by the place, and where it is past it
 -- some motion doesn't.

@@ -2,11 +2,14 @@
 
 ghost use Rattle.sdm_row_laws.specs.AllCommands.{LawOfAllCommands, LawOfAllJourneys};
 ghost use Rattle.sdm_row_laws.specs.AllCommands.{LawOfEmergencyOrder, LawOfRowMachine};
-ghost use Rattle.sdm_row_laws.specs.OpenTurns.{LawOfFallJourneys, LawOfOpenTurns};
-ghost use Rattle.sdm_row_laws.specs.OpenTurns.{LawOfPromisedTurns, LawOfServiceJourneys};
+ghost use Rattle.sdm_row_laws.specs.CoveredFalls.{LawOfCoveredFalls, LawOfFreeFalls};
+ghost use Rattle.sdm_row_laws.specs.OpenTurns.{LawOfCoveredFallJourneys, LawOfFallJourneys};
+ghost use Rattle.sdm_row_laws.specs.OpenTurns.{LawOfLimitJourneys, LawOfOpenTurns};
+ghost use Rattle.sdm_row_laws.specs.OpenTurns.{LawOfPromisedTurns, LawOfServiceJourneys, LawOfShownJourneys};
 ghost use Rattle.sdm_row_laws.specs.ReleaseLimits.{LawOfExactStart, LawOfExactTrip};
 ghost use Rattle.sdm_row_laws.specs.ReleaseLimits.{LawOfTightRelease, LawOfTightStart};
 ghost use Rattle.sdm_row_laws.specs.ServiceStop.{LawOfServiceRows, LawOfServiceStop};
+ghost use Rattle.sdm_row_laws.specs.ShownTriggers.{LawOfShownTriggers};
 ghost use Rattle.sdm_row_laws.specs.Tightness.{LawOfExactEoa, LawOfExactSvl, LawOfExactTarget};
 ghost use Rattle.sdm_row_laws.specs.Tightness.{LawOfRefutation, LawOfTightEoa, LawOfTightSvl};
 
@@ -116,6 +119,43 @@ pub fn law_of_refutation()
 #[tactic(auto, using(crate::proofs::OpenTurns::fall_journeys))]
 pub fn law_of_fall_journeys<Record>()
     ensures { LawOfFallJourneys Record }
+{}
+
+/// COVERED AND BRAKING: from each covered row, also one with an emergency command, every motion has at or past each fall
+/// that the max safe front end has reached at most the greater one of its foot speed and V_est, and the gain.
+#[tactic(auto, using(crate::proofs::CoveredFalls::covered_falls))]
+pub fn law_of_covered_falls()
+    ensures { LawOfCoveredFalls }
+{}
+
+/// Without an emergency command that is what such a row promises of its falls.
+#[tactic(auto, using(crate::proofs::CoveredFalls::free_falls))]
+pub fn law_of_free_falls()
+    ensures { LawOfFreeFalls }
+{}
+
+/// So does each covered row of every journey.
+#[tactic(auto, using(crate::proofs::OpenTurns::covered_fall_journeys))]
+pub fn law_of_covered_fall_journeys<Record>()
+    ensures { LawOfCoveredFallJourneys Record }
+{}
+
+/// The computed and the printed limits of each reading of every journey are near the exact ones.
+#[tactic(auto, using(crate::proofs::OpenTurns::limit_journeys))]
+pub fn law_of_limit_journeys<Record>()
+    ensures { LawOfLimitJourneys Record }
+{}
+
+/// WHAT IS SHOWN TRIGGERS: at a reading of a whole speed in km/h the limits that are passed at that speed, by which a
+/// driver is shown speeds, are those that trigger.
+pub fn law_of_shown_triggers()
+    ensures { LawOfShownTriggers }
+{}
+
+/// So it is at each reading of every journey.
+#[tactic(auto, using(crate::proofs::OpenTurns::shown_journeys))]
+pub fn law_of_shown_journeys<Record>()
+    ensures { LawOfShownJourneys Record }
 {}
 
 /// Each reading of a journey from an open state is taken in one, so that the laws of readings hold of each.

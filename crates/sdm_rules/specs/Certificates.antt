@@ -1,7 +1,8 @@
--- Stop certificates: marks along the track that show, with no brake curve, that every motion from a claim stops in
--- time (own). A mark is a place in grains with an energy, which the train has there at most. An energy is 5 * 10^12 * q
--- times a square of speed in squared notches; a way in one speed band and with one slope takes 27 * slope * way of it.
--- So where the way between two marks takes at least what the energies differ by, no curve has to be found.
+-- Stop certificates: marks along the track that show, without a brake curve, that every motion from a claim stops in
+-- time (own). A mark is a place in grains with the greatest energy that the train may have there. An energy is
+-- 5 * 10^12 * q times a square of speed in squared notches. A distance in one speed band and on one slope takes
+-- 27 * slope * distance of it. So it is enough that the distance between two marks takes at least the difference of
+-- their energies.
 use Rattle.std.specs.Prelude.{◌≡◌, ℕ, ℤ, pos, neg_ℤ, List, [], ◌∷◌, ◌-◌, ◌*◌, ◌^◌, ◌<◌, ◌≤◌, ◌+ℤ◌, ◌*ℤ◌, ◌≤ℤ◌}
 use Rattle.std.specs.Prelude.{◌<ℤ◌, length}
 use Rattle.sdm_rules.specs.declared.certificates.Claim.{Claim}

@@ -1,6 +1,6 @@
--- Where a brake curve has a square of speed (SUBSET-026-3 3.13.8.3 to 3.13.8.5; own form). A curve comes into each
--- speed band at a corner: into the foot's own band at the foot, into any other where it crosses the border towards the
--- foot. In a band all its places lie on one arc through the corner; along an arc, cell by cell,
+-- Where a brake curve has a square of speed (SUBSET-026-3 3.13.8.3 to 3.13.8.5; own form). A curve enters each
+-- speed band at a corner: the foot's own band at the foot, any other where it crosses the border towards the foot. In a
+-- band all its places lie on one arc through the corner; along an arc, cell by cell,
 --     5 * 10^12 * q * (change of the squared speed) = 27 * slope * distance
 -- with squares in squared notches and the distance in grains. Below its foot speed a curve runs on past the foot (own).
 -- For a scale `s`, places are in 1/s grain and squares in 1/s squared notch; the curves of the train have s = 1.

@@ -1,6 +1,5 @@
--- What is shown of a reading: three limits as speeds, the release speed, and the target that counts (own). A limit's
--- speed is the greatest whole one that the train could have where it is and not pass the limit, all else as in the
--- reading.
+-- What a driver is shown at a reading: three limits as speeds, the release speed, and the target that counts (own). A
+-- limit's speed is the greatest whole speed at which the limit isn't passed, all else as in the reading.
 use Rattle.std.specs.Prelude.{ℕ, ℤ, pos, Bool, true, false, not, ◌&&◌, ◌||◌, ◌-ℤ◌, ◌*ℤ◌, List, [], ◌∷◌, Option, Some}
 use Rattle.std.specs.Prelude.{None, fold, filter, option_map, nat_lt, int_lt, if◌then◌else◌}
 use Rattle.std.specs.Int.{int_max}
@@ -87,10 +86,13 @@ counting_target d r now =
     first_least (λ t. (limits_of computed d (estimate_of r) t).permitted)
     (filter (λ t. nat_lt (target_speed t) r.speed) now.targets)
 
--- what is shown of it, if there is one (own)
+-- what is shown of a target: its kind, its speed in km/h, and its distance (own)
+abbrev pub shown_as : Situation → Target → Shown
+shown_as now t = record { kind = t.kind; speed = t.speed; distance = distance_to now t }
+
+-- what is shown of the target that counts, if there is one (own)
 abbrev pub shown_target : TrainAndTrack → OdometerReading → Situation → Option Shown
-shown_target d r now =
-    option_map (λ t. record { kind = t.kind; distance = distance_to now t }) (counting_target d r now)
+shown_target d r now = option_map (shown_as now) (counting_target d r now)
 
 -- the target that is shown of a reading (own)
 abbrev pub shown_target_of : Supervision → OdometerReading → Option Shown

@@ -1,5 +1,5 @@
--- The headline over every journey: the three machines stay in order, each covered row is safe, and what else is
--- promised of a row holds (own).
+-- The headline over every journey: the three machines stay in order, each covered row is safe, and each row keeps its
+-- other promises (own).
 use Rattle.std.specs.Prelude.{◌≡◌, Bool, false, IsTrue, ⊤, List, [], ◌∷◌}
 use Rattle.sdm_num.specs.Readings.{OdometerReading}
 use Rattle.sdm_rules.specs.declared.records.Event.{Event}

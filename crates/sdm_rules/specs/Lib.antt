@@ -19,6 +19,7 @@ pub mod Within
 pub mod Release
 pub mod Display
 pub mod Promises
+pub mod Keys
 pub mod Ranges
 pub mod Records
 pub mod TakeOver

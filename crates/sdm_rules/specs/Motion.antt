@@ -1,4 +1,4 @@
--- Motions of a train: what kinematics asks of them, and nothing of brake curves (own). For a scale `s`, times are in
+-- Motions of a train, by kinematics alone and without brake curves (own). For a scale `s`, times are in
 -- 1/s ds, speeds in 1/s notch, places, lengths and squares of speeds in 1/s² of a grain and of a squared notch.
 use Rattle.std.specs.Prelude.{◌≡◌, ℕ, zero, suc, ℤ, pos, List, [], ◌∷◌, ◌++◌, ◌+◌, ◌-◌, ◌*◌, ◌<◌, ◌≤◌, ◌+ℤ◌, ◌*ℤ◌}
 use Rattle.std.specs.Prelude.{◌≤ℤ◌, ◌<ℤ◌, All, ⊤, length}
@@ -102,20 +102,29 @@ pub record IsReaction (s : ℕ) (start : Start) (v : ℕ) (xs : List Slice) : Ty
   pub build_time : time_of build ≡ s * start.berem
   pub slices : AreSlices start v xs
 
--- a motion that begins at the place `p` with the speed `v`: slices before braking, and braking from the point `first`
--- on, at which they end
-pub record IsMotion (s : ℕ) (start : Start) (on : Slopes) (p : ℤ) (v : ℕ) (xs : List Slice) (first : Point)
-    (more : List Point) : Type 0 where
-  pub reaction : IsReaction s start v xs
-  pub begins : first ≡ last_point (record { place = p; square = v * v }) (slice_ends p v xs)
-  pub braking : IsBraking on (s * s) first more
+-- a motion: the scale that it counts at; where and how fast it begins; its slices before braking; and its braking
+-- points, one or more
+pub record Motion : Type 0 where
+  pub scale : ℕ
+  pub place : ℤ
+  pub speed : ℕ
+  pub slices : List Slice
+  pub first : Point
+  pub more : List Point
+
+-- before braking the motion gains and moves no more than the start allows; from the point on at which its slices end
+-- it brakes at least as the slopes ask
+pub record IsMotion (on : Slopes) (start : Start) (m : Motion) : Type 0 where
+  pub reaction : IsReaction m.scale start m.speed m.slices
+  pub begins : m.first ≡ last_point (record { place = m.place; square = m.speed * m.speed })
+      (slice_ends m.place m.speed m.slices)
+  pub braking : IsBraking on (m.scale * m.scale) m.first m.more
 
 -- a motion that begins at most at the front end and with at most the speed of the start
-pub record IsMotionFrom (s : ℕ) (start : Start) (on : Slopes) (p : ℤ) (v : ℕ) (xs : List Slice) (first : Point)
-    (more : List Point) : Type 0 where
-  pub place : p ≤ℤ (pos (s * s) *ℤ start.front)
-  pub speed : v ≤ s * start.speed
-  pub motion : IsMotion s start on p v xs first more
+pub record IsMotionFrom (on : Slopes) (start : Start) (m : Motion) : Type 0 where
+  pub place : m.place ≤ℤ (pos (m.scale * m.scale) *ℤ start.front)
+  pub speed : m.speed ≤ m.scale * start.speed
+  pub motion : IsMotion on start m
 
 -- the point lies at or before a place in grains
 abbrev pub IsBy : ℕ → ℤ → Point → Type 0

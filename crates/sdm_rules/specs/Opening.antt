@@ -1,5 +1,5 @@
--- Which data are accepted at the opening, and the first fault of those that are not (own). A slope that is too weak
--- would carry a curve too far, and slopes that differ too much in one band would let rounding grow past a millimetre.
+-- Which data are accepted at the opening, and the first fault of those that are not (own). Along a slope that is
+-- too weak a curve would reach too far. Where slopes of one band differ too much, rounding could exceed a millimetre.
 use Rattle.std.specs.Prelude.{◌≡◌, ℕ, suc, ℤ, pos, Some, None, ◌<◌, ◌*ℤ◌, ◌≤ℤ◌, ◌<ℤ◌, length, ⊤}
 use Rattle.sdm_rules.specs.declared.data.SlopeKind.{SlopeKind}
 use Rattle.sdm_rules.specs.declared.data.SlopeKind.TheVariants.{Safe, Expected, Normal}

@@ -1,4 +1,4 @@
--- What is promised of a row beside its order and its safety (own).
+-- What a row promises beside the order of the machines and the safety of covered rows (own).
 use Rattle.std.specs.Prelude.{◌≡◌, ℕ, false, Contains, ◌<◌, ◌≤◌, ◌+◌}
 use Rattle.sdm_num.specs.Units.{notches}
 use Rattle.sdm_num.specs.Readings.{OdometerReading, estimate_of}

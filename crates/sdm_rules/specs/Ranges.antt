@@ -16,7 +16,7 @@ use Rattle.sdm_rules.specs.declared.faults.TrackFault.{TrackFault}
 use Rattle.sdm_rules.specs.declared.faults.TrackFault.TheVariants.{Count, Order, Value, Gap}
 use Rattle.sdm_rules.specs.declared.faults.Section.{Section}
 use Rattle.sdm_rules.specs.declared.faults.Section.TheVariants as sections
-use Rattle.sdm_rules.specs.declared.keys.TheConstants as keys
+use Rattle.sdm_rules.specs.Keys as keys
 use Rattle.sdm_rules.specs.Slopes.{most_bands}
 use Rattle.sdm_rules.specs.Data.{TrainData, TrackData}
 
@@ -81,27 +81,27 @@ fault_at fault (Some key) = Some (fault key)
 -- the first of the train's own numbers that is refused (own)
 abbrev pub train_refused : TrainData → Option ℕ
 train_refused t = first_refused
-    (refused keys.TRAIN_LENGTH (is_within (pos 1) (pos longest_train) t.length_cm)
-    ∷ refused keys.TRAIN_MAX_SPEED (is_within (pos 1) (pos top_kmh) t.max_speed)
-    ∷ refused keys.TRAIN_ROTATING_MASS (is_within_if_any (pos 0) (pos 50) t.rotating_mass)
-    ∷ refused keys.TRAIN_TRACTION_CUTOFF_TIME (is_within (pos 0) (pos 300) t.cut_off_time)
-    ∷ refused keys.TRAIN_EMERGENCY_TIME (is_within (pos 0) (pos 300) t.emergency_time)
-    ∷ refused keys.TRAIN_SERVICE_TIME
+    (refused keys.train_length (is_within (pos 1) (pos longest_train) t.length_cm)
+    ∷ refused keys.train_max_speed (is_within (pos 1) (pos top_kmh) t.max_speed)
+    ∷ refused keys.train_rotating_mass (is_within_if_any (pos 0) (pos 50) t.rotating_mass)
+    ∷ refused keys.train_traction_cutoff_time (is_within (pos 0) (pos 300) t.cut_off_time)
+    ∷ refused keys.train_emergency_time (is_within (pos 0) (pos 300) t.emergency_time)
+    ∷ refused keys.train_service_time
     (is_within (pos 0) (pos 300) t.service_time && ((unsigned_abs t.service_time % 5) == 0))
     ∷ [])
 
 -- the first of a band's numbers that is refused (own)
 abbrev pub band_refused : Band → Option ℕ
 band_refused b = first_refused
-    (refused keys.BAND_UPPER (is_within_if_any (pos 1) (pos top_kmh) b.upper)
-    ∷ refused keys.BAND_EMERGENCY (is_within (pos 1) (pos 400) b.emergency)
-    ∷ refused keys.BAND_SERVICE (is_within (pos 1) (pos 400) b.service)
-    ∷ refused keys.BAND_NORMAL (is_within (pos 1) (pos 400) b.normal)
-    ∷ refused keys.BAND_KDRY (is_within (pos 1) (pos 1000) b.kdry)
-    ∷ refused keys.BAND_KWET (is_within (pos 1) (pos 1000) b.kwet)
-    ∷ refused keys.BAND_KN_UP (is_within (pos 0) (pos 1000) b.kn_up)
-    ∷ refused keys.BAND_KN_DOWN (is_within (pos 0) (pos 1000) b.kn_down)
-    ∷ refused keys.BAND_EMERGENCY_REDUCED (is_within_if_any (pos 1) b.emergency b.emergency_reduced)
+    (refused keys.band_upper (is_within_if_any (pos 1) (pos top_kmh) b.upper)
+    ∷ refused keys.band_emergency (is_within (pos 1) (pos 400) b.emergency)
+    ∷ refused keys.band_service (is_within (pos 1) (pos 400) b.service)
+    ∷ refused keys.band_normal (is_within (pos 1) (pos 400) b.normal)
+    ∷ refused keys.band_kdry (is_within (pos 1) (pos 1000) b.kdry)
+    ∷ refused keys.band_kwet (is_within (pos 1) (pos 1000) b.kwet)
+    ∷ refused keys.band_kn_up (is_within (pos 0) (pos 1000) b.kn_up)
+    ∷ refused keys.band_kn_down (is_within (pos 0) (pos 1000) b.kn_down)
+    ∷ refused keys.band_emergency_reduced (is_within_if_any (pos 1) b.emergency b.emergency_reduced)
     ∷ [])
 
 -- the first value of the bands that is refused, from the band `i` on (own)
@@ -144,26 +144,26 @@ train_fault count t =
 -- the first rule that national values break (own)
 unfoldable pub national_fault : NationalFields → Option NationalFault
 national_fault n = fault_at (λ key. national_faults.Value key)
-    (first_refused (refused keys.NATIONAL_AVADH (is_within (pos 0) (pos 20) n.avadh)
-    ∷ refused keys.NATIONAL_ADHESION_MAX (is_within (pos 1) (pos 400) n.adhesion_max) ∷ []))
+    (first_refused (refused keys.national_avadh (is_within (pos 0) (pos 20) n.avadh)
+    ∷ refused keys.national_adhesion_max (is_within (pos 1) (pos 400) n.adhesion_max) ∷ []))
 
 -- ---- the track
 
 -- the first number of a gradient that is refused, on a track of a length in cm (own)
 abbrev pub gradient_refused : ℤ → Gradient → Option ℕ
-gradient_refused length_cm g = first_refused (refused keys.GRADIENT_START
+gradient_refused length_cm g = first_refused (refused keys.gradient_start
     (is_within (pos 0) (length_cm -ℤ pos 1) g.start)
-    ∷ refused keys.GRADIENT_GRAD (is_within (neg_ℤ steepest) steepest g.grad) ∷ [])
+    ∷ refused keys.gradient_grad (is_within (neg_ℤ steepest) steepest g.grad) ∷ [])
 
 -- the first number of an entry of the static speed profile that is refused (own)
 abbrev pub speed_refused : ℤ → SpeedStep → Option ℕ
-speed_refused length_cm s = first_refused (refused keys.SPEED_START (is_within (pos 0) (length_cm -ℤ pos 1) s.start)
-    ∷ refused keys.SPEED_SPEED (is_within (pos 1) (pos top_kmh) s.speed) ∷ [])
+speed_refused length_cm s = first_refused (refused keys.speed_start (is_within (pos 0) (length_cm -ℤ pos 1) s.start)
+    ∷ refused keys.speed_speed (is_within (pos 1) (pos top_kmh) s.speed) ∷ [])
 
 -- the first number of an area that is refused; its end is to be past its start (own)
 abbrev pub area_refused : ℤ → Area → Option ℕ
-area_refused length_cm a = first_refused (refused keys.AREA_START (is_within (pos 0) (length_cm -ℤ pos 1) a.start)
-    ∷ refused keys.AREA_END (is_within (a.start +ℤ pos 1) length_cm a.end) ∷ [])
+area_refused length_cm a = first_refused (refused keys.area_start (is_within (pos 0) (length_cm -ℤ pos 1) a.start)
+    ∷ refused keys.area_end (is_within (a.start +ℤ pos 1) length_cm a.end) ∷ [])
 
 -- the first value of a list's entries that is refused, from the entry `i` on (own)
 abbrev pub value_fault : {E : Type 0} → Section → (E → Option ℕ) → ℕ → List E → Option TrackFault
@@ -222,7 +222,7 @@ areas_fault list length_cm es = or_else (count_fault list 0 most_areas es)
 -- the fault of a track's length, in cm, that is out of its range (own)
 abbrev pub length_fault : ℤ → Option TrackFault
 length_fault length_cm =
-    if is_within (pos 1) (pos longest_track) length_cm then None else Some (Value sections.Track 0 keys.TRACK_LENGTH)
+    if is_within (pos 1) (pos longest_track) length_cm then None else Some (Value sections.Track 0 keys.track_length)
 
 -- the first rule that a track breaks: of its length, then list by list (own)
 unfoldable pub track_fault : TrackData → Option TrackFault

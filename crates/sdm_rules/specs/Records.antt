@@ -1,4 +1,4 @@
--- What each record makes of the supervision state, or why it is refused (own).
+-- The supervision state after each record, or why the record is refused (own).
 use Rattle.std.specs.Prelude.{ℕ, suc, ℤ, pos, List, [], ◌∷◌, Option, Some, None, Result, Ok, Err, ◌||◌, nat_lt, nat_le}
 use Rattle.std.specs.Prelude.{◌==◌, int_lt, filter_map, option_map, if◌then◌else◌}
 use Rattle.std.specs.Ordering.{nat_cmp}

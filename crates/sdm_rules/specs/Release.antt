@@ -1,5 +1,6 @@
--- The calculated release speed: the greatest from which a train that is tripped at a place still stops before the SvL
--- (SUBSET-026-3 3.13.9.4.8; own: the place of the trip is handed in). Places are in grains where nothing else is said.
+-- The calculated release speed: the greatest whole speed from which a train that is tripped at a place still stops at
+-- or before the SvL (SUBSET-026-3 3.13.9.4.8; own: the place of the trip is given). Places are in grains where nothing
+-- else is said.
 use Rattle.std.specs.Prelude.{ℕ, zero, suc, ℤ, pos, Bool, IsTrue, not, ◌<◌, unsigned_abs, if◌then◌else◌}
 use Rattle.sdm_num.specs.Units.{notches, distance_at, millimetre, top_kmh}
 use Rattle.sdm_num.specs.Fractions.{Fraction, less}
@@ -57,7 +58,7 @@ trip_start d trip kmh = record {
   berem = t_be d;
 }
 
--- A train that is tripped at most at this speed stops before the SvL, and the next whole speed does not fit by limits
+-- A train that is tripped at this speed stops at or before the SvL, and the next whole speed does not fit by limits
 -- one millimetre earlier (SUBSET-026-3 3.13.9.4.8; own form)
 pub record IsReleaseSpeed (d : TrainAndTrack) (svl trip kmh : ℕ) : Type 0 where
   pub stops : StopsBy (slopes_of Safe d) (trip_start d trip kmh) (place_of_cell (pos svl))

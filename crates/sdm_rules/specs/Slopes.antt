@@ -1,5 +1,5 @@
--- What brake curves stand on: a deceleration for each speed band and each cell of the track (SUBSET-026-3 3.13.6; own
--- form).
+-- Slopes, from which brake curves are drawn: a deceleration for each speed band and each cell of the track
+-- (SUBSET-026-3 3.13.6; own form).
 use Rattle.std.specs.Prelude.{ℕ, suc, ℤ, pos, int_le, nat_le, if◌then◌else◌, List, ◌+◌, ◌-◌, ◌*◌, ◌<◌, ◌≤◌, ◌≤ℤ◌}
 use Rattle.std.specs.Prelude.{length, slice_index, count_by}
 

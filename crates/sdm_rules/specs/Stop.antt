@@ -1,8 +1,6 @@
 -- What a covered row promises of every motion from its reading, and why a row is not covered (own).
-use Rattle.std.specs.Prelude.{◌≡◌, ℕ, ℤ, pos, List, ◌∷◌, ◌++◌, ◌<◌, ◌≤◌, ◌≢◌, All, Contains}
+use Rattle.std.specs.Prelude.{◌≡◌, ℕ, ℤ, pos, ◌∷◌, ◌++◌, ◌<◌, ◌≤◌, ◌≢◌, All, Contains}
 use Rattle.sdm_num.specs.Readings.{OdometerReading, estimate_of}
-use Rattle.sdm_rules.specs.declared.motions.Slice.{Slice}
-use Rattle.sdm_rules.specs.declared.motions.Point.{Point}
 use Rattle.sdm_rules.specs.declared.motions.Start.{Start}
 use Rattle.sdm_rules.specs.declared.data.SlopeKind.TheVariants.{Safe}
 use Rattle.sdm_rules.specs.declared.authorities.Authority.TheVariants.{Stop}
@@ -10,7 +8,7 @@ use Rattle.sdm_rules.specs.declared.targets.Target.{Target}
 use Rattle.sdm_rules.specs.declared.targets.TargetKind.TheVariants.{Eoa, Svl}
 use Rattle.sdm_rules.specs.Cells.{place_of_cell}
 use Rattle.sdm_rules.specs.Slopes.{Slopes}
-use Rattle.sdm_rules.specs.Motion.{IsMotionFrom, IsBy, KeepsTo, slice_ends}
+use Rattle.sdm_rules.specs.Motion.{Motion, IsMotionFrom, IsBy, KeepsTo, slice_ends}
 use Rattle.sdm_rules.specs.Data.{TrainAndTrack}
 use Rattle.sdm_rules.specs.Decelerations.{slopes_of}
 use Rattle.sdm_rules.specs.Targets.{foot_speed_of}
@@ -19,20 +17,18 @@ use Rattle.sdm_rules.specs.Limits.{v_bec_for}
 use Rattle.sdm_rules.specs.Supervision.{Supervision, situation_of}
 
 -- a motion from a start, of some scale, which then brakes at least as the slopes ask
-abbrev pub IsMotionOn : Slopes → Start → ℕ → ℤ → ℕ → List Slice → Point → List Point → Type 0
-IsMotionOn on start s p v xs first more = (0 < s) × IsMotionFrom s start on p v xs first more
+abbrev pub IsMotionOn : Slopes → Start → Motion → Type 0
+IsMotionOn on start m = (0 < m.scale) × IsMotionFrom on start m
 
 -- every braking point of every motion lies at or before the place, in grains
 abbrev pub StopsBy : Slopes → Start → ℤ → Type 0
-StopsBy on start place =
-    (s : ℕ) (p : ℤ) (v : ℕ) (xs : List Slice) (first : Point) (more : List Point) →
-    IsMotionOn on start s p v xs first more → All (IsBy s place) (first ∷ more)
+StopsBy on start place = (m : Motion) → IsMotionOn on start m → All (IsBy m.scale place) (m.first ∷ m.more)
 
 -- at or past the place, at slice ends and braking points of every motion, the speed is at most `w` notches
 abbrev pub SlowsTo : Slopes → Start → ℤ → ℕ → Type 0
 SlowsTo on start place w =
-    (s : ℕ) (p : ℤ) (v : ℕ) (xs : List Slice) (first : Point) (more : List Point) →
-    IsMotionOn on start s p v xs first more → All (KeepsTo s place w) (slice_ends p v xs ++ first ∷ more)
+    (m : Motion) → IsMotionOn on start m →
+    All (KeepsTo m.scale place w) (slice_ends m.place m.speed m.slices ++ m.first ∷ m.more)
 
 -- every motion within the bounds of a reading that brakes from T_traction + T_berem after it on stops at or before the
 -- SvL, in cm

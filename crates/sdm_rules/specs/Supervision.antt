@@ -1,4 +1,4 @@
--- The supervision state, and what a reading makes of it: the row and the commands (SUBSET-026-3 3.13.10; rows own).
+-- The supervision state, and the row and the commands that it gives at a reading (SUBSET-026-3 3.13.10; rows own).
 use Rattle.std.specs.Prelude.{ℕ, ℤ, pos, Bool, true, false, not, ◌&&◌, ◌||◌, List, [], ◌∷◌, Option, Some, None, fold}
 use Rattle.std.specs.Prelude.{filter, filter_map, option_map, nat_le, nat_lt, ◌==◌, int_lt, is_some, if◌then◌else◌}
 use Rattle.std.specs.Int.{int_min}

@@ -1,5 +1,5 @@
--- The triggers of commands (SUBSET-026-3 3.13.10; own tables), by the limits of each target, all taken so many grains
--- earlier: `shift`. Above its speed and past its limit, a target triggers.
+-- The triggers of commands (SUBSET-026-3 3.13.10; own tables). A target triggers a command if the train is above its
+-- speed and past the command's limit. Each limit is taken `shift` grains earlier than given.
 use Rattle.std.specs.Prelude.{ℕ, ℤ, pos, Bool, not, ◌&&◌, ◌||◌, List, Option, false, ◌+◌, ◌+ℤ◌, ◌*ℤ◌, nat_lt, int_lt}
 use Rattle.std.specs.List.{list_any}
 use Rattle.std.specs.Option.{option_map_or}

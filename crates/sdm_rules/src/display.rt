@@ -19,6 +19,8 @@ pub enum LimitName {
 pub struct Shown {
     /// What kind the target is of.
     pub kind: TargetKind,
+    /// The target's speed in km/h, 0 to 500; 0 for an EOA and an SvL.
+    pub speed: u16,
     /// From the front end that the target compares to the target's place, in mm rounded down; 0 once it is passed.
     pub distance: i64,
 }

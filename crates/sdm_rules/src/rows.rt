@@ -8,10 +8,10 @@ use crate::commands::{Held, State};
 pub struct Row {
     /// Time of the reading in ds.
     pub time: u32,
-    /// The type of speed and distance monitoring.
-    pub state: State,
     /// The commands after the reading, with the status.
     pub held: Held,
+    /// The type of speed and distance monitoring.
+    pub state: State,
     /// Whether the stop is promised, of every motion within the reading's bounds that brakes from T_traction + T_berem
     /// after it on.
     pub covered: bool,

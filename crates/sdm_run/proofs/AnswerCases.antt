@@ -12,7 +12,7 @@ use Rattle.sdm_rules.specs.declared.faults.EventCause.TheVariants.{Line}
 use Rattle.sdm_rules.specs.declared.records.Event.TheVariants as record_kinds
 use Rattle.sdm_rules.specs.Curves.{exact, stepped, exact_at, place_at, corner, arc, arc_back, back}
 use Rattle.sdm_rules.specs.Headline.{AreTurnsSafe, IsRecordSafe, IsRowSafe}
-use Rattle.sdm_rules.specs.Motion.{IsInBand}
+use Rattle.sdm_rules.specs.Motion.{IsInBand, Motion}
 use Rattle.sdm_rules.specs.Records.{Turn, rows_of, step}
 use Rattle.sdm_rules.specs.Stop.{IsMotionOn}
 use Rattle.sdm_rules.specs.Supervision.{Supervision, opening, row_of}
@@ -153,9 +153,17 @@ unfolding flat_row exact stepped exact_at place_at corner arc arc_back back
 nothing_promised_past_it covered = absurd (false≢true covered)
 
 -- a motion from there that brakes with 1 m/s² and passes the end
-passing : IsMotionOn (flat_slopes 100) (flat_start past_turn.line) 1 (pos 4_320_054_000_000) 108_000 []
-    (record { place = pos 4_320_054_000_000; square = 11_664_000_000 })
-    (record { place = pos 5_400_054_000_000; square = 0 } ∷ [])
+abbrev past_the_end : Motion
+past_the_end = record {
+  scale = 1;
+  place = pos 4_320_054_000_000;
+  speed = 108_000;
+  slices = [];
+  first = record { place = pos 4_320_054_000_000; square = 11_664_000_000 };
+  more = record { place = pos 5_400_054_000_000; square = 0 } ∷ [];
+}
+
+passing : IsMotionOn (flat_slopes 100) (flat_start past_turn.line) past_the_end
 passing = (
   omega arith,
   record {
@@ -193,10 +201,8 @@ passing = (
 
 -- it doesn't stop by the end
 no_stop_past_it : StopsByFlatEnd past_turn.before past_turn.line → ⊥
-no_stop_past_it h = let k = h 1 (pos 4_320_054_000_000) 108_000 []
-    (record { place = pos 4_320_054_000_000; square = 11_664_000_000 })
-    (record { place = pos 5_400_054_000_000; square = 0 } ∷ []) passing 1 (record { place = pos 0; square = 0 })
-    (omega arith) in omega (arith, ints, k)
+no_stop_past_it h = let k = h past_the_end passing 1 (record { place = pos 0; square = 0 }) (omega arith) in
+    omega (arith, ints, k)
 
 -- ---- all rows of a command
 

@@ -22,7 +22,7 @@ use Rattle.sdm_run.specs.Answers.{AreWholeLines}
 use Rattle.sdm_run.specs.Certifying.{head_line, map_text, marked_claim_text, safe_map_text, segment_cells, segment_line}
 use Rattle.sdm_run.specs.Certifying.{slopes_at, text_of_lines}
 use Rattle.sdm_run.specs.declared.tellers.Teller.{Teller}
-use Rattle.sdm_run.specs.declared.tellers.Teller.TheVariants.{Rows, Displays, Certificates}
+use Rattle.sdm_run.specs.declared.tellers.Teller.TheVariants.{Rows, Displays, Causes, Certificates}
 use Rattle.sdm_run.specs.RunParts.{head_text}
 use Rattle.sdm_run.proofs.OutputLeft.{lines_both}
 
@@ -73,6 +73,7 @@ pub head_whole : (teller : Teller) (d : TrainAndTrack) → AreWholeLines (head_t
 unfolding safe_map_text
 head_whole Rows d = inl refl
 head_whole Displays d = inl refl
+head_whole Causes d = inl refl
 head_whole (Certificates left) d = map_whole (slopes_of Safe d)
 
 -- ---- lines that are written one after the other

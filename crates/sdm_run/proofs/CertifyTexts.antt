@@ -1,5 +1,5 @@
--- What is told of a reading and of its turn: of `run` its row, of `display` what is shown, of `certify` its
--- certificate, which a covered reading under a stop has, since it is within the SvL.
+-- What is told of a reading and of its turn: of `run` its row, of `display` what is shown, of `why` its causes, of
+-- `certify` its certificate, which a covered reading under a stop has, since it is within the SvL.
 use Rattle.std.proofs.Common.{◌≡◌, ℕ, ℤ, zero, suc, ◌-◌, Bool, true, false, not, List, [], ◌∷◌, ◌++◌, nat_lt, refl}
 use Rattle.std.proofs.Common.{Option, None, ap, sym, ◌∙◌, inl, inr, arith}
 use Rattle.std.specs.Prelude.{◌<◌, ◌⊎◌, ◌&&◌, ◌||◌, is_some}
@@ -27,12 +27,14 @@ use Rattle.sdm_formats.specs.Text.{display_tells, display_text, run_tells, row_t
 use Rattle.sdm_formats.specs.Flat.{Output}
 use Rattle.sdm_formats.specs.Input.{End}
 use Rattle.sdm_laws.proofs.Rows.Stops.{has_svl}
+use Rattle.sdm_causes.specs.Causes.{causes_of}
+use Rattle.sdm_causes.specs.Text.{causes_text, why_tells}
 use Rattle.sdm_io.specs.Told.{AppendsPart}
 use Rattle.sdm_report.specs.declared.outcome.Outcome.TheVariants.{WriteFault}
 use Rattle.sdm_certify.specs.declared.certificates.Certificate.{Certificate}
 use Rattle.sdm_certify.specs.Certificates.{IsCertificateOf}
 use Rattle.sdm_run.specs.declared.tellers.Teller.{Teller}
-use Rattle.sdm_run.specs.declared.tellers.Teller.TheVariants.{Rows, Displays, Certificates}
+use Rattle.sdm_run.specs.declared.tellers.Teller.TheVariants.{Rows, Displays, Causes, Certificates}
 use Rattle.sdm_run.specs.Certifying.{certificate_text, certificates, is_certified, is_stop}
 use Rattle.sdm_run.specs.Certifying.{marked_claim_text}
 use Rattle.sdm_run.specs.RunParts.{IsToldTurn, turns_text}
@@ -113,10 +115,11 @@ certificates_none turn more (suc left) (inr none) = rw none refl
 
 -- where each teller tells nothing
 nothing_told : (teller : Teller) (turn : Turn) → run_tells turn ≡ [] → display_tells turn ≡ [] →
-    is_certified turn ≡ false → IsToldTurn teller teller turn []
-nothing_told Rows turn row shown none = record { rest = λ more. rw row refl; whole_lines = inl refl }
-nothing_told Displays turn row shown none = record { rest = λ more. rw shown refl; whole_lines = inl refl }
-nothing_told (Certificates left) turn row shown none = record {
+    why_tells turn ≡ [] → is_certified turn ≡ false → IsToldTurn teller teller turn []
+nothing_told Rows turn row shown why none = record { rest = λ more. rw row refl; whole_lines = inl refl }
+nothing_told Displays turn row shown why none = record { rest = λ more. rw shown refl; whole_lines = inl refl }
+nothing_told Causes turn row shown why none = record { rest = λ more. rw why refl; whole_lines = inl refl }
+nothing_told (Certificates left) turn row shown why none = record {
   rest = λ more. certificates_none turn more left (inr none);
   whole_lines = inl refl;
 }
@@ -125,10 +128,10 @@ nothing_told (Certificates left) turn row shown none = record {
 pub none_told : (teller : Teller) (s t : Supervision) (e : Event) → row_at s e ≡ None →
     IsToldTurn teller teller (record { before = s; event = e; after = t }) []
 none_told teller s t (record_kinds.Read r) none = absurd cc
-none_told teller s t (record_kinds.Authority a) none = nothing_told teller _ refl refl refl
-none_told teller s t (record_kinds.Calculated eoa svl trip) none = nothing_told teller _ refl refl refl
-none_told teller s t (record_kinds.Restrict r) none = nothing_told teller _ refl refl refl
-none_told teller s t (record_kinds.Revoke id) none = nothing_told teller _ refl refl refl
+none_told teller s t (record_kinds.Authority a) none = nothing_told teller _ refl refl refl refl
+none_told teller s t (record_kinds.Calculated eoa svl trip) none = nothing_told teller _ refl refl refl refl
+none_told teller s t (record_kinds.Restrict r) none = nothing_told teller _ refl refl refl refl
+none_told teller s t (record_kinds.Revoke id) none = nothing_told teller _ refl refl refl refl
 
 -- ---- a reading
 
@@ -145,6 +148,11 @@ module _ (before : Supervision) (r : OdometerReading) (after : Supervision) wher
   pub shown_told : IsToldTurn Displays Displays turn_of_reading (display_text (display_of after r))
   unfolding display_text
   shown_told = record { rest = λ more. refl; whole_lines = inr (_, refl) }
+
+  -- `why` tells its causes
+  pub explained_told : IsToldTurn Causes Causes turn_of_reading (causes_text (causes_of after r))
+  unfolding causes_text
+  explained_told = record { rest = λ more. refl; whole_lines = inr (_, refl) }
 
   module _ (left : ℕ) where
     -- `certify` tells nothing of one that isn't certified, or past the last that is due

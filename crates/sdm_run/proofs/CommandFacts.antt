@@ -8,18 +8,20 @@ use Rattle.sdm_formats.specs.Input.{most_bytes}
 use Rattle.sdm_formats.specs.Input as ends
 use Rattle.sdm_formats.specs.Flat.{Output, flat_output}
 use Rattle.sdm_formats.specs.Text.{display_tells, run_tells}
+use Rattle.sdm_causes.specs.Text.{why_tells}
 use Rattle.sdm_io.specs.Told.{Told}
 use Rattle.sdm_run.specs.declared.words.Command.{Command}
 use Rattle.sdm_run.specs.declared.words.Command.TheVariants.{Flat, Run, Display, Trial, Upgrade, Drive, Certify}
-use Rattle.sdm_run.specs.declared.words.Command.TheVariants.{Check}
+use Rattle.sdm_run.specs.declared.words.Command.TheVariants.{Check, Why}
 use Rattle.sdm_report.specs.declared.outcome.Outcome.{Outcome}
 use Rattle.sdm_report.specs.declared.outcome.Outcome.TheVariants.{TooLong}
-use Rattle.sdm_run.specs.declared.tellers.Teller.TheVariants.{Rows, Displays, Certificates}
+use Rattle.sdm_run.specs.declared.tellers.Teller.TheVariants.{Rows, Displays, Causes, Certificates}
 use Rattle.sdm_run.specs.Words.{IsCommandInRange}
 use Rattle.sdm_run.specs.Answers.{IsAnswer}
 use Rattle.sdm_run.specs.Commands.{AreRowsSafe, IsOutputOf, within_limit}
 use Rattle.sdm_run.specs.Shapes.{OfInput, Shape, shape_of}
 use Rattle.sdm_run.specs.Upgrades.{upgrade_output}
+use Rattle.sdm_run.proofs.CheckAnswers.{check_answers_safe}
 use Rattle.sdm_run.proofs.CheckTexts.{check_too_long}
 use Rattle.sdm_run.proofs.DriveTexts.{drive_rows_safe, drive_too_long}
 use Rattle.sdm_run.proofs.FlatOrder.{flat_rows_safe}
@@ -33,11 +35,12 @@ pub rows_safe : (command : Command) (bytes : List ℕ) → IsCommandInRange comm
 rows_safe (Flat decel end) bytes h = flat_rows_safe decel end bytes (omega (arith, h.0))
 rows_safe Run bytes h = turns_are_safe run_tells bytes
 rows_safe Display bytes h = turns_are_safe display_tells bytes
+rows_safe Why bytes h = turns_are_safe why_tells bytes
 rows_safe (Trial seed cycles) bytes h = trial_rows_safe seed cycles
 rows_safe Upgrade bytes h = tt
 rows_safe (Drive seed cycles) bytes h = drive_rows_safe seed cycles bytes
 rows_safe (Certify count) bytes h = turns_are_safe run_tells bytes
-rows_safe Check bytes h = tt
+rows_safe Check bytes h = check_answers_safe bytes
 
 -- what holds of all bytes holds of those that a command answers
 pub of_input : (shape : Shape) (left : Option (List ℕ)) (P : List ℕ → Type 0) → ((bytes : List ℕ) → P bytes) →
@@ -76,6 +79,7 @@ outputs_alike : (command : Command) (A : Output → Type 0) (bytes : List ℕ) �
 outputs_alike (Flat decel end) A bytes h none other = absurd cc
 outputs_alike Run A bytes h none other = absurd cc
 outputs_alike Display A bytes h none other = absurd cc
+outputs_alike Why A bytes h none other = absurd cc
 outputs_alike (Trial seed cycles) A bytes h none other = h
 outputs_alike Upgrade A bytes h none other = absurd cc
 outputs_alike (Drive seed cycles) A bytes h none other = absurd cc
@@ -125,6 +129,7 @@ too_long (Flat decel end) bytes old reads long output is =
     rw (is, above bytes (flat_output decel end bytes) long) (record { ended = inl refl; taken = Appends-nil old })
 too_long Run bytes old reads long output is = journey_too_long Rows bytes old long output is
 too_long Display bytes old reads long output is = journey_too_long Displays bytes old long output is
+too_long Why bytes old reads long output is = journey_too_long Causes bytes old long output is
 too_long (Trial seed cycles) bytes old reads long output is = absurd cc
 too_long Upgrade bytes old reads long output is =
     rw (is, above bytes (upgrade_output bytes) long) (record { ended = inl refl; taken = Appends-nil old })

@@ -26,14 +26,17 @@ use Rattle.sdm_report.specs.declared.outcome.Outcome.TheVariants.{Refused, BadEv
 use Rattle.sdm_data.specs.Document.{document_of}
 use Rattle.sdm_data.specs.Journey.{data_of}
 use Rattle.sdm_drive.specs.Drive.{drive_output, drive_rows, drive_start, drive_text, step_time}
+use Rattle.sdm_drive.specs.DriveLaws.{IsDrivable}
 use Rattle.sdm_drive.specs.Faults.{HasBuildUp, MayBeDriven}
 use Rattle.sdm_drive.specs.Summaries.{Counts, counts_of}
 use Rattle.sdm_drive.specs.declared.rows.DriveRow.{DriveRow}
 use Rattle.sdm_drive.proofs.Ahead.{rows_by_svl}
+use Rattle.sdm_opening.specs.Openings.{IsDataOf}
+use Rattle.sdm_drive.proofs.Journeys.{steps_promised}
 use Rattle.sdm_run.specs.Answers.{ComesOfReadingAlone, IsAnswer}
 use Rattle.sdm_run.specs.Drives.{AreDriveRowsSafe, IsDriveOfData, IsDriveOfDocument, IsDriveOutput, IsDriveOver}
 use Rattle.sdm_run.specs.Drives.{IsDriveCause, IsOpenedDrive, IsSummaryOf, IsUndrivenBy, no_text}
-use Rattle.sdm_run.specs.RunParts.{IsDataOf, IsRefusedByData}
+use Rattle.sdm_run.specs.RunParts.{IsRefusedByData}
 use Rattle.sdm_run.specs.Shapes.{IsOutcomeIn, drive_shape}
 use Rattle.sdm_run.proofs.OneOutput.{Single, in_case, named}
 use Rattle.sdm_run.proofs.RunAnswers.{memory_first}
@@ -264,9 +267,13 @@ no_build_up d time is short = rw (sym is) short
 
 -- ---- the rows
 
--- no row of a drive over the data of the bytes is past the SvL
+-- what is promised of a drive over the data of the bytes
 pub drive_rows_safe : (seed cycles : ℕ) (bytes : List ℕ) → AreDriveRowsSafe seed cycles bytes
 drive_rows_safe seed cycles bytes d eoa svl given accepted slow =
     let bands = has_bands given.members d (Stop eoa svl 0) given.read in
-    rows_by_svl d eoa svl seed cycles
-    (record { is_open = record { bands = bands; usable = accepted.0 }; build_up = slow })
+    let may : IsDrivable d eoa svl =
+    record { is_open = record { bands = bands; usable = accepted.0 }; build_up = slow } in
+    record {
+      by_svl = rows_by_svl d eoa svl seed cycles may;
+      steps = steps_promised d eoa svl seed cycles may;
+    }

@@ -15,9 +15,11 @@ pub mod OneOutput
 pub mod DriveTexts
 pub mod WrittenMaps
 pub mod CertifyTexts
+mod CauseTexts
 pub mod CertifyLines
 pub mod CheckTexts
 pub mod CheckOutputs
+pub mod CheckAnswers
 pub mod OutputLaws
 pub mod Flushes
 mod AnswerCases

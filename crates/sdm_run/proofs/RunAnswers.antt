@@ -26,12 +26,13 @@ use Rattle.sdm_data.specs.Division.{divide}
 use Rattle.sdm_data.specs.Document.{document_of}
 use Rattle.sdm_data.specs.Journey.{data_of}
 use Rattle.sdm_events.specs.Journey.{Record, records_of}
+use Rattle.sdm_opening.specs.Openings.{IsOpeningOf}
 use Rattle.sdm_run.specs.Answers.{ComesOfReadingAlone, LeavesOutUntouched, IsAnswer}
 use Rattle.sdm_run.specs.declared.tellers.Teller.{Teller}
-use Rattle.sdm_run.specs.declared.tellers.Teller.TheVariants.{Rows, Displays, Certificates}
+use Rattle.sdm_run.specs.declared.tellers.Teller.TheVariants.{Rows, Displays, Causes, Certificates}
 use Rattle.sdm_run.specs.Certifying.{map_before}
 use Rattle.sdm_run.specs.Journeys.{run_reader}
-use Rattle.sdm_run.specs.RunParts.{IsOpeningOf, IsRefusedBy, IsToldOutput, head_text, output_of_records, turns_text}
+use Rattle.sdm_run.specs.RunParts.{IsRefusedBy, IsToldOutput, head_text, output_of_records, turns_text}
 use Rattle.sdm_run.specs.Commands.{AreJourneyTurnsSafe}
 use Rattle.sdm_run.specs.Shapes.{IsOutcomeIn, records_shape, run_shape}
 use Rattle.sdm_run.proofs.OneRun.{one_run}
@@ -44,6 +45,7 @@ use Rattle.sdm_run.proofs.RunTexts.{none_of_none, of_records}
 abbrev pub head_of : Teller → List ℕ → End → List ℕ
 head_of Rows bytes end = []
 head_of Displays bytes end = []
+head_of Causes bytes end = []
 head_of (Certificates left) bytes end = map_before bytes end
 
 -- the output of turns and an end
@@ -61,6 +63,7 @@ of_run : (teller : Teller) (bytes : List ℕ) (output : Output) → IsToldOutput
     IsOfRun teller bytes output
 of_run Rows bytes output is = record { turns = is.turns; run = is.run; text_is = is.text_is }
 of_run Displays bytes output is = record { turns = is.turns; run = is.run; text_is = is.text_is }
+of_run Causes bytes output is = record { turns = is.turns; run = is.run; text_is = is.text_is }
 of_run (Certificates left) bytes output is = record { turns = is.turns; run = is.run; text_is = is.text_is }
 
 -- and what tells of the run is an output of the input
@@ -68,6 +71,7 @@ is_told : (teller : Teller) (bytes : List ℕ) (turns : List Turn) (end : End) �
     IsToldOutput teller bytes (output_by teller bytes turns end)
 is_told Rows bytes turns end run = record { turns = turns; run = run; text_is = refl }
 is_told Displays bytes turns end run = record { turns = turns; run = run; text_is = refl }
+is_told Causes bytes turns end run = record { turns = turns; run = run; text_is = refl }
 is_told (Certificates left) bytes turns end run = record { turns = turns; run = run; text_is = refl }
 
 module _ (teller : Teller) (bytes : List ℕ) where
@@ -106,6 +110,7 @@ nothing : (teller : Teller) (bytes : List ℕ) (end : End) → map_before bytes 
     output_by teller bytes [] end ≡ record { text = []; end = end }
 nothing Rows bytes end none = refl
 nothing Displays bytes end none = refl
+nothing Causes bytes end none = refl
 nothing (Certificates left) bytes end none = rw (none, none_of_none (Certificates left)) refl
 
 -- ---- the limit
@@ -185,6 +190,7 @@ module _ (teller : Teller) (bytes : List ℕ) (short : length bytes ≤ most_byt
         head_of teller bytes (ends.end_of_journey refused) ≡ head_text teller is.train_and_track
     head_stands Rows s is refused = refl
     head_stands Displays s is refused = refl
+    head_stands Causes s is refused = refl
     head_stands (Certificates left) s is None = rw (cut, is.given.document, is.given.read) refl
     head_stands (Certificates left) s is (Some x) = rw (cut, is.given.document, is.given.read) refl
 

@@ -32,7 +32,7 @@ use Rattle.sdm_run.specs.Answers.{ComesOfReadingAlone, IsAnswer, LeavesOutUntouc
 use Rattle.sdm_run.specs.declared.endings.Ended.{Ended}
 use Rattle.sdm_run.specs.declared.journey_records.Taken.TheVariants.{Told, Cut}
 use Rattle.sdm_run.specs.declared.tellers.Teller.{Teller}
-use Rattle.sdm_run.specs.declared.tellers.Teller.TheVariants.{Rows, Displays, Certificates}
+use Rattle.sdm_run.specs.declared.tellers.Teller.TheVariants.{Rows, Displays, Causes, Certificates}
 use Rattle.sdm_run.specs.RunParts.{IsTakenRecord, IsToldReading, IsToldRecord, IsToldTurn, output_of_records}
 use Rattle.sdm_run.specs.RunParts.{turns_text}
 use Rattle.sdm_run.specs.Shapes.{IsOutcomeIn, is_of_line, records_shape}
@@ -45,6 +45,7 @@ use Rattle.sdm_run.proofs.OutputLeft.{IsLeftOf, cut_off, wrote}
 pub none_of_none : (teller : Teller) → turns_text teller [] ≡ []
 none_of_none Rows = refl
 none_of_none Displays = refl
+none_of_none Causes = refl
 none_of_none (Certificates zero) = refl
 none_of_none (Certificates (suc left)) = refl
 

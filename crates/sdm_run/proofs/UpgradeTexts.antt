@@ -18,10 +18,11 @@ use Rattle.sdm_data.specs.Document.{document_of}
 use Rattle.sdm_data.specs.Journey.{data_of}
 use Rattle.sdm_data.specs.Tables.{table_of}
 use Rattle.sdm_data.specs.Texts.{document_text}
+use Rattle.sdm_opening.specs.Openings.{IsDataOf}
 use Rattle.sdm_run.specs.declared.words.Command.{Command}
 use Rattle.sdm_run.specs.declared.words.Command.TheVariants.{Upgrade}
 use Rattle.sdm_run.specs.Answers.{ComesOfReadingAlone, IsAnswer, NeedsTheWholeInput}
-use Rattle.sdm_run.specs.RunParts.{IsDataOf, IsRefusedByData}
+use Rattle.sdm_run.specs.RunParts.{IsRefusedByData}
 use Rattle.sdm_run.specs.Shapes.{IsOutcomeIn, shape_of, upgrade_shape}
 use Rattle.sdm_run.specs.Upgrades.{IsReadBack, IsUpgradedTo, upgrade_output}
 use Rattle.sdm_run.proofs.Refusals.{of_data_part}
@@ -38,12 +39,13 @@ same_answer bytes members answer d a document read given =
     sym read ∙ ap data_of same ∙ given.read
 
 -- data that are read, with the text of their table, which reads back as this table, make an upgrade of the bytes
-pub upgraded_to : (bytes text : List ℕ) (members : Members) (d : TrainAndTrack) (a : Authority) →
-    document_of bytes ≡ Some members → data_of members ≡ Ok (d, a) → text ≡ document_text (table_of d a) →
-    document_of text ≡ Some (table_of d a) → IsUpgradedTo bytes text
-upgraded_to bytes text members d a document read text_is back = record {
-  output_is = rw (document, read, text_is) refl;
+pub upgraded_to : (bytes text : List ℕ) (d : TrainAndTrack) (a : Authority) → IsDataOf bytes d a →
+    text ≡ document_text (table_of d a) → document_of text ≡ Some (table_of d a) → IsUpgradedTo bytes text
+upgraded_to bytes text d a own text_is back = record {
+  output_is = rw (own.document, own.read, text_is) refl;
   read_back = λ e b given.
+      let document = own.document in
+      let read = own.read in
       let same : (d, a) ≡ (e, b) = cc in
       let its = subst (λ (t : List ℕ). document_of t ≡ Some (table_of d a)) text_is back in
       rw (given.document, given.read)

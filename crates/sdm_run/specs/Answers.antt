@@ -1,4 +1,4 @@
--- How an outcome answers what a command defines, and what out took for it: one relation for every command (own).
+-- Which outcomes and which bytes on the output fit what a command defines: one relation for every command (own).
 use Rattle.std.specs.Prelude.{◌≡◌, ◌⊎◌, ℕ, List, [], ◌∷◌, ◌++◌, Option, Some, None}
 use Rattle.std.specs.Io.KnownBytes.{Appends, Keeps}
 use Rattle.sdm_formats.specs.Input as ends

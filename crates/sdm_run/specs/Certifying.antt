@@ -1,4 +1,4 @@
--- The command `certify`: the text that it defines for its input, the written map and after it certificates (own).
+-- The command `certify`: the text that it defines for its input, which is the map and then the certificates (own).
 use Rattle.std.specs.Prelude.{◌≡◌, ℕ, zero, suc, ℤ, pos, neg_ℤ, Bool, true, false, ◌&&◌, ◌==◌, nat_le, List, [], ◌∷◌}
 use Rattle.std.specs.Prelude.{◌++◌, ◌+ℤ◌, map, length, take, filter, codes, decimal, Option, Some, None, Result, Ok}
 use Rattle.std.specs.Prelude.{Err, if◌then◌else◌}

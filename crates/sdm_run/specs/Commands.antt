@@ -1,4 +1,4 @@
--- What each command defines for the bytes of its input, and what is promised of its rows (own).
+-- What each command defines for the bytes of its input, and what its rows promise (own).
 use Rattle.std.specs.Prelude.{◌≡◌, ℕ, false, List, [], Option, Some, None, ⊤, length, nat_lt, if◌then◌else◌}
 use Rattle.sdm_rules.specs.Records.{Turn, rows_of}
 use Rattle.sdm_row_laws.specs.OpenTurns.{AreTurnsPromised}
@@ -6,8 +6,9 @@ use Rattle.sdm_formats.specs.Flat.{Output, flat_output}
 use Rattle.sdm_formats.specs.Input.{most_bytes, TooLong}
 use Rattle.sdm_formats.specs.Text.{display_tells, run_tells}
 use Rattle.sdm_formats.specs.Trial.{summary_text, trial_journey, trial_output}
+use Rattle.sdm_causes.specs.Text.{why_tells}
 use Rattle.sdm_run.specs.Certifying.{IsCertifyOutput}
-use Rattle.sdm_run.specs.Checks.{IsCheckOutput}
+use Rattle.sdm_run.specs.Checks.{AreCheckAnswersSafe, IsCheckOutput}
 use Rattle.sdm_run.specs.Drives.{AreDriveRowsSafe, IsDriveOutput}
 use Rattle.sdm_run.specs.FlatRun.{AreFlatRowsSafe}
 use Rattle.sdm_run.specs.Journeys.{IsJourneyOutput}
@@ -15,7 +16,7 @@ use Rattle.sdm_run.specs.Shapes.{shape_of}
 use Rattle.sdm_run.specs.Upgrades.{upgrade_output}
 use Rattle.sdm_run.specs.declared.words.Command.{Command}
 use Rattle.sdm_run.specs.declared.words.Command.TheVariants.{Flat, Run, Display, Trial, Upgrade, Drive, Certify}
-use Rattle.sdm_run.specs.declared.words.Command.TheVariants.{Check}
+use Rattle.sdm_run.specs.declared.words.Command.TheVariants.{Check, Why}
 
 -- an input that is too long has no text; else the output that is given
 abbrev pub within_limit : List ℕ → Output → Output
@@ -26,6 +27,7 @@ abbrev pub IsOutputOf : Command → List ℕ → Output → Type 0
 IsOutputOf (Flat decel end) bytes output = output ≡ within_limit bytes (flat_output decel end bytes)
 IsOutputOf Run bytes output = IsJourneyOutput run_tells bytes output
 IsOutputOf Display bytes output = IsJourneyOutput display_tells bytes output
+IsOutputOf Why bytes output = IsJourneyOutput why_tells bytes output
 IsOutputOf (Trial seed cycles) bytes output = output ≡ trial_output seed cycles
 IsOutputOf Upgrade bytes output = output ≡ within_limit bytes (upgrade_output bytes)
 IsOutputOf (Drive seed cycles) bytes output = IsDriveOutput seed cycles bytes output
@@ -50,17 +52,18 @@ pub record AreTrialRowsSafe (seed cycles : ℕ) : Type 0 where
   pub text : (trial_output seed cycles).text ≡ summary_text (rows_of (trial_journey seed cycles).turns)
   pub turns : AreTurnsPromised (trial_journey seed cycles).turns
 
--- what is promised of the rows of a command, of `display` and `certify` of those that `run` has for its input;
--- `upgrade` has none, and each answer of `check` carries its own promise (`IsAnswerTo`)
+-- what is promised of the rows of a command, of `display`, `why` and `certify` of those that `run` has for its input; of
+-- `check` of its answers; `upgrade` has none
 abbrev pub AreRowsSafe : Command → List ℕ → Type 0
 AreRowsSafe (Flat decel end) bytes = AreFlatRowsSafe decel end bytes
 AreRowsSafe Run bytes = AreJourneyTurnsSafe run_tells bytes
 AreRowsSafe Display bytes = AreJourneyTurnsSafe display_tells bytes
+AreRowsSafe Why bytes = AreJourneyTurnsSafe why_tells bytes
 AreRowsSafe (Trial seed cycles) bytes = AreTrialRowsSafe seed cycles
 AreRowsSafe Upgrade bytes = ⊤
 AreRowsSafe (Drive seed cycles) bytes = AreDriveRowsSafe seed cycles bytes
 AreRowsSafe (Certify count) bytes = AreJourneyTurnsSafe run_tells bytes
-AreRowsSafe Check bytes = ⊤
+AreRowsSafe Check bytes = AreCheckAnswersSafe bytes
 
 -- the words ask for nothing that reads the input
 abbrev pub ReadsNothing : Option Command → Type 0

@@ -1,4 +1,4 @@
--- The command `drive`: the summary that it defines for a data part, and what is promised of its rows (own).
+-- The command `drive`: the summary that it defines for a data part, and what its rows promise (own).
 use Rattle.std.specs.Prelude.{◌≡◌, ◌≢◌, ◌⊎◌, ◌<◌, ℕ, List, [], Option, Some, None, Result, Ok, Err, MatchBool, nat_lt}
 use Rattle.std.specs.Prelude.{length, unsigned_abs}
 use Rattle.toml.specs.Data.{Members}
@@ -16,13 +16,15 @@ use Rattle.sdm_formats.specs.Input as ends
 use Rattle.sdm_formats.specs.Input.{most_bytes}
 use Rattle.sdm_data.specs.Document.{document_of}
 use Rattle.sdm_data.specs.Journey.{data_of}
-use Rattle.sdm_drive.specs.Drive.{drive_output, drive_rows, drive_start, step_time}
+use Rattle.sdm_drive.specs.Drive.{Drive, drive_output, drive_rows, drive_start, step_time}
+use Rattle.sdm_drive.specs.DriveJourneys.{AreStepsPromised}
 use Rattle.sdm_drive.specs.DriveLaws.{AreBySvl}
 use Rattle.sdm_drive.specs.Faults.{HasBuildUp, IsPlainStop}
 use Rattle.sdm_drive.specs.Summaries.{Counts, counts_of}
 use Rattle.sdm_report.specs.declared.outcome.Outcome.{Outcome}
 use Rattle.sdm_report.specs.declared.outcome.Outcome.TheVariants.{Refused, Undrivable}
-use Rattle.sdm_run.specs.RunParts.{IsDataOf, IsRefusedByData}
+use Rattle.sdm_opening.specs.Openings.{IsDataOf}
+use Rattle.sdm_run.specs.RunParts.{IsRefusedByData}
 
 -- no text, and an end
 abbrev pub no_text : ends.End → Output
@@ -59,12 +61,17 @@ IsDriveOutput seed cycles bytes output =
     MatchBool (nat_lt most_bytes (length bytes)) (output ≡ no_text ends.TooLong)
     (IsDriveOfDocument seed cycles (document_of bytes) output)
 
--- Whichever data the bytes are that can be driven, no row of the drive has its front end past the SvL, and how far the
--- SvL was at least ahead, the last number of the summary, is not negative.
+-- what is promised of so many steps of a drive towards an SvL, in cm: no row has its front end past the SvL, and how far
+-- this was at least ahead, the last number of the summary, is not negative; and what the steps of a drive promise
+pub record IsDriveSafe (svl cycles : ℕ) (start : Drive) : Type 0 where
+  pub by_svl : AreBySvl svl (drive_rows cycles start)
+  pub steps : AreStepsPromised cycles start
+
+-- whichever data the bytes are that can be driven, so it is of the drive over them
 abbrev pub AreDriveRowsSafe : ℕ → ℕ → List ℕ → Type 0
 AreDriveRowsSafe seed cycles bytes =
     (d : TrainAndTrack) (eoa svl : ℕ) → IsDataOf bytes d (Stop eoa svl 0) → IsAccepted d (Stop eoa svl 0) →
-    HasBuildUp d → AreBySvl svl (drive_rows cycles (drive_start d (Stop eoa svl 0) seed))
+    HasBuildUp d → IsDriveSafe svl cycles (drive_start d (Stop eoa svl 0) seed)
 
 -- ---- the parts of the command
 

@@ -1,4 +1,4 @@
--- What is promised of all rows of `flat`, over the whole list of its lines (own).
+-- What the rows of `flat` promise, over the whole list of its lines (own).
 use Rattle.std.specs.Prelude.{◌≡◌, ℕ, Bool, false, IsTrue, List, [], ◌∷◌, ◌++◌, Option, Some, None}
 use Rattle.sdm_num.specs.Units.{millimetre, notches_of_mm_s}
 use Rattle.sdm_rules.specs.declared.faults.CycleFault.{CycleFault}

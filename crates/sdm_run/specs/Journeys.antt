@@ -1,4 +1,4 @@
--- A journey: how the parts of its input are read, and what is defined for the bytes by what is told of each turn (own).
+-- A journey: how its input is read, and the output that is defined for it, given the text of each turn (own).
 use Rattle.std.specs.Prelude.{◌≡◌, ℕ, List}
 use Rattle.toml.specs.Data.{Members}
 use Rattle.sdm_rules.specs.Records.{Turn}

@@ -1,76 +1,44 @@
--- What the parts of `run` say: of the data part, and of one record after the other (own).
-use Rattle.std.specs.Prelude.{◌≡◌, ◌≢◌, ℕ, List, [], ◌∷◌, ◌++◌, Option, Some, None, Result, Ok, Err, ⊤}
+-- What `run` does with the data part, and then with one record after the other (own).
+use Rattle.std.specs.Prelude.{◌≡◌, ℕ, List, [], ◌∷◌, ◌++◌, Option, Some, None, Result, Ok, Err, ⊤}
 use Rattle.std.specs.Io.KnownBytes.{Appends}
-use Rattle.toml.specs.Data.{Members}
 use Rattle.sdm_num.specs.Readings.{OdometerReading}
-use Rattle.sdm_rules.specs.declared.authorities.Authority.{Authority}
 use Rattle.sdm_rules.specs.declared.faults.EventFault.{EventFault}
-use Rattle.sdm_rules.specs.declared.faults.OpenFault.TheVariants as open_faults
 use Rattle.sdm_rules.specs.declared.records.Event.{Event}
 use Rattle.sdm_rules.specs.declared.records.Event.TheVariants.{Read}
 use Rattle.sdm_rules.specs.declared.rows.Row.{Row}
 use Rattle.sdm_rules.specs.Data.{TrainAndTrack}
-use Rattle.sdm_rules.specs.Opening.{IsAccepted, IsOpenFault}
 use Rattle.sdm_rules.specs.Records.{Turn, event_at, journey_from, row_at, step}
-use Rattle.sdm_rules.specs.Supervision.{Supervision, after_reading, opening, row_of}
-use Rattle.sdm_formats.specs.declared.faults.DataFault.TheVariants as data_faults
+use Rattle.sdm_rules.specs.Supervision.{Supervision, after_reading, row_of}
 use Rattle.sdm_formats.specs.Flat.{Output}
 use Rattle.sdm_formats.specs.Forms.{event_of}
 use Rattle.sdm_formats.specs.Input.{End, end_of_journey}
 use Rattle.sdm_formats.specs.Text.{display_tells, run_tells, told}
-use Rattle.sdm_report.specs.declared.outcome.InputFault.TheVariants.{NoSplit, Toml, Data}
+use Rattle.sdm_causes.specs.Text.{why_tells}
 use Rattle.sdm_report.specs.declared.outcome.Outcome.{Outcome}
-use Rattle.sdm_report.specs.declared.outcome.Outcome.TheVariants.{Done, Usage, ReadFault, WriteFault, TooLong, BadData}
-use Rattle.sdm_report.specs.declared.outcome.Outcome.TheVariants.{Refused, BadEvent, Memory, Undrivable}
-use Rattle.sdm_data.specs.Document.{document_of}
-use Rattle.sdm_data.specs.Journey.{data_of}
+use Rattle.sdm_report.specs.declared.outcome.Outcome.TheVariants.{BadData, Memory, Refused}
 use Rattle.sdm_events.specs.Journey.{Record}
+use Rattle.sdm_opening.specs.Openings.{IsDataFault, IsRefusal}
 use Rattle.sdm_run.specs.declared.endings.Ended.{Ended}
 use Rattle.sdm_run.specs.declared.journey_records.Taken.{Taken}
 use Rattle.sdm_run.specs.declared.journey_records.Taken.TheVariants.{Untold, Told, Cut}
 use Rattle.sdm_run.specs.declared.tellers.Teller.{Teller}
-use Rattle.sdm_run.specs.declared.tellers.Teller.TheVariants.{Rows, Displays, Certificates}
+use Rattle.sdm_run.specs.declared.tellers.Teller.TheVariants.{Rows, Displays, Causes, Certificates}
 use Rattle.sdm_run.specs.Answers.{AreWholeLines, IsAnswer}
 use Rattle.sdm_run.specs.Certifying.{IsCertifyOutput, certificates, safe_map_text}
 use Rattle.sdm_run.specs.Journeys.{IsJourneyOutput}
 
 -- ---- the data part
 
--- the data part is a document with these data, which break no rule
-pub record IsDataOf (bytes : List ℕ) (train_and_track : TrainAndTrack) (a : Authority) : Type 0 where
-  pub members : Members
-  pub document : document_of bytes ≡ Some members
-  pub read : data_of members ≡ Ok (train_and_track, a)
-
--- the data part is a document with data that open this supervision state
-pub record IsOpeningOf (bytes : List ℕ) (s : Supervision) : Type 0 where
-  pub train_and_track : TrainAndTrack
-  pub authority : Authority
-  pub given : IsDataOf bytes train_and_track authority
-  pub accepted : IsAccepted train_and_track authority
-  pub state : s ≡ opening train_and_track authority
-
 -- the outcome of a data part that holds no data: no document, or the first rule that is broken; want of memory may
 -- come at any time
 abbrev pub IsRefusedByData : List ℕ → Outcome → Type 0
-IsRefusedByData bytes Done = ⊥
-IsRefusedByData bytes Usage = ⊥
-IsRefusedByData bytes ReadFault = ⊥
-IsRefusedByData bytes WriteFault = ⊥
-IsRefusedByData bytes TooLong = ⊥
-IsRefusedByData bytes (BadData NoSplit) = ⊥
-IsRefusedByData bytes (BadData Toml) = document_of bytes ≡ None
-IsRefusedByData bytes (BadData (Data fault)) = (fault ≢ data_faults.Memory) × (members : Members)
-    × (document_of bytes ≡ Some members) × (data_of members ≡ Err fault)
-IsRefusedByData bytes (Refused fault) = ⊥
-IsRefusedByData bytes (BadEvent number cause) = ⊥
+IsRefusedByData bytes (BadData fault) = IsDataFault bytes fault
 IsRefusedByData bytes Memory = ⊤
-IsRefusedByData bytes (Undrivable cause) = ⊥
+IsRefusedByData bytes outcome = ⊥
 
 -- the outcome of a data part that opens no supervision state: it holds no data, or the first fault of the opening
 abbrev pub IsRefusedBy : List ℕ → Outcome → Type 0
-IsRefusedBy bytes (Refused fault) = (fault ≢ open_faults.Memory) × (train_and_track : TrainAndTrack) × (a : Authority)
-    × IsDataOf bytes train_and_track a × IsOpenFault train_and_track a fault
+IsRefusedBy bytes (Refused fault) = IsRefusal bytes fault
 IsRefusedBy bytes outcome = IsRefusedByData bytes outcome
 
 -- ---- what is told
@@ -79,18 +47,21 @@ IsRefusedBy bytes outcome = IsRefusedByData bytes outcome
 abbrev pub IsToldOutput : Teller → List ℕ → Output → Type 0
 IsToldOutput Rows = IsJourneyOutput run_tells
 IsToldOutput Displays = IsJourneyOutput display_tells
+IsToldOutput Causes = IsJourneyOutput why_tells
 IsToldOutput (Certificates left) = IsCertifyOutput left
 
 -- what stands before the records: of `certify` the written map
 abbrev pub head_text : Teller → TrainAndTrack → List ℕ
 head_text Rows d = []
 head_text Displays d = []
+head_text Causes d = []
 head_text (Certificates left) d = safe_map_text d
 
 -- what is told of turns
 abbrev pub turns_text : Teller → List Turn → List ℕ
 turns_text Rows turns = told run_tells turns
 turns_text Displays turns = told display_tells turns
+turns_text Causes turns = told why_tells turns
 turns_text (Certificates left) turns = certificates left turns
 
 -- the text and the end of records, by what is told of their turns; the first record has the number `n`

@@ -12,7 +12,7 @@ use Rattle.sdm_report.specs.declared.outcome.Outcome.TheVariants.{Done, Usage, R
 use Rattle.sdm_report.specs.declared.outcome.Outcome.TheVariants.{Refused, BadEvent, Memory, Undrivable}
 use Rattle.sdm_run.specs.declared.words.Command.{Command}
 use Rattle.sdm_run.specs.declared.words.Command.TheVariants.{Flat, Run, Display, Trial, Upgrade, Drive, Certify}
-use Rattle.sdm_run.specs.declared.words.Command.TheVariants.{Check}
+use Rattle.sdm_run.specs.declared.words.Command.TheVariants.{Check, Why}
 
 -- what a command needs, and what it may refuse
 pub record Shape : Type 0 where
@@ -60,7 +60,7 @@ records_shape = record {
       λ cause. not (is_of_line cause);
 }
 
--- `run`, `display` and `certify`: about the dividing line a data part, which opens a supervision state, and records
+-- `run`, `display`, `why` and `certify`: about the dividing line a data part, which opens a supervision state, and records
 abbrev pub run_shape : Shape
 run_shape = record records_shape { reads_input = true; has_division = true; has_data = true; opens = true }
 
@@ -103,6 +103,7 @@ abbrev pub shape_of : Command → Shape
 shape_of (Flat decel end) = flat_shape
 shape_of Run = run_shape
 shape_of Display = run_shape
+shape_of Why = run_shape
 shape_of (Trial seed cycles) = trial_shape
 shape_of Upgrade = upgrade_shape
 shape_of (Drive seed cycles) = drive_shape

@@ -10,7 +10,7 @@ use Rattle.sdm_data.specs.Document.{document_of}
 use Rattle.sdm_data.specs.Journey.{data_of}
 use Rattle.sdm_data.specs.Tables.{table_of}
 use Rattle.sdm_data.specs.Texts.{document_text}
-use Rattle.sdm_run.specs.RunParts.{IsDataOf}
+use Rattle.sdm_opening.specs.Openings.{IsDataOf}
 
 -- for data the text of their table of version 2; else no text, and the first rule that is broken
 abbrev pub output_of_data : Result (TrainAndTrack × Authority) DataFault → Output

@@ -1,4 +1,4 @@
--- What the words after the program's name ask for (own).
+-- The command that the arguments of the program name (own).
 use Rattle.std.specs.Prelude.{ℕ, ℤ, pos, List, [], ◌∷◌, Option, Some, None, Result, Ok, Err, ◌≤◌, String, string_bytes}
 use Rattle.std.specs.Prelude.{map, codes, unsigned_abs, if◌then◌else◌}
 use Rattle.std.specs.Str.{bytes_eq}
@@ -9,7 +9,7 @@ use Rattle.sdm_rules.specs.Records.{most_records}
 use Rattle.sdm_formats.specs.Numbers.{read_int}
 use Rattle.sdm_run.specs.declared.words.Command.{Command}
 use Rattle.sdm_run.specs.declared.words.Command.TheVariants.{Flat, Run, Display, Trial, Upgrade, Drive, Certify}
-use Rattle.sdm_run.specs.declared.words.Command.TheVariants.{Check}
+use Rattle.sdm_run.specs.declared.words.Command.TheVariants.{Check, Why}
 
 -- a command with no words after it
 abbrev pub alone : Command → List (List ℕ) → Option Command
@@ -49,13 +49,14 @@ abbrev pub certify_command : List (List ℕ) → Option Command
 certify_command (count ∷ []) = certify_of (read_int count (pos 1) (pos 1_000))
 certify_command _ = None
 
--- the shapes of the words, each with its command: `run`, `display`, `flat A END`, `trial NUMBER CYCLES`, `upgrade`,
--- `drive NUMBER CYCLES`, `certify N`, and `check`
+-- the shapes of the words, each with its command: `run`, `display`, `why`, `flat A END`, `trial NUMBER CYCLES`,
+-- `upgrade`, `drive NUMBER CYCLES`, `certify N`, and `check`
 unfoldable pub command_of : List (List ℕ) → Option Command
 command_of [] = None
 command_of (name ∷ more) =
     if bytes_eq name (codes "run") then alone Run more
     else if bytes_eq name (codes "display") then alone Display more
+    else if bytes_eq name (codes "why") then alone Why more
     else if bytes_eq name (codes "flat") then flat_command more
     else if bytes_eq name (codes "trial") then numbered_command Trial more
     else if bytes_eq name (codes "upgrade") then alone Upgrade more
@@ -73,6 +74,7 @@ abbrev pub IsCommandInRange : Command → Type 0
 IsCommandInRange (Flat decel end) = (5 ≤ decel) × (decel ≤ 400) × (end ≤ longest_track)
 IsCommandInRange Run = Unit {0}
 IsCommandInRange Display = Unit {0}
+IsCommandInRange Why = Unit {0}
 IsCommandInRange (Trial seed cycles) = (seed ≤ 65_535) × (1 ≤ cycles) × (cycles ≤ most_records)
 IsCommandInRange Upgrade = Unit {0}
 IsCommandInRange (Drive seed cycles) = (seed ≤ 65_535) × (1 ≤ cycles) × (cycles ≤ most_records)

@@ -137,6 +137,7 @@ fn run_command<O: Sink>(alloc: Global, command: Command, bytes: &[u8], out: &mut
         Command::Flat { decel, end_cm } => run_flat(alloc, decel, end_cm, bytes, out),
         Command::Run => run_journey(alloc, Teller::Rows, bytes, out),
         Command::Display => run_journey(alloc, Teller::Displays, bytes, out),
+        Command::Why => run_journey(alloc, Teller::Causes, bytes, out),
         Command::Trial { seed, cycles } => run_trial(alloc, seed, cycles, out),
         Command::Upgrade => run_upgrade(alloc, bytes, out),
         Command::Drive { seed, cycles } => run_drive(alloc, seed, cycles, bytes, out),

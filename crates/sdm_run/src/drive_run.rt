@@ -8,13 +8,14 @@ ghost use Rattle.sdm_rules.specs.Records.{most_records};
 ghost use Rattle.sdm_formats.specs.Flat.{Output};
 ghost use Rattle.sdm_data.specs.Document.{document_of};
 ghost use Rattle.sdm_drive.specs.Faults.{IsDriveRefusal};
+ghost use Rattle.sdm_opening.specs.Openings.{IsDataOf};
 ghost use Rattle.sdm_run.specs.Answers.{ComesOfReadingAlone, IsAnswer, LeavesOutUntouched};
 ghost use Rattle.sdm_run.specs.Drives.{IsDriveOfDocument, IsSummaryOf, IsUndrivenBy};
-ghost use Rattle.sdm_run.specs.RunParts.{IsDataOf};
 ghost use Rattle.sdm_run.specs.Shapes.{IsOutcomeIn, drive_shape};
 
 use crate::endings::Ended;
-use crate::journey_openings::{document_in, journey_in};
+use crate::journey_openings::data_in;
+use sdm_braking::TrainAndTrack;
 use sdm_drive::{DriveFault, Summary, driven};
 use sdm_formats::DriveCause;
 use sdm_io::Sink;
@@ -55,13 +56,14 @@ fn summed_up(alloc: Global, seed: u16, cycles: u32, bytes: &[u8]) -> Result<Summ
     ensures summary { IfOk result (IsSummaryOf seed cycles bytes.now) }
     ensures refused { IfErr result (IsUndrivenBy bytes.now) }
 {
-    let table = document_in(alloc, bytes)?;
-    let journey = journey_in(alloc, &table)?;
+    let journey = data_in(alloc, bytes)?;
     let driven = driven(
         alloc,
-        journey.train,
-        journey.national,
-        journey.track,
+        TrainAndTrack {
+            train: journey.train,
+            national: journey.national,
+            track: journey.track,
+        },
         journey.authority,
         seed,
         cycles,

@@ -3,6 +3,7 @@
 #![tactic(auto)]
 
 mod answers;
+mod cause_texts;
 mod certify_texts;
 mod check_run;
 mod drive_run;

@@ -1,5 +1,5 @@
-//! What the commands over a journey tell of a reading: `run` its row, `display` what is shown of it, `certify` its
-//! certificate.
+//! What the commands over a journey tell of a reading: `run` its row, `display` what is shown of it, `why` its causes,
+//! `certify` its certificate.
 
 ghost use Rattle.std.specs.Prelude.{◌≡◌, ◌≤◌, [], false, IfErr, IfOk, OnErr, OnOk};
 ghost use Rattle.std.specs.Io.KnownBytes.{Appends};
@@ -7,10 +7,12 @@ ghost use Rattle.sdm_io.specs.Causes.{HasCause, Rose};
 ghost use Rattle.sdm_io.specs.Told.{AppendsPart};
 ghost use Rattle.sdm_rules.specs.Display.{display_of};
 ghost use Rattle.sdm_formats.specs.Text.{display_text};
-ghost use Rattle.sdm_run.specs.declared.tellers.Teller.TheVariants.{Certificates};
+ghost use Rattle.sdm_rules.specs.declared.rows.Row.{Row};
+ghost use Rattle.sdm_run.specs.declared.tellers.Teller.TheVariants.{Causes, Certificates};
 ghost use Rattle.sdm_run.specs.RunParts.{IsToldReading, head_text};
 ghost use Rattle.sdm_run.specs.Shapes.{IsOutcomeIn, records_shape};
 
+use crate::cause_texts::write_causes;
 use crate::certify_texts::{write_certificate, write_map};
 use crate::endings::Ended;
 use sdm_certify::certificate_of;
@@ -32,6 +34,8 @@ pub enum Teller {
     Rows,
     /// `display`: what is shown of it.
     Displays,
+    /// `why`: its causes.
+    Causes,
     /// `certify`: its certificate, if it is covered under a stop, of so many readings that are left.
     Certificates { left: u16 },
 }
@@ -47,7 +51,7 @@ impl Teller {
         ensures cause { HasCause (O.faults out.old) (O.faults out.new) result }
     {
         match self {
-            Teller::Rows | Teller::Displays => Ok(false),
+            Teller::Rows | Teller::Displays | Teller::Causes => Ok(false),
             Teller::Certificates { .. } => match write_map(supervisor.safe_map(), out) {
                 Ok(()) => Ok(true),
                 Err(failed) => Err(failed),
@@ -81,6 +85,7 @@ impl Teller {
         match self {
             Teller::Rows => row_bytes(row, text),
             Teller::Displays => put_shown(reading, after, last, text),
+            Teller::Causes => return explain(reading, after, text, out),
             Teller::Certificates { left } => {
                 return certify(alloc, left, reading, row, after, out);
             }
@@ -102,6 +107,29 @@ fn put_shown(reading: &Reading, after: &Supervisor, last: &mut Display, text: &m
 {
     *last = display_near(after, reading, last);
     display_bytes(last, text);
+}
+
+/// Writes the causes of a reading in the state after it.
+#[cold]
+#[inline(never)]
+fn explain<O: Sink>(
+    reading: &Reading,
+    after: &Supervisor,
+    text: &mut RowBuf,
+    out: &mut O,
+) -> Result<Teller, Ended>
+    ensures told { (row : Row) →
+        IsToldReading Causes reading.now row after.now (O.taken out.old) (O.taken out.new) result }
+    ensures due { IfErr result (λ ended. ended.is_flush_due ≡ false → ended.outcome ≡ Outcome.WriteFault) }
+    ensures later { O.faults out.old ≤ O.faults out.new }
+    ensures write { IfErr result
+        (λ ended. ended.outcome ≡ Outcome.WriteFault → Rose (O.faults out.old) (O.faults out.new)) }
+    ensures possible { IfErr result (λ ended. IsOutcomeIn records_shape ended.outcome) }
+{
+    match write_causes(&after.causes(reading), text, out) {
+        Ok(()) => Ok(Teller::Causes),
+        Err(Failed) => Err(Ended::new(Outcome::WriteFault, false)),
+    }
 }
 
 /// Writes the certificate of a covered reading under a stop, where so many are left.

@@ -5,12 +5,12 @@ ghost use Rattle.sdm_io.specs.Causes.{Rose};
 ghost use Rattle.sdm_data.specs.Document.{document_of};
 ghost use Rattle.sdm_data.specs.Tables.{table_of};
 ghost use Rattle.sdm_run.specs.Answers.{ComesOfReadingAlone, IsAnswer, LeavesOutUntouched, NeedsTheWholeInput};
-ghost use Rattle.sdm_run.specs.RunParts.{IsDataOf, IsRefusedByData};
+ghost use Rattle.sdm_run.specs.RunParts.{IsRefusedByData};
 ghost use Rattle.sdm_run.specs.Shapes.{IsOutcomeIn, upgrade_shape};
 ghost use Rattle.sdm_run.specs.Upgrades.{IsReadBack, IsUpgradedTo, upgrade_output};
 
 use crate::endings::Ended;
-use crate::journey_openings::{document_in, journey_in};
+use crate::journey_openings::data_in;
 use sdm_data::text_of;
 use sdm_io::Sink;
 use sdm_report::Outcome;
@@ -43,8 +43,7 @@ fn upgraded(alloc: Global, bytes: &[u8]) -> Result<String, Outcome>
     ensures text { IfOk result (λ text. IsUpgradedTo bytes.now (string_bytes text)) }
     ensures refused { IfErr result (IsRefusedByData bytes.now) }
 {
-    let table = document_in(alloc, bytes)?;
-    let journey = journey_in(alloc, &table)?;
+    let journey = data_in(alloc, bytes)?;
     match text_of(alloc, &journey) {
         Ok(text) => Ok(text),
         Err(_) => Err(Outcome::Memory),

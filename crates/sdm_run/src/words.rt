@@ -19,6 +19,8 @@ pub enum Command {
     Run,
     /// `display`: what is shown of each reading of that journey.
     Display,
+    /// `why`: the causes of each reading of that journey.
+    Why,
     /// `trial NUMBER CYCLES`: a journey from a number, from 0 to 65,535, of so many readings, from 1 to 100,000.
     Trial { seed: u16, cycles: u32 },
     /// `upgrade`: the data of the input as a text of version 2.
@@ -41,6 +43,7 @@ impl Command {
             Command::Flat { .. }
             | Command::Run
             | Command::Display
+            | Command::Why
             | Command::Upgrade
             | Command::Drive { .. }
             | Command::Certify { .. }
@@ -60,6 +63,7 @@ pub fn command_of(words: &[String]) -> Option<Command>
     match name.as_str() {
         "run" => alone(Command::Run, more),
         "display" => alone(Command::Display, more),
+        "why" => alone(Command::Why, more),
         "flat" => flat_command(more),
         "trial" => trial_command(more),
         "upgrade" => alone(Command::Upgrade, more),

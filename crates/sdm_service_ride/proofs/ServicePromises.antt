@@ -22,7 +22,7 @@ use Rattle.sdm_rules.specs.declared.records.Event.{Event}
 use Rattle.sdm_rules.specs.declared.records.Event.TheVariants as record_kinds
 use Rattle.sdm_rules.specs.Cells.{place_of_cell}
 use Rattle.sdm_rules.specs.Decelerations.{slopes_of}
-use Rattle.sdm_rules.specs.Motion.{IsBy, last_point, slice_ends}
+use Rattle.sdm_rules.specs.Motion.{IsBy, Motion, last_point, slice_ends}
 use Rattle.sdm_rules.specs.Opening.{IsOpen}
 use Rattle.sdm_rules.specs.Reaction.{build_up_of, d_bec, v_bec}
 use Rattle.sdm_rules.specs.Records.{step}
@@ -61,7 +61,15 @@ whole : (a : Allowance) (s : ℕ) (m : Moment) (c : Promise) → 0 < s → IsTru
     LeftBuild s (allowed_start a c) (slopes_at c) (IsByStops a s c) (s * service_time c) m.place m.speed
 whole a s m c s_pos told = λ build in_build time slices more brakes.
     let first = last_point (at m.place m.speed) (slice_ends m.place m.speed build) in
-    let motion : IsMotionOn (slopes_at c) (allowed_start a c) s m.place m.speed build first more = (
+    let motion : Motion = record {
+      scale = s;
+      place = m.place;
+      speed = m.speed;
+      slices = build;
+      first = first;
+      more = more;
+    } in
+    let is_motion : IsMotionOn (slopes_at c) (allowed_start a c) motion = (
       s_pos,
       record {
         place = told.front;
@@ -82,7 +90,7 @@ whole a s m c s_pos told = λ build in_build time slices more brakes.
         };
       },
     ) in
-    λ k d lt. λ place stops. stops s m.place m.speed build first more motion k d lt
+    λ k d lt. λ place stops. stops motion is_motion k d lt
 
 -- ---- what is left by the clock
 

@@ -14,8 +14,10 @@ use Rattle.sdm_laws.proofs.Rows.Ceiling.{within_ceiling}
 use Rattle.sdm_laws.specs.Falls.{MeetsFalls}
 use Rattle.sdm_laws.proofs.Rows.Falls.{falls}
 use Rattle.sdm_row_laws.specs.AllCommands.{KeepsAllOrder}
+use Rattle.sdm_row_laws.specs.CoveredFalls.{MeetsEachFall}
 use Rattle.sdm_row_laws.specs.ServiceStop.{CommandsNoBrake, StopsByItsEoa}
 use Rattle.sdm_row_laws.proofs.AllOrder.{all_commands}
+use Rattle.sdm_row_laws.proofs.CoveredFalls.{covered_falls}
 use Rattle.sdm_row_laws.proofs.Service.{service_rows}
 use Rattle.sdm_braking.specs.Braking.{IsSupervisable}
 
@@ -50,6 +52,11 @@ module _ (s : Supervision) (r : OdometerReading) where
     pub falls_of : IsOpen s → IsTrue row.covered → row.held.eb ≡ false → MeetsFalls s r
     falls_of opened covered eb = falls s r opened (subst (λ (x : Row). IsTrue x.covered) is covered)
         (subst (λ (x : Row). x.held.eb ≡ false) is eb)
+
+    -- and from any covered row
+    pub each_fall_of : IsOpen s → IsTrue row.covered → MeetsEachFall s r
+    each_fall_of opened covered =
+        covered_falls s r opened (subst (λ (x : Row). IsTrue x.covered) is covered)
 
     -- the speed is within the ceiling
     pub ceiling_of : row.held.eb ≡ false → IsWithinCeiling r row

@@ -2,6 +2,7 @@ mod LimitOrder
 mod PassedLaws
 mod VerdictLaws
 mod ShownLaws
+mod FirstLaws
 mod FallsAsked
 mod NearestLaws
 mod FindLaws

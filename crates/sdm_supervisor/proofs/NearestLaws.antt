@@ -66,7 +66,7 @@ nearer_none None = refl
 nearer_none (Some x) = refl
 
 -- a whole place in millimetres
-mm_of_whole : (x : ℤ) → whole_mm (whole x) ≡ mm_below x
+pub mm_of_whole : (x : ℤ) → whole_mm (whole x) ≡ mm_below x
 mm_of_whole x = ap mm_below (omega (arith, ints, floor_low 1 x (omega arith), floor_high 1 x (omega arith)))
 
 -- and so where it may be missing

@@ -16,7 +16,7 @@ use Rattle.sdm_rules.specs.declared.limits.LimitKind.TheVariants.{Ebi, Sbi, Warn
 use Rattle.sdm_rules.specs.declared.targets.Target.{Target}
 use Rattle.sdm_num.specs.Readings.{OdometerReading, estimate_of}
 use Rattle.sdm_rules.specs.Data.{TrainAndTrack}
-use Rattle.sdm_rules.specs.Display.{counting_target, distance_to, earlier_target, first_least, shown_target}
+use Rattle.sdm_rules.specs.Display.{counting_target, earlier_target, first_least, shown_as, shown_target}
 use Rattle.sdm_rules.specs.Limits.{SupervisionLimits, computed, limit_in, limits_of}
 use Rattle.sdm_rules.specs.Margins.{margin_of}
 use Rattle.sdm_rules.specs.Targets.{at_speed_target, target_speed, with_margin}
@@ -119,8 +119,7 @@ module _ (limit : Target → Fraction) where
 -- what counts of all targets is shown with its distance
 pub shown_is : (d : TrainAndTrack) (r : OdometerReading) (now : Situation) (counting : Option Counting) →
     IsCounting (λ t. (limits_of computed d (estimate_of r) t).permitted) r.speed now.targets counting →
-    shown_target d r now
-    ≡ option_map (λ c. record { kind = c.target.kind; distance = distance_to now c.target }) counting
+    shown_target d r now ≡ option_map (λ c. shown_as now c.target) counting
 unfolding counting_target
-shown_is d r now None is = ap (option_map (λ t. record { kind = t.kind; distance = distance_to now t })) is.first
-shown_is d r now (Some c) is = ap (option_map (λ t. record { kind = t.kind; distance = distance_to now t })) is.first
+shown_is d r now None is = ap (option_map (shown_as now)) is.first
+shown_is d r now (Some c) is = ap (option_map (shown_as now)) is.first

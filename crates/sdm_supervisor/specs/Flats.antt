@@ -1,4 +1,4 @@
--- What the flat supervisor keeps beside its state: the slope map and the curve that its numbers give (own).
+-- What the flat supervisor stores beside its state: the slope map and the curve that follow from its numbers (own).
 use Rattle.std.specs.Prelude.{◌≡◌, ℕ, ℤ, pos, neg_ℤ, [], ◌∷◌, ◌*◌, ◌+ℤ◌, ◌≤◌}
 use Rattle.std.specs.Int.{int_div_euclid}
 use Rattle.sdm_rules.specs.Slopes.{SlopeMap, meaning_of}

@@ -1,5 +1,6 @@
 pub mod Sights
 pub mod Verdicts
+pub mod Passed
 pub mod Supervised
 pub mod TakeOvers
 pub mod FlatLines

@@ -1,4 +1,4 @@
--- What a supervisor keeps beside its supervision state (own).
+-- What a supervisor stores beside its supervision state (own).
 use Rattle.std.specs.Prelude.{◌≡◌, ℤ, pos, true, None, ◌≤ℤ◌, unsigned_abs}
 use Rattle.sdm_num.specs.Readings.{OdometerReading}
 use Rattle.sdm_rules.specs.declared.authorities.Authority.{Authority}

@@ -3,6 +3,7 @@
 //! of drives work with slope maps or curves. No code here reads or writes text.
 #![tactic(auto)]
 
+mod causes;
 mod flat;
 pub mod flat_laws;
 mod nearest;

@@ -97,7 +97,7 @@ impl Walk for Choosing {
 
 impl Sight<'_> {
     /// Whether a speed is above the ceiling with the margin of a limit. (SUBSET-026-3 3.13.10.3)
-    fn is_above_ceiling(&self, kind: LimitKind, v: Speed) -> bool
+    pub(crate) fn is_above_ceiling(&self, kind: LimitKind, v: Speed) -> bool
         ensures { result ≡ above_ceiling kind (situation_at v self.now.situation) }
     {
         // No margin makes the ceiling lower.
@@ -105,7 +105,7 @@ impl Sight<'_> {
     }
 
     /// Whether the release speed counts as the limit, and a speed is above it. (SUBSET-026-3 3.13.10.5)
-    fn is_above_release(&self, name: LimitName, v: Speed) -> bool
+    pub(crate) fn is_above_release(&self, name: LimitName, v: Speed) -> bool
         ensures { result ≡ (counts_release name && above_release (situation_at v self.now.situation)) }
     {
         match (name, self.release_kmh) {
@@ -134,7 +134,7 @@ impl Sight<'_> {
     }
 
     /// The target that counts: of those that are slower than the train the first whose permitted limit is least, with
-    /// its distance; none where no target is slower. No memory is taken. (own)
+    /// its speed and its distance; none where no target is slower. No memory is taken. (own)
     pub fn shown(&self) -> Option<Shown>
         ensures { result ≡ shown_target self.now.train_and_track self.now.reading self.now.situation }
     {
@@ -144,6 +144,7 @@ impl Sight<'_> {
         let Counting { target, .. } = counting?;
         Some(Shown {
             kind: target.kind,
+            speed: target.speed,
             distance: target.place.mm_past(front_for(self.reading, target.kind)),
         })
     }

@@ -17,7 +17,6 @@ ghost use Rattle.sdm_rules.specs.Supervision.{after_authority, after_reading, af
 ghost use Rattle.sdm_rules.specs.Supervision.{opening, profile_of, row_of, situation_of};
 ghost use Rattle.sdm_rules.specs.Targets.{is_fall};
 ghost use Rattle.sdm_rules.specs.Ranges.{top_kmh};
-ghost use Rattle.sdm_decel.specs.Slopes.{train_and_track_from};
 ghost use Rattle.sdm_supervisor.specs.Supervised.{IsAuthorityCurve, IsFallCurve};
 ghost use Rattle.sdm_braking.specs.Braking.{IsRefusal};
 ghost use Rattle.sdm_supervisor.specs.Sights.{seen_at};
@@ -25,13 +24,16 @@ ghost use Rattle.sdm_rules.specs.declared.display.LimitName.{LimitName};
 ghost use Rattle.sdm_laws.specs.Falls.{MeetsFalls};
 ghost use Rattle.sdm_laws.specs.SupervisionLaws.{IsPassedUpwards};
 ghost use Rattle.sdm_row_laws.specs.AllCommands.{KeepsAllOrder};
+ghost use Rattle.sdm_row_laws.specs.CoveredFalls.{MeetsEachFall};
+ghost use Rattle.sdm_row_laws.specs.OpenTurns.{HasNearLimits};
 ghost use Rattle.sdm_row_laws.specs.ServiceStop.{CommandsNoBrake, StopsByItsEoa};
 
+mod explained;
 mod take_over;
 mod within;
 
 use crate::sight::Sight;
-use sdm_braking::{Braking, Kept, KeptEnd};
+use sdm_braking::{Braking, Kept, KeptEnd, TrainAndTrack};
 use sdm_curve::Curve;
 use sdm_national::National;
 use sdm_num::Reading;
@@ -103,15 +105,36 @@ impl Supervisor {
         track: Track,
         authority: Authority,
     ) -> Result<Supervisor, OpenFault>
-        ensures opening { IfOk result (λ s. s ≡ opening (train_and_track_from train national track) authority) }
-        ensures accepted { OnOk result (IsAccepted (train_and_track_from train national track) authority) }
-        ensures refused { IfErr result (IsRefusal (train_and_track_from train national track) authority) }
+        ensures opening { IfOk result
+            (λ s. s ≡ opening (record { train = train; national = national; track = track }) authority) }
+        ensures accepted { OnOk result
+            (IsAccepted (record { train = train; national = national; track = track }) authority) }
+        ensures refused { IfErr result
+            (IsRefusal (record { train = train; national = national; track = track }) authority) }
     {
-        let braking = Braking::open(alloc, train, national, track)?;
+        let train_and_track = TrainAndTrack {
+            train,
+            national,
+            track,
+        };
+        Supervisor::open(alloc, train_and_track, authority)
+    }
+
+    /// The supervisor of a train on its track with its first authority, as `begin` says.
+    pub fn open(
+        alloc: Global,
+        train_and_track: TrainAndTrack,
+        authority: Authority,
+    ) -> Result<Supervisor, OpenFault>
+        ensures opening { IfOk result (λ s. s ≡ opening train_and_track authority) }
+        ensures accepted { OnOk result (IsAccepted train_and_track authority) }
+        ensures refused { IfErr result (IsRefusal train_and_track authority) }
+    {
+        let braking = Braking::open(alloc, train_and_track)?;
         Supervisor::with_braking(alloc, braking, authority)
     }
 
-    /// The supervisor of a train on its track, with its first authority.
+    /// The supervisor over how a train is braked on its track, with its first authority.
     fn with_braking(
         alloc: Global,
         braking: Braking,
@@ -309,8 +332,8 @@ impl Supervisor {
         self.sight(reading).would_pass(name, kmh)
     }
 
-    /// The target that counts at a reading, with its distance; none where no target is slower than the train. No memory
-    /// is taken. (own)
+    /// The target that counts at a reading, with its speed and its distance; none where no target is slower than the
+    /// train. No memory is taken. (own)
     pub fn shown(&self, reading: &Reading) -> Option<Shown>
         ensures { result ≡ shown_target_of self.now reading.now }
     {
@@ -323,10 +346,12 @@ impl Supervisor {
     /// The row is that of the definitions. Its commands, its status and its state keep the order of the three machines:
     /// that with exact limits of targets, this one, and that with every limit one millimetre earlier. From a covered
     /// row every motion within the bounds of the reading stops by the SvL, where there is one, and meets each speed
-    /// target; without emergency command it meets each fall that isn't behind the min safe front end, too. A row
-    /// without emergency command that isn't covered has a gap, which is a speed target. From the row of a moving train
-    /// under a stop that commands no brake, outside release speed monitoring, the service brake stops it by the EOA.
-    /// Without emergency command the estimated speed is at most the ceiling with its EBI margin.
+    /// target; without emergency command it meets each fall that isn't behind the min safe front end, too, and with one
+    /// it has at such a fall that the max safe front end has reached at most V_bec or its foot speed with the gain. A
+    /// row without emergency command that isn't covered has a gap, which is a speed target. From the row of a moving
+    /// train under a stop that commands no brake, outside release speed monitoring, the service brake stops it by the
+    /// EOA. Without emergency command the estimated speed is at most the ceiling with its EBI margin. Each computed
+    /// limit is less than a millimetre before the exact one, each printed one less than two, and none past it.
     pub fn cycle(&mut self, reading: &Reading) -> Result<Row, CycleFault>
         ensures in_time { OnOk result (time_fault self.old.last_time reading.now.time ≡ None) }
         ensures row { IfOk result (λ row. row ≡ row_of self.old reading.now) }
@@ -337,6 +362,8 @@ impl Supervisor {
         ensures eoa { IfOk result (λ row. CommandsNoBrake reading.now row → StopsByItsEoa self.old reading.now) }
         ensures falls { IfOk result
             (λ row. IsTrue row.covered → row.held.eb ≡ false → MeetsFalls self.old reading.now) }
+        ensures each_fall { IfOk result (λ row. IsTrue row.covered → MeetsEachFall self.old reading.now) }
+        ensures limits { OnOk result (HasNearLimits self.old reading.now) }
         ensures gaps { IfOk result (λ row. row.held.eb ≡ false → HasOnlyGaps self.old reading.now) }
         ensures ceiling { IfOk result (λ row. row.held.eb ≡ false → IsWithinCeiling reading.now row) }
         ensures release { OnOk result (BeginsReleaseMonitoring self.old reading.now) }

@@ -143,7 +143,23 @@ impl Verdict {
             said.triggers.over |= is_above;
             said.triggers.emer |= is_above;
         }
-        said.triggers.emer |= sight.past_end | (said.triggers.serv & !sight.in_use);
-        said
+        // Told by fields: a byte that was just written can't be read back with its neighbours as one word.
+        let Triggers {
+            over,
+            warn,
+            serv,
+            emer,
+        } = said.triggers;
+        Verdict {
+            triggers: Triggers {
+                over,
+                warn,
+                serv,
+                emer: emer | (sight.past_end | (serv & !sight.in_use)),
+            },
+            indicated: said.indicated,
+            covered: said.covered,
+            nearest: said.nearest,
+        }
     }
 }

@@ -1,4 +1,4 @@
--- What an accepted track keeps (ranges own).
+-- What holds of every accepted track (ranges own).
 use Rattle.std.specs.Prelude.{ℕ, ℤ, pos, neg_ℤ, List, All, length, slice_index_or, ◌<◌, ◌≤◌, ◌≤ℤ◌, ◌<ℤ◌}
 use Rattle.sdm_rules.specs.declared.data.Gradient.{Gradient}
 use Rattle.sdm_rules.specs.declared.data.SpeedStep.{SpeedStep}

@@ -6,7 +6,6 @@ ghost use Rattle.sdm_rules.specs.Opening.{IsAccepted};
 ghost use Rattle.sdm_rules.specs.Records.{most_records, rows_of};
 ghost use Rattle.sdm_formats.specs.Trial.{trial_authority, trial_journey, trial_train_and_track, trial_national};
 ghost use Rattle.sdm_formats.specs.Trial.{trial_track, trial_train};
-ghost use Rattle.sdm_data.specs.Given.{train_and_track_of};
 
 use sdm_data::JourneyData;
 use sdm_formats::{BASE_BAND, BASE_NATIONAL};
@@ -113,8 +112,8 @@ fn track(alloc: Global) -> Result<Track, NoMemory>
 
 /// The data of every trial. (own)
 pub fn trial_data(alloc: Global) -> Result<JourneyData, NoMemory>
-    ensures data { IfOk result (λ journey. train_and_track_of journey ≡ trial_train_and_track) }
-    ensures authority { IfOk result (λ journey. journey.authority ≡ trial_authority) }
+    ensures data { IfOk result (λ journey. journey.0 ≡ trial_train_and_track) }
+    ensures authority { IfOk result (λ journey. journey.1 ≡ trial_authority) }
 {
     Ok(JourneyData {
         train: train(),

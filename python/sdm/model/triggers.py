@@ -15,7 +15,7 @@ class Cause(NamedTuple):
 
 
 class Triggers(NamedTuple):
-    """Each trigger is the list of all its causes."""
+    """Each trigger is the list of all its causes, in the order of PROFILE "Causes"."""
 
     over: list[Cause]
     warn: list[Cause]
@@ -47,9 +47,10 @@ def triggers_of(situation: Situation) -> Triggers:
     """PROFILE "Triggers"."""
     reading, authority, release = situation.reading, situation.authority, above_release(situation)
     serv = over_a_limit(situation, dV_sbi, "d_SBI")
-    emer = over_a_limit(situation, dV_ebi, "d_EBI") + release
+    emer = over_a_limit(situation, dV_ebi, "d_EBI")
     if isinstance(authority, Stop) and reading.front_end("min") > authority.eoa * GRAINS_PER_CM:
         emer.append(Cause("end of authority"))
+    emer += release
     if serv and not situation.times.in_use:
         emer.append(Cause("no service brake"))
     return Triggers(

@@ -3,6 +3,7 @@ import os
 from collections.abc import Callable, Iterable
 from typing import TypeVar
 
+from .causes import causes_text
 from .certificates import certify
 from .checker import check_lines
 from .data import Data, data_of, read_document, split, table_of
@@ -56,6 +57,9 @@ def rows_of(words: list[str], read: Callable[[], bytes]) -> Iterable[str]:
         case ["display"]:
             supervisor, events = open_run(not_too_long(read()))
             return (display_of(supervisor, cycle.situation).text() for cycle in cycles(supervisor, events))
+        case ["why"]:
+            supervisor, events = open_run(not_too_long(read()))
+            return (causes_text(supervisor, cycle) for cycle in cycles(supervisor, events))
         case ["certify", count]:
             most = number_word(count, 1, 1_000)
             return certify(*open_run(not_too_long(read())), most)

@@ -5,6 +5,7 @@ import unittest
 from pathlib import Path
 
 import sdm
+from sdm.laboratory.cases import cases_under
 from sdm.laboratory.mistakes import FAULT, edited, mistakes
 from sdm.model.data import data_of, read_document
 from sdm.model.drive import Drive
@@ -69,11 +70,11 @@ class Mistakes(unittest.TestCase):
 
 class Faults(unittest.TestCase):
     def test_of_the_vectors_is_the_first_what_the_program_tells(self):
-        for path in sorted((TOP / "vectors").rglob("input")):
-            if not (path.parent / "args").is_file() or (path.parent / "args").read_text().split() != ["run"]:
-                continue
-            with self.subTest(path.parent):
-                due, told = (path.parent / "err").read_text(), sdm.explanation(path.read_bytes())
+        cases = [case for case in cases_under(TOP / "vectors") if case.words == ["run"]]
+        self.assertGreater(len(cases), 100, "`vectors/make` makes them")
+        for case in cases:
+            with self.subTest(case.name):
+                due, told = case.due.err, sdm.explanation(case.data)
                 self.assertEqual(FAULT + told.fault + "\n" if told.fault else "", due)
                 self.assertEqual(any(each.is_refusal for each in told.findings), bool(due))
 

@@ -16,12 +16,16 @@ STRUCTS = {
     "sdm_row": library.RowStruct,
     "sdm_restriction": library.RestrictionStruct,
     "sdm_display": library.DisplayStruct,
+    "sdm_cause": library.CauseStruct,
+    "sdm_causes": library.CausesStruct,
 }
 ENUMS = {
     "sdm_status": rows.Status,
     "sdm_state": rows.State,
     "sdm_supervision": rows.Supervision,
     "sdm_target": rows.Target,
+    "sdm_rule": rows.Rule,
+    "sdm_standing": rows.Standing,
 }
 
 
@@ -50,8 +54,9 @@ class Layout(unittest.TestCase):
             "int32_t": ctypes.c_int32,
             "int64_t": ctypes.c_int64,
             "struct sdm_place": library.Place,
+            "struct sdm_cause": library.CauseStruct,
         }
-        for name in ("sdm_reading", "sdm_place", "sdm_row", "sdm_restriction", "sdm_display"):
+        for name in set(STRUCTS) - {"sdm", "sdm_line"}:
             body = re.search(rf"^struct {name} {{\n(.*?)^}};", HEADER, re.M | re.S)[1]
             due = [(field, kinds[kind]) for kind, field in re.findall(r"^ {4}((?:struct )?\w+) (\w+);", body, re.M)]
             self.assertEqual(list(STRUCTS[name]._fields_), due)

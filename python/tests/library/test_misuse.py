@@ -43,6 +43,7 @@ class Misuse(unittest.TestCase):
             ("limit", Limit(0, 5)),
             ("revoke", Revocation(1)),
             ("display", SOME),
+            ("causes", SOME),
             ("restrict", Restriction(1, 0, 1, 5)),
             ("end_calculated", EndCalculated(0, 0, 0)),
             ("cycles", sdm.readings(**vars(SOME))),
@@ -220,6 +221,7 @@ def a_call(rng):
         [
             "cycle",
             "display",
+            "causes",
             "cycles",
             "end",
             "end_calculated",
@@ -242,6 +244,7 @@ def a_call(rng):
     usual = {
         "cycle": Reading,
         "display": Reading,
+        "causes": Reading,
         "end": End,
         "end_calculated": EndCalculated,
         "limit": Limit,

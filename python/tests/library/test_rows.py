@@ -1,5 +1,5 @@
 """Each journey of examples/ and vectors/ by the binding: rows, lines of a fault and codes are those that lie beside its
-input."""
+input, and causes those of the model."""
 import unittest
 
 from sdm import Reading, SdmError, Status, Supervisor
@@ -8,16 +8,22 @@ from sdm.laboratory.program import Result
 from sdm.model.data import split
 from sdm.model.outcome import Outcome, Refused
 from sdm.model.records import event_of, records
+from sdm.model.words import collect
 from sdm.records import OF_MODEL
 
 from ..folders import TOP
 
 CODES = {Status.BAD_DATA: 5, Status.REFUSED: 6}
 MOST_RECORDS = 100_000
+TOLD = {
+    "run": lambda supervisor, reading, row: row,
+    "display": lambda supervisor, reading, row: supervisor.display(reading),
+    "why": lambda supervisor, reading, row: supervisor.causes(reading),
+}
 
 
 def played(word, source):
-    """What the program's `run` or `display` writes of an input, by the binding."""
+    """What the program's `run`, `display` or `why` writes of an input, by the binding."""
     lines = []
     try:
         head, rest = split(source)
@@ -37,7 +43,7 @@ def played(word, source):
             except (Refused, SdmError) as why:
                 return Result("".join(lines), f"sdm: bad event {number}: {why}\n", 7)
             if isinstance(record, Reading):
-                lines.append((row if word == "run" else supervisor.display(record)).text())
+                lines.append(TOLD[word](supervisor, record, row).text())
     return Result("".join(lines), "", 0)
 
 
@@ -49,5 +55,7 @@ class Rows(unittest.TestCase):
                 played_now += 1
                 with self.subTest(case.name):
                     self.assertEqual(difference(("due", "binding"), case.due, played(case.words[0], case.data)), [])
+                    due = Result(*collect(["why"], case.data))
+                    self.assertEqual(difference(("model", "binding"), due, played("why", case.data)), [])
         print(f"{played_now} journeys by the binding")
-        self.assertGreater(played_now, 400)
+        self.assertGreater(played_now, 400, "`vectors/make` makes most of them")

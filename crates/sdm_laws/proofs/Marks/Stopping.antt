@@ -140,26 +140,28 @@ module _ (on : Slopes) (usable : IsUsable on) (svl : ℤ) (k m : ℕ) (k_pos : 0
 
 -- the first braking point of a motion is reached with at most the energy of the first mark, at or before it
 pub marks_stop : LawOfMarks
-marks_stop on c marks usable h s p v xs first more m =
+marks_stop on c marks usable h m is =
+    let s = m.scale in
+    let first = m.first in
     let k = energy_scale on in
-    let motion = m.1.motion in
-    let m_pos : 0 < s * s = mul-pos m.0 m.0 in
-    let bound = (in_reach s (start_of c) on 0 p v xs first more motion m.1.speed).begins in
+    let motion = is.1.motion in
+    let s_pos : 0 < s * s = mul-pos is.0 is.0 in
+    let bound = (in_reach on (start_of c) m 0 motion is.1.speed).begins in
     let marked = lead_within on c.svl h.first h.more usable h.lead in
     let square : first.square ≤ s * s * (v_bec_of c * v_bec_of c) = (let b = bound.square in omega arith) in
     let energy : k * first.square ≤ s * s * h.first.energy = scaled_energy k (s * s) first.square
     (v_bec_of c * v_bec_of c) h.first.energy square h.begins.energy in
     let far : IsAtMost (whole (pos (s * s) *ℤ h.first.place)) (exact_at on (s * s) c.svl 0 first.square) =
-    between_scales on usable c.svl k (s * s) (scale_some on usable) m_pos h.first.place h.first.energy first.square
+    between_scales on usable c.svl k (s * s) (scale_some on usable) s_pos h.first.place h.first.energy first.square
     marked energy in
     let front = rw scale-+ℤ at (scale-≤ (s * s) _ _ h.begins.place) in
-    let begins = m.1.place in
+    let begins = is.1.place in
     let reach = bound.place in
     let place : first.place ≤ℤ (pos (s * s) *ℤ h.first.place) = omega (arith, ints) in
     let within : IsWithinCurve on (s * s) c.svl 0 first = at_most_trans (whole first.place)
     (whole (pos (s * s) *ℤ h.first.place)) _ (omega arith) (whole_at_most _ _ place) far in
-    let held = braking on (s * s) c.svl 0 first more usable m_pos motion.braking within in
-    All-weaker (IsHeldByCurve on (s * s) c.svl 0) (IsBy s c.svl) (λ y l. l.standing refl) (first ∷ more) held
+    let held = braking on (s * s) c.svl 0 first m.more usable s_pos motion.braking within in
+    All-weaker (IsHeldByCurve on (s * s) c.svl 0) (IsBy s c.svl) (λ y l. l.standing refl) (first ∷ m.more) held
   where
     scaled_energy : (k m u w e : ℕ) → u ≤ m * w → k * w ≤ e → k * u ≤ m * e
     scaled_energy k m u w e h g = omega (arith, mul-le-mul_left k h, mul-le-mul_left m g)

@@ -7,11 +7,10 @@ use Rattle.std.proofs.lemmas.List.Elements.{All-nil, All-cons, All-append}
 use Rattle.std.proofs.lemmas.Nat.{mul-le}
 use Rattle.std.proofs.Math.Nat.{mul-le-mul_left}
 use Rattle.sdm_rules.specs.declared.motions.Phase.TheVariants.{Traction, Build}
-use Rattle.sdm_rules.specs.declared.motions.Point.{Point}
 use Rattle.sdm_rules.specs.declared.motions.Slice.{Slice}
 use Rattle.sdm_rules.specs.declared.motions.Start.{Start}
 use Rattle.sdm_rules.specs.Slopes.{Slopes}
-use Rattle.sdm_rules.specs.Motion.{AreSlices, IsMotion, time_of, IsIn, slice_ends, last_point}
+use Rattle.sdm_rules.specs.Motion.{AreSlices, Motion, IsMotion, time_of, IsIn, slice_ends, last_point}
 use Rattle.sdm_rules.specs.Reaction.{build_up_of, v_cut_off, v_bec, d_bec}
 use Rattle.sdm_laws.specs.MotionLaws.{IsBounded, IsInReach}
 use Rattle.sdm_laws.proofs.Moving.SliceBounds.{last_speed, distance_of, phase_speed, phase_distance, ends_bounded}
@@ -106,31 +105,28 @@ module _ (s : ℕ) (start : Start) (target : ℕ) (p : ℤ) (v : ℕ) (traction 
 -- ---- a whole motion
 
 -- the ends of the slices and the first braking point are in reach
-pub record AreInReach (s : ℕ) (start : Start) (target : ℕ) (p : ℤ) (v : ℕ) (xs : List Slice)
-    (first : Point) : Type 0 where
-  pub ends : All (IsInReach s start target p) (slice_ends p v xs)
-  pub begins : IsInReach s start target p first
+pub record AreInReach (start : Start) (target : ℕ) (m : Motion) : Type 0 where
+  pub ends : All (IsInReach m.scale start target m.place) (slice_ends m.place m.speed m.slices)
+  pub begins : IsInReach m.scale start target m.place m.first
 
 -- the same of every motion, and of its first braking point
-pub in_reach : (s : ℕ) (start : Start) (on : Slopes) (target : ℕ) (p : ℤ) (v : ℕ) (xs : List Slice) (first : Point)
-    (more : List Point) →
-    IsMotion s start on p v xs first more → v ≤ s * start.speed → AreInReach s start target p v xs first
-in_reach s start on target p v xs first more m slow =
-    let h = m.reaction in
-    let slices : AreSlices start v (h.traction ++ h.build) = subst
-    (λ (zs : List Slice). AreSlices start v zs) h.split h.slices in
-    let ends = ends_in_reach s start target p v h.traction h.build h.in_traction h.in_build h.traction_time
-    h.build_time slices slow in
-    let last = last_in_reach s start target p v h.traction h.build h.in_traction h.in_build h.traction_time
-    h.build_time slices slow in
-    record { ends = rw h.split ends; begins = rw (m.begins, h.split) last }
+pub in_reach : (on : Slopes) (start : Start) (m : Motion) (target : ℕ) → IsMotion on start m →
+    m.speed ≤ m.scale * start.speed → AreInReach start target m
+in_reach on start m target is slow =
+    let h = is.reaction in
+    let slices : AreSlices start m.speed (h.traction ++ h.build) = subst
+    (λ (zs : List Slice). AreSlices start m.speed zs) h.split h.slices in
+    let ends = ends_in_reach m.scale start target m.place m.speed h.traction h.build h.in_traction h.in_build
+    h.traction_time h.build_time slices slow in
+    let last = last_in_reach m.scale start target m.place m.speed h.traction h.build h.in_traction h.in_build
+    h.traction_time h.build_time slices slow in
+    record { ends = rw h.split ends; begins = rw (is.begins, h.split) last }
 
 -- the law of the reaction, of all ends of slices and the first braking point in one list
-pub reaction : (s : ℕ) (start : Start) (on : Slopes) (target : ℕ) (p : ℤ) (v : ℕ) (xs : List Slice) (first : Point)
-    (more : List Point) →
-    IsMotion s start on p v xs first more → v ≤ s * start.speed →
-    All (IsInReach s start target p) (slice_ends p v xs ++ first ∷ [])
-reaction s start on target p v xs first more m slow =
-    let h = in_reach s start on target p v xs first more m slow in
-    let R = IsInReach s start target p in
-    All-append R _ _ h.ends (All-cons R first [] h.begins (All-nil R))
+pub reaction : (on : Slopes) (start : Start) (m : Motion) (target : ℕ) → IsMotion on start m →
+    m.speed ≤ m.scale * start.speed →
+    All (IsInReach m.scale start target m.place) (slice_ends m.place m.speed m.slices ++ m.first ∷ [])
+reaction on start m target is slow =
+    let h = in_reach on start m target is slow in
+    let R = IsInReach m.scale start target m.place in
+    All-append R _ _ h.ends (All-cons R m.first [] h.begins (All-nil R))

@@ -108,19 +108,20 @@ slow_there s r cell eb low high =
 pub never_above : (d : Slopes) (s : Supervision) (r : OdometerReading) (place : ℤ) (w : ℕ) →
     v_bec (build_up_from s.train_and_track (estimate_of r)) 0 ≤ w →
     SlowsTo d (reaction_start s.train_and_track r) place w
-never_above on s r place w le n p v xs first more m =
+never_above on s r place w le m is =
+    let n = m.scale in
     let start = reaction_start s.train_and_track r in
     let bec = v_bec (build_up_of start) 0 in
     let K : Point → Type 0 = KeepsTo n place w in
-    let reached = in_reach n start on 0 p v xs first more m.1.motion m.1.speed in
+    let reached = in_reach on start m 0 is.1.motion is.1.speed in
     let top : n * bec * (n * bec) ≤ n * n * (w * w) =
     omega (arith, mul-le-mul_left (n * n) (mul-le bec bec w w le le)) in
-    let slow : (y : Point) → IsInReach n start 0 p y → K y = λ y b past. omega (arith, b.square) in
-    let rest = slower on (n * n) (n * n * (w * w)) first more m.1.motion.braking (omega (arith, reached.begins.square))
-    in
-    All-append K _ _ (All-weaker (IsInReach n start 0 p) K slow _ reached.ends)
-    (All-cons K first more (slow first reached.begins)
-    (All-weaker (λ (y : Point). y.square ≤ n * n * (w * w)) K (λ y k past. k) more rest))
+    let slow : (y : Point) → IsInReach n start 0 m.place y → K y = λ y b past. omega (arith, b.square) in
+    let rest = slower on (n * n) (n * n * (w * w)) m.first m.more is.1.motion.braking
+    (omega (arith, reached.begins.square)) in
+    All-append K _ _ (All-weaker (IsInReach n start 0 m.place) K slow _ reached.ends)
+    (All-cons K m.first m.more (slow m.first reached.begins)
+    (All-weaker (λ (y : Point). y.square ≤ n * n * (w * w)) K (λ y k past. k) m.more rest))
 
 -- the gain and V_est are V_bec
 gained_is : (v bec foot : ℕ) → v ≤ foot → bec ≤ foot + (bec - v)

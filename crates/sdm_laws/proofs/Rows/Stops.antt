@@ -8,7 +8,7 @@ use Rattle.std.proofs.lemmas.Bool.{false≢true, and_parts, not-true, leb-true}
 use Rattle.std.proofs.lemmas.List.Elements.{All-append, All-cons, All-contains, All-weaker, Contains-append_right}
 use Rattle.std.proofs.lemmas.List.Sums.{AllPass-from_list_all}
 use Rattle.std.proofs.lemmas.Nat.{mul-le}
-use Rattle.std.proofs.Math.Nat.{mul-le-mul_left}
+use Rattle.std.proofs.Math.Nat.{mul-le-mul_left, mul-pos}
 use Rattle.std.specs.Prelude.{All, IsTrue, Contains, is_some, ◌⊎◌, ◌≢◌}
 use Rattle.std.specs.List.{list_all}
 use Rattle.std.specs.Option.{option_map_or}
@@ -17,7 +17,6 @@ use Rattle.sdm_num.specs.Readings.{OdometerReading, estimate_of}
 use Rattle.sdm_num.proofs.Order.{at_most_trans}
 use Rattle.sdm_num.proofs.Comparisons.{not_lt_of}
 use Rattle.sdm_rules.specs.declared.data.SlopeKind.TheVariants.{Safe}
-use Rattle.sdm_rules.specs.declared.motions.Slice.{Slice}
 use Rattle.sdm_rules.specs.declared.motions.Point.{Point}
 use Rattle.sdm_rules.specs.declared.motions.Start.{Start}
 use Rattle.sdm_rules.specs.declared.authorities.Authority.{Authority}
@@ -27,7 +26,7 @@ use Rattle.sdm_rules.specs.declared.targets.TargetKind.{TargetKind}
 use Rattle.sdm_rules.specs.declared.targets.TargetKind.TheVariants.{Mrsp, Loa, Eoa, Svl}
 use Rattle.sdm_rules.specs.Slopes.{Slopes, IsUsable}
 use Rattle.sdm_rules.specs.Curves.{exact_at, exact, stepped}
-use Rattle.sdm_rules.specs.Motion.{IsBy, KeepsTo, slice_ends}
+use Rattle.sdm_rules.specs.Motion.{Motion, IsBy, KeepsTo, slice_ends}
 use Rattle.sdm_rules.specs.Data.{TrainAndTrack}
 use Rattle.sdm_rules.specs.Decelerations.{slopes_of}
 use Rattle.sdm_rules.specs.Targets.{targets_of, falls_ahead, ends_of, svl_target, target_speed, foot_speed_of}
@@ -80,65 +79,68 @@ not_past on usable f w v bec front e =
 -- from it stops by the foot
 pub stops_before : (on : Slopes) → IsUsable on → (start : Start) (f : ℤ) (v d : ℕ) → v_bec (build_up_of start) 0 ≡ v →
     d_bec (build_up_of start) 0 ≡ d → is_past 0 start.front (less (computed on f 0 v) d) ≡ false → StopsBy on start f
-stops_before on usable start f v d speed distance e s p u xs first more m =
-    let B : ℕ → ℕ → Type 0 = λ distance speed. IsBounded (p +ℤ pos (s * s * distance)) (s * speed) first in
-    let s_pos : 0 < s * s = (let h = m.0 in omega (arith, mul-le-mul_left s h)) in
+stops_before on usable start f v d speed distance e m is =
+    let s = m.scale in
+    let B : ℕ → ℕ → Type 0 = λ distance speed. IsBounded (m.place +ℤ pos (s * s * distance)) (s * speed) m.first in
+    let s_pos : 0 < s * s = mul-pos is.0 is.0 in
     let h = not_past on usable f 0 v d start.front e in
-    let reached = in_reach s start on 0 p u xs first more m.1.motion m.1.speed in
+    let reached = in_reach on start m 0 is.1.motion is.1.speed in
     let bounded = subst (λ (k : ℕ). B d k) speed
     (subst (λ (k : ℕ). B k (v_bec (build_up_of start) 0)) distance reached.begins) in
-    let within = within_first on usable s f 0 v d start.front p first s_pos h m.1.place bounded in
-    let held = braking on (s * s) f 0 first more usable s_pos m.1.motion.braking within in
-    All-weaker (IsHeldByCurve on (s * s) f 0) (IsBy s f) (λ y k. k.standing refl) (first ∷ more) held
+    let within = within_first on usable s f 0 v d start.front m.place m.first s_pos h is.1.place bounded in
+    let held = braking on (s * s) f 0 m.first m.more usable s_pos is.1.motion.braking within in
+    All-weaker (IsHeldByCurve on (s * s) f 0) (IsBy s f) (λ y k. k.standing refl) (m.first ∷ m.more) held
 
 module _ (d : TrainAndTrack) (usable : IsUsable (slopes_of Safe d)) (r : OdometerReading) (t : Target)
-    (s : ℕ) (p : ℤ) (v : ℕ) (xs : List Slice) (first : Point) (more : List Point)
-    (m : IsMotionOn (slopes_of Safe d) (reaction_start d r) s p v xs first more) where
-  pos_m : 0 < s * s
-  pos_m = let h = m.0 in omega (arith, mul-le-mul_left s h)
+    (m : Motion) (is : IsMotionOn (slopes_of Safe d) (reaction_start d r) m) where
+  pos_m : 0 < m.scale * m.scale
+  pos_m = mul-pos is.0 is.0
 
   -- within D_bec and V_bec
   abbrev IsReached : Point → Type 0
-  IsReached = IsInReach s (reaction_start d r) (target_speed t) p
+  IsReached = IsInReach m.scale (reaction_start d r) (target_speed t) m.place
 
   -- in every motion the ends of slices and the first braking point are reached
-  reached : AreInReach s (reaction_start d r) (target_speed t) p v xs first
-  reached = in_reach s (reaction_start d r) (slopes_of Safe d) (target_speed t) p v xs first more m.1.motion m.1.speed
+  reached : AreInReach (reaction_start d r) (target_speed t) m
+  reached = in_reach (slopes_of Safe d) (reaction_start d r) m (target_speed t) is.1.motion is.1.speed
 
   -- where the front end is at or before the EBI on a curve from the target, the whole motion is held by that curve
   held_by_curve :
       is_past 0 r.max (less (computed (slopes_of Safe d) t.place (foot_speed_of t) (v_bec_for d (estimate_of r) t))
       (d_bec_for d (estimate_of r) t)) ≡ false →
-      All (IsHeldByCurve (slopes_of Safe d) (s * s) t.place (foot_speed_of t)) (slice_ends p v xs)
-      × All (IsHeldByCurve (slopes_of Safe d) (s * s) t.place (foot_speed_of t)) (first ∷ more)
+      All (IsHeldByCurve (slopes_of Safe d) (m.scale * m.scale) t.place (foot_speed_of t))
+      (slice_ends m.place m.speed m.slices)
+      × All (IsHeldByCurve (slopes_of Safe d) (m.scale * m.scale) t.place (foot_speed_of t)) (m.first ∷ m.more)
   held_by_curve e =
       let on = slopes_of Safe d in
+      let s = m.scale in
       let w = foot_speed_of t in
       let bec = v_bec_for d (estimate_of r) t in
       let distance = d_bec_for d (estimate_of r) t in
       let h = not_past on usable t.place w bec distance r.max e in
       let within : (y : Point) → IsReached y → IsWithinCurve on (s * s) t.place w y =
-      λ y b. within_first on usable s t.place w bec distance r.max p y pos_m h m.1.place b in (
+      λ y b. within_first on usable s t.place w bec distance r.max m.place y pos_m h is.1.place b in (
         All-weaker IsReached (IsHeldByCurve on (s * s) t.place w)
             (λ y b. within_held on (s * s) t.place w y usable pos_m (within y b)) _ reached.ends,
-        braking on (s * s) t.place w first more usable pos_m m.1.motion.braking (within first reached.begins),
+        braking on (s * s) t.place w m.first m.more usable pos_m is.1.motion.braking (within m.first reached.begins),
       )
 
   -- where V_bec is at most the foot speed, the train is never faster
   never_faster : v_bec_for d (estimate_of r) t ≤ foot_speed_of t →
-      All (KeepsTo s t.place (foot_speed_of t)) (slice_ends p v xs ++ first ∷ more)
+      All (KeepsTo m.scale t.place (foot_speed_of t)) (slice_ends m.place m.speed m.slices ++ m.first ∷ m.more)
   never_faster le =
+      let s = m.scale in
       let bec = v_bec_for d (estimate_of r) t in
       let w = foot_speed_of t in
       let K : Point → Type 0 = KeepsTo s t.place w in
       let top : s * bec * (s * bec) ≤ s * s
       * (w * w) = omega (arith, mul-le-mul_left (s * s) (mul-le bec bec w w le le)) in
       let slow : (y : Point) → IsReached y → K y = λ y b past. omega (arith, b.square) in
-      let rest = slower (slopes_of Safe d) (s * s) (s * s * (w * w)) first more m.1.motion.braking
+      let rest = slower (slopes_of Safe d) (s * s) (s * s * (w * w)) m.first m.more is.1.motion.braking
       (omega (arith, reached.begins.square)) in
       All-append K _ _ (All-weaker IsReached K slow _ reached.ends)
-      (All-cons K first more (slow first reached.begins)
-      (All-weaker (λ (y : Point). y.square ≤ s * s * (w * w)) K (λ y k past. k) more rest))
+      (All-cons K m.first m.more (slow m.first reached.begins)
+      (All-weaker (λ (y : Point). y.square ≤ s * s * (w * w)) K (λ y k past. k) m.more rest))
 
 -- ---- the row
 
@@ -168,27 +170,27 @@ within_or_slow d r t Svl a b e = absurd (b refl)
 meets_of : (d : TrainAndTrack) → IsUsable (slopes_of Safe d) → (r : OdometerReading) (t : Target) → IsSpeedTarget t →
     is_covered_for d r.max (estimate_of r) t ≡ true → MeetsTarget d r t
 unfolding limits_of
-meets_of d usable r t is e s p v xs first more m =
-    let K : Point → Type 0 = KeepsTo s t.place (foot_speed_of t) in
-    let H : Point → Type 0 = IsHeldByCurve (slopes_of Safe d) (s * s) t.place (foot_speed_of t) in
-    elim (within_or_slow d r t t.kind is.0 is.1 e) [
-      | inl x ↦ (let held = held_by_curve d usable r t s p v xs first more m x in
+meets_of d usable r t speed e m is =
+    let K : Point → Type 0 = KeepsTo m.scale t.place (foot_speed_of t) in
+    let H : Point → Type 0 = IsHeldByCurve (slopes_of Safe d) (m.scale * m.scale) t.place (foot_speed_of t) in
+    elim (within_or_slow d r t t.kind speed.0 speed.1 e) [
+      | inl x ↦ (let held = held_by_curve d usable r t m is x in
           All-weaker H K (λ y k. k.past) _ (All-append H _ _ held.0 held.1))
-      | inr x ↦ never_faster d usable r t s p v xs first more m x
+      | inr x ↦ never_faster d usable r t m is x
     ]
 
 -- by an SvL that is covered every motion stops
 pub stops_of : (d : TrainAndTrack) → IsUsable (slopes_of Safe d) → (r : OdometerReading) (svl : ℕ) →
     is_covered_for d r.max (estimate_of r) (svl_target svl) ≡ true → StopsBySvl d r svl
 unfolding limits_of
-stops_of d usable r svl e s p v xs first more m =
+stops_of d usable r svl e m is =
     let t = svl_target svl in
     let past = elim (either _ false e) as (λ _. is_past 0 r.max
     (less (computed (slopes_of Safe d) t.place 0 (v_bec_for d (estimate_of r) t)) (d_bec_for d (estimate_of r) t))
     ≡ false) [ inl x ↦ x | inr x ↦ absurd (false≢true x) ] in
-    let held = held_by_curve d usable r t s p v xs first more m past in
-    All-weaker (IsHeldByCurve (slopes_of Safe d) (s * s) t.place 0) (IsBy s t.place)
-    (λ y k. k.standing refl) (first ∷ more) held.1
+    let held = held_by_curve d usable r t m is past in
+    All-weaker (IsHeldByCurve (slopes_of Safe d) (m.scale * m.scale) t.place 0) (IsBy m.scale t.place)
+    (λ y k. k.standing refl) (m.first ∷ m.more) held.1
 
 -- in a covered row outside release speed monitoring the SvL is covered
 svl_covered : (d : TrainAndTrack) (r : OdometerReading) (profile : ℤ → ℕ) (a : Authority)

@@ -15,8 +15,7 @@ fn ebi_by_hand_mm(kmh: u16) -> i64 {
 }
 
 fn base_braking(alloc: Global) -> Option<Braking> {
-    let parts = plain_parts(alloc)?;
-    Braking::open(alloc, parts.train, parts.national, parts.track).ok()
+    Braking::open(alloc, plain_parts(alloc)?).ok()
 }
 
 /// The EBI in mm at a speed, before an SvL at 1000 m.

@@ -108,7 +108,11 @@ fn each_line_has_its_fields_in_order(rt: HostRuntime) {
             sbi,
             ebi,
             release,
-            shown: kind.map(|kind| Shown { kind, distance }),
+            shown: kind.map(|kind| Shown {
+                kind,
+                speed: 0,
+                distance,
+            }),
         };
         assert!(rt; is_displayed(&display, line), "{line}");
     }

@@ -4,7 +4,8 @@
 
 ghost use Rattle.std.specs.Prelude.{◌≤◌};
 
-use crate::tests::plain::{Parts, parts_of, stop};
+use crate::tests::plain::{parts_of, stop};
+use sdm_braking::TrainAndTrack;
 use sdm_drive::{Drive, DriveFault, Summary, driven};
 use sdm_formats::{BASE_NATIONAL, BASE_TRAIN};
 use sdm_rules::{Authority, TrainFields};
@@ -12,7 +13,7 @@ use sdm_text::RowBuf;
 use std::alloc::Global;
 
 /// The plain data with a build-up time of the emergency brake, in ds.
-fn built_up(alloc: Global, emergency_time: i64) -> Option<Parts> {
+fn built_up(alloc: Global, emergency_time: i64) -> Option<TrainAndTrack> {
     let train = TrainFields {
         emergency_time,
         ..BASE_TRAIN
@@ -23,7 +24,7 @@ fn built_up(alloc: Global, emergency_time: i64) -> Option<Parts> {
 /// The drive of number 7 over data, or why it is refused; none where there are no data.
 fn begin(
     alloc: Global,
-    data: Option<Parts>,
+    data: Option<TrainAndTrack>,
     authority: Authority,
 ) -> Option<Result<Drive, DriveFault>> {
     let data = data?;
@@ -64,14 +65,14 @@ fn a_train_is_driven_by_its_numbers(rt: HostRuntime) {
 // ---- summaries
 
 /// Whether the summary of so many steps from 7 over data is a text.
-fn is_summed_up(alloc: Global, data: Option<Parts>, cycles: u32, text: &str) -> bool
+fn is_summed_up(alloc: Global, data: Option<TrainAndTrack>, cycles: u32, text: &str) -> bool
     requires { cycles ≤ 100_000 }
 {
     let Some(data) = data else {
         return false;
     };
     let end = stop(100_000, 100_000);
-    match driven(alloc, data.train, data.national, data.track, end, 7, cycles) {
+    match driven(alloc, data, end, 7, cycles) {
         Ok(summary) => is_said(&summary, text),
         Err(_) => false,
     }

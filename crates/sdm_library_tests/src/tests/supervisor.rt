@@ -6,7 +6,8 @@ ghost use Rattle.std.specs.Prelude.{◌≤◌};
 mod curves;
 mod flat;
 
-use crate::tests::plain::{Parts, opened, parts_of, plain_parts, stop};
+use crate::tests::plain::{opened, parts_of, plain_parts, stop};
+use sdm_braking::TrainAndTrack;
 use sdm_formats::{BASE_NATIONAL, BASE_TRAIN};
 use sdm_num::Reading;
 use sdm_report::row_bytes;
@@ -281,7 +282,7 @@ fn tells_how_it_brakes(supervisor: &Supervisor) -> bool {
 }
 
 /// Cuts its traction off after 0.5 s, and brakes 2 s after a command.
-fn slow_to_brake(alloc: Global) -> Option<Parts> {
+fn slow_to_brake(alloc: Global) -> Option<TrainAndTrack> {
     let train = TrainFields {
         traction_cutoff_time: 5,
         emergency_time: 20,
@@ -369,6 +370,7 @@ fn is_shown(
 fn is_as_by_hand(supervisor: &Supervisor) -> bool {
     let end = Shown {
         kind: TargetKind::Eoa,
+        speed: 0,
         distance: 200_010,
     };
     let at_20_m_s = [

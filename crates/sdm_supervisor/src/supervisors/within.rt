@@ -61,7 +61,7 @@ impl Supervisor {
     pub fn under(&self, reading: &Reading) -> Speed
         ensures { result ≡ v_delta0 self.now.train_and_track reading.now.under }
     {
-        self.braking.asked(reading.estimate()).v_delta0
+        self.braking.v_delta0(reading.under_mm_s())
     }
 
     /// Whether a reading is within the SvL: the authority is a stop, the train isn't in release speed monitoring, and

@@ -7,7 +7,8 @@ use Rattle.sdm_report.specs.declared.outcome.Outcome.TheVariants.{TooLong}
 use Rattle.sdm_live.specs.Exchanges.{Gave, Gave_fault, History}
 use Rattle.sdm_live_data.specs.Divisions.{HasNoRecords, IsDivision}
 use Rattle.sdm_live_data.specs.Waiting.{IsGatherEnd, IsGathered, IsUnanswered, IsWaitingPrompt}
-use Rattle.sdm_live_data.proofs.Gathering.{along_map, along_then, gathered_end, gathered_fault, gathered_more}
+use Rattle.sdm_live.proofs.Along.{along_map, along_then}
+use Rattle.sdm_live_data.proofs.Gathering.{gathered_end, gathered_fault, gathered_more}
 use Rattle.sdm_live_data.proofs.Gathering.{if_divided, too_long, unanswered}
 use Rattle.sdm_live_data.proofs.data_parts.gather.Goals as goal
 

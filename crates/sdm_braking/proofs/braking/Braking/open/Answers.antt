@@ -1,14 +1,16 @@
 -- The train and the track are within their ranges, and the slopes of each kind were accepted in turn.
-use Rattle.sdm_decel.specs.Slopes.{train_and_track_from}
+use Rattle.std.proofs.Common.{ap, subst}
 use Rattle.sdm_braking.specs.Braking.{IsSupervisable}
+use Rattle.sdm_train.specs.Trains.{IsTrain}
+use Rattle.sdm_track.specs.Ranges.{IsTrack}
 use Rattle.sdm_laws.proofs.Openings.Decided.{all_kinds}
 use Rattle.sdm_braking.proofs.braking.Braking.open.Goals as goal
 
 module _ (c : goal.Else-prove-2) where
-  accepted : IsSupervisable (train_and_track_from c.args.train c.args.national c.args.track)
+  accepted : IsSupervisable c.args.train_and_track
   accepted = record {
-    train = c.band_count.ensures.accepted;
-    track = c.length_cm.ensures.in_range;
+    train = subst IsTrain (ap (λ d. d.train) c.train_and_track.view_is) c.band_count.ensures.accepted;
+    track = subst IsTrack (ap (λ d. d.track) c.train_and_track.view_is) c.length_cm.ensures.in_range;
     usable =
         all_kinds _ c.in_ok-safe.ensures.accepted c.in_ok-expected.ensures.accepted c.in_ok-normal.ensures.accepted;
   }

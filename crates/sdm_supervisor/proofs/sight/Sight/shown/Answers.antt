@@ -6,7 +6,7 @@ use Rattle.std.proofs.lemmas.Int.{ints, to_z-of_z}
 use Rattle.sdm_num.specs.Bounds.{mm_below}
 use Rattle.sdm_num.specs.Readings.{Estimate, OdometerReading, estimate_of}
 use Rattle.sdm_rules.specs.Data.{TrainAndTrack}
-use Rattle.sdm_rules.specs.Display.{distance_to, shown_target}
+use Rattle.sdm_rules.specs.Display.{distance_to, shown_as, shown_target}
 use Rattle.sdm_rules.specs.Limits.{computed, limits_of}
 use Rattle.sdm_rules.specs.Triggers.{Situation, front_for}
 use Rattle.sdm_supervisor.specs.declared.shown.Counting.{Counting}
@@ -18,8 +18,7 @@ use Rattle.sdm_supervisor.proofs.sight.Sight.shown.Goals as goal
 shown_of : (d : TrainAndTrack) (r : OdometerReading) (now : Situation) (e : Estimate) (counting : Option Counting) →
     e ≡ estimate_of r →
     IsCounting (λ t. (limits_of computed d e t).permitted) e.speed now.targets counting →
-    shown_target d r now
-    ≡ option_map (λ c. record { kind = c.target.kind; distance = distance_to now c.target }) counting
+    shown_target d r now ≡ option_map (λ c. shown_as now c.target) counting
 shown_of d r now e counting is counted =
     shown_is d r now counting (subst (λ (x : Estimate). IsCounting (λ t. (limits_of computed d x t).permitted) x.speed
     now.targets counting) is counted)
@@ -31,8 +30,7 @@ returns-in_err-target c =
     ∙ sym (shown_of seen.train_and_track seen.reading seen.situation c.asked-asked.result.estimate c.walk.new.found
     (c.asked-asked.ensures.estimate ∙ c.estimate.ensures ∙ (λ k. estimate_of (c.self.view_is k).reading))
     c.walk.ensures
-    ∙ ap (option_map (λ x. record { kind = x.target.kind; distance = distance_to seen.situation x.target }))
-    c.in_err-target.was)
+    ∙ ap (option_map (λ x. shown_as seen.situation x.target)) c.in_err-target.was)
 
 pub returns : goal.returns
 returns c =
@@ -43,9 +41,8 @@ returns c =
     ∙ (λ k. int_max (mm_below (counting.target.place -ℤ (c.front_for.ensures
     ∙ ap (λ (x : Situation). front_for x.est x.front counting.target.kind) (λ j. (c.self.view_is j).situation)) k))
     (pos 0)) in
-    (λ k. Some (record { kind = counting.target.kind; distance = distance k }))
+    (λ k. Some (record { kind = counting.target.kind; speed = counting.target.speed; distance = distance k }))
     ∙ sym (shown_of seen.train_and_track seen.reading seen.situation c.asked-asked.result.estimate c.walk.new.found
     (c.asked-asked.ensures.estimate ∙ c.estimate.ensures ∙ (λ k. estimate_of (c.self.view_is k).reading))
     c.walk.ensures
-    ∙ ap (option_map (λ x. record { kind = x.target.kind; distance = distance_to seen.situation x.target }))
-    c.in_ok-target.was)
+    ∙ ap (option_map (λ x. shown_as seen.situation x.target)) c.in_ok-target.was)

@@ -3,8 +3,9 @@
 use Rattle.std.proofs.Common.{◌≡◌, Some, ◌∙◌, sym, subst}
 use Rattle.sdm_rules.specs.Supervision.{Supervision, row_in, row_of, after_reading}
 use Rattle.sdm_supervisor.specs.Sights.{seen_at}
-use Rattle.sdm_supervisor.proofs.CycleLaws.{commands_of, order_of, safe_of, eoa_of, falls_of, gaps_of, ceiling_of}
-use Rattle.sdm_supervisor.proofs.CycleLaws.{release_of}
+use Rattle.sdm_row_laws.proofs.OpenTurns.{near_limits}
+use Rattle.sdm_supervisor.proofs.CycleLaws.{commands_of, each_fall_of, order_of, safe_of, eoa_of, falls_of, gaps_of}
+use Rattle.sdm_supervisor.proofs.CycleLaws.{ceiling_of, release_of}
 use Rattle.sdm_supervisor.proofs.FindLaws.{state_of}
 use Rattle.sdm_supervisor.proofs.supervisors.Supervisor.cycle.Goals as goal
 use Rattle.sdm_supervisor.proofs.supervisors.Supervisor.cycle.Goals.{After-row-row}
@@ -74,3 +75,10 @@ returns-clause-eoa c = eoa_of c.args.self.now c.args.reading.now c.row-row.resul
 pub returns-clause-falls : goal.returns-clause-falls
 returns-clause-falls c = falls_of c.args.self.now c.args.reading.now c.row-row.result
     (row ((goal.at.returns-clause-falls c).After-row-row)) c.sight.ensures.accepted
+
+pub returns-clause-each_fall : goal.returns-clause-each_fall
+returns-clause-each_fall c = each_fall_of c.args.self.now c.args.reading.now c.row-row.result
+    (row ((goal.at.returns-clause-each_fall c).After-row-row)) c.sight.ensures.accepted
+
+pub returns-clause-limits : goal.returns-clause-limits
+returns-clause-limits c = near_limits c.args.self.now c.args.reading.now c.sight.ensures.accepted

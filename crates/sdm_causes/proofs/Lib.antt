@@ -1,0 +1,4 @@
+pub mod Caused
+mod Explained
+pub mod Parts
+mod CauseCases

@@ -1,0 +1,2 @@
+mod LineCases
+mod PromptCases

@@ -1,0 +1,58 @@
+-- A live run beside `run`, which reads all records at once (own).
+use Rattle.std.specs.Prelude.{◌≡◌, ◌≤◌, ℕ, Bool, true, false, List, [], ◌∷◌, ◌&&◌, ◌||◌, None, length, map}
+use Rattle.std.specs.List.{AllByRecursion}
+use Rattle.csv.specs.Machine.{step}
+use Rattle.csv.specs.Reading.{default_config, strip_bom}
+use Rattle.csv.specs.declared.parser.State.{State}
+use Rattle.csv.specs.declared.parser.State.TheVariants as st
+use Rattle.sdm_rules.specs.Records.{Journey, event_at, journey_from}
+use Rattle.sdm_rules.specs.Supervision.{Supervision}
+use Rattle.sdm_formats.specs.Forms.{event_of}
+use Rattle.sdm_events.specs.Journey.{records_of}
+use Rattle.sdm_live.specs.ByLines.{lines_of}
+use Rattle.sdm_live.specs.Progress.{ends_line, longest_line}
+use Rattle.sdm_live_records.specs.Fields.{split_fields}
+use Rattle.sdm_live_laws.specs.Turns.{live_turns}
+
+-- within quotes, where `csv` stands so in a text
+abbrev pub is_quoted : State → Bool
+is_quoted st.StartRecord = false
+is_quoted st.StartField = false
+is_quoted st.InField = false
+is_quoted st.InQuoted = true
+is_quoted st.AfterQuote = false
+is_quoted st.InEscape = true
+is_quoted st.InComment = false
+is_quoted st.AfterCr = false
+
+-- a line ends within quotes, from a state on
+abbrev pub breaks_quotes_from : State → List ℕ → Bool
+breaks_quotes_from s [] = false
+breaks_quotes_from s (c ∷ rest) =
+    (ends_line c && is_quoted s) || breaks_quotes_from (step default_config s c).0 rest
+
+-- a line ends within quotes
+abbrev pub breaks_quotes : List ℕ → Bool
+breaks_quotes text = breaks_quotes_from st.StartRecord text
+
+-- bytes whose records stand on lines of their own, after a byte order mark if one begins them
+abbrev pub AreOnLines : List ℕ → Type 0
+AreOnLines bytes = breaks_quotes (strip_bom bytes) ≡ false
+
+-- the records that `csv` reads of such bytes are the fields of the lines after the mark
+abbrev pub LawOfLineRecords : Type 0
+LawOfLineRecords = (bytes : List ℕ) → AreOnLines bytes →
+    records_of bytes ≡ map split_fields (lines_of (strip_bom bytes))
+
+-- the journey that `run` makes of the bytes of its records, from a supervision state on
+abbrev pub run_journey : Supervision → List ℕ → Journey
+run_journey s bytes = journey_from (event_at event_of) 1 s (records_of bytes)
+
+-- no line is too long
+abbrev pub AreShort : List (List ℕ) → Type 0
+AreShort lines = AllByRecursion (λ line. length line ≤ longest_line) lines
+
+-- THE ROWS OF `run`: where it accepts such bytes, and no line is too long, the live run takes the same turns
+abbrev pub LawOfSameRows : Type 0
+LawOfSameRows = (s : Supervision) (bytes : List ℕ) → AreOnLines bytes → AreShort (lines_of bytes) →
+    (run_journey s bytes).refused ≡ None → live_turns s bytes ≡ (run_journey s bytes).turns
