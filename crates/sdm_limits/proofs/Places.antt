@@ -32,8 +32,8 @@ earlier_place e d =
     (λ le. let least : int_min e.at d.at ≡ d.at = omega (arith, ints, clamps, le.crossed) in ap whole least)
 
 -- and has no more slack than both
-pub earlier_fine : (e d : Bound) → IsFine e → IsFine d → IsFine (earlier_of e d)
-earlier_fine e d h k = omega (arith, ints, clamps)
+pub earlier_fine : (grains : ℕ) (e d : Bound) → IsFine grains e → IsFine grains d → IsFine grains (earlier_of e d)
+earlier_fine grains e d h k = omega (arith, ints, clamps)
 
 -- a bound of a place that lies a distance before another one
 pub early_before : (e : Bound) (x : Fraction) (distance v time : ℕ) → distance ≡ distance_at v time →
@@ -68,9 +68,10 @@ permitted_early (Some e) (Some y) d x h k = IsEarlyFor_lesser e d y x h k
 permitted_early None (Some y) d x h k = absurd h
 permitted_early (Some e) None d x h k = absurd h
 
-permitted_fine : (guide : Option Bound) (d : Bound) → IsFineWhere guide → IsFine d → IsFine (permitted_of guide d)
-permitted_fine None d h k = k
-permitted_fine (Some e) d h k = earlier_fine e d (h e refl) k
+permitted_fine : (grains : ℕ) (guide : Option Bound) (d : Bound) → IsFineWhere grains guide → IsFine grains d →
+    IsFine grains (permitted_of guide d)
+permitted_fine grains None d h k = k
+permitted_fine grains (Some e) d h k = earlier_fine grains e d (h e refl) k
 
 pub permitted_near : (guide : Option Bound) (d : Bound) → IsGuide guide → IsNearZero (2 * reach) d.at →
     IsNearZero (2 * reach) (permitted_of guide d).at
@@ -132,10 +133,10 @@ module _ (times : Times) (v : ℕ) (guide : Option Bound) where
         indication = sooner_early _ (distance_at v times.indication) _ permitted;
       }
 
-  from_fine : (ebi : Option Bound) (sbi : Bound) → IsFineWhere guide → IsFineWhere ebi → IsFine sbi →
-      AreFine (found_from times v guide ebi sbi)
-  from_fine ebi sbi guided fine h =
-      let permitted = permitted_fine guide (sooner sbi (distance_at v driver_time)) guided h in
+  from_fine : (grains : ℕ) (ebi : Option Bound) (sbi : Bound) → IsFineWhere grains guide → IsFineWhere grains ebi →
+      IsFine grains sbi → AreFine grains (found_from times v guide ebi sbi)
+  from_fine grains ebi sbi guided fine h =
+      let permitted = permitted_fine grains guide (sooner sbi (distance_at v driver_time)) guided h in
       record { ebi = fine; sbi = h; warning = h; permitted = permitted; indication = permitted }
 
   -- those by a D_bec, if it counts
@@ -163,7 +164,8 @@ module _ (times : Times) (v : ℕ) (guide : Option Bound) where
       from_early (Some (sooner place d)) _ g (Some (less x d)) _ guided ebi
       (sooner_early (sooner place d) (distance_at v times.bs) (less x d) ebi)
 
-  pub found_fine : (d_bec : Option ℕ) (place : Bound) → IsFineWhere guide → IsFine place → AreFine (found d_bec place)
-  found_fine None place guided h = from_fine None _ guided (λ e is. absurd cc) h
-  found_fine (Some d) place guided h = from_fine (Some (sooner place d)) _ guided
-      (λ e is. subst (λ (o : Option Bound). IfSome o IsFine) is h) h
+  pub found_fine : (grains : ℕ) (d_bec : Option ℕ) (place : Bound) → IsFineWhere grains guide → IsFine grains place →
+      AreFine grains (found d_bec place)
+  found_fine grains None place guided h = from_fine grains None _ guided (λ e is. absurd cc) h
+  found_fine grains (Some d) place guided h = from_fine grains (Some (sooner place d)) _ guided
+      (λ e is. subst (λ (o : Option Bound). IfSome o (IsFine grains)) is h) h

@@ -6,7 +6,6 @@ use Rattle.sdm_num.specs.Fractions.{Fraction, whole}
 use Rattle.sdm_num.specs.Bounds.{Bound, IsEarlyFor}
 use Rattle.sdm_rules.specs.declared.data.Times.{Times}
 use Rattle.sdm_rules.specs.Slopes.{SlopeMap, meaning_of}
-use Rattle.sdm_rules.specs.Curves.{most_slack}
 use Rattle.sdm_rules.specs.Limits.{CurvePlaces, SupervisionLimits, ebd_limits_at, sbd_limits_at}
 use Rattle.sdm_curve.specs.Made.{BrakeCurve}
 use Rattle.sdm_limits.specs.declared.limits.Limits.{Limits}
@@ -63,21 +62,21 @@ pub record StandFor (l : Limits) (x : SupervisionLimits) : Type 0 where
   pub permitted : IsEarlyFor l.permitted x.permitted
   pub indication : IsEarlyFor l.indication x.indication
 
--- what a bound stands for is less than a millimetre past it: its slack is at most that of a curve's place
-abbrev pub IsFine : Bound → Type 0
-IsFine e = e.slack ≤ most_slack
+-- what a bound stands for is at most so many grains past it
+abbrev pub IsFine : ℕ → Bound → Type 0
+IsFine grains e = e.slack ≤ grains
 
 -- so it is of a bound, if there is one
-abbrev pub IsFineWhere : Option Bound → Type 0
-IsFineWhere e = ForSome e IsFine
+abbrev pub IsFineWhere : ℕ → Option Bound → Type 0
+IsFineWhere grains e = ForSome e (IsFine grains)
 
--- each limit that was found stands for places less than a millimetre past it
-pub record AreFine (l : Limits) : Type 0 where
-  pub ebi : IsFineWhere l.ebi
-  pub sbi : IsFine l.sbi
-  pub warning : IsFine l.warning
-  pub permitted : IsFine l.permitted
-  pub indication : IsFine l.indication
+-- each limit that was found stands for places at most so many grains past it
+pub record AreFine (grains : ℕ) (l : Limits) : Type 0 where
+  pub ebi : IsFineWhere grains l.ebi
+  pub sbi : IsFine grains l.sbi
+  pub warning : IsFine grains l.warning
+  pub permitted : IsFine grains l.permitted
+  pub indication : IsFine grains l.indication
 
 -- the SBI and the permitted limit lie not too far from the origin
 pub record AreNear (l : Limits) : Type 0 where

@@ -2,14 +2,16 @@
 //! found from the computed place of the curve just as the exact limits from the exact one. Own: T_bs1 and T_bs2 are
 //! the same, and each target has one SBI, on its EBD or, for an EOA, on its SBD.
 
-ghost use Rattle.std.specs.Prelude.{◌≡◌, ◌≤◌, ◌*◌, ◌^◌, Option};
+ghost use Rattle.std.specs.Prelude.{◌≡◌, ℕ, ◌≤◌, ◌*◌, ◌^◌, Option};
 ghost use Rattle.std.specs.Option.{ForSome};
 ghost use Rattle.sdm_num.specs.Units.{notches};
 ghost use Rattle.sdm_num.specs.Bounds.{IsEarlyFor};
 ghost use Rattle.sdm_num.specs.Fractions.{Fraction};
+ghost use Rattle.sdm_rules.specs.Curves.{most_slack};
 ghost use Rattle.sdm_rules.specs.Limits.{computed, exact_places, limit_in};
-ghost use Rattle.sdm_rules.specs.Slopes.{meaning_of};
+ghost use Rattle.sdm_rules.specs.Slopes.{bands_of, meaning_of};
 ghost use Rattle.sdm_rules.specs.Ranges.{top_kmh};
+ghost use Rattle.sdm_laws.specs.CurveLaws.{slack_of};
 ghost use Rattle.sdm_curve.specs.Made.{IsMadeFrom};
 ghost use Rattle.sdm_limits.specs.Ranges.{AreTimes, IsGuide, IsNearZero, curve_reach};
 ghost use Rattle.sdm_limits.specs.Sides.{AreFine, AreNear, IsEarlyWhere, IsFine, IsFineWhere, StandFor, ebd_limits_by};
@@ -72,7 +74,9 @@ pub fn ebd_limits(
         ebd_limits_by computed safe.now ebd.now (place_where guide) times.now v reaction.now }
     ensures stands { (g : Option Fraction) → IsEarlyWhere guide g →
         StandFor result (ebd_limits_by exact_places safe.now ebd.now g times.now v reaction.now) }
-    ensures slack { IsFineWhere guide → AreFine result }
+    ensures slack { (grains : ℕ) → slack_of (bands_of safe.now.uppers) ≤ grains → IsFineWhere grains guide →
+        AreFine grains result }
+    ensures fine { IsFineWhere most_slack guide → AreFine most_slack result }
     ensures near { AreNear result }
 {
     let place = ebd.place(safe, reaction.v_bec);
@@ -96,7 +100,9 @@ pub fn sbd_limits(
         sbd_limits_by computed expected.now sbd.now (place_where guide) times.now v }
     ensures stands { (g : Option Fraction) → IsEarlyWhere guide g →
         StandFor result (sbd_limits_by exact_places expected.now sbd.now g times.now v) }
-    ensures slack { IsFineWhere guide → AreFine result }
+    ensures slack { (grains : ℕ) → slack_of (bands_of expected.now.uppers) ≤ grains → IsFineWhere grains guide →
+        AreFine grains result }
+    ensures fine { IsFineWhere most_slack guide → AreFine most_slack result }
     ensures near { AreNear result }
 {
     limits_at(sbd.place(expected, v), None, guide, times, v)
@@ -122,7 +128,7 @@ pub fn limits_at(
     ensures at { places_of result ≡ limits_at d_bec times.now v (place_where guide) (place_of place) }
     ensures stands { (g : Option Fraction) (x : Fraction) → IsEarlyWhere guide g → IsEarlyFor place x →
         StandFor result (limits_at d_bec times.now v g x) }
-    ensures slack { IsFineWhere guide → IsFine place → AreFine result }
+    ensures slack { (grains : ℕ) → IsFineWhere grains guide → IsFine grains place → AreFine grains result }
     ensures near { AreNear result }
 {
     // d_EBI = d_EBD(V_bec) - D_bec; an SBD gives none (SUBSET-026-3 3.13.9.3.2)

@@ -1,13 +1,14 @@
 //! Where release speed monitoring starts: where a train at the release speed must begin to brake for the EOA by its
 //! SBD or for the SvL by its EBD, whichever comes first. Like the limits it lies a whole number of grains before
 //! computed places, so it is on the same side of the exact start.
-ghost use Rattle.std.specs.Prelude.{◌≡◌, ◌≤◌};
+ghost use Rattle.std.specs.Prelude.{◌≡◌, ℕ, ◌≤◌};
 ghost use Rattle.sdm_num.specs.Bounds.{IsEarlyFor};
 ghost use Rattle.sdm_num.specs.Units.{notches};
 ghost use Rattle.sdm_rules.specs.Curves.{most_slack};
 ghost use Rattle.sdm_rules.specs.Limits.{computed, exact_places, release_start_at};
-ghost use Rattle.sdm_rules.specs.Slopes.{meaning_of};
+ghost use Rattle.sdm_rules.specs.Slopes.{bands_of, meaning_of};
 ghost use Rattle.sdm_rules.specs.Ranges.{top_kmh};
+ghost use Rattle.sdm_laws.specs.CurveLaws.{slack_of};
 ghost use Rattle.sdm_curve.specs.Made.{IsMadeFrom};
 ghost use Rattle.sdm_limits.specs.Ranges.{AreTimes};
 ghost use Rattle.sdm_limits.specs.Sides.{place_of};
@@ -38,7 +39,9 @@ pub fn release_start(
     ensures stands { IsEarlyFor result (release_start_at times.now release
         (exact_places (meaning_of safe.now) ebd.now.place ebd.now.speed release)
         (exact_places (meaning_of expected.now) sbd.now.place sbd.now.speed release)) }
-    ensures slack { result.slack ≤ most_slack }
+    ensures slack { (grains : ℕ) → slack_of (bands_of safe.now.uppers) ≤ grains →
+        slack_of (bands_of expected.now.uppers) ≤ grains → result.slack ≤ grains }
+    ensures fine { result.slack ≤ most_slack }
 {
     // d_SBD(V_rel) - V_rel * T_bs (SUBSET-026-3 3.13.9.4; form own)
     let service = release.distance_at(times.bs);

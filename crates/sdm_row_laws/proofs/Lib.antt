@@ -6,5 +6,6 @@ pub mod Tight
 pub mod ExactLimits
 pub mod CoveredFalls
 pub mod ShownTriggers
+pub mod NearLimits
 pub mod OpenTurns
 pub mod ReleaseLimits

@@ -11,11 +11,12 @@ use Rattle.sdm_rules.specs.Opening.{IsOpen}
 use Rattle.sdm_rules.specs.Records.{Journey, Turn, go_on, journey_from, step, turn_of, turn_to}
 use Rattle.sdm_rules.specs.Supervision.{Supervision, after_reading}
 use Rattle.sdm_laws.proofs.Rows.Falls.{falls}
-use Rattle.sdm_laws.proofs.Rows.Headline.{limits, over_kinds, still_open}
+use Rattle.sdm_laws.proofs.Rows.Headline.{over_kinds, still_open}
 use Rattle.sdm_laws.proofs.Rows.Journeys.{turns_safe}
 use Rattle.sdm_laws.proofs.Rows.PrintedLimits.{printed_limits}
 use Rattle.sdm_row_laws.specs.AllCommands.{AllInOrder}
 use Rattle.sdm_row_laws.specs.CoveredFalls.{MeetsEachFallIfCovered}
+use Rattle.sdm_row_laws.specs.NearLimits.{at_kmh}
 use Rattle.sdm_row_laws.specs.OpenTurns.{AreTurnsPromised, HasNearLimits, LawOfCoveredFallJourneys, LawOfFallJourneys}
 use Rattle.sdm_row_laws.specs.OpenTurns.{LawOfLimitJourneys, LawOfOpenTurns, LawOfPromisedTurns, LawOfServiceJourneys}
 use Rattle.sdm_row_laws.specs.OpenTurns.{LawOfShownJourneys, MeetsFallsIfFree, OfJourneys, OfReading}
@@ -23,6 +24,7 @@ use Rattle.sdm_row_laws.specs.ServiceStop.{StopsIfFree}
 use Rattle.sdm_row_laws.specs.ShownTriggers.{IsShownAsTriggered}
 use Rattle.sdm_row_laws.proofs.AllOrder.{all_journeys}
 use Rattle.sdm_row_laws.proofs.CoveredFalls.{covered_falls}
+use Rattle.sdm_row_laws.proofs.NearLimits.{near}
 use Rattle.sdm_row_laws.proofs.Service.{service_rows}
 use Rattle.sdm_row_laws.proofs.ShownTriggers.{shown_triggers}
 
@@ -77,7 +79,11 @@ covered_fall_journeys = journeys MeetsEachFallIfCovered covered_falls
 
 -- the limits of a reading
 pub near_limits : (s : Supervision) (r : OdometerReading) → IsOpen s → HasNearLimits s r
-near_limits s r o = record { computed = limits s r o; printed = printed_limits s r o }
+near_limits s r o = record {
+  computed = near s r o;
+  at_speeds = λ kmh. near s (at_kmh kmh r) o;
+  printed = printed_limits s r o;
+}
 
 pub limit_journeys : {Record : Type 0} → LawOfLimitJourneys Record
 limit_journeys = journeys HasNearLimits near_limits

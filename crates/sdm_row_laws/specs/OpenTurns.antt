@@ -13,8 +13,8 @@ use Rattle.sdm_rules.specs.Commands.{nothing_held}
 use Rattle.sdm_row_laws.specs.AllCommands.{AreTurnsInOrder}
 use Rattle.sdm_laws.specs.Falls.{MeetsFalls}
 use Rattle.sdm_laws.specs.PrintedLimits.{ArePrinted}
-use Rattle.sdm_laws.specs.SupervisionLaws.{AreEarly}
 use Rattle.sdm_row_laws.specs.CoveredFalls.{MeetsEachFallIfCovered}
+use Rattle.sdm_row_laws.specs.NearLimits.{AreNear, at_kmh}
 use Rattle.sdm_row_laws.specs.ShownTriggers.{IsShownAsTriggered}
 use Rattle.sdm_row_laws.specs.ServiceStop.{StopsIfFree}
 
@@ -36,9 +36,11 @@ OfJourneys P Record =
 abbrev pub MeetsFallsIfFree : Supervision → OdometerReading → Type 0
 MeetsFallsIfFree s r = IsTrue (row_of s r).covered → (row_of s r).held.eb ≡ false → MeetsFalls s r
 
--- the computed limits of a reading, and those that its row prints, are near the exact ones
+-- the computed limits of a reading are near the exact ones, also those at each other speed in km/h, as which a driver is
+-- shown them; and so are those that its row prints
 pub record HasNearLimits (s : Supervision) (r : OdometerReading) : Type 0 where
-  pub computed : AreEarly s.train_and_track r
+  pub computed : AreNear s.train_and_track r
+  pub at_speeds : (kmh : ℕ) → AreNear s.train_and_track (at_kmh kmh r)
   pub printed : ArePrinted s r
 
 -- each reading is taken in an open state

@@ -321,13 +321,15 @@ impl Supervisor {
     }
 
     /// Whether the train would pass a limit at a speed in km/h, at most 500, in place of the reading's, all else as in
-    /// the reading. At 0 it passes none, and what it passes at a speed it passes at each greater one. No memory is
-    /// taken. (SUBSET-026-3 3.13.10; own)
+    /// the reading. At 0 it passes none, and what it passes at a speed it passes at each greater one. At each speed a
+    /// computed limit is less than a millimetre before the exact one, and not past it. No memory is taken.
+    /// (SUBSET-026-3 3.13.10; own)
     pub fn would_pass(&self, reading: &Reading, name: LimitName, kmh: u16) -> bool
         requires { kmh ≤ top_kmh }
         ensures value { result
             ≡ passes_limit self.now.train_and_track reading.now (situation_of self.now reading.now) name kmh }
         ensures upwards { IsPassedUpwards self.now reading.now name }
+        ensures limits { HasNearLimits self.now reading.now }
     {
         self.sight(reading).would_pass(name, kmh)
     }

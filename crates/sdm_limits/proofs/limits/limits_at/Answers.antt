@@ -85,9 +85,9 @@ returns-clause-stands c g x guided early =
     (found_early a.times.now a.v a.guide a.d_bec a.place g x guided early)
 
 pub returns-clause-slack : goal.returns-clause-slack
-returns-clause-slack c guided fine =
+returns-clause-slack c grains guided fine =
     let a = c.args in
-    subst AreFine (sym (found_is c)) (found_fine a.times.now a.v a.guide a.d_bec a.place guided fine)
+    subst (AreFine grains) (sym (found_is c)) (found_fine a.times.now a.v a.guide grains a.d_bec a.place guided fine)
 
 pub returns-clause-near : goal.returns-clause-near
 returns-clause-near c =

@@ -1,12 +1,13 @@
 -- The start is the lesser of two places, each so many grains before one of a curve, and stands for the lesser of both
 -- exact ones.
-use Rattle.std.proofs.Common.{◌+◌, ◌∙◌, ap, rules}
+use Rattle.std.proofs.Common.{◌+◌, ◌∙◌, ap, arith, rules}
+use Rattle.sdm_num.specs.Bounds.{Bound}
 use Rattle.sdm_num.specs.Fractions.{less}
 use Rattle.sdm_num.specs.Units.{distance_at}
 use Rattle.sdm_rules.specs.Slopes.{meaning_of}
 use Rattle.sdm_rules.specs.Curves.{exact, stepped}
 use Rattle.sdm_limits.specs.Sides.{place_of}
-use Rattle.sdm_limits.proofs.Places.{early_before}
+use Rattle.sdm_limits.proofs.Places.{earlier_fine, early_before}
 use Rattle.sdm_release.proofs.Places.{earlier_of_two}
 use Rattle.sdm_release.proofs.start.release_start.Goals as goal
 
@@ -34,3 +35,10 @@ returns-clause-stands c =
     c.distance_at-emergency.ensures.value (c.less-before_svl.ensures.stands ebd c.place-2.ensures.stands) in
     c.earlier.ensures.stands (less sbd (distance_at a.release a.times.now.bs))
     (less ebd (distance_at a.release emergency_time)) eoa svl
+
+pub returns-clause-slack : goal.returns-clause-slack
+returns-clause-slack c = λ grains safe expected.
+    let eoa = ap (λ (b : Bound). b.slack) c.less-before_eoa.ensures.value in
+    let svl = ap (λ (b : Bound). b.slack) c.less-before_svl.ensures.value in
+    rw c.earlier.ensures.value (earlier_fine grains c.less-before_eoa.result c.less-before_svl.result
+    (omega (arith, eoa, c.place.ensures.slack, expected)) (omega (arith, svl, c.place-2.ensures.slack, safe)))
