@@ -215,12 +215,14 @@ impl Supervisor {
 
     /// Takes a stop with the calculated release speed of `release_for` in place of the old authority; no command
     /// changes. Refused where `check_authority` refuses a stop at these places for the track, else where the place of
-    /// the trip lies before the EOA or past the SvL (BadTrip); nothing is then changed. Places are in cm.
-    /// (SUBSET-026-3 3.8, 3.13.9.4.8; refusals own)
+    /// the trip lies before the EOA or past the SvL (BadTrip); nothing is then changed. Places are in cm. Of the speed
+    /// it says what `release_for` does. (SUBSET-026-3 3.8, 3.13.9.4.8; refusals own)
     pub fn calculated_stop(&mut self, eoa: u32, svl: u32, trip: u32) -> Result<(), TripFault>
         ensures accepted { OnOk result (trip_fault self.old.train_and_track.track.length_cm eoa svl trip ≡ None) }
         ensures taken { OnOk result (self.new ≡ after_authority self.old
             (Stop eoa svl (calculated self.old.train_and_track svl trip))) }
+        ensures stops { OnOk result (IsReleaseSpeed self.old.train_and_track svl trip
+            (calculated self.old.train_and_track svl trip)) }
         ensures refused { IfErr result
             (λ fault. trip_fault self.old.train_and_track.track.length_cm eoa svl trip ≡ Some fault) }
         ensures unchanged { OnErr result (self.new ≡ self.old) }
