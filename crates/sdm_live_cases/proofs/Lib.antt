@@ -1,2 +1,3 @@
 mod LineCases
 mod PromptCases
+mod SameRowsCases
