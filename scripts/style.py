@@ -19,19 +19,22 @@ WRITTEN = re.compile(
     r"^<!-- The \w+ from here on .*?(?=^<!-- The \w+ ends? here|\Z)", re.M | re.S
 )  # a part that a script writes
 PLAINER = {  # a pattern, and what to write in its place
-    r"(?:is|are|was|were|be) told": "says, gives, reports",
-    r"tells? of": "describes",
+    r"(?:(?:is|are|was|were|be) )?told|tells?": "says, gives, reports",
     r"want of|for want": "refused memory, runs out of memory, lack",
-    r"(?:is|are) wanting": "is missing",
+    r"wanting": "is missing",
     r"(?:is|a) free answer|answer is free": "is not excluded",
     r"of (?:one|his|her|its|their|anybody)(?:'s)? own making": "generated",
-    r"in the place of": "instead of",
+    r"in (?:the )?place of": "instead of",
     r"as (?:many|much|long) as one likes": "any number",
     r"anew": "again",
     r"(?:comes?|came) to (?!stand)": "reaches, amounts to",
     r"(?<!by )hand(?:s|ed)? (?:in|on)": "pass, give",
     r"gives? back": "frees, returns",
     r"(?:is|are) said of": "holds for",
+    r"(?:ends?|brakes?|runs?|stands?|goes) so(?=[.,;)])": "in this way",
+    r"answers? (?:a|the|its) (?:status|fault|values?)": "returns",
+    r"(?:as|than) (?:is|are) due": "as expected, the expected",
+    r"he|his|him": "the driver, the builder, they",
     r"who(?:ever)? (?:calls|runs|relies|looks|links|changes|works|asks|hands)": "a caller, a user",
 }
 DATED = {"CHANGELOG.md", "README.md", "bench/README.md", "docs/RELEASES.md"}  # may name a version or a date

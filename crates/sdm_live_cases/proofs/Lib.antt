@@ -4,3 +4,4 @@ mod ExchangeCases
 mod PromptCases
 mod EndCases
 mod AnswerCases
+mod SameRowsCases

@@ -18,7 +18,7 @@ data = Path("examples/realistic/input").read_text().partition("%%")[0]
 place = range(3_200_000, 5_200_000, 20_000)
 readings = sdm.readings(time_ds=range(0, 500, 5), est_mm=place, min_mm=place, max_mm=place, speed_mm_s=40_000)
 variations = {"train.band.1.emergency": range(60, 110, 2), "train.emergency_time": range(0, 80, 2)}
-told = pandas.DataFrame(sdm.sweep(data, readings, variations))
+summaries = pandas.DataFrame(sdm.sweep(data, readings, variations))
 sdm.plot(data, readings).save("journey.svg")
 """
 
@@ -38,7 +38,7 @@ class Page(unittest.TestCase):
                 Path("interventions.svg").read_bytes(), (EXAMPLES / "interventions" / "picture.svg").read_bytes()
             )
             exec(sweep, names)
-            self.assertEqual((len(names["told"]), set(names["told"].fault)), (1000, {""}))
+            self.assertEqual((len(names["summaries"]), set(names["summaries"].fault)), (1000, {""}))
             self.assertTrue(
                 (names["first_brake"].diff(axis=1).iloc[:, 1:] >= 0).all(axis=None)
             )  # a better brake brakes later
@@ -58,8 +58,8 @@ class Page(unittest.TestCase):
             os.symlink(EXAMPLES, "examples")
             names = {}
             exec(TEN_LINES, names)
-            self.assertEqual(names["told"].shape[0], 1000)
-            self.assertGreater(names["told"].first_eb_ds.nunique(), 30)
+            self.assertEqual(names["summaries"].shape[0], 1000)
+            self.assertGreater(names["summaries"].first_eb_ds.nunique(), 30)
             self.assertIn("<title>sdm run: 100 readings</title>", Path("journey.svg").read_text())
 
 
