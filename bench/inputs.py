@@ -14,6 +14,7 @@ RECORDS = 100_000  # the most records of a journey
 FLAT_LINES = 500_000
 GREATEST_READINGS = 2_000
 GREATEST_ENDS = 2_000
+COVERINGS = 1_000
 
 TRACK_CM = 10_000_000  # the longest track
 GRADIENTS = 512
@@ -211,6 +212,14 @@ def greatest_revoke(seed):
     return Input("greatest-revoke", ["run"], ["run"], head, lines, len(lines))
 
 
+def covering(seed):
+    """The greatest data with all restrictions but one, and then in turn one over the whole track that is slower than all
+    else and so hides all falls but its own, and its revocation, which uncovers them. A pair of both counts as one."""
+    head = greatest_data(Numbers(seed)) + "".join(islice(greatest_restrictions(), RESTRICTIONS - 1))
+    lines = [f"restrict,99,0,{TRACK_CM},5,0\n", "revoke,99\n"] * COVERINGS
+    return Input("covering", ["run"], ["run"], head, lines, COVERINGS)
+
+
 def greatest_end(seed):
     """The greatest data with all restrictions, and authorities that end at random over the track, each with a release
     speed."""
@@ -285,6 +294,7 @@ MAKERS = {
     "greatest-ten": greatest_ten,
     "greatest-restrict": greatest_restrict,
     "greatest-revoke": greatest_revoke,
+    "covering": covering,
     "greatest-end": greatest_end,
     "mixed": mixed,
     "flat": flat,

@@ -1,5 +1,7 @@
+pub mod AnyLaws
 pub mod EbdLaws
 pub mod KeptFallLaws
 pub mod PlaceLaws
 pub mod ReleaseLaws
 pub mod WalkLaws
+pub mod ZoneLaws

@@ -1,20 +1,23 @@
--- The falls of a speed profile that are kept with their curves (own).
-use Rattle.std.specs.Prelude.{◌≡◌, ℕ, ℤ, pos, negsuc, true, false, if◌then◌else◌, List, [], Option, Some, None, All}
-use Rattle.std.specs.Prelude.{length, map, slice_index_or, sum_by, ◌+◌, ◌<◌, ◌≤◌, ◌==◌, ◌≤ℤ◌, ◌<ℤ◌}
+-- The falls of a speed profile that are kept with their curves, and the zones that may be falls (own).
+use Rattle.std.specs.Prelude.{◌≡◌, ℕ, ℤ, pos, negsuc, Bool, true, false, List, [], Option, Some, None, All, ◌&&◌, is_none}
+use Rattle.std.specs.Prelude.{length, map, slice_index_or, ◌+◌, ◌<◌, ◌≤◌, ◌==◌, ◌≤ℤ◌, ◌<ℤ◌}
+use Rattle.std.specs.FinMap as finite
+use Rattle.std.specs.List.{insert, list_any, remove}
+use Rattle.std.specs.Option.{option_map_or}
+use Rattle.std.specs.Ordering.{int_eq}
+use Rattle.sdm_rules.specs.declared.restrictions.Restriction.{Restriction}
 use Rattle.sdm_rules.specs.declared.targets.Fall.{Fall}
 use Rattle.sdm_rules.specs.declared.targets.Target.{Target}
 use Rattle.sdm_rules.specs.declared.targets.TargetKind.TheVariants.{Svl}
 use Rattle.sdm_rules.specs.Data.{TrainAndTrack}
-use Rattle.sdm_rules.specs.Profile.{Zone}
 use Rattle.sdm_rules.specs.Records.{most_restrictions}
-use Rattle.sdm_rules.specs.Targets.{is_fall, IsNextFall}
-use Rattle.sdm_speed.specs.declared.changes.Changed.{Changed}
-use Rattle.sdm_speed.specs.Changes.{AreSameOutside}
+use Rattle.sdm_rules.specs.Targets.{is_fall}
 use Rattle.sdm_speed.specs.Falls.{AreAtFalls}
-use Rattle.sdm_speed.specs.Profiles.{ProfileData, mrsp_of}
-use Rattle.sdm_speed.specs.Zones.{has_start}
+use Rattle.sdm_speed.specs.Profiles.{ProfileData, mrsp_of, static_of}
+use Rattle.sdm_speed.specs.ZoneStarts.{FallsTo}
 use Rattle.sdm_targets.specs.Lists.{target_at}
 use Rattle.sdm_braking.specs.declared.falls_ahead.KeptFall.{KeptFall}
+use Rattle.sdm_braking.specs.declared.falls_ahead.KeptZone.{KeptZone}
 use Rattle.sdm_braking.specs.declared.falls_ahead.PlacedFall.{PlacedFall}
 use Rattle.sdm_braking.specs.declared.kept_targets.KeptTarget.{KeptTarget}
 use Rattle.sdm_braking.specs.KeptCurves.{IsKeptTarget}
@@ -45,75 +48,117 @@ pub record IsKeptFall (d : TrainAndTrack) (k : KeptFallData) : Type 0 where
   pub at : target_of k ≡ at_fall k
   pub kept : IsKeptTarget d k.kept
 
--- what is kept of falls, in order, and of how many there is room for
+-- a zone as the fall that it may be
+abbrev pub zone_fall : KeptZone → KeptFallData
+zone_fall z = record { fall = z.fall; kept = z.kept }
+
+-- a zone that is kept stands beside the target at its beginning with its curves
+abbrev pub IsKeptZone : TrainAndTrack → KeptZone → Type 0
+IsKeptZone d z = IsKeptFall d (zone_fall z)
+
+-- what is kept of falls, in order, the zones that may be falls, and of how many zones there is room for
 pub record KeptFallsData : Type 0 where
   pub list : List KeptFallData
+  pub zones : List KeptZone
   pub room : ℕ
 
--- ---- places of targets
+-- ---- places of zones
 
 -- the fall that has a place
 abbrev pub placed : PlacedFall → Fall
 placed e = e.fall
 
--- what stands for a target at a place past the last, which no fall has
-abbrev pub no_target : KeptTarget
-no_target = record {
-  target = record { kind = Svl; place = pos 0; speed = 0 };
-  speeds = record { permitted = 0; warning = 0; sbi = 0; ebi = 0 };
-  brake = record { place = pos 0; speed = 0; knots = [] };
-  guide = None;
+-- what stands for a zone at a place past the last, which no fall has
+abbrev pub no_zone : KeptZone
+no_zone = record {
+  id = None;
+  fall = record { cell = pos 0; speed = 0 };
+  kept = record {
+    target = record { kind = Svl; place = pos 0; speed = 0 };
+    speeds = record { permitted = 0; warning = 0; sbi = 0; ebi = 0 };
+    brake = record { place = pos 0; speed = 0; knots = [] };
+    guide = None;
+  };
 }
 
--- what is kept of a fall that has a place among these targets
-abbrev pub kept_at : List KeptTarget → PlacedFall → KeptFallData
-kept_at targets e = record { fall = e.fall; kept = slice_index_or targets e.place no_target }
+-- what is kept of a fall that has a place among these zones
+abbrev pub kept_at : List KeptZone → PlacedFall → KeptFallData
+kept_at zones e = record { fall = e.fall; kept = (slice_index_or zones e.place no_zone).kept }
 
--- what is kept of falls that have places among these targets
-abbrev pub kept_in : List KeptTarget → List PlacedFall → List KeptFallData
-kept_in targets list = map (kept_at targets) list
+-- what is kept of falls that have places among these zones
+abbrev pub kept_in : List KeptZone → List PlacedFall → List KeptFallData
+kept_in zones list = map (kept_at zones) list
 
--- falls have places among these targets
-abbrev pub ArePlacedIn : List KeptTarget → List PlacedFall → Type 0
-ArePlacedIn targets list = All (λ e. e.place < length targets) list
+-- falls have places among these zones
+abbrev pub ArePlacedIn : List KeptZone → List PlacedFall → Type 0
+ArePlacedIn zones list = All (λ e. e.place < length zones) list
 
--- 1 for a place itself, and 0 for another
-abbrev pub one_at : ℕ → ℕ → ℕ
-one_at place p = if p == place then 1 else 0
+-- ---- the zones of a profile
 
--- how often a place is among these
-abbrev pub times : ℕ → List ℕ → ℕ
-times place spare = sum_by (one_at place) spare
+-- the zone begins at the fall with its speed
+abbrev pub is_at : Fall → KeptZone → Bool
+is_at fall z = int_eq z.fall.cell fall.cell && (z.fall.speed == fall.speed)
 
--- how many falls have a place
-abbrev pub times_had : ℕ → List PlacedFall → ℕ
-times_had place list = sum_by (λ e. one_at place e.place) list
+-- the zone is that of the restriction with this identity
+abbrev pub has_id : ℕ → KeptZone → Bool
+has_id id z = option_map_or (λ held. held == id) z.id false
 
--- the places of so many targets, each of them once
-pub record AreSpare (count : ℕ) (spare : List ℕ) : Type 0 where
-  pub known : All (λ p. p < count) spare
-  pub once : (place : ℕ) → times place spare ≤ 1
-  pub all : length spare ≡ count
+-- the zone at this index begins at the fall with its speed
+pub record IsZoneAt (fall : Fall) (zones : List KeptZone) (i : ℕ) : Type 0 where
+  pub known : i < length zones
+  pub at : (d : KeptZone) → (slice_index_or zones i d).fall ≡ fall
 
--- each place among the targets is that of one fall, or it is spare
-pub record HasPlaces (targets : List KeptTarget) (list : List PlacedFall) (spare : List ℕ) : Type 0 where
-  pub known : ArePlacedIn targets list
-  pub spare_known : All (λ p. p < length targets) spare
-  pub once : (place : ℕ) → times_had place list + times place spare ≤ 1
-  pub all : length list + length spare ≡ length targets
+-- where a restriction begins, with its speed
+abbrev pub fall_by : Restriction → Fall
+fall_by r = record { cell = pos r.start; speed = r.speed }
 
--- ---- the falls of a profile
+-- a zone of no restriction that begins at the fall with its speed
+abbrev pub is_static_at : Fall → KeptZone → Bool
+is_static_at fall z = is_none z.id && is_at fall z
+
+-- a zone of a restriction that begins at the fall with its speed
+abbrev pub is_held_at : ℕ → Fall → KeptZone → Bool
+is_held_at id fall z = has_id id z && is_at fall z
 
 -- no cell of a profile that is asked for lies before this one, which is that of the least i32
 abbrev pub first_cell : ℤ
 first_cell = negsuc 2_147_483_647
 
--- what is kept of the falls of a profile: one entry for each, in order, with its curves. There is room for as many as
--- the entries of the static speed profile and the most restrictions
+-- there is a zone for each fall of the static profile, and one for each restriction, and no more than there is room
+-- for beside the restrictions that may come
+pub record AreZonesOf (p : ProfileData) (v : KeptFallsData) : Type 0 where
+  pub statics : (c : ℤ) (speed : ℕ) → first_cell <ℤ c → FallsTo (static_of p) c speed →
+      list_any (is_static_at (record { cell = c; speed = speed })) v.zones ≡ true
+  pub held : (id : ℕ) (r : Restriction) → finite.get p.restrictions id ≡ Some r →
+      list_any (is_held_at id (fall_by r)) v.zones ≡ true
+  pub few : length v.zones ≤ length p.speeds + finite.len p.restrictions
+  pub room : length p.speeds + most_restrictions ≤ v.room
+
+-- of zones one more is kept, with its curves
+pub record IsZoneMore (d : TrainAndTrack) (of : Option ℕ) (at : Fall) (old new : List KeptZone) : Type 0 where
+  pub zone : KeptZone
+  pub index : ℕ
+  pub is : new ≡ insert old index zone
+  pub bound : index ≤ length old
+  pub id : zone.id ≡ of
+  pub fall : zone.fall ≡ at
+  pub kept : IsKeptZone d zone
+
+-- of zones that of the restriction with this identity is taken out
+pub record IsZoneLess (id : ℕ) (old new : List KeptZone) : Type 0 where
+  pub index : ℕ
+  pub is : new ≡ remove old index
+  pub known : index < length old
+  pub was : (d : KeptZone) → has_id id (slice_index_or old index d) ≡ true
+
+-- ---- the falls of a profile
+
+-- what is kept of the falls of a profile: one entry for each, in order, with its curves; and its zones, with theirs
 pub record AreKeptFalls (d : TrainAndTrack) (p : ProfileData) (v : KeptFallsData) : Type 0 where
   pub falls : AreAtFalls fall_of (mrsp_of p) first_cell v.list
   pub each : All (IsKeptFall d) v.list
-  pub room : length p.speeds + most_restrictions ≤ v.room
+  pub zones : AreZonesOf p v
+  pub curves : All (IsKeptZone d) v.zones
 
 -- the fall is at a cell where the profile falls, and to the speed of that cell
 pub record IsFallAt (p : ℤ → ℕ) (at : ℤ) (fall : Fall) : Type 0 where
@@ -126,20 +171,17 @@ pub record ArePartedPast {A : Type 0} (fall : A → Fall) (last : ℤ) (xs : Lis
   pub reached : (k : ℕ) (d : A) → k < i → k < length xs → (fall (slice_index_or xs k d)).cell ≤ℤ last
   pub past : (k : ℕ) (d : A) → i ≤ k → k < length xs → last <ℤ (fall (slice_index_or xs k d)).cell
 
--- the next fall of a profile past the start of a cell, if it is at the start of the cell `last` or before it
-abbrev pub IsNextUpTo : (ℤ → ℕ) → ℤ → ℤ → Option Fall → Type 0
-IsNextUpTo p after last None = (c : ℤ) → after <ℤ c → c ≤ℤ last → is_fall p c ≡ false
-IsNextUpTo p after last (Some fall) = IsNextFall p after fall × (fall.cell ≤ℤ last)
-
--- what is kept is that of a profile which is the same as this one outside the cells that changed. Both fall only where
--- one of some zones begins, of which there are no more than there is room for
-pub record AreOfProfileBefore (d : TrainAndTrack) (p : ProfileData) (changed : Changed)
-    (v : KeptFallsData) : Type 0 where
+-- what is kept is of the profile before a restriction came
+pub record IsRestricted (p : ProfileData) (r : Restriction) (v : KeptFallsData) : Type 0 where
   pub old : ProfileData
-  pub kept : AreKeptFalls d old v
-  pub speeds : p.speeds ≡ old.speeds
-  pub same : AreSameOutside (mrsp_of old) (mrsp_of p) changed
-  pub zones : List Zone
-  pub few : length zones ≤ v.room
-  pub old_starts : (c : ℤ) → is_fall (mrsp_of old) c ≡ true → has_start zones c ≡ true
-  pub starts : (c : ℤ) → is_fall (mrsp_of p) c ≡ true → has_start zones c ≡ true
+  pub zones : AreZonesOf old v
+  pub new : finite.contains_key old.restrictions r.id ≡ false
+  pub few : finite.len old.restrictions < most_restrictions
+  pub is : p ≡ record old { restrictions = finite.insert old.restrictions r.id r }
+
+-- what is kept is of the profile before a restriction went
+pub record IsRevoked (p : ProfileData) (id : ℕ) (v : KeptFallsData) : Type 0 where
+  pub old : ProfileData
+  pub zones : AreZonesOf old v
+  pub held : finite.contains_key old.restrictions id ≡ true
+  pub is : p ≡ record old { restrictions = finite.remove old.restrictions id }

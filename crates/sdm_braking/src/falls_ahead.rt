@@ -15,6 +15,15 @@ pub struct KeptFall<'a> {
     pub kept: &'a KeptTarget,
 }
 
+/// A zone of the profile that may be a fall: where it begins with its speed, the restriction that it is of, or none
+/// where the static profile falls, and the target there with its curves. (own)
+#[derive(Clone, Copy, Debug)]
+pub struct KeptZone {
+    pub id: Option<u16>,
+    pub fall: Fall,
+    pub kept: KeptTarget,
+}
+
 /// A fall of the profile, and the place of its target among those that are kept, counted from 0. (own)
 #[derive(Clone, Copy, Debug)]
 pub struct PlacedFall {
@@ -26,7 +35,7 @@ pub struct PlacedFall {
 #[derive(Debug, Drop)]
 pub struct FallsAhead<'a> {
     pub(crate) list: &'a [PlacedFall],
-    pub(crate) targets: &'a [KeptTarget],
+    pub(crate) zones: &'a [KeptZone],
 }
 
 impl<'a> Model for FallsAhead<'a> {
@@ -35,9 +44,9 @@ impl<'a> Model for FallsAhead<'a> {
 
     ghost Value = { List KeptFallData };
 
-    ghost view = { λ a. kept_in a.targets.now a.list.now };
+    ghost view = { λ a. kept_in a.zones.now a.list.now };
 
-    ghost invariant = { λ a. ArePlacedIn a.targets.now a.list.now };
+    ghost invariant = { λ a. ArePlacedIn a.zones.now a.list.now };
 }
 
 impl<'a> FallsAhead<'a> {
@@ -54,6 +63,6 @@ impl<'a> FallsAhead<'a> {
         ensures { (d : KeptFallData) → result.now ≡ (slice_index_or self.now i d).kept }
     {
         let list = self.list;
-        &self.targets[list[i].place]
+        &self.zones[list[i].place].kept
     }
 }

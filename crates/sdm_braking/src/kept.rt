@@ -4,18 +4,21 @@
 
 ghost use Rattle.std.specs.Prelude.{◌≡◌, None, IfOk};
 ghost use Rattle.sdm_rules.specs.declared.authorities.Authority.{Authority};
+ghost use Rattle.std.specs.FinMap as finite;
+ghost use Rattle.sdm_rules.specs.Data.{TrainAndTrack};
 ghost use Rattle.sdm_rules.specs.Records.{authority_fault};
-ghost use Rattle.sdm_speed.specs.Changes.{IsChangedInRange};
+ghost use Rattle.sdm_speed.specs.Held.{IsHeldRestriction};
 ghost use Rattle.sdm_speed.specs.Profiles.{ProfileData};
 ghost use Rattle.sdm_braking.specs.Kept.{IsKept};
-ghost use Rattle.sdm_braking.specs.KeptFalls.{AreOfProfileBefore};
+ghost use Rattle.sdm_braking.specs.KeptFalls.{AreZonesOf, IsRestricted, IsRevoked};
 
 use crate::braking::Braking;
 use crate::kept_ends::KeptEnd;
 use crate::kept_falls::KeptFalls;
 use crate::releases::Release;
 use sdm_num::NoMemory;
-use sdm_speed::{Changed, Profile};
+use sdm_rules::Restriction;
+use sdm_speed::Profile;
 use sdm_targets::Authority;
 use std::alloc::Global;
 
@@ -31,15 +34,16 @@ pub struct Kept {
 }
 
 impl Kept {
-    /// What is to be kept of a profile and an authority. Takes the room for all falls that there may be, and for
-    /// the end of an authority.
+    /// What is to be kept of a profile under no restriction and an authority. Takes the room for all falls that there
+    /// may be, and for the end of an authority.
     pub fn begin(
         alloc: Global,
         braking: &Braking,
         profile: &Profile,
         authority: &Authority,
     ) -> Result<Kept, NoMemory>
-        requires { authority_fault braking.now.track.length_cm authority.now ≡ None }
+        requires authority { authority_fault braking.now.track.length_cm authority.now ≡ None }
+        requires bare { profile.now.restrictions ≡ finite.empty }
         ensures { IfOk result (IsKept braking.now profile.now authority.now) }
     {
         let falls = KeptFalls::begin(alloc, braking, profile)?;
@@ -62,13 +66,32 @@ impl Kept {
         self.release = braking.release(authority, &self.end);
     }
 
-    /// Keeps what a profile asks for that is the one before but for some cells; the end of the authority stays.
-    pub fn take_profile(&mut self, braking: &Braking, profile: &Profile, changed: Changed)
-        requires before { AreOfProfileBefore braking.now profile.now changed self.old.falls }
-        requires cells { IsChangedInRange changed }
+    /// Keeps what a profile asks for that a restriction has come to; the end of the authority stays.
+    pub fn restrict(&mut self, braking: &Braking, profile: &Profile, r: Restriction)
+        requires before { IsRestricted profile.now r self.old.falls }
+        requires held { IsHeldRestriction r }
         ensures { (p : ProfileData) (a : Authority) →
             IsKept braking.now p a self.old → IsKept braking.now profile.now a self.new }
     {
-        self.falls.remake(braking, profile, changed);
+        self.falls.restrict(braking, profile, r);
+    }
+
+    /// Keeps what a profile asks for that restrictions have come to, where none was in force before; the end of the
+    /// authority stays.
+    pub fn take_restrictions(&mut self, braking: &Braking, profile: &Profile)
+        requires { AreZonesOf (record profile.now { restrictions = finite.empty }) self.old.falls }
+        ensures { (p : ProfileData) (a : Authority) →
+            IsKept braking.now p a self.old → IsKept braking.now profile.now a self.new }
+    {
+        self.falls.take_restrictions(braking, profile);
+    }
+
+    /// Keeps what a profile asks for that a restriction has gone from; the end of the authority stays.
+    pub fn revoke(&mut self, profile: &Profile, id: u16)
+        requires { IsRevoked profile.now id self.old.falls }
+        ensures { (d : TrainAndTrack) (p : ProfileData) (a : Authority) →
+            IsKept d p a self.old → IsKept d profile.now a self.new }
+    {
+        self.falls.revoke(profile, id);
     }
 }

@@ -1,30 +1,30 @@
-//! The falls of the speed profile with their curves, as a supervisor keeps them between records. A fall's curves
-//! follow from its cell and the speed beyond it alone, so where a record changes the profile only the starts of the
-//! changed cells are looked at, and a fall that stays keeps its curves. The list of falls names the places of their
-//! targets, so that it moves no curve; all places are taken at the beginning, and those without a fall are spare.
+//! The falls of the speed profile with their curves, as a supervisor keeps them between records. A profile falls where
+//! a zone begins, to the speed of that zone: where the static profile falls, or where a restriction begins. So the
+//! curves of each such zone are made once, at the opening or when the restriction comes, and a record that changes the
+//! profile only finds again which of the zones are falls.
 
-ghost use Rattle.std.specs.Prelude.{◌≡◌, ◌+◌, ◌^◌, ◌<◌, ◌≤◌, ◌≤ℤ◌, ◌<ℤ◌, ℕ, ℤ, pos, List, map, take, drop, All, []};
-ghost use Rattle.std.specs.Prelude.{IfOk, IfSome, MatchOption, true, false, length, slice_index_or, vec_len};
-ghost use Rattle.std.specs.Prelude.{vec_capacity};
-ghost use Rattle.std.specs.List.{remove};
+ghost use Rattle.std.specs.Prelude.{◌≡◌, ◌+◌, ◌^◌, ◌<◌, ◌≤◌, ◌≤ℤ◌, ◌<ℤ◌, ◌++◌, ◌∷◌, ℕ, ℤ, List, map, All, [], Some, None};
+ghost use Rattle.std.specs.Prelude.{pos, IfOk, IfSome, MatchOption, true, false, length, position, slice_index_or};
+ghost use Rattle.std.specs.List.{list_any};
+ghost use Rattle.std.specs.FinMap as finite;
 ghost use Rattle.sdm_rules.specs.Data.{TrainAndTrack};
 ghost use Rattle.sdm_rules.specs.Records.{most_restrictions};
-ghost use Rattle.sdm_rules.specs.Targets.{is_fall, IsNextFall};
-ghost use Rattle.sdm_speed.specs.Changes.{IsChangedInRange};
+ghost use Rattle.sdm_rules.specs.Targets.{is_fall};
 ghost use Rattle.sdm_speed.specs.Falls.{AreAtFalls};
-ghost use Rattle.sdm_speed.specs.Profiles.{mrsp_of, IsProfile};
+ghost use Rattle.sdm_speed.specs.Held.{IsHeldRestriction};
+ghost use Rattle.sdm_speed.specs.Profiles.{mrsp_of};
 ghost use Rattle.sdm_speed.specs.Zones.{IsFallInRange};
 ghost use Rattle.sdm_targets.specs.Lists.{falls_past, target_at, IsTarget};
-ghost use Rattle.sdm_braking.specs.KeptFalls.{at_fall, AreKeptFalls, AreOfProfileBefore, ArePartedPast, AreSpare};
-ghost use Rattle.sdm_braking.specs.KeptFalls.{IsFallAt, IsKeptFall, IsNextUpTo, KeptFallData, KeptFallsData, data_of};
-ghost use Rattle.sdm_braking.specs.KeptFalls.{fall_of, first_cell};
+ghost use Rattle.sdm_braking.specs.KeptFalls.{at_fall, AreKeptFalls, ArePartedPast, AreZonesOf, IsRestricted};
+ghost use Rattle.sdm_braking.specs.KeptFalls.{IsFallAt, IsKeptFall, IsKeptZone, IsRevoked, IsZoneAt, IsZoneLess};
+ghost use Rattle.sdm_braking.specs.KeptFalls.{IsZoneMore, KeptFallData, data_of, fall_by, fall_of, first_cell};
+ghost use Rattle.sdm_braking.specs.KeptFalls.{has_id, is_at, kept_at};
 
 use crate::braking::Braking;
-use crate::falls_ahead::{FallsAhead, KeptFall, PlacedFall};
-use crate::kept_targets::KeptTarget;
+use crate::falls_ahead::{FallsAhead, KeptFall, KeptZone, PlacedFall};
 use sdm_num::{NoMemory, Place};
-use sdm_rules::Fall;
-use sdm_speed::{Changed, MOST_RESTRICTIONS, Profile};
+use sdm_rules::{Fall, Restriction};
+use sdm_speed::{MOST_RESTRICTIONS, Profile};
 use sdm_targets::{Target, TargetKind};
 use std::alloc::Global;
 use std::marker::Model;
@@ -33,22 +33,24 @@ use std::marker::Model;
 #[derive(Drop)]
 pub struct KeptFalls {
     list: Vec<PlacedFall>,
-    /// The targets, each at its place.
-    targets: Vec<KeptTarget>,
-    /// Places for falls that come.
-    spare: Vec<usize>,
+    /// The zones that may be falls: the falls of the static profile, in order, and then the restrictions as they came.
+    zones: Vec<KeptZone>,
 }
 
 impl Model for KeptFalls {
-    ghost use Rattle.std.specs.Prelude.{vec_len, vec_capacity, ◌≤◌};
-    ghost use Rattle.sdm_braking.specs.KeptFalls.{KeptFallsData, kept_in, HasPlaces};
+    ghost use Rattle.std.specs.Prelude.{vec_capacity, ◌≤◌};
+    ghost use Rattle.sdm_braking.specs.KeptFalls.{KeptFallsData, kept_in, ArePlacedIn};
 
     ghost Value = { KeptFallsData };
 
-    ghost view = { λ k. record { list = kept_in k.targets.items k.list.items; room = vec_len k.targets } };
+    ghost view = { λ k. record {
+      list = kept_in k.zones.items k.list.items;
+      zones = k.zones.items;
+      room = vec_capacity k.zones;
+    } };
 
-    ghost invariant = { λ k. HasPlaces k.targets.items k.list.items k.spare.items
-        × (vec_len k.targets ≤ vec_capacity k.list) × (vec_len k.targets ≤ vec_capacity k.spare) };
+    ghost invariant = { λ k. ArePlacedIn k.zones.items k.list.items
+        × (vec_capacity k.zones ≤ vec_capacity k.list) };
 }
 
 /// The target at a fall.
@@ -64,122 +66,226 @@ fn target_at(fall: Fall) -> Target
     }
 }
 
-/// So many targets. What they are is never asked for until a fall wants their place.
-fn blank_targets(
-    alloc: Global,
-    braking: &Braking,
-    count: usize,
-) -> Result<Vec<KeptTarget>, NoMemory>
-    ensures { IfOk result (λ targets. vec_len targets ≡ count) }
+/// Where a restriction begins, with its speed.
+fn fall_by(r: Restriction) -> Fall
+    requires { IsHeldRestriction r }
+    ensures value { result ≡ fall_by r }
+    ensures in_range { IsFallInRange result }
 {
-    let blank = braking.keep(Target {
-        kind: TargetKind::Svl,
-        place: Place::of_cm(0),
-        speed: 0,
-    });
-    // The check of moves reads the type of this field from here.
-    let _guide = blank.guide;
-    Ok(vec![in alloc; blank; count]?)
+    Fall {
+        cell: r.start as i32,
+        speed: r.speed,
+    }
 }
 
-/// The places of so many targets, none of which a fall has yet.
-fn spare_places(alloc: Global, count: usize) -> Result<Vec<usize>, NoMemory>
-    ensures spare { IfOk result (λ spare. AreSpare count spare.items) }
-    ensures room { IfOk result (λ spare. count ≤ vec_capacity spare) }
+/// Whether a zone begins at the cell of a fall with its speed.
+fn is_at(zone: &KeptZone, fall: Fall) -> bool
+    ensures { result ≡ is_at fall zone.now }
 {
-    let mut spare = Vec::with_capacity(alloc, count)?;
-    for place in 0..count {
-        spare.push_reserved(place);
-    }
-    Ok(spare)
+    zone.fall.cell == fall.cell && zone.fall.speed == fall.speed
 }
 
-/// The next fall of a profile past the start of the cell `after`, if it is at the start of the cell `last` or before
-/// it.
-fn next_up_to(profile: &Profile, after: i32, last: i32) -> Option<Fall>
-    ensures value { IsNextUpTo (mrsp_of profile.now) after last result }
-    ensures in_range { IfSome result IsFallInRange }
+/// Whether a zone is that of the restriction with this identity.
+fn has_id(zone: &KeptZone, id: u16) -> bool
+    ensures { result ≡ has_id id zone.now }
 {
-    match profile.next_fall(after) {
-        Some(fall) if fall.cell <= last => Some(fall),
-        _ => None,
+    match zone.id {
+        Some(held) => held == id,
+        None => false,
     }
+}
+
+/// The index of a zone from one index on, and before another, that begins at a fall with its speed.
+fn zone_between(zones: &[KeptZone], from: usize, past: usize, fall: Fall) -> Option<usize>
+    ensures { IfSome result (λ i. IsZoneAt fall zones.now i) }
+{
+    for i in from..past.min(zones.len()) {
+        if is_at(&zones[i], fall) {
+            return Some(i);
+        }
+    }
+    None
+}
+
+/// The index of the first zone that begins at a fall with its speed.
+fn zone_at(zones: &[KeptZone], fall: Fall) -> Option<usize>
+    ensures { result ≡ position (is_at fall) zones.now }
+{
+    zones.iter().position(|zone| is_at(zone, fall))
+}
+
+/// The index of the zone of the restriction with this identity.
+fn zone_by_id(zones: &[KeptZone], id: u16) -> Option<usize>
+    ensures { result ≡ position (has_id id) zones.now }
+{
+    zones.iter().position(|zone| has_id(zone, id))
 }
 
 impl KeptFalls {
-    /// What is kept of the falls of a profile. Takes the places for as many as there may be on its track.
+    /// What is kept of the falls of a profile under no restriction. Takes the places for as many zones as there may be
+    /// on its track.
     pub fn begin(alloc: Global, braking: &Braking, profile: &Profile) -> Result<KeptFalls, NoMemory>
+        requires { profile.now.restrictions ≡ finite.empty }
         ensures { IfOk result (AreKeptFalls braking.now profile.now) }
     {
         let room = profile.speed_count() + MOST_RESTRICTIONS;
         let mut falls = KeptFalls {
             list: Vec::with_capacity(alloc, room)?,
-            targets: blank_targets(alloc, braking, room)?,
-            spare: spare_places(alloc, room)?,
+            zones: Vec::with_capacity(alloc, room)?,
         };
-        falls.fill(braking, profile);
+        falls.keep_statics(braking, profile);
+        falls.fill(profile);
         Ok(falls)
     }
 
-    /// Keeps the falls of a profile in an empty list.
-    fn fill(&mut self, braking: &Braking, profile: &Profile)
-        requires empty { self.old.list ≡ [] }
+    /// Keeps a zone for each fall of the static profile.
+    fn keep_statics(&mut self, braking: &Braking, profile: &Profile)
+        requires bare { profile.now.restrictions ≡ finite.empty }
+        requires empty { self.old.zones ≡ [] }
         requires room { length profile.now.speeds + most_restrictions ≤ self.old.room }
-        ensures { AreKeptFalls braking.now profile.now self.new }
+        ensures zones { AreZonesOf profile.now self.new }
+        ensures curves { All (IsKeptZone braking.now) self.new.zones }
     {
-        let mut count = 0;
         let mut at = i32::MIN;
         while let Some(fall) = profile.next_fall(at) {
-            self.insert(count, braking, fall);
-            count += 1;
+            self.keep_zone(braking, None, fall);
             at = fall.cell;
         }
     }
 
-    /// A fall comes to an index of the list, and its target to a place that was spare.
-    fn insert(&mut self, i: usize, braking: &Braking, fall: Fall)
-        requires place { i ≤ length self.old.list }
-        requires room { length self.old.list < self.old.room }
+    /// Keeps a zone behind the others. No fall has a place then.
+    fn keep_zone(&mut self, braking: &Braking, id: Option<u16>, fall: Fall)
         requires fall { IsFallInRange fall }
-        ensures before { take i self.new.list ≡ take i self.old.list }
-        ensures fall { (d : KeptFallData) → (slice_index_or self.new.list i d).fall ≡ fall }
-        ensures kept { (d : KeptFallData) → IsKeptFall braking.now (slice_index_or self.new.list i d) }
-        ensures past { drop (i + 1) self.new.list ≡ drop i self.old.list }
-        ensures len { length self.new.list ≡ length self.old.list + 1 }
+        requires room { length self.old.zones < self.old.room }
+        ensures zone { IsZoneMore braking.now id fall self.old.zones self.new.zones }
         ensures room { self.new.room ≡ self.old.room }
     {
-        let Some(place) = self.spare.pop() else {
-            unreachable!()
-        };
-        braking.keep_in_place(&mut self.targets[place], target_at(fall));
-        let Ok(()) = self.list.insert(i, PlacedFall { fall, place }) else {
-            unreachable!()
-        };
+        let kept = braking.keep(target_at(fall));
+        // The check of moves reads the type of this field from here.
+        let _guide = kept.guide;
+        self.list.clear();
+        self.zones.push_reserved(KeptZone { id, fall, kept });
     }
 
-    /// Takes out what is kept at an index; its place is spare.
-    fn remove(&mut self, i: usize)
-        requires { i < length self.old.list }
-        ensures list { self.new.list ≡ remove self.old.list i }
+    /// No fall has a place.
+    fn clear(&mut self)
+        ensures list { self.new.list ≡ [] }
+        ensures zones { self.new.zones ≡ self.old.zones }
         ensures room { self.new.room ≡ self.old.room }
     {
-        let PlacedFall { place, .. } = self.list.remove(i);
-        self.spare.push_reserved(place);
+        self.list.clear();
     }
 
-    /// Takes out what is kept from an index on up to and with the cell `last`.
-    fn remove_up_to(&mut self, i: usize, last: i32)
-        requires { i ≤ length self.old.list }
-        ensures before { take i self.new.list ≡ take i self.old.list }
-        ensures past { (p : ℤ → ℕ) (at : ℤ) → at ≤ℤ last → AreAtFalls fall_of p at (drop i self.old.list) →
-            AreAtFalls fall_of p last (drop i self.new.list) }
-        ensures each { (d : TrainAndTrack) → All (IsKeptFall d) self.old.list → All (IsKeptFall d) self.new.list }
-        ensures place { i ≤ length self.new.list }
+    /// A fall comes to the end of the list, with the place of its zone.
+    fn push(&mut self, fall: Fall, place: usize)
+        requires zone { IsZoneAt fall self.old.zones place }
+        requires room { length self.old.list < self.old.room }
+        ensures list { self.new.list ≡
+            self.old.list ++ kept_at self.old.zones (record { fall = fall; place = place }) ∷ [] }
+        ensures zones { self.new.zones ≡ self.old.zones }
         ensures room { self.new.room ≡ self.old.room }
     {
-        while i < self.len() && self.fall(i).cell <= last {
-            self.remove(i);
+        self.list.push_reserved(PlacedFall { fall, place });
+    }
+
+    /// The index of the first zone behind those of the static profile, where so many restrictions have theirs.
+    fn first_held(&self, count: usize) -> usize {
+        self.zones.len().saturating_sub(count)
+    }
+
+    /// The index of the first zone of the static profile, from an index on, that doesn't begin before a cell.
+    fn static_from(&self, from: usize, cell: i32) -> usize {
+        for i in from..self.zones.len() {
+            let zone = &self.zones[i];
+            if zone.id.is_some() || cell <= zone.fall.cell {
+                return i;
+            }
         }
+        self.zones.len()
+    }
+
+    /// The index of a zone that begins at a fall with its speed: as a rule `near`, or one from `held` on.
+    fn zone_of(&self, near: usize, held: usize, fall: Fall) -> usize
+        requires { list_any (is_at fall) self.now.zones ≡ true }
+        ensures { IsZoneAt fall self.now.zones result }
+    {
+        if let Some(place) = zone_between(&self.zones, near, near.saturating_add(1), fall) {
+            return place;
+        }
+        if let Some(place) = zone_between(&self.zones, held, self.zones.len(), fall) {
+            return place;
+        }
+        let Some(place) = zone_at(&self.zones, fall) else {
+            unreachable!()
+        };
+        place
+    }
+
+    /// Finds which zones are falls of a profile, in one pass over its steps. The zones of the static profile come
+    /// first, in the order of their cells, so for each fall the next one of them is looked at, and then those of
+    /// restrictions.
+    fn fill(&mut self, profile: &Profile)
+        requires { AreZonesOf profile.now self.old }
+        ensures falls { AreAtFalls fall_of (mrsp_of profile.now) first_cell self.new.list }
+        ensures each { (d : TrainAndTrack) → All (IsKeptZone d) self.old.zones → All (IsKeptFall d) self.new.list }
+        ensures zones { self.new.zones ≡ self.old.zones }
+        ensures room { self.new.room ≡ self.old.room }
+    {
+        self.clear();
+        let held = self.first_held(profile.held_count());
+        let mut at = i32::MIN;
+        let mut near = 0;
+        let mut next = 0;
+        while let Some(fall) = profile.next_fall_near(at, &mut near) {
+            next = self.static_from(next, fall.cell);
+            let place = self.zone_of(next, held, fall);
+            self.push(fall, place);
+            at = fall.cell;
+        }
+    }
+
+    /// Keeps the falls of a profile that a restriction has come to.
+    pub fn restrict(&mut self, braking: &Braking, profile: &Profile, r: Restriction)
+        requires before { IsRestricted profile.now r self.old }
+        requires held { IsHeldRestriction r }
+        ensures { All (IsKeptZone braking.now) self.old.zones → AreKeptFalls braking.now profile.now self.new }
+    {
+        self.keep_zone(braking, Some(r.id), fall_by(r));
+        self.fill(profile);
+    }
+
+    /// Keeps the falls of a profile that restrictions have come to, where none was in force before.
+    pub fn take_restrictions(&mut self, braking: &Braking, profile: &Profile)
+        requires { AreZonesOf (record profile.now { restrictions = finite.empty }) self.old }
+        ensures { All (IsKeptZone braking.now) self.old.zones → AreKeptFalls braking.now profile.now self.new }
+    {
+        let held = profile.held();
+        for i in 0..held.len() {
+            self.keep_zone(braking, Some(held[i].id), fall_by(held[i]));
+        }
+        self.fill(profile);
+    }
+
+    /// Takes out the zone of the restriction with an identity. No fall has a place then.
+    fn remove(&mut self, id: u16)
+        requires { list_any (has_id id) self.old.zones ≡ true }
+        ensures zone { IsZoneLess id self.old.zones self.new.zones }
+        ensures room { self.new.room ≡ self.old.room }
+    {
+        let Some(index) = zone_by_id(&self.zones, id) else {
+            unreachable!()
+        };
+        self.list.clear();
+        self.zones.remove(index);
+    }
+
+    /// Keeps the falls of a profile that a restriction has gone from.
+    pub fn revoke(&mut self, profile: &Profile, id: u16)
+        requires { IsRevoked profile.now id self.old }
+        ensures { (d : TrainAndTrack) → All (IsKeptZone d) self.old.zones → AreKeptFalls d profile.now self.new }
+    {
+        self.remove(id);
+        self.fill(profile);
     }
 
     /// How many falls are kept.
@@ -208,35 +314,6 @@ impl KeptFalls {
             .partition_point(|placed| i64::from(placed.fall.cell) <= last)
     }
 
-    /// Whether what is kept at an index is that of this fall.
-    fn is_at(&self, i: usize, fall: Fall) -> bool
-        ensures { result ≡ true →
-            (i < length self.now.list) × ((d : KeptFallData) → (slice_index_or self.now.list i d).fall ≡ fall) }
-    {
-        i < self.len() && self.fall(i) == fall
-    }
-
-    /// Keeps the falls of a profile in place of those of the profile before, which was the same outside the cells that
-    /// changed. Only where a fall is new, or its speed is another, are curves made.
-    pub fn remake(&mut self, braking: &Braking, profile: &Profile, changed: Changed)
-        requires before { AreOfProfileBefore braking.now profile.now changed self.old }
-        requires cells { IsChangedInRange changed }
-        ensures { AreKeptFalls braking.now profile.now self.new }
-    {
-        let mut at = changed.first - 1;
-        let mut i = self.reached(i64::from(at));
-        while let Some(fall) = next_up_to(profile, at, changed.past) {
-            self.remove_up_to(i, fall.cell - 1);
-            if !self.is_at(i, fall) {
-                self.remove_up_to(i, fall.cell);
-                self.insert(i, braking, fall);
-            }
-            i += 1;
-            at = fall.cell;
-        }
-        self.remove_up_to(i, changed.past);
-    }
-
     /// What is kept of the fall at a cell, if there is one.
     pub fn at(&self, cell: i32) -> Option<KeptFall<'_>>
         ensures each { (d : TrainAndTrack) → All (IsKeptFall d) self.now.list →
@@ -254,7 +331,7 @@ impl KeptFalls {
         }
         Some(KeptFall {
             fall,
-            kept: &self.targets[place],
+            kept: &self.zones[place].kept,
         })
     }
 
@@ -271,7 +348,7 @@ impl KeptFalls {
         let ended = ahead.partition_point(|placed| i64::from(placed.fall.cell) <= i64::from(end));
         FallsAhead {
             list: &ahead[..ended],
-            targets: &self.targets,
+            zones: &self.zones,
         }
     }
 }

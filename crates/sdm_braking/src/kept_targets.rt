@@ -78,20 +78,4 @@ impl Braking {
             guide: self.guidance_curve(&target, &speeds),
         }
     }
-
-    /// Makes what is kept of a target that of another, where it stands: nothing so large is moved then, and a guidance
-    /// curve that there isn't and wasn't isn't written.
-    pub fn keep_in_place(&self, kept: &mut KeptTarget, target: Target)
-        requires { IsTarget target }
-        ensures target { kept.new.target ≡ target }
-        ensures kept { IsKeptTarget self.now kept.new }
-    {
-        let speeds = SpeedLimits::of_target(&target);
-        kept.target = target;
-        kept.speeds = speeds;
-        kept.brake = self.brake_curve(&target, &speeds);
-        if kept.guide.is_some() || self.is_guided(&target) {
-            kept.guide = self.guidance_curve(&target, &speeds);
-        }
-    }
 }

@@ -17,7 +17,7 @@ mod train_and_track;
 
 pub use asked::AskedEstimate;
 pub use braking::Braking;
-pub use falls_ahead::{FallsAhead, KeptFall};
+pub use falls_ahead::{FallsAhead, KeptFall, KeptZone};
 pub use kept::Kept;
 pub use kept_ends::KeptEnd;
 pub use kept_falls::KeptFalls;

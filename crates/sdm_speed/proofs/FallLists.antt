@@ -1,15 +1,13 @@
 -- What stands at the falls of a profile: those at falls past a later cell are at the falls past it, and where the
--- profile falls one stands. Where two profiles are the same, what stands at the falls of one stands at those of the
--- other.
-use Rattle.std.proofs.Common.{◌≡◌, ℕ, zero, suc, ℤ, pos, List, [], ◌∷◌, ◌++◌, length, get_or, take, drop, Some, None}
-use Rattle.std.proofs.Common.{Bool, int_le, int_lt, true, false, ◌<◌, ◌≤◌, ◌-ℤ◌, ◌≤ℤ◌, ◌<ℤ◌, refl, arith}
+-- profile falls one stands.
+use Rattle.std.proofs.Common.{◌≡◌, ℕ, zero, suc, ℤ, List, [], ◌∷◌, length, get_or, drop}
+use Rattle.std.proofs.Common.{Bool, int_le, int_lt, true, false, ◌<◌, ◌≤◌, ◌≤ℤ◌, ◌<ℤ◌, arith}
 use Rattle.std.specs.List.Sorted.{IsPartitionedBy}
 use Rattle.std.proofs.lemmas.Int.{ints}
 use Rattle.sdm_num.proofs.Comparisons.{le_is, le_of, lt_is, lt_of}
 use Rattle.sdm_rules.specs.declared.targets.Fall.{Fall}
 use Rattle.sdm_rules.specs.Targets.{is_fall}
 use Rattle.sdm_speed.specs.Falls.{AreAtFalls}
-use Rattle.sdm_speed.proofs.FallLaws.{IsQuiet, fall_past}
 
 -- a cell before one that is not past, or is before, a third is likewise
 pub not_past : (at a b : ℤ) → a ≤ℤ b → int_le b at ≡ true → int_le a at ≡ true
@@ -96,45 +94,3 @@ module _ {A : Type 0} (fall : A → Fall) (p : ℤ → ℕ) where
   none_between after c (x ∷ xs) (suc i) past before from h =
       none_between (cell x) c xs i (before 0 x (omega arith) (omega arith))
       (λ k d l m. before (suc k) d (omega arith) (omega arith)) (λ d l. from d (omega arith)) h.1
-
--- ---- two profiles
-
-module _ {A : Type 0} (fall : A → Fall) where
-  -- a profile that falls nowhere from one cell to a later one, and is the same as another from there on
-  pub falls_from : (f g : ℤ → ℕ) (after at : ℤ) (xs : List A) → after ≤ℤ at → IsQuiet f after at →
-      ((c : ℤ) → at ≤ℤ c → f c ≡ g c) → AreAtFalls fall g at xs → AreAtFalls fall f after xs
-  falls_from f g after at [] le quiet same h = fall_past f g after at None le quiet same h
-  falls_from f g after at (x ∷ xs) le quiet same h =
-      let beyond = h.0.beyond in
-      let at_x = (fall x).cell in (
-        fall_past f g after at (Some (fall x)) le quiet same h.0,
-        falls_from f g at_x at_x xs (omega (arith, ints)) (λ c a l. absurd (omega (arith, ints)))
-            (λ c l. same c (omega (arith, ints))) h.1,
-      )
-
-  -- a profile that is the same as another up to a cell: those at falls of the other up to there, and those at its own
-  -- past it
-  pub falls_joined : (f g : ℤ → ℕ) (after at : ℤ) (xs rest : List A) (i : ℕ) → after ≤ℤ at →
-      ((c : ℤ) → c ≤ℤ at → f c ≡ g c) → ((k : ℕ) (d : A) → k < i → k < length xs → (fall (get_or xs k d)).cell ≤ℤ at) →
-      ((k : ℕ) (d : A) → i ≤ k → k < length xs → at <ℤ (fall (get_or xs k d)).cell) →
-      AreAtFalls fall g after xs → AreAtFalls fall f at rest → AreAtFalls fall f after (take i xs ++ rest)
-  falls_joined f g after at [] rest zero le same reached past h left = falls_from f f after at rest le
-      (λ c a l. rw (same c l, same (c -ℤ pos 1) (omega (arith, ints))) (h c a)) (λ c l. refl) left
-  falls_joined f g after at [] rest (suc i) le same reached past h left = falls_from f f after at rest le
-      (λ c a l. rw (same c l, same (c -ℤ pos 1) (omega (arith, ints))) (h c a)) (λ c l. refl) left
-  falls_joined f g after at (x ∷ xs) rest zero le same reached past h left =
-      let beyond = past 0 x (omega arith) (omega arith) in
-      falls_from f f after at rest le (λ c a l. rw (same c l, same (c -ℤ pos 1) (omega (arith, ints)))
-      (h.0.first c a (omega (arith, ints)))) (λ c l. refl) left
-  falls_joined f g after at (x ∷ xs) rest (suc i) le same reached past h left =
-      let at_x = (fall x).cell in
-      let on = reached 0 x (omega arith) (omega arith) in (
-        record {
-          beyond = h.0.beyond;
-          falls = rw (same at_x on, same (at_x -ℤ pos 1) (omega (arith, ints))) h.0.falls;
-          lower = rw (same at_x on) h.0.lower;
-          first = λ c a l. rw (same c (omega (arith, ints)), same (c -ℤ pos 1) (omega (arith, ints))) (h.0.first c a l);
-        },
-        falls_joined f g at_x at xs rest i on same (λ k d l m. reached (suc k) d (omega arith) (omega arith))
-            (λ k d l m. past (suc k) d (omega arith) (omega arith)) h.1 left,
-      )

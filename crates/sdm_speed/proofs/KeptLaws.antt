@@ -17,7 +17,8 @@ use Rattle.sdm_speed.specs.Steps.{speeds_of}
 use Rattle.sdm_speed.specs.Profiles.{IsProfile, ProfileData, mrsp_of}
 use Rattle.sdm_speed.specs.ProfileFields.{profile_data_of, static_zones_of, held_zones_of, IsKeptProfile}
 use Rattle.sdm_speed.proofs.ZoneLaws.{lowest_limit-append}
-use Rattle.sdm_speed.proofs.StartLaws.{starts_at_fall, start_on_track}
+use Rattle.sdm_speed.proofs.StartLaws.{start_on_track}
+use Rattle.sdm_speed.proofs.FallStarts.{starts_at_fall}
 use Rattle.sdm_speed.proofs.HeldLaws.{len_is, lowest_by_identity}
 use Rattle.sdm_speed.proofs.MrspLaws.{limit_in_range}
 

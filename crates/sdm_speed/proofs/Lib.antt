@@ -1,5 +1,6 @@
 pub mod ZoneLaws
 pub mod StartLaws
+pub mod FallStarts
 pub mod HeldLaws
 pub mod StaticLaws
 pub mod RestrictLaws
@@ -14,6 +15,5 @@ pub mod LowestLaws
 pub mod FallLaws
 pub mod FallLists
 pub mod KeptLaws
-pub mod ChangeLaws
 pub mod BeyondLaws
 pub mod TakenLaws

@@ -1,17 +1,16 @@
--- A profile falls only where a zone begins: a zone that covers a cell and does not begin there covers the cell before
--- it too.
-use Rattle.std.proofs.Common.{◌≡◌, ℕ, suc, ℤ, pos, List, [], ◌∷◌, Option, Some, None, Bool, true, false, ◌||◌, int_le}
-use Rattle.std.proofs.Common.{int_lt, if◌then◌else◌, min, ◌≤◌, ◌-ℤ◌, ◌≤ℤ◌, ◌<ℤ◌, refl, sym, ap, ◌∙◌, arith, All}
+-- A zone that covers a cell and does not begin there covers the cell before it too; each begins on the track, if it has
+-- a beginning.
+use Rattle.std.proofs.Common.{◌≡◌, suc, ℤ, pos, List, [], ◌∷◌, Option, Some, None, Bool, true, false, ◌||◌, int_le}
+use Rattle.std.proofs.Common.{int_lt, ◌-ℤ◌, ◌≤ℤ◌, ◌<ℤ◌, refl, sym, ap, ◌∙◌, arith, All}
 use Rattle.std.specs.Option.{option_map_or}
 use Rattle.std.specs.Ordering.{int_eq}
 use Rattle.std.proofs.lemmas.Int.{ints, by_lt_z}
-use Rattle.std.proofs.lemmas.Bool.{true≢false, true_from_ne_false, and_from, and_parts, or_parts, le-ltb}
+use Rattle.std.proofs.lemmas.Bool.{true≢false, and_from, and_parts}
 use Rattle.std.proofs.lemmas.Bool.Decides.{Decides-int_eq}
 use Rattle.sdm_num.proofs.Comparisons.{le_is, le_of, lt_is, lt_of}
-use Rattle.sdm_rules.specs.Profile.{Zone, covers, lowest_limit}
-use Rattle.sdm_rules.specs.Targets.{is_fall}
+use Rattle.sdm_rules.specs.Profile.{Zone, covers}
 use Rattle.sdm_rules.specs.Ranges.{longest_track}
-use Rattle.sdm_speed.specs.Zones.{IsZone, zone_limits, starts_at, has_start}
+use Rattle.sdm_speed.specs.Zones.{IsZone, starts_at, has_start}
 
 -- ---- tests
 
@@ -21,7 +20,7 @@ eq_is a b e = (Decides-int_eq a b).1 e
 eq_of : (a b : ℤ) → int_eq a b ≡ true → a ≡ b
 eq_of a b t = (Decides-int_eq a b).0 t
 
--- ---- no fall where no zone begins
+-- ---- the cell before
 
 -- a zone that has begun at a cell and doesn't begin there has begun at the cell before
 begun_before : (first : Option ℤ) (c : ℤ) → option_map_or (int_eq c) first false ≡ false →
@@ -40,33 +39,11 @@ goes_on_before None c on = refl
 goes_on_before (Some p) c on = lt_is (c -ℤ pos 1) p (omega (arith, ints, lt_of c p on))
 
 -- a zone that covers the cell and does not begin there
-covers_before : (z : Zone) (c : ℤ) → starts_at c z ≡ false → covers c z ≡ true → covers (c -ℤ pos 1) z ≡ true
+pub covers_before : (z : Zone) (c : ℤ) → starts_at c z ≡ false → covers c z ≡ true → covers (c -ℤ pos 1) z ≡ true
 covers_before z c off on =
     and_from _ _ (begun_before z.first c off (and_parts _ _ on).0) (goes_on_before z.past c (and_parts _ _ on).1)
 
--- a zone that covers the cell before wherever it covers the cell makes no fall
-capped_no_fall : (a b : Bool) (k m n : ℕ) → (b ≡ true → a ≡ true) → m ≤ n →
-    (if a then min k m else m) ≤ (if b then min k n else n)
-capped_no_fall true true k m n both le = omega arith
-capped_no_fall true false k m n both le = omega arith
-capped_no_fall false true k m n both le = absurd (true≢false (sym (both refl)))
-capped_no_fall false false k m n both le = le
-
--- where no zone begins the lowest limit is no lower than in the cell before
-no_lower : (top : ℕ) (zs : List Zone) (c : ℤ) → has_start zs c ≡ false →
-    lowest_limit top (c -ℤ pos 1) zs ≤ lowest_limit top c zs
-no_lower top [] c off = omega arith
-no_lower top (z ∷ zs) c off =
-    capped_no_fall (covers (c -ℤ pos 1) z) (covers c z) z.limit _ _ (covers_before z c (or_parts _ _ off).0)
-    (no_lower top zs c (or_parts _ _ off).1)
-
--- so there is no fall
-pub no_fall : (top : ℕ) (zs : List Zone) (c : ℤ) → has_start zs c ≡ false → is_fall (zone_limits top zs) c ≡ false
-no_fall top zs c off = le-ltb _ _ (no_lower top zs c off)
-
--- so a fall lies where a zone begins
-pub starts_at_fall : (top : ℕ) (zs : List Zone) (c : ℤ) → is_fall (zone_limits top zs) c ≡ true → has_start zs c ≡ true
-starts_at_fall top zs c falls = true_from_ne_false _ (λ off. true≢false (sym falls ∙ no_fall top zs c off))
+-- ---- on the track
 
 -- a zone that begins at the cell has it as its first
 start_is : (first : Option ℤ) (c : ℤ) → option_map_or (int_eq c) first false ≡ true → first ≡ Some c

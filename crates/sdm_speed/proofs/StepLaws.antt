@@ -1,7 +1,7 @@
 -- The speed of a cell is that of the last step that has begun there: steps that have begun can be left out but the
 -- last, and steps that start past the cell say nothing of it.
 use Rattle.std.proofs.Common.{◌≡◌, ℕ, zero, suc, ℤ, pos, List, [], ◌∷◌, length, get_or, set, drop, inl, inr}
-use Rattle.std.proofs.Common.{int_le, int_lt, ◌<◌, ◌≤◌, ◌+ℤ◌, ◌≤ℤ◌, ◌<ℤ◌, refl, ◌∙◌, arith}
+use Rattle.std.proofs.Common.{int_le, int_lt, ◌-◌, ◌<◌, ◌≤◌, ◌+ℤ◌, ◌≤ℤ◌, ◌<ℤ◌, refl, ◌∙◌, arith}
 use Rattle.std.specs.List.Sorted.{IsPartitionedBy}
 use Rattle.std.proofs.lemmas.Int.{ints}
 use Rattle.sdm_num.proofs.Comparisons.{le_is, le_of, not_le_is, lt_is, lt_of}
@@ -49,6 +49,16 @@ rises (s ∷ ss) zero (suc j) d rising le known = let past =
 rises (s ∷ ss) (suc i) zero d rising le known = absurd (omega arith)
 rises (s ∷ ss) (suc i) (suc j) d rising le known =
     rises ss i j d (rising_of s.start ss rising) (omega arith) (omega arith)
+
+-- where one step starts at a cell or before it, and the next one past it, they part the steps
+pub parted_between : (ss : List Step) (i : ℕ) (cell : ℤ) → AreRising ss → 1 ≤ i → i < length ss →
+    ((d : Step) → (get_or ss (i - 1) d).start ≤ℤ cell) → ((d : Step) → cell <ℤ (get_or ss i d).start) →
+    ArePartedAt (cell +ℤ pos 1) ss i
+parted_between ss i cell rising some known begun later = record {
+  bound = omega arith;
+  before = λ k d l. let r = rises ss k (i - 1) d rising (omega arith) (omega arith) in omega (arith, ints, begun d);
+  from = λ k d l m. let r = rises ss i k d rising l m in omega (arith, ints, later d);
+}
 
 -- the steps that start before a cell come first
 pub starts_parted : (ss : List Step) (cell : ℤ) → AreRising ss → IsPartitionedBy (λ s. int_lt s.start cell) ss

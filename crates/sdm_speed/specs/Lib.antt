@@ -4,7 +4,7 @@ pub mod Falls
 pub mod Held
 pub mod ZoneEnds
 pub mod Speeds
-pub mod Changes
 pub mod Codes
 pub mod Profiles
+pub mod ZoneStarts
 pub mod ProfileFields

@@ -42,6 +42,10 @@ zones_of p = zones_of_track p.length_cm p.speeds ++ map (zone_of p.length_cm) (f
 abbrev pub mrsp_of : ProfileData → ℤ → ℕ
 mrsp_of p cell = lowest_limit p.max_speed cell (zones_of p)
 
+-- the speed of a cell in km/h with no restriction in force (SUBSET-026-3 3.13.7; own cell form)
+abbrev pub static_of : ProfileData → ℤ → ℕ
+static_of p cell = lowest_limit p.max_speed cell (zones_of_track p.length_cm p.speeds)
+
 -- a profile within its ranges (ranges own)
 pub record IsProfile (p : ProfileData) : Type 0 where
   pub top : IsLimit p.max_speed

@@ -7,6 +7,7 @@ use Rattle.sdm_rules.specs.declared.targets.Fall.{Fall}
 use Rattle.sdm_rules.specs.Cells.{last_at}
 use Rattle.sdm_rules.specs.Profile.{Zone, capped, covers}
 use Rattle.sdm_rules.specs.Targets.{IsNextFall, HasNoFall}
+use Rattle.sdm_speed.specs.declared.steps.FallStep.{FallStep}
 use Rattle.sdm_speed.specs.declared.steps.Step.{Step}
 
 -- the speed of each cell in km/h: of the last step whose start is at most the cell, and `before` where there is none
@@ -84,3 +85,8 @@ capped_before z v = if is_none z.first then min z.limit v else v
 -- the next fall of a profile past a cell, or that there is none
 abbrev pub IsFallAfter : (ℤ → ℕ) → ℤ → Option Fall → Type 0
 IsFallAfter profile after next = MatchOption next (HasNoFall profile after) (IsNextFall profile after)
+
+-- the next fall of a profile past a cell is found, or there is none
+abbrev pub IsFallStepAfter : (ℤ → ℕ) → ℤ → Option FallStep → Type 0
+IsFallStepAfter profile after next =
+    MatchOption next (HasNoFall profile after) (λ found. IsNextFall profile after found.fall)

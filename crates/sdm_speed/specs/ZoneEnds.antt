@@ -2,6 +2,7 @@
 use Rattle.std.specs.Prelude.{◌≡◌, ◌⊎◌, ℕ, ℤ, pos, List, [], ◌∷◌, Some, map}
 use Rattle.sdm_rules.specs.declared.restrictions.Restriction.{Restriction}
 use Rattle.sdm_rules.specs.Profile.{Zone, end_for, lowest_limit, zone_of}
+use Rattle.sdm_speed.specs.declared.ends.Cells.{Cells}
 use Rattle.sdm_speed.specs.declared.steps.Step.{Step}
 use Rattle.sdm_speed.specs.Steps.{IsStart, KeepsStarts, speeds_of}
 
@@ -10,6 +11,10 @@ use Rattle.sdm_speed.specs.Steps.{IsStart, KeepsStarts, speeds_of}
 abbrev pub speed_under : ℤ → ℕ → List Step → List Restriction → ℤ → ℕ
 speed_under length_cm before statics held cell =
     lowest_limit (speeds_of before statics cell) cell (map (zone_of length_cm) held)
+
+-- the cells that a temporary restriction covers, for a train of a length in cm (SUBSET-026-3 3.11.5; own cell form)
+abbrev pub cells_of : ℤ → Restriction → Cells
+cells_of length_cm r = record { first = pos r.start; past = end_for length_cm r.delayed (pos r.end) }
 
 -- the zone of a restriction begins or ends at the cell, for a train of a length in cm
 abbrev pub IsEnd : ℤ → ℤ → Restriction → Type 0

@@ -2,13 +2,11 @@
 //! and the temporary restrictions, which come and go. All room is taken when a profile begins.
 #![tactic(auto)]
 
-mod changes;
 mod ends;
 mod lifts;
 mod profiles;
 mod steps;
 mod zones;
 
-pub use changes::Changed;
 pub use profiles::{MOST_RESTRICTIONS, Profile};
 pub use sdm_rules::{Fall, RestrictFault, Restriction, RevokeFault};

@@ -1,6 +1,5 @@
 //! The speed profile of a train on a track. Its speeds are kept as steps: a restriction that comes lowers those in its
-//! zone, and one that goes leaves them to what is left. Both tell the cells whose speed may be another now, so that
-//! what is kept elsewhere of the other cells can stay.
+//! zone, and one that goes leaves them to what is left.
 
 ghost use Rattle.std.specs.Prelude.{◌≡◌, ℤ, pos, ◌*◌, ◌≤◌, ◌≤ℤ◌, All, Some, None, IfOk, IfErr, IfSome, MatchOption};
 ghost use Rattle.std.specs.Prelude.{OnOk, OnErr, length, min, position, vec_len};
@@ -16,12 +15,11 @@ ghost use Rattle.sdm_rules.specs.Ranges.{longest_track, longest_train, most_spee
 ghost use Rattle.sdm_track.specs.Ranges.{AreSpeeds};
 ghost use Rattle.sdm_speed.specs.Zones.{IsLimit, IsZone, IsFallInRange, zone_limits};
 ghost use Rattle.sdm_speed.specs.Speeds.{speeds_in};
-ghost use Rattle.sdm_speed.specs.Held.{has_id};
-ghost use Rattle.sdm_speed.specs.Changes.{AreSameOutside, IsChangedInRange};
+ghost use Rattle.sdm_speed.specs.Held.{by_identity, has_id, AreDistinct, IsHeldRestriction};
 ghost use Rattle.sdm_speed.specs.Profiles.{mrsp_of, new_profile, IsProfile};
+ghost use Rattle.sdm_speed.specs.ZoneStarts.{IsZoneStart};
 
-use crate::changes::{ALL_CELLS, Changed};
-use crate::ends::{cells_of, end_for, zone_of};
+use crate::ends::{end_for, zone_of};
 use crate::lifts::raise;
 use crate::steps::Steps;
 use crate::zones::Zone;
@@ -228,18 +226,16 @@ impl Profile {
         Ok(())
     }
 
-    /// Puts a restriction into force, and tells the cells that it covers: in no others is the MRSP another. Its speed
-    /// is 1 to 500 km/h. Refused where 32 are held, where one with its identity is held, and where it ends at or
-    /// before its start or past the track's end; the profile is then as it was. (SUBSET-026-3 3.11.5; refusals own)
-    pub fn impose(&mut self, r: Restriction) -> Result<Changed, RestrictFault>
+    /// Puts a restriction into force; its speed is 1 to 500 km/h. Refused where 32 are held, where one with its
+    /// identity is held, and where it ends at or before its start or past the track's end; the profile is then as it
+    /// was. (SUBSET-026-3 3.11.5; refusals own)
+    pub fn set(&mut self, r: Restriction) -> Result<(), RestrictFault>
         requires slowest { 1 ≤ r.speed }
         requires fastest { r.speed ≤ top_kmh }
         ensures accepted { OnOk result (restrict_fault self.old.track_cm self.old.restrictions r ≡ None) }
         ensures added { OnOk result
             (self.new ≡ record self.old { restrictions = finite.insert self.old.restrictions r.id r }) }
-        ensures outside { IfOk result (AreSameOutside (mrsp_of self.old) (mrsp_of self.new)) }
-        ensures in_range { IfOk result IsChangedInRange }
-        ensures profile_in_range { IsProfile self.old }
+        ensures held { OnOk result (IsHeldRestriction r) }
         ensures refused { IfErr result
             (λ fault. restrict_fault self.old.track_cm self.old.restrictions r ≡ Some fault) }
         ensures unchanged { OnErr result (self.new ≡ self.old) }
@@ -247,7 +243,7 @@ impl Profile {
         self.check(r)?;
         self.held.push_reserved(r);
         self.steps.lower(zone_of(r, self.length_cm));
-        Ok(cells_of(r, self.length_cm))
+        Ok(())
     }
 
     /// The least identity of the restrictions in force that end past the end of a track of a length in cm.
@@ -258,30 +254,34 @@ impl Profile {
         first_beyond(length_cm, &self.held)
     }
 
-    /// Puts the restrictions of another profile into force, and tells the cells that they may cover: in no others is
-    /// the MRSP another. None is in force before, and none of the other's ends past the track's end. (own)
-    pub fn take_restrictions(&mut self, before: &Profile) -> Changed
+    /// The restrictions in force, in the order in which they came.
+    pub fn held(&self) -> &[Restriction]
+        ensures all { by_identity result.now ≡ self.now.restrictions }
+        ensures distinct { AreDistinct result.now }
+        ensures each { All IsHeldRestriction result.now }
+        ensures in_range { IsProfile self.now }
+    {
+        &self.held
+    }
+
+    /// Puts the restrictions of another profile into force. None is in force before, and none of the other's ends past
+    /// the track's end. (own)
+    pub fn take_restrictions(&mut self, before: &Profile)
         requires fresh { self.old.restrictions ≡ finite.empty }
         requires fitting { first_beyond self.old.track_cm (finite.values before.now.restrictions) ≡ None }
         ensures taken { self.new ≡ record self.old { restrictions = before.now.restrictions } }
-        ensures outside { AreSameOutside (mrsp_of self.old) (mrsp_of self.new) result }
-        ensures in_range { IsChangedInRange result }
     {
         for i in 0..before.held.len() {
-            self.impose(before.held[i]).unwrap();
+            self.set(before.held[i]).unwrap();
         }
-        ALL_CELLS
     }
 
-    /// Takes a restriction out of force, and tells the cells that it covered: in no others is the MRSP another.
-    /// Refused where none with this identity is held; the profile is then as it was. (own)
-    pub fn lift(&mut self, id: u16) -> Result<Changed, RevokeFault>
+    /// Takes a restriction out of force. Refused where none with this identity is held; the profile is then as it was.
+    /// (own)
+    pub fn revoke(&mut self, id: u16) -> Result<(), RevokeFault>
         ensures accepted { OnOk result (revoke_fault self.old.restrictions id ≡ None) }
         ensures removed { OnOk result
             (self.new ≡ record self.old { restrictions = finite.remove self.old.restrictions id }) }
-        ensures outside { IfOk result (AreSameOutside (mrsp_of self.old) (mrsp_of self.new)) }
-        ensures in_range { IfOk result IsChangedInRange }
-        ensures profile_in_range { IsProfile self.old }
         ensures refused { IfErr result (λ fault. revoke_fault self.old.restrictions id ≡ Some fault) }
         ensures unchanged { OnErr result (self.new ≡ self.old) }
     {
@@ -296,36 +296,6 @@ impl Profile {
             &self.held,
             self.length_cm,
         );
-        Ok(cells_of(lifted, self.length_cm))
-    }
-
-    /// Puts a restriction into force; its speed is 1 to 500 km/h. Refused where 32 are held, where one with its
-    /// identity is held, and where it ends at or before its start or past the track's end; the profile is then as it
-    /// was. (SUBSET-026-3 3.11.5; refusals own)
-    pub fn set(&mut self, r: Restriction) -> Result<(), RestrictFault>
-        requires slowest { 1 ≤ r.speed }
-        requires fastest { r.speed ≤ top_kmh }
-        ensures accepted { OnOk result (restrict_fault self.old.track_cm self.old.restrictions r ≡ None) }
-        ensures added { OnOk result
-            (self.new ≡ record self.old { restrictions = finite.insert self.old.restrictions r.id r }) }
-        ensures refused { IfErr result
-            (λ fault. restrict_fault self.old.track_cm self.old.restrictions r ≡ Some fault) }
-        ensures unchanged { OnErr result (self.new ≡ self.old) }
-    {
-        self.impose(r)?;
-        Ok(())
-    }
-
-    /// Takes a restriction out of force. Refused where none with this identity is held; the profile is then as it was.
-    /// (own)
-    pub fn revoke(&mut self, id: u16) -> Result<(), RevokeFault>
-        ensures accepted { OnOk result (revoke_fault self.old.restrictions id ≡ None) }
-        ensures removed { OnOk result
-            (self.new ≡ record self.old { restrictions = finite.remove self.old.restrictions id }) }
-        ensures refused { IfErr result (λ fault. revoke_fault self.old.restrictions id ≡ Some fault) }
-        ensures unchanged { OnErr result (self.new ≡ self.old) }
-    {
-        self.lift(id)?;
         Ok(())
     }
 
@@ -359,6 +329,18 @@ impl Profile {
         ensures in_range { IfSome result IsFallInRange }
         ensures profile_in_range { IsProfile self.now }
     {
-        self.steps.next_fall(after)
+        let mut near = 0;
+        self.next_fall_near(after, &mut near)
+    }
+
+    /// As `next_fall`, for falls that are asked for one after another. `near` tells where the last one was found, and
+    /// at first is 0, so that all are found in one pass; where it tells anything else the fall is only sought longer.
+    pub fn next_fall_near(&self, after: i32, near: &mut usize) -> Option<Fall>
+        ensures value { MatchOption result (HasNoFall (mrsp_of self.now) after) (IsNextFall (mrsp_of self.now) after) }
+        ensures zone { IfSome result (IsZoneStart self.now) }
+        ensures in_range { IfSome result IsFallInRange }
+        ensures profile_in_range { IsProfile self.now }
+    {
+        self.steps.next_fall(after, near)
     }
 }

@@ -3,12 +3,12 @@
 //! each step that it covers takes its limit. A step can take another speed, and go again, where a restriction has
 //! gone.
 
-ghost use Rattle.std.specs.Prelude.{◌≡◌, ◌⊎◌, ◌+◌, ◌<◌, ◌≤◌, ℕ, ℤ, [], Some, true, IfOk, length, map, min, set};
-ghost use Rattle.std.specs.Prelude.{take, slice_index_or, vec_len, vec_capacity};
+ghost use Rattle.std.specs.Prelude.{◌≡◌, ◌⊎◌, ◌+◌, ◌+ℤ◌, ◌<◌, ◌≤◌, ℕ, ℤ, pos, [], Some, true, IfOk, length, map, min};
+ghost use Rattle.std.specs.Prelude.{drop, set, take, slice_index_or, vec_len, vec_capacity};
 ghost use Rattle.sdm_rules.specs.Profile.{capped};
 ghost use Rattle.sdm_speed.specs.ZoneEnds.{AreSpeedsAt, HasStartsOf};
 ghost use Rattle.sdm_speed.specs.Steps.{AreAfter, AreCovered, AreRising, AreRising-prop, ArePartedAt, IsFallAfter};
-ghost use Rattle.sdm_speed.specs.Steps.{IsSplit, IsStart, KeepsStarts, capped_before, capped_step, speed_to};
+ghost use Rattle.sdm_speed.specs.Steps.{IsFallStepAfter, IsSplit, IsStart, KeepsStarts, capped_before, capped_step, speed_to};
 ghost use Rattle.sdm_speed.specs.Steps.{speeds_of};
 
 use crate::zones::Zone;
@@ -38,6 +38,13 @@ pub struct Range {
     pub to: usize,
 }
 
+/// A fall, and how many steps start at it or before it.
+#[derive(Clone, Copy)]
+struct FallStep {
+    fall: Fall,
+    begun: usize,
+}
+
 /// The step with at most this speed.
 fn lowered(step: Step, limit: u16) -> Step
     ensures { result ≡ record { start = step.start; speed = min limit step.speed } }
@@ -58,16 +65,21 @@ fn capped_before(before: u16, zone: Zone) -> u16
     }
 }
 
-/// The first fall past a cell before all these steps, where `speed` holds before them.
-fn first_fall(steps: &[Step], speed: u16) -> Option<Fall>
-    ensures { (after : ℤ) → AreAfter after steps.now → IsFallAfter (speeds_of speed steps.now) after result }
+/// The first fall among the steps from an index on, where `speed` holds before them.
+fn first_fall(steps: &[Step], from: usize, speed: u16) -> Option<FallStep>
+    ensures { (after : ℤ) → AreAfter after (drop from steps.now) →
+        IsFallStepAfter (speeds_of speed (drop from steps.now)) after result }
 {
     let mut before = speed;
-    for step in steps {
+    for i in from..steps.len() {
+        let step = steps[i];
         if step.speed < before {
-            return Some(Fall {
-                cell: step.start,
-                speed: step.speed,
+            return Some(FallStep {
+                fall: Fall {
+                    cell: step.start,
+                    speed: step.speed,
+                },
+                begun: i + 1,
             });
         }
         before = step.speed;
@@ -268,11 +280,31 @@ impl Steps {
         self.cap(zone, Range { from, to });
     }
 
-    /// The first fall past the start of the cell `after`.
-    pub fn next_fall(&self, after: i32) -> Option<Fall>
+    /// How many steps start at the cell `after` or before it. They are `near` many as a rule.
+    fn begun_near(&self, after: i32, near: usize) -> usize
+        ensures { ArePartedAt (after +ℤ pos 1) self.now.list.items result }
+    {
+        let list = &self.list;
+        if 0 < near
+            && near < list.len()
+            && list[near - 1].start <= after
+            && after < list[near].start
+        {
+            return near;
+        }
+        self.started_before(i64::from(after) + 1)
+    }
+
+    /// The first fall past the start of the cell `after`. `near` is how many steps start there or before, as a rule,
+    /// and then how many do where the fall is.
+    pub fn next_fall(&self, after: i32, near: &mut usize) -> Option<Fall>
         ensures { IsFallAfter (speeds_in self.now) after result }
     {
-        let begun = self.started_before(i64::from(after) + 1);
-        first_fall(&self.list[begun..], self.speed_to(begun))
+        let begun = self.begun_near(after, *near);
+        let Some(found) = first_fall(&self.list, begun, self.speed_to(begun)) else {
+            return None;
+        };
+        *near = found.begun;
+        Some(found.fall)
     }
 }

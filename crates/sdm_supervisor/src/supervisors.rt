@@ -246,9 +246,8 @@ impl Supervisor {
             (λ fault. restrict_fault self.old.train_and_track.track.length_cm self.old.restrictions r ≡ Some fault) }
         ensures unchanged { OnErr result (self.new ≡ self.old) }
     {
-        let changed = self.profile.impose(r)?;
-        self.kept
-            .take_profile(&self.braking, &self.profile, changed);
+        self.profile.set(r)?;
+        self.kept.restrict(&self.braking, &self.profile, r);
         Ok(())
     }
 
@@ -260,9 +259,8 @@ impl Supervisor {
         ensures refused { IfErr result (λ fault. revoke_fault self.old.restrictions id ≡ Some fault) }
         ensures unchanged { OnErr result (self.new ≡ self.old) }
     {
-        let changed = self.profile.lift(id)?;
-        self.kept
-            .take_profile(&self.braking, &self.profile, changed);
+        self.profile.revoke(id)?;
+        self.kept.revoke(&self.profile, id);
         Ok(())
     }
 

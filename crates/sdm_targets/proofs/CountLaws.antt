@@ -1,7 +1,7 @@
 -- A profile has no more falls than entries and restrictions: each lies where a zone begins that none of the earlier
 -- ones has.
-use Rattle.std.proofs.Common.{◌≡◌, ℕ, zero, suc, ℤ, List, [], ◌∷◌, length, get_or, map, Option, Some, None, Bool, true}
-use Rattle.std.proofs.Common.{false, ◌||◌, if◌then◌else◌, int_le, ◌+◌, ◌<◌, ◌≤◌, ◌≤ℤ◌, ◌<ℤ◌, refl, ap, arith}
+use Rattle.std.proofs.Common.{◌≡◌, ℕ, suc, ℤ, List, [], ◌∷◌, length, map, Option, Some, None, Bool, true}
+use Rattle.std.proofs.Common.{false, ◌||◌, if◌then◌else◌, int_le, ◌+◌, ◌≤◌, ◌≤ℤ◌, ◌<ℤ◌, refl, ap, arith}
 use Rattle.std.proofs.Common.{length-append}
 use Rattle.std.specs.Option.{option_map_or}
 use Rattle.std.specs.Ordering.{int_eq}
@@ -14,11 +14,10 @@ use Rattle.sdm_rules.specs.declared.data.SpeedStep.{SpeedStep}
 use Rattle.sdm_rules.specs.declared.targets.Fall.{Fall}
 use Rattle.sdm_rules.specs.Profile.{Zone, static_zones, zones_of_track, zone_of}
 use Rattle.sdm_rules.specs.Records.{most_restrictions}
-use Rattle.sdm_rules.specs.Targets.{is_fall, IsNextFall}
-use Rattle.sdm_speed.specs.Falls.{AreAtFalls}
+use Rattle.sdm_rules.specs.Targets.{IsNextFall}
 use Rattle.sdm_speed.specs.Profiles.{ProfileData, zones_of, mrsp_of, IsProfile}
 use Rattle.sdm_speed.specs.Zones.{starts_at, has_start}
-use Rattle.sdm_speed.proofs.StartLaws.{starts_at_fall}
+use Rattle.sdm_speed.proofs.FallStarts.{starts_at_fall}
 use Rattle.sdm_targets.specs.Lists.{most_falls}
 
 -- ---- how many zones have begun
@@ -90,7 +89,7 @@ static_count length_cm first e [] = refl
 static_count length_cm first e (next ∷ es) = ap suc (static_count length_cm (Some next.start) next es)
 
 -- of a list with entries or none
-track_count : (length_cm : ℤ) (es : List SpeedStep) → length (zones_of_track length_cm es) ≡ length es
+pub track_count : (length_cm : ℤ) (es : List SpeedStep) → length (zones_of_track length_cm es) ≡ length es
 track_count length_cm [] = refl
 track_count length_cm (e ∷ es) = static_count length_cm None e es
 
@@ -115,25 +114,3 @@ pub fall_counts : (p : ProfileData) (at : ℤ) (fall : Fall) → IsNextFall (mrs
     passed (zones_of p) at + 1 ≤ passed (zones_of p) fall.cell
 fall_counts p at fall next =
     passed_more (zones_of p) at fall.cell next.beyond (starts_at_fall p.max_speed (zones_of p) fall.cell next.falls)
-
-module _ {A : Type 0} (fall : A → Fall) (p : ℤ → ℕ) (zs : List Zone)
-    (starts : (c : ℤ) → is_fall p c ≡ true → has_start zs c ≡ true) where
-  -- from a cell to the next fall one more zone has begun
-  step : (at : ℤ) (x : A) → IsNextFall p at (fall x) → passed zs at + 1 ≤ passed zs (fall x).cell
-  step at x next = passed_more zs at (fall x).cell next.beyond (starts (fall x).cell next.falls)
-
-  -- what stands at falls up to a cell is no more than the zones that have begun there
-  pub falls_up_to_few : (after at : ℤ) (xs : List A) (i : ℕ) → after ≤ℤ at → i ≤ length xs →
-      ((k : ℕ) (d : A) → k < i → k < length xs → (fall (get_or xs k d)).cell ≤ℤ at) → AreAtFalls fall p after xs →
-      i + passed zs after ≤ passed zs at
-  falls_up_to_few after at xs zero le known reached h = omega (arith, passed_rises zs after at le)
-  falls_up_to_few after at [] (suc i) le known reached h = absurd (omega arith)
-  falls_up_to_few after at (x ∷ xs) (suc i) le known reached h =
-      let rest = falls_up_to_few (fall x).cell at xs i (reached 0 x (omega arith) (omega arith)) (omega arith)
-      (λ k d l m. reached (suc k) d (omega arith) (omega arith)) h.1 in
-      omega (arith, step after x h.0, rest)
-
-  -- and what stands at those past it no more than the others
-  pub falls_past_few : (at : ℤ) (xs : List A) → AreAtFalls fall p at xs → length xs + passed zs at ≤ length zs
-  falls_past_few at [] h = omega (arith, passed_most zs at)
-  falls_past_few at (x ∷ xs) h = omega (arith, step at x h.0, falls_past_few (fall x).cell xs h.1)

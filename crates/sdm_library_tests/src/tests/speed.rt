@@ -12,13 +12,12 @@ use std::test::Fail;
 /// - `track`: a new profile, of the length of a track and of a train, a maximum speed, and the static profile as
 ///   `start:speed:delayed` of each entry
 /// - `set`: identity, start, end, speed, whether the end is delayed
-/// - `impose`: the same; the first cell that changed, and the one past the last
 /// - `fill`: sets restrictions of the identities 1 to 32
 /// - `revoke`: identity
-/// - `lift`: the same; the first cell that changed, and the one past the last
 /// - `lowest`: first and last cell
 /// - `end`: the length of the track
 /// - `fall`: the cell after which the next fall is looked for
+/// - `near`: the same, and how many steps start at the cell or before it, as a rule; that of the fall too
 const CASES: &str = "\
 track 200000 10000 160 0:160:1
 end = 200000
@@ -131,30 +130,49 @@ set 7 3000 4000 40 0 = set
 lowest 0 5000 = 40
 set 33 3000 4000 40 0 = too many restrictions";
 
-/// The same, of the cells that change. A delayed end lies one length of the train further on.
-const CHANGES: &str = "\
+/// The same, of restrictions that overlap and go again, and of ends that are delayed by a train's length.
+const OVERLAPS: &str = "\
 track 200000 10000 160 0:160:1
-impose 1 50000 60000 80 1 = 50000 70000
-impose 2 50000 60000 80 0 = 50000 60000
-impose 3 0 200000 200 1 = 0 210000
-impose 4 199999 200000 40 0 = 199999 200000
-impose 4 0 200000 60 0 = identity 4 in use
-impose 5 60000 60000 60 0 = restriction value
+set 1 50000 60000 80 1 = set
+set 2 50000 60000 80 0 = set
+set 3 0 200000 200 1 = set
+set 4 199999 200000 40 0 = set
+set 4 0 200000 60 0 = identity 4 in use
+set 5 60000 60000 60 0 = restriction value
 lowest 199999 199999 = 40
-lift 5 = identity 5 unknown
-lift 2 = 50000 60000
+fall 0 = 50000 80
+fall 50000 = 199999 40
+revoke 5 = identity 5 unknown
+revoke 2 = revoked
 lowest 50000 59999 = 80
-lift 1 = 50000 70000
+revoke 1 = revoked
 lowest 50000 59999 = 160
-lift 1 = identity 1 unknown
-lift 4 = 199999 200000
-lift 3 = 0 210000
+fall 0 = 199999 40
+revoke 1 = identity 1 unknown
+revoke 4 = revoked
+fall 0 = none
+revoke 3 = revoked
 track 10000000 150000 500 0:500:1
-impose 9 9999999 10000000 5 1 = 9999999 10150000
-lift 9 = 9999999 10150000
+set 9 9999999 10000000 5 1 = set
+lowest 9999998 9999998 = 500
+lowest 9999999 9999999 = 5
+lowest 10149999 10149999 = 5
+lowest 10150000 10150000 = 500
+revoke 9 = revoked
+lowest 9999999 10149999 = 500
 fill = set
-impose 33 3000 4000 40 0 = too many restrictions
-lift 32 = 1000 2000";
+set 33 3000 4000 40 0 = too many restrictions
+revoke 32 = revoked
+track 10000000 10000 500 0:500:1,1000:400:0,2000:450:0,3000:300:0,4000:200:0
+near 0 -2147483648 = 1000 400 1
+near 1 1000 = 3000 300 3
+near 3 3000 = 4000 200 4
+near 4 4000 = none 4
+near 4 3000 = 4000 200 4
+near 2 3000 = 4000 200 4
+near 99 1000 = 3000 300 3
+near 3 999 = 1000 400 1
+near 1 2147483647 = none 1";
 
 fn length(word: Option<&str>) -> Result<u32, Fail> {
     Ok(word.ok_or("a length is wanting")?.parse::<u32>()?)
@@ -166,6 +184,10 @@ fn cell(word: Option<&str>) -> Result<i32, Fail> {
 
 fn identity(word: Option<&str>) -> Result<u16, Fail> {
     Ok(word.ok_or("an identity is wanting")?.parse::<u16>()?)
+}
+
+fn count(word: Option<&str>) -> Result<usize, Fail> {
+    Ok(word.ok_or("a count is wanting")?.parse::<usize>()?)
 }
 
 fn delayed(word: Option<&str>) -> Result<bool, Fail> {
@@ -231,23 +253,11 @@ fn set(alloc: Global, profile: &mut Profile, r: Restriction) -> Result<String, F
     }
 }
 
-/// The text of the fault, or of the cells that changed.
-fn imposed(alloc: Global, profile: &mut Profile, r: Restriction) -> Result<String, Fail> {
-    if r.speed < 1 || 500 < r.speed {
-        return Err("no speed")?;
-    }
-    match profile.impose(r) {
-        Ok(cells) => Ok(format!(in alloc; "{} {}", cells.first, cells.past)?),
-        Err(fault) => Ok(format!(in alloc; "{fault}")?),
-    }
-}
-
 /// The answer to what is asked.
 fn answer(alloc: Global, profile: &mut Profile, asked: &str) -> Result<String, Fail> {
     let mut words = asked.split_whitespace();
     match words.next() {
         Some("set") => set(alloc, profile, restriction(&mut words)?),
-        Some("impose") => imposed(alloc, profile, restriction(&mut words)?),
         Some("fill") => {
             for id in 1..32 {
                 set(alloc, profile, at(id))?;
@@ -256,10 +266,6 @@ fn answer(alloc: Global, profile: &mut Profile, asked: &str) -> Result<String, F
         }
         Some("revoke") => match profile.revoke(identity(words.next())?) {
             Ok(()) => Ok(format!(in alloc; "revoked")?),
-            Err(fault) => Ok(format!(in alloc; "{fault}")?),
-        },
-        Some("lift") => match profile.lift(identity(words.next())?) {
-            Ok(cells) => Ok(format!(in alloc; "{} {}", cells.first, cells.past)?),
             Err(fault) => Ok(format!(in alloc; "{fault}")?),
         },
         Some("lowest") => {
@@ -275,6 +281,13 @@ fn answer(alloc: Global, profile: &mut Profile, asked: &str) -> Result<String, F
             Some(fall) => Ok(format!(in alloc; "{} {}", fall.cell, fall.speed)?),
             None => Ok(format!(in alloc; "none")?),
         },
+        Some("near") => {
+            let mut near = count(words.next())?;
+            match profile.next_fall_near(cell(words.next())?, &mut near) {
+                Some(fall) => Ok(format!(in alloc; "{} {} {near}", fall.cell, fall.speed)?),
+                None => Ok(format!(in alloc; "none {near}")?),
+            }
+        }
         _ => Err("nothing that can be asked")?,
     }
 }
@@ -311,6 +324,6 @@ fn the_lowest_restriction_counts(rt: HostRuntime) -> Result<(), Fail> {
 }
 
 #[test]
-fn the_cells_of_a_restriction_change(rt: HostRuntime) -> Result<(), Fail> {
-    ask(&rt, rt.alloc(), CHANGES)
+fn restrictions_overlap_and_go_again(rt: HostRuntime) -> Result<(), Fail> {
+    ask(&rt, rt.alloc(), OVERLAPS)
 }

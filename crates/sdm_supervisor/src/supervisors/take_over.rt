@@ -35,9 +35,8 @@ impl Supervisor {
         if let Some(id) = before.profile.first_beyond(self.profile.track_cm()) {
             return Err(TakeOverFault::BeyondTrack { id });
         }
-        let changed = self.profile.take_restrictions(&before.profile);
-        self.kept
-            .take_profile(&self.braking, &self.profile, changed);
+        self.profile.take_restrictions(&before.profile);
+        self.kept.take_restrictions(&self.braking, &self.profile);
         self.last_time = before.last_time;
         self.held = before.held;
         Ok(())

@@ -3,7 +3,7 @@
 use Rattle.std.proofs.Common.{◌≡◌, pos, inl, inr, w32, to_z, of_z, subst, sym, ap, ◌∙◌, rules}
 use Rattle.std.proofs.lemmas.Int.{to_z-of_z}
 use Rattle.sdm_rules.specs.Profile.{end_for}
-use Rattle.sdm_speed.specs.declared.changes.Changed.{Changed}
+use Rattle.sdm_speed.specs.declared.ends.Cells.{Cells}
 use Rattle.sdm_speed.specs.ZoneEnds.{IsZoneEnd, speed_under}
 use Rattle.sdm_speed.specs.Steps.{IsStart}
 use Rattle.sdm_speed.proofs.ZoneEndLaws.{under_before, under_same}
@@ -19,10 +19,10 @@ returns-clause-zone_ends c =
     let steps = c.args.steps.now.list.items in
     let cells = c.cells_of-cells.result in
     let first_is : to_z w32 (of_z w32 cells.first) ≡ pos c.args.lifted.start = to_z-of_z w32 cells.first (search rules)
-    ∙ ap (λ (x : Changed). x.first) c.cells_of-cells.ensures in
+    ∙ ap (λ (x : Cells). x.first) c.cells_of-cells.ensures in
     let past_is : to_z w32 (of_z w32 cells.past) ≡ end_for length_cm c.args.lifted.delayed
     (pos c.args.lifted.end) =
-    to_z-of_z w32 cells.past (search rules) ∙ ap (λ (x : Changed). x.past) c.cells_of-cells.ensures in
+    to_z-of_z w32 cells.past (search rules) ∙ ap (λ (x : Cells). x.past) c.cells_of-cells.ensures in
     let one = c.join_unless_zone_end.ensures in
     let both = c.join_unless_zone_end-2.ensures in
     record {

@@ -24,29 +24,29 @@ returns-then-fall-cell-clause-falls c p h past =
     let list_is = ap (λ (v : KeptFallsData). v.list) c.self.view_is in
     missing p c.args.self.now.list c.reached-i.result c.args.cell h past parts
     (λ k known is here.
-    let same = read_is c.self.inside.targets.items c.self.inside.list.items c.args.self.now.list c.reached-i.result
+    let same = read_is c.self.inside.zones.items c.self.inside.list.items c.args.self.now.list c.reached-i.result
     c.index.result.now list_is known c.index.ensures k ∙ sym is in
     c.if-fall-cell.true (ap (λ (x : KeptFallData). of_z w32 x.fall.cell) same ∙ ap (of_z w32) here))
 
 pub returns-clause-each : goal.returns-clause-each
 returns-clause-each c d each =
-    let targets = c.self.inside.targets.items in
+    let zones = c.self.inside.zones.items in
     let list_is = ap (λ (v : KeptFallsData). v.list) c.self.view_is in
-    let k = kept_at targets c.index.result.now in
+    let k = kept_at zones c.index.result.now in
     let known : c.reached-i.result < length c.args.self.now.list = omega (arith, c.if-len-i.false, c.len.ensures) in
-    subst (IsKeptFall d) (sym (target_is targets c.self.inside.list.items c.args.self.now.list c.reached-i.result
-    c.index.result.now list_is known c.index.ensures c.self.invariant.0.known c.index-2.result.now k c.index-2.ensures))
+    subst (IsKeptFall d) (sym (target_is zones c.self.inside.list.items c.args.self.now.list c.reached-i.result
+    c.index.result.now list_is known c.index.ensures c.self.invariant.0 c.index-2.result.now k c.index-2.ensures))
     (each c.reached-i.result k known)
 
 pub returns-clause-falls : goal.returns-clause-falls
 returns-clause-falls c p h past =
-    let targets = c.self.inside.targets.items in
+    let zones = c.self.inside.zones.items in
     let list_is = ap (λ (v : KeptFallsData). v.list) c.self.view_is in
     let e = c.index.result.now in
-    let k = kept_at targets e in
+    let k = kept_at zones e in
     let known : c.reached-i.result < length c.args.self.now.list = omega (arith, c.if-len-i.false, c.len.ensures) in
     let fits : to_z w32 (of_z w32 e.fall.cell) ≡ e.fall.cell = to_z-of_z w32 e.fall.cell (search rules) in
     let cell_is : to_z w32 (of_z w32 c.args.cell) ≡ c.args.cell = to_z-of_z w32 c.args.cell c.ranges.cell in
     found p c.args.self.now.list c.reached-i.result c.args.cell h k known
-    (read_is targets c.self.inside.list.items c.args.self.now.list c.reached-i.result e list_is known c.index.ensures k)
+    (read_is zones c.self.inside.list.items c.args.self.now.list c.reached-i.result e list_is known c.index.ensures k)
     (sym fits ∙ ap (to_z w32) c.if-fall-cell.false ∙ cell_is)

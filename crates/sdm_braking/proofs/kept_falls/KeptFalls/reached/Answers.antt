@@ -5,9 +5,9 @@ use Rattle.sdm_braking.proofs.kept_falls.KeptFalls.reached.Goals as goal
 
 pub returns-clause-parted : goal.returns-clause-parted
 returns-clause-parted c p after h =
-    let targets = c.self.inside.targets.items in
+    let zones = c.self.inside.zones.items in
     let list = c.self.inside.list.items in
     let parts = parted_at p after c.args.last list c.partition_point.result
-    (falls_placed targets p after list (rw (← c.self.view_is) at h))
+    (falls_placed zones p after list (rw (← c.self.view_is) at h))
     (rw c.deref.ensures.value at c.partition_point.ensures.partitioned) (λ a r f called. search rules) in
-    rw (← c.self.view_is) (parted_kept targets c.args.last list c.partition_point.result parts)
+    rw (← c.self.view_is) (parted_kept zones c.args.last list c.partition_point.result parts)

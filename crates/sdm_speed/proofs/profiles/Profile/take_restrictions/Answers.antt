@@ -2,19 +2,18 @@
 use Rattle.std.proofs.Common.{◌≡◌, ℕ, ℤ, pos, None, ◌<◌, ◌≤◌, ◌≤ℤ◌, ◌+◌, length, take, get_or, sym, ap, subst, ◌∙◌, arith}
 use Rattle.std.specs.FinMap as finite
 use Rattle.std.proofs.Common.{length-take-le}
-use Rattle.std.proofs.lemmas.List.{get_or_default, take_more, take_all}
+use Rattle.std.proofs.lemmas.List.{get_or_default, take_all}
 use Rattle.sdm_rules.specs.declared.restrictions.Restriction.{Restriction}
 use Rattle.sdm_rules.specs.Records.{most_restrictions, restrict_fault}
 use Rattle.sdm_rules.specs.TakeOver.{first_beyond}
 use Rattle.sdm_speed.specs.Held.{by_identity}
-use Rattle.sdm_speed.specs.Profiles.{ProfileData, mrsp_of}
+use Rattle.sdm_speed.specs.Profiles.{ProfileData}
 use Rattle.sdm_speed.specs.ProfileFields.{IsKeptProfile}
 use Rattle.sdm_speed.specs.declared.profiles.Profile.TheInside.{Inside}
 use Rattle.sdm_speed.proofs.BeyondLaws.{all_fit, beyond_by_identity}
-use Rattle.sdm_speed.proofs.HeldLaws.{inserted, len_is, none}
+use Rattle.sdm_speed.proofs.HeldLaws.{len_is, none}
 use Rattle.sdm_speed.proofs.RestrictLaws.{not_refused}
-use Rattle.sdm_speed.proofs.TakenLaws.{distinct_take, next_missing, none_changed, not_contained, ok_where_none}
-use Rattle.sdm_speed.proofs.TakenLaws.{same_further}
+use Rattle.sdm_speed.proofs.TakenLaws.{distinct_take, next_missing, not_contained, ok_where_none, one_taken}
 use Rattle.sdm_speed.proofs.profiles.Profile.take_restrictions.Goals as goal
 
 -- the next restriction of a profile is not refused beside those before it
@@ -35,10 +34,7 @@ next_taken f kept track_cm i known fitting =
     not_refused track_cm (by_identity (take i held)) r room new ((kept.each_held i none known).some_cell) fits
 
 pub loop-i-init : goal.loop-i-init
-loop-i-init c = record {
-  taken = λ k. record c.args.self.now { restrictions = c.requires.fresh k };
-  outside = none_changed (mrsp_of c.args.self.now);
-}
+loop-i-init c = λ k. record c.args.self.now { restrictions = c.requires.fresh k }
 
 pub unwrap-requires : goal.unwrap-requires
 unwrap-requires c =
@@ -51,37 +47,28 @@ unwrap-requires c =
     subst (λ (r : Restriction). restrict_fault track_cm (by_identity (take c.loop-i.i held)) r ≡ None) here
     (next_taken c.before-2.inside c.before-2.invariant track_cm c.loop-i.i known
     (rw (← c.before-2.view_is) at c.requires.fitting)) in
-    ok_where_none _ c.impose.result (rw c.loop-i.invariant.taken not_refused) c.impose.ensures.refused
+    ok_where_none _ c.set.result (rw c.loop-i.invariant not_refused) c.set.ensures.refused
 
 pub loop-i-preserved : goal.loop-i-preserved
 loop-i-preserved c =
     let held = c.before-2.inside.held.items in
     let ok_held = c.before-2.inside.held.ok.0 in
     let known : c.loop-i.i < length held = omega (arith, c.len-i-end.ensures, c.loop-i-test.true) in
-    let missing = next_missing held c.loop-i.i none known c.before-2.invariant.distinct in
     let here = get_or_default held c.loop-i.i none c.index.result.now known ∙ sym c.index.ensures in
     let so_far = take c.loop-i.i held in
     let one_more : finite.insert (by_identity so_far) c.index.result.now.id c.index.result.now
     ≡ by_identity (take (c.loop-i.i + 1) held) =
     subst (λ (r : Restriction). finite.insert (by_identity so_far) r.id r ≡ by_identity (take (c.loop-i.i + 1) held))
-    here (sym (inserted so_far (get_or held c.loop-i.i none) missing)
-    ∙ ap by_identity (sym (take_more held c.loop-i.i none known))) in
-    let added = rw c.unwrap.ensures at c.impose.ensures.added in
-    record {
-      taken = rw c.loop-i.invariant.taken at added ∙ (λ k. record c.args.self.now { restrictions = one_more k });
-      outside = same_further _ _ _ c.unwrap.result c.loop-i.invariant.outside
-          (rw c.unwrap.ensures at c.impose.ensures.in_range) (rw c.unwrap.ensures at c.impose.ensures.outside);
-    }
+    here (one_taken held c.loop-i.i none known c.before-2.invariant.distinct) in
+    (rw c.loop-i.invariant at (rw c.unwrap.ensures at c.set.ensures.added))
+    ∙ (λ k. record c.args.self.now { restrictions = one_more k })
 
-pub returns-clause-taken : goal.returns-clause-taken
-returns-clause-taken c =
+pub returns : goal.returns
+returns c =
     let held = c.before-2.inside.held.items in
     let ok_held = c.before-2.inside.held.ok.0 in
     let past : length held ≤ c.loop-i.i = omega (arith, c.len-i-end.ensures, c.loop-i-test.false) in
     let all : by_identity (take c.loop-i.i held) ≡ c.args.before.now.restrictions
     = ap by_identity (take_all c.loop-i.i held past)
     ∙ ap (λ (p : ProfileData). p.restrictions) c.before-2.view_is in
-    c.loop-i.invariant.taken ∙ (λ k. record c.args.self.now { restrictions = all k })
-
-pub returns-clause-outside : goal.returns-clause-outside
-returns-clause-outside c = c.loop-i.invariant.outside
+    record { taken = c.loop-i.invariant ∙ (λ k. record c.args.self.now { restrictions = all k }) }

@@ -1,19 +1,24 @@
 -- What is kept of the authority stays, and the falls are those of the changed profile.
 use Rattle.std.proofs.Common.{rules}
-use Rattle.sdm_braking.proofs.KeptFallLaws.{after_imposed}
+use Rattle.sdm_speed.proofs.RestrictLaws.{accepted}
 use Rattle.sdm_supervisor.proofs.supervisors.Supervisor.restrict.Goals as goal
 
-pub take_profile-requires-clause-before : goal.take_profile-requires-clause-before
-take_profile-requires-clause-before c =
+pub restrict-requires-clause-before : goal.restrict-requires-clause-before
+restrict-requires-clause-before c =
     let profile = c.self.inside.profile in
-    let falls = c.self.inside.kept.falls in
-    let said = c.in_ok-changed.ensures in
-    after_imposed c.self.inside.braking profile c.impose.new.self c.in_ok-changed.changed falls
-    c.self.invariant.kept.falls said.profile_in_range said.outside c.args.r said.accepted said.added
+    let said = c.in_ok-set.ensures in
+    let ok = accepted profile.track_cm profile.restrictions c.args.r said.accepted in
+    record {
+      old = profile;
+      zones = c.self.invariant.kept.falls.zones;
+      new = ok.new;
+      few = ok.room;
+      is = said.added;
+    }
 
 pub invariant_of-self-2 : goal.invariant_of-self-2
 invariant_of-self-2 c = record {
   profile = search rules;
   authority = c.self.invariant.authority;
-  kept = c.take_profile.ensures c.self.inside.profile c.self.inside.authority c.self.invariant.kept;
+  kept = c.restrict.ensures c.self.inside.profile c.self.inside.authority c.self.invariant.kept;
 }

@@ -1,19 +1,25 @@
 -- What is kept of the authority stays, and the falls are those of the changed profile.
-use Rattle.std.proofs.Common.{rules}
-use Rattle.sdm_braking.proofs.KeptFallLaws.{after_lifted}
+use Rattle.std.proofs.Common.{rules, None, ◌≡◌, true, false, Bool, if◌then◌else◌, Some, refl}
 use Rattle.sdm_supervisor.proofs.supervisors.Supervisor.revoke.Goals as goal
 
-pub take_profile-requires-clause-before : goal.take_profile-requires-clause-before
-take_profile-requires-clause-before c =
+held_if : {F : Type 0} (b : Bool) (fault : F) → (if b then None else Some fault) ≡ None → b ≡ true
+held_if true fault none = refl
+held_if false fault none = absurd cc
+
+pub revoke-requires-2 : goal.revoke-requires-2
+revoke-requires-2 c =
     let profile = c.self.inside.profile in
-    let falls = c.self.inside.kept.falls in
-    let said = c.in_ok-changed.ensures in
-    after_lifted c.self.inside.braking profile c.lift.new.self c.in_ok-changed.changed falls
-    c.self.invariant.kept.falls said.profile_in_range said.outside c.args.id said.accepted said.removed
+    let said = c.in_ok-revoke.ensures in
+    record {
+      old = profile;
+      zones = c.self.invariant.kept.falls.zones;
+      held = held_if _ _ said.accepted;
+      is = said.removed;
+    }
 
 pub invariant_of-self-2 : goal.invariant_of-self-2
 invariant_of-self-2 c = record {
   profile = search rules;
   authority = c.self.invariant.authority;
-  kept = c.take_profile.ensures c.self.inside.profile c.self.inside.authority c.self.invariant.kept;
+  kept = c.revoke-2.ensures c.self.inside.braking c.self.inside.profile c.self.inside.authority c.self.invariant.kept;
 }

@@ -1,20 +1,24 @@
 -- What is kept of the authority stays, and the falls are those of the profile with the restrictions taken over.
-use Rattle.std.proofs.Common.{ap, ◌∙◌, rules}
+use Rattle.std.proofs.Common.{◌≡◌, ap, ◌∙◌, rules, subst, sym}
+use Rattle.std.specs.FinMap as finite
 use Rattle.sdm_rules.specs.Supervision.{Supervision}
-use Rattle.sdm_braking.proofs.KeptFallLaws.{after_taken}
+use Rattle.sdm_speed.specs.Profiles.{ProfileData}
+use Rattle.sdm_braking.specs.KeptFalls.{AreZonesOf}
 use Rattle.sdm_supervisor.proofs.supervisors.Supervisor.take_over.Goals as goal
 
-pub take_profile-requires-clause-before : goal.take_profile-requires-clause-before
-take_profile-requires-clause-before c =
-    let said = c.take_restrictions-changed.ensures in
-    after_taken c.self.inside.braking c.self.inside.profile c.take_restrictions-changed.new.self
-    c.take_restrictions-changed.result c.self.inside.kept.falls c.self.invariant.kept.falls c.track_cm.ensures.in_range
-    said.outside c.before-2.inside.profile.restrictions c.in_default.ensures.in_range.few
-    (ap (λ (s : Supervision). s.restrictions) c.self.view_is ∙ c.requires.fresh) said.taken
+pub take_restrictions-requires-2 : goal.take_restrictions-requires-2
+take_restrictions-requires-2 c =
+    let profile = c.self.inside.profile in
+    let fresh : profile.restrictions ≡ finite.empty
+    = ap (λ (s : Supervision). s.restrictions) c.self.view_is ∙ c.requires.fresh in
+    let bare : profile ≡ record profile { restrictions = finite.empty } = λ k. record profile { restrictions = fresh k } in
+    let before : profile ≡ record c.take_restrictions.new.self { restrictions = finite.empty }
+    = bare ∙ sym (ap (λ (p : ProfileData). record p { restrictions = finite.empty }) c.take_restrictions.ensures.taken) in
+    subst (λ (p : ProfileData). AreZonesOf p c.self.inside.kept.falls) before c.self.invariant.kept.falls.zones
 
 pub invariant_of-self : goal.invariant_of-self
 invariant_of-self c = record {
   profile = search rules;
   authority = c.self.invariant.authority;
-  kept = c.take_profile.ensures c.self.inside.profile c.self.inside.authority c.self.invariant.kept;
+  kept = c.take_restrictions-2.ensures c.self.inside.profile c.self.inside.authority c.self.invariant.kept;
 }

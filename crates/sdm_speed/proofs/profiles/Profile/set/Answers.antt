@@ -16,9 +16,8 @@ use Rattle.sdm_speed.proofs.ZoneLaws.{lowest_limit-push}
 use Rattle.sdm_speed.proofs.HeldLaws.{len_is, missing_of, distinct_more, inserted}
 use Rattle.sdm_speed.proofs.KeptLaws.{held_count, with_held}
 use Rattle.sdm_speed.proofs.ZoneEndLaws.{zone_ends_more, few_starts}
-use Rattle.sdm_speed.proofs.ChangeLaws.{imposed_outside}
 use Rattle.sdm_speed.proofs.RestrictLaws.{IsAcceptedRestriction, accepted}
-use Rattle.sdm_speed.proofs.profiles.Profile.impose.Goals as goal
+use Rattle.sdm_speed.proofs.profiles.Profile.set.Goals as goal
 
 pub push_reserved-requires : goal.push_reserved-requires
 push_reserved-requires c =
@@ -97,9 +96,9 @@ returns-clause-added c =
     let missing = missing_of c.self.inside.held.items c.args.r.id ok.new in
     rw (← c.self.view_is, c.push_reserved.ensures.items, inserted c.self.inside.held.items c.args.r missing) refl
 
-pub returns-clause-outside : goal.returns-clause-outside
-returns-clause-outside c =
+pub returns-clause-held : goal.returns-clause-held
+returns-clause-held c =
     let p = profile_data_of c.self.inside in
     let ok = accepted p.track_cm p.restrictions c.args.r
     (sym (rw (c.in_ok-check.was, ← c.self.view_is) at c.check.ensures)) in
-    rw (returns-clause-added c, c.cells_of.ensures, ← c.self.view_is) (imposed_outside p c.args.r.id c.args.r ok.new)
+    held_of p c.args.r c.self.invariant.in_range ok c.requires.slowest c.requires.fastest

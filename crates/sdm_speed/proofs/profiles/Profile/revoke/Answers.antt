@@ -1,15 +1,14 @@
 -- The restriction is taken out, and the steps in its zone are raised to what is left.
-use Rattle.std.proofs.Common.{pos, Some, map, refl, sym, ap, subst, ◌∙◌, arith}
+use Rattle.std.proofs.Common.{pos, map, refl, sym, ap, ◌∙◌, arith}
 use Rattle.std.proofs.lemmas.Int.{ints}
 use Rattle.sdm_rules.specs.Profile.{lowest_limit, zone_of}
 use Rattle.sdm_speed.specs.Held.{AreDistinct, IsHeldRestriction}
-use Rattle.sdm_speed.specs.ProfileFields.{profile_data_of, static_zones_of}
+use Rattle.sdm_speed.specs.ProfileFields.{static_zones_of}
 use Rattle.sdm_speed.proofs.ZoneLaws.{lowest_limit-after}
-use Rattle.sdm_speed.proofs.ChangeLaws.{lifted_outside, cells_in_range}
 use Rattle.sdm_speed.proofs.ZoneEndLaws.{each_left, limit_less, no_other_left}
 use Rattle.sdm_speed.proofs.HeldLaws.{get_at, len_is, contains_is, distinct_less, none, removed, All-remove}
 use Rattle.sdm_speed.proofs.KeptLaws.{held_count, with_held}
-use Rattle.sdm_speed.proofs.profiles.Profile.lift.Goals as goal
+use Rattle.sdm_speed.proofs.profiles.Profile.revoke.Goals as goal
 
 pub returns-in_default-clause-refused : goal.returns-in_default-clause-refused
 returns-in_default-clause-refused c =
@@ -81,21 +80,3 @@ returns-clause-removed c =
       c.remove-lifted.ensures.items,
       removed c.self.inside.held.items c.args.id c.in-Some.index c.self.invariant.distinct (sym index),
     ) refl
-
-pub returns-clause-outside : goal.returns-clause-outside
-returns-clause-outside c =
-    let index = rw c.deref.ensures.value at c.in-Some.ensures in
-    let here = get_at c.self.inside.held.items c.args.id c.in-Some.index c.remove-lifted.result (sym index) in
-    rw (returns-clause-removed c, c.cells_of.ensures, ← c.self.view_is)
-    (lifted_outside (profile_data_of c.self.inside) c.args.id c.remove-lifted.result
-    (here.1 ∙ ap Some (sym c.remove-lifted.ensures.value)))
-
-pub returns-clause-in_range : goal.returns-clause-in_range
-returns-clause-in_range c =
-    let kept = c.self.invariant in
-    let index = rw c.deref.ensures.value at c.in-Some.ensures in
-    let here = get_at c.self.inside.held.items c.args.id c.in-Some.index c.remove-lifted.result (sym index) in
-    let held = subst IsHeldRestriction (sym c.remove-lifted.ensures.value)
-    (kept.each_held c.in-Some.index c.remove-lifted.result here.0) in
-    rw c.cells_of.ensures (cells_in_range (pos c.self.inside.length_cm) c.remove-lifted.result
-    (omega (arith, ints)) kept.in_range.longest_train held)

@@ -3,7 +3,8 @@ use Rattle.std.proofs.Common.{◌≡◌, ℕ, ℤ, w32, to_z, of_z, subst}
 use Rattle.std.proofs.lemmas.Int.{to_z-of_z}
 use Rattle.sdm_speed.specs.Steps.{IsFallAfter}
 use Rattle.sdm_speed.proofs.KeptLaws.{kept_mrsp, fall_in_range}
-use Rattle.sdm_speed.proofs.profiles.Profile.next_fall.Goals as goal
+use Rattle.sdm_speed.proofs.FallStarts.{zone_of_next}
+use Rattle.sdm_speed.proofs.profiles.Profile.next_fall_near.Goals as goal
 
 pub returns-clause-value : goal.returns-clause-value
 returns-clause-value c =
@@ -17,3 +18,6 @@ returns-clause-in_range c =
     fall_in_range c.self.inside c.self.invariant after _ (subst
     (λ (profile : ℤ → ℕ). IsFallAfter profile after c.next_fall.result)
     (kept_mrsp c.self.inside c.self.invariant) c.next_fall.ensures)
+
+pub returns-clause-zone : goal.returns-clause-zone
+returns-clause-zone c = zone_of_next c.args.self.now c.args.after c.next_fall.result (returns-clause-value c)

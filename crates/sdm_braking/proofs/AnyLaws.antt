@@ -1,0 +1,61 @@
+-- Whether one of a list passes a test: where one more comes, one goes, or the test is weaker; and such a one is found.
+use Rattle.std.proofs.Common.{◌≡◌, ◌⊎◌, inl, inr, ℕ, zero, suc, List, [], ◌∷◌, Some, None, Bool, true, false, ◌||◌}
+use Rattle.std.proofs.Common.{cond, length, get_or, ◌+◌, ◌<◌, ◌≤◌, refl, sym, ap, ◌∙◌, arith, is_some, position}
+use Rattle.std.specs.List.{insert, list_any, position_from, remove}
+use Rattle.std.proofs.lemmas.Bool.{true≢false}
+use Rattle.std.proofs.lemmas.Iterator.Adapters.{position_from-zero}
+use Rattle.sdm_speed.proofs.FallStarts.{either_first, either_later}
+
+either : (a b c : Bool) → (b ≡ true → c ≡ true) → (a || b) ≡ true → (a || c) ≡ true
+either true b c rest on = refl
+either false b c rest on = rest on
+
+other : (a b : Bool) → a ≡ false → (a || b) ≡ true → b ≡ true
+other true b off on = absurd (true≢false off)
+other false b off on = on
+
+-- one of two tests is passed
+pub either_of : (a b : Bool) → (a || b) ≡ true → (a ≡ true) ⊎ (b ≡ true)
+either_of true b h = inl refl
+either_of false b h = inr h
+
+module _ {A : Type 0} (P : A → Bool) where
+  pub any_more : (xs : List A) (i : ℕ) (y : A) → list_any P xs ≡ true → list_any P (insert xs i y) ≡ true
+  any_more [] i y on = absurd (true≢false (sym on))
+  any_more (x ∷ xs) zero y on = either_later (P y) (list_any P (x ∷ xs)) on
+  any_more (x ∷ xs) (suc i) y on = either (P x) (list_any P xs) (list_any P (insert xs i y)) (any_more xs i y) on
+
+  pub any_new : (xs : List A) (i : ℕ) (y : A) → i ≤ length xs → P y ≡ true → list_any P (insert xs i y) ≡ true
+  any_new [] zero y le here = either_first (P y) false here
+  any_new [] (suc i) y le here = absurd (omega arith)
+  any_new (x ∷ xs) zero y le here = either_first (P y) (list_any P (x ∷ xs)) here
+  any_new (x ∷ xs) (suc i) y le here = either_later (P x) (list_any P (insert xs i y)) (any_new xs i y (omega arith) here)
+
+  pub any_less : (xs : List A) (i : ℕ) → i < length xs → ((d : A) → P (get_or xs i d) ≡ false) →
+      list_any P xs ≡ true → list_any P (remove xs i) ≡ true
+  any_less [] i known off on = absurd (true≢false (sym on))
+  any_less (x ∷ xs) zero known off on = other (P x) (list_any P xs) (off x) on
+  any_less (x ∷ xs) (suc i) known off on =
+      either (P x) (list_any P xs) (list_any P (remove xs i)) (any_less xs i (omega arith) off) on
+
+  weaker_first : (Q : A → Bool) (x : A) (xs : List A) (b : Bool) → P x ≡ b → (P x ≡ true → Q x ≡ true) →
+      (list_any P xs ≡ true → list_any Q xs ≡ true) → (b || list_any P xs) ≡ true → list_any Q (x ∷ xs) ≡ true
+  weaker_first Q x xs true is weaker rest h = either_first (Q x) (list_any Q xs) (weaker is)
+  weaker_first Q x xs false is weaker rest h = either_later (Q x) (list_any Q xs) (rest h)
+
+  pub any_weaker : (Q : A → Bool) → ((x : A) → P x ≡ true → Q x ≡ true) → (xs : List A) → list_any P xs ≡ true →
+      list_any Q xs ≡ true
+  any_weaker Q weaker [] on = absurd (true≢false (sym on))
+  any_weaker Q weaker (x ∷ xs) on =
+      weaker_first Q x xs (P x) refl (weaker x) (any_weaker Q weaker xs) on
+
+found_from : {A : Type 0} (P : A → Bool) (xs : List A) (i : ℕ) → is_some (position_from P i xs) ≡ list_any P xs
+found_from P [] i = refl
+found_from P (x ∷ xs) i =
+    elim (P x) as (λ b. is_some (cond b (Some i) (position_from P (i + 1) xs)) ≡ (b || list_any P xs))
+    [ true ↦ refl | false ↦ found_from P xs (i + 1) ]
+
+-- one is found where there is one
+pub one_found : {A : Type 0} (P : A → Bool) (xs : List A) → list_any P xs ≡ true → position P xs ≡ None → ⊥
+one_found P xs on none = true≢false
+    (sym on ∙ sym (found_from P xs 0) ∙ ap is_some (sym (position_from-zero P xs)) ∙ ap is_some none)

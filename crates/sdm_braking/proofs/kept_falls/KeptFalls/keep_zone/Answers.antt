@@ -1,0 +1,19 @@
+-- The zone stands behind the others, with its target.
+use Rattle.std.proofs.Common.{◌∙◌, refl, sym, length, arith}
+use Rattle.std.proofs.lemmas.List.Edits.{insert_end}
+use Rattle.sdm_braking.specs.declared.falls_ahead.KeptZone.{KeptZone}
+use Rattle.sdm_braking.proofs.kept_falls.KeptFalls.keep_zone.Goals as goal
+
+pub returns-clause-zone : goal.returns-clause-zone
+returns-clause-zone c =
+    let zs = c.self.inside.zones.items in
+    let z : KeptZone = record { id = c.args.id; fall = c.args.fall; kept = c.keep-kept.result } in
+    rw (← c.self.view_is) (record {
+      zone = z;
+      index = length zs;
+      is = c.push_reserved.ensures.items ∙ sym (insert_end zs z);
+      bound = omega arith;
+      id = refl;
+      fall = refl;
+      kept = record { at = c.keep-kept.ensures.target ∙ c.target_at.ensures.value; kept = c.keep-kept.ensures.kept };
+    })
