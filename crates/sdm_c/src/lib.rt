@@ -4,9 +4,11 @@
 //! No call has a condition, since none of C's would be checked; what C owes is told in docs/INTEGRATION.md.
 #![tactic(auto)]
 
+mod call_lists;
 mod calls;
 mod codes;
 mod handle;
+pub mod laws;
 mod numbers;
 mod openings;
 mod raw_boxes;
