@@ -1,6 +1,6 @@
 -- What the supervisor promises of a reading and its row holds of C's numbers for the reading, and of the row in C's
 -- codes.
-use Rattle.std.proofs.Common.{◌≡◌, ℕ, Bool, true, false, refl, subst, sym, arith}
+use Rattle.std.proofs.Common.{◌≡◌, Bool, true, false, refl, subst, sym, arith}
 use Rattle.std.specs.Prelude.{IsTrue}
 use Rattle.sdm_num.specs.Readings.{OdometerReading}
 use Rattle.sdm_rules.specs.declared.rows.Row.{Row}
@@ -8,7 +8,6 @@ use Rattle.sdm_rules.specs.Supervision.{Supervision, row_of}
 use Rattle.sdm_laws.specs.Falls.{MeetsFalls}
 use Rattle.sdm_row_laws.specs.AllCommands.{KeepsAllOrder}
 use Rattle.sdm_row_laws.specs.CoveredFalls.{MeetsEachFall}
-use Rattle.sdm_row_laws.specs.OpenTurns.{HasNearLimits}
 use Rattle.sdm_row_laws.specs.ServiceStop.{CommandsNoBrake, StopsByItsEoa}
 use Rattle.sdm_c.specs.declared.handle.Handle.{Handle}
 use Rattle.sdm_c.specs.declared.structs.RowC.{RowC}
@@ -46,9 +45,6 @@ module _ (s : Supervision) (r given : OdometerReading) (row : Row) (same : r ≡
   each_fall_in_c told is meets covered =
       let covered_is : flag row.covered ≡ 1 = subst (λ (x : RowC). x.covered ≡ 1) is covered in
       subst (MeetsEachFall s) same (meets (set_is row.covered covered_is))
-
-  pub limits_in_c : HasNearLimits s r → HasNearLimits s given
-  limits_in_c near = subst (HasNearLimits s) same near
 
 -- the supervisor that is lent is in the state of the handle
 pub lent_state : (h asked : Handle) (lent : Supervision) → asked ≡ h → lent ≡ asked.state → lent ≡ h.state

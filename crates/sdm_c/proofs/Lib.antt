@@ -3,3 +3,8 @@ pub mod HandleSteps
 pub mod ReadingRanges
 pub mod Returned
 pub mod CycleInC
+pub mod OneCall
+pub mod MadeCalls
+pub mod CallFolds
+pub mod CallJourneys
+pub mod CallCases

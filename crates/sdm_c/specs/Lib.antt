@@ -5,3 +5,5 @@ pub mod Codes
 pub mod Numbers
 pub mod Statuses
 pub mod Openings
+pub mod CallLists
+pub mod CallRows

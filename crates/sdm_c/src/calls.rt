@@ -1,72 +1,26 @@
 //! The calls with a supervisor at hand: C's numbers are tested, the supervisor answers, its answer becomes a status.
 
-ghost use Rattle.std.specs.Prelude.{◌≡◌, ◌==◌};
+ghost use Rattle.std.specs.Prelude.{◌≡◌};
 ghost use Rattle.sdm_rules.specs.declared.authorities.Authority.TheVariants.{Limit, Stop};
 ghost use Rattle.sdm_rules.specs.Display.{display_of};
-ghost use Rattle.sdm_rules.specs.Machines.{KeepsOrder};
-ghost use Rattle.sdm_rules.specs.Promises.{BeginsReleaseMonitoring, HasOnlyGaps, IsWithinCeiling};
-ghost use Rattle.sdm_rules.specs.Release.{calculated};
-ghost use Rattle.sdm_rules.specs.Stop.{IsSafe};
-ghost use Rattle.sdm_rules.specs.Supervision.{after_authority, after_reading, after_restriction, after_revocation};
-ghost use Rattle.sdm_rules.specs.Supervision.{row_of};
-ghost use Rattle.sdm_laws.specs.Falls.{MeetsFalls};
-ghost use Rattle.sdm_row_laws.specs.AllCommands.{KeepsAllOrder};
-ghost use Rattle.sdm_row_laws.specs.CoveredFalls.{MeetsEachFall};
-ghost use Rattle.sdm_row_laws.specs.OpenTurns.{HasNearLimits};
-ghost use Rattle.sdm_row_laws.specs.ServiceStop.{CommandsNoBrake, StopsByItsEoa};
+ghost use Rattle.sdm_rules.specs.Release.{IsReleaseSpeed, calculated};
+ghost use Rattle.sdm_rules.specs.Supervision.{after_authority, after_restriction, after_revocation};
 ghost use Rattle.sdm_rules.specs.TakeOver.{taken_over};
 ghost use Rattle.sdm_causes.specs.Causes.{causes_of};
-ghost use Rattle.sdm_c.specs.Codes.{causes_in_c, display_in_c, row_in_c};
+ghost use Rattle.sdm_c.specs.Codes.{causes_in_c, display_in_c};
 ghost use Rattle.sdm_c.specs.Numbers.{reading_from, restriction_from};
-ghost use Rattle.sdm_c.specs.Statuses.{authority_answer, calculated_answer, cycle_answer, display_answer};
+ghost use Rattle.sdm_c.specs.Statuses.{authority_answer, calculated_answer, display_answer};
 ghost use Rattle.sdm_c.specs.Statuses.{restrict_answer, revoke_answer, take_over_answer};
 
-use crate::codes::{causes_in_c, display_in_c, row_in_c};
+use crate::codes::{causes_in_c, display_in_c};
 use crate::numbers::{identity_from, kmh_taken, reading_from, restriction_from};
 use crate::statuses::{
-    DONE, NOT_FRESH, OUT_OF_RANGE, TIME_BACK, UNKNOWN_ID, of_authority, of_restriction,
-    of_take_over, of_trip,
+    DONE, NOT_FRESH, OUT_OF_RANGE, UNKNOWN_ID, of_authority, of_restriction, of_take_over, of_trip,
 };
-use crate::structs::{CausesC, DisplayC, ReadingC, RestrictionC, RowC};
+use crate::structs::{CausesC, DisplayC, ReadingC, RestrictionC};
 use sdm_display::display_of;
 use sdm_rules::Authority;
 use sdm_supervisor::Supervisor;
-
-/// Judges a reading and writes its row. (SUBSET-026-3 3.13.10; statuses own)
-pub fn cycle(supervisor: &mut Supervisor, reading: ReadingC, row: &mut RowC) -> u32
-    ensures status { result ≡ cycle_answer supervisor.old reading }
-    ensures row { result ≡ DONE → row.new ≡ row_in_c (row_of supervisor.old (reading_from reading)) }
-    ensures taken { result ≡ DONE → supervisor.new ≡ after_reading supervisor.old (reading_from reading) }
-    ensures order { result ≡ DONE → KeepsOrder supervisor.old (reading_from reading) (row.new.eb == 1) }
-    ensures commands { result ≡ DONE →
-        KeepsAllOrder supervisor.old (reading_from reading) (row_of supervisor.old (reading_from reading)) }
-    ensures safe { result ≡ DONE → row.new.covered ≡ 1 → IsSafe supervisor.old (reading_from reading) }
-    ensures eoa { result ≡ DONE →
-        CommandsNoBrake (reading_from reading) (row_of supervisor.old (reading_from reading)) →
-        StopsByItsEoa supervisor.old (reading_from reading) }
-    ensures falls { result ≡ DONE → row.new.covered ≡ 1 → row.new.eb ≡ 0 →
-        MeetsFalls supervisor.old (reading_from reading) }
-    ensures each_fall { result ≡ DONE → row.new.covered ≡ 1 →
-        MeetsEachFall supervisor.old (reading_from reading) }
-    ensures limits { result ≡ DONE → HasNearLimits supervisor.old (reading_from reading) }
-    ensures gaps { result ≡ DONE → row.new.eb ≡ 0 → HasOnlyGaps supervisor.old (reading_from reading) }
-    ensures ceiling { result ≡ DONE → row.new.eb ≡ 0 →
-        IsWithinCeiling (reading_from reading) (row_of supervisor.old (reading_from reading)) }
-    ensures release { result ≡ DONE → BeginsReleaseMonitoring supervisor.old (reading_from reading) }
-    ensures same_row { ¬ (result ≡ DONE) → row.new ≡ row.old }
-    ensures unchanged { ¬ (result ≡ DONE) → supervisor.new ≡ supervisor.old }
-{
-    let Some(reading) = reading_from(reading) else {
-        return OUT_OF_RANGE;
-    };
-    match supervisor.cycle(&reading) {
-        Ok(judged) => {
-            *row = row_in_c(judged);
-            DONE
-        }
-        Err(_) => TIME_BACK,
-    }
-}
 
 /// Takes an authority. (SUBSET-026-3 3.8; statuses own)
 fn authority(supervisor: &mut Supervisor, a: Authority) -> u32
@@ -95,6 +49,8 @@ pub fn calculated_stop(supervisor: &mut Supervisor, eoa: u32, svl: u32, trip: u3
     ensures status { result ≡ calculated_answer supervisor.old eoa svl trip }
     ensures taken { result ≡ DONE → supervisor.new
         ≡ after_authority supervisor.old (Stop eoa svl (calculated supervisor.old.train_and_track svl trip)) }
+    ensures stops { result ≡ DONE → IsReleaseSpeed supervisor.old.train_and_track svl trip
+        (calculated supervisor.old.train_and_track svl trip) }
     ensures unchanged { ¬ (result ≡ DONE) → supervisor.new ≡ supervisor.old }
 {
     match supervisor.calculated_stop(eoa, svl, trip) {

@@ -4,9 +4,11 @@
 //! No call has a condition, since none of C's would be checked; what C owes is told in docs/INTEGRATION.md.
 #![tactic(auto)]
 
+mod call_lists;
 mod calls;
 mod codes;
 mod handle;
+pub mod laws;
 mod numbers;
 mod openings;
 mod raw_boxes;
@@ -18,7 +20,7 @@ ghost use Rattle.sdm_rules.specs.declared.authorities.Authority.TheVariants.{Lim
 ghost use Rattle.sdm_rules.specs.Display.{display_of};
 ghost use Rattle.sdm_rules.specs.Machines.{KeepsOrder};
 ghost use Rattle.sdm_rules.specs.Promises.{BeginsReleaseMonitoring, HasOnlyGaps, IsWithinCeiling};
-ghost use Rattle.sdm_rules.specs.Release.{calculated};
+ghost use Rattle.sdm_rules.specs.Release.{IsReleaseSpeed, calculated};
 ghost use Rattle.sdm_rules.specs.Stop.{IsSafe};
 ghost use Rattle.sdm_rules.specs.Supervision.{after_authority, after_reading, after_restriction, after_revocation};
 ghost use Rattle.sdm_rules.specs.Supervision.{row_of};
@@ -39,14 +41,15 @@ ghost use Rattle.sdm_c.specs.Statuses.{IsOpen, cycle_status, display_status, end
 ghost use Rattle.sdm_c.specs.Statuses.{limit_status, is_open_status, restriction_status, revocation_status};
 ghost use Rattle.sdm_c.specs.Statuses.{take_over_status};
 
-use codes::put_line;
+use codes::{put_line, row_in_c};
 use handle::Handle;
+use numbers::reading_from;
 use openings::opened_on_heap;
 use raw_boxes::RawBox;
 use sdm_opening::NoOpening;
 use sdm_report::{Outcome, outcome_bytes};
 use sdm_text::RowBuf;
-use statuses::{BAD_DATA, CLOSED, DONE, IN_USE, NO_MEMORY, REFUSED};
+use statuses::{BAD_DATA, CLOSED, DONE, IN_USE, NO_MEMORY, OUT_OF_RANGE, REFUSED, TIME_BACK};
 use std::alloc::Global;
 use structs::{CausesC, DisplayC, LineC, ReadingC, RestrictionC, RowC};
 
@@ -134,7 +137,16 @@ pub extern "C" fn sdm_cycle(h: &mut Handle, reading: &ReadingC, row: &mut RowC) 
     if !h.is_open() {
         return CLOSED;
     }
-    calls::cycle(h.supervisor(), *reading, row)
+    let Some(reading) = reading_from(*reading) else {
+        return OUT_OF_RANGE;
+    };
+    match h.supervisor().cycle(&reading) {
+        Ok(judged) => {
+            *row = row_in_c(judged);
+            DONE
+        }
+        Err(_) => TIME_BACK,
+    }
 }
 
 /// Takes a movement authority to an end: places in cm, the release speed in km/h, 0 for none. (SUBSET-026-3 3.8;
@@ -152,13 +164,16 @@ pub extern "C" fn sdm_end(h: &mut Handle, eoa_cm: u32, svl_cm: u32, release_kmh:
     calls::stop(h.supervisor(), eoa_cm, svl_cm, release_kmh)
 }
 
-/// Takes a movement authority to an end with the calculated release speed for a trip at a place; places in cm.
-/// (SUBSET-026-3 3.8, 3.13.9.4.8; statuses own)
+/// Takes a movement authority to an end with the calculated release speed for a trip at a place; places in cm. A train
+/// that is tripped there at this speed stops at or before the SvL; the next whole speed doesn't fit by limits one
+/// millimetre earlier. (SUBSET-026-3 3.8, 3.13.9.4.8; statuses own)
 #[unsafe(no_mangle)]
 pub extern "C" fn sdm_end_calculated(h: &mut Handle, eoa_cm: u32, svl_cm: u32, trip_cm: u32) -> u32
     ensures status { result ≡ end_calculated_status h.old eoa_cm svl_cm trip_cm }
     ensures taken { result ≡ DONE → h.new ≡ with_state h.old (after_authority h.old.state
         (Stop eoa_cm svl_cm (calculated h.old.state.train_and_track svl_cm trip_cm))) }
+    ensures stops { result ≡ DONE → IsReleaseSpeed h.old.state.train_and_track svl_cm trip_cm
+        (calculated h.old.state.train_and_track svl_cm trip_cm) }
     ensures unchanged { ¬ (result ≡ DONE) → h.new ≡ h.old }
 {
     if !h.is_open() {
