@@ -2,6 +2,7 @@
 
 ghost use Rattle.std.specs.Prelude.{◌≡◌};
 ghost use Rattle.sdm_rules.specs.Display.{display_of};
+ghost use Rattle.sdm_row_laws.specs.OpenTurns.{HasNearLimits};
 
 use crate::speeds::{Passed, greatest, greatest_near};
 use sdm_num::Reading;
@@ -19,10 +20,12 @@ impl Passed for Sight<'_> {
 }
 
 /// What is shown of a reading: the permitted speed, the SBI and the EBI as the greatest whole speeds at which the train
-/// wouldn't pass them where it is, the release speed of the authority, and the target that counts. Nothing is changed,
-/// and no memory is taken. (own)
+/// wouldn't pass them where it is, the release speed of the authority, and the target that counts. At each speed a
+/// computed limit is less than a millimetre before the exact one, and not past it. Nothing is changed, and no memory is
+/// taken. (own)
 pub fn display_of(supervisor: &Supervisor, reading: &Reading) -> Display
-    ensures { result ≡ display_of supervisor.now reading.now }
+    ensures value { result ≡ display_of supervisor.now reading.now }
+    ensures limits { HasNearLimits supervisor.now reading.now }
 {
     let time = reading.time();
     let sight = supervisor.sight(reading);
@@ -39,7 +42,8 @@ pub fn display_of(supervisor: &Supervisor, reading: &Reading) -> Display
 /// The same, with the speeds sought from those of another display: best that of the reading before. Which one it is
 /// changes nothing but the time. (own)
 pub fn display_near(supervisor: &Supervisor, reading: &Reading, near: &Display) -> Display
-    ensures { result ≡ display_of supervisor.now reading.now }
+    ensures value { result ≡ display_of supervisor.now reading.now }
+    ensures limits { HasNearLimits supervisor.now reading.now }
 {
     let time = reading.time();
     let sight = supervisor.sight(reading);

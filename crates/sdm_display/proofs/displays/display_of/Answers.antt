@@ -1,6 +1,7 @@
 -- Each speed is found over what the supervisor sees at the reading.
 use Rattle.sdm_rules.specs.declared.display.LimitName.TheVariants.{Permitted, Sbi, Ebi}
 use Rattle.sdm_rules.specs.Display.{display_of}
+use Rattle.sdm_row_laws.proofs.OpenTurns.{near_limits}
 use Rattle.sdm_display.proofs.Seen.{seen_speed, seen_upwards}
 use Rattle.sdm_display.proofs.displays.display_of.Goals as goal
 
@@ -12,9 +13,9 @@ pub greatest-requires-3-clause-upwards : goal.greatest-requires-3-clause-upwards
 greatest-requires-3-clause-upwards c =
     seen_upwards _ _ _ Ebi c.sight-sight.ensures.seen (c.sight-sight.ensures.upwards Ebi)
 
-pub returns : goal.returns
+pub returns-clause-value : goal.returns-clause-value
 unfolding display_of
-returns c =
+returns-clause-value c =
     let s = c.args.supervisor.now in
     let r = c.args.reading.now in
     let seen = c.sight-sight.ensures.seen in
@@ -23,3 +24,7 @@ returns c =
     let ebi = seen_speed s r _ Ebi _ seen c.greatest-3.ensures.value in
     let shown = rw seen at c.shown.ensures in
     cc (c.time-time.ensures.value, permitted, sbi, ebi, c.release.ensures, shown)
+
+pub returns-clause-limits : goal.returns-clause-limits
+returns-clause-limits c =
+    near_limits c.args.supervisor.now c.args.reading.now c.sight-sight.ensures.accepted
