@@ -1,0 +1,3 @@
+pub mod FootLaws
+pub mod HiddenLaws
+pub mod WalkLaws

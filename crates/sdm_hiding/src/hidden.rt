@@ -1,0 +1,36 @@
+//! What a record works out: how far on each curve of a row is hidden.
+
+ghost use Rattle.std.specs.Prelude.{◌≡◌, ◌+◌, ◌<◌, ◌≤◌, length, slice_index, if◌then◌else◌, nat_lt};
+ghost use Rattle.sdm_rules.specs.Slopes.{IsUsable};
+ghost use Rattle.sdm_hiding.specs.Hiding.{AreHiddenFrom, AreInOrder};
+
+use crate::rows::Feet;
+
+/// The index of what hides the curve at an index of a row of so many, or the row's end.
+pub(crate) fn hider(steps: usize, i: usize, count: usize) -> usize
+    requires { i < count }
+    ensures { result ≡ (if nat_lt (i + steps) count then i + steps else count) }
+{
+    if steps < count - i { i + steps } else { count }
+}
+
+/// Works out how many curves further on each curve of a row is hidden. It goes from what is hidden to what hides it:
+/// what hides none of a row of curves doesn't hide the first of them.
+pub fn hide<F: Feet>(feet: &F, steps: &mut [usize])
+    requires usable { IsUsable (F.on feet.now) }
+    requires order { AreInOrder (F.feet feet.now) }
+    requires room { length (F.feet feet.now) ≤ length steps.old }
+    ensures hidden { AreHiddenFrom (F.on feet.now) (F.feet feet.now) steps.new 0 }
+    ensures room { length steps.new ≡ length steps.old }
+{
+    let count = feet.len();
+    let mut i = count;
+    'each: while i > 0 {
+        i -= 1;
+        let mut k = i + 1;
+        'further: while k < count && !feet.hides(k, i) {
+            k = hider(steps[k], k, count);
+        }
+        steps[i] = k - i;
+    }
+}
