@@ -9,6 +9,7 @@ pub mod SumRows
 pub mod Wide
 pub mod KnotRows
 pub mod CurveKnots
+pub mod KnotOrder
 pub mod Reach
 pub mod Cells
 pub mod GreatestSlopes

@@ -58,7 +58,7 @@ near_printed low x h =
 -- ---- what is printed of a list of targets
 
 -- the places that are printed of targets that pass `p`: those that `f` gives
-pub shown : (Target → Option ℤ) → (Target → Bool) → List Target → List ℤ
+unfoldable pub shown : (Target → Option ℤ) → (Target → Bool) → List Target → List ℤ
 shown f p ts = filter_map f (filter p ts)
 
 -- the value is printed of a target of the list that passes

@@ -1,0 +1,4 @@
+pub mod LevelOrder
+pub mod Feet
+pub mod Asked
+pub mod Faster

@@ -1,0 +1,2 @@
+pub mod CurvesInOrder
+pub mod AskedTargets

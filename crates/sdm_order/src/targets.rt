@@ -1,0 +1,28 @@
+//! The laws of targets that are asked, for any limits of targets.
+
+ghost use Rattle.sdm_order.specs.AskedTargets.{LawOfCoveredTargets, LawOfFasterTargets, LawOfPassedTargets};
+ghost use Rattle.sdm_order.specs.AskedTargets.{LawOfShownTargets};
+
+/// The targets that are asked trigger what all of them trigger.
+#[tactic(auto, using(crate::proofs::Asked::same_passed))]
+pub fn law_of_passed_targets()
+    ensures { LawOfPassedTargets }
+{}
+
+/// They print what all of them print.
+#[tactic(auto, using(crate::proofs::Asked::same_shown))]
+pub fn law_of_shown_targets()
+    ensures { LawOfShownTargets }
+{}
+
+/// All are covered where those are.
+#[tactic(auto, using(crate::proofs::Asked::same_all))]
+pub fn law_of_covered_targets()
+    ensures { LawOfCoveredTargets }
+{}
+
+/// Up to a gain of 7.5 km/h the faster targets are met by speed.
+#[tactic(auto, using(crate::proofs::Faster::met_by_speed))]
+pub fn law_of_faster_targets()
+    ensures { LawOfFasterTargets }
+{}
