@@ -1,18 +1,17 @@
 -- Two feet of a row: what doesn't hide a curve is at or past it, and what hides it is at or before it at every greater
 -- speed.
-use Rattle.std.proofs.Common.{◌≡◌, ℕ, Bool, true, false, ◌<◌, ◌≤◌, ◌≤ℤ◌, ◌&&◌, nat_le, int_lt, List, length, refl, arith}
+use Rattle.std.proofs.Common.{◌≡◌, ℕ, Bool, true, false, ◌<◌, ◌≤◌, ◌≤ℤ◌, ◌&&◌, nat_le, List, length, refl}
 use Rattle.std.proofs.Common.{inl, inr, sym, ◌∙◌, pos}
 use Rattle.std.specs.Prelude.{slice_index_or}
 use Rattle.std.proofs.lemmas.Bool.{cases_lt, false≢true, le-leb, leb-true, lt-leb}
 use Rattle.std.proofs.lemmas.List.{get_or_default}
 use Rattle.sdm_num.proofs.Comparisons.{lt_of, not_lt_is, not_lt_of}
 use Rattle.sdm_rules.specs.Slopes.{Slopes, IsUsable}
-use Rattle.sdm_rules.specs.Curves.{stepped}
 use Rattle.sdm_order.specs.CurvesInOrder.{IsAtOrPast}
 use Rattle.sdm_order.proofs.Feet.{earlier_curves, passed_curves, steps}
 use Rattle.sdm_hiding.specs.declared.rows.Foot.{Foot}
 use Rattle.sdm_hiding.specs.Asking.{place_on}
-use Rattle.sdm_hiding.specs.Hiding.{AreInOrder, hides, IsAt}
+use Rattle.sdm_hiding.specs.Hiding.{hides, IsAt}
 
 -- stands for a foot past the last
 abbrev pub no_foot : Foot

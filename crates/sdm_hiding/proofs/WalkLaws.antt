@@ -1,7 +1,6 @@
 -- The walk of a reading over a row of curves: what is passed over is no earlier than what is asked.
-use Rattle.std.proofs.Common.{◌≡◌, ℕ, ℤ, ◌+◌, ◌*◌, ◌<◌, ◌≤◌, ◌≤ℤ◌, List, [], ◌∷◌, ◌++◌, true, length, slice_index}
-use Rattle.std.proofs.Common.{◌⊎◌, inl, inr, arith, refl, sym, subst, zero, ◌∙◌}
-use Rattle.std.specs.Prelude.{Contains}
+use Rattle.std.proofs.Common.{◌≡◌, ℕ, ◌+◌, ◌<◌, ◌≤◌, ◌≤ℤ◌, List, [], ◌∷◌, ◌++◌, length}
+use Rattle.std.proofs.Common.{◌⊎◌, inl, inr, arith, refl, subst, zero}
 use Rattle.std.proofs.lemmas.Bool.{cases_lt}
 use Rattle.std.proofs.lemmas.Int.{ints}
 use Rattle.std.proofs.lemmas.List.{length-append}
@@ -12,7 +11,7 @@ use Rattle.sdm_order.proofs.Feet.{feet_in_order}
 use Rattle.sdm_hiding.specs.declared.asking.Asking.{Asking}
 use Rattle.sdm_hiding.specs.declared.rows.Foot.{Foot}
 use Rattle.sdm_hiding.specs.Asking.{AreFeet, AreFew, IsBehind, IsEnough, IsStoodFor, IsWalkedTo, place_on}
-use Rattle.sdm_hiding.specs.Hiding.{AreHiddenFrom, hides, IsAt, IsHiddenAfter}
+use Rattle.sdm_hiding.specs.Hiding.{IsAt, IsHiddenAfter}
 use Rattle.sdm_hiding.proofs.FootLaws.{at_or_before, at_or_past, no_faster, one_foot}
 
 -- the walk, at an index with what it has to ask

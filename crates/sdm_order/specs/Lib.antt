@@ -1,2 +1,3 @@
 pub mod CurvesInOrder
 pub mod AskedTargets
+pub mod LimitsInOrder

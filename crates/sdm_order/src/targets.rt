@@ -2,6 +2,7 @@
 
 ghost use Rattle.sdm_order.specs.AskedTargets.{LawOfCoveredTargets, LawOfFasterTargets, LawOfPassedTargets};
 ghost use Rattle.sdm_order.specs.AskedTargets.{LawOfShownTargets};
+ghost use Rattle.sdm_order.specs.LimitsInOrder.{LawOfLimitOrder};
 
 /// The targets that are asked trigger what all of them trigger.
 #[tactic(auto, using(crate::proofs::Asked::same_passed))]
@@ -25,4 +26,10 @@ pub fn law_of_covered_targets()
 #[tactic(auto, using(crate::proofs::Faster::met_by_speed))]
 pub fn law_of_faster_targets()
     ensures { LawOfFasterTargets }
+{}
+
+/// Each limit of a fall has one that is no later, of the fall whose EBD is no later or of that whose guidance curve is.
+#[tactic(auto, using(crate::proofs::Limits::limit_order))]
+pub fn law_of_limit_order()
+    ensures { LawOfLimitOrder }
 {}

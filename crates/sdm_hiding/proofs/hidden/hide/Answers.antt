@@ -1,5 +1,5 @@
 -- Each step goes to what hides the curve that was looked at; the last one hides this curve, or the row ends.
-use Rattle.std.proofs.Common.{◌≡◌, ◌+◌, ◌-◌, ◌<◌, ◌≤◌, length, slice_index, arith, sym, ◌∙◌}
+use Rattle.std.proofs.Common.{◌≡◌, ◌+◌, ◌-◌, slice_index, arith, sym, ◌∙◌}
 use Rattle.std.proofs.lemmas.List.{length-set}
 use Rattle.sdm_hiding.proofs.FootLaws.{foot_at, stands_at}
 use Rattle.sdm_hiding.proofs.HiddenLaws.{clear_further, hidden_after, known_more, step_is}

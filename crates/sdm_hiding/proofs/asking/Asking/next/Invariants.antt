@@ -1,5 +1,5 @@
 -- Wherever the walk began, it has come on with no more asked.
-use Rattle.std.proofs.Common.{◌-◌, ◌≡◌, ◌≤◌, ℕ, List}
+use Rattle.std.proofs.Common.{◌-◌, ◌≤◌, ℕ, List}
 use Rattle.sdm_hiding.specs.Asking.{AreFeet, IsWalkedTo}
 use Rattle.sdm_hiding.proofs.asking.Asking.next.Given as goal
 
