@@ -1,7 +1,8 @@
 """Writes docs/TRACES.md: for each sentence of README's promise, and each marked one of docs/PROMISES.md, its clauses
 and laws, their definitions, cases that show these, the must-fail edits that break them with the clause that refuses
 each, and the wrong definitions that were tried. scripts/traces.toml says which, by the ids of the marks
-`<!-- trace: ID -->`; this script finds where each stands, and fails where one is gone.
+`<!-- trace: ID -->`; this script finds where each stands, and fails where one is gone. At the end it lists all edits
+by the clause that their files name.
 
     scripts/traces          prints the page's part
     scripts/traces write    puts it into docs/TRACES.md
@@ -202,6 +203,25 @@ def lines_of(trace: Trace, places: Places) -> list[str]:
     return out
 
 
+def edits_by_clause(places: Places, faults: list[str]) -> list[str]:
+    """The table of all edits whose files name what refuses them; a name of nothing is added to faults."""
+    found: dict[str, list[str]] = {}
+    unmarked = []
+    for name, edit in places.edits.items():
+        if edit.marked():
+            found.setdefault(edit.marked(), []).append(link(f"`{edit.path.stem}`", edit.path))
+        else:
+            unmarked.append(link(f"`{name}`", edit.path))
+    rows = []
+    for clause, edits in found.items():
+        try:
+            rows.append(f"| {places.clause(clause)} | {', '.join(edits)} |")
+        except Gone as gone:
+            faults.append(f"crates/*/must-fail: refused-by: {gone}")
+    ends = ["", f"The files of these name no clause: {', '.join(unmarked)}."] if unmarked else []
+    return ["", "## Edits, by the clause that refuses them", "", "| Clause | Edits |", "|---|---|", *rows, *ends]
+
+
 def listed(traces: dict[str, Trace], faults: list[str]) -> str:
     """The traces in Markdown, by sentences; what is wrong with them is added to faults."""
     places, out, seen = Places(), [], set()
@@ -222,6 +242,7 @@ def listed(traces: dict[str, Trace], faults: list[str]) -> str:
             except Gone as gone:
                 faults.append(f"scripts/traces.toml: {each}: {gone}")
     faults += [f"scripts/traces.toml: no sentence has the mark {each}" for each in traces if each not in seen]
+    out += edits_by_clause(places, faults)
     return "\n".join([*out, ""]) + "\n"
 
 

@@ -1,5 +1,5 @@
 """Fails each call of the built program in turn, over some journeys, and prints a table of what came out. It is no part
-of the gate. What it shows is told in docs/ASSUMPTIONS.md.
+of the gate. docs/SAFETY.md says what it shows.
 
 In turn each allocation is refused; each read of the input, each write of rows and each write of a fault's line fails,
 moves one byte alone, and is interrupted. Rows are cut off after each of their bytes, or after some of them. Then the

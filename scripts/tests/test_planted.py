@@ -273,6 +273,12 @@ PLANTED = [
                 "",
                 "ebi_margin_not_capped has no line",
             ),
+            Fault(
+                "crates/sdm_num/must-fail/passed_where_it_stands.edit",
+                r"is_passed_by",
+                "is_passed",
+                "refused-by: no function sdm_num::Early::is_passed",
+            ),
         ],
     ),
     ("traces", [Fault("crates/sdm_rules/specs/Stop.antt", r"\A", "-- one line more\n", STALE)]),

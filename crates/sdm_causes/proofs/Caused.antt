@@ -1,5 +1,5 @@
 -- A first cause is one: looked for in order, there is one exactly where some cause stands.
-use Rattle.std.proofs.Common.{◌≡◌, Bool, true, false, not, ◌&&◌, ◌||◌, List, [], ◌∷◌, Option, Some, None, refl, ap, sym}
+use Rattle.std.proofs.Common.{◌≡◌, Bool, true, false, not, ◌&&◌, ◌||◌, List, [], ◌∷◌, Option, Some, None, refl}
 use Rattle.std.proofs.Common.{◌∙◌, is_some, cond}
 use Rattle.std.specs.Prelude.{option_map}
 use Rattle.std.specs.List.{find, list_any}
@@ -12,8 +12,8 @@ use Rattle.sdm_causes.specs.declared.causes.Cause.{Cause}
 use Rattle.sdm_causes.specs.declared.causes.Cause.TheVariants.{Ceiling, Passed, EndOfAuthority, ReleaseSpeed}
 use Rattle.sdm_causes.specs.declared.causes.Cause.TheVariants.{NoServiceBrake}
 use Rattle.sdm_causes.specs.CauseLaws.{AreCaused}
-use Rattle.sdm_causes.specs.Causes.{emer_by, first_of, first_passed, over_by, passed_by, serv_by, told_first}
-use Rattle.sdm_causes.specs.Causes.{told_target, warn_by, where_so}
+use Rattle.sdm_causes.specs.Causes.{first_of, first_passed, passed_by, told_first}
+use Rattle.sdm_causes.specs.Causes.{told_target, where_so}
 
 -- of two causes one is there exactly where the first or the second is
 either : (a b : Option Cause) → is_some (first_of (a ∷ b ∷ [])) ≡ (is_some a || is_some b)

@@ -1,5 +1,5 @@
 -- A command that is commanded by its rule stands as the rule says: each is decided by a few flags.
-use Rattle.std.proofs.Common.{◌≡◌, Bool, true, false, not, ◌&&◌, ◌||◌, refl, ap, sym, ◌∙◌, subst, is_some}
+use Rattle.std.proofs.Common.{◌≡◌, Bool, true, false, not, ◌&&◌, ◌||◌, refl, sym, subst, is_some}
 use Rattle.std.proofs.lemmas.Bool.{false≢true}
 use Rattle.std.specs.Prelude.{◌==◌}
 use Rattle.sdm_num.specs.Readings.{OdometerReading, estimate_of}
@@ -14,7 +14,7 @@ use Rattle.sdm_causes.specs.declared.causes.Causes.{Causes}
 use Rattle.std.proofs.Math.Bool.{and-false, and-true, or-false}
 use Rattle.sdm_rules.specs.Triggers.{Situation, triggers_of}
 use Rattle.sdm_causes.specs.declared.causes.Until.{Until}
-use Rattle.sdm_causes.specs.declared.causes.Until.TheVariants.{PermittedSpeed, Standstill, StandstillOrPermittedSpeed}
+use Rattle.sdm_causes.specs.declared.causes.Until.TheVariants.{PermittedSpeed}
 use Rattle.sdm_causes.specs.declared.causes.Standing.TheVariants.{Held}
 use Rattle.sdm_causes.specs.Causes.{causes_in, emer_by, emergency_until, over_by, serv_by, standing, warn_by}
 use Rattle.sdm_causes.specs.CauseLaws.{AreExplained, IsExplained, LawOfStanding, is_held, is_released_by, is_set}

@@ -1,7 +1,7 @@
 -- Why a reading triggers, and why each command is as it is after it (SUBSET-026-3 3.13.10; own). Of all causes of a
 -- trigger the first is told, in this order: the ceiling, the first target that is passed, the end of the authority, the
 -- release speed, an SBI that is passed with no service brake in use.
-use Rattle.std.specs.Prelude.{ℕ, ℤ, pos, Bool, not, ◌&&◌, ◌||◌, List, [], ◌∷◌, Option, Some, None, option_map, is_some}
+use Rattle.std.specs.Prelude.{pos, Bool, not, ◌&&◌, ◌||◌, List, [], ◌∷◌, Option, Some, None, option_map, is_some}
 use Rattle.std.specs.Prelude.{if◌then◌else◌}
 use Rattle.std.specs.List.{find}
 use Rattle.std.specs.Option.{option_map_or, option_or}

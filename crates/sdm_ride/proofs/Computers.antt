@@ -1,6 +1,6 @@
 -- The order of a ride stands only where a computer's does: a reading gives both, and nothing but a reading takes either
 -- away. So it is after each happening, one after the other.
-use Rattle.std.proofs.Common.{◌≡◌, ℕ, suc, Bool, true, false, List, [], ◌∷◌, Option, Some, None, refl, sym, ◌∙◌}
+use Rattle.std.proofs.Common.{◌≡◌, ℕ, suc, Bool, true, false, [], ◌∷◌, Option, Some, None, refl, sym, ◌∙◌}
 use Rattle.std.proofs.Common.{if◌then◌else◌, subst, ap}
 use Rattle.std.specs.Prelude.{Result, Ok, Err, is_some, option_map}
 use Rattle.sdm_num.specs.Readings.{OdometerReading}
@@ -12,7 +12,7 @@ use Rattle.sdm_rules.specs.Supervision.{Supervision}
 use Rattle.sdm_ride.specs.declared.happenings.Happening.{Happening}
 use Rattle.sdm_ride.specs.declared.happenings.Happening.TheVariants.{Record, Unread, Overdue, Tick}
 use Rattle.sdm_ride.specs.Moments.{Judging, Moment, after, after_record, ordered}
-use Rattle.sdm_ride.specs.Orders.{AllGoOn, AllOrderAs, Computer, GoesOn, LawOfOrders, OrdersAs, judged_in, reading_if}
+use Rattle.sdm_ride.specs.Orders.{Computer, GoesOn, LawOfOrders, OrdersAs, judged_in, reading_if}
 use Rattle.sdm_ride.specs.Orders.{supervision_after, taken_or}
 
 -- ---- the supervisor

@@ -29,7 +29,7 @@ use Rattle.sdm_ride.specs.Moments.{Judging, Moment, Promise, after, after_record
 use Rattle.sdm_ride.specs.Moments.{by_rows, by_svl, is_release, moments, promise_after}
 use Rattle.sdm_ride.specs.Rides.{point_of}
 use Rattle.sdm_ride.specs.RideLaws.{AreKeptByOrders, EndsBy, IsAsCovered, IsAsFree, IsByItsSvl, IsNeverPast}
-use Rattle.sdm_ride.specs.RideLaws.{KeepsPromise, LawOfPlaces, Promised, StaysBeforeByOrders, since_promised}
+use Rattle.sdm_ride.specs.RideLaws.{KeepsPromise, LawOfPlaces, Promised, StaysBeforeByOrders}
 use Rattle.sdm_ride.proofs.Promises.{mapped, next_promise}
 use Rattle.sdm_ride.proofs.Orders.{rides}
 

@@ -1,6 +1,6 @@
 -- A train that brakes may lose any speed where it stands: a step that stays in its place asks for no slope, and band by
 -- band such steps lead to every lower square.
-use Rattle.std.proofs.Common.{◌≡◌, ℕ, ℤ, zero, suc, pos, List, [], ◌∷◌, ◌++◌, length, ◌≤◌, ◌<◌, refl, arith, inl, inr}
+use Rattle.std.proofs.Common.{ℕ, ℤ, zero, suc, pos, List, [], ◌∷◌, ◌++◌, length, ◌≤◌, ◌<◌, arith, inl, inr}
 use Rattle.std.proofs.lemmas.Int.{ints}
 use Rattle.std.proofs.lemmas.Bool.{cases_lt}
 use Rattle.sdm_rules.specs.declared.motions.Point.{Point}

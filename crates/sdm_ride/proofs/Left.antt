@@ -1,6 +1,6 @@
 -- What is left of a promise on the way: of every motion from its reading `Q` holds at each braking point, so it does of
 -- every motion that goes on from where the train is. Since a motion may brake in place, `Q` holds of the train itself.
-use Rattle.std.proofs.Common.{◌≡◌, ℕ, ℤ, zero, suc, pos, List, [], ◌∷◌, ◌++◌, ◌*◌, ◌+ℤ◌, refl, subst, arith}
+use Rattle.std.proofs.Common.{◌≡◌, ℕ, ℤ, suc, pos, List, [], ◌∷◌, ◌++◌, ◌*◌, ◌+ℤ◌, refl, subst, arith}
 use Rattle.std.specs.Prelude.{All}
 use Rattle.std.proofs.lemmas.Int.{ints}
 use Rattle.std.proofs.lemmas.List.Elements.{All-nil, All-cons}

@@ -3,7 +3,6 @@
 use Rattle.std.proofs.Common.{◌≡◌, ℕ, ℤ, zero, suc, pos, negsuc, List, [], ◌∷◌, ◌++◌, ◌+◌, ◌-◌, ◌*◌, ◌<◌, ◌≤◌, ◌+ℤ◌}
 use Rattle.std.proofs.Common.{◌≤ℤ◌, None, Some, true, refl, subst, sym, ap, ◌∙◌, arith, inl, inr}
 use Rattle.std.specs.Int.{int_gap}
-use Rattle.std.specs.Prelude.{All}
 use Rattle.std.proofs.lemmas.Bool.{cases_lt}
 use Rattle.std.proofs.lemmas.Int.{ints}
 use Rattle.std.proofs.lemmas.List.Elements.{All-nil, All-cons}
@@ -24,9 +23,8 @@ use Rattle.sdm_rules.specs.Supervision.{Supervision, after_reading}
 use Rattle.sdm_laws.proofs.Moving.SliceBounds.{distance_of, distance_of-append, last_end, last_speed, last_speed-append}
 use Rattle.sdm_laws.proofs.Moving.SliceBounds.{slices_split}
 use Rattle.sdm_laws.proofs.Rows.Headline.{open_usable}
-use Rattle.sdm_ride.specs.declared.happenings.Happening.{Happening}
 use Rattle.sdm_ride.specs.declared.happenings.Happening.TheVariants.{Tick}
-use Rattle.sdm_ride.specs.Moments.{Judging, Moment, Promise, after, after_tick}
+use Rattle.sdm_ride.specs.Moments.{Judging, Moment, Promise, after}
 use Rattle.sdm_ride.specs.Rides.{BrakesBy, IsBraked, IsByClock, IsTick, start_of}
 use Rattle.sdm_ride.specs.MotionRides.{ComesTo, LawOfMotionRides, is_tick}
 use Rattle.sdm_ride.proofs.InPlace.{drop}

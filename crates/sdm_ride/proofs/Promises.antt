@@ -1,14 +1,13 @@
 -- Rides by the clock: a reading that gives a promise leaves it whole, each tick by the clock leaves what is left of it,
 -- and what is left is true of the train. All of it for any judging, and for whatever its readings promise.
 use Rattle.std.proofs.Common.{◌≡◌, ◌⊎◌, ℕ, ℤ, zero, suc, pos, Bool, true, false, List, [], ◌∷◌, ◌++◌, ◌+◌, ◌*◌, ◌<◌}
-use Rattle.std.proofs.Common.{◌≤◌, ◌+ℤ◌, Option, Some, None, refl, subst, sym, arith, inl, inr, if◌then◌else◌, not}
+use Rattle.std.proofs.Common.{◌≤◌, ◌+ℤ◌, Option, Some, None, refl, subst, sym, arith, inl, inr, not}
 use Rattle.std.proofs.Common.{◌||◌}
 use Rattle.std.specs.Prelude.{All, IfOk, Result, Ok, Err, option_map}
 use Rattle.std.proofs.lemmas.Bool.{and_parts, not-true}
 use Rattle.std.proofs.lemmas.Option.{none-some, same_Some}
 use Rattle.std.proofs.lemmas.List.Elements.{All-nil, All-cons}
 use Rattle.sdm_num.specs.Readings.{OdometerReading}
-use Rattle.sdm_rules.specs.declared.authorities.Authority.TheVariants.{Stop}
 use Rattle.sdm_rules.specs.declared.data.SlopeKind.TheVariants.{Safe}
 use Rattle.sdm_rules.specs.declared.faults.EventCause.{EventCause}
 use Rattle.sdm_rules.specs.declared.motions.Point.{Point}

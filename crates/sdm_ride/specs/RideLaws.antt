@@ -1,11 +1,10 @@
 -- The laws of rides, as statements over their definitions alone (own).
-use Rattle.std.specs.Prelude.{◌≡◌, ℕ, ℤ, pos, All, Contains, IsTrue, List, [], ◌∷◌, Option, Some, None, ◌+◌, ◌<◌, ◌≤◌}
-use Rattle.std.specs.Prelude.{Result, Ok, Err, is_some, map, false, if◌then◌else◌}
+use Rattle.std.specs.Prelude.{◌≡◌, ℕ, ℤ, pos, All, Contains, List, [], ◌∷◌, Some, None, ◌+◌, ◌<◌, ◌≤◌}
+use Rattle.std.specs.Prelude.{Result, is_some, map, if◌then◌else◌}
 use Rattle.std.specs.List.{cons_option}
 use Rattle.sdm_num.specs.Readings.{OdometerReading}
 use Rattle.sdm_rules.specs.declared.authorities.Authority.{Authority}
 use Rattle.sdm_rules.specs.declared.authorities.Authority.TheVariants.{Stop, Limit}
-use Rattle.sdm_rules.specs.declared.faults.EventCause.{EventCause}
 use Rattle.sdm_rules.specs.declared.faults.EventFault.{EventFault}
 use Rattle.sdm_rules.specs.declared.motions.Point.{Point}
 use Rattle.sdm_rules.specs.declared.records.Event.{Event}
@@ -18,7 +17,6 @@ use Rattle.sdm_rules.specs.Records.{journey_from, row_at, rows_of}
 use Rattle.sdm_rules.specs.Stop.{IsSpeedTarget}
 use Rattle.sdm_rules.specs.Supervision.{Supervision, profile_of, row_of, situation_of}
 use Rattle.sdm_rules.specs.Targets.{fall_at, foot_speed_of}
-use Rattle.sdm_rules.specs.Within.{is_within_svl}
 use Rattle.sdm_laws.specs.Falls.{IsFallAhead, allowance}
 use Rattle.sdm_ride.specs.declared.happenings.Happening.{Happening}
 use Rattle.sdm_ride.specs.declared.happenings.Happening.TheVariants.{Record, Unread, Overdue, Tick}

@@ -1,6 +1,6 @@
 -- A curve through a place that another curve has left behind stays past it: where two curves over one map of slopes
 -- have places in one order, arcs of one energy lead to places in that order, in each band and so in all.
-use Rattle.std.proofs.Common.{◌≡◌, ℕ, ℤ, suc, pos, length, ◌-◌, ◌*◌, ◌<◌, ◌≤◌, ◌+ℤ◌, ◌*ℤ◌, ◌≤ℤ◌, ◌<ℤ◌, zero, ap, arith, refl}
+use Rattle.std.proofs.Common.{◌≡◌, ℕ, ℤ, suc, pos, ◌-◌, ◌*◌, ◌<◌, ◌≤◌, ◌+ℤ◌, ◌*ℤ◌, ◌≤ℤ◌, ◌<ℤ◌, zero, ap, arith, refl}
 use Rattle.std.proofs.Common.{subst, sym}
 use Rattle.std.specs.Int.{int_gap}
 use Rattle.std.proofs.lemmas.Int.{ints, by_lt_z}
@@ -9,7 +9,7 @@ use Rattle.std.proofs.Math.Nat.{mul-pos, mul-le-mul_left}
 use Rattle.sdm_num.specs.Fractions.{Fraction, IsAtMost, IsBefore, IsSame, more, times, whole}
 use Rattle.sdm_num.proofs.Ints.{scales, scale-≤, scale-≤_cancel}
 use Rattle.sdm_num.proofs.Order.{at_most_in, not_both}
-use Rattle.sdm_rules.specs.Slopes.{Slopes, IsUsable, bands_of, variation}
+use Rattle.sdm_rules.specs.Slopes.{Slopes, IsUsable}
 use Rattle.sdm_rules.specs.Curves.{as_is, exact_at, grain_energy, upper_square}
 use Rattle.sdm_rules.specs.Motion.{IsInBand}
 use Rattle.sdm_laws.proofs.OneBand.Arcs.{Arc, past_back}

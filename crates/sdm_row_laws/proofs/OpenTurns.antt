@@ -1,5 +1,5 @@
 -- No record changes the data, so each turn of a journey from an open state begins in one.
-use Rattle.std.proofs.Common.{◌≡◌, List, ℕ, suc, [], ◌∷◌, false, refl, arith}
+use Rattle.std.proofs.Common.{ℕ, suc, [], ◌∷◌, false, refl, arith}
 use Rattle.std.specs.Prelude.{All, IfOk, Result, Ok, Err}
 use Rattle.std.proofs.lemmas.List.Elements.{All-nil, All-cons}
 use Rattle.sdm_num.specs.Readings.{OdometerReading}

@@ -1,24 +1,20 @@
 -- The latest trip and the start of release speed monitoring are exact limits of a train that gains nothing: the place of
 -- its speed on the curve, less the way until the brake works. What is past a computed one is past the exact one a
 -- millimetre later.
-use Rattle.std.proofs.Common.{◌≡◌, ◌⊎◌, ℕ, ℤ, suc, pos, Bool, true, false, ◌||◌, ◌<◌, ◌≤◌, ◌+◌, ◌*◌, ◌+ℤ◌}
-use Rattle.std.proofs.Common.{refl, sym, subst, arith, ap, ◌∙◌, inl, inr, if◌then◌else◌}
-use Rattle.std.specs.Prelude.{IsTrue, ◌≢◌}
+use Rattle.std.proofs.Common.{◌≡◌, ◌⊎◌, ℕ, ℤ, suc, pos, Bool, true, false, ◌<◌, ◌+ℤ◌}
+use Rattle.std.proofs.Common.{refl, sym, arith, ◌∙◌, inl, inr}
 use Rattle.std.proofs.lemmas.Int.{ints}
-use Rattle.std.proofs.lemmas.Bool.{not-true, true≢false}
-use Rattle.sdm_num.specs.Units.{distance_at, millimetre, notches, top_kmh}
+use Rattle.std.proofs.lemmas.Bool.{true≢false}
+use Rattle.sdm_num.specs.Units.{distance_at, millimetre, notches}
 use Rattle.sdm_num.specs.Fractions.{Fraction, less, lesser}
-use Rattle.sdm_num.specs.Readings.{OdometerReading}
 use Rattle.sdm_num.proofs.Order.{lesser_cases}
-use Rattle.sdm_rules.specs.declared.commands.State.TheVariants.{R}
 use Rattle.sdm_rules.specs.declared.data.SlopeKind.TheVariants.{Expected, Safe}
 use Rattle.sdm_rules.specs.Cells.{place_of_cell}
 use Rattle.sdm_rules.specs.Curves.{exact}
 use Rattle.sdm_rules.specs.Decelerations.{slopes_of}
 use Rattle.sdm_rules.specs.Limits.{exact_places, release_start}
-use Rattle.sdm_rules.specs.Release.{calculated, latest_trip, t_be, trip_start}
+use Rattle.sdm_rules.specs.Release.{calculated, latest_trip, t_be}
 use Rattle.sdm_rules.specs.Slopes.{Slopes, IsUsable}
-use Rattle.sdm_rules.specs.Supervision.{Supervision, row_of}
 use Rattle.sdm_rules.specs.Triggers.{is_past}
 use Rattle.sdm_laws.proofs.BrakeCurves.CurveNearness.{near_on}
 use Rattle.sdm_laws.proofs.Rows.CalculatedRelease.{release_speed_is, way_of_trip}
@@ -26,7 +22,7 @@ use Rattle.sdm_laws.proofs.Rows.Headline.{open_usable}
 use Rattle.sdm_laws.proofs.Rows.Nearness.{at_most_sooner}
 use Rattle.sdm_laws.proofs.Rows.ReleaseStart.{begins_release_monitoring_at}
 use Rattle.sdm_row_laws.specs.ReleaseLimits.{LawOfExactStart, LawOfExactTrip, LawOfTightRelease, LawOfTightStart}
-use Rattle.sdm_row_laws.specs.ReleaseLimits.{at_release, until_emergency, until_service}
+use Rattle.sdm_row_laws.specs.ReleaseLimits.{until_emergency, until_service}
 use Rattle.sdm_row_laws.specs.Tightness.{IsExactLimit}
 use Rattle.sdm_row_laws.proofs.ExactLimits.{exact_limit}
 

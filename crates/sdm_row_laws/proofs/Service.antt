@@ -1,9 +1,9 @@
 -- The EOA by the service brake: its SBI is the trip of a train that keeps V_est for T_bs, on the expected slopes; and a
 -- row that commands no brake has no SBI passed.
-use Rattle.std.proofs.Common.{◌≡◌, ℕ, ℤ, pos, Bool, true, false, not, ◌&&◌, ◌||◌, ◌*◌, ◌+◌, refl, subst, sym, ap, arith}
+use Rattle.std.proofs.Common.{◌≡◌, ℕ, ℤ, pos, Bool, true, false, not, ◌&&◌, ◌||◌, refl, subst, sym, arith}
 use Rattle.std.proofs.lemmas.Bool.{not-true, lt-ltb, or_parts, true≢false}
 use Rattle.std.proofs.lemmas.List.Elements.{Contains-append_right}
-use Rattle.std.specs.Prelude.{List, [], ◌∷◌, zero, suc, Contains, Option, Some, None, is_some, if◌then◌else◌, ◌≢◌}
+use Rattle.std.specs.Prelude.{Contains, Option, Some, None, is_some, if◌then◌else◌, ◌≢◌}
 use Rattle.sdm_num.specs.Units.{distance_at}
 use Rattle.sdm_num.specs.Readings.{estimate_of}
 use Rattle.sdm_rules.specs.declared.authorities.Authority.{Authority}
@@ -14,7 +14,7 @@ use Rattle.sdm_rules.specs.Cells.{place_of_cell}
 use Rattle.sdm_rules.specs.Commands.{commands_after, emergency_after}
 use Rattle.sdm_rules.specs.Decelerations.{slopes_of}
 use Rattle.sdm_rules.specs.Limits.{computed, limits_of}
-use Rattle.sdm_rules.specs.Reaction.{reaction_times, d_bec, v_cut_off}
+use Rattle.sdm_rules.specs.Reaction.{reaction_times}
 use Rattle.sdm_rules.specs.declared.limits.LimitKind.TheVariants.{Sbi}
 use Rattle.sdm_rules.specs.Supervision.{situation_of, profile_of, row_in, state_in, commands_in}
 use Rattle.sdm_rules.specs.Targets.{targets_of, falls_ahead, ends_of}

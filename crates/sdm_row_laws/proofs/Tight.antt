@@ -1,7 +1,7 @@
 -- The exact limits are tight: a train that gains all it may and then follows the curve through the place that it has
 -- reached by then passes the target wherever that place is past the target's own curve.
 use Rattle.std.proofs.Common.{◌≡◌, ℕ, ℤ, suc, pos, neg_ℤ, List, [], ◌∷◌, ◌++◌, ◌+◌, ◌*◌, ◌<◌, ◌≤◌, ◌+ℤ◌, ◌*ℤ◌, ◌<ℤ◌}
-use Rattle.std.proofs.Common.{◌≤ℤ◌, max, ap, arith, refl, subst, sym}
+use Rattle.std.proofs.Common.{◌≤ℤ◌, max, ap, arith, refl, subst}
 use Rattle.std.proofs.lemmas.Int.{ints}
 use Rattle.std.proofs.lemmas.List.Elements.{All-nil, All-cons}
 use Rattle.std.proofs.Math.Nat.{mul-pos, mul-le-mul_left}

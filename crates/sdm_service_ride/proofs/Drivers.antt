@@ -1,8 +1,8 @@
 -- Every driver: while the cut-off works no tick gains more than the allowance, so none ends a promise; and no row that
 -- commands a brake, or promises the EOA and cuts the traction off, ends the promise or the cut-off.
-use Rattle.std.proofs.Common.{◌≡◌, ℕ, suc, Bool, true, false, List, [], ◌∷◌, Option, Some, None}
+use Rattle.std.proofs.Common.{◌≡◌, ℕ, suc, Bool, true, false, [], ◌∷◌, Option, Some, None}
 use Rattle.std.proofs.Common.{refl, subst, sym, arith, if◌then◌else◌, ◌&&◌, ◌||◌}
-use Rattle.std.specs.Prelude.{All, IsTrue, Result, Ok, Err, is_some, option_map}
+use Rattle.std.specs.Prelude.{IsTrue, Result, Ok, Err, is_some, option_map}
 use Rattle.std.proofs.lemmas.Bool.{true≢false}
 use Rattle.std.proofs.lemmas.Option.{same_Some}
 use Rattle.std.proofs.lemmas.List.Elements.{All-nil, All-cons}
@@ -19,7 +19,7 @@ use Rattle.sdm_ride.specs.Orders.{judged_in, reading_if}
 use Rattle.sdm_ride.specs.Rides.{Delays}
 use Rattle.sdm_service_ride.specs.ServiceMoments.{Allowance, by_eoa, commands_brake, is_steady, promises_eoa}
 use Rattle.sdm_service_ride.specs.ServiceMoments.{steady_after, steady_moments}
-use Rattle.sdm_service_ride.specs.CutOffs.{AllStayCut, IsCut, LawOfCutOffs, StaysCut, cut_after, cut_after_reading}
+use Rattle.sdm_service_ride.specs.CutOffs.{IsCut, LawOfCutOffs, StaysCut, cut_after, cut_after_reading}
 use Rattle.sdm_service_ride.specs.CutOffs.{cuts_off, leaves_cut}
 
 -- ---- the promise

@@ -1,6 +1,6 @@
 -- A ride under the service brake has the order and the supervisor of the ride that is judged by the EOA: that a promise
 -- ends by a gain of speed changes neither. So a computer orders as it does there.
-use Rattle.std.proofs.Common.{Bool, true, false, List, [], ◌∷◌, None, if◌then◌else◌}
+use Rattle.std.proofs.Common.{Bool, true, false, [], ◌∷◌, None, if◌then◌else◌}
 use Rattle.sdm_ride.specs.declared.happenings.Happening.{Happening}
 use Rattle.sdm_ride.specs.Moments.{Moment, after}
 use Rattle.sdm_ride.specs.Orders.{Computer, GoesOn, OrdersAs}

@@ -1,7 +1,6 @@
 -- Rides under the service brake by the orders: the reading of the promise that stands is at most a period older than the
 -- first order after it, so T_bs after the reading the brake works.
-use Rattle.std.proofs.Common.{◌≡◌, ℕ, suc, List, [], ◌∷◌, ◌+◌, ◌*◌, ◌<◌, ◌≤◌, Option, Some, None, refl, subst, sym}
-use Rattle.std.proofs.Common.{arith}
+use Rattle.std.proofs.Common.{◌≡◌, ℕ, suc, List, [], ◌∷◌, ◌<◌, Option, Some, None, refl, subst, sym}
 use Rattle.std.specs.Prelude.{All, IfOk, Result, Ok, Err, option_map, Bool, true, false, if◌then◌else◌}
 use Rattle.std.proofs.lemmas.Option.{none-some}
 use Rattle.std.proofs.lemmas.List.Elements.{All-weaker}
@@ -15,7 +14,7 @@ use Rattle.sdm_rules.specs.Supervision.{Supervision, after_reading, row_of}
 use Rattle.sdm_laws.proofs.Rows.Headline.{over_kinds}
 use Rattle.sdm_ride.specs.declared.happenings.Happening.{Happening}
 use Rattle.sdm_ride.specs.declared.happenings.Happening.TheVariants.{Record, Unread, Overdue, Tick}
-use Rattle.sdm_ride.specs.Moments.{Moment, Promise, after, after_record, after_taken, after_tick, aged, ordered}
+use Rattle.sdm_ride.specs.Moments.{Moment, Promise, after, after_record, after_taken, after_tick, aged}
 use Rattle.sdm_ride.specs.Rides.{Delays}
 use Rattle.sdm_ride.specs.RideLaws.{IsRideStart, KeepsPromise}
 use Rattle.sdm_ride.proofs.Orders.{IsTimely, long_ordered, order_timely, read_timely_if, tick_timely}
