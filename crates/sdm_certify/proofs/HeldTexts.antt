@@ -1,16 +1,15 @@
 -- Claims that are written with their marks are read back one after the other.
-use Rattle.std.proofs.Common.{◌≡◌, ℕ, zero, suc, List, [], ◌∷◌, ◌++◌, Option, Some, None, Ok, ◌+◌, ◌≤◌, ◌<◌, All, refl, ap}
+use Rattle.std.proofs.Common.{◌≡◌, ℕ, suc, List, [], ◌∷◌, ◌++◌, Some, Ok, ◌+◌, All, refl, ap}
 use Rattle.std.proofs.Common.{sym, ◌∙◌, subst, append_assoc, length, map, codes, arith}
-use Rattle.sdm_rules.specs.declared.certificates.Claim.{Claim}
 use Rattle.sdm_rules.specs.declared.certificates.Mark.{Mark}
 use Rattle.sdm_rules.specs.Certificates.{Hold, IsClaimInRange, IsMarkInRange}
 use Rattle.sdm_rules.specs.Slopes.{Slopes, SlopeMap, meaning_of}
 use Rattle.std.proofs.lemmas.List.{append-nil}
 use Rattle.sdm_formats.specs.Lines.{lines_of}
-use Rattle.sdm_certify.specs.Lines.{Certified, LinesLeft, Read, claim_in, claim_of, lines_in, mark_of, marks_after}
+use Rattle.sdm_certify.specs.Lines.{Certified, LinesLeft, Read, claim_in, claim_of, mark_of, marks_after}
 use Rattle.sdm_certify.specs.Lines.{next_claim, where_due}
 use Rattle.sdm_certify.specs.Made.{AreMarksInRange}
-use Rattle.sdm_certify.specs.ReadBack.{AreHeld, AreWrittenSpeeds, IsHeldText, IsMapOf, IsReadBack}
+use Rattle.sdm_certify.specs.ReadBack.{AreHeld, AreWrittenSpeeds, IsHeldText, IsReadBack}
 use Rattle.sdm_certify.specs.WrittenLines.{claim_text, mark_text, marked_claim_text, text_of_lines}
 use Rattle.sdm_certify.proofs.LinesBack.{claim_fields, claim_read, mark_fields, mark_read}
 use Rattle.sdm_certify.proofs.ReadBack.{first_line, line_back}
@@ -94,8 +93,7 @@ held_back made (c ∷ more) n h =
     let read = claim_with_marks c n rest this.claim this.marks in
     let first = first_line (codes "claim") (claim_fields c.claim count)
     (text_of_lines (map mark_text c.marks) ++ rest) (claim_read c.claim count this.claim this.marks.some this.marks.few).0 in
-    let split = ap lines_of (append_assoc (claim_text c.claim count) (text_of_lines (map mark_text c.marks)) rest) in
-    (
+    let split = ap lines_of (append_assoc (claim_text c.claim count) (text_of_lines (map mark_text c.marks)) rest) in (
       record { number = count + suc n; lines = lines_of rest },
       read_due _ _ _ _ (split ∙ first) read,
       this.hold,

@@ -1,6 +1,6 @@
 -- The lines of a map are read back as its parts: each line is the next one by its form, and what is read of one tells
 -- the form of the next.
-use Rattle.std.proofs.Common.{◌≡◌, ℕ, zero, suc, ℤ, pos, neg_ℤ, true, List, [], ◌∷◌, ◌++◌, ◌+◌, ◌-◌, ◌*◌, ◌^◌, ◌<◌, ◌≤◌}
+use Rattle.std.proofs.Common.{◌≡◌, ℕ, zero, suc, ℤ, pos, neg_ℤ, true, List, [], ◌∷◌, ◌++◌, ◌+◌, ◌-◌, ◌^◌, ◌<◌, ◌≤◌}
 use Rattle.std.proofs.Common.{◌+ℤ◌, ◌≤ℤ◌, false, nat_le, Some, Ok, codes, decimal, length, map, refl, ap, sym, subst, ◌∙◌, append_assoc, arith}
 use Rattle.std.specs.Fmt.{signed_decimal}
 use Rattle.std.specs.List.{list_all, join_with_byte}
@@ -12,7 +12,7 @@ use Rattle.sdm_rules.specs.Slopes.{Slopes, bands_of}
 use Rattle.sdm_formats.specs.Lines.{lines_of}
 use Rattle.sdm_curve.specs.Maps.{map_data}
 use Rattle.sdm_certify.specs.Fields.{first_number, rising_after, slopes_after}
-use Rattle.sdm_certify.specs.Lines.{LinesLeft, Segments, head_of, map_in, next_line, segment_of, segments_after}
+use Rattle.sdm_certify.specs.Lines.{head_of, map_in, next_line, segment_of, segments_after}
 use Rattle.sdm_certify.specs.Lines.{slopes_by_band, uppers_in, uppers_of}
 use Rattle.sdm_certify.specs.WrittenLines.{head_line, last_start, lines_from, segment_line, slopes_at, text_of_lines}
 use Rattle.sdm_certify.specs.WrittenLines.{uppers_line, uppers_lines}

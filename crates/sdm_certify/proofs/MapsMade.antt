@@ -1,7 +1,7 @@
 -- A map that is made of written segments has in each of its segments the slopes of the cell with which this begins, in
 -- whatever order they are read.
 use Rattle.std.proofs.Common.{◌≡◌, ℕ, zero, suc, ℤ, pos, List, [], ◌∷◌, ◌++◌, ◌+◌, ◌-◌, ◌*◌, ◌<◌, ◌≤◌, get_or, length}
-use Rattle.std.proofs.Common.{map, take, refl, ap, sym, ◌∙◌, arith, inl, inr, mul-le-mul_right}
+use Rattle.std.proofs.Common.{map, take, refl, ap, ◌∙◌, arith, inl, inr, mul-le-mul_right}
 use Rattle.std.proofs.Math.ListN.{get_or-append, get_or-eq_default, get_or-map}
 use Rattle.std.proofs.Math.Seq.{get_or-append_right, take-length, take-suc}
 use Rattle.std.proofs.lemmas.Bool.{cases_lt}

@@ -20,7 +20,7 @@ use Rattle.sdm_formats.specs.Lines.{comma_fields, ended_lines, lines_of}
 use Rattle.sdm_formats.specs.Numbers.{is_digits, is_digits_of, number_of, read_int, read_wide}
 use Rattle.sdm_formats.specs.Text.{text_line}
 use Rattle.sdm_certify.specs.Fields.{first_number, first_wide, first_word, is_end}
-use Rattle.sdm_certify.specs.Lines.{LinesLeft, next_line}
+use Rattle.sdm_certify.specs.Lines.{next_line}
 use Rattle.sdm_text.proofs.NumberFields.{no_comma}
 
 -- ---- digits

@@ -1,16 +1,16 @@
 -- A segment that isn't written has the slopes of the last written one before it, so the written segments alone mean
 -- what the whole map does.
-use Rattle.std.proofs.Common.{◌≡◌, ℕ, zero, suc, ℤ, pos, Bool, true, false, List, [], ◌∷◌, ◌+◌, ◌-◌, ◌*◌, ◌<◌, ◌≤◌}
-use Rattle.std.proofs.Common.{◌+ℤ◌, ◌≤ℤ◌, ◌<ℤ◌, ◌^◌, get_or, length, map, refl, ap, sym, ◌∙◌, arith, inl, inr}
+use Rattle.std.proofs.Common.{◌≡◌, ℕ, zero, suc, ℤ, pos, Bool, true, false, List, [], ◌∷◌, ◌+◌, ◌<◌, ◌≤◌}
+use Rattle.std.proofs.Common.{◌+ℤ◌, ◌≤ℤ◌, ◌<ℤ◌, get_or, length, map, refl, ap, sym, ◌∙◌, arith, inl, inr}
 use Rattle.std.specs.Prelude.{◌==◌, not, if◌then◌else◌}
-use Rattle.std.proofs.lemmas.Bool.{and_parts, cases_lt, eqb-true, false≢true, true≢false}
+use Rattle.std.proofs.lemmas.Bool.{and_parts, cases_lt, eqb-true, true≢false}
 use Rattle.std.proofs.lemmas.Int.{ints, by_lt_z}
 use Rattle.std.proofs.lemmas.List.{get_or-map, length-map}
 use Rattle.sdm_num.proofs.Ints.{scale-pos}
 use Rattle.sdm_rules.specs.Slopes.{SlopeMap, bands_of, meaning_of, segment_of, variation}
 use Rattle.sdm_laws.proofs.OneBand.Segments.{IsInSegment, in_segment, segment_is}
 use Rattle.sdm_curve.specs.Integrals.{slope_of}
-use Rattle.sdm_curve.specs.Maps.{AreAccepted, AreStarts, IsKeptMap, handed_in, slope_in}
+use Rattle.sdm_curve.specs.Maps.{AreAccepted, AreStarts, IsKeptMap, handed_in}
 use Rattle.sdm_curve.proofs.Cells.{meaning_is, segment_of_start, slope_past}
 use Rattle.sdm_curve.proofs.Meanings.{rising_of, segment_known, slope_kept, slope_least, usable_of}
 use Rattle.sdm_certify.specs.WrittenLines.{are_same_slopes, first_cell, is_written, last_start, written, written_from}
@@ -114,7 +114,7 @@ module _ (m : SlopeMap) (kept : IsKeptMap (handed_in m)) where
             omega (arith, ints, first),
             omega (arith, ints, first),
             written_cells near (first_cell m 0 +ℤ pos 1) 1 n (omega (arith, is)) (λ more.
-            let rise = starts.rise 0 1 (omega arith) (omega (arith, is, more)) in omega (arith, ints, rise)),
+                let rise = starts.rise 0 1 (omega arith) (omega (arith, is, more)) in omega (arith, ints, rise)),
           )
 
   -- ---- the segment of a cell
@@ -198,10 +198,10 @@ module _ (m : SlopeMap) (kept : IsKeptMap (handed_in m)) where
       earlier before at = elim (cases_lt (segment_of m.starts c) (suc v)) [
         | inl lt ↦ lt
         | inr ge ↦ absurd (
-          let known = at.known in
-          let low = at.low (omega (arith, ge)) in
-          let rise = rising (suc v) (segment_of m.starts c) ge known in
-          omega (arith, ints, before, low, rise))
+            let known = at.known in
+            let low = at.low (omega (arith, ge)) in
+            let rise = rising (suc v) (segment_of m.starts c) ge known in
+            omega (arith, ints, before, low, rise))
       ]
 
       -- or this one or a later one

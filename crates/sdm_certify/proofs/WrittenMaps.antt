@@ -1,23 +1,22 @@
 -- The written map is told by the slopes alone, however they are kept: segments are written that begin at cell 0, and
 -- where a slope isn't that of the cell before. And it is read back as these slopes.
-use Rattle.std.proofs.Common.{◌≡◌, ℕ, ℤ, zero, suc, pos, neg_ℤ, true, false, Bool, List, [], ◌∷◌, ◌++◌, ◌+◌, ◌-◌, ◌<◌}
-use Rattle.std.proofs.Common.{◌≤◌, ◌+ℤ◌, ◌≤ℤ◌, ◌<ℤ◌, Ok, map, length, get_or, refl, ap, sym, ◌∙◌, subst, arith}
+use Rattle.std.proofs.Common.{◌≡◌, ℕ, ℤ, zero, suc, pos, neg_ℤ, true, false, Bool, List, [], ◌∷◌, ◌+◌, ◌-◌, ◌<◌}
+use Rattle.std.proofs.Common.{◌≤◌, ◌+ℤ◌, ◌≤ℤ◌, ◌<ℤ◌, map, length, get_or, refl, ap, sym, ◌∙◌, subst, arith}
 use Rattle.std.proofs.Common.{inl, inr, cond}
-use Rattle.std.specs.Prelude.{All, ◌==◌, not, Some}
+use Rattle.std.specs.Prelude.{All, ◌==◌, not}
 use Rattle.std.proofs.lemmas.Int.{ints, by_lt_z}
 use Rattle.std.proofs.lemmas.Bool.{cases_lt}
 use Rattle.std.proofs.lemmas.Bool.Decides.{nat_tests}
 use Rattle.std.proofs.lemmas.List.{length-map}
 use Rattle.sdm_rules.specs.Slopes.{SlopeMap, bands_of, meaning_of, segment_of}
 use Rattle.sdm_laws.proofs.OneBand.Segments.{segment_is}
-use Rattle.sdm_curve.specs.Maps.{AreAccepted, AreStarts, IsKeptMap, MapData, handed_in, map_data}
+use Rattle.sdm_curve.specs.Maps.{AreAccepted, AreStarts, IsKeptMap, handed_in, map_data}
 use Rattle.sdm_curve.proofs.Cells.{segment_of_start}
 use Rattle.sdm_curve.proofs.Meanings.{kept_known, rising_of, segment_known, slope_most}
-use Rattle.sdm_certify.specs.Lines.{LinesLeft, lines_in, map_in}
-use Rattle.sdm_certify.specs.ReadBack.{AreWrittenSpeeds, IsMapOf, IsReadBack}
+use Rattle.sdm_certify.specs.ReadBack.{AreWrittenSpeeds, IsReadBack}
 use Rattle.sdm_certify.specs.WrittenLines.{are_same_slopes, changed_cells, first_cell, has_slopes_before, last_start}
 use Rattle.sdm_certify.specs.WrittenLines.{lines_from, segment_cells, text_of_lines, written, written_from, written_lines}
-use Rattle.sdm_certify.proofs.MapBack.{AreRising, AreWritable, all_slopes, map_back}
+use Rattle.sdm_certify.proofs.MapBack.{AreRising, AreWritable, map_back}
 use Rattle.sdm_certify.proofs.MapsMade.{made_slopes}
 use Rattle.sdm_certify.proofs.ThinMaps.{are_cells, cells, few_written, thin, thin_accepted, thin_means}
 

@@ -1,5 +1,5 @@
 -- What is written is read back: the map, and the claims with their marks, which hold on it (own).
-use Rattle.std.specs.Prelude.{◌≡◌, ℕ, List, [], ◌∷◌, ◌++◌, Option, Some, None, Ok, All, ◌≤◌}
+use Rattle.std.specs.Prelude.{◌≡◌, ℕ, List, [], ◌∷◌, ◌++◌, Some, None, Ok, All, ◌≤◌}
 use Rattle.sdm_rules.specs.Certificates.{Hold}
 use Rattle.sdm_rules.specs.Slopes.{Slopes, SlopeMap, meaning_of}
 use Rattle.sdm_formats.specs.Lines.{lines_of}
