@@ -3,7 +3,12 @@ mod ReadOn
 mod ByBand
 mod RefusedMaps
 mod ReadBack
-mod LinesBack
+pub mod LinesBack
+pub mod MapBack
+mod MapsMade
+mod ThinMaps
+pub mod WrittenMaps
+pub mod HeldTexts
 mod AddedFields
 mod WrittenSegments
 pub mod LinesTaken

@@ -13,10 +13,15 @@ use Rattle.sdm_certify.specs.WrittenLines.{claim_text, mark_text}
 use Rattle.sdm_certify.proofs.ReadBack.{IsShort, fields_written, is_plain, none_left, number_first, plain_number}
 use Rattle.sdm_certify.proofs.ReadBack.{plain_wide, wide_first, without_lf, word_first}
 
--- the line of a mark is read as that mark
-pub mark_back : (x : Mark) → IsMarkInRange x → mark_of (strip_last 10 (mark_text x)) ≡ Some x
-unfolding mark_of mark_text
-mark_back x h =
+-- the fields of a mark
+abbrev pub mark_fields : Mark → List (List ℕ)
+mark_fields x = signed_decimal x.place ∷ decimal x.energy ∷ []
+
+-- are read as that mark
+pub mark_read : (x : Mark) → IsMarkInRange x → (list_all is_plain (codes "mark" ∷ mark_fields x) ≡ true)
+    × (mark_of (join_with_byte 44 (codes "mark" ∷ mark_fields x)) ≡ Some x)
+unfolding mark_of
+mark_read x h =
     let place : IsShort (negsuc 999_999_999_999_999_998) (pos 999_999_999_999_999_999) x.place = record {
       low = omega (arith, ints, h.behind);
       high = omega (arith, ints, h.ahead);
@@ -24,18 +29,25 @@ mark_back x h =
       below = omega (arith, ints, h.ahead);
     } in
     let plain : list_all is_plain (codes "mark" ∷ signed_decimal x.place ∷ decimal x.energy ∷ []) ≡ true =
-    rw (plain_number x.place place.low place.high, plain_wide x.energy (omega (arith, h.energy))) refl in
-    rw (
-      without_lf (join_with_byte 44 (codes "mark" ∷ signed_decimal x.place ∷ decimal x.energy ∷ [])),
-      fields_written (codes "mark") (signed_decimal x.place ∷ decimal x.energy ∷ []) plain,
-      word_first (codes "mark") (signed_decimal x.place ∷ decimal x.energy ∷ []) refl,
-      number_first (negsuc 999_999_999_999_999_998) (pos 999_999_999_999_999_999) x.place (decimal x.energy ∷ []) place,
-      wide_first (10 ^ 32) x.energy [] (omega arith) h.energy,
-      none_left,
-    ) refl
+    rw (plain_number x.place place.low place.high, plain_wide x.energy (omega (arith, h.energy))) refl in (
+      plain,
+      rw (
+        fields_written (codes "mark") (mark_fields x) plain,
+        word_first (codes "mark") (mark_fields x) refl,
+        number_first (negsuc 999_999_999_999_999_998) (pos 999_999_999_999_999_999) x.place (decimal x.energy ∷ [])
+            place,
+        wide_first (10 ^ 32) x.energy [] (omega arith) h.energy,
+        none_left,
+      ) refl,
+    )
+
+-- so is its line
+pub mark_back : (x : Mark) → IsMarkInRange x → mark_of (strip_last 10 (mark_text x)) ≡ Some x
+unfolding mark_text
+mark_back x h = rw (without_lf (join_with_byte 44 (codes "mark" ∷ mark_fields x))) (mark_read x h).1
 
 -- a number from `least` to `greatest`, both of at most 18 digits
-short : (least greatest z : ℤ) → neg_ℤ (pos (10 ^ 18 - 1)) ≤ℤ least → greatest ≤ℤ pos (10 ^ 18 - 1) →
+pub short : (least greatest z : ℤ) → neg_ℤ (pos (10 ^ 18 - 1)) ≤ℤ least → greatest ≤ℤ pos (10 ^ 18 - 1) →
     least ≤ℤ z → z ≤ℤ greatest → IsShort least greatest z
 short least greatest z low high above below = record {
   low = omega (arith, ints, low, above);
@@ -45,16 +57,23 @@ short least greatest z low high above below = record {
 }
 
 -- the same of numbers that are not below 0
-natural : (least greatest n : ℕ) → greatest < 10 ^ 18 → least ≤ n → n ≤ greatest →
+pub natural : (least greatest n : ℕ) → greatest < 10 ^ 18 → least ≤ n → n ≤ greatest →
     IsShort (pos least) (pos greatest) (pos n)
 natural least greatest n most above below = short (pos least) (pos greatest) (pos n)
     (omega (arith, ints)) (omega (arith, ints, most)) (omega (arith, ints, above)) (omega (arith, ints, below))
 
--- the line of a claim is read as that claim
-pub claim_back : (c : Claim) (n : ℕ) → IsClaimInRange c → 1 ≤ n → n ≤ 4_000 →
-    claim_of (strip_last 10 (claim_text c n)) ≡ Some (record { claim = c; marks = n })
-unfolding claim_of claim_text
-claim_back c n h some most =
+-- the fields of a claim with so many marks
+abbrev pub claim_fields : Claim → ℕ → List (List ℕ)
+claim_fields c n =
+    decimal c.time ∷ signed_decimal c.front ∷ decimal c.speed ∷ decimal c.accel1 ∷ decimal c.accel2
+    ∷ decimal c.traction ∷ decimal c.berem ∷ signed_decimal c.svl ∷ decimal n ∷ []
+
+-- are read as that claim
+pub claim_read : (c : Claim) (n : ℕ) → IsClaimInRange c → 1 ≤ n → n ≤ 4_000 →
+    (list_all is_plain (codes "claim" ∷ claim_fields c n) ≡ true)
+    × (claim_of (join_with_byte 44 (codes "claim" ∷ claim_fields c n)) ≡ Some (record { claim = c; marks = n }))
+unfolding claim_of
+claim_read c n h some most =
     let time = natural 0 100_000_000 c.time (omega arith) (omega arith) h.time in
     let front = short (neg_ℤ (pos 60_000_000_000_000_000)) (pos 60_000_000_000_000_000) c.front
     (omega (arith, ints)) (omega (arith, ints)) h.behind h.ahead in
@@ -85,19 +104,27 @@ claim_back c n h some most =
       plain_number (pos c.berem) berem.low berem.high,
       plain_number c.svl svl.low svl.high,
       plain_number (pos n) marks.low marks.high,
-    ) refl in
-    rw (
-      without_lf (join_with_byte 44 (codes "claim" ∷ from_time)),
-      fields_written (codes "claim") from_time plain,
-      word_first (codes "claim") from_time refl,
-      number_first _ _ (pos c.time) from_front time,
-      number_first _ _ c.front from_speed front,
-      number_first _ _ (pos c.speed) from_accel1 speed,
-      number_first _ _ (pos c.accel1) from_accel2 accel1,
-      number_first _ _ (pos c.accel2) from_traction accel2,
-      number_first _ _ (pos c.traction) from_berem traction,
-      number_first _ _ (pos c.berem) from_svl berem,
-      number_first _ _ c.svl from_marks svl,
-      number_first _ _ (pos n) [] marks,
-      none_left,
-    ) refl
+    ) refl in (
+      plain,
+      rw (
+        fields_written (codes "claim") from_time plain,
+        word_first (codes "claim") from_time refl,
+        number_first _ _ (pos c.time) from_front time,
+        number_first _ _ c.front from_speed front,
+        number_first _ _ (pos c.speed) from_accel1 speed,
+        number_first _ _ (pos c.accel1) from_accel2 accel1,
+        number_first _ _ (pos c.accel2) from_traction accel2,
+        number_first _ _ (pos c.traction) from_berem traction,
+        number_first _ _ (pos c.berem) from_svl berem,
+        number_first _ _ c.svl from_marks svl,
+        number_first _ _ (pos n) [] marks,
+        none_left,
+      ) refl,
+    )
+
+-- so is its line
+pub claim_back : (c : Claim) (n : ℕ) → IsClaimInRange c → 1 ≤ n → n ≤ 4_000 →
+    claim_of (strip_last 10 (claim_text c n)) ≡ Some (record { claim = c; marks = n })
+unfolding claim_text
+claim_back c n h some most =
+    rw (without_lf (join_with_byte 44 (codes "claim" ∷ claim_fields c n))) (claim_read c n h some most).1

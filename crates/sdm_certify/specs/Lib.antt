@@ -4,6 +4,7 @@ pub mod SegmentLines
 pub mod Written
 pub mod WrittenLines
 pub mod Checker
+pub mod ReadBack
 pub mod Steps
 pub mod Made
 pub mod Segments

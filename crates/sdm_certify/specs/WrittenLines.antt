@@ -1,14 +1,72 @@
--- The lines that the program writes into a certificate text (own).
-use Rattle.std.specs.Prelude.{ℕ, zero, suc, pos, Bool, true, not, ◌&&◌, ◌==◌, nat_le, List, [], ◌∷◌, ◌++◌, map, length}
-use Rattle.std.specs.Prelude.{codes, decimal, slice_index_or, if◌then◌else◌}
+-- The lines of a certificate text that are written (own).
+use Rattle.std.specs.Prelude.{ℕ, zero, suc, ℤ, pos, neg_ℤ, Bool, true, not, ◌&&◌, ◌==◌, ◌+ℤ◌, nat_le, List, [], ◌∷◌}
+use Rattle.std.specs.Prelude.{◌++◌, map, length, codes, decimal, slice_index_or, if◌then◌else◌}
 use Rattle.std.specs.Fmt.{signed_decimal}
 use Rattle.sdm_rules.specs.declared.certificates.Claim.{Claim}
 use Rattle.sdm_rules.specs.declared.certificates.Mark.{Mark}
-use Rattle.sdm_rules.specs.Slopes.{SlopeMap, bands_of}
+use Rattle.sdm_rules.specs.Slopes.{Slopes, SlopeMap, bands_of, meaning_of}
 use Rattle.sdm_formats.specs.Text.{text_line}
 use Rattle.sdm_curve.specs.Integrals.{slope_of}
 
--- ---- the map
+-- lines one after the other
+abbrev pub text_of_lines : List (List ℕ) → List ℕ
+text_of_lines [] = []
+text_of_lines (line ∷ more) = line ++ text_of_lines more
+
+-- ---- the written map of slopes
+
+-- in the first so many bands the slopes of a cell are those of the cell before
+abbrev pub has_slopes_before : Slopes → ℤ → ℕ → Bool
+has_slopes_before on cell zero = true
+has_slopes_before on cell (suc band) =
+    has_slopes_before on cell band && (on.slope band (cell +ℤ neg_ℤ (pos 1)) == on.slope band cell)
+
+-- of `n` cells from `cell` on, those that have another slope in some band than the cell before
+unfoldable pub changed_cells : Slopes → ℤ → ℕ → List ℤ
+changed_cells on cell zero = []
+changed_cells on cell (suc n) =
+    let later = changed_cells on (cell +ℤ pos 1) n in
+    if has_slopes_before on cell (bands_of on.uppers) then later else cell ∷ later
+
+-- the furthest cell with which a segment begins
+abbrev pub last_start : ℕ
+last_start = 10_200_000
+
+-- the cells with which written segments begin: cell 0, and those with another slope in some band than the cell before
+abbrev pub segment_cells : Slopes → List ℤ
+segment_cells on = pos 0 ∷ changed_cells on (pos 1) last_start
+
+-- the slopes of the first so many bands in a cell
+abbrev pub slopes_at : Slopes → ℤ → ℕ → List (List ℕ)
+slopes_at on cell zero = []
+slopes_at on cell (suc band) = slopes_at on cell band ++ decimal (on.slope band cell) ∷ []
+
+-- `seg,start` and the slopes of all bands
+unfoldable pub segment_line : Slopes → ℤ → List ℕ
+segment_line on cell = text_line (codes "seg" ∷ signed_decimal cell ∷ slopes_at on cell (bands_of on.uppers))
+
+-- `map,q,b,s`, of so many segments
+unfoldable pub head_line : Slopes → ℕ → List ℕ
+head_line on segments =
+    text_line (codes "map" ∷ decimal on.q ∷ decimal (bands_of on.uppers) ∷ decimal segments ∷ [])
+
+-- `uppers` and the upper speeds
+unfoldable pub uppers_line : Slopes → List ℕ
+uppers_line on = text_line (codes "uppers" ∷ map decimal on.uppers)
+
+-- the line of upper speeds, which stands only where there is more than one band
+abbrev pub uppers_lines : Slopes → List (List ℕ)
+uppers_lines on = if nat_le (bands_of on.uppers) 1 then [] else uppers_line on ∷ []
+
+-- the lines of the map whose written segments begin with these cells
+abbrev pub lines_from : Slopes → List ℤ → List (List ℕ)
+lines_from on cells = head_line on (length cells) ∷ uppers_lines on ++ map (segment_line on) cells
+
+-- the written map of slopes
+abbrev pub map_text : Slopes → List ℕ
+map_text on = text_of_lines (lines_from on (segment_cells on))
+
+-- ---- the same, found in a map that is kept by its segments
 
 -- in the first so many bands the slopes of a segment are those of the segment before
 abbrev pub are_same_slopes : SlopeMap → ℕ → ℕ → Bool
@@ -30,32 +88,13 @@ written_from m i (suc count) =
 abbrev pub written : SlopeMap → List ℕ
 written m = written_from m 0 (length m.starts)
 
--- `map,q,b,s`
-unfoldable pub head_text : SlopeMap → List ℕ
-head_text m =
-    text_line (codes "map" ∷ decimal m.q ∷ decimal (bands_of m.uppers) ∷ decimal (length (written m)) ∷ [])
-
--- `uppers` and the upper speeds
-unfoldable pub uppers_text : SlopeMap → List ℕ
-uppers_text m = text_line (codes "uppers" ∷ map decimal m.uppers)
-
--- the slopes of the first so many bands in a segment
-abbrev pub slope_fields : SlopeMap → ℕ → ℕ → List (List ℕ)
-slope_fields m i zero = []
-slope_fields m i (suc band) = slope_fields m i band ++ decimal (slope_of m band i) ∷ []
-
--- `seg,start` and the slopes of all bands
-unfoldable pub segment_text : SlopeMap → ℕ → List ℕ
-segment_text m i = text_line
-    (codes "seg" ∷ signed_decimal (slice_index_or m.starts i (pos 0)) ∷ slope_fields m i (bands_of m.uppers))
-
--- the line of upper speeds, which stands only where there is more than one band
-abbrev pub uppers_lines : SlopeMap → List (List ℕ)
-uppers_lines m = if nat_le (bands_of m.uppers) 1 then [] else uppers_text m ∷ []
+-- the first cell of a segment
+abbrev pub first_cell : SlopeMap → ℕ → ℤ
+first_cell m i = slice_index_or m.starts i (pos 0)
 
 -- the lines of the map
-abbrev pub map_text : SlopeMap → List (List ℕ)
-map_text m = head_text m ∷ uppers_lines m ++ map (segment_text m) (written m)
+abbrev pub written_lines : SlopeMap → List (List ℕ)
+written_lines m = lines_from (meaning_of m) (map (first_cell m) (written m))
 
 -- ---- claims and marks
 
@@ -68,3 +107,7 @@ claim_text c marks = text_line
 -- `mark,place,energy`
 unfoldable pub mark_text : Mark → List ℕ
 mark_text x = text_line (codes "mark" ∷ signed_decimal x.place ∷ decimal x.energy ∷ [])
+
+-- a claim with its marks
+abbrev pub marked_claim_text : Claim → List Mark → List ℕ
+marked_claim_text c marks = claim_text c (length marks) ++ text_of_lines (map mark_text marks)

@@ -6,6 +6,7 @@ mod CalculatedCases
 mod WithinCases
 mod UpgradeCases
 mod CertificateCases
+mod HeldCases
 mod ToldRowCases
 mod ShapeCases
 mod SlackCases

@@ -17,10 +17,10 @@ use Rattle.sdm_rules.specs.Data.{TrainAndTrack}
 use Rattle.sdm_rules.specs.Decelerations.{slopes_of}
 use Rattle.sdm_rules.specs.Slopes.{Slopes, bands_of}
 use Rattle.sdm_formats.specs.Text.{text_line}
-use Rattle.sdm_certify.specs.WrittenLines.{claim_text, mark_text}
+use Rattle.sdm_certify.specs.WrittenLines.{claim_text, head_line, map_text, mark_text, marked_claim_text, segment_cells}
+use Rattle.sdm_certify.specs.WrittenLines.{segment_line, slopes_at, text_of_lines, uppers_line}
 use Rattle.sdm_run.specs.Answers.{AreWholeLines}
-use Rattle.sdm_run.specs.Certifying.{head_line, map_text, marked_claim_text, safe_map_text, segment_cells, segment_line}
-use Rattle.sdm_run.specs.Certifying.{slopes_at, text_of_lines}
+use Rattle.sdm_run.specs.Certifying.{safe_map_text}
 use Rattle.sdm_run.specs.declared.tellers.Teller.{Teller}
 use Rattle.sdm_run.specs.declared.tellers.Teller.TheVariants.{Rows, Displays, Causes, Certificates}
 use Rattle.sdm_run.specs.RunParts.{head_text}
@@ -52,18 +52,20 @@ certificate_whole c marks = lines_both (claim_text c (length marks)) (text_of_li
     (claim_whole c (length marks)) (marks_whole marks)
 
 segments_whole : (on : Slopes) (cells : List ℤ) → AreWholeLines (text_of_lines (map (segment_line on) cells))
+unfolding segment_line
 segments_whole on [] = inl refl
 segments_whole on (cell ∷ cells) = lines_both (segment_line on cell) (text_of_lines (map (segment_line on) cells))
     (line_whole (codes "seg" ∷ signed_decimal cell ∷ slopes_at on cell (bands_of on.uppers))) (segments_whole on cells)
 
 uppers_whole : (on : Slopes) (few : Bool) (cells : List ℤ) →
-    AreWholeLines (text_of_lines (cond few [] (text_line (codes "uppers" ∷ map decimal on.uppers) ∷ [])
-    ++ map (segment_line on) cells))
+    AreWholeLines (text_of_lines (cond few [] (uppers_line on ∷ []) ++ map (segment_line on) cells))
+unfolding uppers_line
 uppers_whole on true cells = segments_whole on cells
-uppers_whole on false cells = lines_both (text_line (codes "uppers" ∷ map decimal on.uppers)) _
+uppers_whole on false cells = lines_both (uppers_line on) _
     (line_whole (codes "uppers" ∷ map decimal on.uppers)) (segments_whole on cells)
 
 map_whole : (on : Slopes) → AreWholeLines (map_text on)
+unfolding head_line
 map_whole on = lines_both (head_line on (length (segment_cells on))) _
     (line_whole (codes "map" ∷ decimal on.q ∷ decimal (bands_of on.uppers) ∷ decimal (length (segment_cells on)) ∷ []))
     (uppers_whole on (nat_le (bands_of on.uppers) 1) (segment_cells on))

@@ -1,7 +1,7 @@
 -- What is told of a reading and of its turn: of `run` its row, of `display` what is shown, of `why` its causes, of
 -- `certify` its certificate, which a covered reading under a stop has, since it is within the SvL.
 use Rattle.std.proofs.Common.{◌≡◌, ℕ, ℤ, zero, suc, ◌-◌, Bool, true, false, not, List, [], ◌∷◌, ◌++◌, nat_lt, refl}
-use Rattle.std.proofs.Common.{Option, None, ap, sym, ◌∙◌, inl, inr, arith}
+use Rattle.std.proofs.Common.{Option, None, ap, sym, subst, ◌∙◌, inl, inr, arith}
 use Rattle.std.specs.Prelude.{◌<◌, ◌⊎◌, ◌&&◌, ◌||◌, is_some}
 use Rattle.std.specs.List.{list_all}
 use Rattle.std.proofs.lemmas.Bool.{and_parts, false≢true, not-true, true≢false}
@@ -14,7 +14,10 @@ use Rattle.sdm_rules.specs.declared.authorities.Authority.TheVariants.{Stop, Lim
 use Rattle.sdm_rules.specs.declared.records.Event.{Event}
 use Rattle.sdm_rules.specs.declared.records.Event.TheVariants as record_kinds
 use Rattle.sdm_rules.specs.declared.rows.Row.{Row}
+use Rattle.sdm_rules.specs.declared.data.SlopeKind.TheVariants.{Safe}
+use Rattle.sdm_rules.specs.Certificates.{Hold, IsClaimInRange}
 use Rattle.sdm_rules.specs.Data.{TrainAndTrack}
+use Rattle.sdm_rules.specs.Decelerations.{slopes_of}
 use Rattle.sdm_rules.specs.Display.{display_of}
 use Rattle.sdm_rules.specs.Limits.{limits_of}
 use Rattle.sdm_rules.specs.Records.{Turn, row_at}
@@ -35,9 +38,11 @@ use Rattle.sdm_certify.specs.declared.certificates.Certificate.{Certificate}
 use Rattle.sdm_certify.specs.Certificates.{IsCertificateOf}
 use Rattle.sdm_run.specs.declared.tellers.Teller.{Teller}
 use Rattle.sdm_run.specs.declared.tellers.Teller.TheVariants.{Rows, Displays, Causes, Certificates}
-use Rattle.sdm_run.specs.Certifying.{certificate_text, certificates, is_certified, is_stop}
-use Rattle.sdm_run.specs.Certifying.{marked_claim_text}
-use Rattle.sdm_run.specs.RunParts.{IsToldTurn, turns_text}
+use Rattle.sdm_certify.specs.Lines.{Certified}
+use Rattle.sdm_certify.specs.Made.{AreMarksInRange, marks_of}
+use Rattle.sdm_certify.specs.WrittenLines.{marked_claim_text}
+use Rattle.sdm_run.specs.Certifying.{certificate_text, certificates, certified_of, is_certified, is_stop}
+use Rattle.sdm_run.specs.RunParts.{IsHeldBy, IsToldTurn, turns_text}
 use Rattle.sdm_run.specs.Answers.{IsAnswer}
 use Rattle.sdm_run.proofs.CertifyLines.{certificate_whole}
 use Rattle.sdm_run.proofs.OutputLeft.{all_left, wrote_part}
@@ -94,6 +99,25 @@ certificate_after : (s : Supervision) (r : OdometerReading) →
 unfolding after_reading
 certificate_after s r = refl
 
+-- what is made after a reading is the certificate of the reading
+held_of : (before : Supervision) (r : OdometerReading) (c : Certificate) →
+    IsCertificateOf (after_reading before r) r c.claim c.marks →
+    IsCertificateOf before r (certified_of before r).claim (certified_of before r).marks
+unfolding after_reading
+held_of before r c made =
+    let on = slopes_of Safe before.train_and_track in
+    let claim : c.claim ≡ (certified_of before r).claim = made.claim_is in
+    let marks : c.marks ≡ (certified_of before r).marks = made.marks_are ∙ ap (marks_of on) claim in
+    record {
+      within = sym (within_after before r) ∙ made.within;
+      claim_is = refl;
+      marks_are = refl;
+      hold = subst (λ (x : Certified). Hold on x.claim x.marks)
+          (λ k. record { claim = claim k; marks = marks k }) made.hold;
+      claim_range = subst IsClaimInRange claim made.claim_range;
+      marks_range = subst AreMarksInRange marks made.marks_range;
+    }
+
 -- a reading within the SvL is under a stop
 stop_of_within : (d : TrainAndTrack) (r : OdometerReading) (a : Authority) → is_within d r a ≡ true → is_stop a ≡ true
 stop_of_within d r (Stop eoa svl release) h = refl
@@ -113,15 +137,28 @@ certificates_none turn more (suc left) (inl none) =
     let due : nat_lt 0 (suc left) ≡ true = grind (arith, nat_tests) in absurd (true≢false (sym due ∙ none))
 certificates_none turn more (suc left) (inr none) = rw none refl
 
+-- of which nothing need hold
+held_none : (turn : Turn) (more : List Turn) (left : ℕ) →
+    (nat_lt 0 left ≡ false) ⊎ (is_certified turn ≡ false) →
+    IsHeldBy (Certificates left) more → IsHeldBy (Certificates left) (turn ∷ more)
+held_none turn more zero h held = tt
+held_none turn more (suc left) (inl none) held =
+    let due : nat_lt 0 (suc left) ≡ true = grind (arith, nat_tests) in absurd (true≢false (sym due ∙ none))
+held_none turn more (suc left) (inr none) held = rw none held
+
 -- where each teller tells nothing
 nothing_told : (teller : Teller) (turn : Turn) → run_tells turn ≡ [] → display_tells turn ≡ [] →
     why_tells turn ≡ [] → is_certified turn ≡ false → IsToldTurn teller teller turn []
-nothing_told Rows turn row shown why none = record { rest = λ more. rw row refl; whole_lines = inl refl }
-nothing_told Displays turn row shown why none = record { rest = λ more. rw shown refl; whole_lines = inl refl }
-nothing_told Causes turn row shown why none = record { rest = λ more. rw why refl; whole_lines = inl refl }
+nothing_told Rows turn row shown why none =
+    record { rest = λ more. rw row refl; whole_lines = inl refl; held = λ more h. h }
+nothing_told Displays turn row shown why none =
+    record { rest = λ more. rw shown refl; whole_lines = inl refl; held = λ more h. h }
+nothing_told Causes turn row shown why none =
+    record { rest = λ more. rw why refl; whole_lines = inl refl; held = λ more h. h }
 nothing_told (Certificates left) turn row shown why none = record {
   rest = λ more. certificates_none turn more left (inr none);
   whole_lines = inl refl;
+  held = λ more. held_none turn more left (inr none);
 }
 
 -- of an event that has no row nothing is told
@@ -142,17 +179,17 @@ module _ (before : Supervision) (r : OdometerReading) (after : Supervision) wher
   -- `run` tells its row
   pub row_told : (row : Row) → row ≡ row_of before r → IsToldTurn Rows Rows turn_of_reading (row_text row)
   unfolding row_text
-  row_told row is = record { rest = λ more. rw is refl; whole_lines = inr (_, refl) }
+  row_told row is = record { rest = λ more. rw is refl; whole_lines = inr (_, refl); held = λ more h. h }
 
   -- `display` tells what is shown of it
   pub shown_told : IsToldTurn Displays Displays turn_of_reading (display_text (display_of after r))
   unfolding display_text
-  shown_told = record { rest = λ more. refl; whole_lines = inr (_, refl) }
+  shown_told = record { rest = λ more. refl; whole_lines = inr (_, refl); held = λ more h. h }
 
   -- `why` tells its causes
   pub explained_told : IsToldTurn Causes Causes turn_of_reading (causes_text (causes_of after r))
   unfolding causes_text
-  explained_told = record { rest = λ more. refl; whole_lines = inr (_, refl) }
+  explained_told = record { rest = λ more. refl; whole_lines = inr (_, refl); held = λ more h. h }
 
   module _ (left : ℕ) where
     -- `certify` tells nothing of one that isn't certified, or past the last that is due
@@ -161,6 +198,7 @@ module _ (before : Supervision) (r : OdometerReading) (after : Supervision) wher
     uncertified none = record {
       rest = λ more. certificates_none turn_of_reading more left none;
       whole_lines = inl refl;
+      held = λ more. held_none turn_of_reading more left none;
     }
 
     -- nothing of one that isn't covered
@@ -201,8 +239,18 @@ module _ (before : Supervision) (r : OdometerReading) (after : Supervision) wher
           record {
             rest = λ more. certificates_some left due is_one more ∙ rw text refl;
             whole_lines = certificate_whole c.claim c.marks;
+            held = λ more. held_some left due is_one more
+                (held_of before r c (subst (λ (x : Supervision). IsCertificateOf x r c.claim c.marks) is made));
           }
         where
+          held_some : (left : ℕ) → 0 < left → is_certified turn_of_reading ≡ true → (more : List Turn) →
+              IsCertificateOf before r (certified_of before r).claim (certified_of before r).marks →
+              IsHeldBy (Certificates (left - 1)) more → IsHeldBy (Certificates left) (turn_of_reading ∷ more)
+          held_some zero due is_one more one h = absurd (omega (arith, due))
+          held_some (suc left) due is_one more one h =
+              let same : suc left - 1 ≡ left = omega arith in
+              rw is_one (one, subst (λ (n : ℕ). IsHeldBy (Certificates n) more) same h)
+
           certificates_some : (left : ℕ) → 0 < left → is_certified turn_of_reading ≡ true → (more : List Turn) →
               certificates left (turn_of_reading ∷ more)
               ≡ certificate_text before r ++ certificates (left - 1) more

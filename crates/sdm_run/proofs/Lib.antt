@@ -7,7 +7,10 @@ pub mod CommandFacts
 pub mod OneRun
 pub mod RunData
 pub mod RunTexts
+pub mod HeldRecords
+pub mod HeldRuns
 pub mod RunAnswers
+pub mod HeldOutputs
 pub mod Refusals
 pub mod UpgradeTexts
 pub mod Texts

@@ -49,6 +49,16 @@ none_of_none Causes = refl
 none_of_none (Certificates zero) = refl
 none_of_none (Certificates (suc left)) = refl
 
+-- the state after a reading that was taken
+pub state_is : (s t : Supervision) (n : ℕ) (x : Record) (r : OdometerReading) (row : Row) →
+    IsTakenRecord s t (event_at event_of n x) (Some (r, row)) → t ≡ after_reading s r
+unfolding step
+state_is s t n x r row taken = by_time (time_fault s.last_time r.time) taken.1
+  where
+    by_time : (o : Option CycleFault) → unless time_cause o (after_reading s r) ≡ Ok t → t ≡ after_reading s r
+    by_time None is = cc
+    by_time (Some fault) is = absurd cc
+
 module _ (teller : Teller) (n : ℕ) (s : Supervision) where
   -- the output of no records
   pub none_left : (records : List Record) → records ≡ [] →
@@ -92,27 +102,18 @@ module _ (teller : Teller) (n : ℕ) (s : Supervision) where
 
       module _ (r : OdometerReading) (row : Row)
           (taken : IsTakenRecord s t (event_at event_of n x) (Some (r, row))) where
-        -- the state after a reading
-        after_is : t ≡ after_reading s r
-        unfolding step
-        after_is = by_time (time_fault s.last_time r.time) taken.1
-          where
-            by_time : (o : Option CycleFault) → unless time_cause o (after_reading s r) ≡ Ok t → t ≡ after_reading s r
-            by_time None is = cc
-            by_time (Some fault) is = absurd cc
-
         -- a reading that was told
         pub reading_told : (after : Teller) → IsToldReading teller r row t mid new (Ok after) →
             IsLeftOf old new whole (output_of_records after (suc n) t more)
         reading_told after h =
-            let told = h s taken.2 after_is in
+            let told = h s taken.2 (state_is s t n x r row taken) in
             left_after (record_kinds.Read r) taken.0 taken.1 after told.0 told.1 told.2
 
         -- or not to its end
         pub reading_cut : (ended : Ended) → (ComesOfReadingAlone ended.outcome → ⊥) →
             IsToldReading teller r row t mid new (Err ended) → IsAnswer whole old new ended.outcome
         reading_cut ended never h = cut_off old mid new whole (output_of_records teller n s records) so_far
-            ended.outcome never (rw (first_taken (record_kinds.Read r) taken.0 taken.1) (h s taken.2 after_is _ _))
+            ended.outcome never (rw (first_taken (record_kinds.Read r) taken.0 taken.1) (h s taken.2 (state_is s t n x r row taken) _ _))
 
 -- what is said of an answer that is no failure
 pub where_ok : {A B : Type 0} (answer : Result A B) (P : Type 0) → is_err answer ≡ false → OnOk answer P → P

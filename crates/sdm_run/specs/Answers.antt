@@ -105,3 +105,16 @@ NeedsTheWholeInput (Refused fault) = Unit {0}
 NeedsTheWholeInput (BadEvent number cause) = Unit {0}
 NeedsTheWholeInput Memory = ⊥
 NeedsTheWholeInput (Undrivable cause) = Unit {0}
+
+-- an outcome that comes after the last record, or at the first one that is refused
+abbrev pub IsEndOfRecords : Outcome → Type 0
+IsEndOfRecords Done = Unit {0}
+IsEndOfRecords Usage = ⊥
+IsEndOfRecords ReadFault = ⊥
+IsEndOfRecords WriteFault = ⊥
+IsEndOfRecords TooLong = ⊥
+IsEndOfRecords (BadData fault) = ⊥
+IsEndOfRecords (Refused fault) = ⊥
+IsEndOfRecords (BadEvent number cause) = Unit {0}
+IsEndOfRecords Memory = ⊥
+IsEndOfRecords (Undrivable cause) = ⊥

@@ -1,89 +1,33 @@
 -- The command `certify`: the text that it defines for its input, which is the map and then the certificates (own).
-use Rattle.std.specs.Prelude.{◌≡◌, ℕ, zero, suc, ℤ, pos, neg_ℤ, Bool, true, false, ◌&&◌, ◌==◌, nat_le, List, [], ◌∷◌}
-use Rattle.std.specs.Prelude.{◌++◌, ◌+ℤ◌, map, length, take, filter, codes, decimal, Option, Some, None, Result, Ok}
-use Rattle.std.specs.Prelude.{Err, if◌then◌else◌}
-use Rattle.std.specs.Fmt.{signed_decimal}
+use Rattle.std.specs.Prelude.{◌≡◌, ℕ, Bool, true, false, ◌&&◌, List, [], ◌∷◌, ◌++◌, take, filter, Option, Some, None}
+use Rattle.std.specs.Prelude.{Result, Ok, Err}
 use Rattle.toml.specs.Data.{Members}
 use Rattle.sdm_num.specs.Readings.{OdometerReading}
 use Rattle.sdm_rules.specs.declared.authorities.Authority.{Authority}
 use Rattle.sdm_rules.specs.declared.authorities.Authority.TheVariants.{Stop, Limit}
-use Rattle.sdm_rules.specs.declared.certificates.Claim.{Claim}
-use Rattle.sdm_rules.specs.declared.certificates.Mark.{Mark}
 use Rattle.sdm_rules.specs.declared.data.SlopeKind.TheVariants.{Safe}
 use Rattle.sdm_rules.specs.declared.records.Event.{Event}
 use Rattle.sdm_rules.specs.declared.records.Event.TheVariants as record_kinds
 use Rattle.sdm_rules.specs.Data.{TrainAndTrack}
 use Rattle.sdm_rules.specs.Decelerations.{slopes_of}
 use Rattle.sdm_rules.specs.Records.{Turn}
-use Rattle.sdm_rules.specs.Slopes.{Slopes, bands_of}
 use Rattle.sdm_rules.specs.Supervision.{Supervision, row_of}
 use Rattle.sdm_formats.specs.declared.faults.DataFault.{DataFault}
 use Rattle.sdm_formats.specs.Flat.{Output}
 use Rattle.sdm_formats.specs.Input.{IsRun, end_of_journey}
 use Rattle.sdm_formats.specs.Input as ends
-use Rattle.sdm_formats.specs.Text.{text_line, told}
+use Rattle.sdm_formats.specs.Text.{told}
 use Rattle.sdm_certify.specs.Certificates.{claim_of}
 use Rattle.sdm_certify.specs.Made.{marks_of}
-use Rattle.sdm_certify.specs.WrittenLines.{claim_text, mark_text}
+use Rattle.sdm_certify.specs.Lines.{Certified}
+use Rattle.sdm_certify.specs.ReadBack.{IsHeldText}
+use Rattle.sdm_certify.specs.WrittenLines.{map_text, marked_claim_text}
 use Rattle.sdm_data.specs.Division.{divide}
 use Rattle.sdm_data.specs.Document.{document_of}
 use Rattle.sdm_data.specs.Journey.{data_of}
 use Rattle.sdm_run.specs.Journeys.{run_reader}
 
--- lines one after the other
-abbrev pub text_of_lines : List (List ℕ) → List ℕ
-text_of_lines [] = []
-text_of_lines (line ∷ more) = line ++ text_of_lines more
-
 -- ---- the written map of slopes
-
--- in the first so many bands the slopes of a cell are those of the cell before
-abbrev pub has_slopes_before : Slopes → ℤ → ℕ → Bool
-has_slopes_before on cell zero = true
-has_slopes_before on cell (suc band) =
-    has_slopes_before on cell band && (on.slope band (cell +ℤ neg_ℤ (pos 1)) == on.slope band cell)
-
--- of `n` cells from `cell` on, those that have another slope in some band than the cell before
-unfoldable pub changed_cells : Slopes → ℤ → ℕ → List ℤ
-changed_cells on cell zero = []
-changed_cells on cell (suc n) =
-    let later = changed_cells on (cell +ℤ pos 1) n in
-    if has_slopes_before on cell (bands_of on.uppers) then later else cell ∷ later
-
--- the furthest cell with which a segment begins
-abbrev pub last_start : ℕ
-last_start = 10_200_000
-
--- the cells with which written segments begin: cell 0, and those with another slope in some band than the cell before
-abbrev pub segment_cells : Slopes → List ℤ
-segment_cells on = pos 0 ∷ changed_cells on (pos 1) last_start
-
--- the slopes of the first so many bands in a cell
-abbrev pub slopes_at : Slopes → ℤ → ℕ → List (List ℕ)
-slopes_at on cell zero = []
-slopes_at on cell (suc band) = slopes_at on cell band ++ decimal (on.slope band cell) ∷ []
-
--- `seg,start` and the slopes of all bands
-abbrev pub segment_line : Slopes → ℤ → List ℕ
-segment_line on cell = text_line (codes "seg" ∷ signed_decimal cell ∷ slopes_at on cell (bands_of on.uppers))
-
--- `map,q,b,s`, of so many segments
-abbrev pub head_line : Slopes → ℕ → List ℕ
-head_line on segments =
-    text_line (codes "map" ∷ decimal on.q ∷ decimal (bands_of on.uppers) ∷ decimal segments ∷ [])
-
--- `uppers` and the upper speeds, where there is more than one band
-abbrev pub uppers_line : Slopes → List (List ℕ)
-uppers_line on =
-    if nat_le (bands_of on.uppers) 1 then [] else text_line (codes "uppers" ∷ map decimal on.uppers) ∷ []
-
--- the lines of the map whose written segments begin with these cells
-abbrev pub lines_from : Slopes → List ℤ → List (List ℕ)
-lines_from on cells = head_line on (length cells) ∷ uppers_line on ++ map (segment_line on) cells
-
--- the written map of slopes
-abbrev pub map_text : Slopes → List ℕ
-map_text on = text_of_lines (lines_from on (segment_cells on))
 
 -- the written map of A_safe
 unfoldable pub safe_map_text : TrainAndTrack → List ℕ
@@ -91,14 +35,13 @@ safe_map_text d = map_text (slopes_of Safe d)
 
 -- ---- certificates
 
--- a claim with its marks
-abbrev pub marked_claim_text : Claim → List Mark → List ℕ
-marked_claim_text c marks = claim_text c (length marks) ++ text_of_lines (map mark_text marks)
+-- the claim of a reading in a state, with the marks that are made for it
+abbrev pub certified_of : Supervision → OdometerReading → Certified
+certified_of s r = record { claim = claim_of s r; marks = marks_of (slopes_of Safe s.train_and_track) (claim_of s r) }
 
 -- the certificate of a reading in a state
 abbrev pub certificate_text : Supervision → OdometerReading → List ℕ
-certificate_text s r =
-    marked_claim_text (claim_of s r) (marks_of (slopes_of Safe s.train_and_track) (claim_of s r))
+certificate_text s r = marked_claim_text (certified_of s r).claim (certified_of s r).marks
 
 -- the authority is a stop
 abbrev pub is_stop : Authority → Bool
@@ -129,9 +72,13 @@ certificate_in s (record_kinds.Revoke id) = []
 abbrev pub certificate : Turn → List ℕ
 certificate t = certificate_in t.before t.event
 
+-- the first so many turns that have a certificate
+abbrev pub certified_turns : ℕ → List Turn → List Turn
+certified_turns count turns = take count (filter is_certified turns)
+
 -- the certificates of the first so many turns that have one
 abbrev pub certificates : ℕ → List Turn → List ℕ
-certificates count turns = told certificate (take count (filter is_certified turns))
+certificates count turns = told certificate (certified_turns count turns)
 
 -- ---- the output
 
@@ -155,19 +102,46 @@ abbrev pub map_of_data : Option TrainAndTrack → List ℕ
 map_of_data None = []
 map_of_data (Some d) = safe_map_text d
 
--- what stands before the certificates: the written map, where the opening was accepted, so that there are records
+-- the data whose map is written: where the opening was accepted, so that there are records
+abbrev pub data_written : List ℕ → ends.End → Option TrainAndTrack
+data_written bytes ends.Done = data_before bytes (divide bytes)
+data_written bytes (ends.BadEvent number cause) = data_before bytes (divide bytes)
+data_written bytes ends.TooLong = None
+data_written bytes ends.NoSplit = None
+data_written bytes ends.Toml = None
+data_written bytes (ends.Data fault) = None
+data_written bytes (ends.Undrivable cause) = None
+data_written bytes (ends.Refused fault) = None
+
+-- what stands before the certificates: the written map
 abbrev pub map_before : List ℕ → ends.End → List ℕ
-map_before bytes ends.Done = map_of_data (data_before bytes (divide bytes))
-map_before bytes (ends.BadEvent number cause) = map_of_data (data_before bytes (divide bytes))
-map_before bytes ends.TooLong = []
-map_before bytes ends.NoSplit = []
-map_before bytes ends.Toml = []
-map_before bytes (ends.Data fault) = []
-map_before bytes (ends.Undrivable cause) = []
-map_before bytes (ends.Refused fault) = []
+map_before bytes end = map_of_data (data_written bytes end)
 
 -- what `certify` defines for the bytes of its input: the map and the certificates of THE RUN, and its end
 pub record IsCertifyOutput (count : ℕ) (bytes : List ℕ) (output : Output) : Type 0 where
   pub turns : List Turn
   pub run : IsRun run_reader bytes turns output.end
   pub text_is : output.text ≡ map_before bytes output.end ++ certificates count turns
+
+-- ---- what it is worth
+
+-- the claim of an event, which is a reading, with the marks that are made for it
+abbrev pub certified_in : Supervision → Event → List Certified
+certified_in s (record_kinds.Read r) = certified_of s r ∷ []
+certified_in s (record_kinds.Authority a) = []
+certified_in s (record_kinds.Calculated eoa svl trip) = []
+certified_in s (record_kinds.Restrict r) = []
+certified_in s (record_kinds.Revoke id) = []
+
+-- those of turns
+abbrev pub certified_by : List Turn → List Certified
+certified_by [] = []
+certified_by (t ∷ ts) = certified_in t.before t.event ++ certified_by ts
+
+-- CERTIFICATES HOLD ON THE MAP ABOVE THEM: the input has data, and its output is read back as the map of their A_safe
+-- and as the claims of the first so many readings that are certified, with marks that hold on this map
+pub record AreCertificatesHeld (count : ℕ) (bytes : List ℕ) : Type 0 where
+  pub read : TrainAndTrack
+  pub is_read : data_before bytes (divide bytes) ≡ Some read
+  pub held : (output : Output) (is : IsCertifyOutput count bytes output) →
+      IsHeldText (slopes_of Safe read) output.text (certified_by (certified_turns count is.turns))

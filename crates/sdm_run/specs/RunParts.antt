@@ -4,9 +4,12 @@ use Rattle.std.specs.Io.KnownBytes.{Appends}
 use Rattle.sdm_num.specs.Readings.{OdometerReading}
 use Rattle.sdm_rules.specs.declared.faults.EventFault.{EventFault}
 use Rattle.sdm_rules.specs.declared.records.Event.{Event}
+use Rattle.sdm_rules.specs.declared.data.SlopeKind.TheVariants.{Safe}
 use Rattle.sdm_rules.specs.declared.records.Event.TheVariants.{Read}
+use Rattle.sdm_rules.specs.declared.records.Event.TheVariants as record_kinds
 use Rattle.sdm_rules.specs.declared.rows.Row.{Row}
 use Rattle.sdm_rules.specs.Data.{TrainAndTrack}
+use Rattle.sdm_rules.specs.Decelerations.{slopes_of}
 use Rattle.sdm_rules.specs.Records.{Turn, event_at, journey_from, row_at, step}
 use Rattle.sdm_rules.specs.Supervision.{Supervision, after_reading, row_of}
 use Rattle.sdm_formats.specs.Flat.{Output}
@@ -16,6 +19,8 @@ use Rattle.sdm_formats.specs.Text.{display_tells, run_tells, told}
 use Rattle.sdm_causes.specs.Text.{why_tells}
 use Rattle.sdm_report.specs.declared.outcome.Outcome.{Outcome}
 use Rattle.sdm_report.specs.declared.outcome.Outcome.TheVariants.{BadData, Memory, Refused}
+use Rattle.sdm_certify.specs.Certificates.{IsCertificateOf}
+use Rattle.sdm_certify.specs.ReadBack.{IsReadBack}
 use Rattle.sdm_events.specs.Journey.{Record}
 use Rattle.sdm_opening.specs.Openings.{IsDataFault, IsRefusal}
 use Rattle.sdm_run.specs.declared.endings.Ended.{Ended}
@@ -24,7 +29,8 @@ use Rattle.sdm_run.specs.declared.journey_records.Taken.TheVariants.{Untold, Tol
 use Rattle.sdm_run.specs.declared.tellers.Teller.{Teller}
 use Rattle.sdm_run.specs.declared.tellers.Teller.TheVariants.{Rows, Displays, Causes, Certificates}
 use Rattle.sdm_run.specs.Answers.{AreWholeLines, IsAnswer}
-use Rattle.sdm_run.specs.Certifying.{IsCertifyOutput, certificates, safe_map_text}
+use Rattle.sdm_run.specs.Certifying.{AreCertificatesHeld, IsCertifyOutput, certificates, certified_of, certified_turns}
+use Rattle.sdm_run.specs.Certifying.{safe_map_text}
 use Rattle.sdm_run.specs.Journeys.{IsJourneyOutput}
 
 -- ---- the data part
@@ -57,12 +63,46 @@ head_text Displays d = []
 head_text Causes d = []
 head_text (Certificates left) d = safe_map_text d
 
+-- what stands before the records is read back: of `certify` as the map of A_safe
+abbrev pub IsHeadReadBack : Teller → TrainAndTrack → Type 0
+IsHeadReadBack Rows d = ⊤
+IsHeadReadBack Displays d = ⊤
+IsHeadReadBack Causes d = ⊤
+IsHeadReadBack (Certificates left) d = IsReadBack (slopes_of Safe d) (safe_map_text d)
+
 -- what is told of turns
 abbrev pub turns_text : Teller → List Turn → List ℕ
 turns_text Rows turns = told run_tells turns
 turns_text Displays turns = told display_tells turns
 turns_text Causes turns = told why_tells turns
 turns_text (Certificates left) turns = certificates left turns
+
+-- the certificate of an event, which is a reading, is one: its marks hold
+abbrev pub IsHeldIn : Supervision → Event → Type 0
+IsHeldIn s (record_kinds.Read r) = IsCertificateOf s r (certified_of s r).claim (certified_of s r).marks
+IsHeldIn s (record_kinds.Authority a) = ⊤
+IsHeldIn s (record_kinds.Calculated eoa svl trip) = ⊤
+IsHeldIn s (record_kinds.Restrict r) = ⊤
+IsHeldIn s (record_kinds.Revoke id) = ⊤
+
+-- so are those of turns
+abbrev pub AreTurnsHeld : List Turn → Type 0
+AreTurnsHeld [] = ⊤
+AreTurnsHeld (t ∷ ts) = IsHeldIn t.before t.event × AreTurnsHeld ts
+
+-- what is told of turns holds: of `certify` the certificates
+abbrev pub IsHeldBy : Teller → List Turn → Type 0
+IsHeldBy Rows turns = ⊤
+IsHeldBy Displays turns = ⊤
+IsHeldBy Causes turns = ⊤
+IsHeldBy (Certificates left) turns = AreTurnsHeld (certified_turns left turns)
+
+-- what is told of all the bytes of an input holds: of `certify` on the map that is told before it
+abbrev pub IsHeldRun : Teller → List ℕ → Type 0
+IsHeldRun Rows bytes = ⊤
+IsHeldRun Displays bytes = ⊤
+IsHeldRun Causes bytes = ⊤
+IsHeldRun (Certificates left) bytes = AreCertificatesHeld left bytes
 
 -- the text and the end of records, by what is told of their turns; the first record has the number `n`
 abbrev pub output_of_records : Teller → ℕ → Supervision → List Record → Output
@@ -77,10 +117,11 @@ abbrev pub IsTakenRecord : Supervision → Supervision → Result Event EventFau
 IsTakenRecord s t e (Some x) = (e ≡ Ok (Read x.0)) × (step s (Read x.0) ≡ Ok t) × (x.1 ≡ row_of s x.0)
 IsTakenRecord s t e None = (event : Event) × (e ≡ Ok event) × (step s event ≡ Ok t) × (row_at s event ≡ None)
 
--- a text is told of a turn, and the rest of the turns by `after`: no text, or whole lines
+-- a text is told of a turn, and the rest of the turns by `after`: no text, or whole lines, which hold
 pub record IsToldTurn (teller after : Teller) (turn : Turn) (text : List ℕ) : Type 0 where
   pub rest : (more : List Turn) → turns_text teller (turn ∷ more) ≡ text ++ turns_text after more
   pub whole_lines : AreWholeLines text
+  pub held : (more : List Turn) → IsHeldBy after more → IsHeldBy teller (turn ∷ more)
 
 -- out took what is told of a turn, or the outcome answers it, whatever follows
 abbrev pub IsToldTo : Teller → Turn → Option (List ℕ) → Option (List ℕ) → Result Teller Ended → Type 0

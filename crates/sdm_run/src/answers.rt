@@ -10,7 +10,8 @@ ghost use Rattle.sdm_io.specs.Told.{AppendsPart, HoldsNothing, ReadsExactly, Rea
 ghost use Rattle.sdm_report.specs.OutcomeLines.{outcome_line};
 ghost use Rattle.sdm_run.specs.declared.words.Command.{Command};
 ghost use Rattle.sdm_run.specs.Answers.{ComesOfReadingAlone, LeavesOutUntouched, NeedsTheWholeInput, IsAnswer};
-ghost use Rattle.sdm_run.specs.Answers.{IsComplete, told_end};
+ghost use Rattle.sdm_run.specs.Answers.{IsComplete, IsEndOfRecords, told_end};
+ghost use Rattle.sdm_run.specs.Certifying.{AreCertificatesHeld};
 ghost use Rattle.sdm_run.specs.Commands.{AreRowsSafe, HasOneOutput, IsOutputOf, ReadsNothing};
 ghost use Rattle.sdm_run.specs.Shapes.{IsOutcomeIn, OfInput, shape_of};
 ghost use Rattle.sdm_run.specs.Upgrades.{IsReadBack};
@@ -60,6 +61,10 @@ pub fn sdm_main<I: Source, O: Sink, E: Sink>(
     // the text of `upgrade` is the table of the data
     ensures read_back { asked_by words.now ≡ Some Command.Upgrade → NeedsTheWholeInput result
         → Told (I.left input.old) IsReadBack }
+
+    // the text of `certify` is that of certificates which hold on the map above them
+    ensures held { (count : ℕ) → asked_by words.now ≡ Some (Command.Certify count) → IsEndOfRecords result
+        → Told (I.left input.old) (AreCertificatesHeld count) }
 
     // what comes before any row leaves out as it is; else out gave on all that it took, unless it failed
     ensures first { LeavesOutUntouched result → out.new ≡ out.old }
@@ -124,6 +129,8 @@ fn run_command<O: Sink>(alloc: Global, command: Command, bytes: &[u8], out: &mut
         → IsAnswer output (O.taken out.old) (O.taken out.new) result.outcome }
     ensures rows { AreRowsSafe command bytes.now }
     ensures read_back { command ≡ Command.Upgrade → NeedsTheWholeInput result.outcome → IsReadBack bytes.now }
+    ensures held { (count : ℕ) → command ≡ Command.Certify count → IsEndOfRecords result.outcome
+        → AreCertificatesHeld count bytes.now }
     ensures possible { IsOutcomeIn (shape_of command) result.outcome }
     ensures not_before { ComesOfReadingAlone result.outcome → ⊥ }
     ensures first { LeavesOutUntouched result.outcome → (result.is_flush_due ≡ false) × (out.new ≡ out.old) }
@@ -156,6 +163,8 @@ fn outcome_to<O: Sink>(alloc: Global, command: Command, bytes: &[u8], out: &mut 
         → IsAnswer output (O.taken out.old) (O.taken out.new) result }
     ensures rows { AreRowsSafe command bytes.now }
     ensures read_back { command ≡ Command.Upgrade → NeedsTheWholeInput result → IsReadBack bytes.now }
+    ensures held { (count : ℕ) → command ≡ Command.Certify count → IsEndOfRecords result
+        → AreCertificatesHeld count bytes.now }
     ensures possible { IsOutcomeIn (shape_of command) result }
     ensures not_before { ComesOfReadingAlone result → ⊥ }
     ensures first { LeavesOutUntouched result → out.new ≡ out.old }

@@ -1,24 +1,27 @@
 //! What `certify` writes, line by line: the map of A_safe, and certificates.
 
-ghost use Rattle.std.specs.Prelude.{◌≡◌, ◌≤◌, length, OnOk, OnErr};
+ghost use Rattle.std.specs.Prelude.{◌≡◌, pos, ◌≤◌, ◌≤ℤ◌, length, All, OnOk, OnErr};
 ghost use Rattle.std.specs.Io.KnownBytes.{Appends};
 ghost use Rattle.sdm_io.specs.Causes.{HasCause};
 ghost use Rattle.sdm_io.specs.Told.{AppendsPart};
-ghost use Rattle.sdm_certify.specs.WrittenLines.{map_text};
-ghost use Rattle.sdm_run.specs.Certifying.{marked_claim_text, text_of_lines};
+ghost use Rattle.sdm_rules.specs.Slopes.{meaning_of};
+ghost use Rattle.sdm_certify.specs.ReadBack.{IsReadBack};
+ghost use Rattle.sdm_certify.specs.WrittenLines.{last_start, marked_claim_text, text_of_lines, written_lines};
 
 use sdm_certify::{Certificate, claim_line, map_line, map_lines, mark_line};
 use sdm_curve::BandMap;
 use sdm_io::{Failed, Sink, write_piece};
 use sdm_text::RowBuf;
 
-/// Writes the lines of a map. (own)
+/// Writes the lines of a map, which a checker reads back. (own)
 pub fn write_map<O: Sink>(map: &BandMap, out: &mut O) -> Result<(), Failed>
     requires segments { length map.now.starts ≤ 2_000 }
-    ensures ok { OnOk result (Appends (O.taken out.old) (O.taken out.new) (text_of_lines (map_text map.now))) }
+    ensures ok { OnOk result (Appends (O.taken out.old) (O.taken out.new) (text_of_lines (written_lines map.now))) }
     ensures err { OnErr result
-        (AppendsPart (O.taken out.old) (O.taken out.new) (text_of_lines (map_text map.now))) }
+        (AppendsPart (O.taken out.old) (O.taken out.new) (text_of_lines (written_lines map.now))) }
     ensures cause { HasCause (O.faults out.old) (O.faults out.new) result }
+    ensures read_back { All (λ s. s ≤ℤ pos last_start) map.now.starts
+        → IsReadBack (meaning_of map.now) (text_of_lines (written_lines map.now)) }
 {
     let mut text = RowBuf::new();
     for i in 0..map_lines(map) {

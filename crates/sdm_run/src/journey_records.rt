@@ -5,13 +5,13 @@
 ghost use Rattle.std.specs.Prelude.{◌≡◌, ◌⊎◌, ◌≤◌, false, Err, IfErr, IfOk, OnOk};
 ghost use Rattle.csv.specs.Records.{fields_of};
 ghost use Rattle.sdm_io.specs.Causes.{Rose};
-ghost use Rattle.sdm_rules.specs.Records.{event_at, most_records, trip_cause, turn_of};
+ghost use Rattle.sdm_rules.specs.Records.{event_at, journey_from, most_records, trip_cause, turn_of};
 ghost use Rattle.sdm_formats.specs.Forms.{event_of};
 ghost use Rattle.sdm_events.specs.Journey.{records_of};
-ghost use Rattle.sdm_run.specs.Answers.{IsAnswer};
+ghost use Rattle.sdm_run.specs.Answers.{IsAnswer, IsEndOfRecords};
 ghost use Rattle.sdm_run.specs.declared.endings.Ended.{Ended};
 ghost use Rattle.sdm_run.specs.declared.journey_records.Taken.TheVariants.{Cut, Untold};
-ghost use Rattle.sdm_run.specs.RunParts.{IsToldRecord, output_of_records};
+ghost use Rattle.sdm_run.specs.RunParts.{IsHeldBy, IsToldRecord, output_of_records};
 ghost use Rattle.sdm_run.specs.Shapes.{IsOutcomeIn, records_shape};
 
 use crate::endings::Ended;
@@ -61,6 +61,8 @@ pub fn run_records<O: Sink>(
 ) -> Ended
     ensures answer { IsAnswer (output_of_records teller 1 supervisor.old (records_of bytes.now))
         (O.taken out.old) (O.taken out.new) result.outcome }
+    ensures held { IsEndOfRecords result.outcome → IsHeldBy teller
+        (journey_from (event_at event_of) 1 supervisor.old (records_of bytes.now)).turns }
     ensures due { result.is_flush_due ≡ false
         → ((is_flush_due ≡ false) × (out.new ≡ out.old)) ⊎ (result.outcome ≡ Outcome.WriteFault) }
     ensures later { O.faults out.old ≤ O.faults out.new }

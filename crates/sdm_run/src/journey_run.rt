@@ -5,8 +5,8 @@ ghost use Rattle.std.specs.Prelude.{◌≡◌, ◌⊎◌, ◌≤◌, length, fal
 ghost use Rattle.sdm_formats.specs.Flat.{Output};
 ghost use Rattle.sdm_formats.specs.Input.{most_bytes};
 ghost use Rattle.sdm_io.specs.Causes.{Rose};
-ghost use Rattle.sdm_run.specs.Answers.{ComesOfReadingAlone, LeavesOutUntouched, IsAnswer};
-ghost use Rattle.sdm_run.specs.RunParts.{IsToldOutput};
+ghost use Rattle.sdm_run.specs.Answers.{ComesOfReadingAlone, LeavesOutUntouched, IsAnswer, IsEndOfRecords};
+ghost use Rattle.sdm_run.specs.RunParts.{IsHeldRun, IsToldOutput};
 ghost use Rattle.sdm_run.specs.Shapes.{IsOutcomeIn, run_shape};
 
 use crate::endings::Ended;
@@ -24,6 +24,7 @@ pub fn run_journey<O: Sink>(alloc: Global, teller: Teller, bytes: &[u8], out: &m
     requires short { length bytes.now ≤ most_bytes }
     ensures answer { (output : Output) → IsToldOutput teller bytes.now output
         → IsAnswer output (O.taken out.old) (O.taken out.new) result.outcome }
+    ensures held { IsEndOfRecords result.outcome → IsHeldRun teller bytes.now }
     ensures possible { IsOutcomeIn run_shape result.outcome }
     ensures not_before { ComesOfReadingAlone result.outcome → ⊥ }
     ensures first { LeavesOutUntouched result.outcome → (result.is_flush_due ≡ false) × (out.new ≡ out.old) }

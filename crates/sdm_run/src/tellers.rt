@@ -9,7 +9,7 @@ ghost use Rattle.sdm_rules.specs.Display.{display_of};
 ghost use Rattle.sdm_formats.specs.Text.{display_text};
 ghost use Rattle.sdm_rules.specs.declared.rows.Row.{Row};
 ghost use Rattle.sdm_run.specs.declared.tellers.Teller.TheVariants.{Causes, Certificates};
-ghost use Rattle.sdm_run.specs.RunParts.{IsToldReading, head_text};
+ghost use Rattle.sdm_run.specs.RunParts.{IsHeadReadBack, IsToldReading, head_text};
 ghost use Rattle.sdm_run.specs.Shapes.{IsOutcomeIn, records_shape};
 
 use crate::cause_texts::write_causes;
@@ -41,12 +41,14 @@ pub enum Teller {
 }
 
 impl Teller {
-    /// Writes what stands before the records: of `certify` the map. Whether out was handed a byte. (own)
+    /// Writes what stands before the records: of `certify` the map, which a checker reads back. Whether out was handed a
+    /// byte. (own)
     pub fn begin<O: Sink>(self, supervisor: &Supervisor, out: &mut O) -> Result<bool, Failed>
         ensures ok { OnOk result (Appends (O.taken out.old) (O.taken out.new)
             (head_text self supervisor.now.train_and_track)) }
         ensures err { OnErr result (AppendsPart (O.taken out.old) (O.taken out.new)
             (head_text self supervisor.now.train_and_track)) }
+        ensures read_back { IfOk result (λ handed. IsHeadReadBack self supervisor.now.train_and_track) }
         ensures unhanded { IfOk result (λ handed. handed ≡ false → out.new ≡ out.old) }
         ensures cause { HasCause (O.faults out.old) (O.faults out.new) result }
     {

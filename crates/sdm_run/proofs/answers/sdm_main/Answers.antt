@@ -2,9 +2,10 @@
 -- the bytes that were read are to the input.
 use Rattle.std.proofs.Common.{◌∙◌, Err, ap, sym, subst}
 use Rattle.sdm_report.specs.declared.outcome.Outcome.TheVariants.{Memory}
-use Rattle.sdm_run.specs.Answers.{IsAnswer, NeedsTheWholeInput}
+use Rattle.sdm_run.specs.Answers.{IsAnswer, IsEndOfRecords, NeedsTheWholeInput}
 use Rattle.sdm_run.proofs.CommandFacts.{answer_told, rows_told, too_long_told}
 use Rattle.sdm_run.proofs.Flushes.{complete_told, told_of_all}
+use Rattle.sdm_run.proofs.HeldOutputs.{held_told}
 use Rattle.sdm_run.proofs.RunAnswers.{memory_first}
 use Rattle.sdm_run.proofs.UpgradeTexts.{read_back_told}
 use Rattle.sdm_run.proofs.answers.sdm_main.Goals as goal
@@ -18,6 +19,11 @@ pub returns-in-Ok-clause-read_back : goal.returns-in-Ok-clause-read_back
 returns-in-Ok-clause-read_back g c asked whole =
     read_back_told _ _ _ _ _ (sym c.in-Some.ensures.value) c.in-Ok.ensures.whole c.deref.ensures.value
     (λ upgrade. c.outcome_to.ensures.read_back upgrade (subst NeedsTheWholeInput c.told-in-Ok.ensures.same whole)) asked
+
+pub returns-in-Ok-clause-held : goal.returns-in-Ok-clause-held
+returns-in-Ok-clause-held g c count asked end =
+    held_told _ _ _ _ _ count (sym c.in-Some.ensures.value) c.in-Ok.ensures.whole c.deref.ensures.value
+    (λ certify. c.outcome_to.ensures.held count certify (subst IsEndOfRecords c.told-in-Ok.ensures.same end)) asked
 
 pub returns-in-Ok-clause-complete : goal.returns-in-Ok-clause-complete
 returns-in-Ok-clause-complete g c =

@@ -6,8 +6,7 @@ use Rattle.std.proofs.KnownBytes.{Appends-trans}
 use Rattle.std.specs.Io.KnownBytes.{Appends}
 use Rattle.sdm_io.specs.Told.{AppendsPart}
 use Rattle.sdm_rules.specs.declared.certificates.Mark.{Mark}
-use Rattle.sdm_certify.specs.WrittenLines.{claim_text, mark_text}
-use Rattle.sdm_run.specs.Certifying.{text_of_lines}
+use Rattle.sdm_certify.specs.WrittenLines.{claim_text, mark_text, text_of_lines}
 use Rattle.sdm_run.proofs.CertifyLines.{on_err, part_after, text_at, text_more}
 use Rattle.sdm_run.proofs.certify_texts.write_certificate.Goals as goal
 

@@ -1,8 +1,7 @@
 -- So far the claim and the marks before are written.
 use Rattle.std.proofs.Common.{◌≤◌, ◌++◌, length, map, take}
 use Rattle.std.specs.Io.KnownBytes.{Appends}
-use Rattle.sdm_certify.specs.WrittenLines.{claim_text, mark_text}
-use Rattle.sdm_run.specs.Certifying.{text_of_lines}
+use Rattle.sdm_certify.specs.WrittenLines.{claim_text, mark_text, text_of_lines}
 use Rattle.sdm_run.proofs.certify_texts.write_certificate.Given as goal
 
 abbrev pub invariant-loop-mark : goal.invariant-loop-mark

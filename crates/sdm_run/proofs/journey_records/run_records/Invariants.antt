@@ -1,7 +1,9 @@
--- So far out took what is told of the turns before, and the records that are left give the rest of the output.
+-- So far out took what is told of the turns before, which holds, and the records that are left give the rest of the
+-- output.
 use Rattle.std.proofs.Common.{◌≡◌, ◌+◌, ◌≤◌, false, length}
 use Rattle.sdm_events.specs.Journey.{records_of}
-use Rattle.sdm_run.specs.RunParts.{output_of_records}
+use Rattle.sdm_run.specs.RunParts.{IsHeldBy, output_of_records}
+use Rattle.sdm_run.proofs.HeldRecords.{turns_of}
 use Rattle.sdm_run.proofs.OutputLeft.{IsLeftOf}
 use Rattle.sdm_run.proofs.journey_records.run_records.Given as goal
 
@@ -10,6 +12,8 @@ invariant-records g l = record {
   left : IsLeftOf (g.O.Sink.taken l.fn.out) (g.O.Sink.taken l.out)
       (output_of_records l.fn.teller 1 l.fn.supervisor (records_of l.bytes))
       (output_of_records l.teller (l.number + 1) l.supervisor l.records.left);
+  held : IsHeldBy l.teller (turns_of l.teller (l.number + 1) l.supervisor l.records.left) →
+      IsHeldBy l.fn.teller (turns_of l.fn.teller 1 l.fn.supervisor (records_of l.bytes));
   counted : l.number ≤ 100_000;
   later : g.O.Sink.faults l.fn.out ≤ g.O.Sink.faults l.out;
   due : l.is_flush_due ≡ false → (l.fn.is_flush_due ≡ false) × (l.out ≡ l.fn.out);

@@ -5,6 +5,7 @@ use Rattle.std.proofs.lemmas.List.{take_all, length-drop}
 use Rattle.sdm_events.specs.Journey.{records_of}
 use Rattle.sdm_run.specs.RunParts.{head_text, output_of_records}
 use Rattle.sdm_run.proofs.CertifyLines.{head_whole}
+use Rattle.sdm_run.proofs.HeldOutputs.{recorded_held}
 use Rattle.sdm_run.proofs.OutputLeft.{all_left, cut_off, text_and, wrote, wrote_part}
 use Rattle.sdm_run.proofs.RunAnswers.{recorded, records_possible, refused, undivided}
 use Rattle.sdm_run.proofs.RunTexts.{not_first, records_not_before}
@@ -45,6 +46,15 @@ returns-clause-answer g c =
     c.in-Ok.ensures.opened (cut_off _ _ _ whole next so_far c.run_records.result.outcome
     (records_not_before c.run_records.result.outcome c.run_records.ensures.possible)
     (rw rest at c.run_records.ensures.answer))
+
+pub returns-clause-held : goal.returns-clause-held
+returns-clause-held g c end =
+    let bytes = c.args.bytes.now in
+    let start = c.in-Some.records_start in
+    let rest : take (length bytes - start) (drop start bytes)
+    ≡ drop start bytes = take_all _ _ (omega (arith, length-drop start bytes)) in
+    recorded_held bytes c.requires.short c.in-Some.data_end start (sym c.in-Some.ensures.value) c.in-Ok.supervisor
+    c.in-Ok.ensures.opened c.args.teller c.in-Ok-begin.ensures.read_back (rw rest at (c.run_records.ensures.held end))
 
 pub returns-clause-not_before : goal.returns-clause-not_before
 returns-clause-not_before g c = records_not_before c.run_records.result.outcome c.run_records.ensures.possible

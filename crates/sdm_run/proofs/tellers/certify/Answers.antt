@@ -3,7 +3,7 @@ use Rattle.std.proofs.Common.{◌≡◌, ◌<◌, true, [], ap, sym, ◌∙◌, 
 use Rattle.std.proofs.lemmas.Grind.{common_steps}
 use Rattle.std.proofs.KnownBytes.{Appends-nil}
 use Rattle.sdm_rules.specs.declared.rows.Row.{Row}
-use Rattle.sdm_run.specs.Certifying.{marked_claim_text}
+use Rattle.sdm_certify.specs.WrittenLines.{marked_claim_text}
 use Rattle.sdm_run.proofs.CertifyTexts.{certified, outside, told_in_part}
 use Rattle.sdm_run.proofs.tellers.certify.Goals as goal
 
