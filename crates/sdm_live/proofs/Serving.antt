@@ -2,9 +2,9 @@
 use Rattle.std.proofs.Common.{◌≡◌, ◌∙◌, sym, ap, subst, refl, ℕ, List, [], ◌∷◌, ◌++◌, append-nil, append_assoc, true, false}
 use Rattle.sdm_live.specs.Answers.{IsCut, IsWhole}
 use Rattle.sdm_live.specs.Exchanges.{Gave, Gave_fault, Given_on, Held_fault, History, IsAnswered, IsPrompt, came, sent}
-use Rattle.sdm_live.specs.Exchanges.{asked_at}
+use Rattle.sdm_live.specs.Exchanges.{asked_at, is_given_on}
 use Rattle.sdm_live.specs.Lines.{Coming}
-use Rattle.sdm_live.specs.Moments.{IsAnsweredSoFar, IsAskedSoFar, due_after, whole_after}
+use Rattle.sdm_live.specs.Moments.{due_after, whole_after}
 use Rattle.sdm_live.specs.Progress.{Progress, Rules, due, start, whole, with_bytes, with_end}
 use Rattle.sdm_live.specs.Taken.{Begins, DidNotAsk, IsEnded, IsEndedPart, IsPieceAnswered, IsRestAnswered, IsTaken}
 use Rattle.sdm_live.specs.Taken.{IsTakenPart, standing}
@@ -60,6 +60,21 @@ module _ {S : Type 0} (rules : Rules S) where
       })
 
 module _ {S : Type 0} (rules : Rules S) (first : S) (given : List ℕ) where
+  -- the bytes given and those that came lead to this state and line, and to the text that was handed over, which is
+  -- with the peer
+  pub record IsAnsweredSoFar (state : S) (line : Coming) (before now : History) : Type 0 where
+    pub bytes : List ℕ
+    pub came_is : came now ≡ came before ++ bytes
+    pub leads : with_bytes rules (start rules first (sent before)) (given ++ bytes) ≡ standing state line (sent now)
+    pub prompt : IsPrompt (due_after rules first given) before now
+    pub given_on : is_given_on now ≡ true
+
+  -- these bytes came, and were not yet taken
+  pub record IsAskedSoFar (state : S) (line : Coming) (bytes : List ℕ) (before now : History) : Type 0 where
+    pub last : History
+    pub so_far : IsAnsweredSoFar state line before last
+    pub is : now ≡ Gave bytes ∷ last
+
   abbrev nothing : Coming
   nothing = record { bytes = []; is_over = false }
 
@@ -72,7 +87,7 @@ module _ {S : Type 0} (rules : Rules S) (first : S) (given : List ℕ) where
   quiet_prompt h k quiet = record { asks = []; asks_are = quiet.asked_is; answered = tt }
 
   pub begun : (after : S) (left : Coming) (h k : History) → IsPieceAnswered rules first nothing given after left h k →
-      IsAnsweredSoFar rules first given after left h k
+      IsAnsweredSoFar after left h k
   begun after left h k piece = record {
     bytes = [];
     came_is = piece.taken.quiet.came_is ∙ sym (append-nil (came h));
@@ -106,7 +121,7 @@ module _ {S : Type 0} (rules : Rules S) (first : S) (given : List ℕ) where
 
   -- the same of a line in which nothing has come
   pub begun_of : (after : S) (line left : Coming) (h k : History) → line ≡ nothing →
-      IsPieceAnswered rules first line given after left h k → IsAnsweredSoFar rules first given after left h k
+      IsPieceAnswered rules first line given after left h k → IsAnsweredSoFar after left h k
   begun_of after line left h k is piece =
       let A : Coming → Type 0 = λ l. IsPieceAnswered rules first l given after left h k in
       begun after left h k (subst A is piece)
@@ -119,7 +134,7 @@ module _ {S : Type 0} (rules : Rules S) (first : S) (given : List ℕ) where
 
   -- ---- at each moment at which it asks
 
-  pub answered_now : (state : S) (line : Coming) (h k : History) → IsAnsweredSoFar rules first given state line h k →
+  pub answered_now : (state : S) (line : Coming) (h k : History) → IsAnsweredSoFar state line h k →
       IsAnswered (due_after rules first given) h k
   answered_now state line h k so_far = record {
     bytes = so_far.bytes;
@@ -129,7 +144,7 @@ module _ {S : Type 0} (rules : Rules S) (first : S) (given : List ℕ) where
   }
 
   -- it asked, and did not ask again
-  asked_prompt : (state : S) (line : Coming) (h k m : History) → IsAnsweredSoFar rules first given state line h k →
+  asked_prompt : (state : S) (line : Coming) (h k m : History) → IsAnsweredSoFar state line h k →
       asked_at m ≡ k ∷ asked_at k → IsPrompt (due_after rules first given) h m
   asked_prompt state line h k m so_far is = record {
     asks = k ∷ so_far.prompt.asks;
@@ -137,12 +152,12 @@ module _ {S : Type 0} (rules : Rules S) (first : S) (given : List ℕ) where
     answered = (answered_now state line h k so_far, so_far.prompt.answered);
   }
 
-  pub fault_prompt : (state : S) (line : Coming) (h k l : History) → IsAnsweredSoFar rules first given state line h k →
+  pub fault_prompt : (state : S) (line : Coming) (h k l : History) → IsAnsweredSoFar state line h k →
       l ≡ Gave_fault ∷ k → IsPrompt (due_after rules first given) h l
   fault_prompt state line h k l so_far is = asked_prompt state line h k l so_far (ap asked_at is)
 
   pub fault_answered : (state : S) (line : Coming) (h k l : History) →
-      IsAnsweredSoFar rules first given state line h k → l ≡ Gave_fault ∷ k →
+      IsAnsweredSoFar state line h k → l ≡ Gave_fault ∷ k →
       IsAnswered (due_after rules first given) h l
   fault_answered state line h k l so_far is =
       let A : History → Type 0 = λ l. IsAnswered (due_after rules first given) h l in
@@ -155,12 +170,12 @@ module _ {S : Type 0} (rules : Rules S) (first : S) (given : List ℕ) where
       })
 
   pub asked : (state : S) (line : Coming) (bytes : List ℕ) (h k l : History) →
-      IsAnsweredSoFar rules first given state line h k → l ≡ Gave bytes ∷ k →
-      IsAskedSoFar rules first given state line bytes h l
+      IsAnsweredSoFar state line h k → l ≡ Gave bytes ∷ k →
+      IsAskedSoFar state line bytes h l
   asked state line bytes h k l so_far is = record { last = k; so_far = so_far; is = is }
 
   module _ (state : S) (line : Coming) (bytes : List ℕ) (h l m : History)
-      (so_far : IsAskedSoFar rules first given state line bytes h l) where
+      (so_far : IsAskedSoFar state line bytes h l) where
     abbrev all : List ℕ
     all = so_far.so_far.bytes ++ bytes
 
@@ -181,7 +196,7 @@ module _ {S : Type 0} (rules : Rules S) (first : S) (given : List ℕ) where
         ∙ ap (λ t. with_bytes rules (standing state line t) bytes) (sym (ap sent so_far.is))))
 
     pub next_so_far : (after : S) (left : Coming) → IsPieceAnswered rules state line bytes after left l m →
-        IsAnsweredSoFar rules first given after left h m
+        IsAnsweredSoFar after left h m
     next_so_far after left piece = record {
       bytes = all;
       came_is = came_all piece.taken.quiet.came_is;

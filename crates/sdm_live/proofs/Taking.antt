@@ -6,7 +6,7 @@ use Rattle.sdm_live.specs.Exchanges.{History, IsHanded, IsHandedPart, sent}
 use Rattle.sdm_live.specs.Lines.{Coming}
 use Rattle.sdm_live.specs.Progress.{Progress, Rules, byte_of, due, end_of, ends_line, longest_line, more_of, start, whole}
 use Rattle.sdm_live.specs.Progress.{with_byte, with_bytes, with_end}
-use Rattle.sdm_live.specs.Taken.{Begins, DidNotAsk, IsEnded, IsEndedPart, IsTaken, IsTakenOn, IsTakenPart, standing}
+use Rattle.sdm_live.specs.Taken.{Begins, DidNotAsk, IsEnded, IsEndedPart, IsTaken, IsTakenPart, standing}
 
 -- what holds anyway holds after an error
 pub on_err_of : {T E P : Type 0} (r : Result T E) → P → OnErr r P
@@ -246,14 +246,21 @@ module _ {S : Type 0} (rules : Rules S) where
 
   -- ---- a piece, byte after byte
 
+  -- what the bytes that are left lead to from here is what all of them lead to from the first state
+  pub record IsTakenOn (first : S) (begun : Coming) (bytes : List ℕ) (here : S) (line : Coming) (left : List ℕ)
+      (before now : History) : Type 0 where
+    pub leads : with_bytes rules (standing here line (sent now)) left
+        ≡ with_bytes rules (standing first begun (sent before)) bytes
+    pub quiet : DidNotAsk before now
+
   module _ (first state : S) (begun line : Coming) (bytes rest left : List ℕ) (b : ℕ) (left_is : left ≡ b ∷ rest)
-      (h k l : History) (so_far : IsTakenOn rules first begun bytes state line left h k) where
+      (h k l : History) (so_far : IsTakenOn first begun bytes state line left h k) where
     from_here : with_bytes rules (standing state line (sent k)) (b ∷ rest)
         ≡ with_bytes rules (standing first begun (sent h)) bytes
     from_here = ap (λ xs. with_bytes rules (standing state line (sent k)) xs) (sym left_is) ∙ so_far.leads
 
     pub feed_on : (after : S) (now : Coming) → IsTaken rules state line (b ∷ []) after now k l →
-        IsTakenOn rules first begun bytes after now rest h l
+        IsTakenOn first begun bytes after now rest h l
     feed_on after now taken = record {
       leads = ap (λ p. with_bytes rules p rest) (sym taken.leads) ∙ from_here;
       quiet = quiet_then h k l so_far.quiet taken.quiet;
@@ -272,11 +279,11 @@ module _ {S : Type 0} (rules : Rules S) where
 
   -- before the first byte, and after the last
   pub feed_begins : (first : S) (begun : Coming) (bytes : List ℕ) (h : History) →
-      IsTakenOn rules first begun bytes first begun bytes h h
+      IsTakenOn first begun bytes first begun bytes h h
   feed_begins first begun bytes h = record { leads = refl; quiet = record { came_is = refl; asked_is = refl } }
 
   pub feed_ends : (first state : S) (begun line : Coming) (bytes left : List ℕ) (h k : History) → left ≡ [] →
-      IsTakenOn rules first begun bytes state line left h k → IsTaken rules first begun bytes state line h k
+      IsTakenOn first begun bytes state line left h k → IsTaken rules first begun bytes state line h k
   feed_ends first state begun line bytes left h k none so_far = record {
     leads = sym so_far.leads ∙ ap (λ xs. with_bytes rules (standing state line (sent k)) xs) none;
     quiet = so_far.quiet;

@@ -28,14 +28,7 @@ module _ {S : Type 0} (rules : Rules S) (state : S) (line : Coming) where
     pub begins : Begins (sent now) (with_bytes rules (standing state line (sent before)) bytes).text
     pub quiet : DidNotAsk before now
 
-  -- what the bytes that are left lead to from here is what all of them lead to from the start
-  pub record IsTakenOn (bytes : List ℕ) (here : S) (so_far : Coming) (left : List ℕ) (before now : History) :
-      Type 0 where
-    pub leads : with_bytes rules (standing here so_far (sent now)) left
-        ≡ with_bytes rules (standing state line (sent before)) bytes
-    pub quiet : DidNotAsk before now
-
-  -- the same of the end of a line
+  -- the end of a line leads to this state, line and text
   pub record IsEnded (after : S) (left : Coming) (before now : History) : Type 0 where
     pub leads : with_end rules (standing state line (sent before)) ≡ standing after left (sent now)
     pub quiet : DidNotAsk before now

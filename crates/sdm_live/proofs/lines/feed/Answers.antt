@@ -1,9 +1,9 @@
 -- What one byte does follows what the bytes before it did.
 use Rattle.std.proofs.Common.{◌∷◌, [], ◌+◌, drop, get_or}
 use Rattle.std.proofs.lemmas.List.{drop_more}
-use Rattle.sdm_live.specs.Taken.{IsTakenOn, IsTakenPart}
+use Rattle.sdm_live.specs.Taken.{IsTakenPart}
 use Rattle.sdm_live.proofs.Along.{along_then}
-use Rattle.sdm_live.proofs.Taking.{feed_part, on_err_of}
+use Rattle.sdm_live.proofs.Taking.{IsTakenOn, feed_part, on_err_of}
 use Rattle.sdm_live.proofs.lines.feed.Goals as goal
 
 pub returns-in_err-take_byte-clause-err : goal.returns-in_err-take_byte-clause-err

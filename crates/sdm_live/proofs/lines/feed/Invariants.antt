@@ -1,7 +1,7 @@
 -- What the bytes that are left lead to from here is what all of them lead to from the start.
 use Rattle.std.proofs.Common.{drop, ◌≤◌}
 use Rattle.sdm_live.specs.Exchanges.{Along}
-use Rattle.sdm_live.specs.Taken.{IsTakenOn}
+use Rattle.sdm_live.proofs.Taking.{IsTakenOn}
 use Rattle.sdm_live.proofs.lines.feed.Given as goal
 
 abbrev pub invariant-loop-byte : goal.invariant-loop-byte

@@ -3,10 +3,10 @@ use Rattle.std.proofs.Common.{◌≡◌, ◌∷◌, [], ap, take, arith}
 use Rattle.sdm_live.specs.declared.live.Ended.TheVariants.{Done, ReadFault, WriteFault, Endless}
 use Rattle.sdm_live.specs.Answers.{IsLiveAnswer}
 use Rattle.sdm_live.specs.Exchanges.{Gave, Gave_fault, IsPrompt}
-use Rattle.sdm_live.specs.Moments.{IsAnsweredSoFar, IsAskedSoFar, due_after, whole_after}
+use Rattle.sdm_live.specs.Moments.{due_after, whole_after}
 use Rattle.sdm_live.specs.Taken.{IsEndedPart, IsPieceAnswered, IsRestAnswered, IsTakenPart}
 use Rattle.sdm_live.proofs.Along.{along_map, along_then}
-use Rattle.sdm_live.proofs.Serving.{answered_now, asked, begun_of, fault_answered, fault_prompt, first_cut_of}
+use Rattle.sdm_live.proofs.Serving.{IsAnsweredSoFar, IsAskedSoFar, answered_now, asked, begun_of, fault_answered, fault_prompt, first_cut_of}
 use Rattle.sdm_live.proofs.Serving.{next_so_far, piece_cut, quiet_since, rest_cut, rest_whole}
 use Rattle.sdm_live.proofs.live.serve.Goals as goal
 

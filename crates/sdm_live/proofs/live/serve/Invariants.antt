@@ -1,7 +1,7 @@
 -- Whenever it is about to ask, all that was due is with the peer.
 use Rattle.std.proofs.Common.{◌≤◌}
 use Rattle.sdm_live.specs.Exchanges.{Along}
-use Rattle.sdm_live.specs.Moments.{IsAnsweredSoFar}
+use Rattle.sdm_live.proofs.Serving.{IsAnsweredSoFar}
 use Rattle.sdm_live.proofs.live.serve.Given as goal
 
 abbrev pub invariant-reads : goal.invariant-reads
