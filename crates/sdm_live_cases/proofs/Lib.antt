@@ -1,2 +1,6 @@
 mod LineCases
+mod LongLineCases
+mod ExchangeCases
 mod PromptCases
+mod EndCases
+mod AnswerCases

@@ -1,5 +1,5 @@
 -- What is due of a text, and histories of a program that tells each line again with a semicolon.
-use Rattle.std.proofs.Common.{◌≡◌, ◌∙◌, sym, ap, subst, refl, ℕ, List, [], ◌∷◌, ◌++◌, append-nil, codes, true, false}
+use Rattle.std.proofs.Common.{◌≡◌, ◌∙◌, ◌==◌, sym, ap, subst, refl, ℕ, Bool, List, [], ◌∷◌, ◌++◌, append-nil, codes, true, false}
 use Rattle.std.proofs.lemmas.Bool.{false≢true}
 use Rattle.std.specs.List.{AllByRecursion}
 use Rattle.sdm_live.specs.Exchanges.{Gave, Given_on, History, IsAnswered, IsPrompt, Took, asked_at, came, sent}
@@ -77,3 +77,25 @@ told_twice p = let told = told_is _ (last_ask _ p) in absurd cc
 -- answered before it came: not prompt
 too_early : IsPrompt due_again [] (Gave [] ∷ Given_on ∷ Took (codes "ab;") ∷ Gave (codes "ab") ∷ []) → ⊥
 too_early p = let told = told_is _ (last_ask _ p) in absurd cc
+
+abbrev begins_with_a : List ℕ → Bool
+begins_with_a [] = false
+begins_with_a (c ∷ cs) = c == 97
+
+-- the answers of two lines in the wrong order: not prompt
+out_of_order : IsPrompt due_again [] (Gave [] ∷ Given_on ∷ Took (codes "b;a;") ∷ Gave (codes "a\nb\n") ∷ []) → ⊥
+out_of_order p = absurd (false≢true (ap begins_with_a (told_is _ (last_ask _ p))))
+
+-- what was answered at each time was so at the time before the last, too
+ask_before : (before earlier : History) → asked_at before ≡ earlier ∷ asked_at earlier →
+    IsPrompt due_again [] (Gave [] ∷ before) → IsAnswered due_again [] earlier
+ask_before before earlier is p =
+    let asks : p.asks ≡ before ∷ earlier ∷ asked_at earlier =
+    sym (append-nil p.asks) ∙ (sym p.asks_are ∙ ap (λ xs. before ∷ xs) is) in
+    let A : List History → Type 0 = λ asks. AllByRecursion (IsAnswered due_again []) asks in
+    (subst A asks p.answered).1.0
+
+-- asked for once before the answer, though all was given on by the next time: not prompt
+late : IsPrompt due_again []
+    (Gave [] ∷ Given_on ∷ Took (codes "ab;") ∷ Gave (codes "c") ∷ Gave (codes "ab\n") ∷ []) → ⊥
+late p = let told = told_is _ (ask_before _ (Gave (codes "ab\n") ∷ []) refl p) in absurd cc

@@ -1,6 +1,9 @@
 pub mod TakenTurns
-mod Between
 mod Scan
+mod Written
+mod Unbroken
+mod LineLengths
 mod LineRecords
 mod Marks
 mod SameRows
+mod TurnCases

@@ -5,7 +5,7 @@ use Rattle.csv.specs.Machine.{Read, next_record, step, is_end, ends_at_end, fiel
 use Rattle.csv.specs.Reading.{default_config, records, records_from, records_next}
 use Rattle.csv.specs.declared.parser.State.{State}
 use Rattle.csv.specs.declared.parser.State.TheVariants as st
-use Rattle.sdm_live_laws.proofs.Between.{Between, next_takes_a_byte}
+use Rattle.sdm_events.proofs.Rest.{Between, next_takes_a_byte}
 
 abbrev pub Fields : Type 0
 Fields = List (List ℕ)

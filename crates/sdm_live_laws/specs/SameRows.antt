@@ -1,6 +1,5 @@
 -- A live run beside `run`, which reads all records at once (own).
-use Rattle.std.specs.Prelude.{◌≡◌, ◌≤◌, ℕ, Bool, true, false, List, [], ◌∷◌, ◌&&◌, ◌||◌, None, length, map}
-use Rattle.std.specs.List.{AllByRecursion}
+use Rattle.std.specs.Prelude.{◌≡◌, ℕ, Bool, true, false, List, [], ◌∷◌, ◌&&◌, ◌||◌, None, map}
 use Rattle.csv.specs.Machine.{step}
 use Rattle.csv.specs.Reading.{default_config, strip_bom}
 use Rattle.csv.specs.declared.parser.State.{State}
@@ -10,7 +9,7 @@ use Rattle.sdm_rules.specs.Supervision.{Supervision}
 use Rattle.sdm_formats.specs.Forms.{event_of}
 use Rattle.sdm_events.specs.Journey.{records_of}
 use Rattle.sdm_live.specs.ByLines.{lines_of}
-use Rattle.sdm_live.specs.Progress.{ends_line, longest_line}
+use Rattle.sdm_live.specs.Progress.{ends_line}
 use Rattle.sdm_live_records.specs.Fields.{split_fields}
 use Rattle.sdm_live_laws.specs.Turns.{live_turns}
 
@@ -48,11 +47,7 @@ LawOfLineRecords = (bytes : List ℕ) → AreOnLines bytes →
 abbrev pub run_journey : Supervision → List ℕ → Journey
 run_journey s bytes = journey_from (event_at event_of) 1 s (records_of bytes)
 
--- no line is too long
-abbrev pub AreShort : List (List ℕ) → Type 0
-AreShort lines = AllByRecursion (λ line. length line ≤ longest_line) lines
-
--- THE ROWS OF `run`: where it accepts such bytes, and no line is too long, the live run takes the same turns
+-- THE ROWS OF `run`: where it accepts the bytes, the live run takes the same turns
 abbrev pub LawOfSameRows : Type 0
-LawOfSameRows = (s : Supervision) (bytes : List ℕ) → AreOnLines bytes → AreShort (lines_of bytes) →
-    (run_journey s bytes).refused ≡ None → live_turns s bytes ≡ (run_journey s bytes).turns
+LawOfSameRows = (s : Supervision) (bytes : List ℕ) → (run_journey s bytes).refused ≡ None →
+    live_turns s bytes ≡ (run_journey s bytes).turns

@@ -22,8 +22,8 @@ pub fn law_of_line_records()
     ensures { LawOfLineRecords }
 {}
 
-/// Where `run` accepts such bytes, and no line is too long, the live run takes the same turns, so it writes the rows of
-/// `run`.
+/// Where `run` accepts the bytes of the records, the live run takes the same turns, so it writes the rows of `run`: each
+/// record that is accepted stands on a line of its own, which isn't too long.
 pub fn law_of_same_rows()
     ensures { LawOfSameRows }
 {}
