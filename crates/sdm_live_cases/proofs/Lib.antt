@@ -4,4 +4,3 @@ mod ExchangeCases
 mod PromptCases
 mod EndCases
 mod AnswerCases
-mod SameRowsCases

@@ -1,215 +1,208 @@
--- A dividing line that a line feed ends is the same whatever follows; one that nothing ends ends the bytes.
-use Rattle.std.proofs.Common.{◌≡◌, ◌∙◌, ◌≤◌, ◌<◌, ◌+◌, ◌-◌, ◌==◌, ℕ, Bool, true, false, List, [], ◌∷◌, ◌++◌, Some, None}
-use Rattle.std.proofs.Common.{Option, length, length-append, get_or, drop, refl, sym, ap, subst, append_assoc, append-nil, arith}
-use Rattle.std.proofs.Common.{inl, inr, ◌⊎◌}
-use Rattle.std.proofs.Math.Seq.{get_or-append_seam}
-use Rattle.std.proofs.lemmas.Bool.{cases_Bool, eqb-true}
-use Rattle.std.proofs.lemmas.List.{drop_all}
-use Rattle.std.specs.List.{AllByRecursion, onto_first}
+-- Lines are looked through one after the other. So whole lines that divide are the same whatever follows them, and those
+-- of which none divides only shift the places of what comes after.
+use Rattle.std.proofs.Common.{◌≡◌, ◌∙◌, ◌<◌, ◌+◌, ◌==◌, if◌then◌else◌, cond, ℕ, suc, Bool, true, false, List, [], ◌∷◌, ◌++◌}
+use Rattle.std.proofs.Common.{Option, Some, None, length, length-append, take, refl, sym, ap, append_assoc}
+use Rattle.std.proofs.Common.{append-nil, arith, option_map}
+use Rattle.std.proofs.Math.Seq.{take-append_seam}
+use Rattle.std.proofs.lemmas.Iterator.Adapters.{position_from-zero}
+use Rattle.std.proofs.lemmas.List.Folds.{concat-append}
+use Rattle.std.specs.List.{concat, onto_first, position_from}
 use Rattle.sdm_formats.specs.Lines.{ended_lines}
-use Rattle.sdm_data.specs.Division.{divide, is_dividing_line}
-use Rattle.sdm_live_data.specs.Divisions.{HasNoRecords}
-use Rattle.sdm_data.proofs.LinesOfInput.{IsLeft, all_left, divided, passed, undivided}
+use Rattle.sdm_data.specs.Division.{divide, is_dividing_line, offset_after}
+use Rattle.sdm_live_data.specs.Divisions.{AreWholeLines, IsUnfed}
 
--- no line feed stands in a part of a line
-abbrev IsUnfed : List ℕ → Type 0
-IsUnfed line = AllByRecursion (λ b. (b == 10) ≡ false) line
+-- ---- line by line
 
-unfed_more : (line : List ℕ) (c : ℕ) → IsUnfed line → (c == 10) ≡ false → IsUnfed (line ++ c ∷ [])
-unfed_more [] c h not = (not, tt)
-unfed_more (b ∷ bs) c h not = (h.0, unfed_more bs c h.1 not)
+-- the places of the first line that divides, of lines that begin at a place
+abbrev places : ℕ → List (List ℕ) → Option (ℕ × ℕ)
+places at [] = None
+places at (l ∷ ls) = if is_dividing_line l then Some (at, at + length l) else places (at + length l) ls
 
-line_then : (line cs : List ℕ) → IsUnfed line →
-    ended_lines (line ++ 10 ∷ cs) ≡ (line ++ 10 ∷ []) ∷ ended_lines cs
-line_then [] cs h = refl
-line_then (b ∷ bs) cs h = rw (h.0, line_then bs cs h.1) refl
+abbrev offsets : List (List ℕ) → ℕ → ℕ × ℕ
+offsets lines k = (offset_after k lines, offset_after (suc k) lines)
 
-line_alone : (line : List ℕ) → IsUnfed line → 0 < length line → ended_lines line ≡ line ∷ []
-line_alone [] h some = absurd (omega (arith, some))
-line_alone (b ∷ []) h some = rw (h.0) refl
-line_alone (b ∷ c ∷ cs) h some = rw (h.0, line_alone (c ∷ cs) h.1 (omega arith)) refl
+one_more : (xs : List (List ℕ)) (y : List ℕ) (ys : List (List ℕ)) →
+    take (suc (length xs)) (xs ++ y ∷ ys) ≡ xs ++ y ∷ []
+one_more [] y ys = refl
+one_more (x ∷ xs) y ys = ap (λ (t : List (List ℕ)). x ∷ t) (one_more xs y ys)
 
--- the last byte of a line is no line feed
-last_unfed : (pre line : List ℕ) → IsUnfed line → 0 < length line →
-    get_or (pre ++ line) (length (pre ++ line) - 1) 0 ≡ 10 → ⊥
-last_unfed pre [] h some is = omega (arith, some)
-last_unfed pre (b ∷ []) h some is =
-    let n = length-append pre (b ∷ []) in
-    let at : length (pre ++ b ∷ []) - 1 ≡ length pre = omega (arith, n) in
-    let here : b ≡ 10 = sym (get_or-append_seam pre b [] 0) ∙ (ap (λ i. get_or (pre ++ b ∷ []) i 0) (sym at) ∙ is) in
-    cc (rw here at h.0)
-last_unfed pre (b ∷ c ∷ cs) h some is =
-    let same : pre ++ b ∷ c ∷ cs ≡ (pre ++ b ∷ []) ++ c ∷ cs = sym (append_assoc pre (b ∷ []) (c ∷ cs)) in
-    last_unfed (pre ++ b ∷ []) (c ∷ cs) h.1 (omega arith)
-    (subst (λ (xs : List ℕ). get_or xs (length xs - 1) 0 ≡ 10) same is)
+with_line : (before : List (List ℕ)) (line : List ℕ) →
+    length (concat (before ++ line ∷ [])) ≡ length (concat before) + length line
+with_line before line = rw (concat-append before (line ∷ []), append-nil line) (length-append (concat before) line)
 
--- the division is this one, whatever follows
-pub record IsClosed (bytes : List ℕ) (data_end records_start : ℕ) : Type 0 where
-  pub divides : (more : List ℕ) → divide (bytes ++ more) ≡ Some (data_end, records_start)
-  pub order : data_end ≤ records_start
-  pub within : records_start ≤ length bytes
-  pub some : 0 < records_start
-  pub fed : get_or bytes (records_start - 1) 0 ≡ 10
+offsets_here : (before : List (List ℕ)) (line : List ℕ) (more : List (List ℕ)) →
+    offsets (before ++ line ∷ more) (length before)
+    ≡ (length (concat before), length (concat before) + length line)
+offsets_here before line more =
+    rw (take-append_seam before (line ∷ more), one_more before line more, with_line before line) refl
 
--- there is none, or its line ends the bytes
-pub record IsLast (bytes : List ℕ) : Type 0 where
-  pub data_end : ℕ
-  pub divides : divide bytes ≡ Some (data_end, length bytes)
-  pub unfed : get_or bytes (length bytes - 1) 0 ≡ 10 → ⊥
+abbrev ArePlacesFrom : List (List ℕ) → Type 0
+ArePlacesFrom lines = (before : List (List ℕ)) →
+    option_map (offsets (before ++ lines)) (position_from is_dividing_line (length before) lines)
+    ≡ places (length (concat before)) lines
 
-abbrev pub Decided : List ℕ → Type 0
-Decided bytes =
-    ((d : ℕ) × (r : ℕ) × IsClosed bytes d r) ⊎ ((divide bytes ≡ None) ⊎ IsLast bytes)
+module _ (l : List ℕ) (ls before : List (List ℕ)) (ih : ArePlacesFrom ls) where
+  places_on : option_map (offsets (before ++ l ∷ ls)) (position_from is_dividing_line (length before + 1) ls)
+      ≡ places (length (concat before) + length l) ls
+  places_on =
+      let size : length (before ++ l ∷ []) ≡ length before + 1 = length-append before (l ∷ []) in
+      ap (λ lines. option_map (offsets lines) (position_from is_dividing_line (length before + 1) ls))
+      (sym (append_assoc before (l ∷ []) ls))
+      ∙ (ap (λ n. option_map (offsets ((before ++ l ∷ []) ++ ls)) (position_from is_dividing_line n ls)) (sym size)
+      ∙ (ih (before ++ l ∷ []) ∙ ap (λ n. places n ls) (with_line before l)))
 
--- what is left, whatever follows
-abbrev LeftOf : List ℕ → List ℕ → Type 0
-LeftOf input rest = (more : List ℕ) → IsLeft (input ++ more) (rest ++ more)
+  places_by : (b : Bool) →
+      option_map (offsets (before ++ l ∷ ls))
+      (cond b (Some (length before)) (position_from is_dividing_line (length before + 1) ls))
+      ≡ (if b then Some (length (concat before), length (concat before) + length l)
+      else places (length (concat before) + length l) ls)
+  places_by true = ap Some (offsets_here before l ls)
+  places_by false = places_on
 
-now_left : (input rest : List ℕ) → LeftOf input rest → IsLeft input rest
-now_left input rest h =
-    let A : List ℕ → Type 0 = λ xs. IsLeft xs rest in
-    let B : List ℕ → Type 0 = λ ys. IsLeft (input ++ []) ys in
-    subst A (append-nil input) (subst B (append-nil rest) (h []))
+places_from : (lines : List (List ℕ)) → ArePlacesFrom lines
+places_from [] before = refl
+places_from (l ∷ ls) before = places_by l ls before (λ before. places_from ls before) (is_dividing_line l)
 
-at_end : (input pre line : List ℕ) → input ≡ pre ++ line → IsUnfed line → IsLeft input line → Decided input
-at_end input pre [] is unfed h = inr (inl (undivided input h))
-at_end input pre (b ∷ bs) is unfed h =
-    let line = b ∷ bs in
-    let first = line_alone line unfed (omega arith) in
-    let whole_input : length input - 0 ≡ length input = omega arith in
-    elim (cases_Bool (is_dividing_line line)) [
-      | inl here ↦ inr (inr (record {
-        data_end = length input - length line;
-        divides = divided input line line [] h first (omega arith) here
-            ∙ ap (λ i. Some (length input - length line, i)) whole_input;
-        unfed = λ fed. last_unfed pre line unfed (omega arith)
-            (subst (λ (xs : List ℕ). get_or xs (length xs - 1) 0 ≡ 10) is fed);
-      }))
-      | inr other ↦ inr (inl (undivided input (passed input line line [] h first (omega arith) other)))
-    ]
+divide_is : (input : List ℕ) → divide input ≡ places 0 (ended_lines input)
+unfolding divide
+divide_is input =
+    ap (option_map (offsets (ended_lines input))) (position_from-zero is_dividing_line (ended_lines input))
+    ∙ places_from (ended_lines input) []
 
-first_of : (line cs more : List ℕ) → IsUnfed line →
-    ended_lines ((line ++ 10 ∷ cs) ++ more) ≡ (line ++ 10 ∷ []) ∷ ended_lines (cs ++ more)
-first_of line cs more unfed =
-    ap ended_lines (append_assoc line (10 ∷ cs) more) ∙ line_then line (cs ++ more) unfed
+-- ---- lines, and those after them
 
-module _ (input pre line cs : List ℕ) (is : input ≡ pre ++ (line ++ 10 ∷ cs)) (unfed : IsUnfed line)
-    (h : LeftOf input (line ++ 10 ∷ cs)) where
-  size : length input ≡ length pre + (length line + (1 + length cs))
-  size =
-      let a = length-append pre (line ++ 10 ∷ cs) in
-      let b = length-append line (10 ∷ cs) in
-      ap length is ∙ omega (arith, a, b)
+same_by : (b : Bool) (found : ℕ × ℕ) (xs ys : Option (ℕ × ℕ)) (p : ℕ × ℕ) → (xs ≡ Some p → ys ≡ Some p) →
+    (if b then Some found else xs) ≡ Some p → (if b then Some found else ys) ≡ Some p
+same_by true found xs ys p f h = h
+same_by false found xs ys p f h = f h
 
-  whole : (more : List ℕ) → length (line ++ 10 ∷ []) + length (cs ++ more) ≡ length ((line ++ 10 ∷ cs) ++ more)
-  whole more =
-      let a = length-append line (10 ∷ []) in
-      let b = length-append cs more in
-      let c = length-append (line ++ 10 ∷ cs) more in
-      let d = length-append line (10 ∷ cs) in
-      omega (arith, a, b, c, d)
+then_same : (xs ys : List (List ℕ)) (at : ℕ) (p : ℕ × ℕ) → places at xs ≡ Some p → places at (xs ++ ys) ≡ Some p
+then_same [] ys at p h = cc h
+then_same (x ∷ xs) ys at p h =
+    same_by (is_dividing_line x) (at, at + length x) _ _ p (then_same xs ys (at + length x) p) h
 
-  closed : is_dividing_line (line ++ 10 ∷ []) ≡ true →
-      IsClosed input (length input - length (line ++ 10 ∷ cs)) (length input - length cs)
-  closed divides_it =
-      let n = size in
-      let d = length-append line (10 ∷ cs) in
-      record {
-        divides = λ more.
-            let a = length-append input more in
-            let b = length-append (line ++ 10 ∷ cs) more in
-            let c = length-append cs more in
-            let start : length (input ++ more) - length ((line ++ 10 ∷ cs) ++ more)
-            ≡ length input - length (line ++ 10 ∷ cs) = omega (arith, a, b, n, d) in
-            let end : length (input ++ more) - length (cs ++ more) ≡ length input - length cs =
-            omega (arith, a, c, n) in
-            divided (input ++ more) ((line ++ 10 ∷ cs) ++ more) (line ++ 10 ∷ []) (cs ++ more) (h more)
-            (first_of line cs more unfed) (whole more) divides_it
-            ∙ (ap (λ i. Some (i, length (input ++ more) - length (cs ++ more))) start
-            ∙ ap (λ i. Some (length input - length (line ++ 10 ∷ cs), i)) end);
-        order = omega (arith, n, d);
-        within = omega (arith, n);
-        some = omega (arith, n);
-        fed =
-            let e = length-append pre line in
-            let at : (length input - length cs) - 1 ≡ length (pre ++ line) = omega (arith, n, e) in
-            let same : input ≡ (pre ++ line) ++ 10 ∷ cs = is ∙ sym (append_assoc pre line (10 ∷ cs)) in
-            ap (λ i. get_or input i 0) at
-            ∙ (ap (λ xs. get_or xs (length (pre ++ line)) 0) same ∙ get_or-append_seam (pre ++ line) 10 cs 0);
-      }
+none_by : (b : Bool) (found : ℕ × ℕ) (xs ys zs : Option (ℕ × ℕ)) → (xs ≡ None → ys ≡ zs) →
+    (if b then Some found else xs) ≡ None → (if b then Some found else ys) ≡ zs
+none_by true found xs ys zs f h = cc h
+none_by false found xs ys zs f h = f h
 
-  passed_on : is_dividing_line (line ++ 10 ∷ []) ≡ false → LeftOf input cs
-  passed_on other more =
-      passed (input ++ more) ((line ++ 10 ∷ cs) ++ more) (line ++ 10 ∷ []) (cs ++ more) (h more)
-      (first_of line cs more unfed) (whole more) other
+none_then : (xs ys : List (List ℕ)) (at : ℕ) → places at xs ≡ None →
+    places at (xs ++ ys) ≡ places (at + length (concat xs)) ys
+none_then [] ys at h = ap (λ n. places n ys) (omega arith)
+none_then (x ∷ xs) ys at h =
+    let size = length-append x (concat xs) in
+    none_by (is_dividing_line x) (at, at + length x) _ _ (places (at + length (concat (x ∷ xs))) ys)
+    (λ none. none_then xs ys (at + length x) none ∙ ap (λ n. places n ys) (omega (arith, size))) h
 
-decide : (rest line pre input : List ℕ) → input ≡ pre ++ (line ++ rest) → IsUnfed line → LeftOf input (line ++ rest) →
-    Decided input
-decide [] line pre input is unfed h =
-    let same = append-nil line in
-    at_end input pre line (is ∙ ap (λ l. pre ++ l) same) unfed
-    (subst (λ (l : List ℕ). IsLeft input l) same (now_left input (line ++ []) h))
-decide (c ∷ cs) line pre input is unfed h =
-    elim (cases_Bool (c == 10)) [
-      | inl feed ↦
-          let ten : c ≡ 10 = eqb-true c 10 feed in
-          let is10 : input ≡ pre ++ (line ++ 10 ∷ cs) = is ∙ ap (λ x. pre ++ (line ++ x ∷ cs)) ten in
-          let h10 : LeftOf input (line ++ 10 ∷ cs) = subst (λ (x : ℕ). LeftOf input (line ++ x ∷ cs)) ten h in
-          elim (cases_Bool (is_dividing_line (line ++ 10 ∷ []))) [
-            | inl here ↦ inl (_, _, closed input pre line cs is10 unfed h10 here)
-            | inr passes ↦ decide cs [] (pre ++ (line ++ 10 ∷ [])) input
-                (is10 ∙ (ap (λ l. pre ++ l) (sym (append_assoc line (10 ∷ []) cs))
-                ∙ sym (append_assoc pre (line ++ 10 ∷ []) cs)))
-                tt (passed_on input pre line cs is10 unfed h10 passes)
-          ]
-      | inr other ↦
-          let same : line ++ c ∷ cs ≡ (line ++ c ∷ []) ++ cs = sym (append_assoc line (c ∷ []) cs) in
-          decide cs (line ++ c ∷ []) pre input (is ∙ ap (λ l. pre ++ l) same) (unfed_more line c unfed other)
-          (subst (λ (l : List ℕ). LeftOf input l) same h)
-    ]
+-- places that are so much further on
+abbrev pub shifted : ℕ → ℕ × ℕ → ℕ × ℕ
+shifted n p = (n + p.0, n + p.1)
 
-pub decided : (bytes : List ℕ) → Decided bytes
-decided bytes = decide bytes [] [] bytes refl tt (λ more. all_left (bytes ++ more))
+shift_by : (b : Bool) (n at size : ℕ) (xs ys : Option (ℕ × ℕ)) → xs ≡ option_map (shifted n) ys →
+    (if b then Some (n + at, n + at + size) else xs)
+    ≡ option_map (shifted n) (if b then Some (at, at + size) else ys)
+shift_by true n at size xs ys h = ap (λ e. Some (n + at, e)) (omega arith)
+shift_by false n at size xs ys h = h
 
--- ---- what a look at the last byte of the dividing line shows
+shift : (ls : List (List ℕ)) (n at : ℕ) → places (n + at) ls ≡ option_map (shifted n) (places at ls)
+shift [] n at = refl
+shift (l ∷ ls) n at =
+    shift_by (is_dividing_line l) n at (length l) _ _
+    (ap (λ e. places e ls) (omega arith) ∙ shift ls n (at + length l))
 
-abbrev second : Option (ℕ × ℕ) → ℕ
+concat_lines : (text : List ℕ) → concat (ended_lines text) ≡ text
+concat_lines [] = refl
+concat_lines (c ∷ cs) = by_test (c == 10) (concat_lines cs)
+  where
+    onto : (ls : List (List ℕ)) → concat (onto_first c ls) ≡ c ∷ concat ls
+    onto [] = refl
+    onto (l ∷ ls) = refl
+
+    by_test : (b : Bool) → concat (ended_lines cs) ≡ cs →
+        concat (if b then (c ∷ []) ∷ ended_lines cs else onto_first c (ended_lines cs)) ≡ c ∷ cs
+    by_test true h = ap (λ (xs : List ℕ). c ∷ xs) h
+    by_test false h = onto (ended_lines cs) ∙ ap (λ (xs : List ℕ). c ∷ xs) h
+
+-- whole lines that divide do so whatever follows
+pub divide_then : (lines : List ℕ) → AreWholeLines lines → (p : ℕ × ℕ) → divide lines ≡ Some p → (more : List ℕ) →
+    divide (lines ++ more) ≡ Some p
+divide_then lines whole p h more =
+    divide_is (lines ++ more)
+    ∙ (ap (places 0) (whole more)
+    ∙ then_same (ended_lines lines) (ended_lines more) 0 p (sym (divide_is lines) ∙ h))
+
+-- after whole lines of which none divides what follows divides as it does alone, so much further on
+pub divide_after : (lines : List ℕ) → AreWholeLines lines → divide lines ≡ None → (more : List ℕ) →
+    divide (lines ++ more) ≡ option_map (shifted (length lines)) (divide more)
+divide_after lines whole h more =
+    let none : places 0 (ended_lines lines) ≡ None = sym (divide_is lines) ∙ h in
+    divide_is (lines ++ more)
+    ∙ (ap (places 0) (whole more)
+    ∙ (none_then (ended_lines lines) (ended_lines more) 0 none
+    ∙ (ap (λ n. places n (ended_lines more)) (size (length (concat (ended_lines lines))) (ap length (concat_lines lines)))
+    ∙ (shift (ended_lines more) (length lines) 0
+    ∙ ap (option_map (shifted (length lines))) (sym (divide_is more))))))
+  where
+    size : (n : ℕ) → n ≡ length lines → 0 + n ≡ length lines + 0
+    size n is = omega (arith, is)
+
+-- ---- whole lines
+
+pub no_lines : AreWholeLines []
+no_lines more = refl
+
+pub lines_then : (xs ys : List ℕ) → AreWholeLines xs → AreWholeLines ys → AreWholeLines (xs ++ ys)
+lines_then xs ys first others more =
+    ap ended_lines (append_assoc xs ys more)
+    ∙ (first (ys ++ more)
+    ∙ (ap (λ (ls : List (List ℕ)). ended_lines xs ++ ls) (others more)
+    ∙ (sym (append_assoc (ended_lines xs) (ended_lines ys) (ended_lines more))
+    ∙ ap (λ (ls : List (List ℕ)). ls ++ ended_lines more) (sym (first ys)))))
+
+-- bytes that a line feed ends
+pub fed_lines : (xs : List ℕ) → AreWholeLines (xs ++ 10 ∷ [])
+fed_lines [] more = refl
+fed_lines (c ∷ cs) more = by_test (c == 10) (fed_lines cs more)
+  where
+    some_line : (text : List ℕ) (others : List (List ℕ)) → 0 < length text →
+        onto_first c (ended_lines text ++ others) ≡ onto_first c (ended_lines text) ++ others
+    some_line [] others some = absurd (omega (arith, some))
+    some_line (b ∷ bs) others some = by_first (ended_lines (b ∷ bs)) (concat_lines (b ∷ bs))
+      where
+        by_first : (ls : List (List ℕ)) → concat ls ≡ b ∷ bs → onto_first c (ls ++ others) ≡ onto_first c ls ++ others
+        by_first [] is = cc is
+        by_first (l ∷ ls) is = refl
+
+    by_test : (b : Bool) → ended_lines ((cs ++ 10 ∷ []) ++ more) ≡ ended_lines (cs ++ 10 ∷ []) ++ ended_lines more →
+        (if b then (c ∷ []) ∷ ended_lines ((cs ++ 10 ∷ []) ++ more)
+        else onto_first c (ended_lines ((cs ++ 10 ∷ []) ++ more)))
+        ≡ (if b then (c ∷ []) ∷ ended_lines (cs ++ 10 ∷ []) else onto_first c (ended_lines (cs ++ 10 ∷ [])))
+        ++ ended_lines more
+    by_test true h = ap (λ (ls : List (List ℕ)). (c ∷ []) ∷ ls) h
+    by_test false h =
+        let size = length-append cs (10 ∷ []) in
+        ap (onto_first c) h ∙ some_line (cs ++ 10 ∷ []) (ended_lines more) (omega (arith, size))
+
+-- ---- a line that no line feed ends
+
+one_line : (line : List ℕ) → IsUnfed line → 0 < length line → ended_lines line ≡ line ∷ []
+one_line [] h some = absurd (omega (arith, some))
+one_line (b ∷ []) h some = rw (h.0) refl
+one_line (b ∷ c ∷ cs) h some = rw (h.0, one_line (c ∷ cs) h.1 (omega arith)) refl
+
+abbrev pub second : Option (ℕ × ℕ) → ℕ
 second None = 0
-second (Some x) = x.1
+second (Some p) = p.1
 
-same_place : (bytes : List ℕ) (d r e s : ℕ) → divide bytes ≡ Some (d, r) → divide bytes ≡ Some (e, s) → r ≡ s
-same_place bytes d r e s p q = ap second (sym p ∙ q)
-
-nothing_after : (bytes : List ℕ) (r : ℕ) → r ≡ length bytes → drop r bytes ≡ []
-nothing_after bytes r is = drop_all r bytes (omega (arith, is))
-
-closed_now : (bytes : List ℕ) (d r : ℕ) → IsClosed bytes d r → divide bytes ≡ Some (d, r)
-closed_now bytes d r c = ap divide (sym (append-nil bytes)) ∙ c.divides []
-
--- a line feed ends it: it is the same whatever follows
-pub division_found : (bytes : List ℕ) (d r : ℕ) → divide bytes ≡ Some (d, r) → 0 < r →
-    get_or bytes (r - 1) 0 ≡ 10 → (more : List ℕ) → divide (bytes ++ more) ≡ Some (d, r)
-division_found bytes d r is some fed more = elim (decided bytes) [
-  | inl whole ↦ whole.2.divides more ∙ (sym (closed_now bytes whole.0 whole.1 whole.2) ∙ is)
-  | inr (inl none) ↦ cc (sym none ∙ is)
-  | inr (inr last) ↦
-      let end = same_place bytes d r last.data_end (length bytes) is last.divides in
-      absurd (last.unfed (ap (λ i. get_or bytes (i - 1) 0) (sym end) ∙ fed))
-]
-
--- no line feed ends it: no record has begun
-pub division_wanting : (bytes : List ℕ) (d r : ℕ) → divide bytes ≡ Some (d, r) →
-    ((0 < r) → get_or bytes (r - 1) 0 ≡ 10 → ⊥) → HasNoRecords bytes
-division_wanting bytes d r is unfed e s at = elim (decided bytes) [
-  | inl whole ↦
-      let same = same_place bytes whole.0 whole.1 d r (closed_now bytes whole.0 whole.1 whole.2) is in
-      absurd (unfed (omega (arith, same, whole.2.some))
-      (ap (λ i. get_or bytes (i - 1) 0) (sym same) ∙ whole.2.fed))
-  | inr (inl none) ↦ cc (sym none ∙ is)
-  | inr (inr last) ↦ nothing_after bytes s (same_place bytes e s last.data_end (length bytes) at last.divides)
-]
-
-pub no_division : (bytes : List ℕ) → divide bytes ≡ None → HasNoRecords bytes
-no_division bytes none e s at = cc (sym none ∙ at)
-
-pub ruleset whole_divisions = (division_found, division_wanting, no_division)
+-- it divides as a whole, or not at all
+pub line_divides : (line : List ℕ) → IsUnfed line → (p : ℕ × ℕ) → divide line ≡ Some p → p.1 ≡ length line
+line_divides [] unfed p h = cc (sym (divide_is []) ∙ h)
+line_divides (b ∷ bs) unfed p h =
+    let line = b ∷ bs in
+    let lines : divide line ≡ places 0 (line ∷ []) =
+    divide_is line ∙ ap (places 0) (one_line line unfed (omega arith)) in
+    by_test (is_dividing_line line) (sym lines ∙ h)
+  where
+    by_test : (t : Bool) → (if t then Some (0, 0 + length (b ∷ bs)) else None) ≡ Some p → p.1 ≡ length (b ∷ bs)
+    by_test true h = let e = ap second h in omega (arith, e)
+    by_test false h = cc h

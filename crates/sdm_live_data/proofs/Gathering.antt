@@ -1,11 +1,11 @@
 -- The data part, from one read to the next.
 use Rattle.std.proofs.Common.{◌≡◌, ◌∙◌, ◌<◌, sym, ap, subst, refl, ℕ, List, [], ◌∷◌, ◌++◌, append-nil, append_assoc, true}
-use Rattle.std.proofs.Common.{Option, Some, None, length, drop, arith}
+use Rattle.std.proofs.Common.{Option, Some, None, length, arith}
 use Rattle.std.proofs.Common.{Result, Ok, Err, IfOk, ◌≤◌, ◌-◌, length-append, take}
-use Rattle.std.proofs.lemmas.List.{drop_all, length-take-le}
-use Rattle.sdm_live.specs.Exchanges.{Along, Gave, Gave_fault, History, Told, asked_at, came, is_given_on, sent}
+use Rattle.std.proofs.lemmas.List.{length-take-le}
+use Rattle.sdm_live.specs.Exchanges.{Along, Gave, Gave_fault, History, Told, came, is_given_on}
 use Rattle.sdm_live_data.specs.Divisions.{HasNoRecords}
-use Rattle.sdm_live_data.specs.Waiting.{IsGathered, IsUnanswered, IsWaiting, IsWaitingPrompt}
+use Rattle.sdm_live_data.specs.Waiting.{IsGathered, IsUnanswered, IsWaiting}
 
 pub at_first : (a : Option History) → Told a (λ h. is_given_on h ≡ true) → (bytes : List ℕ) → bytes ≡ [] →
     Along a a (IsGathered bytes)
@@ -18,9 +18,6 @@ at_first (Some h) told bytes is =
       given_on = told;
       prompt = record { asks = []; asks_are = refl; waited = tt };
     })
-
-pub none_begun : (bytes : List ℕ) → bytes ≡ [] → HasNoRecords bytes
-none_begun bytes is d r at = drop_all r bytes (omega (arith, ap length is))
 
 pub waiting : (bytes : List ℕ) → HasNoRecords bytes → (h k : History) → IsGathered bytes h k → IsWaiting h k
 waiting bytes none h k so_far = record {

@@ -1,2 +1,4 @@
 mod Decided
+mod LastLines
 mod Gathering
+mod DivisionCases

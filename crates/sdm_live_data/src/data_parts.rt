@@ -1,12 +1,13 @@
 //! The data part of a live input, which is read up to the line that divides it from the records.
 
-ghost use Rattle.std.specs.Prelude.{◌≡◌, ◌≢◌, ◌≤◌, [], Err, IfErr, IfNone, IfOk, IfSome, true};
+ghost use Rattle.std.specs.Prelude.{◌≡◌, ◌≢◌, ◌≤◌, [], Err, IfErr, IfNone, IfOk, IfSome, length, take, true};
 ghost use Rattle.sdm_io.specs.Causes.{Rose};
 ghost use Rattle.sdm_data.specs.Division.{divide};
 ghost use Rattle.sdm_live.specs.Exchanges.{Along, Told, is_given_on};
-ghost use Rattle.sdm_live_data.specs.Divisions.{HasNoRecords, IsDivision};
+ghost use Rattle.sdm_live_data.specs.Divisions.{IsDivision, IsLastLine};
 ghost use Rattle.sdm_live_data.specs.Waiting.{IsGatherEnd, IsGathered, IsWaiting, IsWaitingPrompt};
 
+use memchr::memrchr;
 use sdm_data::split;
 use sdm_live::Peer;
 use sdm_report::{InputFault, Outcome};
@@ -26,37 +27,39 @@ pub struct Division {
     pub is_end: bool,
 }
 
-/// The division about the first dividing line, if a line feed ends that line, so that no byte that follows changes it.
-#[tactic(auto, using(crate::proofs::Decided::whole_divisions))]
-fn whole_division(bytes: &[u8]) -> Option<Division>
+/// The division about the first dividing line that a line feed ends, so that no byte that follows changes it; else the
+/// last line so far begins where `line_start` then says. Of the bytes the first `seen` were looked at before, up to a
+/// last line that began at `line_start`; so each byte is looked at twice at most, however often bytes come. (own)
+fn whole_division(bytes: &[u8], line_start: &mut usize, seen: usize) -> Option<Division>
+    requires seen { seen ≤ length bytes.now }
+    requires last { IsLastLine (take seen bytes.now) line_start.old }
     ensures found { IfSome result (IsDivision bytes.now) }
-    ensures wanting { IfNone result (HasNoRecords bytes.now) }
+    ensures wanting { IfNone result (IsLastLine bytes.now line_start.new) }
 {
-    let (data_end, records_start) = split(bytes)?;
-    if records_start == 0 {
+    let last = memrchr(b'\n', &bytes[seen..])?;
+    let end = seen + last + 1;
+    let Some((data_end, records_start)) = split(&bytes[*line_start..end]) else {
+        *line_start = end;
         return None;
-    }
-    if bytes[records_start - 1] != b'\n' {
-        return None;
-    }
+    };
     Some(Division {
-        data_end,
-        records_start,
+        data_end: *line_start + data_end,
+        records_start: *line_start + records_start,
         is_end: false,
     })
 }
 
-/// The division at the end of the input, whatever ends its dividing line.
-fn last_division(bytes: &[u8]) -> Result<Division, Outcome>
-    requires { HasNoRecords bytes.now }
+/// The division at the end of the input, whose last line may be a dividing line that nothing ends.
+fn last_division(bytes: &[u8], line_start: usize) -> Result<Division, Outcome>
+    requires { IsLastLine bytes.now line_start }
     ensures divided { IfOk result (IsDivision bytes.now) }
     ensures refused { IfErr result
         (λ outcome. (outcome ≡ Outcome.BadData InputFault.NoSplit) × (divide bytes.now ≡ None)) }
 {
-    match split(bytes) {
+    match split(&bytes[line_start..]) {
         Some((data_end, records_start)) => Ok(Division {
-            data_end,
-            records_start,
+            data_end: line_start + data_end,
+            records_start: line_start + records_start,
             is_end: true,
         }),
         None => Err(Outcome::BadData(InputFault::NoSplit)),
@@ -83,20 +86,22 @@ pub fn gather<P: Peer>(
     ensures fault { result ≡ Err Outcome.ReadFault → Rose (P.faults peer.old) (P.faults peer.new) }
 {
     let mut block = [0u8; BLOCK];
+    let mut line_start = 0;
     'reads: loop {
         let Ok(n) = peer.ask(&mut block) else {
             return Err(Outcome::ReadFault);
         };
         if n == 0 {
-            return last_division(bytes);
+            return last_division(bytes, line_start);
         }
         if n > MOST_BYTES - bytes.len() {
             return Err(Outcome::TooLong);
         }
+        let seen = bytes.len();
         let Ok(()) = bytes.extend_from_slice(&block[..n]) else {
             return Err(Outcome::Memory);
         };
-        if let Some(division) = whole_division(bytes) {
+        if let Some(division) = whole_division(bytes, &mut line_start, seen) {
             return Ok(division);
         }
     }

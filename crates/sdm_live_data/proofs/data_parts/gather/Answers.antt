@@ -4,12 +4,13 @@ use Rattle.std.proofs.Common.{◌++◌, ◌-◌, length-append}
 use Rattle.std.proofs.lemmas.List.{length-take-le}
 use Rattle.sdm_formats.specs.Input.{most_bytes}
 use Rattle.sdm_report.specs.declared.outcome.Outcome.TheVariants.{TooLong}
-use Rattle.sdm_live.specs.Exchanges.{Gave, Gave_fault, History}
-use Rattle.sdm_live_data.specs.Divisions.{HasNoRecords, IsDivision}
-use Rattle.sdm_live_data.specs.Waiting.{IsGatherEnd, IsGathered, IsUnanswered, IsWaitingPrompt}
-use Rattle.sdm_live.proofs.Along.{along_map, along_then}
-use Rattle.sdm_live_data.proofs.Gathering.{gathered_end, gathered_fault, gathered_more}
+use Rattle.sdm_live.specs.Exchanges.{Gave, Gave_fault}
+use Rattle.sdm_live_data.specs.Divisions.{IsDivision, IsLastLine}
+use Rattle.sdm_live_data.specs.Waiting.{IsGatherEnd, IsGathered, IsWaitingPrompt}
+use Rattle.sdm_live.proofs.Along.{along_then}
+use Rattle.sdm_live_data.proofs.Gathering.{at_first, gathered_end, gathered_fault, gathered_more}
 use Rattle.sdm_live_data.proofs.Gathering.{if_divided, too_long, unanswered}
+use Rattle.sdm_live_data.proofs.LastLines.{no_records, nothing_yet}
 use Rattle.sdm_live_data.proofs.data_parts.gather.Goals as goal
 
 pub returns-in_default-clause-prompt : goal.returns-in_default-clause-prompt
@@ -88,6 +89,19 @@ returns-in-Some-clause-prompt g c =
     (λ h k l p q. (gathered_more bytes piece c.reads.invariant.none h k l p q).prompt)
     c.reads.invariant.so_far c.in-Ok.ensures.told
 
+pub reads-init : goal.reads-init
+reads-init g c =
+    let bytes = c.args.bytes.now.items in
+    let size = ap length c.requires.nothing in
+    let last = nothing_yet bytes c.requires.nothing in
+    record {
+      short = omega (arith, size);
+      later = omega arith;
+      last = last;
+      none = no_records bytes 0 last;
+      so_far = at_first (g.P.Peer.history c.args.peer.now) c.requires.held bytes c.requires.nothing;
+    }
+
 pub reads-preserved : goal.reads-preserved
 reads-preserved g c =
     let bytes = c.reads.bytes.items in
@@ -103,10 +117,14 @@ reads-preserved g c =
     let sum = length-append bytes piece in
     let size = length-take-le n c.ask.new.buffer c.in-Ok.ensures.bound.0 in
     let same = ap length items in
+    let start = c.whole_division.new.line_start in
+    let last = subst (λ (xs : List ℕ). IsLastLine xs start) c.deref-in-reads.ensures.value
+    c.in_default-whole_division.ensures.wanting in
     record {
       short = omega (arith, room, len_is, short, sum, size, same);
       later = omega (arith, before, asked_later);
-      none = subst HasNoRecords c.deref-in-reads.ensures.value c.in_default-whole_division.ensures.wanting;
+      last = last;
+      none = no_records all start last;
       so_far = along_then _ _ _ (IsGathered bytes) (λ k l. l ≡ Gave piece ∷ k) (IsGathered all)
           (λ h k l p q. subst (λ (xs : List ℕ). IsGathered xs h l) (sym items)
           (gathered_more bytes piece c.reads.invariant.none h k l p q))
