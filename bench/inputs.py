@@ -213,8 +213,9 @@ def greatest_revoke(seed):
 
 
 def covering(seed):
-    """The greatest data with all restrictions but one, and then in turn one over the whole track that is slower than all
-    else and so hides all falls but its own, and its revocation, which uncovers them. A pair of both counts as one."""
+    """The greatest data with all restrictions but one, and then in turn one over the whole track that is slower than
+    all else and so hides all falls but its own, and its revocation, which uncovers them. A pair of both counts as
+    one."""
     head = greatest_data(Numbers(seed)) + "".join(islice(greatest_restrictions(), RESTRICTIONS - 1))
     lines = [f"restrict,99,0,{TRACK_CM},5,0\n", "revoke,99\n"] * COVERINGS
     return Input("covering", ["run"], ["run"], head, lines, COVERINGS)

@@ -1,5 +1,5 @@
 -- What the end of a run says of what the peer has, of a program that tells each line again with a semicolon.
-use Rattle.std.proofs.Common.{◌≡◌, ◌∙◌, ◌==◌, sym, ap, refl, ℕ, Bool, List, [], ◌∷◌, ◌++◌, codes, true, false}
+use Rattle.std.proofs.Common.{◌≡◌, ◌∙◌, ◌==◌, sym, ap, refl, ℕ, Bool, List, [], ◌∷◌, ◌++◌, codes, false}
 use Rattle.std.proofs.lemmas.Bool.{false≢true}
 use Rattle.sdm_live.specs.Answers.{IsLiveAnswer}
 use Rattle.sdm_live.specs.declared.live.Ended.TheVariants.{Done, ReadFault, WriteFault}

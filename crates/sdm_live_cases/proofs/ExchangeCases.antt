@@ -1,6 +1,6 @@
 -- Histories of calls, the newest first, and what each call was.
-use Rattle.std.proofs.Common.{◌≡◌, refl, List, [], ◌∷◌, Option, Some, None, Ok, Err, Result, ℕ, codes, true, false}
-use Rattle.sdm_live.specs.Exchanges.{Along, Exchange, Gave, Gave_fault, Given_on, Held_fault, History, Told, Took}
+use Rattle.std.proofs.Common.{◌≡◌, refl, [], ◌∷◌, Some, None, Ok, Err, Result, ℕ, codes, true, false}
+use Rattle.sdm_live.specs.Exchanges.{Along, Gave, Gave_fault, Given_on, Held_fault, History, Told, Took}
 use Rattle.sdm_live.specs.Exchanges.{Took_fault, asked, asked_at, came, flushed, handed, is_given_on, sent}
 
 -- bytes came and went in the order of the calls, and each to its own

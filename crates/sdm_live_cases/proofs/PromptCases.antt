@@ -1,5 +1,5 @@
 -- What is due of a text, and histories of a program that tells each line again with a semicolon.
-use Rattle.std.proofs.Common.{◌≡◌, ◌∙◌, ◌==◌, sym, ap, subst, refl, ℕ, Bool, List, [], ◌∷◌, ◌++◌, append-nil, codes, true, false}
+use Rattle.std.proofs.Common.{◌≡◌, ◌∙◌, ◌==◌, sym, ap, subst, refl, ℕ, Bool, List, [], ◌∷◌, ◌++◌, append-nil, codes, false}
 use Rattle.std.proofs.lemmas.Bool.{false≢true}
 use Rattle.std.specs.List.{AllByRecursion}
 use Rattle.sdm_live.specs.Exchanges.{Gave, Given_on, History, IsAnswered, IsPrompt, Took, asked_at, came, sent}

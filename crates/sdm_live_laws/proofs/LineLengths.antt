@@ -1,7 +1,7 @@
 -- Each byte of a line joins a field, ends one, or is a quote. Quotes are at most two a field, and one more for each that
 -- joined it; so a line is no longer than its fields let it be.
 use Rattle.std.proofs.Common.{◌≡◌, ◌≤◌, ◌<◌, ◌+◌, ◌*◌, ◌==◌, if◌then◌else◌, ℕ, Bool, true, false, List, [], ◌∷◌, ◌++◌, length}
-use Rattle.std.proofs.Common.{length-append, arith, refl}
+use Rattle.std.proofs.Common.{length-append, arith}
 use Rattle.std.specs.List.{AllByRecursion}
 use Rattle.sdm_live_records.specs.Fields.{Split, byte_in, fields_at_end, nothing_split, plain_byte, split_byte, split_bytes}
 use Rattle.sdm_live_records.specs.Fields.{split_fields}

@@ -2,7 +2,6 @@
 -- the records of `run`, each in the state in which `run` takes it.
 use Rattle.std.proofs.Common.{◌≡◌, ◌∙◌, sym, ap, subst, refl, ℕ, suc, List, [], ◌∷◌, map, Bool, true, false}
 use Rattle.std.proofs.Common.{if◌then◌else◌, inl, inr, ◌≤◌, None, Result, Ok, Err, nat_lt, length, arith}
-use Rattle.std.specs.List.{AllByRecursion}
 use Rattle.std.proofs.lemmas.Bool.{le-leb}
 use Rattle.csv.specs.Reading.{strip_bom}
 use Rattle.csv.specs.declared.parser.State.TheVariants as st
@@ -23,7 +22,7 @@ use Rattle.sdm_live_laws.specs.Turns.{line_answers, turns_taken}
 use Rattle.sdm_live_laws.proofs.LineLengths.{written_short}
 use Rattle.sdm_live_laws.proofs.LineRecords.{line_records}
 use Rattle.sdm_live_laws.proofs.Marks.{mark_cases, marked, marked_lines, taken_unmarked}
-use Rattle.sdm_live_laws.proofs.Scan.{records_are, scan_line}
+use Rattle.sdm_live_laws.proofs.Scan.{records_are}
 use Rattle.sdm_live_laws.proofs.TakenTurns.{after_turn, by_length}
 use Rattle.sdm_live_laws.proofs.Unbroken.{AllUnbroken, unbroken}
 use Rattle.sdm_live_laws.proofs.Written.{AreWritten, written}

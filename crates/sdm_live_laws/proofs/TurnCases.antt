@@ -1,5 +1,5 @@
 -- What lines are answered by, which turns are taken of them, and which texts hold the end of a line within quotes.
-use Rattle.std.proofs.Common.{◌≡◌, refl, ℕ, List, [], ◌∷◌, replicate, Some, None, Ok, Err, codes, true, false}
+use Rattle.std.proofs.Common.{◌≡◌, refl, [], ◌∷◌, replicate, Some, None, Ok, Err, codes, true, false}
 use Rattle.csv.specs.Reading.{strip_bom}
 use Rattle.sdm_rules.specs.declared.faults.EventCause.TheVariants.{Form, TimeBack}
 use Rattle.sdm_rules.specs.declared.faults.EventFault.TheVariants.{UnknownKind}
