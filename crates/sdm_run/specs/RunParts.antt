@@ -57,6 +57,13 @@ head_text Displays d = []
 head_text Causes d = []
 head_text (Certificates left) d = safe_map_text d
 
+-- a line is told of each reading; not so by `certify`, which writes a map before the records
+abbrev pub TellsEach : Teller → Type 0
+TellsEach Rows = ⊤
+TellsEach Displays = ⊤
+TellsEach Causes = ⊤
+TellsEach (Certificates left) = ⊥
+
 -- what is told of turns
 abbrev pub turns_text : Teller → List Turn → List ℕ
 turns_text Rows turns = told run_tells turns
