@@ -23,8 +23,8 @@ use Rattle.sdm_run.specs.Answers.{AreWholeLines}
 use Rattle.sdm_run.specs.Certifying.{safe_map_text}
 use Rattle.sdm_run.specs.declared.tellers.Teller.{Teller}
 use Rattle.sdm_run.specs.declared.tellers.Teller.TheVariants.{Rows, Displays, Causes, Certificates}
-use Rattle.sdm_run.specs.RunParts.{head_text}
-use Rattle.sdm_run.proofs.OutputLeft.{lines_both}
+use Rattle.sdm_run.specs.RunParts.{TellsEach, head_text}
+use Rattle.sdm_run.proofs.OutputLeft.{empty_left, line_some, lines_both}
 
 -- ---- whole lines
 
@@ -77,6 +77,23 @@ head_whole Rows d = inl refl
 head_whole Displays d = inl refl
 head_whole Causes d = inl refl
 head_whole (Certificates left) d = map_whole (slopes_of Safe d)
+
+-- the written map has a text
+pub map_some : (d : TrainAndTrack) → safe_map_text d ≡ [] → ⊥
+unfolding safe_map_text
+map_some d none =
+    let on = slopes_of Safe d in
+    let segments = length (segment_cells on) in
+    line_some (join_with_byte 44 (codes "map" ∷ decimal on.q ∷ decimal (bands_of on.uppers) ∷ decimal segments ∷ []))
+    (empty_left (head_line on segments) (text_of_lines (uppers_line on ++ map (segment_line on) (segment_cells on)))
+    none)
+
+-- so where nothing stands before the records, a line is told of each reading
+pub tells_each : (teller : Teller) (d : TrainAndTrack) → head_text teller d ≡ [] → TellsEach teller
+tells_each Rows d none = tt
+tells_each Displays d none = tt
+tells_each Causes d none = tt
+tells_each (Certificates left) d none = absurd (map_some d none)
 
 -- ---- lines that are written one after the other
 

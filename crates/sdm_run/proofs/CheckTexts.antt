@@ -22,7 +22,7 @@ use Rattle.sdm_report.specs.declared.outcome.Outcome.TheVariants.{Done, TooLong,
 use Rattle.sdm_certify.proofs.Decided.{made_one}
 use Rattle.sdm_run.specs.Answers.{AreWholeLines, IsAnswer}
 use Rattle.sdm_run.specs.Checks.{IsCheckOf, IsCheckOutput}
-use Rattle.sdm_run.proofs.OutputLeft.{IsLeftOf, cut_off, wrote, wrote_part}
+use Rattle.sdm_run.proofs.OutputLeft.{IsLeftOf, cut_off, first_empty, line_some, wrote, wrote_part}
 
 -- ---- one meaning
 
@@ -159,6 +159,12 @@ module _ (old new : Option (List ℕ)) (c : Checking) (output : Output) (so_far 
     is_line : AreWholeLines (answer_text a)
     unfolding answer_text
     is_line = inr (_, refl)
+
+    -- so the output has a text
+    pub answer_some : output.text ≡ [] → ⊥
+    unfolding answer_text
+    answer_some none = line_some _ (first_empty old new output _ first_left.left (answer_text a)
+        (record { text = answers_text first_left.more; end = output.end }) refl none)
 
     -- it is written
     pub answer_written : (after : Option (List ℕ)) → Appends new after (answer_text a) →

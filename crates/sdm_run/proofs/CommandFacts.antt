@@ -1,5 +1,5 @@
 -- What each command promises of its rows, and what the limit of an input makes of its output.
-use Rattle.std.proofs.Common.{◌≡◌, ℕ, ◌≤◌, ◌<◌, List, [], Option, Some, None, length, nat_lt, true, false, inl, refl}
+use Rattle.std.proofs.Common.{◌≡◌, ℕ, ◌≤◌, ◌<◌, List, [], Option, Some, None, length, nat_lt, true, false, inl, refl, ap, sym, ◌∙◌}
 use Rattle.std.proofs.Common.{subst, arith}
 use Rattle.std.proofs.lemmas.Bool.Decides.{nat_tests}
 use Rattle.std.proofs.KnownBytes.{Appends-nil}
@@ -121,6 +121,11 @@ pub within_answer : (bytes : List ℕ) (made : Output) (old new : Option (List �
     length bytes ≤ most_bytes → IsAnswer made old new outcome →
     (output : Output) → output ≡ within_limit bytes made → IsAnswer output old new outcome
 within_answer bytes made old new outcome short h output is = rw (is, within bytes made short) h
+
+-- and has no text where that has none
+pub within_empty : (bytes : List ℕ) (made : Output) → length bytes ≤ most_bytes → (output : Output) →
+    output ≡ within_limit bytes made → output.text ≡ [] → made.text ≡ []
+within_empty bytes made short output is none = ap (λ (o : Output). o.text) (sym (is ∙ within bytes made short)) ∙ none
 
 -- an input above the limit is answered as too long by each command that reads
 too_long : (command : Command) (bytes : List ℕ) (old : Option (List ℕ)) → IsTrue (shape_of command).reads_input →

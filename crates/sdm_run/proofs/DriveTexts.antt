@@ -165,13 +165,11 @@ module _ (seed cycles : ℕ) where
     refused_answer old (BadData NoSplit) h = absurd h
     refused_answer old (BadEvent number cause) h = absurd h
 
-    -- the summary answers, as it is put and written
-    pub drive_written : (counts : Counts) (text : List ℕ) (old new : Option (List ℕ)) (outcome : Outcome) →
-        IsSummaryOf seed cycles bytes counts →
+    -- what holds of an output with the summary and no fault holds of this one, as it is put and written
+    pub drive_written : (P : Output → Type 0) (counts : Counts) (text : List ℕ) → IsSummaryOf seed cycles bytes counts →
         ((rows : List DriveRow) → counts ≡ counts_of counts.svl rows → text ≡ drive_text counts.svl rows) →
-        ((output : Output) → output.text ≡ text → output.end ≡ ends.Done → IsAnswer output old new outcome) →
-        IsAnswer output old new outcome
-    drive_written counts text old new outcome s put written =
+        ((output : Output) → output.text ≡ text → output.end ≡ ends.Done → P output) → P output
+    drive_written P counts text s put written =
         let start = drive_start s.train_and_track (Stop s.eoa s.svl 0) seed in
         let rows = drive_rows cycles start in
         let svl_is : counts.svl ≡ s.svl = ap (λ (c : Counts). c.svl) s.counts_are in

@@ -24,9 +24,35 @@ pub record IsLeftOf (old new : Option (List ℕ)) (whole left : Output) : Type 0
   pub text : whole.text ≡ done ++ left.text
   pub end : whole.end ≡ left.end
 
+-- of an empty text both parts are empty
+pub empty_left : (a b : List ℕ) → a ++ b ≡ [] → a ≡ []
+empty_left [] b e = refl
+empty_left (x ∷ a) b e = absurd cc
+
+pub empty_right : (a b : List ℕ) → a ++ b ≡ [] → b ≡ []
+empty_right [] b e = e
+empty_right (x ∷ a) b e = absurd cc
+
+-- no line is empty
+pub line_some : (fields : List ℕ) → fields ++ 10 ∷ [] ≡ [] → ⊥
+line_some [] e = cc
+line_some (x ∷ fields) e = cc
+
 -- at first all is left
 pub all_left : (old : Option (List ℕ)) (whole : Output) → IsLeftOf old old whole whole
 all_left old whole = record { done = []; whole_lines = inl refl; taken = Appends-nil old; text = refl; end = refl }
+
+-- where the whole text is empty, so is what is left
+pub left_empty : (old new : Option (List ℕ)) (whole left : Output) → IsLeftOf old new whole left → whole.text ≡ [] →
+    left.text ≡ []
+left_empty old new whole left so_far none = empty_right so_far.done left.text (sym so_far.text ∙ none)
+
+-- and so is the text that it begins with
+pub first_empty : (old new : Option (List ℕ)) (whole left : Output) → IsLeftOf old new whole left →
+    (text : List ℕ) (next : Output) → left ≡ text_and text next → whole.text ≡ [] → text ≡ []
+first_empty old new whole left so_far text next first none =
+    empty_left text next.text
+    (sym (ap (λ (o : Output). o.text) first) ∙ left_empty old new whole left so_far none)
 
 -- whole lines after whole lines are whole lines
 pub lines_both : (a b : List ℕ) → AreWholeLines a → AreWholeLines b → AreWholeLines (a ++ b)

@@ -98,12 +98,17 @@ module _ (teller : Teller) (bytes : List ℕ) where
         (is_told teller bytes one.turns one.end one.is, only_output one.turns one.end one.is),
       )
 
-  -- what answers the output of one run answers each output
+  -- what holds of the output of one run holds of each output
+  holds_of_all : (P : Output → Type 0) (turns : List Turn) (end : End) → IsRun run_reader bytes turns end →
+      P (output_by teller bytes turns end) → (output : Output) → IsToldOutput teller bytes output → P output
+  holds_of_all P turns end run h output is = subst P (sym (only_output turns end run output is)) h
+
+  -- what answers it answers each output
   answers_all : (turns : List Turn) (end : End) (old new : Option (List ℕ)) (outcome : Outcome) →
       IsRun run_reader bytes turns end → IsAnswer (output_by teller bytes turns end) old new outcome →
       (output : Output) → IsToldOutput teller bytes output → IsAnswer output old new outcome
-  answers_all turns end old new outcome run answer output is =
-      subst (λ (o : Output). IsAnswer o old new outcome) (sym (only_output turns end run output is)) answer
+  answers_all turns end old new outcome run =
+      holds_of_all (λ (o : Output). IsAnswer o old new outcome) turns end run
 
 -- where nothing is opened there is no text
 nothing : (teller : Teller) (bytes : List ℕ) (end : End) → map_before bytes end ≡ [] →
@@ -194,19 +199,17 @@ module _ (teller : Teller) (bytes : List ℕ) (short : length bytes ≤ most_byt
     head_stands (Certificates left) s is None = rw (cut, is.given.document, is.given.read) refl
     head_stands (Certificates left) s is (Some x) = rw (cut, is.given.document, is.given.read) refl
 
-    -- the records of an input whose data part opens a supervisor
-    pub recorded : (s : Supervision) (new : Option (List ℕ)) (outcome : Outcome) →
-        IsOpeningOf (take data_end bytes) s →
-        IsAnswer (text_and (head_text teller s.train_and_track)
-        (output_of_records teller 1 s (records_of (drop start bytes)))) old new outcome →
-        (output : Output) → IsToldOutput teller bytes output → IsAnswer output old new outcome
-    recorded s new outcome is answer =
+    -- what holds of the records of an input whose data part opens a supervisor, with what stands before them
+    pub recorded : (P : Output → Type 0) (s : Supervision) → IsOpeningOf (take data_end bytes) s →
+        P (text_and (head_text teller s.train_and_track) (output_of_records teller 1 s (records_of (drop start bytes)))) →
+        (output : Output) → IsToldOutput teller bytes output → P output
+    recorded P s is h =
         let journey = journey_of run_reader is.train_and_track is.authority (records_of (drop start bytes)) in
         let end = ends.end_of_journey journey.refused in
         let run = run_of_parts bytes journey.turns end short (rw (cut, is.given.document, is.given.read)
         (inl (record { accepted = is.accepted; turns_are = refl; end_is = refl }))) in
         let stands = head_stands teller s is journey.refused in
-        answers_all teller bytes journey.turns end old new outcome run (rw stands (rw is.state at answer))
+        holds_of_all teller bytes P journey.turns end run (rw stands (rw is.state at h))
 
 -- ---- the turns
 

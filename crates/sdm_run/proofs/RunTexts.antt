@@ -16,13 +16,15 @@ use Rattle.sdm_rules.specs.declared.faults.CycleFault.TheVariants.{TimeBack}
 use Rattle.sdm_rules.specs.declared.records.Event.{Event}
 use Rattle.sdm_rules.specs.declared.records.Event.TheVariants as record_kinds
 use Rattle.sdm_rules.specs.declared.rows.Row.{Row}
-use Rattle.sdm_rules.specs.Records.{row_at, authority_fault, restrict_fault, revoke_fault, time_fault, time_cause}
+use Rattle.sdm_rules.specs.Records.{Turn, row_at, authority_fault, restrict_fault, revoke_fault, time_fault, time_cause}
 use Rattle.sdm_rules.specs.Records.{trip_cause, trip_fault, unless, step, turn_of, turn_to, event_at, journey_from}
 use Rattle.sdm_rules.specs.Records.{most_records}
 use Rattle.sdm_rules.specs.Supervision.{Supervision, after_reading, row_of}
 use Rattle.sdm_formats.specs.Flat.{Output}
 use Rattle.sdm_formats.specs.Forms.{event_of}
 use Rattle.sdm_formats.specs.Input as ends
+use Rattle.sdm_formats.specs.Text.{display_text, row_text}
+use Rattle.sdm_causes.specs.Text.{causes_text}
 use Rattle.sdm_report.specs.declared.outcome.InputFault.TheVariants.{NoSplit, Toml, Data}
 use Rattle.sdm_report.specs.declared.outcome.Outcome.{Outcome}
 use Rattle.sdm_report.specs.declared.outcome.Outcome.TheVariants.{Done, Usage, ReadFault, WriteFault, TooLong, BadData}
@@ -34,10 +36,10 @@ use Rattle.sdm_run.specs.declared.journey_records.Taken.TheVariants.{Told, Cut}
 use Rattle.sdm_run.specs.declared.tellers.Teller.{Teller}
 use Rattle.sdm_run.specs.declared.tellers.Teller.TheVariants.{Rows, Displays, Causes, Certificates}
 use Rattle.sdm_run.specs.RunParts.{IsTakenRecord, IsToldReading, IsToldRecord, IsToldTurn, output_of_records}
-use Rattle.sdm_run.specs.RunParts.{turns_text}
+use Rattle.sdm_run.specs.RunParts.{TellsEach, turns_text}
 use Rattle.sdm_run.specs.Shapes.{IsOutcomeIn, is_of_line, records_shape}
 use Rattle.sdm_run.proofs.CertifyTexts.{none_told}
-use Rattle.sdm_run.proofs.OutputLeft.{IsLeftOf, cut_off, wrote}
+use Rattle.sdm_run.proofs.OutputLeft.{IsLeftOf, cut_off, empty_left, left_empty, line_some, wrote}
 
 -- ---- one record
 
@@ -58,6 +60,15 @@ state_is s t n x r row taken = by_time (time_fault s.last_time r.time) taken.1
     by_time : (o : Option CycleFault) → unless time_cause o (after_reading s r) ≡ Ok t → t ≡ after_reading s r
     by_time None is = cc
     by_time (Some fault) is = absurd cc
+
+-- where a line is told of each reading, turns that begin with one have a text
+reading_line : (teller : Teller) → TellsEach teller → (s t : Supervision) (r : OdometerReading) (more : List Turn) →
+    turns_text teller (record { before = s; event = record_kinds.Read r; after = t } ∷ more) ≡ [] → ⊥
+unfolding row_text display_text causes_text
+reading_line Rows each s t r more none = line_some _ (empty_left _ _ none)
+reading_line Displays each s t r more none = line_some _ (empty_left _ _ none)
+reading_line Causes each s t r more none = line_some _ (empty_left _ _ none)
+reading_line (Certificates left) each s t r more none = each
 
 module _ (teller : Teller) (n : ℕ) (s : Supervision) where
   -- the output of no records
@@ -102,6 +113,14 @@ module _ (teller : Teller) (n : ℕ) (s : Supervision) where
 
       module _ (r : OdometerReading) (row : Row)
           (taken : IsTakenRecord s t (event_at event_of n x) (Some (r, row))) where
+        -- where a line is told of each reading, the whole has a text
+        pub reading_some : TellsEach teller → whole.text ≡ [] → ⊥
+        reading_some each none =
+            let later = journey_from (event_at event_of) (suc n) t more in
+            let texts = ap (λ (o : Output). o.text) (first_taken (record_kinds.Read r) taken.0 taken.1) in
+            reading_line teller each s t r later.turns
+            (sym texts ∙ left_empty old mid whole (output_of_records teller n s records) so_far none)
+
         -- a reading that was told
         pub reading_told : (after : Teller) → IsToldReading teller r row t mid new (Ok after) →
             IsLeftOf old new whole (output_of_records after (suc n) t more)

@@ -70,6 +70,13 @@ IsHeadReadBack Displays d = ⊤
 IsHeadReadBack Causes d = ⊤
 IsHeadReadBack (Certificates left) d = IsReadBack (slopes_of Safe d) (safe_map_text d)
 
+-- a line is told of each reading; not so by `certify`, which writes a map before the records
+abbrev pub TellsEach : Teller → Type 0
+TellsEach Rows = ⊤
+TellsEach Displays = ⊤
+TellsEach Causes = ⊤
+TellsEach (Certificates left) = ⊥
+
 -- what is told of turns
 abbrev pub turns_text : Teller → List Turn → List ℕ
 turns_text Rows turns = told run_tells turns

@@ -1,6 +1,6 @@
 //! The top call: from the words and the bytes of an input to the bytes of out and of the fault stream, and an outcome.
 
-ghost use Rattle.std.specs.Prelude.{◌≡◌, ◌≢◌, ◌⊎◌, ◌↔◌, ◌+◌, ◌<◌, ◌≤◌, ℕ, List, length, false, Some, Err, IsNone};
+ghost use Rattle.std.specs.Prelude.{◌≡◌, ◌≢◌, ◌⊎◌, ◌↔◌, ◌+◌, ◌<◌, ◌≤◌, ℕ, List, [], length, false, Some, Err, IsNone};
 ghost use Rattle.std.specs.Prelude.{IsTrue, IfSome, IfOk, OnOk, OnErr};
 ghost use Rattle.std.specs.Io.KnownBytes.{Appends, IsAtEnd};
 ghost use Rattle.sdm_formats.specs.Flat.{Output};
@@ -35,7 +35,7 @@ use std::alloc::Global;
 const MOST_BYTES: usize = 16_777_216;
 
 /// The program. Each command writes what it defines for the bytes of the input, which `trial` leaves unread, and out
-/// is flushed where it was handed a byte; then, for each outcome but Done, its line goes to the fault stream, whose
+/// is flushed exactly where it was handed a byte; then, for each outcome but Done, its line goes to the fault stream, whose
 /// faults change no outcome. (own)
 pub fn sdm_main<I: Source, O: Sink, E: Sink>(
     alloc: Global,
@@ -71,6 +71,10 @@ pub fn sdm_main<I: Source, O: Sink, E: Sink>(
     ensures memory { IfSome (asked_by words.now) (λ command.
         IsTrue (shape_of command).takes_memory_first → result ≡ Outcome.Memory → out.new ≡ out.old) }
     ensures given_on { result ≢ Outcome.WriteFault → (out.new ≡ out.old) ⊎ HoldsNothing (O.held out.new) }
+
+    // out isn't called for an empty text
+    ensures untouched { IfSome (asked_by words.now) (λ command. OfInput (shape_of command) (I.left input.old) (λ bytes.
+        (output : Output) → IsOutputOf command bytes output → output.text ≡ [] → out.new ≡ out.old)) }
 
     // how much of the input was read
     ensures within { ReadsWithin (I.left input.old) (I.left input.new) (most_bytes + 1) }
@@ -137,6 +141,8 @@ fn run_command<O: Sink>(alloc: Global, command: Command, bytes: &[u8], out: &mut
     ensures memory { IsTrue (shape_of command).takes_memory_first → result.outcome ≡ Outcome.Memory
         → (result.is_flush_due ≡ false) × (out.new ≡ out.old) }
     ensures due { result.is_flush_due ≡ false → (out.new ≡ out.old) ⊎ (result.outcome ≡ Outcome.WriteFault) }
+    ensures untouched { (output : Output) → IsOutputOf command bytes.now output → output.text ≡ []
+        → (result.is_flush_due ≡ false) × (out.new ≡ out.old) }
     ensures later { O.faults out.old ≤ O.faults out.new }
     ensures write { result.outcome ≡ Outcome.WriteFault → Rose (O.faults out.old) (O.faults out.new) }
 {
@@ -170,6 +176,8 @@ fn outcome_to<O: Sink>(alloc: Global, command: Command, bytes: &[u8], out: &mut 
     ensures first { LeavesOutUntouched result → out.new ≡ out.old }
     ensures memory { IsTrue (shape_of command).takes_memory_first → result ≡ Outcome.Memory → out.new ≡ out.old }
     ensures given_on { result ≢ Outcome.WriteFault → (out.new ≡ out.old) ⊎ HoldsNothing (O.held out.new) }
+    ensures untouched { (output : Output) → IsOutputOf command bytes.now output → output.text ≡ []
+        → out.new ≡ out.old }
     ensures write { result ≡ Outcome.WriteFault → Rose (O.faults out.old) (O.faults out.new) }
 {
     let ended = run_command(alloc, command, bytes, out);

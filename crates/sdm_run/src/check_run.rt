@@ -1,6 +1,6 @@
 //! The command `check`: an answer for each claim of a certificate text, written before the next claim is read.
 
-ghost use Rattle.std.specs.Prelude.{◌≡◌, ◌⊎◌, ◌≤◌, length, false};
+ghost use Rattle.std.specs.Prelude.{◌≡◌, ◌⊎◌, ◌≤◌, [], length, false};
 ghost use Rattle.sdm_formats.specs.Flat.{Output};
 ghost use Rattle.sdm_formats.specs.Input.{most_bytes};
 ghost use Rattle.sdm_io.specs.Causes.{Rose};
@@ -34,6 +34,8 @@ pub fn run_check<O: Sink>(alloc: Global, bytes: &[u8], out: &mut O) -> Ended
     ensures not_first { LeavesOutUntouched result.outcome → ⊥ }
     ensures memory { result.outcome ≡ Outcome.Memory → (result.is_flush_due ≡ false) × (out.new ≡ out.old) }
     ensures due { result.is_flush_due ≡ false → (out.new ≡ out.old) ⊎ (result.outcome ≡ Outcome.WriteFault) }
+    ensures untouched { (output : Output) → IsCheckOf bytes.now output → output.text ≡ []
+        → (result.is_flush_due ≡ false) × (out.new ≡ out.old) }
     ensures later { O.faults out.old ≤ O.faults out.new }
     ensures write { result.outcome ≡ Outcome.WriteFault → Rose (O.faults out.old) (O.faults out.new) }
 {

@@ -1,6 +1,6 @@
 //! The end of a command: where out was handed a byte, it gives on what it holds back before the outcome stands.
 
-ghost use Rattle.std.specs.Prelude.{◌≡◌, ◌≢◌, ◌⊎◌, ◌≤◌, List, ℕ, Option, false, IsTrue};
+ghost use Rattle.std.specs.Prelude.{◌≡◌, ◌≢◌, ◌⊎◌, ◌≤◌, List, [], ℕ, Option, false, IsTrue};
 ghost use Rattle.sdm_formats.specs.Input as ends;
 ghost use Rattle.sdm_formats.specs.Flat.{Output};
 ghost use Rattle.sdm_io.specs.Causes.{Rose};
@@ -30,7 +30,8 @@ impl Ended {
         }
     }
 
-    /// The end of a command whose whole text is written in one piece: WriteFault where out failed, else Done. (own)
+    /// The end of a command whose whole text is written in one piece: WriteFault where out failed, else Done. Out isn't
+    /// called for an empty text. (own)
     #[tactic(auto, using(crate::proofs::Texts::written_whole, crate::proofs::Texts::written_in_part))]
     pub fn written<O: Sink>(text: &[u8], out: &mut O) -> Ended
         ensures answer { (output : Output) → output.text ≡ text.now → output.end ≡ ends.Done
@@ -39,10 +40,14 @@ impl Ended {
         ensures not_before { ComesOfReadingAlone result.outcome → ⊥ }
         ensures not_first { LeavesOutUntouched result.outcome → ⊥ }
         ensures not_memory { result.outcome ≢ Outcome.Memory }
-        ensures due { result.is_flush_due ≡ false → result.outcome ≡ Outcome.WriteFault }
+        ensures due { result.is_flush_due ≡ false → (out.new ≡ out.old) ⊎ (result.outcome ≡ Outcome.WriteFault) }
+        ensures untouched { text.now ≡ [] → (result.is_flush_due ≡ false) × (out.new ≡ out.old) }
         ensures later { O.faults out.old ≤ O.faults out.new }
         ensures write { result.outcome ≡ Outcome.WriteFault → Rose (O.faults out.old) (O.faults out.new) }
     {
+        if text.is_empty() {
+            return Ended::new(Outcome::Done, false);
+        }
         match write_piece(out, text) {
             Ok(()) => Ended::new(Outcome::Done, true),
             Err(_) => Ended::new(Outcome::WriteFault, false),

@@ -1,6 +1,6 @@
 //! The command `flat`: a row for each line, written before the next line is taken.
 
-ghost use Rattle.std.specs.Prelude.{◌≡◌, ◌⊎◌, ◌≤◌, length, false};
+ghost use Rattle.std.specs.Prelude.{◌≡◌, ◌⊎◌, ◌≤◌, [], length, false};
 ghost use Rattle.sdm_io.specs.Causes.{Rose};
 ghost use Rattle.sdm_rules.specs.Ranges.{longest_track};
 ghost use Rattle.sdm_formats.specs.Input.{most_bytes};
@@ -28,6 +28,8 @@ pub fn run_flat<O: Sink>(alloc: Global, decel: u16, end_cm: u32, bytes: &[u8], o
     ensures not_first { LeavesOutUntouched result.outcome → ⊥ }
     ensures memory { result.outcome ≡ Outcome.Memory → (result.is_flush_due ≡ false) × (out.new ≡ out.old) }
     ensures due { result.is_flush_due ≡ false → (out.new ≡ out.old) ⊎ (result.outcome ≡ Outcome.WriteFault) }
+    ensures untouched { (flat_output decel end_cm bytes.now).text ≡ []
+        → (result.is_flush_due ≡ false) × (out.new ≡ out.old) }
     ensures later { O.faults out.old ≤ O.faults out.new }
     ensures write { result.outcome ≡ Outcome.WriteFault → Rose (O.faults out.old) (O.faults out.new) }
 {

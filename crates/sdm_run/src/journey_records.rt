@@ -2,7 +2,7 @@
 //! written, before the next one is read. What is told of a reading is the one thing that differs from command
 //! to command.
 
-ghost use Rattle.std.specs.Prelude.{◌≡◌, ◌⊎◌, ◌≤◌, false, Err, IfErr, IfOk, OnOk};
+ghost use Rattle.std.specs.Prelude.{◌≡◌, ◌⊎◌, ◌≤◌, [], false, Err, IfErr, IfOk, OnOk};
 ghost use Rattle.csv.specs.Records.{fields_of};
 ghost use Rattle.sdm_io.specs.Causes.{Rose};
 ghost use Rattle.sdm_rules.specs.Records.{event_at, journey_from, most_records, trip_cause, turn_of};
@@ -11,7 +11,7 @@ ghost use Rattle.sdm_events.specs.Journey.{records_of};
 ghost use Rattle.sdm_run.specs.Answers.{IsAnswer, IsEndOfRecords};
 ghost use Rattle.sdm_run.specs.declared.endings.Ended.{Ended};
 ghost use Rattle.sdm_run.specs.declared.journey_records.Taken.TheVariants.{Cut, Untold};
-ghost use Rattle.sdm_run.specs.RunParts.{IsHeldBy, IsToldRecord, output_of_records};
+ghost use Rattle.sdm_run.specs.RunParts.{IsHeldBy, IsToldRecord, TellsEach, output_of_records};
 ghost use Rattle.sdm_run.specs.Shapes.{IsOutcomeIn, records_shape};
 
 use crate::endings::Ended;
@@ -65,6 +65,9 @@ pub fn run_records<O: Sink>(
         (journey_from (event_at event_of) 1 supervisor.old (records_of bytes.now)).turns }
     ensures due { result.is_flush_due ≡ false
         → ((is_flush_due ≡ false) × (out.new ≡ out.old)) ⊎ (result.outcome ≡ Outcome.WriteFault) }
+    ensures untouched { is_flush_due ≡ false → TellsEach teller
+        → (output_of_records teller 1 supervisor.old (records_of bytes.now)).text ≡ []
+        → (result.is_flush_due ≡ false) × (out.new ≡ out.old) }
     ensures later { O.faults out.old ≤ O.faults out.new }
     ensures write { result.outcome ≡ Outcome.WriteFault → Rose (O.faults out.old) (O.faults out.new) }
     ensures possible { IsOutcomeIn records_shape result.outcome }

@@ -1,7 +1,7 @@
 //! The commands `run`, `display` and `certify`: about the dividing line the data part, which opens a supervisor, and
 //! the records. They differ in what is told of the data and of a reading.
 
-ghost use Rattle.std.specs.Prelude.{◌≡◌, ◌⊎◌, ◌≤◌, length, false};
+ghost use Rattle.std.specs.Prelude.{◌≡◌, ◌⊎◌, ◌≤◌, [], length, false};
 ghost use Rattle.sdm_formats.specs.Flat.{Output};
 ghost use Rattle.sdm_formats.specs.Input.{most_bytes};
 ghost use Rattle.sdm_io.specs.Causes.{Rose};
@@ -29,6 +29,8 @@ pub fn run_journey<O: Sink>(alloc: Global, teller: Teller, bytes: &[u8], out: &m
     ensures not_before { ComesOfReadingAlone result.outcome → ⊥ }
     ensures first { LeavesOutUntouched result.outcome → (result.is_flush_due ≡ false) × (out.new ≡ out.old) }
     ensures due { result.is_flush_due ≡ false → (out.new ≡ out.old) ⊎ (result.outcome ≡ Outcome.WriteFault) }
+    ensures untouched { (output : Output) → IsToldOutput teller bytes.now output → output.text ≡ []
+        → (result.is_flush_due ≡ false) × (out.new ≡ out.old) }
     ensures later { O.faults out.old ≤ O.faults out.new }
     ensures write { result.outcome ≡ Outcome.WriteFault → Rose (O.faults out.old) (O.faults out.new) }
 {

@@ -1,7 +1,7 @@
 //! What the commands over a journey tell of a reading: `run` its row, `display` what is shown of it, `why` its causes,
 //! `certify` its certificate.
 
-ghost use Rattle.std.specs.Prelude.{◌≡◌, ◌≤◌, [], false, IfErr, IfOk, OnErr, OnOk};
+ghost use Rattle.std.specs.Prelude.{◌≡◌, ◌≤◌, [], false, Ok, IfErr, IfOk, OnErr, OnOk};
 ghost use Rattle.std.specs.Io.KnownBytes.{Appends};
 ghost use Rattle.sdm_io.specs.Causes.{HasCause, Rose};
 ghost use Rattle.sdm_io.specs.Told.{AppendsPart};
@@ -50,6 +50,7 @@ impl Teller {
             (head_text self supervisor.now.train_and_track)) }
         ensures read_back { IfOk result (λ handed. IsHeadReadBack self supervisor.now.train_and_track) }
         ensures unhanded { IfOk result (λ handed. handed ≡ false → out.new ≡ out.old) }
+        ensures headless { head_text self supervisor.now.train_and_track ≡ [] → result ≡ Ok false }
         ensures cause { HasCause (O.faults out.old) (O.faults out.new) result }
     {
         match self {

@@ -1,7 +1,7 @@
 //! The command `trial`: a supervisor over made readings, and the summary of its rows. It reads no input, and nothing
 //! of it is refused.
 
-ghost use Rattle.std.specs.Prelude.{◌≡◌, ◌⊎◌, ◌≤◌, false, IfOk};
+ghost use Rattle.std.specs.Prelude.{◌≡◌, ◌⊎◌, ◌≤◌, [], false, IfOk};
 ghost use Rattle.sdm_io.specs.Causes.{Rose};
 ghost use Rattle.sdm_rules.specs.Supervision.{opening};
 ghost use Rattle.sdm_rules.specs.Records.{most_records, rows_of};
@@ -67,6 +67,7 @@ pub fn run_trial<O: Sink>(alloc: Global, seed: u16, cycles: u32, out: &mut O) ->
     ensures not_first { LeavesOutUntouched result.outcome → ⊥ }
     ensures memory { result.outcome ≡ Outcome.Memory → (result.is_flush_due ≡ false) × (out.new ≡ out.old) }
     ensures due { result.is_flush_due ≡ false → (out.new ≡ out.old) ⊎ (result.outcome ≡ Outcome.WriteFault) }
+    ensures untouched { (trial_output seed cycles).text ≡ [] → (result.is_flush_due ≡ false) × (out.new ≡ out.old) }
     ensures later { O.faults out.old ≤ O.faults out.new }
     ensures write { result.outcome ≡ Outcome.WriteFault → Rose (O.faults out.old) (O.faults out.new) }
 {

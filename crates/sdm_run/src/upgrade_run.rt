@@ -1,6 +1,6 @@
 //! The command `upgrade`: the data part that the input is, as a text of version 2 of the same data.
 
-ghost use Rattle.std.specs.Prelude.{◌≡◌, ◌⊎◌, ◌≤◌, false, IfErr, IfOk, Some, string_bytes};
+ghost use Rattle.std.specs.Prelude.{◌≡◌, ◌⊎◌, ◌≤◌, [], false, IfErr, IfOk, Some, string_bytes};
 ghost use Rattle.sdm_io.specs.Causes.{Rose};
 ghost use Rattle.sdm_data.specs.Document.{document_of};
 ghost use Rattle.sdm_data.specs.Tables.{table_of};
@@ -27,6 +27,7 @@ pub fn run_upgrade<O: Sink>(alloc: Global, bytes: &[u8], out: &mut O) -> Ended
     ensures first { LeavesOutUntouched result.outcome → (result.is_flush_due ≡ false) × (out.new ≡ out.old) }
     ensures memory { result.outcome ≡ Outcome.Memory → (result.is_flush_due ≡ false) × (out.new ≡ out.old) }
     ensures due { result.is_flush_due ≡ false → (out.new ≡ out.old) ⊎ (result.outcome ≡ Outcome.WriteFault) }
+    ensures untouched { (upgrade_output bytes.now).text ≡ [] → (result.is_flush_due ≡ false) × (out.new ≡ out.old) }
     ensures later { O.faults out.old ≤ O.faults out.new }
     ensures write { result.outcome ≡ Outcome.WriteFault → Rose (O.faults out.old) (O.faults out.new) }
 {

@@ -1,6 +1,7 @@
 -- The promises of a command's rows and of an input that is too long, at the command that the words ask for; and what
 -- the bytes that were read are to the input.
-use Rattle.std.proofs.Common.{◌∙◌, Err, ap, sym, subst}
+use Rattle.std.proofs.Common.{◌≡◌, ◌∙◌, [], Err, ap, refl, sym, subst}
+use Rattle.sdm_formats.specs.Flat.{Output}
 use Rattle.sdm_report.specs.declared.outcome.Outcome.TheVariants.{Memory}
 use Rattle.sdm_run.specs.Answers.{IsAnswer, IsEndOfRecords, NeedsTheWholeInput}
 use Rattle.sdm_run.proofs.CommandFacts.{answer_told, rows_told, too_long_told}
@@ -52,3 +53,20 @@ returns-in-Err-TooLong-clause-rows g c = rows_told _ _ _ (sym c.in-Some.ensures.
 
 pub returns-in-Err-Memory-clause-rows : goal.returns-in-Err-Memory-clause-rows
 returns-in-Err-Memory-clause-rows g c = rows_told _ _ _ (sym c.in-Some.ensures.value) c.in-Some.ensures.range
+
+pub returns-in-Ok-clause-untouched : goal.returns-in-Ok-clause-untouched
+returns-in-Ok-clause-untouched g c =
+    answer_told _ _ _ _ _ (λ (output : Output). output.text ≡ [] → c.outcome_to.new.out ≡ c.args.out.now)
+    (sym c.in-Some.ensures.value) c.in-Ok.ensures.whole c.deref.ensures.value c.outcome_to.ensures.untouched
+
+pub returns-in-Err-Fault-clause-untouched : goal.returns-in-Err-Fault-clause-untouched
+returns-in-Err-Fault-clause-untouched g c =
+    told_of_all (λ (output : Output). output.text ≡ [] → c.args.out.now ≡ c.args.out.now) (λ output none. refl) _ _
+
+pub returns-in-Err-TooLong-clause-untouched : goal.returns-in-Err-TooLong-clause-untouched
+returns-in-Err-TooLong-clause-untouched g c =
+    told_of_all (λ (output : Output). output.text ≡ [] → c.args.out.now ≡ c.args.out.now) (λ output none. refl) _ _
+
+pub returns-in-Err-Memory-clause-untouched : goal.returns-in-Err-Memory-clause-untouched
+returns-in-Err-Memory-clause-untouched g c =
+    told_of_all (λ (output : Output). output.text ≡ [] → c.args.out.now ≡ c.args.out.now) (λ output none. refl) _ _

@@ -5,7 +5,7 @@ use Rattle.sdm_io.specs.Told.{AppendsPart}
 use Rattle.sdm_certify.specs.Checker.{IsBeginFault}
 use Rattle.sdm_certify.specs.Lines.{lines_in, map_in}
 use Rattle.sdm_certify.proofs.LinesTaken.{claim_bad, claim_reads, map_bad, map_reads}
-use Rattle.sdm_run.proofs.CheckTexts.{all_answered, answer_cut, answer_written, line_refused, map_refused}
+use Rattle.sdm_run.proofs.CheckTexts.{all_answered, answer_cut, answer_some, answer_written, line_refused, map_refused}
 use Rattle.sdm_run.proofs.CheckTexts.{none_answered}
 use Rattle.sdm_run.proofs.check_run.run_check.Given.{Over}
 use Rattle.sdm_run.proofs.check_run.run_check.Goals.{After-refused}
@@ -31,6 +31,7 @@ claims-init g c =
       counted = map_reads c.args.bytes.now _ _ begun.read;
       later = omega arith;
       due = λ _. refl;
+      untouched = λ output of none. (refl, refl);
     }
 
 pub returns-in-Ok-None-clause-answer : goal.returns-in-Ok-None-clause-answer
@@ -75,4 +76,17 @@ claims-preserved g c =
       counted = omega (arith, c.claims.invariant.counted, reads.0);
       later = omega (arith, c.claims.invariant.later, c.write_piece.ensures.cause.later);
       due = λ is. cc;
+      untouched = λ output of none. absurd (answer_some _ _ _ output (c.claims.invariant.answered output of) _ _ found
+          none);
     }
+
+pub returns-in_default-clause-untouched : goal.returns-in_default-clause-untouched
+returns-in_default-clause-untouched g c =
+    let found = rw c.in-Ok-Some.field-0-is at c.in-Ok-Some.ensures.answer in
+    λ output of none. absurd (answer_some _ _ _ output (c.claims.invariant.answered output of) _ _ found none)
+
+pub returns-in-Ok-None-clause-untouched : goal.returns-in-Ok-None-clause-untouched
+returns-in-Ok-None-clause-untouched g c = rw c.new-in-Ok-None.ensures c.claims.invariant.untouched
+
+pub returns-in-Err-clause-untouched : goal.returns-in-Err-clause-untouched
+returns-in-Err-clause-untouched g c = rw c.refused-in-Err.ensures c.claims.invariant.untouched

@@ -1,5 +1,5 @@
 -- So far out took the rows of the lines before, and what is left gives the rest of the output.
-use Rattle.std.proofs.Common.{◌≡◌, suc, ◌+◌, ◌≤◌, false, length}
+use Rattle.std.proofs.Common.{◌≡◌, suc, ◌+◌, ◌≤◌, [], false, length}
 use Rattle.sdm_formats.specs.Input.{most_bytes}
 use Rattle.sdm_formats.specs.Lines.{lines_of}
 use Rattle.sdm_formats.specs.Flat.{flat_output, flat_output_from}
@@ -13,6 +13,7 @@ invariant-lines g l = record {
   few : l.number + length l.rest ≤ most_bytes;
   later : g.O.Sink.faults l.fn.out ≤ g.O.Sink.faults l.out;
   due : l.is_flush_due ≡ false → l.out ≡ l.fn.out;
+  untouched : (flat_output l.decel l.end_cm l.bytes).text ≡ [] → (l.is_flush_due ≡ false) × (l.out ≡ l.fn.out);
 }
 
 -- each turn takes a byte

@@ -1,12 +1,13 @@
 -- Each turn takes the first record that is left, or ends the run with the outcome of what is left.
-use Rattle.std.proofs.Common.{◌≡◌, ◌+◌, suc, ◌∷◌, refl, inl, sym, arith}
+use Rattle.std.proofs.Common.{◌≡◌, ◌+◌, suc, ◌∷◌, refl, inl, sym, subst, arith}
 use Rattle.std.proofs.lemmas.Bool.{false≢true}
 use Rattle.std.proofs.KnownBytes.{Appends-nil}
 use Rattle.csv.specs.Records.{fields_of}
 use Rattle.sdm_report.specs.declared.outcome.Outcome.TheVariants.{BadEvent, Done}
+use Rattle.sdm_run.specs.RunParts.{TellsEach}
 use Rattle.sdm_run.proofs.HeldRecords.{held_none_left, held_refused, reading_held, reading_no_end}
 use Rattle.sdm_run.proofs.OutputLeft.{all_left, cut_off}
-use Rattle.sdm_run.proofs.RunTexts.{first_refused, none_left, reading_cut, reading_told, records_not_before}
+use Rattle.sdm_run.proofs.RunTexts.{first_refused, none_left, reading_cut, reading_some, reading_told, records_not_before}
 use Rattle.sdm_run.proofs.RunTexts.{refused_outcome}
 use Rattle.sdm_run.proofs.journey_records.run_records.Goals as goal
 
@@ -17,6 +18,7 @@ records-init g c = record {
   counted = omega arith;
   later = omega arith;
   due = λ is. (is, refl);
+  untouched = λ due each none. (due, refl, refl);
 }
 
 pub returns-in-Ok-false-clause-answer : goal.returns-in-Ok-false-clause-answer
@@ -79,4 +81,18 @@ records-preserved g c =
       counted = omega (arith, c.in-Ok-Told.ensures.counted);
       later = omega (arith, c.records.invariant.later, c.in-Ok-Told.ensures.later);
       due = λ is. absurd (false≢true (sym is));
+      untouched = λ due each none.
+          let so_far = c.records.invariant.untouched due each none in
+          absurd (reading_some _ _ _ _ _ _ found _ _ (g.O.Sink.taken c.records.out) _ c.records.invariant.left _ taken.0 taken.1 taken.2
+          (subst TellsEach (sym so_far.2) each) none);
     }
+
+pub returns-in-Ok-Cut-clause-untouched : goal.returns-in-Ok-Cut-clause-untouched
+returns-in-Ok-Cut-clause-untouched g c =
+    let found : c.records.records.left ≡ fields_of c.next.new.into ∷ c.next.new.self.left =
+    c.next.ensures.found (cc (c.in-Ok-true.is, c.in-Ok-true.field-0-test)) in
+    let taken = (rw c.in-Ok-Cut.field-0-is at c.in-Ok-Cut.ensures.taken) in
+    λ due each none.
+    let so_far = c.records.invariant.untouched due each none in
+    absurd (reading_some _ _ _ _ _ _ found _ _ (g.O.Sink.taken c.records.out) _ c.records.invariant.left _ taken.0 taken.1 taken.2
+    (subst TellsEach (sym so_far.2) each) none)

@@ -1,8 +1,8 @@
 -- So far out took what is told of the turns before, which holds, and the records that are left give the rest of the
 -- output.
-use Rattle.std.proofs.Common.{◌≡◌, ◌+◌, ◌≤◌, false, length}
+use Rattle.std.proofs.Common.{◌≡◌, ◌+◌, ◌≤◌, [], false, length}
 use Rattle.sdm_events.specs.Journey.{records_of}
-use Rattle.sdm_run.specs.RunParts.{IsHeldBy, output_of_records}
+use Rattle.sdm_run.specs.RunParts.{IsHeldBy, TellsEach, output_of_records}
 use Rattle.sdm_run.proofs.HeldRecords.{turns_of}
 use Rattle.sdm_run.proofs.OutputLeft.{IsLeftOf}
 use Rattle.sdm_run.proofs.journey_records.run_records.Given as goal
@@ -17,6 +17,9 @@ invariant-records g l = record {
   counted : l.number ≤ 100_000;
   later : g.O.Sink.faults l.fn.out ≤ g.O.Sink.faults l.out;
   due : l.is_flush_due ≡ false → (l.fn.is_flush_due ≡ false) × (l.out ≡ l.fn.out);
+  untouched : l.fn.is_flush_due ≡ false → TellsEach l.fn.teller →
+      (output_of_records l.fn.teller 1 l.fn.supervisor (records_of l.bytes)).text ≡ [] →
+      (l.is_flush_due ≡ false) × (l.out ≡ l.fn.out) × (l.teller ≡ l.fn.teller);
 }
 
 -- each turn takes a record

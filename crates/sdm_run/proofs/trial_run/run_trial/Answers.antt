@@ -14,3 +14,8 @@ returns-clause-answer g c =
 
 pub returns-clause-possible : goal.returns-clause-possible
 returns-clause-possible g c = c.written.ensures.possible trial_shape
+
+pub returns-clause-untouched : goal.returns-clause-untouched
+returns-clause-untouched g c none =
+    let rows = rows_of (trial_journey c.args.seed c.args.cycles).turns in
+    c.written.ensures.untouched (c.bytes.ensures.value ∙ c.put.ensures rows c.summary_of.ensures ∙ none)

@@ -1,5 +1,5 @@
 -- What is written is the text of the upgrade.
-use Rattle.std.proofs.Common.{◌≡◌, ◌∙◌, ℕ, List, subst}
+use Rattle.std.proofs.Common.{◌≡◌, ◌∙◌, ℕ, List, ap, subst, sym}
 use Rattle.sdm_formats.specs.Flat.{Output}
 use Rattle.sdm_formats.specs.Input as ends
 use Rattle.sdm_run.specs.Answers.{IsAnswer}
@@ -16,3 +16,8 @@ returns-in-Ok-clause-answer g c =
 
 pub returns-in-Ok-clause-possible : goal.returns-in-Ok-clause-possible
 returns-in-Ok-clause-possible g c = c.written.ensures.possible upgrade_shape
+
+pub returns-in-Ok-clause-untouched : goal.returns-in-Ok-clause-untouched
+returns-in-Ok-clause-untouched g c none =
+    let text_is = ap (λ (o : Output). o.text) c.in-Ok.ensures.text.output_is in
+    c.written.ensures.untouched (c.as_bytes.ensures.value ∙ c.as_str.ensures.value ∙ sym text_is ∙ none)
