@@ -18,7 +18,7 @@ use Rattle.sdm_rules.specs.Decelerations.{slopes_of}
 use Rattle.sdm_rules.specs.Slopes.{Slopes, bands_of}
 use Rattle.sdm_formats.specs.Text.{text_line}
 use Rattle.sdm_certify.specs.WrittenLines.{claim_text, head_line, map_text, mark_text, marked_claim_text, segment_cells}
-use Rattle.sdm_certify.specs.WrittenLines.{segment_line, slopes_at, text_of_lines, uppers_line}
+use Rattle.sdm_certify.specs.WrittenLines.{segment_line, slopes_at, text_of_lines, uppers_line, uppers_lines}
 use Rattle.sdm_run.specs.Answers.{AreWholeLines}
 use Rattle.sdm_run.specs.Certifying.{safe_map_text}
 use Rattle.sdm_run.specs.declared.tellers.Teller.{Teller}
@@ -80,12 +80,12 @@ head_whole (Certificates left) d = map_whole (slopes_of Safe d)
 
 -- the written map has a text
 pub map_some : (d : TrainAndTrack) → safe_map_text d ≡ [] → ⊥
-unfolding safe_map_text
+unfolding safe_map_text head_line
 map_some d none =
     let on = slopes_of Safe d in
     let segments = length (segment_cells on) in
     line_some (join_with_byte 44 (codes "map" ∷ decimal on.q ∷ decimal (bands_of on.uppers) ∷ decimal segments ∷ []))
-    (empty_left (head_line on segments) (text_of_lines (uppers_line on ++ map (segment_line on) (segment_cells on)))
+    (empty_left (head_line on segments) (text_of_lines (uppers_lines on ++ map (segment_line on) (segment_cells on)))
     none)
 
 -- so where nothing stands before the records, a line is told of each reading
