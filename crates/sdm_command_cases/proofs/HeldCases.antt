@@ -66,8 +66,8 @@ first_holds count bytes h output is c more first =
     of_text (subst (IsHeldText (slopes_of Safe h.read) output.text) first (h.held output is))
   where
     of_text : IsHeldText (slopes_of Safe h.read) output.text (c ∷ more) → Hold (slopes_of Safe h.read) c.claim c.marks
-    of_text text = of_first text.slopes text.held
+    of_text text = of_first text.made text.left text.slopes text.held
       where
-        of_first : {made : SlopeMap} {left : LinesLeft} → meaning_of made ≡ slopes_of Safe h.read →
+        of_first : (made : SlopeMap) (left : LinesLeft) → meaning_of made ≡ slopes_of Safe h.read →
             AreHeld made left (c ∷ more) → Hold (slopes_of Safe h.read) c.claim c.marks
-        of_first same (after, read, hold, rest) = subst (λ (on : Slopes). Hold on c.claim c.marks) same hold
+        of_first made left same (after, read, hold, rest) = subst (λ (on : Slopes). Hold on c.claim c.marks) same hold
