@@ -34,7 +34,7 @@ pub record IsBrakingOf (d : TrainAndTrack) (safe expected normal : SlopeMap) (in
   pub times_are : times ≡ reaction_times d
   pub in_range : AreTimes times
 
--- the first fault of an opening; want of memory may come at any time
+-- the first fault of an opening; memory may be refused at any time
 abbrev pub IsRefusal : TrainAndTrack → Authority → OpenFault → Type 0
 IsRefusal d a (TooWeak kind band cell slope) = IsOpenFault d a (TooWeak kind band cell slope)
 IsRefusal d a (TooVaried kind band least greatest) = IsOpenFault d a (TooVaried kind band least greatest)

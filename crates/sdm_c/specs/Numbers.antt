@@ -51,6 +51,7 @@ restriction_from r = record {
   delayed = r.is_delayed == 1;
 }
 
--- a speed in km/h of an authority as it is handed on: any above 65,535 as that, which is refused as well (own)
+-- a speed in km/h of an authority as it is passed on: a greater one than 65,535 as 65,535, which is refused as well
+-- (own)
 abbrev pub kmh_taken : ℕ → ℕ
 kmh_taken kmh = if nat_le kmh 65_535 then kmh else 65_535

@@ -161,7 +161,7 @@ take_over_answer next before =
     if is_fresh next then change_status (take_over_fault next.train_and_track.track.length_cm before.restrictions)
     else not_fresh
 
--- of what is told of a reading, what a driver is shown or its causes (own)
+-- of a call for what a driver is shown at a reading, or for its causes (own)
 abbrev pub display_answer : ReadingC → ℕ
 display_answer r = in_range (is_reading r) done
 

@@ -1,6 +1,6 @@
 -- Why a reading triggers, and why each command is as it is after it (SUBSET-026-3 3.13.10; own). Of all causes of a
--- trigger the first is told, in this order: the ceiling, the first target that is passed, the end of the authority, the
--- release speed, an SBI that is passed with no service brake in use.
+-- trigger the first is reported, in this order: the ceiling, the first target that is passed, the end of the authority,
+-- the release speed, an SBI that is passed with no service brake in use.
 use Rattle.std.specs.Prelude.{pos, Bool, not, ◌&&◌, ◌||◌, List, [], ◌∷◌, Option, Some, None, option_map, is_some}
 use Rattle.std.specs.Prelude.{if◌then◌else◌}
 use Rattle.std.specs.List.{find}
@@ -31,7 +31,7 @@ use Rattle.sdm_causes.specs.declared.causes.Until.TheVariants.{PermittedSpeed, S
 abbrev pub first_passed : LimitKind → (Target → SupervisionLimits) → Situation → Option Target
 first_passed kind limits s = find (λ t. passes kind s.speed s.est s.front 0 t (limits t)) s.targets
 
--- what is told of a target that is passed by its limit of a kind: its kind, its place in mm, its speed in km/h, and the
+-- the report of a target that is passed by its limit of a kind: its kind, its place in mm, its speed in km/h, and the
 -- limit in mm rounded down, which it has (own)
 abbrev pub told_target : LimitKind → SupervisionLimits → Target → PassedTarget
 told_target kind limits t = record {
@@ -41,22 +41,22 @@ told_target kind limits t = record {
   limit = option_map_or whole_mm (limit_in kind limits) (pos 0);
 }
 
--- what is told of the first target that is passed by its limit of a kind, if one is (own)
+-- the report of the first target that is passed by its limit of a kind, if one is (own)
 unfoldable pub told_first : LimitKind → (Target → SupervisionLimits) → Situation → Option PassedTarget
 told_first kind limits s = option_map (λ t. told_target kind (limits t) t) (first_passed kind limits s)
 
 -- ---- the first cause of a trigger
 
--- a cause, where it stands (own)
+-- a cause, where it holds (own)
 abbrev pub where_so : Bool → Cause → Option Cause
 where_so stands cause = if stands then Some cause else None
 
--- the first of several causes that stands (own)
+-- the first of several causes that holds (own)
 abbrev pub first_of : List (Option Cause) → Option Cause
 first_of [] = None
 first_of (cause ∷ causes) = option_or cause (first_of causes)
 
--- the first cause by which the limit of a kind is passed: the ceiling, then what is told of a target, if one is passed
+-- the first cause by which the limit of a kind is passed: the ceiling, then the report of a target, if one is passed
 -- (SUBSET-026-3 3.13.10; own order)
 abbrev pub by_limit : LimitKind → Situation → Option PassedTarget → Option Cause
 by_limit kind s target = first_of (where_so (above_ceiling kind s) Ceiling ∷ option_map Passed target ∷ [])
@@ -90,7 +90,7 @@ emer_by limits s = emergency_by s (passed_by Ebi limits s) (serv_by limits s)
 
 -- ---- how a command stands
 
--- a command after a reading: set where a cause of it stands, else held until something, where it is commanded (own)
+-- a command after a reading: set where a cause of it holds, else held until something, where it is commanded (own)
 abbrev pub standing : Bool → Bool → Until → Standing
 standing commanded caused until = if commanded then (if caused then Set else Held until) else Off
 

@@ -64,7 +64,7 @@ fields_of c =
 unfoldable pub causes_text : Causes → List ℕ
 causes_text c = text_line (fields_of c)
 
--- what is told of causes of an event in the state after it: of a reading a line
+-- the text of the causes of an event in the state after it: of a reading a line
 abbrev pub text_explained : Supervision → Event → List ℕ
 text_explained s (record_kinds.Read r) = causes_text (causes_of s r)
 text_explained s (record_kinds.Authority a) = []
@@ -72,13 +72,13 @@ text_explained s (record_kinds.Calculated eoa svl trip) = []
 text_explained s (record_kinds.Restrict r) = []
 text_explained s (record_kinds.Revoke id) = []
 
--- what `why` tells of a turn: the causes of its reading in the state after it
+-- what `why` writes for a turn: the causes of its reading in the state after it
 abbrev pub why_tells : Turn → List ℕ
 why_tells t = text_explained t.after t.event
 
 -- ---- the line in parts, as it is written
 
--- its time, and why the driver is told: over and warn
+-- its time, and why the driver is warned: over and warn
 unfoldable pub driver_part : Causes → List ℕ
 driver_part c = join_with_byte 44 (decimal c.time ∷ trigger_text c.over ∷ trigger_text c.warn ∷ [])
 

@@ -30,7 +30,8 @@ pub record IsBegun (text : List ℕ) (c : Checking) : Type 0 where
   pub read : map_in (lines_in text) ≡ Ok (written, c.left)
   pub made : IsMadeOf written c.made
 
--- why there is no checker: a line of the map isn't of the form due or is wanting, and is the first such; or no memory
+-- why there is no checker: this is the first line of the map that is missing or hasn't the right form; or memory is
+-- refused
 abbrev pub IsBeginFault : List ℕ → CheckFault → Type 0
 IsBeginFault text (faults.Line bad) = map_in (lines_in text) ≡ Err bad.number
 IsBeginFault text faults.Memory = Unit {0}

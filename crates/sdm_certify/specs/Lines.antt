@@ -87,7 +87,7 @@ pub record LinesLeft : Type 0 where
   pub number : ℕ
   pub lines : List (List ℕ)
 
--- what is read, with the lines after it; or the number of the first line that isn't of the form due or is wanting
+-- what is read, with the lines after it; or the number of the first line that is missing or hasn't the right form
 abbrev pub Read : Type 0 → Type 0
 Read A = Result (A × LinesLeft) ℕ
 
@@ -96,7 +96,7 @@ abbrev pub and_on : {A B : Type 0} → Read A → (A → LinesLeft → Read B) �
 and_on (Err number) next = Err number
 and_on (Ok (a, at)) next = next a at
 
--- the line of this number, of a form or not
+-- what is read of the line of this number, if it has the right form
 abbrev pub in_form : {A : Type 0} → ℕ → List (List ℕ) → Option A → Read A
 in_form number lines None = Err number
 in_form number lines (Some a) = Ok (a, record { number = suc number; lines = lines })

@@ -145,7 +145,7 @@ table_of d authority = section_table sections.Root
     ∷ (keys.root_authority, Some (table (authority_table authority)))
     ∷ [])
 
--- ---- which data a table gives back
+-- ---- which data are read back from a table
 
 -- the numbers of the authority are in the ranges of their keys
 abbrev pub IsAuthorityInRange : Authority → Type 0

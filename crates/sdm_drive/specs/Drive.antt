@@ -51,7 +51,7 @@ greatest_slope on from to =
 abbrev pub after_coasting : TrueTrain → TrueTrain
 after_coasting t = record { place = t.place +ℤ pos (1_000_000 * t.speed); speed = t.speed }
 
--- the greatest slope of the cells from the front end's own to that which it comes to by coasting for a ds (own)
+-- the greatest slope of the cells from that of the front end to the one that it reaches by coasting for a ds (own)
 abbrev pub slope_ahead : Slopes → TrueTrain → ℕ
 slope_ahead on t = greatest_slope on (cell_of t.place) (cell_of (after_coasting t).place)
 
@@ -72,7 +72,7 @@ after_braking_with q slope t =
     then record { place = t.place +ℤ pos (500_000 * (2 * t.speed - loss)); speed = t.speed - loss }
     else record { place = t.place +ℤ pos (stopping_distance q slope t.speed); speed = 0 }
 
--- after a ds of braking: with the greatest slope ahead, so at least as the slopes on its way ask (own)
+-- after a ds of braking: with the greatest slope ahead, so with at least every slope on its way (own)
 unfoldable pub after_braking : Slopes → TrueTrain → TrueTrain
 after_braking on t = after_braking_with on.q (slope_ahead on t) t
 

@@ -37,7 +37,7 @@ pub record AreStepsPromised (n : ℕ) (s : Drive) : Type 0 where
   pub turns : AreTurnsPromised (drive_journey n s).turns
   pub readings : All IsReadTrue (drives_before n s)
 
--- So it is of every drive, from every seed and for every number of steps.
+-- This holds for every drive, from every seed and for every number of steps.
 abbrev pub LawOfDriveSteps : Type 0
 LawOfDriveSteps =
     (d : TrainAndTrack) (eoa svl seed n : ℕ) → IsDrivable d eoa svl → AreStepsPromised n (start_under d eoa svl seed)

@@ -90,7 +90,7 @@ pub record AreBySvl (svl : ℕ) (rows : List DriveRow) : Type 0 where
   pub fronts : All (λ r. r.front ≤ℤ place_of_cell (pos svl)) rows
   pub least : pos 0 ≤ℤ mm_below (least_ahead svl rows)
 
--- So are the rows of every drive.
+-- This holds for the rows of every drive.
 abbrev pub LawOfDriveRows : Type 0
 LawOfDriveRows =
     (d : TrainAndTrack) (eoa svl seed n : ℕ) → IsDrivable d eoa svl →

@@ -27,7 +27,7 @@ IsPlainStop a = (eoa : ℕ) × (svl : ℕ) × (a ≡ Stop eoa svl 0)
 abbrev pub HasBuildUp : TrainAndTrack → Type 0
 HasBuildUp d = step_time ≤ unsigned_abs d.train.emergency_time
 
--- why data are not driven, by the first cause; want of memory may come at any time
+-- why data are not driven, by the first cause; memory may be refused at any time
 abbrev pub IsDriveRefusal : TrainAndTrack → Authority → DriveFault → Type 0
 IsDriveRefusal d a NoStop = (loa : ℕ) × (speed : ℕ) × (a ≡ Limit loa speed)
 IsDriveRefusal d a (HasRelease release) = (eoa : ℕ) × (svl : ℕ) × (a ≡ Stop eoa svl release) × (0 < release)

@@ -143,7 +143,7 @@ track_text (track_faults.Order list index) = codes "order " ++ entry_path list i
 track_text (track_faults.Value list index key) = codes "value " ++ key_path list index key
 track_text (track_faults.Gap list) = codes "gap " ++ list_path list
 
--- the text of want of memory, wherever it comes up
+-- the text of refused memory, wherever memory is refused
 unfoldable pub memory_text : List ℕ
 memory_text = codes "no memory"
 
@@ -160,7 +160,7 @@ data_text data_faults.Memory = memory_text
 
 -- ---- refusals of the opening and of records
 
--- the text why an authority is refused
+-- why an authority is refused, in words
 unfoldable pub authority_text : AuthorityFault → List ℕ
 authority_text SvlBeforeEoa = codes "supervised location before end"
 authority_text BeyondTrack = codes "beyond track"
@@ -172,7 +172,7 @@ kind_text Safe = codes "safe"
 kind_text Expected = codes "expected"
 kind_text Normal = codes "normal"
 
--- the text why an opening is refused
+-- why an opening is refused, in words
 unfoldable pub open_text : OpenFault → List ℕ
 open_text (open_faults.TooWeak kind band cell slope) = codes "refused: too weak: " ++ kind_text kind ++ codes " band "
     ++ decimal band ++ codes " cell " ++ signed_decimal cell
@@ -181,29 +181,29 @@ open_text (open_faults.TooVaried kind band least greatest) =
 open_text (open_faults.BadAuthority fault) = codes "refused: " ++ authority_text fault
 open_text open_faults.Memory = memory_text
 
--- the text why a field is refused
+-- why a field is refused, in words
 unfoldable pub field_text : FieldFault → List ℕ
 field_text NotNumber = codes "not a number"
 field_text OutOfRange = codes "out of range"
 
--- the text why the form of a record is refused
+-- why the form of a record is refused, in words
 unfoldable pub form_text : EventFault → List ℕ
 form_text event_faults.UnknownKind = codes "unknown kind"
 form_text event_faults.FieldCount = codes "field count"
 form_text (event_faults.Field column fault) = codes "field " ++ decimal column ++ codes ": " ++ field_text fault
 form_text event_faults.TooMany = codes "too many events"
 
--- the text why a restriction is refused
+-- why a restriction is refused, in words
 unfoldable pub restrict_text : RestrictFault → List ℕ
 restrict_text restrict_faults.Full = codes "too many restrictions"
 restrict_text (restrict_faults.IdInUse id) = codes "identity in use"
 restrict_text restrict_faults.Value = codes "restriction value"
 
--- the text why a revocation is refused
+-- why a revocation is refused, in words
 unfoldable pub revoke_text : RevokeFault → List ℕ
 revoke_text (revoke_faults.Unknown id) = codes "identity unknown"
 
--- the text why a record is refused
+-- why a record is refused, in words
 unfoldable pub cause_text : EventCause → List ℕ
 cause_text (causes.Form fault) = form_text fault
 cause_text (causes.Authority fault) = authority_text fault

@@ -109,7 +109,7 @@ flat_line_of (time ∷ front ∷ speed ∷ []) =
     }))))
 flat_line_of _ = None
 
--- a line of the input, if it is of the form due
+-- a line of the input, if it has the right form
 unfoldable pub flat_line : List ℕ → Option FlatLine
 flat_line bytes = flat_line_of (comma_fields bytes)
 

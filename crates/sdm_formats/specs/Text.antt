@@ -91,15 +91,15 @@ text_shown s (record_kinds.Revoke id) = []
 
 -- ---- turns
 
--- what is told of turns, one after the other, by what is told of each
+-- the text of turns, one after the other, given the text of each
 abbrev pub told : (Turn → List ℕ) → List Turn → List ℕ
 told tell [] = []
 told tell (t ∷ ts) = tell t ++ told tell ts
 
--- what `run` tells of a turn: the text of its row
+-- what `run` writes for a turn: the text of its row
 abbrev pub run_tells : Turn → List ℕ
 run_tells t = text_of_row (row_of_turn t)
 
--- what `display` tells of a turn: what is shown of its reading in the state after it
+-- what `display` writes for a turn: what is shown of its reading in the state after it
 abbrev pub display_tells : Turn → List ℕ
 display_tells t = text_shown t.after t.event

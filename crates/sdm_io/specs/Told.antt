@@ -2,11 +2,11 @@
 use Rattle.std.specs.Prelude.{◌≡◌, ℕ, ◌<◌, ◌≤◌, List, [], ◌++◌, length, take, Option, IfSome}
 use Rattle.std.specs.Io.KnownBytes.{Appends, Consumes}
 
--- a fact of the bytes, where they are told
+-- a fact of the bytes, where they are known
 abbrev pub Told : Option (List ℕ) → (List ℕ → Type 0) → Type 0
 Told known P = IfSome known P
 
--- a sink gave on all that it took, where it tells what it holds back
+-- a sink passed on all that it took, where it is known what it holds back
 abbrev pub HoldsNothing : Option (List ℕ) → Type 0
 HoldsNothing held = Told held (λ bytes. bytes ≡ [])
 

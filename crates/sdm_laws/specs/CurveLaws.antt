@@ -61,7 +61,7 @@ LawOfFoot = (on : Slopes) (f : ℤ) (w : ℕ) → IsAtFoot on f w
 
 -- ---- levels
 
--- exact places are a curve by the physics, so are stepped ones, and no other whole grains are
+-- exact places keep one level in each band, and so do stepped places; no other whole grains do
 pub record KeepsLevels (on : Slopes) (f : ℤ) (w : ℕ) : Type 0 where
   pub exact_curve : (s : ℕ) → 0 < s → IsExactCurve on s f w (exact_at on s f w)
   pub stepped_curve : IsSteppedCurve on f w (stepped on f w)

@@ -10,7 +10,8 @@ use Rattle.sdm_rules.specs.Triggers.{Situation}
 use Rattle.sdm_rules.specs.Supervision.{Supervision, situation_of, row_of}
 use Rattle.sdm_rules.specs.Opening.{IsOpen}
 
--- the limit is printed of the target: there it is, its speed is at most the train's, and it has the limit
+-- the limit of the target may be printed: the target is one of the situation, its speed is at most the train's, and it
+-- has the limit
 pub record IsPrintedOf (now : Situation) (limit : Target → Option Fraction) (t : Target) (x : Fraction) : Type 0 where
   pub there : Contains now.targets t
   pub slow : target_speed t ≤ now.speed

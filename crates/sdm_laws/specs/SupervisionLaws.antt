@@ -65,7 +65,7 @@ pub record IsJustBefore (low x : Fraction) : Type 0 where
   pub not_past : IsAtMost low x
   pub near : IsAtMost x (more low most_slack)
 
--- both places or neither, the first just before the second
+-- both places exist or neither does; the first is just before the second
 abbrev pub AreJustBeforeIfAny : Option Fraction → Option Fraction → Type 0
 AreJustBeforeIfAny None None = ⊤
 AreJustBeforeIfAny None (Some x) = ⊥

@@ -1,5 +1,5 @@
--- A place that rounding left on one side of the exact one (own). An early bound is never past what it stands for, a
--- late one never before it; so a train that is compared with an early bound is stopped too soon rather than too late.
+-- A place that is rounded to one side of the exact place (own). An early bound is never past the exact place, and a
+-- late bound never before it. So a train that is compared with an early bound is stopped too soon rather than too late.
 use Rattle.std.specs.Prelude.{ℕ, ℤ, pos, neg_ℤ, ◌<◌, ◌+ℤ◌, unsigned_abs}
 use Rattle.std.specs.Int.{int_div_euclid, int_min, int_max}
 use Rattle.sdm_num.specs.Units.{millimetre}
@@ -22,13 +22,13 @@ pub record IsLateFor (l : Bound) (x : Fraction) : Type 0 where
   pub not_before : IsAtMost x (whole l.at)
   pub near : IsAtMost (whole (l.at +ℤ neg_ℤ (pos l.slack))) x
 
--- the number is what an operation makes of a place that P holds of
+-- the number is the result of an operation on a place for which P holds
 pub record IsResultOf (P : Fraction → Type 0) (op : Fraction → Fraction) (z : Fraction) : Type 0 where
   pub place : Fraction
   pub holds : P place
   pub same : IsSame (op place) z
 
--- the number is what an operation makes of two places, of which P and Q hold
+-- the number is the result of an operation on two places: P holds for the first, Q for the second
 pub record IsResultOfTwo (P Q : Fraction → Type 0) (op : Fraction → Fraction → Fraction) (z : Fraction) : Type 0 where
   pub left : Fraction
   pub right : Fraction
@@ -40,13 +40,15 @@ pub record IsResultOfTwo (P Q : Fraction → Type 0) (op : Fraction → Fraction
 abbrev pub most_room : ℕ
 most_room = millimetre
 
--- the early bound of the lesser of two places: it stands for just the lesser ones of what both stand for
+-- the early bound of the lesser of two places: it stands for exactly the lesser places of all pairs that the two bounds
+-- stand for
 abbrev pub earlier_of : Bound → Bound → Bound
 earlier_of e d =
     let at = int_min e.at d.at in
     record { at = at; slack = unsigned_abs (int_min (e.at +ℤ pos e.slack) (d.at +ℤ pos d.slack) +ℤ neg_ℤ at) }
 
--- the late bound of the greater of two places: it stands for just the greater ones of what both stand for
+-- the late bound of the greater of two places: it stands for exactly the greater places of all pairs that the two
+-- bounds stand for
 abbrev pub later_of : Bound → Bound → Bound
 later_of e d =
     let at = int_max e.at d.at in

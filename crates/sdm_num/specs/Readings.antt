@@ -42,7 +42,7 @@ pub record IsEstimate (e : Estimate) : Type 0 where
 abbrev pub estimate_of : OdometerReading → Estimate
 estimate_of r = record { speed = r.speed; accel = r.accel; under = r.under }
 
--- a reading as it is handed in: places in mm, speeds in mm/s (own)
+-- the reading of these numbers: places in mm, speeds in mm/s (own)
 abbrev pub reading_of : ℕ → ℤ → ℤ → ℤ → ℕ → ℤ → ℕ → OdometerReading
 reading_of time est_mm min_mm max_mm speed_mm_s accel under_mm_s = record {
   time = time;

@@ -1,5 +1,5 @@
 -- The units of the program (own). Speeds are in notches, 1/54000 m/s; times in tenths of a second, ds; places in
--- grains, of which a notch makes 10^6 in a ds. So every formula of the profile is one of whole numbers.
+-- grains. At one notch a train goes 10^6 grains in a ds. So every formula of the profile has whole numbers only.
 use Rattle.std.specs.Prelude.{ℕ, ℤ, pos, negsuc, ◌*◌, ◌≤ℤ◌, ◌*ℤ◌}
 
 -- grains of a millimetre

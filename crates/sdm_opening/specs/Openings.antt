@@ -41,19 +41,19 @@ abbrev pub IsRefusal : List ℕ → OpenFault → Type 0
 IsRefusal bytes fault = (fault ≢ open_faults.Memory) × (train_and_track : TrainAndTrack) × (a : Authority)
     × IsDataOf bytes train_and_track a × IsOpenFault train_and_track a fault
 
--- why the data part holds no data; want of memory may come at any time (own)
+-- why the data part holds no data; memory may be refused at any time (own)
 abbrev pub IsNoDataOf : List ℕ → NoOpening → Type 0
 IsNoDataOf bytes Memory = ⊤
 IsNoDataOf bytes (BadData fault) = IsDataFault bytes fault
 IsNoDataOf bytes (Refused fault) = ⊥
 
--- why the data part opens no supervision state; want of memory may come at any time (own)
+-- why the data part opens no supervision state; memory may be refused at any time (own)
 abbrev pub IsReasonOf : List ℕ → NoOpening → Type 0
 IsReasonOf bytes Memory = ⊤
 IsReasonOf bytes (BadData fault) = IsDataFault bytes fault
 IsReasonOf bytes (Refused fault) = IsRefusal bytes fault
 
--- the data part has one answer, want of memory aside: a state or a reason, never both and never two (own)
+-- the data part has one answer, unless memory is refused: a state or a reason, never both and never two (own)
 pub record HasOneAnswer (bytes : List ℕ) : Type 0 where
   pub not_both : (s : Supervision) (reason : NoOpening) → reason ≢ Memory → IsOpeningOf bytes s
       → IsReasonOf bytes reason → ⊥
@@ -61,6 +61,6 @@ pub record HasOneAnswer (bytes : List ℕ) : Type 0 where
   pub one_reason : (reason other : NoOpening) → reason ≢ Memory → other ≢ Memory → IsReasonOf bytes reason
       → IsReasonOf bytes other → reason ≡ other
 
--- so have all data parts (own)
+-- each data part has one answer (own)
 abbrev pub LawOfAnswers : Type 0
 LawOfAnswers = (bytes : List ℕ) → HasOneAnswer bytes

@@ -57,7 +57,7 @@ pub record IsMachineOf (s : Supervision) (r : OdometerReading) : Type 0 where
   pub must : (h : Held) → (must_hold s r h).eb ≡ must_after s r h.eb
   pub may : (h : Held) → (may_hold s r h).eb ≡ may_after s r h.eb
 
--- so it is in every state, at every reading
+-- this holds in every state, at every reading
 abbrev pub LawOfRowMachine : Type 0
 LawOfRowMachine = (s : Supervision) (r : OdometerReading) → IsMachineOf s r
 

@@ -25,15 +25,15 @@ MeetsEachFall s r = (cell : ℤ) → IsFallAhead s r cell →
     SlowsTo (slopes_of Safe s.train_and_track) (reaction_start s.train_and_track r) (place_of_cell cell)
     (most_at_fall s r cell)
 
--- a covered row promises so, whether or not the emergency brake is commanded
+-- a covered row promises this, whether or not the emergency brake is commanded
 abbrev pub MeetsEachFallIfCovered : Supervision → OdometerReading → Type 0
 MeetsEachFallIfCovered s r = IsTrue (row_of s r).covered → MeetsEachFall s r
 
--- COVERED AND BRAKING: so does each covered row
+-- COVERED AND BRAKING: each covered row promises this
 abbrev pub LawOfCoveredFalls : Type 0
 LawOfCoveredFalls = (s : Supervision) (r : OdometerReading) → IsOpen s → MeetsEachFallIfCovered s r
 
--- without an emergency command it is all that `MeetsFalls` says
+-- without an emergency command this gives all that `MeetsFalls` says
 abbrev pub LawOfFreeFalls : Type 0
 LawOfFreeFalls = (s : Supervision) (r : OdometerReading) → (row_of s r).held.eb ≡ false → MeetsEachFall s r →
     MeetsFalls s r

@@ -1,5 +1,5 @@
--- How near the computed limits of a reading are to the exact ones, by the number of speed bands, and at the other speeds
--- as which a driver is shown limits (own).
+-- How near the computed limits of a reading are to the exact ones, by the number of speed bands; also at the other
+-- speeds that a driver is shown as limits (own).
 use Rattle.std.specs.Prelude.{ℕ, ◌<◌, Option, Some, None, ⊤, length}
 use Rattle.sdm_num.specs.Units.{notches}
 use Rattle.sdm_num.specs.Fractions.{Fraction, IsAtMost, more}
@@ -16,7 +16,7 @@ pub record IsWithin (grains : ℕ) (low x : Fraction) : Type 0 where
   pub positive : 0 < x.m
   pub near : IsAtMost x (more low grains)
 
--- both places or neither, the second at most so many grains past the first
+-- both places exist or neither does; the second is at most so many grains past the first
 abbrev pub AreWithinIfAny : ℕ → Option Fraction → Option Fraction → Type 0
 AreWithinIfAny grains None None = ⊤
 AreWithinIfAny grains None (Some x) = ⊥
@@ -32,8 +32,7 @@ pub record AreWithin (grains : ℕ) (d : TrainAndTrack) (r : OdometerReading) : 
   pub release_start : (eoa svl release : ℕ) →
       IsWithin grains (release_start computed d eoa svl release) (release_start exact_places d eoa svl release)
 
--- the computed limits are early for the exact ones, and by no more than rounding in as many bands as the train has
--- takes off
+-- the computed limits are early for the exact ones, by at most the rounding of all bands of the train
 pub record AreNear (d : TrainAndTrack) (r : OdometerReading) : Type 0 where
   pub early : AreEarly d r
   pub within : AreWithin (slack_of (length d.train.bands)) d r

@@ -18,7 +18,7 @@ use Rattle.sdm_row_laws.specs.NearLimits.{AreNear, at_kmh}
 use Rattle.sdm_row_laws.specs.ShownTriggers.{IsShownAsTriggered}
 use Rattle.sdm_row_laws.specs.ServiceStop.{StopsIfFree}
 
--- what is said of a reading, of the reading of a turn; of other records nothing
+-- a property of readings holds for the reading of a turn; a turn of another record has it always
 abbrev pub OfReading : (Supervision → OdometerReading → Type 0) → Supervision → Event → Type 0
 OfReading P s (record_kinds.Read r) = P s r
 OfReading P s (record_kinds.Authority a) = ⊤
@@ -26,7 +26,7 @@ OfReading P s (record_kinds.Calculated eoa svl trip) = ⊤
 OfReading P s (record_kinds.Restrict r) = ⊤
 OfReading P s (record_kinds.Revoke id) = ⊤
 
--- of each reading of every list of records, by whatever form they are read
+-- a property holds for each reading of every list of records, by whatever form they are read
 abbrev pub OfJourneys : (Supervision → OdometerReading → Type 0) → Type 0 → Type 0
 OfJourneys P Record =
     (form : ℕ → Record → Result Event EventFault) (n : ℕ) (s : Supervision) (records : List Record) → IsOpen s →
@@ -36,8 +36,8 @@ OfJourneys P Record =
 abbrev pub MeetsFallsIfFree : Supervision → OdometerReading → Type 0
 MeetsFallsIfFree s r = IsTrue (row_of s r).covered → (row_of s r).held.eb ≡ false → MeetsFalls s r
 
--- the computed limits of a reading are near the exact ones, also those at each other speed in km/h, as which a driver is
--- shown them; and so are those that its row prints
+-- the computed limits of a reading are near the exact ones, also those at each other speed in km/h that a driver is
+-- shown; and so are those that its row prints
 pub record HasNearLimits (s : Supervision) (r : OdometerReading) : Type 0 where
   pub computed : AreNear s.train_and_track r
   pub at_speeds : (kmh : ℕ) → AreNear s.train_and_track (at_kmh kmh r)
@@ -69,7 +69,8 @@ LawOfLimitJourneys Record = OfJourneys HasNearLimits Record
 
 -- WHAT A COMMAND SAYS OF ITS ROWS, from no command held on: the headline; all commands and states in order at each row;
 -- the EOA from each row of a moving train that commands no brake; each fall from each covered row, without an emergency
--- command and with one; limits near the exact ones; and at the reading's own speed those limits are passed that trigger.
+-- command and with one; limits near the exact ones; and at the reading's own speed a limit that is shown is passed
+-- exactly where it triggers.
 pub record AreTurnsPromised (turns : List Turn) : Type 0 where
   pub safe : AreTurnsSafe false false turns
   pub in_order : AreTurnsInOrder nothing_held nothing_held turns
@@ -79,7 +80,7 @@ pub record AreTurnsPromised (turns : List Turn) : Type 0 where
   pub limits : All (λ t. OfReading HasNearLimits t.before t.event) turns
   pub shown : All (λ t. OfReading IsShownAsTriggered t.before t.event) turns
 
--- so it is of every list of records, by whatever form they are read, in an open state in which nothing is held
+-- this holds for every list of records, by whatever form they are read, in an open state in which nothing is held
 abbrev pub LawOfPromisedTurns : Type 0 → Type 0
 LawOfPromisedTurns Record =
     (form : ℕ → Record → Result Event EventFault) (n : ℕ) (s : Supervision) (records : List Record) → IsOpen s →

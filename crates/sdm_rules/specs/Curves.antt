@@ -42,11 +42,11 @@ unfoldable pub arc_back : Slopes → ℕ → ℕ → Fraction → ℕ → Fracti
 arc_back slopes scale band place change =
     back slopes scale band (place.m * grain_energy slopes change) place (place.m * grain_energy slopes change)
 
--- a place as it is seen from the other side of place 0 (own)
+-- a place mirrored at place 0 (own)
 abbrev pub turned : Fraction → Fraction
 turned x = record { n = neg_ℤ x.n; m = x.m }
 
--- slopes as they are seen from there: cell 0 is seen as cell -1, and what lies ahead lies back (own)
+-- slopes mirrored at place 0: cell 0 becomes cell -1, and ahead becomes back (own)
 abbrev pub turned_slopes : Slopes → Slopes
 turned_slopes slopes = record {
   q = slopes.q;
@@ -55,7 +55,7 @@ turned_slopes slopes = record {
 }
 
 -- The place of the square `to` on the arc in one band through a place with the square `from`: a greater square lies
--- back, a lesser one ahead, which is back as it is seen from the other side (own).
+-- back, a lesser one ahead, which is back once all is mirrored at place 0 (own).
 unfoldable pub arc : Slopes → ℕ → ℕ → Fraction → ℕ → ℕ → Fraction
 arc slopes scale band place from to =
     let behind = arc_back slopes scale band place (to - from) in
@@ -75,7 +75,7 @@ band_of_square scale [] square = 0
 band_of_square scale (upper ∷ uppers) square =
     if nat_lt (scale * (upper * upper)) square then suc (band_of_square scale uppers square) else 0
 
--- where a curve comes into a band: a place with its square (own)
+-- where a curve enters a band: a place with its square (own)
 pub record Corner : Type 0 where
   pub place : Fraction
   pub square : ℕ

@@ -20,7 +20,7 @@ pub record TrainData : Type 0 where
   pub service_brake : Bool
   pub bands : List Band
 
--- the train of the fields that are handed in: of the array of bands those that are given (own)
+-- the train of these fields: its bands are the first `band_count` of the array (own)
 abbrev pub train_of : TrainFields → TrainData
 train_of f = record {
   length_cm = f.length;

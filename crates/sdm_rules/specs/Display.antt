@@ -33,7 +33,7 @@ estimate_at v r = record (estimate_of r) { speed = v }
 abbrev pub situation_at : ℕ → Situation → Situation
 situation_at v now = record now { speed = v }
 
--- which supervision limit is told as a speed (own)
+-- which supervision limit is shown as a speed (own)
 abbrev pub kind_of : LimitName → LimitKind
 kind_of Permitted = kinds.Permitted
 kind_of Sbi = kinds.Sbi
@@ -50,7 +50,7 @@ counts_release Ebi = true
 abbrev pub is_exceeded : LimitName → (Target → SupervisionLimits) → Situation → Bool
 is_exceeded name limits now = is_passed (kind_of name) limits 0 now || (counts_release name && above_release now)
 
--- at a speed in km/h, in place of the reading's, the limit would be passed, by the computed limits of that speed (own)
+-- at a speed in km/h, instead of the reading's, the limit would be passed, by the computed limits of that speed (own)
 unfoldable pub passes_limit : TrainAndTrack → OdometerReading → Situation → LimitName → ℕ → Bool
 passes_limit d r now name kmh =
     is_exceeded name (limits_of computed d (estimate_at (notches kmh) r)) (situation_at (notches kmh) now)

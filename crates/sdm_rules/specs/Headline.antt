@@ -24,7 +24,7 @@ pub record IsRowSafe (must may : Bool) (s : Supervision) (r : OdometerReading) :
   pub ceiling : (row_of s r).held.eb ≡ false → IsWithinCeiling r (row_of s r)
   pub release : BeginsReleaseMonitoring s r
 
--- the row of a reading is safe, and so is a release speed that is calculated; of no other record a thing is promised
+-- the row of a reading is safe, and so is a calculated release speed; nothing is promised of other records
 abbrev pub IsRecordSafe : Bool → Bool → Supervision → Event → Type 0
 IsRecordSafe must may s (record_kinds.Read r) = IsRowSafe must may s r
 IsRecordSafe must may s (record_kinds.Authority a) = ⊤

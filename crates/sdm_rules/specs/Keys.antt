@@ -1,5 +1,5 @@
--- The numbers by which faults tell the keys of the data part: in each section its keys from 1 on, in the order of their
--- names (own).
+-- The numbers of the keys of the data part, by which a fault names a key. They count from 1 in each section, in the
+-- order of the keys' names (own).
 use Rattle.std.specs.Prelude.{ℕ}
 
 -- the root of the document

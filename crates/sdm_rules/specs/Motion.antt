@@ -112,8 +112,8 @@ pub record Motion : Type 0 where
   pub first : Point
   pub more : List Point
 
--- before braking the motion gains and moves no more than the start allows; from the point on at which its slices end
--- it brakes at least as the slopes ask
+-- before braking the motion gains and moves no more than the start allows; from the end of its slices on it brakes with
+-- at least the deceleration of the slopes
 pub record IsMotion (on : Slopes) (start : Start) (m : Motion) : Type 0 where
   pub reaction : IsReaction m.scale start m.speed m.slices
   pub begins : m.first ≡ last_point (record { place = m.place; square = m.speed * m.speed })

@@ -70,12 +70,12 @@ abbrev pub time_fault : Option ℕ → ℕ → Option CycleFault
 time_fault None time = None
 time_fault (Some last) time = if nat_lt time last then Some (TimeBack last time) else None
 
--- the cause by which a record is refused that gives a stop with the place of a trip
+-- the cause of the refusal of a record that gives a stop with the place of a trip
 abbrev pub trip_cause : TripFault → EventCause
 trip_cause (trip_faults.Authority fault) = causes.Authority fault
 trip_cause trip_faults.BadTrip = causes.BadTrip
 
--- the cause by which a record is refused for its time
+-- the cause of the refusal of a record for its time
 abbrev pub time_cause : CycleFault → EventCause
 time_cause (TimeBack last time) = causes.TimeBack last time
 

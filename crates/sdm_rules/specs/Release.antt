@@ -1,6 +1,6 @@
 -- The calculated release speed: the greatest whole speed from which a train that is tripped at a place still stops at
--- or before the SvL (SUBSET-026-3 3.13.9.4.8; own: the place of the trip is given). Places are in grains where nothing
--- else is said.
+-- or before the SvL (SUBSET-026-3 3.13.9.4.8; own: the place of the trip is given). Places are in grains unless a
+-- comment gives another unit.
 use Rattle.std.specs.Prelude.{ℕ, zero, suc, ℤ, pos, Bool, IsTrue, not, ◌<◌, unsigned_abs, if◌then◌else◌}
 use Rattle.sdm_num.specs.Units.{notches, distance_at, millimetre, top_kmh}
 use Rattle.sdm_num.specs.Fractions.{Fraction, less}

@@ -16,7 +16,7 @@ use Rattle.sdm_rules.specs.Reaction.{reaction_start}
 use Rattle.sdm_rules.specs.Limits.{v_bec_for}
 use Rattle.sdm_rules.specs.Supervision.{Supervision, situation_of}
 
--- a motion from a start, of some scale, which then brakes at least as the slopes ask
+-- a motion from a start, of some scale, which then brakes with at least the deceleration of the slopes
 abbrev pub IsMotionOn : Slopes → Start → Motion → Type 0
 IsMotionOn on start m = (0 < m.scale) × IsMotionFrom on start m
 

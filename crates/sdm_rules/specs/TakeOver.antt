@@ -38,7 +38,7 @@ taken_over next before = record next {
   commands = before.commands;
 }
 
--- the same by the new data and authority: what stands over a supervision state's change of data
+-- the supervision state after a change to these data and this authority
 abbrev pub renewed : Supervision → TrainAndTrack → Authority → Supervision
 renewed before d a = taken_over (opening d a) before
 

@@ -9,7 +9,7 @@ use Rattle.sdm_report.specs.declared.outcome.Outcome.TheVariants.{Done, Usage, R
 use Rattle.sdm_report.specs.declared.outcome.Outcome.TheVariants.{Refused, BadEvent, Memory, Undrivable}
 use Rattle.sdm_report.specs.OutcomeLines.{end_of_data}
 
--- the end that an outcome tells, if it tells one
+-- the end that an outcome reports, if it reports one
 abbrev pub told_end : Outcome → Option ends.End
 told_end Done = Some ends.Done
 told_end Usage = None
@@ -22,7 +22,7 @@ told_end (BadEvent number cause) = Some (ends.BadEvent number cause)
 told_end Memory = None
 told_end (Undrivable cause) = Some (ends.Undrivable cause)
 
--- a fault or want of memory came before the end
+-- a fault or refused memory came before the end
 abbrev pub IsCutShort : Outcome → Type 0
 IsCutShort outcome = (outcome ≡ ReadFault) ⊎ (outcome ≡ WriteFault) ⊎ (outcome ≡ Memory)
 
@@ -42,9 +42,9 @@ pub record AppendsLines (old new : Option (List ℕ)) (text : List ℕ) : Type 0
   pub whole_lines : AreWholeLines prefix
   pub taken : Appends old new prefix
 
--- What out took of the defined text: where an end is told, the whole text before it; after a write fault a prefix of
--- it, after want of memory whole lines, and else nothing. A text is empty that ends as too long, with bad data, with
--- data that can't be driven, or with a refused opening.
+-- What the sink took of the defined text. Where the outcome reports an end, it is the whole text before that end; after
+-- a write fault it is a prefix of the text, after refused memory whole lines, and otherwise nothing. The text of an
+-- input is empty if it is too long, has bad data or data that can't be driven, or if the opening is refused.
 abbrev pub TakesFor : Outcome → Option (List ℕ) → Option (List ℕ) → List ℕ → Type 0
 TakesFor Done old new text = Appends old new text
 TakesFor Usage old new text = Keeps old new
@@ -57,17 +57,17 @@ TakesFor (BadEvent number cause) old new text = Appends old new text
 TakesFor Memory old new text = AppendsLines old new text
 TakesFor (Undrivable cause) old new text = Appends old new text
 
--- the outcome answers the defined output, of which out took its part
+-- the outcome fits the defined output, and the sink took the part of the text that goes with it
 pub record IsAnswer (output : Output) (old new : Option (List ℕ)) (outcome : Outcome) : Type 0 where
   pub ended : IsOutcomeOf output.end outcome
   pub taken : TakesFor outcome old new output.text
 
--- the outcome is that of the defined end, and out took the whole text; or memory was wanting
+-- the outcome is that of the defined end, and the sink took the whole text; or memory was refused
 abbrev pub IsComplete : Output → Option (List ℕ) → Option (List ℕ) → Outcome → Type 0
 IsComplete output old new outcome =
     ((told_end outcome ≡ Some output.end) × Appends old new output.text) ⊎ (outcome ≡ Memory)
 
--- an outcome that comes before any row, whatever the input tells
+-- an outcome that comes before any row, whatever the input holds
 abbrev pub LeavesOutUntouched : Outcome → Type 0
 LeavesOutUntouched Done = ⊥
 LeavesOutUntouched Usage = Unit {0}

@@ -123,7 +123,7 @@ pub record IsCertifyOutput (count : ℕ) (bytes : List ℕ) (output : Output) : 
   pub run : IsRun run_reader bytes turns output.end
   pub text_is : output.text ≡ map_before bytes output.end ++ certificates count turns
 
--- ---- what it is worth
+-- ---- what it proves
 
 -- the claim of an event, which is a reading, with the marks that are made for it
 abbrev pub certified_in : Supervision → Event → List Certified

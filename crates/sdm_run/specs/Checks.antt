@@ -10,7 +10,7 @@ use Rattle.sdm_curve.specs.Maps.{MapData}
 use Rattle.sdm_rules.specs.Slopes.{SlopeMap}
 use Rattle.sdm_run.specs.Drives.{no_text}
 
--- an output of answers to the claims of a text, up to its end or to the first line that is bad or wanting
+-- an output of answers to the claims of a text, up to its end or to the first line that is bad or missing
 pub record IsCheckOf (text : List ℕ) (output : Output) : Type 0 where
   pub answers : List Answer
   pub checked : IsChecked text answers output.end
@@ -28,13 +28,13 @@ AreYesesSafe made at [] = ⊤
 AreYesesSafe made at (a ∷ more) = (c : Certified) × (after : LinesLeft) ×
     (next_claim at ≡ Some (Ok (c, after))) × (IsTrue a.yes → IsStopOn made c.claim) × AreYesesSafe made after more
 
--- so it is on the map that the text writes; without one there is no answer
+-- this holds on the map of the text; without one there is no answer
 abbrev pub AreAnswersSafe : Read MapData → List Answer → Type 0
 AreAnswersSafe (Err number) answers = answers ≡ []
 AreAnswersSafe (Ok (written, left)) answers =
     (made : Option SlopeMap) × IsMadeOf written made × AreYesesSafe made left answers
 
--- A YES STOPS: so are the answers that make an output, whichever they are
+-- A YES STOPS: this holds for the answers of an output, whichever they are
 abbrev pub AreCheckAnswersSafe : List ℕ → Type 0
 AreCheckAnswersSafe bytes =
     (output : Output) (check : IsCheckOf bytes output) → AreAnswersSafe (map_in (lines_in bytes)) check.answers

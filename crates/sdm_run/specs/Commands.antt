@@ -40,8 +40,8 @@ pub record HasOneOutput (command : Command) (bytes : List ℕ) : Type 0 where
   pub is : IsOutputOf command bytes output
   pub only : (other : Output) → IsOutputOf command bytes other → other ≡ output
 
--- whatever turns make an output of a journey (its text is what is told of them), what a command says of its rows holds
--- of each of them, from no command held on
+-- whatever turns make an output of a journey (their texts are its text), what a command says of its rows holds for each
+-- of them, from no command held on
 abbrev pub AreJourneyTurnsSafe : (Turn → List ℕ) → List ℕ → Type 0
 AreJourneyTurnsSafe tell bytes =
     (output : Output) (told : IsJourneyOutput tell bytes output) → AreTurnsPromised told.turns
@@ -65,7 +65,7 @@ AreRowsSafe (Drive seed cycles) bytes = AreDriveRowsSafe seed cycles bytes
 AreRowsSafe (Certify count) bytes = AreJourneyTurnsSafe run_tells bytes
 AreRowsSafe Check bytes = AreCheckAnswersSafe bytes
 
--- the words ask for nothing that reads the input
+-- the words name no command that reads the input
 abbrev pub ReadsNothing : Option Command → Type 0
 ReadsNothing None = ⊤
 ReadsNothing (Some command) = (shape_of command).reads_input ≡ false

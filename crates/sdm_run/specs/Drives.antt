@@ -67,7 +67,7 @@ pub record IsDriveSafe (svl cycles : ℕ) (start : Drive) : Type 0 where
   pub by_svl : AreBySvl svl (drive_rows cycles start)
   pub steps : AreStepsPromised cycles start
 
--- whichever data the bytes are that can be driven, so it is of the drive over them
+-- whichever data the bytes hold that can be driven, this holds for the drive over them
 abbrev pub AreDriveRowsSafe : ℕ → ℕ → List ℕ → Type 0
 AreDriveRowsSafe seed cycles bytes =
     (d : TrainAndTrack) (eoa svl : ℕ) → IsDataOf bytes d (Stop eoa svl 0) → IsAccepted d (Stop eoa svl 0) →

@@ -11,8 +11,8 @@ use Rattle.sdm_data.specs.Document.{document_of}
 use Rattle.sdm_data.specs.Journey.{data_of}
 use Rattle.sdm_events.specs.Journey.{Record, records_of}
 
--- how the parts of an input are read: about the dividing line a TOML document and CSV records, as `toml` and `csv`
--- define them
+-- how the parts of an input are read: a TOML document before the dividing line and CSV records after it, as `toml` and
+-- `csv` define them
 abbrev pub run_reader : Reader Members Record
 run_reader = record {
   divide = divide;
@@ -22,8 +22,7 @@ run_reader = record {
   form = event_of;
 }
 
--- what is defined for the bytes of an input, by what is told of each turn: the text of the turns of THE RUN, and its
--- end
+-- what is defined for the bytes of an input, given the text of each turn: the text of the turns of THE RUN, and its end
 pub record IsJourneyOutput (tell : Turn → List ℕ) (bytes : List ℕ) (output : Output) : Type 0 where
   pub turns : List Turn
   pub run : IsRun run_reader bytes turns output.end

@@ -60,7 +60,7 @@ records_shape = record {
       λ cause. not (is_of_line cause);
 }
 
--- `run`, `display`, `why` and `certify`: about the dividing line a data part, which opens a supervision state, and records
+-- `run`, `display`, `why` and `certify`: a data part, which opens a supervision state, a dividing line, and records
 abbrev pub run_shape : Shape
 run_shape = record records_shape { reads_input = true; has_division = true; has_data = true; opens = true }
 
@@ -110,7 +110,7 @@ shape_of (Drive seed cycles) = drive_shape
 shape_of (Certify count) = run_shape
 shape_of Check = check_shape
 
--- an outcome that a command of a shape may have; want of memory is never told inside another fault
+-- an outcome that a command of a shape may have; refused memory is never reported inside another fault
 abbrev pub IsOutcomeIn : Shape → Outcome → Type 0
 IsOutcomeIn shape Done = ⊤
 IsOutcomeIn shape Usage = ⊥
@@ -125,7 +125,7 @@ IsOutcomeIn shape (BadEvent number cause) = (1 ≤ number) × IsTrue (shape.refu
 IsOutcomeIn shape Memory = ⊤
 IsOutcomeIn shape (Undrivable cause) = IsTrue shape.drives
 
--- a fact of the bytes that a command answers: those of the input, where the source tells them; for a command that
--- reads nothing any
+-- a fact of the bytes that a command answers: those of the input, where the source knows them; for a command that reads
+-- nothing, any bytes
 abbrev pub OfInput : Shape → Option (List ℕ) → (List ℕ → Type 0) → Type 0
 OfInput shape left P = MatchBool shape.reads_input (Told left P) ((bytes : List ℕ) → P bytes)

@@ -65,7 +65,7 @@ command_of (name ∷ more) =
     else if bytes_eq name (codes "check") then alone Check more
     else None
 
--- the command that the words ask for, if they ask for one
+-- the command that the words name, if they name one
 abbrev pub asked_by : List (String Global) → Option Command
 asked_by words = command_of (map string_bytes words)
 

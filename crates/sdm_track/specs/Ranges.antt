@@ -1,4 +1,4 @@
--- What holds of every accepted track (ranges own).
+-- What holds for every accepted track (ranges own).
 use Rattle.std.specs.Prelude.{ℕ, ℤ, pos, neg_ℤ, List, All, length, slice_index_or, ◌<◌, ◌≤◌, ◌≤ℤ◌, ◌<ℤ◌}
 use Rattle.sdm_rules.specs.declared.data.Gradient.{Gradient}
 use Rattle.sdm_rules.specs.declared.data.SpeedStep.{SpeedStep}
@@ -58,7 +58,7 @@ pub record IsTrack (t : TrackData) : Type 0 where
   pub areas : AreAreas t.length_cm t.areas
   pub no_special : AreAreas t.length_cm t.no_special
 
--- the data of a track as they are handed in, with its length in cm (own)
+-- the data of a track of these lists, with its length in cm (own)
 abbrev pub track_data : ℕ → List Gradient → List SpeedStep → List Area → List Area → TrackData
 track_data length_cm gradients speeds areas no_special = record {
   length_cm = pos length_cm;
