@@ -11,9 +11,9 @@ use Rattle.sdm_rules.specs.Profile.{Zone, covers, lowest_limit, zone_of, zones_o
 use Rattle.sdm_rules.specs.Targets.{is_fall, IsNextFall}
 use Rattle.sdm_speed.specs.Steps.{IsFallAfter}
 use Rattle.sdm_speed.specs.Profiles.{ProfileData, mrsp_of, static_of}
-use Rattle.sdm_speed.specs.Zones.{has_start, starts_at, zone_limits}
+use Rattle.sdm_speed.specs.Zones.{zone_limits}
 use Rattle.sdm_speed.specs.ZoneStarts.{FallsTo, IsZoneStart, has_restriction, is_restriction_at}
-use Rattle.sdm_speed.proofs.StartLaws.{covers_before}
+use Rattle.sdm_speed.proofs.StartLaws.{covers_before, has_start, starts_at}
 use Rattle.sdm_speed.proofs.ZoneLaws.{lowest_limit-after}
 
 -- ---- tests

@@ -2,6 +2,7 @@
 -- a beginning.
 use Rattle.std.proofs.Common.{◌≡◌, suc, ℤ, pos, List, [], ◌∷◌, Option, Some, None, Bool, true, false, ◌||◌, int_le}
 use Rattle.std.proofs.Common.{int_lt, ◌-ℤ◌, ◌≤ℤ◌, ◌<ℤ◌, refl, sym, ap, ◌∙◌, arith, All}
+use Rattle.std.specs.List.{list_any}
 use Rattle.std.specs.Option.{option_map_or}
 use Rattle.std.specs.Ordering.{int_eq}
 use Rattle.std.proofs.lemmas.Int.{ints, by_lt_z}
@@ -10,7 +11,15 @@ use Rattle.std.proofs.lemmas.Bool.Decides.{Decides-int_eq}
 use Rattle.sdm_num.proofs.Comparisons.{le_is, le_of, lt_is, lt_of}
 use Rattle.sdm_rules.specs.Profile.{Zone, covers}
 use Rattle.sdm_rules.specs.Ranges.{longest_track}
-use Rattle.sdm_speed.specs.Zones.{IsZone, starts_at, has_start}
+use Rattle.sdm_speed.specs.Zones.{IsZone}
+
+-- the zone begins at the cell
+abbrev pub starts_at : ℤ → Zone → Bool
+starts_at cell z = option_map_or (int_eq cell) z.first false
+
+-- one of the zones begins at the cell
+abbrev pub has_start : List Zone → ℤ → Bool
+has_start zones cell = list_any (starts_at cell) zones
 
 -- ---- tests
 

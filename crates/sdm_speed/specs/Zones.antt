@@ -1,8 +1,5 @@
 -- Zones of a speed limit, and the limits that they give (own).
-use Rattle.std.specs.Prelude.{◌≡◌, ℕ, ℤ, pos, Bool, false, List, Some, ◌≤◌, ◌≤ℤ◌, ◌<ℤ◌}
-use Rattle.std.specs.List.{list_any}
-use Rattle.std.specs.Option.{option_map_or}
-use Rattle.std.specs.Ordering.{int_eq}
+use Rattle.std.specs.Prelude.{◌≡◌, ℕ, ℤ, pos, List, Some, ◌≤◌, ◌≤ℤ◌, ◌<ℤ◌}
 use Rattle.sdm_rules.specs.declared.targets.Fall.{Fall}
 use Rattle.sdm_rules.specs.Profile.{Zone, lowest_limit}
 use Rattle.sdm_rules.specs.Ranges.{longest_track, top_kmh}
@@ -27,11 +24,3 @@ pub record IsFallInRange (fall : Fall) : Type 0 where
 -- the lowest limit of each cell: of all zones that cover it, and of the greatest one
 abbrev pub zone_limits : ℕ → List Zone → ℤ → ℕ
 zone_limits top zones cell = lowest_limit top cell zones
-
--- the zone begins at the cell
-abbrev pub starts_at : ℤ → Zone → Bool
-starts_at cell z = option_map_or (int_eq cell) z.first false
-
--- one of the zones begins at the cell
-abbrev pub has_start : List Zone → ℤ → Bool
-has_start zones cell = list_any (starts_at cell) zones

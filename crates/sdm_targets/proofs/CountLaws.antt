@@ -16,8 +16,8 @@ use Rattle.sdm_rules.specs.Profile.{Zone, static_zones, zones_of_track, zone_of}
 use Rattle.sdm_rules.specs.Records.{most_restrictions}
 use Rattle.sdm_rules.specs.Targets.{IsNextFall}
 use Rattle.sdm_speed.specs.Profiles.{ProfileData, zones_of, mrsp_of, IsProfile}
-use Rattle.sdm_speed.specs.Zones.{starts_at, has_start}
 use Rattle.sdm_speed.proofs.FallStarts.{starts_at_fall}
+use Rattle.sdm_speed.proofs.StartLaws.{starts_at, has_start}
 use Rattle.sdm_targets.specs.Lists.{most_falls}
 
 -- ---- how many zones have begun
