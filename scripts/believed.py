@@ -147,6 +147,7 @@ C = Claim(
             "sdm_revoke",
             "sdm_take_over",
             "sdm_display",
+            "sdm_causes",
             "sdm_close",
         )
     ],

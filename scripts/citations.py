@@ -13,10 +13,10 @@ import specs
 from specs import CRATES
 
 IMPORT = re.compile(r"\buse\s+Rattle\.([\w.]+?)(?:\.\{([^}]*)\}|\s+as\s+(\w+))\s*;?")
-WORD = re.compile(r"[A-Za-z_][\w']*(?:\.[A-Za-z_][\w']*)*")
+WORD = re.compile(r"[A-Za-z_][\w'-]*(?:\.[A-Za-z_][\w'-]*)*")
 FUNCTION = re.compile(r"\b(pub(?:\([^)]*\))?\s+)?(?:const\s+)?fn\s+(\w+)")
 SCOPE = re.compile(r"\b(impl|trait)\b(?:\s*<[^{;]*?>)?\s+([^{;]*?)\s*\{")
-CLAUSE = re.compile(r"\s*(requires|ensures|decreases)\b\s*(\w+)?\s*\{")
+CLAUSE = re.compile(r"\s*(requires|ensures|decreases)\b\*?\s*(\w+)?\s*\{")
 GHOSTS = {
     "Value": "the value",
     "view": "the value",

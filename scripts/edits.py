@@ -13,7 +13,7 @@ from specs import CRATES
 MARK = re.compile(r"^# refused-by: (.*)$", re.M)
 IN_CODE = re.compile(r"\b(src/[\w/]+\.rt):(\d+):\d+: [^(]*\(`([\w-]+)`")
 IN_PROOF = re.compile(r"\bproofs/([\w/]+)/Answers\.antt:\d+:\d+: error: `([\w-]+)`")
-ENSURES = re.compile(r"\bensures\s+(\w*)\s*\{")
+ENSURES = re.compile(r"\bensures\*?\s+(\w*)\s*\{")
 
 
 @dataclass(frozen=True)
