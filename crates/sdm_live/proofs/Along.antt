@@ -1,5 +1,5 @@
 -- Facts of histories that a peer may not tell.
-use Rattle.std.proofs.Common.{◌≡◌, Option, Some, None}
+use Rattle.std.proofs.Common.{Option, Some, None}
 use Rattle.sdm_live.specs.Exchanges.{Along, History}
 
 pub along_then : (a b c : Option History) (R Q T : History → History → Type 0) →

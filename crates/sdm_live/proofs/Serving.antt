@@ -5,10 +5,10 @@ use Rattle.sdm_live.specs.Exchanges.{Gave, Gave_fault, Given_on, Held_fault, His
 use Rattle.sdm_live.specs.Exchanges.{asked_at, is_given_on}
 use Rattle.sdm_live.specs.Lines.{Coming}
 use Rattle.sdm_live.specs.Moments.{due_after, whole_after}
-use Rattle.sdm_live.specs.Progress.{Progress, Rules, due, start, whole, with_bytes, with_end}
+use Rattle.sdm_live.specs.Progress.{Progress, Rules, start, whole, with_bytes, with_end}
 use Rattle.sdm_live.specs.Taken.{Begins, DidNotAsk, IsEnded, IsEndedPart, IsPieceAnswered, IsRestAnswered, IsTaken}
 use Rattle.sdm_live.specs.Taken.{IsTakenPart, standing}
-use Rattle.sdm_live.proofs.Taking.{append, begins_after, begins_self, begins_then, due_after_text, end_grows}
+use Rattle.sdm_live.proofs.Taking.{append, begins_self, begins_then, due_after_text, end_grows}
 use Rattle.sdm_live.proofs.Taking.{whole_after_text}
 
 module _ {S : Type 0} (rules : Rules S) where

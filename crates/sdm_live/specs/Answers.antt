@@ -1,5 +1,5 @@
 -- How the loop ended, and what the peer had of it then (own).
-use Rattle.std.specs.Prelude.{◌≡◌, ℕ, ◌++◌, List, true, ⊤}
+use Rattle.std.specs.Prelude.{◌≡◌, ℕ, ◌++◌, List, true}
 use Rattle.sdm_live.specs.declared.live.Ended.{Ended}
 use Rattle.sdm_live.specs.declared.live.Ended.TheVariants.{Done, ReadFault, WriteFault, Endless}
 use Rattle.sdm_live.specs.Exchanges.{History, came, sent, is_given_on, IsAnswered}

@@ -1,6 +1,5 @@
 -- What is due, in the words of lines (own).
-use Rattle.std.specs.Prelude.{ℕ, Bool, List, [], ◌∷◌, ◌++◌, length, if◌then◌else◌, nat_le}
-use Rattle.std.specs.List.{onto_first}
+use Rattle.std.specs.Prelude.{ℕ, List, [], ◌∷◌, ◌++◌, length, if◌then◌else◌, nat_le}
 use Rattle.sdm_live.specs.Progress.{Rules, ends_line, longest_line}
 
 -- what has begun of a line, before lines

@@ -1,5 +1,5 @@
 -- What bytes make due, line by line: the text that a step tells of each line (own).
-use Rattle.std.specs.Prelude.{ℕ, Bool, true, false, List, [], ◌∷◌, ◌++◌, length, if◌then◌else◌, ◌==◌, ◌||◌, nat_lt}
+use Rattle.std.specs.Prelude.{ℕ, Bool, true, false, List, [], ◌∷◌, ◌++◌, length, ◌==◌, ◌||◌, nat_lt}
 
 -- how lines are taken: what a line makes of a state, the text told of the line taken last, and the text told of a line
 -- that is too long, which makes nothing of the state

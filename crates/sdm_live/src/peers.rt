@@ -1,6 +1,6 @@
 //! The other end of the line: it gives bytes, and takes bytes.
 
-ghost use Rattle.std.specs.Prelude.{◌≡◌, ◌∷◌, ◌<◌, ◌≤◌, ℕ, Option, length, IfOk, OnOk, OnErr};
+ghost use Rattle.std.specs.Prelude.{◌≡◌, ◌∷◌, ◌<◌, ℕ, Option, length, IfOk, OnOk, OnErr};
 ghost use Rattle.std.specs.Io.{ReadsAtMost, WritesAtMost};
 ghost use Rattle.sdm_io.specs.Causes.{HasCause};
 ghost use Rattle.sdm_live.specs.Exchanges.{Along, History, IsHanded, IsHandedPart, asked, flushed, handed};

@@ -11,7 +11,7 @@ use Rattle.sdm_rules.specs.declared.faults.EventCause.TheVariants.{Line}
 use Rattle.sdm_rules.specs.Slopes.{SlopeMap}
 use Rattle.sdm_formats.specs.Flat.{Output}
 use Rattle.sdm_formats.specs.Input as ends
-use Rattle.sdm_formats.specs.Input.{End, most_bytes}
+use Rattle.sdm_formats.specs.Input.{most_bytes}
 use Rattle.sdm_curve.specs.Maps.{MapData}
 use Rattle.sdm_certify.specs.declared.answers.Answer.{Answer}
 use Rattle.sdm_certify.specs.Checker.{AreAnswers, Checking, IsAnswerTo, IsBegun, IsCheckedFrom, IsLastOf}

@@ -1,7 +1,7 @@
 -- The output of `certify` holds on the map that it begins with: an input has one run, so it is enough to name one.
 use Rattle.std.proofs.Common.{◌≡◌, ℕ, ◌≤◌, ◌++◌, List, Option, Some, None, take, drop, length, refl, ap, ◌∙◌, sym, subst}
 use Rattle.std.proofs.Common.{inl}
-use Rattle.std.specs.Prelude.{IsTrue, IfSome}
+use Rattle.std.specs.Prelude.{IsTrue}
 use Rattle.sdm_rules.specs.declared.data.SlopeKind.TheVariants.{Safe}
 use Rattle.sdm_rules.specs.declared.faults.EventCause.{EventCause}
 use Rattle.sdm_rules.specs.Data.{TrainAndTrack}
@@ -17,8 +17,6 @@ use Rattle.sdm_certify.proofs.HeldTexts.{certified_text, held_text}
 use Rattle.sdm_data.specs.Division.{divide}
 use Rattle.sdm_events.specs.Journey.{records_of}
 use Rattle.sdm_opening.specs.Openings.{IsOpeningOf}
-use Rattle.sdm_report.specs.declared.outcome.Outcome.{Outcome}
-use Rattle.sdm_run.specs.Answers.{IsEndOfRecords}
 use Rattle.sdm_run.specs.Certifying.{AreCertificatesHeld, IsCertifyOutput, certificates, certified_by, certified_turns}
 use Rattle.sdm_run.specs.Certifying.{map_before, safe_map_text}
 use Rattle.sdm_run.specs.Journeys.{run_reader}

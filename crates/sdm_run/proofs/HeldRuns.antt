@@ -1,7 +1,7 @@
 -- Certificates that hold on the slopes of A_safe hold on the map that is written before them: all turns of a journey
 -- have its data, and what is written of these is read back.
 use Rattle.std.proofs.Common.{◌≡◌, ℕ, ℤ, zero, suc, pos, ◌≤◌, ◌≤ℤ◌, Bool, true, false, List, [], ◌∷◌, ◌++◌, Option, Some}
-use Rattle.std.proofs.Common.{None, All, take, filter, cond, unsigned_abs, refl, ap, sym, ◌∙◌, subst, append_assoc, arith}
+use Rattle.std.proofs.Common.{None, All, take, filter, cond, unsigned_abs, refl, ap, ◌∙◌, subst, arith}
 use Rattle.std.specs.Prelude.{Result, Ok, Err, IfOk, IfSome, option_map}
 use Rattle.std.specs.List.{cons_option}
 use Rattle.std.proofs.lemmas.Int.{ints}
@@ -26,7 +26,6 @@ use Rattle.sdm_formats.specs.Text.{told}
 use Rattle.sdm_laws.proofs.Rows.Headline.{over_kinds}
 use Rattle.sdm_train.specs.Trains.{IsBand}
 use Rattle.sdm_train.proofs.Accepted.{IsTrain_of}
-use Rattle.sdm_certify.specs.Lines.{Certified}
 use Rattle.sdm_certify.specs.ReadBack.{AreWrittenSpeeds}
 use Rattle.sdm_certify.proofs.HeldTexts.{AreWritable, certified_text}
 use Rattle.sdm_data.specs.Journey.{data_of}

@@ -1,6 +1,6 @@
 -- A trial cycle by cycle: the rows of the cycles that were made, and those that the cycles left give from the state
 -- that is reached, are the rows of all.
-use Rattle.std.proofs.Common.{◌≡◌, ℕ, suc, pos, false, List, [], ◌∷◌, ◌++◌, Option, None, ◌+◌, ◌≤◌, ◌∙◌, ap}
+use Rattle.std.proofs.Common.{◌≡◌, ℕ, suc, pos, List, [], ◌∷◌, ◌++◌, Option, None, ◌+◌, ◌≤◌, ◌∙◌, ap}
 use Rattle.std.proofs.Common.{sym, arith, refl, append_assoc}
 use Rattle.std.proofs.lemmas.Int.{ints}
 use Rattle.std.proofs.lemmas.List.{append-nil}

@@ -1,5 +1,5 @@
 -- The written map of the slopes of A_safe is that of the map that is kept, and is read back with it.
-use Rattle.std.proofs.Common.{◌≡◌, ℤ, pos, List, ◌≤ℤ◌, ap, subst, ◌∙◌, arith}
+use Rattle.std.proofs.Common.{◌≡◌, ℤ, pos, ◌≤ℤ◌, ap, subst, ◌∙◌, arith}
 use Rattle.std.specs.Prelude.{All}
 use Rattle.std.proofs.lemmas.Int.{ints}
 use Rattle.sdm_rules.specs.declared.data.SlopeKind.TheVariants.{Safe}

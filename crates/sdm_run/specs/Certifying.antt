@@ -14,7 +14,7 @@ use Rattle.sdm_rules.specs.Records.{Turn}
 use Rattle.sdm_rules.specs.Supervision.{Supervision, row_of}
 use Rattle.sdm_formats.specs.declared.faults.DataFault.{DataFault}
 use Rattle.sdm_formats.specs.Flat.{Output}
-use Rattle.sdm_formats.specs.Input.{IsRun, end_of_journey}
+use Rattle.sdm_formats.specs.Input.{IsRun}
 use Rattle.sdm_formats.specs.Input as ends
 use Rattle.sdm_formats.specs.Text.{told}
 use Rattle.sdm_certify.specs.Certificates.{claim_of}

@@ -1,6 +1,6 @@
 //! What `why` writes of a reading: the line of its causes, part by part.
 
-ghost use Rattle.std.specs.Prelude.{◌≡◌, OnOk, OnErr};
+ghost use Rattle.std.specs.Prelude.{OnOk, OnErr};
 ghost use Rattle.std.specs.Io.KnownBytes.{Appends};
 ghost use Rattle.sdm_causes.specs.Text.{causes_text};
 ghost use Rattle.sdm_io.specs.Causes.{HasCause};

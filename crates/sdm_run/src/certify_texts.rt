@@ -1,6 +1,6 @@
 //! What `certify` writes, line by line: the map of A_safe, and certificates.
 
-ghost use Rattle.std.specs.Prelude.{◌≡◌, pos, ◌≤◌, ◌≤ℤ◌, length, All, OnOk, OnErr};
+ghost use Rattle.std.specs.Prelude.{pos, ◌≤◌, ◌≤ℤ◌, length, All, OnOk, OnErr};
 ghost use Rattle.std.specs.Io.KnownBytes.{Appends};
 ghost use Rattle.sdm_io.specs.Causes.{HasCause};
 ghost use Rattle.sdm_io.specs.Told.{AppendsPart};

@@ -1,9 +1,7 @@
 //! The command `upgrade`: the data part that the input is, as a text of version 2 of the same data.
 
-ghost use Rattle.std.specs.Prelude.{◌≡◌, ◌⊎◌, ◌≤◌, [], false, IfErr, IfOk, Some, string_bytes};
+ghost use Rattle.std.specs.Prelude.{◌≡◌, ◌⊎◌, ◌≤◌, [], false, IfErr, IfOk, string_bytes};
 ghost use Rattle.sdm_io.specs.Causes.{Rose};
-ghost use Rattle.sdm_data.specs.Document.{document_of};
-ghost use Rattle.sdm_data.specs.Tables.{table_of};
 ghost use Rattle.sdm_run.specs.Answers.{ComesOfReadingAlone, IsAnswer, LeavesOutUntouched, NeedsTheWholeInput};
 ghost use Rattle.sdm_run.specs.RunParts.{IsRefusedByData};
 ghost use Rattle.sdm_run.specs.Shapes.{IsOutcomeIn, upgrade_shape};
