@@ -19,6 +19,7 @@ use Rattle.sdm_certify.specs.WrittenLines.{uppers_line, uppers_lines}
 use Rattle.sdm_certify.proofs.LinesBack.{natural, short}
 use Rattle.sdm_certify.proofs.ReadBack.{IsShort, fields_written, is_plain, line_back, none_left, number_first}
 use Rattle.sdm_certify.proofs.ReadBack.{plain_number, word_first}
+use Rattle.sdm_certify.proofs.ReadMaps.{AreRising}
 
 -- ---- numbers one after the other
 
@@ -41,12 +42,7 @@ plain_numbers most (n ∷ ns) small all =
     and_from _ _ (plain_number (pos n) (omega (arith, ints)) (omega (arith, ints, few, small)))
     (plain_numbers most ns small all.1)
 
--- numbers that rise, from `least` to `greatest`
-abbrev pub AreRising : ℕ → ℕ → List ℕ → Type 0
-AreRising least greatest [] = Unit {0}
-AreRising least greatest (n ∷ ns) = (least ≤ n) × (n ≤ greatest) × AreRising (suc n) greatest ns
-
--- are at most the greatest
+-- numbers that rise are at most the greatest
 rising_at_most : (least greatest : ℕ) (ns : List ℕ) → AreRising least greatest ns → AreAtMost greatest ns
 rising_at_most least greatest [] h = tt
 rising_at_most least greatest (n ∷ ns) h = (h.1, rising_at_most (suc n) greatest ns h.2)

@@ -1,13 +1,12 @@
 -- What was read of a map is as its lines have it: each number is within the range of its field, and the upper speeds
 -- rise.
-use Rattle.std.proofs.Common.{◌≡◌, ◌⊎◌, ℕ, zero, suc, ℤ, pos, Bool, true, false, List, [], ◌∷◌, ◌++◌, Option, Some}
-use Rattle.std.proofs.Common.{None, Ok, Err, ◌+◌, ◌-◌, ◌<◌, ◌≤◌, ◌≤ℤ◌, get_or, length, length-append}
-use Rattle.std.proofs.Common.{int_le, nat_le, unsigned_abs, refl, subst, arith, inl, inr}
+use Rattle.std.proofs.Common.{◌≡◌, ℕ, zero, suc, ℤ, pos, Bool, true, false, List, [], ◌∷◌, ◌++◌, Option, Some, None}
+use Rattle.std.proofs.Common.{Ok, Err, ◌-◌, ◌<◌, ◌≤◌, ◌≤ℤ◌, get_or, length, append_assoc, int_le, nat_le, unsigned_abs}
+use Rattle.std.proofs.Common.{refl, sym, ap, subst, arith}
 use Rattle.std.specs.Prelude.{codes, if◌then◌else◌, ◌&&◌}
-use Rattle.std.proofs.Math.ListN.{get_or-append}
-use Rattle.std.proofs.Math.Seq.{get_or-append_seam}
 use Rattle.std.proofs.lemmas.Int.{ints}
-use Rattle.std.proofs.lemmas.Bool.{cases_lt, leb-true}
+use Rattle.std.proofs.lemmas.Bool.{leb-true}
+use Rattle.std.proofs.lemmas.List.{append-nil}
 use Rattle.sdm_num.proofs.Comparisons.{le_of}
 use Rattle.sdm_rules.specs.declared.faults.FieldFault.TheVariants.{OutOfRange}
 use Rattle.sdm_formats.specs.Lines.{comma_fields}
@@ -25,18 +24,19 @@ IfForm P (Some a) = P a
 
 -- it holds of what the first fields are read as
 abbrev pub IfField : {A : Type 0} → (A → Type 0) → Option (A × List (List ℕ)) → Type 0
-IfField P None = Unit {0}
-IfField P (Some (a, fields)) = P a
+IfField P o = IfForm (λ read. P read.0) o
 
 -- it holds of what the next lines are read as
 abbrev pub IfRead : {A : Type 0} → (A → Type 0) → Read A → Type 0
 IfRead P (Err n) = Unit {0}
 IfRead P (Ok (a, at)) = P a
 
--- of nothing anything holds
-pub any_field : {A : Type 0} (o : Option (A × List (List ℕ))) → IfField (λ a. Unit {0}) o
-any_field None = tt
-any_field (Some (a, fields)) = tt
+-- the word of a line, and then its fields
+pub then_fields : {B : Type 0} (Q : B → Type 0) (o : Option (Unit {0} × List (List ℕ)))
+    (next : Unit {0} → List (List ℕ) → Option B) → ((fields : List (List ℕ)) → IfForm Q (next tt fields)) →
+    IfForm Q (and_then o next)
+then_fields Q None next more = tt
+then_fields Q (Some (w, fields)) next more = more fields
 
 -- fields, and then the rest of a line
 pub then_form : {A B : Type 0} (P : A → Type 0) (Q : B → Type 0) (o : Option (A × List (List ℕ)))
@@ -44,13 +44,6 @@ pub then_form : {A B : Type 0} (P : A → Type 0) (Q : B → Type 0) (o : Option
     IfForm Q (next a fields)) → IfForm Q (and_then o next)
 then_form P Q None next h more = tt
 then_form P Q (Some (a, fields)) next h more = more a fields h
-
--- fields, and then further fields
-pub then_field : {A B : Type 0} (P : A → Type 0) (Q : B → Type 0) (o : Option (A × List (List ℕ)))
-    (next : A → List (List ℕ) → Option (B × List (List ℕ))) → IfField P o → ((a : A) (fields : List (List ℕ)) → P a →
-    IfField Q (next a fields)) → IfField Q (and_then o next)
-then_field P Q None next h more = tt
-then_field P Q (Some (a, fields)) next h more = more a fields h
 
 -- the whole of a line
 pub whole : {A : Type 0} (P : A → Type 0) (a : A) (fields : List (List ℕ)) → P a → IfForm P (whole_line a fields)
@@ -121,7 +114,7 @@ natural_from a b n h = (omega (arith, ints, h.low), omega (arith, ints, h.low, h
 pub head_read : (line : List ℕ) → IfForm IsHead (head_of line)
 unfolding head_of
 head_read line =
-    then_form (λ a. Unit {0}) IsHead (first_word (codes "map") (comma_fields line)) _ (any_field _) (λ w fields any.
+    then_fields IsHead (first_word (codes "map") (comma_fields line)) _ (λ fields.
     then_form (IsFrom (pos 100) (pos 11_730)) IsHead (first_number (pos 100) (pos 11_730) fields) _
     (number_read _ _ fields) (λ q fields q_from.
     then_form (IsFrom (pos 1) (pos 10)) IsHead (first_number (pos 1) (pos 10) fields) _
@@ -141,45 +134,40 @@ head_read line =
 
 -- ---- upper speeds
 
--- numbers above 0 that rise, all below `least`
-pub record AreRisingBelow (xs : List ℕ) (least : ℕ) : Type 0 where
-  pub positive : (i : ℕ) → i < length xs → 0 < get_or xs i 0
-  pub below : (i : ℕ) → i < length xs → get_or xs i 0 < least
-  pub rise : (i j : ℕ) → i < j → j < length xs → get_or xs i 0 < get_or xs j 0
+-- numbers that rise, from `least` to `greatest`
+abbrev pub AreRising : ℕ → ℕ → List ℕ → Type 0
+AreRising least greatest [] = Unit {0}
+AreRising least greatest (n ∷ ns) = (least ≤ n) × (n ≤ greatest) × AreRising (suc n) greatest ns
 
--- one more, which isn't below `least`
-rising_more : (xs : List ℕ) (least n : ℕ) → AreRisingBelow xs least → 0 < least → least ≤ n →
-    AreRisingBelow (xs ++ n ∷ []) (suc n)
-rising_more xs least n h some past = record {
-  positive = λ k lt. elim (at_or_before k (rw long at lt)) [
-    | inl before ↦ rw (get_or-append xs (n ∷ []) 0 k before) (h.positive k before)
-    | inr last ↦ rw (last, here) (omega (arith, some, past))
-  ];
-  below = λ k lt. elim (at_or_before k (rw long at lt)) [
-    | inl before ↦ rw (get_or-append xs (n ∷ []) 0 k before) (omega (arith, h.below k before, past))
-    | inr last ↦ rw (last, here) (omega arith)
-  ];
-  rise = λ j k lt known. elim (at_or_before k (rw long at known)) [
-    | inl before ↦
-        let earlier : j < length xs = omega (arith, before, lt) in
-        rw (get_or-append xs (n ∷ []) 0 k before, get_or-append xs (n ∷ []) 0 j earlier) (h.rise j k lt before)
-    | inr last ↦
-        let earlier : j < length xs = omega (arith, last, lt) in
-        rw (last, here, get_or-append xs (n ∷ []) 0 j earlier) (omega (arith, h.below j earlier, past))
-  ];
-}
-  where
-    here : get_or (xs ++ n ∷ []) (length xs) 0 ≡ n
-    here = get_or-append_seam xs n [] 0
+-- are at least the least of them
+at_least : (least greatest : ℕ) (ns : List ℕ) → AreRising least greatest ns → (i : ℕ) → i < length ns →
+    least ≤ get_or ns i 0
+at_least least greatest [] h i known = absurd (omega (arith, known))
+at_least least greatest (n ∷ ns) h zero known = h.0
+at_least least greatest (n ∷ ns) h (suc i) known =
+    omega (arith, h.0, at_least (suc n) greatest ns h.2 i (omega (arith, known)))
 
-    long : length (xs ++ n ∷ []) ≡ suc (length xs)
-    long = omega (arith, length-append xs (n ∷ []))
+-- and each is less than those after it
+less : (least greatest : ℕ) (ns : List ℕ) → AreRising least greatest ns → (i j : ℕ) → i < j → j < length ns →
+    get_or ns i 0 < get_or ns j 0
+less least greatest [] h i j lt known = absurd (omega (arith, known))
+less least greatest (n ∷ ns) h i zero lt known = absurd (omega (arith, lt))
+less least greatest (n ∷ ns) h zero (suc j) lt known = at_least (suc n) greatest ns h.2 j (omega (arith, known))
+less least greatest (n ∷ ns) h (suc i) (suc j) lt known =
+    less (suc n) greatest ns h.2 i j (omega (arith, lt)) (omega (arith, known))
 
-    at_or_before : (k : ℕ) → k < suc (length xs) → (k < length xs) ⊎ (k ≡ length xs)
-    at_or_before k lt = elim (cases_lt k (length xs)) [
-      | inl less ↦ inl less
-      | inr ge ↦ inr (omega (arith, ge, lt))
-    ]
+-- what holds of so many numbers that rise, after others, holds of what is read
+rising_read : (P : List ℕ → Type 0) (done : List ℕ) (count least greatest : ℕ) →
+    ((ns : List ℕ) → length ns ≡ count → AreRising least greatest ns → P (done ++ ns)) → (fields : List (List ℕ)) →
+    IfField P (rising_after done count least greatest fields)
+rising_read P done zero least greatest h fields = subst P (append-nil done) (h [] refl tt)
+rising_read P done (suc count) least greatest h fields =
+    then_form (IsFrom (pos least) (pos greatest)) (λ read. P read.0) (first_number (pos least) (pos greatest) fields) _
+    (number_read _ _ fields) (λ n after from.
+    let k = unsigned_abs n in
+    let is = natural_from least greatest n from in
+    rising_read P (done ++ k ∷ []) count (suc k) greatest (λ ns long rise.
+    subst P (sym (append_assoc done (k ∷ []) ns)) (h (k ∷ ns) (ap suc long) (is.0, is.1, rise))) after)
 
 -- so many upper speeds, which may be those of a map
 pub record AreUppersOf (count : ℕ) (uppers : List ℕ) : Type 0 where
@@ -187,38 +175,17 @@ pub record AreUppersOf (count : ℕ) (uppers : List ℕ) : Type 0 where
   pub positive : (i : ℕ) → i < length uppers → 0 < get_or uppers i 0
   pub rise : (i j : ℕ) → i < j → j < length uppers → get_or uppers i 0 < get_or uppers j 0
 
--- numbers that rise from field to field
-rising_read : (xs : List ℕ) (count least greatest : ℕ) (fields : List (List ℕ)) → AreRisingBelow xs least → 0 < least →
-    IfField (AreUppersOf (length xs + count)) (rising_after xs count least greatest fields)
-rising_read xs zero least greatest fields h some =
-    record { count_is = omega arith; positive = h.positive; rise = h.rise }
-rising_read xs (suc count) least greatest fields h some =
-    then_field (IsFrom (pos least) (pos greatest)) (AreUppersOf (length xs + suc count))
-    (first_number (pos least) (pos greatest) fields) _ (number_read _ _ fields) (λ n fields from.
-    let k = unsigned_abs n in
-    let low = (natural_from least greatest n from).0 in
-    let long : length (xs ++ k ∷ []) + count ≡ length xs + suc count = omega (arith, length-append xs (k ∷ [])) in
-    subst (λ (m : ℕ). IfField (AreUppersOf m) (rising_after (xs ++ k ∷ []) count (suc k) greatest fields)) long
-    (rising_read (xs ++ k ∷ []) count (suc k) greatest fields (rising_more xs least k h some low) (omega arith)))
-
--- no numbers rise
-none_rise : AreRisingBelow [] 1
-none_rise = record {
-  positive = λ i lt. absurd (omega (arith, lt));
-  below = λ i lt. absurd (omega (arith, lt));
-  rise = λ i j lt known. absurd (omega (arith, known));
-}
-
 -- the line of upper speeds
 uppers_line : (count : ℕ) (line : List ℕ) → IfForm (AreUppersOf count) (uppers_of count line)
 unfolding uppers_of
 uppers_line count line =
-    then_form (λ a. Unit {0}) (AreUppersOf count) (first_word (codes "uppers") (comma_fields line)) _ (any_field _)
-    (λ w fields any.
+    then_fields (AreUppersOf count) (first_word (codes "uppers") (comma_fields line)) _ (λ fields.
     then_form (AreUppersOf count) (AreUppersOf count) (rising_after [] count 1 20_000_000 fields) _
-    (subst (λ (m : ℕ). IfField (AreUppersOf m) (rising_after [] count 1 20_000_000 fields))
-    (let same : 0 + count ≡ count = omega arith in same)
-    (rising_read [] count 1 20_000_000 fields none_rise (omega arith)))
+    (rising_read (AreUppersOf count) [] count 1 20_000_000 (λ ns long rise. record {
+      count_is = long;
+      positive = at_least 1 20_000_000 ns rise;
+      rise = less 1 20_000_000 ns rise;
+    }) fields)
     (λ uppers fields are. whole (AreUppersOf count) uppers fields are))
 
 -- the upper speeds of so many bands

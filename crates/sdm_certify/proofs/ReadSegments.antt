@@ -1,10 +1,11 @@
 -- Segments that were read start at 0 and rise, with a slope for each band; so a written map that was read is one that
 -- may be handed in.
 use Rattle.std.proofs.Common.{◌≡◌, ℕ, zero, suc, ℤ, pos, neg_ℤ, List, [], ◌∷◌, ◌++◌, Ok, ◌+◌, ◌-◌, ◌*◌, ◌^◌, ◌<◌, ◌≤◌}
-use Rattle.std.proofs.Common.{◌+ℤ◌, All, length, length-append, unsigned_abs, subst, arith}
+use Rattle.std.proofs.Common.{◌+ℤ◌, All, length, length-append, append_assoc, unsigned_abs, refl, sym, ap, subst, arith}
 use Rattle.std.specs.Prelude.{codes}
 use Rattle.std.proofs.lemmas.Int.{ints}
-use Rattle.std.proofs.lemmas.List.Elements.{All-append, All-nil}
+use Rattle.std.proofs.lemmas.List.{append-nil}
+use Rattle.std.proofs.lemmas.List.Elements.{All-append, All-cons, All-nil}
 use Rattle.sdm_formats.specs.Lines.{comma_fields}
 use Rattle.sdm_curve.specs.Maps.{MapData, IsMapData, IsSlopeBounded, AreStarts}
 use Rattle.sdm_certify.specs.declared.forms.Head.{Head}
@@ -12,48 +13,41 @@ use Rattle.sdm_certify.specs.Fields.{first_number, first_word, slopes_after}
 use Rattle.sdm_certify.specs.Lines.{LinesLeft, Segment, Segments, head_of, map_in, map_of, next_line, one_more}
 use Rattle.sdm_certify.specs.Lines.{segment_of, segments_after, segments_in, uppers_in}
 use Rattle.sdm_certify.proofs.ByBand.{as_many, of_all}
-use Rattle.sdm_certify.proofs.ReadMaps.{AreUppersOf, IfField, IfForm, IfRead, IsFrom, IsHead, any_field, head_read}
-use Rattle.sdm_certify.proofs.ReadMaps.{line_read, number_read, then_field, then_form, then_read, uppers_read, whole}
-use Rattle.sdm_certify.proofs.ReadOn.{AreStartsBelow, all_and, start_read}
+use Rattle.sdm_certify.proofs.ReadMaps.{AreUppersOf, IfField, IfForm, IfRead, IsFrom, IsHead, head_read, line_read}
+use Rattle.sdm_certify.proofs.ReadMaps.{number_read, then_fields, then_form, then_read, uppers_read, whole}
+use Rattle.sdm_certify.proofs.ReadOn.{AreStartsBelow, start_read}
 
 -- ---- one segment
 
--- so many slopes, each within its range
-record AreSlopesOf (count : ℕ) (slopes : List ℤ) : Type 0 where
-  pub count_is : length slopes ≡ count
-  pub bounded : All IsSlopeBounded slopes
-
--- the slopes of a line
-slopes_read : (done : List ℤ) (count : ℕ) (fields : List (List ℕ)) → All IsSlopeBounded done →
-    IfField (AreSlopesOf (length done + count)) (slopes_after done count fields)
-slopes_read done zero fields all = record { count_is = omega arith; bounded = all }
-slopes_read done (suc count) fields all =
-    then_field (IsFrom (neg_ℤ (pos (10 ^ 15))) (pos (10 ^ 15))) (AreSlopesOf (length done + suc count))
-    (first_number (neg_ℤ (pos (10 ^ 15))) (pos (10 ^ 15)) fields) _ (number_read _ _ fields) (λ n fields from.
-    let long : length (done ++ n ∷ []) + count ≡ length done + suc count = omega (arith, length-append done (n ∷ [])) in
-    subst (λ (m : ℕ). IfField (AreSlopesOf m) (slopes_after (done ++ n ∷ []) count fields)) long
-    (slopes_read (done ++ n ∷ []) count fields
-    (all_and IsSlopeBounded done n all (record { low = from.low; high = from.high }))))
+-- what holds of so many slopes, after others, holds of what is read
+slopes_read : (P : List ℤ → Type 0) (done : List ℤ) (count : ℕ) →
+    ((slopes : List ℤ) → length slopes ≡ count → All IsSlopeBounded slopes → P (done ++ slopes)) →
+    (fields : List (List ℕ)) → IfField P (slopes_after done count fields)
+slopes_read P done zero h fields = subst P (append-nil done) (h [] refl (All-nil IsSlopeBounded))
+slopes_read P done (suc count) h fields =
+    then_form (IsFrom (neg_ℤ (pos (10 ^ 15))) (pos (10 ^ 15))) (λ read. P read.0)
+    (first_number (neg_ℤ (pos (10 ^ 15))) (pos (10 ^ 15)) fields) _ (number_read _ _ fields) (λ n after from.
+    slopes_read P (done ++ n ∷ []) count (λ ns long all. subst P (sym (append_assoc done (n ∷ []) ns))
+    (h (n ∷ ns) (ap suc long) (All-cons IsSlopeBounded n ns (record { low = from.low; high = from.high }) all))) after)
 
 -- a segment as its line has it
 record IsSegment (bands : ℕ) (least greatest : ℤ) (s : Segment) : Type 0 where
   pub from : IsFrom least greatest s.start
-  pub are : AreSlopesOf bands s.slopes
+  pub many : length s.slopes ≡ bands
+  pub bounded : All IsSlopeBounded s.slopes
 
 -- the line of a segment
 segment_line : (bands : ℕ) (least greatest : ℤ) (line : List ℕ) →
     IfForm (IsSegment bands least greatest) (segment_of bands least greatest line)
 unfolding segment_of
 segment_line bands least greatest line =
-    then_form (λ a. Unit {0}) (IsSegment bands least greatest) (first_word (codes "seg") (comma_fields line)) _
-    (any_field _) (λ w fields any.
-    then_form (IsFrom least greatest) (IsSegment bands least greatest) (first_number least greatest fields) _
-    (number_read _ _ fields) (λ start fields from.
-    then_form (AreSlopesOf bands) (IsSegment bands least greatest) (slopes_after [] bands fields) _
-    (subst (λ (m : ℕ). IfField (AreSlopesOf m) (slopes_after [] bands fields))
-    (let same : 0 + bands ≡ bands = omega arith in same)
-    (slopes_read [] bands fields (All-nil IsSlopeBounded))) (λ slopes fields are.
-    whole (IsSegment bands least greatest) _ fields (record { from = from; are = are }))))
+    let Is = IsSegment bands least greatest in
+    then_fields Is (first_word (codes "seg") (comma_fields line)) _ (λ fields.
+    then_form (IsFrom least greatest) Is (first_number least greatest fields) _ (number_read _ _ fields)
+    (λ start fields from.
+    then_form (λ slopes. Is (record { start = start; slopes = slopes })) Is (slopes_after [] bands fields) _
+    (slopes_read _ [] bands (λ slopes many all. record { from = from; many = many; bounded = all }) fields)
+    (λ slopes fields is. whole Is _ fields is)))
 
 -- ---- all segments
 
@@ -86,8 +80,8 @@ segments_more bands count read least s from greatest from_is first h is =
     record {
       starts = subst (λ (z : ℤ). AreStartsBelow (read.starts ++ z ∷ []) (suc k)) natural starts;
       count_is = omega (arith, length-append read.starts (s.start ∷ []), h.count_is);
-      many = omega (arith, length-append read.slopes s.slopes, h.many, is.are.count_is);
-      bounded = All-append IsSlopeBounded read.slopes s.slopes h.bounded is.are.bounded;
+      many = omega (arith, length-append read.slopes s.slopes, h.many, is.many);
+      bounded = All-append IsSlopeBounded read.slopes s.slopes h.bounded is.bounded;
     }
 
 -- the segments from some lines on

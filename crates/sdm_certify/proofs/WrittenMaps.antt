@@ -16,8 +16,9 @@ use Rattle.sdm_curve.proofs.Meanings.{kept_known, rising_of, segment_known, slop
 use Rattle.sdm_certify.specs.ReadBack.{AreWrittenSpeeds, IsReadBack}
 use Rattle.sdm_certify.specs.WrittenLines.{are_same_slopes, changed_cells, first_cell, has_slopes_before, last_start}
 use Rattle.sdm_certify.specs.WrittenLines.{lines_from, segment_cells, text_of_lines, written, written_from, written_lines}
-use Rattle.sdm_certify.proofs.MapBack.{AreRising, AreWritable, map_back}
+use Rattle.sdm_certify.proofs.MapBack.{AreWritable, map_back}
 use Rattle.sdm_certify.proofs.MapsMade.{made_slopes}
+use Rattle.sdm_certify.proofs.ReadMaps.{AreRising}
 use Rattle.sdm_certify.proofs.ThinMaps.{are_cells, cells, few_written, thin, thin_accepted, thin_means}
 
 -- a cell that a written segment begins with
