@@ -10,8 +10,9 @@ use Rattle.sdm_rules.specs.declared.certificates.Mark.{Mark}
 use Rattle.sdm_rules.specs.Certificates.{IsClaimInRange, IsMarkInRange}
 use Rattle.sdm_certify.specs.Lines.{claim_of, mark_of}
 use Rattle.sdm_certify.specs.WrittenLines.{claim_text, mark_text}
-use Rattle.sdm_certify.proofs.ReadBack.{IsShort, fields_written, is_plain, none_left, number_first, plain_number}
-use Rattle.sdm_certify.proofs.ReadBack.{plain_wide, wide_first, without_lf, word_first}
+use Rattle.sdm_certify.proofs.FieldsLeft.{none_left}
+use Rattle.sdm_certify.proofs.ReadBack.{IsShort, fields_written, is_plain, number_first, plain_number, plain_wide}
+use Rattle.sdm_certify.proofs.ReadBack.{wide_first, without_lf, word_first}
 
 -- the fields of a mark
 abbrev pub mark_fields : Mark → List (List ℕ)

@@ -16,9 +16,10 @@ use Rattle.sdm_certify.specs.Lines.{head_of, map_in, next_line, segment_of, segm
 use Rattle.sdm_certify.specs.Lines.{slopes_by_band, uppers_in, uppers_of}
 use Rattle.sdm_certify.specs.WrittenLines.{head_line, last_start, lines_from, segment_line, slopes_at, text_of_lines}
 use Rattle.sdm_certify.specs.WrittenLines.{uppers_line, uppers_lines}
+use Rattle.sdm_certify.proofs.FieldsLeft.{none_left}
 use Rattle.sdm_certify.proofs.LinesBack.{natural, short}
-use Rattle.sdm_certify.proofs.ReadBack.{IsShort, fields_written, is_plain, line_back, none_left, number_first}
-use Rattle.sdm_certify.proofs.ReadBack.{plain_number, word_first}
+use Rattle.sdm_certify.proofs.ReadBack.{IsShort, fields_written, is_plain, line_back, number_first, plain_number}
+use Rattle.sdm_certify.proofs.ReadBack.{word_first}
 use Rattle.sdm_certify.proofs.ReadMaps.{AreRising}
 
 -- ---- numbers one after the other

@@ -19,7 +19,7 @@ use Rattle.sdm_num.proofs.Comparisons.{le_is}
 use Rattle.sdm_formats.specs.Lines.{comma_fields, ended_lines, lines_of}
 use Rattle.sdm_formats.specs.Numbers.{is_digits, is_digits_of, number_of, read_int, read_wide}
 use Rattle.sdm_formats.specs.Text.{text_line}
-use Rattle.sdm_certify.specs.Fields.{first_number, first_wide, first_word, is_end}
+use Rattle.sdm_certify.specs.Fields.{first_number, first_wide, first_word}
 use Rattle.sdm_certify.specs.Lines.{next_line}
 use Rattle.sdm_text.proofs.NumberFields.{no_comma}
 
@@ -204,8 +204,3 @@ pub word_first : (word : List ℕ) (rest : List (List ℕ)) → bytes_eq word wo
     first_word word (word ∷ rest) ≡ Some (tt, rest)
 unfolding first_word
 word_first word rest same = rw same refl
-
--- past the last field none is left
-pub none_left : is_end [] ≡ true
-unfolding is_end
-none_left = refl
