@@ -12,7 +12,7 @@ pub meet-requires-clause-kept : goal.meet-requires-clause-kept
 meet-requires-clause-kept g c =
     subst (λ (d : TrainAndTrack). IsKeptTarget d c.target.result.now) (λ k. (c.self.view_is k).train_and_track)
     (kept_there _ c.target.ensures (omega (arith, c.loop-i-test.true, c.len-i-end.ensures))
-    c.self.invariant.falls)
+    c.self.invariant.0.falls)
 
 pub loop-i-preserved : goal.loop-i-preserved
 loop-i-preserved g c =
