@@ -4,7 +4,7 @@
 //! profile only finds again which of the zones are falls.
 
 ghost use Rattle.std.specs.Prelude.{◌≡◌, ◌+◌, ◌^◌, ◌<◌, ◌≤◌, ◌≤ℤ◌, ◌<ℤ◌, ◌++◌, ◌∷◌, ℕ, ℤ, List, map, All, [], Some, None};
-ghost use Rattle.std.specs.Prelude.{pos, IfOk, IfSome, MatchOption, true, false, length, position, slice_index_or};
+ghost use Rattle.std.specs.Prelude.{pos, IfOk, IfSome, MatchOption, true, false, length, slice_index_or};
 ghost use Rattle.std.specs.List.{list_any};
 ghost use Rattle.std.specs.FinMap as finite;
 ghost use Rattle.sdm_rules.specs.Data.{TrainAndTrack};
@@ -16,21 +16,21 @@ ghost use Rattle.sdm_speed.specs.Falls.{AreAtFalls};
 ghost use Rattle.sdm_speed.specs.Held.{IsHeldRestriction};
 ghost use Rattle.sdm_speed.specs.Profiles.{mrsp_of};
 ghost use Rattle.sdm_speed.specs.Zones.{IsFallInRange};
-ghost use Rattle.sdm_targets.specs.Lists.{falls_past, target_at, IsTarget};
+ghost use Rattle.sdm_targets.specs.Lists.{falls_past};
 ghost use Rattle.sdm_hiding.specs.Hiding.{AreHiddenFrom, AreInOrder};
 ghost use Rattle.sdm_braking.specs.FallFeet.{AreHidden, brake_foot, guide_foot};
 ghost use Rattle.sdm_braking.specs.KeptFalls.{at_fall, AreKeptFalls, ArePartedPast, AreZonesOf, IsRestricted};
 ghost use Rattle.sdm_braking.specs.KeptFalls.{IsFallAt, IsKeptFall, IsKeptZone, IsRevoked, IsZoneAt, IsZoneLess};
-ghost use Rattle.sdm_braking.specs.KeptFalls.{IsZoneMore, KeptFallData, data_of, fall_by, fall_of, first_cell};
+ghost use Rattle.sdm_braking.specs.KeptFalls.{IsZoneMore, KeptFallData, data_of, fall_of, first_cell};
 ghost use Rattle.sdm_braking.specs.KeptFalls.{has_id, is_at, kept_at, target_of};
 
 use crate::braking::Braking;
 use crate::falls_ahead::{Ahead, FallsAhead, KeptFall, KeptZone, PlacedFall};
+use crate::zones::{fall_by, target_at, zone_at, zone_between, zone_by_id};
 use sdm_hiding::hide;
-use sdm_num::{NoMemory, Place};
+use sdm_num::NoMemory;
 use sdm_rules::{Fall, Restriction};
 use sdm_speed::{MOST_RESTRICTIONS, Profile};
-use sdm_targets::{Target, TargetKind};
 use std::alloc::Global;
 use std::marker::Model;
 
@@ -66,74 +66,6 @@ impl Model for KeptFalls {
         × (length k.list.items ≤ vec_capacity k.zones)
         × (vec_capacity k.zones ≤ length k.brake_steps.items)
         × (vec_capacity k.zones ≤ length k.guide_steps.items) };
-}
-
-/// The target at a fall.
-fn target_at(fall: Fall) -> Target
-    requires { IsFallInRange fall }
-    ensures value { result ≡ target_at fall }
-    ensures in_range { IsTarget result }
-{
-    Target {
-        kind: TargetKind::Mrsp,
-        place: Place::of_cm(fall.cell),
-        speed: fall.speed,
-    }
-}
-
-/// Where a restriction begins, with its speed.
-fn fall_by(r: Restriction) -> Fall
-    requires { IsHeldRestriction r }
-    ensures value { result ≡ fall_by r }
-    ensures in_range { IsFallInRange result }
-{
-    Fall {
-        cell: r.start as i32,
-        speed: r.speed,
-    }
-}
-
-/// Whether a zone begins at the cell of a fall with its speed.
-fn is_at(zone: &KeptZone, fall: Fall) -> bool
-    ensures { result ≡ is_at fall zone.now }
-{
-    zone.fall.cell == fall.cell && zone.fall.speed == fall.speed
-}
-
-/// Whether a zone is that of the restriction with this identity.
-fn has_id(zone: &KeptZone, id: u16) -> bool
-    ensures { result ≡ has_id id zone.now }
-{
-    match zone.id {
-        Some(held) => held == id,
-        None => false,
-    }
-}
-
-/// The index of a zone from one index on, and before another, that begins at a fall with its speed.
-fn zone_between(zones: &[KeptZone], from: usize, past: usize, fall: Fall) -> Option<usize>
-    ensures { IfSome result (λ i. IsZoneAt fall zones.now i) }
-{
-    for i in from..past.min(zones.len()) {
-        if is_at(&zones[i], fall) {
-            return Some(i);
-        }
-    }
-    None
-}
-
-/// The index of the first zone that begins at a fall with its speed.
-fn zone_at(zones: &[KeptZone], fall: Fall) -> Option<usize>
-    ensures { result ≡ position (is_at fall) zones.now }
-{
-    zones.iter().position(|zone| is_at(zone, fall))
-}
-
-/// The index of the zone of the restriction with this identity.
-fn zone_by_id(zones: &[KeptZone], id: u16) -> Option<usize>
-    ensures { result ≡ position (has_id id) zones.now }
-{
-    zones.iter().position(|zone| has_id(zone, id))
 }
 
 impl KeptFalls {

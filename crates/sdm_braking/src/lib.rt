@@ -15,6 +15,7 @@ mod limits;
 mod releases;
 mod speeds;
 mod train_and_track;
+mod zones;
 
 pub use asked::AskedEstimate;
 pub use braking::Braking;
