@@ -107,7 +107,7 @@ same_max : (x w : ℕ) → w ≤ x → max x w ≡ max x 0
 same_max x w le = grind (arith, le)
 
 -- V_bec and D_bec for each target that is no faster than the train are those for one of speed 0
-same_v_bec : (b : BuildUp) (w : ℕ) → w ≤ b.speed → v_bec b w ≡ v_bec b 0
+pub same_v_bec : (b : BuildUp) (w : ℕ) → w ≤ b.speed → v_bec b w ≡ v_bec b 0
 same_v_bec b w le = rw (same_max (b.speed + 54 * b.accel1 * b.traction) w (omega (arith, le))) refl
 
 same_d_bec : (b : BuildUp) (w : ℕ) → w ≤ b.speed → d_bec b w ≡ d_bec b 0
