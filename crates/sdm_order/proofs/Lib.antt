@@ -6,3 +6,4 @@ pub mod Limits
 pub mod Fractions
 pub mod Stand
 pub mod Enough
+pub mod Parts
