@@ -7,7 +7,6 @@ use Rattle.sdm_rules.specs.Slopes.{Slopes}
 use Rattle.sdm_hiding.specs.declared.rows.Foot.{Foot}
 use Rattle.sdm_hiding.specs.Asking.{IsEnough, StandsFor, at_indexes}
 use Rattle.sdm_hiding.specs.Hiding.{IsAt}
-use Rattle.sdm_hiding.proofs.FootLaws.{no_foot}
 
 module _ {A : Type 0} (foot : A → Foot) (xs : List A) (none : A) where
   -- at an index stands the foot of what stands there

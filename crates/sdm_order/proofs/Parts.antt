@@ -1,6 +1,6 @@
 -- Enough targets part by part: slow falls that some stand for by their EBDs, and by their guidance curves, faster falls,
 -- and the targets behind the falls.
-use Rattle.std.proofs.Common.{◌≡◌, ◌⊎◌, inl, inr, true, ◌<◌, ◌≤◌, ◌++◌, List, arith}
+use Rattle.std.proofs.Common.{◌≡◌, ◌⊎◌, inl, inr, true, ◌<◌, ◌≤◌, ◌++◌, List}
 use Rattle.std.specs.Prelude.{All, Any, Contains}
 use Rattle.std.proofs.lemmas.Bool.{cases_lt}
 use Rattle.std.proofs.lemmas.List.Elements.{All-contains, Contains-append_cases, Contains-append_left}
