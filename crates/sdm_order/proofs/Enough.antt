@@ -71,7 +71,7 @@ uncovered_too front met other (Some x) (Some y) pos_x pos_y le unmet e =
 -- ---- of each target
 
 -- V_bec is at least the speed
-at_least_speed : (b : BuildUp) → b.speed ≤ v_bec b 0
+pub at_least_speed : (b : BuildUp) → b.speed ≤ v_bec b 0
 at_least_speed b = grind (arith)
 
 -- what is not at most a number is above it
