@@ -1,10 +1,16 @@
 -- What was found of few targets that are enough is what is found of all.
-use Rattle.std.proofs.Common.{◌≡◌, Bool, List, refl, sym, ◌∙◌}
-use Rattle.sdm_num.specs.Readings.{Estimate}
+use Rattle.std.proofs.Common.{◌≡◌, ℕ, Bool, false, ◌&&◌, ◌||◌, List, refl, sym, ◌∙◌}
+use Rattle.std.proofs.Math.Bool.{or-false}
+use Rattle.sdm_num.specs.Readings.{Estimate, OdometerReading}
+use Rattle.sdm_num.specs.Units.{notches}
+use Rattle.sdm_rules.specs.declared.display.LimitName.{LimitName}
 use Rattle.sdm_rules.specs.declared.limits.LimitKind.{LimitKind}
 use Rattle.sdm_rules.specs.declared.limits.LimitKind.TheVariants.{Ebi, Sbi, Warning, Permitted, Indication}
 use Rattle.sdm_rules.specs.declared.targets.Target.{Target}
-use Rattle.sdm_rules.specs.Triggers.{Situation}
+use Rattle.sdm_rules.specs.Data.{TrainAndTrack}
+use Rattle.sdm_rules.specs.Display.{counts_release, estimate_at, kind_of, passes_limit, situation_at}
+use Rattle.sdm_rules.specs.Limits.{computed, limits_of}
+use Rattle.sdm_rules.specs.Triggers.{Situation, above_ceiling, above_release, some_passed}
 use Rattle.sdm_order.specs.EnoughTargets.{SayTheSame}
 use Rattle.sdm_order.proofs.Enough.{enough}
 use Rattle.sdm_supervisor.specs.declared.verdicts.Verdict.{Verdict}
@@ -48,3 +54,15 @@ module _ (seen : Seen) (e : Estimate) where
       passed ≡ some_target_passed kind seen e seen.situation.targets
   passed_of_all kind passed h =
       h.found ∙ sym ((same (λ ts. passed ≡ some_target_passed kind seen e ts) h).passed kind)
+
+-- where the speed is above neither the ceiling nor the release speed, a limit is passed where some target is passed by it
+pub passed_by_targets : (d : TrainAndTrack) (r : OdometerReading) (now : Situation) (name : LimitName) (kmh : ℕ)
+    (passed : Bool) → above_ceiling (kind_of name) (situation_at (notches kmh) now) ≡ false →
+    (counts_release name && above_release (situation_at (notches kmh) now)) ≡ false →
+    passed ≡ some_passed (kind_of name) (limits_of computed d (estimate_at (notches kmh) r)) 0
+    (situation_at (notches kmh) now) → passed ≡ passes_limit d r now name kmh
+unfolding passes_limit
+passed_by_targets d r now name kmh passed ceiling release is =
+    let some = some_passed (kind_of name) (limits_of computed d (estimate_at (notches kmh) r)) 0
+    (situation_at (notches kmh) now) in
+    is ∙ sym (or-false some) ∙ (λ i. (sym ceiling i || some) || sym release i)
