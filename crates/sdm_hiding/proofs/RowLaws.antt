@@ -8,20 +8,7 @@ use Rattle.sdm_hiding.specs.declared.rows.Foot.{Foot}
 use Rattle.sdm_hiding.specs.Asking.{IsEnough, StandsFor, at_indexes}
 use Rattle.sdm_hiding.specs.Hiding.{IsAt}
 
-module _ {A : Type 0} (foot : A → Foot) (xs : List A) (none : A) where
-  -- at an index stands the foot of what stands there
-  pub foot_there : (k : ℕ) (x : A) → k < length xs → slice_index_or xs k x ≡ x → IsAt (map foot xs) k (foot x)
-  foot_there k x known is =
-      let long = length-map xs foot in
-      record { known = omega (arith, known, long); is = λ e. get_or-map foot xs k x e known ∙ ap foot is }
-
-  -- what has the foot that stands at an index
-  pub foot_at : (k : ℕ) (f : Foot) → IsAt (map foot xs) k f → foot (slice_index_or xs k none) ≡ f
-  foot_at k f at =
-      let long = length-map xs foot in
-      let known = at.known in
-      sym (get_or-map foot xs k none f (omega (arith, known, long))) ∙ at.is f
-
+module _ {A : Type 0} (xs : List A) (none : A) where
   -- what stands at an index is among what stands at indexes
   pub at_index : (indexes : List ℕ) (i : ℕ) → Contains indexes i →
       Contains (at_indexes xs none indexes) (slice_index_or xs i none)
@@ -43,6 +30,20 @@ module _ {A : Type 0} (foot : A → Foot) (xs : List A) (none : A) where
       subst (λ (y : A). Contains xs y) (sym (get_or-map g indexes there.0 0 x k_known) ∙ there.2)
       (Contains-get_or xs i none (inside there.0 0 k_known))
 
+module _ {A : Type 0} (foot : A → Foot) (xs : List A) (none : A) where
+  -- at an index stands the foot of what stands there
+  pub foot_there : (k : ℕ) (x : A) → k < length xs → slice_index_or xs k x ≡ x → IsAt (map foot xs) k (foot x)
+  foot_there k x known is =
+      let long = length-map xs foot in
+      record { known = omega (arith, known, long); is = λ e. get_or-map foot xs k x e known ∙ ap foot is }
+
+  -- what has the foot that stands at an index
+  pub foot_at : (k : ℕ) (f : Foot) → IsAt (map foot xs) k f → foot (slice_index_or xs k none) ≡ f
+  foot_at k f at =
+      let long = length-map xs foot in
+      let known = at.known in
+      sym (get_or-map foot xs k none f (omega (arith, known, long))) ∙ at.is f
+
   -- something that was asked stands for each whose target is no faster than the train
   pub stands_for_each : (on : Slopes) (v bec : ℕ) (asked : List ℕ) → IsEnough on (map foot xs) v bec asked → (x : A) →
       Contains xs x → (foot x).permitted ≤ v →
@@ -50,7 +51,7 @@ module _ {A : Type 0} (foot : A → Foot) (xs : List A) (none : A) where
   stands_for_each on v bec asked enough x there slow =
       let h = enough there.0 (foot x) (foot_there there.0 x there.1 there.2) slow in
       let y = slice_index_or xs h.index none in
-      let c = at_index asked h.index h.asked_there in (
+      let c = at_index xs none asked h.index h.asked_there in (
         c.0,
         y,
         c.1,

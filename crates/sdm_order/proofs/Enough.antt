@@ -148,7 +148,7 @@ module _ (d : TrainAndTrack) (e : Estimate) (all asked : List Target) (h : AreEn
           is_met_by_speed kind (v_bec_for d e t) (foot_speed_of t)) stood.slow.kind) ∙ is) in
           let foot_r : foot_speed_of r < v_bec_for d e r = elim before.counts [
             | inl slower ↦ omega (arith, slower, same_r, least)
-            | inr lower ↦ (let rises = no_faster_with d e t r stood.slow.kind before.slow.kind Ebi lower in
+            | inr lower ↦ (let rises = no_faster_with t r stood.slow.kind before.slow.kind Ebi lower in
                 omega (arith, rises, foot, same, same_r))
           ] in
           ap (λ (kind : TargetKind). is_met_by_speed kind (v_bec_for d e r) (foot_speed_of r)) before.slow.kind

@@ -43,7 +43,7 @@ margin_rises Indication a b le = omega (arith, le)
 pub at_fall : (t : Target) (n : ℕ) → t.kind ≡ Mrsp → at_speed_target t.kind n ≡ n
 at_fall t n is = ap (λ (kind : TargetKind). at_speed_target kind n) is
 
-module _ (d : TrainAndTrack) (e : Estimate) (t r : Target) (t_is : t.kind ≡ Mrsp) (r_is : r.kind ≡ Mrsp) where
+module _ (t r : Target) (t_is : t.kind ≡ Mrsp) (r_is : r.kind ≡ Mrsp) where
   -- a fall that is no faster is so with the margin
   pub no_faster_with : (kind : LimitKind) → target_speed r ≤ target_speed t →
       with_margin (margin_of kind) r ≤ with_margin (margin_of kind) t
@@ -56,20 +56,20 @@ module _ (d : TrainAndTrack) (e : Estimate) (t r : Target) (t_is : t.kind ≡ Mr
       omega (arith, rises, here, there)
 
   -- what counts at every margin, or is no faster, is passed by its speed where the other one is
-  pub counts_too : (kind : LimitKind) → (foot_speed_of r < e.speed) ⊎ (target_speed r ≤ target_speed t) →
-      with_margin (margin_of kind) t < e.speed → with_margin (margin_of kind) r < e.speed
-  counts_too kind (inl slow) above =
+  counts_too : (kind : LimitKind) (v : ℕ) → (foot_speed_of r < v) ⊎ (target_speed r ≤ target_speed t) →
+      with_margin (margin_of kind) t < v → with_margin (margin_of kind) r < v
+  counts_too kind v (inl slow) above =
       let most = margin_most kind r.speed in
       let foot = at_fall r (notches r.speed + margin_of Ebi r.speed) r_is in
       let here = at_fall r (notches r.speed + margin_of kind r.speed) r_is in
       omega (arith, slow, most, foot, here)
-  counts_too kind (inr slower) above = let rises = no_faster_with kind slower in omega (arith, above, rises)
+  counts_too kind v (inr slower) above = let rises = no_faster_with kind slower in omega (arith, above, rises)
 
   -- with no margin a target speed that counts is enough
-  pub counts_bare : (kind : LimitKind) → margin_of kind ≡ no_margin →
-      (target_speed r < e.speed) ⊎ (target_speed r ≤ target_speed t) →
-      with_margin (margin_of kind) t < e.speed → with_margin (margin_of kind) r < e.speed
-  counts_bare kind none counts above =
+  counts_bare : (kind : LimitKind) (v : ℕ) → margin_of kind ≡ no_margin →
+      (target_speed r < v) ⊎ (target_speed r ≤ target_speed t) → with_margin (margin_of kind) t < v →
+      with_margin (margin_of kind) r < v
+  counts_bare kind v none counts above =
       let bare : (u : Target) → u.kind ≡ Mrsp → with_margin (margin_of kind) u ≡ target_speed u =
       λ u is. ap (λ (m : ℕ → ℕ). with_margin m u) none
       ∙ ap (at_speed_target u.kind) (omega arith) in
@@ -120,12 +120,12 @@ module _ (d : TrainAndTrack) (e : Estimate) (asked : List Target) (t : Target) (
       by_kind kind (StandsIn kind limits s t)
       (λ r is no_later. record {
         front = same_front s.est s.front r is.slow.kind;
-        above = λ above. rw same (counts_too d e t r h.slow.kind is.slow.kind kind is.counts (rw same at above));
+        above = λ above. rw same (counts_too t r h.slow.kind is.slow.kind kind e.speed is.counts (rw same at above));
         no_later = no_later;
       })
       (λ q none is no_later. record {
         front = same_front s.est s.front q is.slow.kind;
-        above = λ above. rw same (counts_bare d e t q h.slow.kind is.slow.kind kind none is.counts (rw same at above));
+        above = λ above. rw same (counts_bare t q h.slow.kind is.slow.kind kind e.speed none is.counts (rw same at above));
         no_later = no_later;
       })
 

@@ -49,8 +49,8 @@ record AreFeetOf (margin : ℕ) (foot : Target → Foot) : Type 0 where
   rising : (t r : Target) → t.kind ≡ Mrsp → r.kind ≡ Mrsp → target_speed r ≤ target_speed t →
       (foot r).speed ≤ (foot t).speed
 
-brake_feet_of : (d : TrainAndTrack) (e : Estimate) → AreFeetOf 15 brake_foot
-brake_feet_of d e = record {
+brake_feet_of : AreFeetOf 15 brake_foot
+brake_feet_of = record {
   permitted = λ t. refl;
   above = λ t is.
       let bare = at_fall t (notches t.speed) is in
@@ -61,7 +61,7 @@ brake_feet_of d e = record {
       let more = at_fall t (notches t.speed + ebi_margin t.speed) is in
       let most = most_margin t.speed in
       omega (arith, bare, more, most);
-  rising = λ t r t_is r_is lower. no_faster_with d e t r t_is r_is Ebi lower;
+  rising = λ t r t_is r_is lower. no_faster_with t r t_is r_is Ebi lower;
 }
   where
     most_margin : (kmh : ℕ) → ebi_margin kmh ≤ 225_000
@@ -116,9 +116,8 @@ module _ (falls : List Target) (each : All (λ t. t.kind ≡ Mrsp) falls) where
           let known = at.known in
           each i no_target (omega (arith, known, long))
 
-  pub brake_feet : (d : TrainAndTrack) (e : Estimate) → AreInOrder (map brake_foot falls) →
-      AreFeet 15 (map brake_foot falls)
-  brake_feet d e = feet_are 15 brake_foot (brake_feet_of d e)
+  pub brake_feet : AreInOrder (map brake_foot falls) → AreFeet 15 (map brake_foot falls)
+  brake_feet = feet_are 15 brake_foot brake_feet_of
 
   pub guide_feet : AreInOrder (map guide_foot falls) → AreFeet 0 (map guide_foot falls)
   guide_feet = feet_are 0 guide_foot guide_feet_of
@@ -131,7 +130,7 @@ module _ (falls : List Target) (each : All (λ t. t.kind ≡ Mrsp) falls) where
 
     -- each that was asked is one of them
     pub asked_of : AreOf falls found
-    asked_of t = in_row brake_foot falls no_target asked inside t
+    asked_of t = in_row falls no_target asked inside t
 
     -- by their EBDs
     pub braked : IsEnough (slopes_of Safe d) (map brake_foot falls) e.speed (v_bec (build_up_from d e) 0) asked →

@@ -28,10 +28,10 @@ one_behind P before some t = subst P (append_assoc before some (t ∷ []))
 -- a walk over a row has come so far, and something was found of the falls that it named, by their indexes
 pub record IsRowWalkedTo (on : Slopes) (feet : List Foot) (margin v bec : ℕ) (falls before : List Target) (a : Asking)
     (is_found : List Target → Type 0) : Type 0 where
-      pub asked : List ℕ
-      pub inside : All (λ i. i < length falls) asked
-      pub walked : IsWalkedTo on feet margin v bec asked a
-      pub found : is_found (before ++ at_indexes falls no_target asked)
+  pub asked : List ℕ
+  pub inside : All (λ i. i < length falls) asked
+  pub walked : IsWalkedTo on feet margin v bec asked a
+  pub found : is_found (before ++ at_indexes falls no_target asked)
 
 module _ (on : Slopes) (feet : List Foot) (margin v bec : ℕ) (falls before : List Target) where
   -- nothing is asked at the beginning

@@ -114,13 +114,7 @@ module _ (d : TrainAndTrack) (max : ℤ) (e : Estimate) (t : Target) where
       true ≡ is_covered_for d max e t
   covered_without is none = ap by_ebi (sym (ap place_where none) ∙ is)
 
--- a target that is met by speed is covered
-pub covered_where_met : (max : ℤ) (met : Bool) (ebi : Option Fraction) → met ≡ true →
-    option_map_or (λ e. not (is_past 0 max e) || met) ebi true ≡ true
-covered_where_met max met None is = refl
-covered_where_met max met (Some e) is = rw is (or-true (not (is_past 0 max e)))
-
--- another one is covered where the front end is at or before its EBI, if it has one
+-- a target that isn't met by speed is covered where the front end is at or before its EBI, if it has one
 pub covered_unmet : (max : ℤ) (met : Bool) (ebi : Option Fraction) → false ≡ met →
     option_map_or (λ e. not (is_past 0 max e)) ebi true ≡ option_map_or (λ e. not (is_past 0 max e) || met) ebi true
 covered_unmet max met None is = refl

@@ -40,7 +40,7 @@ returns g c =
     let least = at_least_speed (build_up_from d e) in
     let braked = rw (c.brakes-brakes.ensures.falls, c.brakes-brakes.ensures.slopes ∙ ap (slopes_of Safe) same_data) at
     (c.walk_row.ensures 15 (v_bec (build_up_from d e) 0) []
-    (rw c.brakes-brakes.ensures.falls (brake_feet falls kinds d e order)) (omega (arith, least)) c.requires.first) in
+    (rw c.brakes-brakes.ensures.falls (brake_feet falls kinds order)) (omega (arith, least)) c.requires.first) in
     let brakes = at_indexes falls no_target braked.asked in
     let guided : AreGuided d e falls kinds brakes (λ ts. g.W.Walk.is_found c.args.walk.now seen e ts c.if-has_guidance.found) =
     elim c.if-has_guidance.branch [
