@@ -1,10 +1,10 @@
 -- Falls as rows of feet: where the curves that were asked of each row are enough, one of the falls that were asked stands
 -- for each slow fall.
-use Rattle.std.proofs.Common.{◌≡◌, ◌⊎◌, inl, inr, ℕ, true, ◌+◌, ◌<◌, ◌≤◌, nat_lt, List, [], ◌∷◌, ◌++◌, map, All, length}
+use Rattle.std.proofs.Common.{◌≡◌, ℕ, ◌+◌, ◌<◌, ◌≤◌, List, map, All, length}
 use Rattle.std.proofs.Common.{slice_index_or, refl, sym, ap, subst, ◌∙◌, arith}
-use Rattle.std.specs.Prelude.{Any, Contains, filter}
+use Rattle.std.specs.Prelude.{Any, Contains}
 use Rattle.std.proofs.lemmas.List.{get_or-map, length-map}
-use Rattle.std.proofs.lemmas.List.Elements.{All-contains, Contains-get_or}
+use Rattle.std.proofs.lemmas.List.Elements.{All-contains}
 use Rattle.sdm_num.specs.Readings.{Estimate}
 use Rattle.sdm_num.specs.Units.{notches}
 use Rattle.sdm_rules.specs.declared.data.SlopeKind.TheVariants.{Normal, Safe}
@@ -15,7 +15,7 @@ use Rattle.sdm_rules.specs.Data.{TrainAndTrack}
 use Rattle.sdm_rules.specs.Decelerations.{slopes_of}
 use Rattle.sdm_rules.specs.Margins.{ebi_margin}
 use Rattle.sdm_rules.specs.Reaction.{build_up_from, v_bec}
-use Rattle.sdm_rules.specs.Targets.{foot_speed_of, target_speed}
+use Rattle.sdm_rules.specs.Targets.{target_speed}
 use Rattle.sdm_order.specs.AskedTargets.{AreOf}
 use Rattle.sdm_order.specs.EnoughTargets.{IsBrakedBefore, IsGuidedBefore, IsMetFall}
 use Rattle.sdm_order.proofs.Faster.{met_by_speed}

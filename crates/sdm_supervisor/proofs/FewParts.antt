@@ -1,6 +1,6 @@
 -- What was asked part by part is enough, and few: the falls of the row of EBDs, those of the row of guidance curves where
 -- guidance is permitted, the faster ones, and the targets at the end of the authority.
-use Rattle.std.proofs.Common.{◌≡◌, ℕ, Bool, true, false, ◌≤◌, List, [], ◌++◌, length, map, All, refl, sym, subst, ◌∙◌}
+use Rattle.std.proofs.Common.{◌≡◌, Bool, true, false, ◌≤◌, List, [], ◌++◌, length, map, All, refl, sym, subst, ◌∙◌}
 use Rattle.std.proofs.Common.{arith, if◌then◌else◌, slice_index_or}
 use Rattle.std.specs.Prelude.{Any, Contains}
 use Rattle.std.proofs.lemmas.Bool.{false≢true}

@@ -1,14 +1,13 @@
 -- Each fall that is faster is asked behind the others, where not each is met by speed.
-use Rattle.std.proofs.Common.{◌<◌, ◌≤◌, ◌+◌, ℕ, length, map, sym, subst, ◌∙◌, arith}
+use Rattle.std.proofs.Common.{◌<◌, ◌≤◌, ◌+◌, length, map, arith}
 use Rattle.std.proofs.lemmas.Bool.Decides.{nat_tests}
 use Rattle.std.proofs.lemmas.List.{length-map}
 use Rattle.sdm_rules.specs.Reaction.{build_up_from, v_bec}
-use Rattle.sdm_rules.specs.Targets.{target_speed}
 use Rattle.sdm_braking.specs.KeptFalls.{target_of}
 use Rattle.sdm_supervisor.specs.AskedFalls.{no_target}
 use Rattle.sdm_supervisor.proofs.FallsAsked.{kept_there, target_there}
 use Rattle.sdm_supervisor.proofs.FewLaws.{are_falls, met_falls}
-use Rattle.sdm_supervisor.proofs.FewWalks.{faster_begun, faster_done, faster_more, faster_not, none_faster}
+use Rattle.sdm_supervisor.proofs.FewWalks.{faster_more, faster_not, none_faster}
 use Rattle.sdm_supervisor.proofs.sight.Sight.walk_faster.Goals as goal
 use Rattle.sdm_supervisor.proofs.sight.Sight.walk_faster.Goals.{then-lt, else-lt}
 

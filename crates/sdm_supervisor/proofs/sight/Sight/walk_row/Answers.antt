@@ -1,5 +1,5 @@
 -- Each curve that the walk names is asked behind the others; where it names no more, those are enough.
-use Rattle.std.proofs.Common.{◌<◌, ◌≤◌, ℕ, length, map, arith}
+use Rattle.std.proofs.Common.{◌<◌, ◌≤◌, length, map, arith}
 use Rattle.std.proofs.lemmas.List.{length-map}
 use Rattle.sdm_braking.specs.KeptFalls.{target_of}
 use Rattle.sdm_supervisor.specs.AskedFalls.{no_target}
