@@ -1,5 +1,6 @@
 pub mod AnyLaws
 pub mod EbdLaws
+pub mod FootLaws
 pub mod KeptFallLaws
 pub mod PlaceLaws
 pub mod ReleaseLaws

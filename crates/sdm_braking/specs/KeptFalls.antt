@@ -20,6 +20,7 @@ use Rattle.sdm_braking.specs.declared.falls_ahead.KeptFall.{KeptFall}
 use Rattle.sdm_braking.specs.declared.falls_ahead.KeptZone.{KeptZone}
 use Rattle.sdm_braking.specs.declared.falls_ahead.PlacedFall.{PlacedFall}
 use Rattle.sdm_braking.specs.declared.kept_targets.KeptTarget.{KeptTarget}
+use Rattle.sdm_braking.specs.FallFeet.{AreHidden}
 use Rattle.sdm_braking.specs.KeptCurves.{IsKeptTarget}
 
 -- what is kept of a fall: the target at it with its curves
@@ -56,11 +57,14 @@ zone_fall z = record { fall = z.fall; kept = z.kept }
 abbrev pub IsKeptZone : TrainAndTrack → KeptZone → Type 0
 IsKeptZone d z = IsKeptFall d (zone_fall z)
 
--- what is kept of falls, in order, the zones that may be falls, and of how many zones there is room for
+-- what is kept of falls, in order, the zones that may be falls, and of how many zones there is room for; and for each
+-- fall how many falls further on its EBD and its guidance curve are hidden
 pub record KeptFallsData : Type 0 where
   pub list : List KeptFallData
   pub zones : List KeptZone
   pub room : ℕ
+  pub brake_steps : List ℕ
+  pub guide_steps : List ℕ
 
 -- ---- places of zones
 
@@ -153,12 +157,14 @@ pub record IsZoneLess (id : ℕ) (old new : List KeptZone) : Type 0 where
 
 -- ---- the falls of a profile
 
--- what is kept of the falls of a profile: one entry for each, in order, with its curves; and its zones, with theirs
+-- what is kept of the falls of a profile: one entry for each, in order, with its curves, and how far on these are
+-- hidden; and its zones, with their curves
 pub record AreKeptFalls (d : TrainAndTrack) (p : ProfileData) (v : KeptFallsData) : Type 0 where
   pub falls : AreAtFalls fall_of (mrsp_of p) first_cell v.list
   pub each : All (IsKeptFall d) v.list
   pub zones : AreZonesOf p v
   pub curves : All (IsKeptZone d) v.zones
+  pub hidden : AreHidden d (map target_of v.list) v.brake_steps v.guide_steps
 
 -- the fall is at a cell where the profile falls, and to the speed of that cell
 pub record IsFallAt (p : ℤ → ℕ) (at : ℤ) (fall : Fall) : Type 0 where

@@ -66,3 +66,14 @@ impl<'a> FallsAhead<'a> {
         &self.zones[list[i].place].kept
     }
 }
+
+/// The falls ahead of a place, with how far on their curves are hidden. (own)
+#[derive(Drop)]
+pub struct Ahead<'a> {
+    pub falls: FallsAhead<'a>,
+    /// For each fall how many falls further on the first one stands whose EBD hides this one's; where none does, the
+    /// falls end there or before.
+    pub brake_steps: &'a [usize],
+    /// The same of guidance curves, where guidance is permitted.
+    pub guide_steps: &'a [usize],
+}

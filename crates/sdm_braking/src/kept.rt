@@ -2,15 +2,14 @@
 //! their curves, and the start of release speed monitoring. It is one value, made again in place where the profile or
 //! the authority changes.
 
-ghost use Rattle.std.specs.Prelude.{◌≡◌, None, IfOk};
+ghost use Rattle.std.specs.Prelude.{◌≡◌, All, None, IfOk};
 ghost use Rattle.sdm_rules.specs.declared.authorities.Authority.{Authority};
 ghost use Rattle.std.specs.FinMap as finite;
-ghost use Rattle.sdm_rules.specs.Data.{TrainAndTrack};
 ghost use Rattle.sdm_rules.specs.Records.{authority_fault};
 ghost use Rattle.sdm_speed.specs.Held.{IsHeldRestriction};
 ghost use Rattle.sdm_speed.specs.Profiles.{ProfileData};
 ghost use Rattle.sdm_braking.specs.Kept.{IsKept};
-ghost use Rattle.sdm_braking.specs.KeptFalls.{AreZonesOf, IsRestricted, IsRevoked};
+ghost use Rattle.sdm_braking.specs.KeptFalls.{AreZonesOf, IsKeptZone, IsRestricted, IsRevoked};
 
 use crate::braking::Braking;
 use crate::kept_ends::KeptEnd;
@@ -70,6 +69,7 @@ impl Kept {
     pub fn restrict(&mut self, braking: &Braking, profile: &Profile, r: Restriction)
         requires before { IsRestricted profile.now r self.old.falls }
         requires held { IsHeldRestriction r }
+        requires curves { All (IsKeptZone braking.now) self.old.falls.zones }
         ensures { (p : ProfileData) (a : Authority) →
             IsKept braking.now p a self.old → IsKept braking.now profile.now a self.new }
     {
@@ -79,7 +79,8 @@ impl Kept {
     /// Keeps what a profile asks for that restrictions have come to, where none was in force before; the end of the
     /// authority stays.
     pub fn take_restrictions(&mut self, braking: &Braking, profile: &Profile)
-        requires { AreZonesOf (record profile.now { restrictions = finite.empty }) self.old.falls }
+        requires before { AreZonesOf (record profile.now { restrictions = finite.empty }) self.old.falls }
+        requires curves { All (IsKeptZone braking.now) self.old.falls.zones }
         ensures { (p : ProfileData) (a : Authority) →
             IsKept braking.now p a self.old → IsKept braking.now profile.now a self.new }
     {
@@ -87,11 +88,12 @@ impl Kept {
     }
 
     /// Keeps what a profile asks for that a restriction has gone from; the end of the authority stays.
-    pub fn revoke(&mut self, profile: &Profile, id: u16)
-        requires { IsRevoked profile.now id self.old.falls }
-        ensures { (d : TrainAndTrack) (p : ProfileData) (a : Authority) →
-            IsKept d p a self.old → IsKept d profile.now a self.new }
+    pub fn revoke(&mut self, braking: &Braking, profile: &Profile, id: u16)
+        requires before { IsRevoked profile.now id self.old.falls }
+        requires curves { All (IsKeptZone braking.now) self.old.falls.zones }
+        ensures { (p : ProfileData) (a : Authority) →
+            IsKept braking.now p a self.old → IsKept braking.now profile.now a self.new }
     {
-        self.falls.revoke(profile, id);
+        self.falls.revoke(braking, profile, id);
     }
 }

@@ -4,28 +4,33 @@
 //! profile only finds again which of the zones are falls.
 
 ghost use Rattle.std.specs.Prelude.{◌≡◌, ◌+◌, ◌^◌, ◌<◌, ◌≤◌, ◌≤ℤ◌, ◌<ℤ◌, ◌++◌, ◌∷◌, ℕ, ℤ, List, map, All, [], Some, None};
-ghost use Rattle.std.specs.Prelude.{pos, IfOk, IfSome, MatchOption, true, false, length, position, slice_index_or};
+ghost use Rattle.std.specs.Prelude.{pos, IfOk, IfSome, MatchOption, true, false, length, slice_index_or};
 ghost use Rattle.std.specs.List.{list_any};
 ghost use Rattle.std.specs.FinMap as finite;
 ghost use Rattle.sdm_rules.specs.Data.{TrainAndTrack};
+ghost use Rattle.sdm_rules.specs.declared.data.SlopeKind.TheVariants.{Normal, Safe};
+ghost use Rattle.sdm_rules.specs.Decelerations.{slopes_of};
 ghost use Rattle.sdm_rules.specs.Records.{most_restrictions};
 ghost use Rattle.sdm_rules.specs.Targets.{is_fall};
 ghost use Rattle.sdm_speed.specs.Falls.{AreAtFalls};
 ghost use Rattle.sdm_speed.specs.Held.{IsHeldRestriction};
 ghost use Rattle.sdm_speed.specs.Profiles.{mrsp_of};
 ghost use Rattle.sdm_speed.specs.Zones.{IsFallInRange};
-ghost use Rattle.sdm_targets.specs.Lists.{falls_past, target_at, IsTarget};
+ghost use Rattle.sdm_targets.specs.Lists.{falls_past};
+ghost use Rattle.sdm_hiding.specs.Hiding.{AreHiddenFrom, AreInOrder};
+ghost use Rattle.sdm_braking.specs.FallFeet.{AreHidden, brake_foot, guide_foot};
 ghost use Rattle.sdm_braking.specs.KeptFalls.{at_fall, AreKeptFalls, ArePartedPast, AreZonesOf, IsRestricted};
 ghost use Rattle.sdm_braking.specs.KeptFalls.{IsFallAt, IsKeptFall, IsKeptZone, IsRevoked, IsZoneAt, IsZoneLess};
-ghost use Rattle.sdm_braking.specs.KeptFalls.{IsZoneMore, KeptFallData, data_of, fall_by, fall_of, first_cell};
-ghost use Rattle.sdm_braking.specs.KeptFalls.{has_id, is_at, kept_at};
+ghost use Rattle.sdm_braking.specs.KeptFalls.{IsZoneMore, KeptFallData, data_of, fall_of, first_cell};
+ghost use Rattle.sdm_braking.specs.KeptFalls.{has_id, is_at, kept_at, target_of};
 
 use crate::braking::Braking;
-use crate::falls_ahead::{FallsAhead, KeptFall, KeptZone, PlacedFall};
-use sdm_num::{NoMemory, Place};
+use crate::falls_ahead::{Ahead, FallsAhead, KeptFall, KeptZone, PlacedFall};
+use crate::zones::{fall_by, target_at, zone_at, zone_between, zone_by_id};
+use sdm_hiding::hide;
+use sdm_num::NoMemory;
 use sdm_rules::{Fall, Restriction};
 use sdm_speed::{MOST_RESTRICTIONS, Profile};
-use sdm_targets::{Target, TargetKind};
 use std::alloc::Global;
 use std::marker::Model;
 
@@ -35,10 +40,15 @@ pub struct KeptFalls {
     list: Vec<PlacedFall>,
     /// The zones that may be falls: the falls of the static profile, in order, and then the restrictions as they came.
     zones: Vec<KeptZone>,
+    /// For each fall how many falls further on the first one stands whose EBD hides this one's. No less room than for
+    /// falls.
+    brake_steps: Vec<usize>,
+    /// The same of guidance curves, where guidance is permitted.
+    guide_steps: Vec<usize>,
 }
 
 impl Model for KeptFalls {
-    ghost use Rattle.std.specs.Prelude.{vec_capacity, ◌≤◌};
+    ghost use Rattle.std.specs.Prelude.{length, vec_capacity, ◌≤◌};
     ghost use Rattle.sdm_braking.specs.KeptFalls.{KeptFallsData, kept_in, ArePlacedIn};
 
     ghost Value = { KeptFallsData };
@@ -47,78 +57,15 @@ impl Model for KeptFalls {
       list = kept_in k.zones.items k.list.items;
       zones = k.zones.items;
       room = vec_capacity k.zones;
+      brake_steps = k.brake_steps.items;
+      guide_steps = k.guide_steps.items;
     } };
 
     ghost invariant = { λ k. ArePlacedIn k.zones.items k.list.items
-        × (vec_capacity k.zones ≤ vec_capacity k.list) };
-}
-
-/// The target at a fall.
-fn target_at(fall: Fall) -> Target
-    requires { IsFallInRange fall }
-    ensures value { result ≡ target_at fall }
-    ensures in_range { IsTarget result }
-{
-    Target {
-        kind: TargetKind::Mrsp,
-        place: Place::of_cm(fall.cell),
-        speed: fall.speed,
-    }
-}
-
-/// Where a restriction begins, with its speed.
-fn fall_by(r: Restriction) -> Fall
-    requires { IsHeldRestriction r }
-    ensures value { result ≡ fall_by r }
-    ensures in_range { IsFallInRange result }
-{
-    Fall {
-        cell: r.start as i32,
-        speed: r.speed,
-    }
-}
-
-/// Whether a zone begins at the cell of a fall with its speed.
-fn is_at(zone: &KeptZone, fall: Fall) -> bool
-    ensures { result ≡ is_at fall zone.now }
-{
-    zone.fall.cell == fall.cell && zone.fall.speed == fall.speed
-}
-
-/// Whether a zone is that of the restriction with this identity.
-fn has_id(zone: &KeptZone, id: u16) -> bool
-    ensures { result ≡ has_id id zone.now }
-{
-    match zone.id {
-        Some(held) => held == id,
-        None => false,
-    }
-}
-
-/// The index of a zone from one index on, and before another, that begins at a fall with its speed.
-fn zone_between(zones: &[KeptZone], from: usize, past: usize, fall: Fall) -> Option<usize>
-    ensures { IfSome result (λ i. IsZoneAt fall zones.now i) }
-{
-    for i in from..past.min(zones.len()) {
-        if is_at(&zones[i], fall) {
-            return Some(i);
-        }
-    }
-    None
-}
-
-/// The index of the first zone that begins at a fall with its speed.
-fn zone_at(zones: &[KeptZone], fall: Fall) -> Option<usize>
-    ensures { result ≡ position (is_at fall) zones.now }
-{
-    zones.iter().position(|zone| is_at(zone, fall))
-}
-
-/// The index of the zone of the restriction with this identity.
-fn zone_by_id(zones: &[KeptZone], id: u16) -> Option<usize>
-    ensures { result ≡ position (has_id id) zones.now }
-{
-    zones.iter().position(|zone| has_id(zone, id))
+        × (vec_capacity k.zones ≤ vec_capacity k.list)
+        × (length k.list.items ≤ vec_capacity k.zones)
+        × (vec_capacity k.zones ≤ length k.brake_steps.items)
+        × (vec_capacity k.zones ≤ length k.guide_steps.items) };
 }
 
 impl KeptFalls {
@@ -132,9 +79,11 @@ impl KeptFalls {
         let mut falls = KeptFalls {
             list: Vec::with_capacity(alloc, room)?,
             zones: Vec::with_capacity(alloc, room)?,
+            brake_steps: vec![in alloc; 0; room]?,
+            guide_steps: vec![in alloc; 0; room]?,
         };
         falls.keep_statics(braking, profile);
-        falls.fill(profile);
+        falls.keep_falls(braking, profile);
         Ok(falls)
     }
 
@@ -244,26 +193,77 @@ impl KeptFalls {
         }
     }
 
+    /// Works out how far on the EBD of each fall is hidden.
+    fn hide_brakes(&mut self, braking: &Braking)
+        requires kept { All (IsKeptFall braking.now) self.old.list }
+        requires order { AreInOrder (map brake_foot (map target_of self.old.list)) }
+        ensures hidden { AreHiddenFrom (slopes_of Safe braking.now) (map brake_foot (map target_of self.new.list))
+            self.new.brake_steps 0 }
+        ensures list { self.new.list ≡ self.old.list }
+        ensures zones { self.new.zones ≡ self.old.zones }
+        ensures room { self.new.room ≡ self.old.room }
+    {
+        let falls = FallsAhead {
+            list: &self.list,
+            zones: &self.zones,
+        };
+        hide(&falls.brakes(braking), &mut self.brake_steps);
+    }
+
+    /// Works out how far on the guidance curve of each fall is hidden, where guidance is permitted.
+    fn hide_guides(&mut self, braking: &Braking)
+        requires kept { All (IsKeptFall braking.now) self.old.list }
+        requires order { AreInOrder (map guide_foot (map target_of self.old.list)) }
+        ensures hidden { braking.now.national.guidance ≡ true → AreHiddenFrom (slopes_of Normal braking.now)
+            (map guide_foot (map target_of self.new.list)) self.new.guide_steps 0 }
+        ensures list { self.new.list ≡ self.old.list }
+        ensures zones { self.new.zones ≡ self.old.zones }
+        ensures room { self.new.room ≡ self.old.room }
+        ensures brakes { self.new.brake_steps ≡ self.old.brake_steps }
+    {
+        if !braking.has_guidance() {
+            return;
+        }
+        let falls = FallsAhead {
+            list: &self.list,
+            zones: &self.zones,
+        };
+        hide(&falls.guides(braking), &mut self.guide_steps);
+    }
+
+    /// Keeps the falls of a profile whose zones are kept.
+    fn keep_falls(&mut self, braking: &Braking, profile: &Profile)
+        requires zones { AreZonesOf profile.now self.old }
+        requires curves { All (IsKeptZone braking.now) self.old.zones }
+        ensures { AreKeptFalls braking.now profile.now self.new }
+    {
+        self.fill(profile);
+        self.hide_brakes(braking);
+        self.hide_guides(braking);
+    }
+
     /// Keeps the falls of a profile that a restriction has come to.
     pub fn restrict(&mut self, braking: &Braking, profile: &Profile, r: Restriction)
         requires before { IsRestricted profile.now r self.old }
         requires held { IsHeldRestriction r }
-        ensures { All (IsKeptZone braking.now) self.old.zones → AreKeptFalls braking.now profile.now self.new }
+        requires curves { All (IsKeptZone braking.now) self.old.zones }
+        ensures { AreKeptFalls braking.now profile.now self.new }
     {
         self.keep_zone(braking, Some(r.id), fall_by(r));
-        self.fill(profile);
+        self.keep_falls(braking, profile);
     }
 
     /// Keeps the falls of a profile that restrictions have come to, where none was in force before.
     pub fn take_restrictions(&mut self, braking: &Braking, profile: &Profile)
-        requires { AreZonesOf (record profile.now { restrictions = finite.empty }) self.old }
-        ensures { All (IsKeptZone braking.now) self.old.zones → AreKeptFalls braking.now profile.now self.new }
+        requires before { AreZonesOf (record profile.now { restrictions = finite.empty }) self.old }
+        requires curves { All (IsKeptZone braking.now) self.old.zones }
+        ensures { AreKeptFalls braking.now profile.now self.new }
     {
         let held = profile.held();
         for i in 0..held.len() {
             self.keep_zone(braking, Some(held[i].id), fall_by(held[i]));
         }
-        self.fill(profile);
+        self.keep_falls(braking, profile);
     }
 
     /// Takes out the zone of the restriction with an identity. No fall has a place then.
@@ -280,12 +280,13 @@ impl KeptFalls {
     }
 
     /// Keeps the falls of a profile that a restriction has gone from.
-    pub fn revoke(&mut self, profile: &Profile, id: u16)
-        requires { IsRevoked profile.now id self.old }
-        ensures { (d : TrainAndTrack) → All (IsKeptZone d) self.old.zones → AreKeptFalls d profile.now self.new }
+    pub fn revoke(&mut self, braking: &Braking, profile: &Profile, id: u16)
+        requires before { IsRevoked profile.now id self.old }
+        requires curves { All (IsKeptZone braking.now) self.old.zones }
+        ensures { AreKeptFalls braking.now profile.now self.new }
     {
         self.remove(id);
-        self.fill(profile);
+        self.keep_falls(braking, profile);
     }
 
     /// How many falls are kept.
@@ -336,19 +337,30 @@ impl KeptFalls {
     }
 
     /// What is kept of the falls past the start of the cell `after`, up to and with that of a place in cm.
-    pub fn ahead(&self, after: i32, end: u32) -> FallsAhead<'_>
-        ensures each { (d : TrainAndTrack) → All (IsKeptFall d) self.now.list → All (IsKeptFall d) result }
+    pub fn ahead(&self, after: i32, end: u32) -> Ahead<'_>
+        ensures each { (d : TrainAndTrack) → All (IsKeptFall d) self.now.list → All (IsKeptFall d) result.falls }
         ensures falls { (p : ℤ → ℕ) → AreAtFalls fall_of p first_cell self.now.list →
-            falls_past p after (pos end) ≡ map at_fall result }
+            falls_past p after (pos end) ≡ map at_fall result.falls }
+        ensures order { AreInOrder (map brake_foot (map target_of self.now.list)) →
+            AreInOrder (map brake_foot (map target_of result.falls)) }
+        ensures hidden { (d : TrainAndTrack) →
+            AreHidden d (map target_of self.now.list) self.now.brake_steps self.now.guide_steps →
+            AreHidden d (map target_of result.falls) result.brake_steps.now result.guide_steps.now }
+        ensures brake_room { length result.falls ≤ length result.brake_steps.now }
+        ensures guide_room { length result.falls ≤ length result.guide_steps.now }
     {
         let begun = self
             .list
             .partition_point(|placed| placed.fall.cell <= after);
         let ahead = &self.list[begun..];
         let ended = ahead.partition_point(|placed| i64::from(placed.fall.cell) <= i64::from(end));
-        FallsAhead {
-            list: &ahead[..ended],
-            zones: &self.zones,
+        Ahead {
+            falls: FallsAhead {
+                list: &ahead[..ended],
+                zones: &self.zones,
+            },
+            brake_steps: &self.brake_steps[begun..],
+            guide_steps: &self.guide_steps[begun..],
         }
     }
 }

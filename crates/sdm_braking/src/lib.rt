@@ -5,6 +5,7 @@
 
 mod asked;
 mod braking;
+mod fall_feet;
 mod falls_ahead;
 pub mod kept;
 mod kept_ends;
@@ -14,10 +15,12 @@ mod limits;
 mod releases;
 mod speeds;
 mod train_and_track;
+mod zones;
 
 pub use asked::AskedEstimate;
 pub use braking::Braking;
-pub use falls_ahead::{FallsAhead, KeptFall, KeptZone};
+pub use fall_feet::{BrakeFeet, GuideFeet};
+pub use falls_ahead::{Ahead, FallsAhead, KeptFall, KeptZone};
 pub use kept::Kept;
 pub use kept_ends::KeptEnd;
 pub use kept_falls::KeptFalls;

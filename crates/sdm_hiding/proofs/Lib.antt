@@ -1,3 +1,4 @@
 pub mod FootLaws
 pub mod HiddenLaws
 pub mod WalkLaws
+pub mod RowLaws

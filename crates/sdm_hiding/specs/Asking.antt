@@ -1,5 +1,6 @@
 -- Which curves of a row a reading has asked, and that these are enough (own).
-use Rattle.std.specs.Prelude.{◌≡◌, ◌⊎◌, ℕ, ℤ, ◌+◌, ◌<◌, ◌≤◌, ◌≤ℤ◌, Contains, List, length}
+use Rattle.std.specs.Prelude.{◌≡◌, ◌⊎◌, ℕ, ℤ, ◌+◌, ◌<◌, ◌≤◌, ◌≤ℤ◌, Contains, List, length, map}
+use Rattle.std.specs.Prelude.{slice_index_or}
 use Rattle.sdm_num.specs.Units.{notches}
 use Rattle.sdm_rules.specs.Slopes.{Slopes}
 use Rattle.sdm_rules.specs.Curves.{stepped}
@@ -36,6 +37,10 @@ pub record IsStoodFor (on : Slopes) (feet : List Foot) (v bec : ℕ) (asked : Li
   pub foot : Foot
   pub at : IsAt feet index foot
   pub stands : StandsFor on v bec foot f
+
+-- of what stands in a row that at these indexes, or what stands for none past its end
+abbrev pub at_indexes : {A : Type 0} → List A → A → List ℕ → List A
+at_indexes xs none indexes = map (λ i. slice_index_or xs i none) indexes
 
 -- for each curve whose target is no faster than the train one of those that were asked stands
 abbrev pub IsEnough : Slopes → List Foot → ℕ → ℕ → List ℕ → Type 0

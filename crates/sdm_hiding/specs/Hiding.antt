@@ -28,3 +28,8 @@ pub record IsHiddenAfter (on : Slopes) (feet : List Foot) (i : ℕ) (f : Foot) (
 abbrev pub AreHiddenFrom : Slopes → List Foot → List ℕ → ℕ → Type 0
 AreHiddenFrom on feet steps from =
     (i : ℕ) (f : Foot) → from ≤ i → IsAt feet i f → IsHiddenAfter on feet i f (slice_index steps i)
+
+-- between two indexes no curve is before this one, at any speed
+abbrev pub AreNoEarlier : Slopes → List Foot → Foot → ℕ → ℕ → Type 0
+AreNoEarlier on feet f from to =
+    (k v : ℕ) (g : Foot) → from < k → k < to → IsAt feet k g → stepped on f.place f.speed v ≤ℤ stepped on g.place g.speed v

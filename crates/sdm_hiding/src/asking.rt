@@ -1,6 +1,6 @@
 //! What a reading asks of a row of curves.
 
-ghost use Rattle.std.specs.Prelude.{◌≡◌, ◌<◌, ◌≤◌, ◌++◌, ◌∷◌, [], ℕ, List, MatchOption, length};
+ghost use Rattle.std.specs.Prelude.{◌≡◌, ◌<◌, ◌≤◌, ◌++◌, ◌∷◌, [], ℕ, List, IfSome, MatchOption, length};
 ghost use Rattle.sdm_rules.specs.Slopes.{Slopes, IsUsable};
 ghost use Rattle.sdm_hiding.specs.Hiding.{AreHiddenFrom};
 
@@ -36,11 +36,12 @@ impl Asking {
         requires usable { IsUsable (F.on feet.now) }
         requires hidden { AreHiddenFrom (F.on feet.now) (F.feet feet.now) steps.now 0 }
         requires room { length (F.feet feet.now) ≤ length steps.now }
-        ensures { (margin bec : ℕ) (asked : List ℕ) → AreFeet margin (F.feet feet.now) → v ≤ bec →
+        ensures further { IfSome result (λ i.
+            (self.old.at ≤ i) × (i < length (F.feet feet.now)) × (i < self.new.at)) }
+        ensures asks { (margin bec : ℕ) (asked : List ℕ) → AreFeet margin (F.feet feet.now) → v ≤ bec →
             IsWalkedTo (F.on feet.now) (F.feet feet.now) margin v bec asked self.old →
             MatchOption result (IsEnough (F.on feet.now) (F.feet feet.now) v bec asked) (λ i.
-            (i < length (F.feet feet.now))
-            × IsWalkedTo (F.on feet.now) (F.feet feet.now) margin v bec (asked ++ i ∷ []) self.new) }
+            IsWalkedTo (F.on feet.now) (F.feet feet.now) margin v bec (asked ++ i ∷ []) self.new) }
     {
         let count = feet.len();
         'row: while self.at < count {

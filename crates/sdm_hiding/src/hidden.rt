@@ -2,7 +2,8 @@
 
 ghost use Rattle.std.specs.Prelude.{◌≡◌, ◌+◌, ◌<◌, ◌≤◌, length, slice_index, if◌then◌else◌, nat_lt};
 ghost use Rattle.sdm_rules.specs.Slopes.{IsUsable};
-ghost use Rattle.sdm_hiding.specs.Hiding.{AreHiddenFrom, AreInOrder};
+ghost use Rattle.sdm_hiding.specs.declared.rows.Foot.{Foot};
+ghost use Rattle.sdm_hiding.specs.Hiding.{AreHiddenFrom, AreInOrder, AreNoEarlier, IsAt};
 
 use crate::rows::Feet;
 
@@ -33,4 +34,19 @@ pub fn hide<F: Feet>(feet: &F, steps: &mut [usize])
         }
         steps[i] = k - i;
     }
+}
+
+/// The index up to which no curve of a row is before the one at an index, at any speed: that of what hides it, or the
+/// row's end.
+pub fn none_before_to<F: Feet>(feet: &F, steps: &[usize], i: usize) -> usize
+    requires usable { IsUsable (F.on feet.now) }
+    requires order { AreInOrder (F.feet feet.now) }
+    requires hidden { AreHiddenFrom (F.on feet.now) (F.feet feet.now) steps.now 0 }
+    requires room { length (F.feet feet.now) ≤ length steps.now }
+    requires known { i < length (F.feet feet.now) }
+    ensures further { i < result }
+    ensures inside { result ≤ length (F.feet feet.now) }
+    ensures after { (f : Foot) → IsAt (F.feet feet.now) i f → AreNoEarlier (F.on feet.now) (F.feet feet.now) f i result }
+{
+    hider(steps[i], i, feet.len())
 }

@@ -9,5 +9,5 @@ mod hidden;
 mod rows;
 
 pub use asking::Asking;
-pub use hidden::hide;
+pub use hidden::{hide, none_before_to};
 pub use rows::{Feet, Foot};

@@ -70,7 +70,7 @@ module _ (p : Target → Bool) (all asked : List Target) (of : AreOf all asked) 
 -- ---- limits that are passed
 
 -- what is past a limit is past each earlier one
-past_earlier : (shift : ℕ) (front : ℤ) (x y : Fraction) → 0 < x.m → 0 < y.m → IsAtMost x y →
+pub past_earlier : (shift : ℕ) (front : ℤ) (x y : Fraction) → 0 < x.m → 0 < y.m → IsAtMost x y →
     Implies (is_past shift front y) (is_past shift front x)
 past_earlier shift front x y x_pos y_pos le e =
     let at = front +ℤ pos shift in

@@ -3,3 +3,7 @@ pub mod Feet
 pub mod Asked
 pub mod Faster
 pub mod Limits
+pub mod Fractions
+pub mod Stand
+pub mod Enough
+pub mod Parts

@@ -16,6 +16,7 @@ use Rattle.sdm_rules.specs.declared.targets.TargetKind.TheVariants.{Mrsp}
 use Rattle.sdm_rules.specs.Data.{TrainAndTrack}
 use Rattle.sdm_rules.specs.Limits.{SupervisionLimits, computed, ebd_limits_at, limit_in, limits_of}
 use Rattle.sdm_rules.specs.Limits.{limits_of_kind}
+use Rattle.sdm_rules.specs.Margins.{margin_of, no_margin}
 use Rattle.sdm_rules.specs.Reaction.{BuildUp, build_up_from, d_bec, driver_time, reaction_times, v_bec, warning_time}
 use Rattle.sdm_rules.specs.Targets.{target_speed}
 use Rattle.sdm_order.specs.AskedTargets.{IsNoLater}
@@ -84,7 +85,8 @@ module _ (times : Times) (v bec : ℕ) where
   -- the limits of a kind in order
   in_order : (guided : Bool) (kind : LimitKind) (g1 p1 g2 p2 g p : ℤ) → p1 ≤ℤ p → (guided ≡ true → g2 ≤ℤ g) →
       IsNoLater (limit_in kind (limits_at guided g1 p1)) (limit_in kind (limits_at guided g p))
-      ⊎ IsNoLater (limit_in kind (limits_at guided g2 p2)) (limit_in kind (limits_at guided g p))
+      ⊎ ((margin_of kind ≡ no_margin)
+      × IsNoLater (limit_in kind (limits_at guided g2 p2)) (limit_in kind (limits_at guided g p)))
   in_order guided Ebi g1 p1 g2 p2 g p le guide = inl (whole_at_most _ _ (before_order p1 p bec le))
   in_order guided Sbi g1 p1 g2 p2 g p le guide = inl (whole_at_most _ _ (sbi_order p1 p le))
   in_order guided Warning g1 p1 g2 p2 g p le guide =
@@ -92,11 +94,11 @@ module _ (times : Times) (v bec : ℕ) where
   in_order false Permitted g1 p1 g2 p2 g p le guide = inl (whole_at_most _ _ (driver_order p1 p le))
   in_order false Indication g1 p1 g2 p2 g p le guide = inl (indicated _ _ (driver_order p1 p le))
   in_order true Permitted g1 p1 g2 p2 g p le guide =
-      by_either (λ z. z) whole_at_most g1 (driver_at p1) g2 (driver_at p2) g (driver_at p) (driver_order p1 p le)
-      (guide refl)
+      elim (by_either (λ z. z) whole_at_most g1 (driver_at p1) g2 (driver_at p2) g (driver_at p) (driver_order p1 p le)
+      (guide refl)) [ inl x ↦ inl x | inr y ↦ inr (refl, y) ]
   in_order true Indication g1 p1 g2 p2 g p le guide =
-      by_either (λ z. less z (distance_at v times.indication)) indicated g1 (driver_at p1) g2 (driver_at p2) g
-      (driver_at p) (driver_order p1 p le) (guide refl)
+      elim (by_either (λ z. less z (distance_at v times.indication)) indicated g1 (driver_at p1) g2 (driver_at p2) g
+      (driver_at p) (driver_order p1 p le) (guide refl)) [ inl x ↦ inl x | inr y ↦ inr (refl, y) ]
 
 -- ---- of a fall
 
@@ -105,7 +107,7 @@ same_max : (x w : ℕ) → w ≤ x → max x w ≡ max x 0
 same_max x w le = grind (arith, le)
 
 -- V_bec and D_bec for each target that is no faster than the train are those for one of speed 0
-same_v_bec : (b : BuildUp) (w : ℕ) → w ≤ b.speed → v_bec b w ≡ v_bec b 0
+pub same_v_bec : (b : BuildUp) (w : ℕ) → w ≤ b.speed → v_bec b w ≡ v_bec b 0
 same_v_bec b w le = rw (same_max (b.speed + 54 * b.accel1 * b.traction) w (omega (arith, le))) refl
 
 same_d_bec : (b : BuildUp) (w : ℕ) → w ≤ b.speed → d_bec b w ≡ d_bec b 0
@@ -134,7 +136,8 @@ module _ (d : TrainAndTrack) (e : Estimate) where
       brake_place d e r ≤ℤ brake_place d e t →
       (d.national.guidance ≡ true → guide_place d e q ≤ℤ guide_place d e t) →
       IsNoLater (limit_in kind (limits_of computed d e r)) (limit_in kind (limits_of computed d e t))
-      ⊎ IsNoLater (limit_in kind (limits_of computed d e q)) (limit_in kind (limits_of computed d e t))
+      ⊎ ((margin_of kind ≡ no_margin)
+      × IsNoLater (limit_in kind (limits_of computed d e q)) (limit_in kind (limits_of computed d e t)))
   limits_in_order kind t r q t_is r_is q_is brake guide =
       rw (limits_are t t_is, limits_are r r_is, limits_are q q_is)
       (in_order (reaction_times d) e.speed (d_bec (build_up_from d e) 0) d.national.guidance kind
@@ -145,5 +148,6 @@ pub limit_order : (kind : LimitKind) (d : TrainAndTrack) (e : Estimate) (t r q :
     IsSlowFall e r → IsSlowFall e q → brake_place d e r ≤ℤ brake_place d e t →
     (d.national.guidance ≡ true → guide_place d e q ≤ℤ guide_place d e t) →
     IsNoLater (limit_in kind (limits_of computed d e r)) (limit_in kind (limits_of computed d e t))
-    ⊎ IsNoLater (limit_in kind (limits_of computed d e q)) (limit_in kind (limits_of computed d e t))
+    ⊎ ((margin_of kind ≡ no_margin)
+    × IsNoLater (limit_in kind (limits_of computed d e q)) (limit_in kind (limits_of computed d e t)))
 limit_order kind d e = limits_in_order d e kind

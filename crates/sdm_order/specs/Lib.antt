@@ -1,3 +1,4 @@
 pub mod CurvesInOrder
 pub mod AskedTargets
 pub mod LimitsInOrder
+pub mod EnoughTargets

@@ -9,6 +9,7 @@ use Rattle.sdm_rules.specs.Curves.{stepped}
 use Rattle.sdm_rules.specs.Data.{TrainAndTrack}
 use Rattle.sdm_rules.specs.Decelerations.{slopes_of}
 use Rattle.sdm_rules.specs.Limits.{computed, limit_in, limits_of}
+use Rattle.sdm_rules.specs.Margins.{margin_of, no_margin}
 use Rattle.sdm_rules.specs.Reaction.{build_up_from, v_bec}
 use Rattle.sdm_rules.specs.Targets.{foot_speed_of, target_speed}
 use Rattle.sdm_order.specs.AskedTargets.{IsNoLater}
@@ -28,12 +29,13 @@ abbrev pub guide_place : TrainAndTrack → Estimate → Target → ℤ
 guide_place d e t = stepped (slopes_of Normal d) t.place (target_speed t) e.speed
 
 -- Of falls that are no faster than the train: where the EBD of one is no later than that of a fall, and with guidance
--- the guidance curve of a second one no later than the fall's, each limit of the fall has one of the same kind, of the
--- first or of the second, that is no later.
+-- the guidance curve of a second one no later than the fall's, each limit of the fall has one of the same kind that is
+-- no later: of the first, or, of a kind with no margin, of the second.
 abbrev pub LawOfLimitOrder : Type 0
 LawOfLimitOrder =
     (kind : LimitKind) (d : TrainAndTrack) (e : Estimate) (t r q : Target) → IsSlowFall e t → IsSlowFall e r →
     IsSlowFall e q → brake_place d e r ≤ℤ brake_place d e t →
     (d.national.guidance ≡ true → guide_place d e q ≤ℤ guide_place d e t) →
     IsNoLater (limit_in kind (limits_of computed d e r)) (limit_in kind (limits_of computed d e t))
-    ⊎ IsNoLater (limit_in kind (limits_of computed d e q)) (limit_in kind (limits_of computed d e t))
+    ⊎ ((margin_of kind ≡ no_margin)
+    × IsNoLater (limit_in kind (limits_of computed d e q)) (limit_in kind (limits_of computed d e t)))

@@ -2,6 +2,7 @@
 
 ghost use Rattle.sdm_order.specs.AskedTargets.{LawOfCoveredTargets, LawOfFasterTargets, LawOfPassedTargets};
 ghost use Rattle.sdm_order.specs.AskedTargets.{LawOfShownTargets};
+ghost use Rattle.sdm_order.specs.EnoughTargets.{LawOfEnoughTargets};
 ghost use Rattle.sdm_order.specs.LimitsInOrder.{LawOfLimitOrder};
 
 /// The targets that are asked trigger what all of them trigger.
@@ -32,4 +33,10 @@ pub fn law_of_faster_targets()
 #[tactic(auto, using(crate::proofs::Limits::limit_order))]
 pub fn law_of_limit_order()
     ensures { LawOfLimitOrder }
+{}
+
+/// Targets that are enough say what all of them say.
+#[tactic(auto, using(crate::proofs::Enough::enough))]
+pub fn law_of_enough_targets()
+    ensures { LawOfEnoughTargets }
 {}

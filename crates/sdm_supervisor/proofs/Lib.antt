@@ -6,6 +6,10 @@ mod FirstLaws
 mod FallsAsked
 mod NearestLaws
 mod FindLaws
+mod FewLaws
+mod EnoughLaws
+mod FewWalks
+mod FewParts
 mod CycleLaws
 mod CurveLaws
 pub mod FlatFacts

@@ -9,7 +9,7 @@ use Rattle.std.specs.List.{list_all, list_any}
 use Rattle.std.specs.Option.{option_map_or}
 use Rattle.std.proofs.lemmas.Bool.{le-ltb}
 use Rattle.std.proofs.lemmas.List.Folds.{list_all-append, list_any-append}
-use Rattle.std.proofs.Math.Bool.{and-false, and-true, or-false, or-true}
+use Rattle.std.proofs.Math.Bool.{and-false, and-true, or-false}
 use Rattle.sdm_num.specs.Bounds.{Bound}
 use Rattle.sdm_num.specs.Fractions.{Fraction}
 use Rattle.sdm_num.specs.Units.{notches}
@@ -114,13 +114,7 @@ module _ (d : TrainAndTrack) (max : ℤ) (e : Estimate) (t : Target) where
       true ≡ is_covered_for d max e t
   covered_without is none = ap by_ebi (sym (ap place_where none) ∙ is)
 
--- a target that is met by speed is covered
-pub covered_where_met : (max : ℤ) (met : Bool) (ebi : Option Fraction) → met ≡ true →
-    option_map_or (λ e. not (is_past 0 max e) || met) ebi true ≡ true
-covered_where_met max met None is = refl
-covered_where_met max met (Some e) is = rw is (or-true (not (is_past 0 max e)))
-
--- another one is covered where the front end is at or before its EBI, if it has one
+-- a target that isn't met by speed is covered where the front end is at or before its EBI, if it has one
 pub covered_unmet : (max : ℤ) (met : Bool) (ebi : Option Fraction) → false ≡ met →
     option_map_or (λ e. not (is_past 0 max e)) ebi true ≡ option_map_or (λ e. not (is_past 0 max e) || met) ebi true
 covered_unmet max met None is = refl

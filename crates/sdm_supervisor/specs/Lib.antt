@@ -1,4 +1,5 @@
 pub mod Sights
+pub mod AskedFalls
 pub mod Verdicts
 pub mod Passed
 pub mod Supervised

@@ -1,5 +1,5 @@
 -- What a supervisor sees at a reading before it judges (own).
-use Rattle.std.specs.Prelude.{◌≡◌, ℕ, Bool, ◌≤◌, All, IfSome, List, Option, filter, option_map, nat_lt}
+use Rattle.std.specs.Prelude.{◌≡◌, ℕ, Bool, ◌≤◌, All, IfSome, List, Option, filter, length, map, option_map, nat_lt}
 use Rattle.sdm_num.specs.Fractions.{Fraction, whole}
 use Rattle.sdm_num.specs.Readings.{Estimate, OdometerReading}
 use Rattle.sdm_rules.specs.declared.limits.LimitKind.{LimitKind}
@@ -11,7 +11,9 @@ use Rattle.sdm_rules.specs.Ranges.{top_kmh}
 use Rattle.sdm_rules.specs.Supervision.{Supervision, situation_of}
 use Rattle.sdm_rules.specs.Targets.{target_speed}
 use Rattle.sdm_rules.specs.Triggers.{Situation, some_passed}
+use Rattle.sdm_hiding.specs.Hiding.{AreInOrder}
 use Rattle.sdm_braking.specs.declared.kept_ends.KeptEnd.{KeptEnd}
+use Rattle.sdm_braking.specs.FallFeet.{AreHidden, brake_foot}
 use Rattle.sdm_braking.specs.KeptCurves.{AreKept}
 use Rattle.sdm_braking.specs.KeptFalls.{IsKeptFall, KeptFallData}
 use Rattle.sdm_supervisor.specs.declared.shown.Counting.{Counting}
@@ -41,6 +43,13 @@ abbrev pub some_target_passed : LimitKind → Seen → Estimate → List Target 
 some_target_passed kind seen e ts =
     some_passed kind (limits_of computed seen.train_and_track e) 0
     (record seen.situation { speed = e.speed; targets = ts })
+
+-- the falls ahead stand in order, and of each it is known how far on its curves are hidden (own)
+pub record AreFallsHidden (d : TrainAndTrack) (falls : List Target) (brake_steps guide_steps : List ℕ) : Type 0 where
+  pub order : AreInOrder (map brake_foot falls)
+  pub hidden : AreHidden d falls brake_steps guide_steps
+  pub brake_room : length falls ≤ length brake_steps
+  pub guide_room : length falls ≤ length guide_steps
 
 -- ---- the target that counts
 

@@ -129,7 +129,7 @@ impl Sight<'_> {
         }
         let asked = self.braking.asked(self.reading.estimate().with_speed(v));
         let mut passed = false;
-        self.walk(&Passing { kind }, &asked, &mut passed);
+        self.walk_few(&Passing { kind }, &asked, &mut passed);
         passed
     }
 

@@ -26,6 +26,10 @@ pub struct Sight<'a> {
     /// The service brake is in use.
     pub(crate) in_use: bool,
     pub(crate) falls: FallsAhead<'a>,
+    /// For each fall how many falls further on the first one stands whose EBD hides this one's.
+    pub(crate) brake_steps: &'a [usize],
+    /// The same of guidance curves, where guidance is permitted.
+    pub(crate) guide_steps: &'a [usize],
     pub(crate) end: &'a KeptEnd,
 }
 
@@ -33,7 +37,7 @@ impl<'a> Model for Sight<'a> {
     ghost use Rattle.std.specs.Prelude.{◌++◌, is_some, map};
     ghost use Rattle.sdm_braking.specs.KeptCurves.{targets_in};
     ghost use Rattle.sdm_braking.specs.KeptFalls.{target_of};
-    ghost use Rattle.sdm_supervisor.specs.Sights.{IsSight, Seen};
+    ghost use Rattle.sdm_supervisor.specs.Sights.{AreFallsHidden, IsSight, Seen};
 
     ghost Value = { Seen };
 
@@ -52,7 +56,8 @@ impl<'a> Model for Sight<'a> {
       };
     } };
 
-    ghost invariant = { λ s. IsSight s.braking.now s.ceiling_kmh s.release_kmh s.falls s.end.now };
+    ghost invariant = { λ s. IsSight s.braking.now s.ceiling_kmh s.release_kmh s.falls s.end.now
+        × AreFallsHidden s.braking.now (map target_of s.falls) s.brake_steps.now s.guide_steps.now };
 }
 
 impl Sight<'_> {

@@ -260,7 +260,7 @@ impl Supervisor {
         ensures unchanged { OnErr result (self.new ≡ self.old) }
     {
         self.profile.revoke(id)?;
-        self.kept.revoke(&self.profile, id);
+        self.kept.revoke(&self.braking, &self.profile, id);
         Ok(())
     }
 
@@ -300,6 +300,7 @@ impl Supervisor {
             Authority::Stop { eoa, .. } => eoa,
             Authority::Limit { loa, .. } => loa,
         };
+        let ahead = self.kept.falls.ahead(cell, end);
         Sight {
             braking: &self.braking,
             reading,
@@ -315,7 +316,9 @@ impl Supervisor {
                 _ => None,
             },
             in_use: self.braking.is_service_in_use(),
-            falls: self.kept.falls.ahead(cell, end),
+            falls: ahead.falls,
+            brake_steps: ahead.brake_steps,
+            guide_steps: ahead.guide_steps,
             end: &self.kept.end,
         }
     }

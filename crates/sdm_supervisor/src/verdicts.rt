@@ -126,7 +126,7 @@ impl Verdict {
     {
         let asked = sight.braking.asked(sight.reading.estimate());
         let mut said = NOTHING_SAID;
-        sight.walk(&Judging, &asked, &mut said);
+        sight.walk_few(&Judging, &asked, &mut said);
         let v_est = sight.reading.speed_mm_s();
         // V_est > V_MRSP + dV, where no margin dV makes the ceiling lower (SUBSET-026-3 3.13.10.3)
         let v_mrsp = Speed::of_kmh(sight.ceiling_kmh);

@@ -2,4 +2,4 @@
 use Rattle.sdm_braking.proofs.kept.Kept.revoke.Goals as goal
 
 pub returns : goal.returns
-returns c d p a h = record { falls = c.revoke.ensures d h.falls.curves; end = h.end; release = h.release }
+returns c p a h = record { falls = c.revoke.ensures; end = h.end; release = h.release }

@@ -3,10 +3,13 @@ use Rattle.std.proofs.Common.{◌≤ℤ◌, pos, drop, take, sym, ◌∙◌, ari
 use Rattle.std.proofs.lemmas.Int.{ints}
 use Rattle.std.proofs.lemmas.List.{take_rest}
 use Rattle.std.proofs.lemmas.List.Elements.{All-drop, All-take}
+use Rattle.sdm_rules.specs.declared.data.SlopeKind.TheVariants.{Normal, Safe}
+use Rattle.sdm_rules.specs.Decelerations.{slopes_of}
 use Rattle.sdm_speed.specs.Falls.{AreAtFalls}
 use Rattle.sdm_speed.proofs.FallLists.{rest_at}
 use Rattle.sdm_targets.proofs.FallLists.{falls_up_to}
 use Rattle.sdm_braking.specs.KeptFalls.{IsKeptFall, first_cell, placed}
+use Rattle.sdm_braking.proofs.FootLaws.{part_hidden, part_of_row, part_order}
 use Rattle.sdm_braking.proofs.PlaceLaws.{falls_placed, kept_part, parted_at, targets_at}
 use Rattle.sdm_braking.proofs.kept_falls.KeptFalls.ahead.Goals as goal
 
@@ -33,3 +36,28 @@ returns-clause-each c d each =
     let j = c.partition_point-ended.result in
     rw (c.deref-3.ensures.value, c.deref-2.ensures.value, take_rest, kept_part)
     (All-take (IsKeptFall d) j _ (All-drop (IsKeptFall d) i _ (rw (← c.self.view_is) at each)))
+
+pub returns-clause-order : goal.returns-clause-order
+returns-clause-order c h =
+    rw (c.deref-3.ensures.value, c.deref-2.ensures.value, take_rest, kept_part, part_of_row)
+    (part_order _ c.partition_point-begun.result c.partition_point-ended.result (rw (← c.self.view_is) at h))
+
+pub returns-clause-hidden : goal.returns-clause-hidden
+returns-clause-hidden c d h =
+    let i = c.partition_point-begun.result in
+    let j = c.partition_point-ended.result in
+    let whole = rw (← c.self.view_is) at h in
+    rw (
+      c.deref-5.ensures.value,
+      c.deref-4.ensures.value,
+      c.deref-3.ensures.value,
+      c.deref-2.ensures.value,
+      take_rest,
+      take_rest,
+      take_rest,
+      kept_part,
+    ) (record {
+      brakes = rw part_of_row (part_hidden _ i j (slopes_of Safe d) c.self.inside.brake_steps.items whole.brakes);
+      guides = λ on. rw part_of_row
+          (part_hidden _ i j (slopes_of Normal d) c.self.inside.guide_steps.items (whole.guides on));
+    })

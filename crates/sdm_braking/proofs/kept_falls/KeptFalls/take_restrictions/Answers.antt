@@ -2,11 +2,11 @@
 use Rattle.std.proofs.Common.{Some, get_or, arith}
 use Rattle.sdm_speed.proofs.HeldLaws.{none}
 use Rattle.sdm_braking.specs.KeptFalls.{fall_by}
-use Rattle.sdm_braking.proofs.ZoneLaws.{all_restricted, next_restricted, one_curve, restricted_zones, room_for_one, same_zones}
+use Rattle.sdm_braking.proofs.ZoneLaws.{all_restricted, next_restricted, one_curve, restricted_zones, room_for_one}
 use Rattle.sdm_braking.proofs.kept_falls.KeptFalls.take_restrictions.Goals as goal
 
 pub loop-i-init : goal.loop-i-init
-loop-i-init c = record { zones = c.requires; curves = λ h. h }
+loop-i-init c = record { zones = c.requires.before; curves = c.requires.curves }
 
 pub keep_zone-requires-clause-room : goal.keep_zone-requires-clause-room
 keep_zone-requires-clause-room c =
@@ -30,23 +30,12 @@ loop-i-preserved c =
     c.loop-i-test.true inv.zones in
     record {
       zones = restricted_zones d _ r old new next one c.keep_zone.ensures.room;
-      curves = λ h. one_curve d (Some r.id) (fall_by r) old.zones new.zones (inv.curves h) one;
+      curves = one_curve d (Some r.id) (fall_by r) old.zones new.zones inv.curves one;
     }
 
-pub fill-requires : goal.fill-requires
-fill-requires c = all_restricted c.args.profile.now c.held-held.result.now c.loop-i.i c.loop-i.self
+pub keep_falls-requires-clause-zones : goal.keep_falls-requires-clause-zones
+keep_falls-requires-clause-zones c = all_restricted c.args.profile.now c.held-held.result.now c.loop-i.i c.loop-i.self
     c.held-held.ensures.all (omega (arith, c.loop-i-test.false)) c.loop-i.invariant.zones
 
-pub returns : goal.returns
-returns c curves =
-    let p = c.args.profile.now in
-    let filled = c.fill.ensures in
-    let more = c.loop-i.invariant.curves curves in
-    let zones = all_restricted p c.held-held.result.now c.loop-i.i c.loop-i.self c.held-held.ensures.all
-    (omega (arith, c.loop-i-test.false)) c.loop-i.invariant.zones in
-    record {
-      falls = filled.falls;
-      each = filled.each c.args.braking.now more;
-      zones = same_zones p c.loop-i.self c.fill.new.self zones filled.zones filled.room;
-      curves = rw filled.zones more;
-    }
+pub keep_falls-requires-clause-curves : goal.keep_falls-requires-clause-curves
+keep_falls-requires-clause-curves c = c.loop-i.invariant.curves

@@ -7,5 +7,5 @@ use Rattle.sdm_braking.proofs.kept_falls.KeptFalls.take_restrictions.Given as go
 abbrev pub invariant-loop-i : goal.invariant-loop-i
 invariant-loop-i l = record {
   zones : AreZonesOf (record l.profile { restrictions = by_identity (take l.i l.held) }) l.self;
-  curves : All (IsKeptZone l.braking) l.fn.self.zones → All (IsKeptZone l.braking) l.self.zones;
+  curves : All (IsKeptZone l.braking) l.self.zones;
 }

@@ -16,6 +16,9 @@ restrict-requires-clause-before c =
       is = said.added;
     }
 
+pub restrict-requires-clause-curves : goal.restrict-requires-clause-curves
+restrict-requires-clause-curves c = c.self.invariant.kept.falls.curves
+
 pub invariant_of-self-2 : goal.invariant_of-self-2
 invariant_of-self-2 c = record {
   profile = search rules;

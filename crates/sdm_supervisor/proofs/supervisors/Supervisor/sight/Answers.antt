@@ -2,6 +2,7 @@
 use Rattle.std.proofs.Common.{◌≡◌, min, map, ◌++◌, ◌∙◌, ap, refl, sym, subst, is_some, Option, true, false, to_z, of_z}
 use Rattle.std.proofs.Common.{w32, rules}
 use Rattle.std.proofs.lemmas.Int.{ints, to_z-of_z}
+use Rattle.std.proofs.lemmas.List.{length-map}
 use Rattle.std.specs.Int.{int_gap}
 use Rattle.sdm_rules.specs.Cells.{cell_of, lowest}
 use Rattle.sdm_rules.specs.Supervision.{Supervision, release_of, is_past_end}
@@ -13,6 +14,7 @@ use Rattle.sdm_braking.specs.KeptFalls.{target_of}
 use Rattle.sdm_supervisor.specs.Sights.{Seen, seen_at}
 use Rattle.sdm_laws.proofs.Rows.Passing.{passing}
 use Rattle.sdm_supervisor.proofs.CycleLaws.{is_open}
+use Rattle.sdm_braking.proofs.FootLaws.{falls_in_order}
 use Rattle.sdm_braking.proofs.ReleaseLaws.{release_speed_at, release_speed_at_is, release_speed_in_range}
 use Rattle.sdm_supervisor.proofs.FindLaws.{seen_is}
 use Rattle.sdm_supervisor.proofs.WithinLaws.{released_at}
@@ -84,15 +86,15 @@ module _ (c : goal.After-deref-2) where
       (rw c.deref.ensures c.self.invariant.kept.end)
 
   -- the falls ahead and the end make the targets of the definitions
-  targets : map target_of c.ahead.result ++ targets_in c.deref-2.result.now (is_some c.match-self-2.result)
+  targets : map target_of c.ahead-ahead.result.falls ++ targets_in c.deref-2.result.now (is_some c.match-self-2.result)
       ≡ targets_of (mrsp_of c.self.inside.profile) c.self.inside.authority c.args.reading.now.max
       (is_some (release_of c.self.inside.braking c.self.inside.authority c.args.reading.now.max))
   targets =
       targets_are c.self.inside.braking (mrsp_of c.self.inside.profile) c.self.inside.authority
-      c.ahead.result c.deref-2.result.now _ c.max_mm-front.result c.match-self.end
+      c.ahead-ahead.result.falls c.deref-2.result.now _ c.max_mm-front.result c.match-self.end
       (is_some c.match-self-2.result) after end_is
-      (c.ahead.ensures.each c.self.inside.braking c.self.invariant.kept.falls.each)
-      (c.ahead.ensures.falls (mrsp_of c.self.inside.profile) c.self.invariant.kept.falls.falls) end_seen
+      (c.ahead-ahead.ensures.each c.self.inside.braking c.self.invariant.kept.falls.each)
+      (c.ahead-ahead.ensures.falls (mrsp_of c.self.inside.profile) c.self.invariant.kept.falls.falls) end_seen
       ∙ (λ k. targets_of (mrsp_of c.self.inside.profile) c.self.inside.authority (c.max_mm-front.ensures k)
       (is_some (in_release_monitoring k)))
 
@@ -106,7 +108,7 @@ module _ (c : goal.After-deref-2) where
       ceiling_kmh = c.lowest.result;
       est = c.args.reading.now.est;
       front = c.args.reading.now.max;
-      targets = map target_of c.ahead.result ++ targets_in c.deref-2.result.now (is_some c.match-self-2.result);
+      targets = map target_of c.ahead-ahead.result.falls ++ targets_in c.deref-2.result.now (is_some c.match-self-2.result);
       past_end = c.match-deref.result;
       release = c.match-self-2.result;
       in_use = c.is_service_in_use.result;
@@ -117,15 +119,26 @@ pub lowest-requires : goal.lowest-requires
 lowest-requires c = search (rules, ints)
 
 pub invariant_of-result : goal.invariant_of-result
-invariant_of-result c = record {
-  ceiling = search rules;
-  release = rw (released c)
-      (release_speed_in_range c.self.inside.braking c.self.inside.authority c.self.inside.kept.release
-      c.max_mm-front.result c.self.invariant.kept.release);
-  falls = c.ahead.ensures.each c.self.inside.braking c.self.invariant.kept.falls.each;
-  end = rw c.deref-2.ensures
-      (ends_kept c.self.inside.braking c.self.inside.authority c.self.inside.kept.end.value c.self.invariant.kept.end);
-}
+invariant_of-result c =
+    let d = c.self.inside.braking in
+    let kept = c.self.invariant.kept.falls in (
+      record {
+        ceiling = search rules;
+        release = rw (released c)
+            (release_speed_in_range d c.self.inside.authority c.self.inside.kept.release c.max_mm-front.result
+            c.self.invariant.kept.release);
+        falls = c.ahead-ahead.ensures.each d kept.each;
+        end = rw c.deref-2.ensures
+            (ends_kept d c.self.inside.authority c.self.inside.kept.end.value c.self.invariant.kept.end);
+      },
+      record {
+        order = c.ahead-ahead.ensures.order (falls_in_order d (mrsp_of c.self.inside.profile) c.self.inside.kept.falls.list
+            kept.falls kept.each);
+        hidden = c.ahead-ahead.ensures.hidden d kept.hidden;
+        brake_room = rw (length-map c.ahead-ahead.result.falls target_of) c.ahead-ahead.ensures.brake_room;
+        guide_room = rw (length-map c.ahead-ahead.result.falls target_of) c.ahead-ahead.ensures.guide_room;
+      },
+    )
 
 pub returns-clause-seen : goal.returns-clause-seen
 returns-clause-seen c =

@@ -12,7 +12,8 @@ use Rattle.sdm_rules.specs.Targets.{foot_speed_of}
 use Rattle.sdm_rules.specs.Triggers.{is_past}
 use Rattle.sdm_limits.specs.Sides.{place_of, place_where}
 use Rattle.sdm_limits.proofs.Passed.{past_of}
-use Rattle.sdm_supervisor.proofs.PassedLaws.{covered_at, covered_unmet, covered_where_met, covered_without}
+use Rattle.sdm_order.proofs.Enough.{covered_where_met}
+use Rattle.sdm_supervisor.proofs.PassedLaws.{covered_at, covered_unmet, covered_without}
 use Rattle.sdm_supervisor.proofs.PassedLaws.{not_there, nothing_said, passes_there, reached_said, slower_said}
 use Rattle.sdm_supervisor.proofs.VerdictLaws.{above}
 use Rattle.sdm_supervisor.proofs.verdicts.Verdict.add.Goals as goal

@@ -8,6 +8,7 @@ use Rattle.sdm_rules.specs.Triggers.{Situation, above_ceiling}
 use Rattle.sdm_braking.specs.KeptCurves.{targets_in}
 use Rattle.sdm_braking.specs.KeptFalls.{target_of}
 use Rattle.sdm_supervisor.specs.Verdicts.{IsSaid}
+use Rattle.sdm_supervisor.proofs.EnoughLaws.{said_of_all}
 use Rattle.sdm_supervisor.proofs.VerdictLaws.{above, no_ceiling, triggers_are, with_ceiling, with_release}
 use Rattle.sdm_supervisor.proofs.verdicts.Verdict.of.Goals as goal
 use Rattle.sdm_supervisor.proofs.verdicts.Verdict.of.Goals.{then-lt, else-lt, in-Some, in_default}
@@ -28,9 +29,9 @@ returns c =
       release = release;
       in_use = c.sight.inside.in_use;
     } in
-    let first = c.walk.new.found in
+    let first = c.walk_few.new.found in
     let said : IsSaid d c.asked-asked.result.estimate r.est r.max targets first =
-    rw (sym c.sight.view_is) at c.walk.ensures in
+    rw (sym c.sight.view_is) at (said_of_all _ _ c.walk_few.new.found c.walk_few.ensures) in
     let v = c.speed_mm_s-v_est.ensures in
     let is_above : c.lt.result ≡ above_ceiling Permitted s =
     above c.lt.ensures (c.of_kmh-v_mrsp.ensures ∙ omega arith) v in
