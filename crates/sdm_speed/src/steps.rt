@@ -12,6 +12,7 @@ ghost use Rattle.sdm_speed.specs.Steps.{AreAfter, AreCovered, AreRising, AreRisi
 ghost use Rattle.sdm_speed.specs.Steps.{IsFallStepAfter, IsSplit, IsStart, KeepsStarts, capped_before, capped_step, speed_to};
 ghost use Rattle.sdm_speed.specs.Steps.{speeds_of};
 
+use crate::searches::parted;
 use crate::zones::Zone;
 use sdm_num::NoMemory;
 use sdm_rules::Fall;
@@ -173,8 +174,7 @@ impl Steps {
     fn started_before(&self, cell: i64) -> usize
         ensures { ArePartedAt cell self.now.list.items result }
     {
-        self.list
-            .partition_point(|step| i64::from(step.start) < cell)
+        parted(&self.list, |step| i64::from(step.start) < cell)
     }
 
     /// The speed up to where the step at this index starts.
