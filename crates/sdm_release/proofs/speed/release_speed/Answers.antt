@@ -1,25 +1,53 @@
-use Rattle.std.proofs.Common.{arith}
+-- A turn asks for a speed between both.
+use Rattle.std.proofs.Common.{◌≡◌, ℕ, suc, ◌+◌, ◌-◌, ◌*◌, ◌^◌, ◌%◌, ◌<◌, true, sym, ap, ◌∙◌, arith}
+use Rattle.std.proofs.Math.Nat.{mod-eq_of_lt, pow-succ'}
+use Rattle.std.proofs.Math.Pow.{pow-lt}
 use Rattle.sdm_rules.specs.Slopes.{meaning_of}
 use Rattle.sdm_laws.proofs.Rows.CalculatedRelease.{standstill_fits}
 use Rattle.sdm_release.proofs.Halving.{halved}
 use Rattle.sdm_release.proofs.speed.release_speed.Goals as goal
 
-pub loop-fast-init : goal.loop-fast-init
-loop-fast-init c =
+-- a power of 2 that a turn takes, in 16 bits
+power_in : (k : ℕ) → k < 16 → 1 * 2 ^ k % 65536 ≡ 2 ^ k
+power_in k small =
+    let fits : 2 ^ k < 65536 = pow-lt small in
+    let once : 1 * 2 ^ k ≡ 2 ^ k = omega arith in
+    rw once (mod-eq_of_lt fits)
+
+-- it is half of the one before it
+halves : (k : ℕ) → 0 < k → 2 ^ k ≡ 2 ^ (k - 1) + 2 ^ (k - 1)
+halves k some =
+    let next : k ≡ suc (k - 1) = omega (arith, some) in
+    let twice : 2 * 2 ^ (k - 1) ≡ 2 ^ (k - 1) + 2 ^ (k - 1) = omega arith in
+    ap (λ (j : ℕ). 2 ^ j) next ∙ pow-succ' 2 (k - 1) ∙ twice
+
+pub loop-turn-init : goal.loop-turn-init
+loop-turn-init c =
     let a = c.args in
     record {
-      apart = omega arith;
-      top = omega arith;
+      range = omega arith;
       slow = standstill_fits (meaning_of a.safe.now) a.t_be a.ebd.now.place a.trip c.requires.trip;
       fast = λ le. absurd (omega arith);
-      usable = λ le. absurd (omega arith);
     }
+
+pub loop-turn-preserved-then-fits : goal.loop-turn-preserved-then-fits
+loop-turn-preserved-then-fits c =
+    let k = c.loop-turn.turn - 1 in
+    let speed = c.loop-turn.speed in
+    let power = power_in k (omega arith) in
+    let half = halves c.loop-turn.turn c.loop-turn-test.true in
+    let both : speed + 2 ^ k + 2 ^ k ≡ speed + 2 ^ c.loop-turn.turn = omega (arith, half) in
+    rw power (record {
+      range = omega (arith, power, c.if-faster.true);
+      slow = rw power at (sym c.fits.ensures.value ∙ c.if-fits.true);
+      fast = λ le. rw both (c.loop-turn.invariant.fast (omega (arith, half, le)));
+    })
 
 pub returns-clause-value : goal.returns-clause-value
 returns-clause-value c =
     let a = c.args in
-    let end = c.loop-fast in
+    let end = c.loop-turn in
     let kept = end.invariant in
-    let next = c.loop-fast-test in
-    halved (meaning_of a.safe.now) (kept.usable (omega arith)) a.t_be a.ebd.now.place a.trip end.slow end.fast
-    (omega arith) (omega arith) kept.slow kept.fast
+    let none : end.turn ≡ 0 = omega (arith, c.loop-turn-test.false) in
+    halved (meaning_of a.safe.now) c.bands.ensures.usable a.t_be a.ebd.now.place a.trip end.speed (end.speed + 1)
+    (omega arith) kept.range kept.slow (rw none at kept.fast)
