@@ -1,25 +1,9 @@
 -- A turn asks for a speed between both.
-use Rattle.std.proofs.Common.{◌≡◌, ℕ, suc, ◌+◌, ◌-◌, ◌*◌, ◌^◌, ◌%◌, ◌<◌, true, sym, ap, ◌∙◌, arith}
-use Rattle.std.proofs.Math.Nat.{mod-eq_of_lt, pow-succ'}
-use Rattle.std.proofs.Math.Pow.{pow-lt}
+use Rattle.std.proofs.Common.{◌≡◌, ◌+◌, ◌-◌, ◌^◌, sym, ◌∙◌, arith}
 use Rattle.sdm_rules.specs.Slopes.{meaning_of}
 use Rattle.sdm_laws.proofs.Rows.CalculatedRelease.{standstill_fits}
-use Rattle.sdm_release.proofs.Halving.{halved}
+use Rattle.sdm_release.proofs.Halving.{halved, halves, power_in}
 use Rattle.sdm_release.proofs.speed.release_speed.Goals as goal
-
--- a power of 2 that a turn takes, in 16 bits
-power_in : (k : ℕ) → k < 16 → 1 * 2 ^ k % 65536 ≡ 2 ^ k
-power_in k small =
-    let fits : 2 ^ k < 65536 = pow-lt small in
-    let once : 1 * 2 ^ k ≡ 2 ^ k = omega arith in
-    rw once (mod-eq_of_lt fits)
-
--- it is half of the one before it
-halves : (k : ℕ) → 0 < k → 2 ^ k ≡ 2 ^ (k - 1) + 2 ^ (k - 1)
-halves k some =
-    let next : k ≡ suc (k - 1) = omega (arith, some) in
-    let twice : 2 * 2 ^ (k - 1) ≡ 2 ^ (k - 1) + 2 ^ (k - 1) = omega arith in
-    ap (λ (j : ℕ). 2 ^ j) next ∙ pow-succ' 2 (k - 1) ∙ twice
 
 pub loop-turn-init : goal.loop-turn-init
 loop-turn-init c =
