@@ -98,15 +98,14 @@ fn halve<P: Passed>(places: &P, limit: LimitName, between: Between) -> u16
     ensures value { result ≡ greatest_up_to top_kmh (λ kmh. not (P.passed places.now limit kmh)) }
     ensures range { result ≤ top_kmh }
 {
-    let Between { within, past } = between;
-    let mut speed = within;
+    let Between { within, mut past } = between;
     for turn in (0..digits(past - within)).rev() {
-        let faster = speed + (1 << turn);
-        if faster < past && !places.passed(limit, faster) {
-            speed = faster;
+        let less = 1 << turn;
+        if less < past - within && places.passed(limit, past - less) {
+            past -= less;
         }
     }
-    speed
+    past - 1
 }
 
 /// A limit as a speed in km/h: the greatest whole speed from 0 to 500 at which it isn't passed. A train at standstill

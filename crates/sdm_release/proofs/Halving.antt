@@ -1,11 +1,10 @@
 -- Of two speeds the greater one fits only where the less does, since its place lies no later and it runs on further
 -- until the brake works. So the greatest that fits is where halving ends.
-use Rattle.std.proofs.Common.{◌≡◌, ℕ, ℤ, pos, neg_ℤ, suc, true, false, not, ◌+◌, ◌-◌, ◌*◌, ◌^◌, ◌%◌, ◌<◌, ◌≤◌, ◌+ℤ◌, ◌*ℤ◌}
-use Rattle.std.proofs.Common.{int_lt, refl, arith, sym, ap, ◌∙◌}
+use Rattle.std.proofs.Common.{◌≡◌, ℕ, ℤ, pos, neg_ℤ, suc, true, false, not, ◌*◌, ◌≤◌, ◌+ℤ◌, ◌*ℤ◌}
+use Rattle.std.proofs.Common.{int_lt, refl, arith, sym, ◌∙◌}
 use Rattle.std.proofs.lemmas.Int.{ints}
 use Rattle.std.proofs.lemmas.Bool.{true≢false, not-true}
-use Rattle.std.proofs.Math.Nat.{mod-eq_of_lt, mul-le-mul_left, pow-succ'}
-use Rattle.std.proofs.Math.Pow.{pow-lt}
+use Rattle.std.proofs.Math.Nat.{mul-le-mul_left}
 use Rattle.sdm_num.specs.Units.{notches, distance_at, top_kmh}
 use Rattle.sdm_num.proofs.Comparisons.{not_lt_of, lt_of}
 use Rattle.sdm_rules.specs.Curves.{stepped}
@@ -47,17 +46,3 @@ fits_by_place on time svl trip kmh at is =
     let place : stepped on svl 0 (notches kmh) +ℤ neg_ℤ (pos (distance_at (notches kmh) time * 1)) ≡ at =
     omega (arith, ints) in
     rw (here, place) refl
-
--- a power of 2 that a turn takes, in 16 bits
-pub power_in : (k : ℕ) → k < 16 → 1 * 2 ^ k % 65536 ≡ 2 ^ k
-power_in k small =
-    let low : 2 ^ k < 65536 = pow-lt small in
-    let once : 1 * 2 ^ k ≡ 2 ^ k = omega arith in
-    rw once (mod-eq_of_lt low)
-
--- it is half of the one before it
-pub halves : (k : ℕ) → 0 < k → 2 ^ k ≡ 2 ^ (k - 1) + 2 ^ (k - 1)
-halves k some =
-    let next : k ≡ suc (k - 1) = omega (arith, some) in
-    let twice : 2 * 2 ^ (k - 1) ≡ 2 ^ (k - 1) + 2 ^ (k - 1) = omega arith in
-    ap (λ (j : ℕ). 2 ^ j) next ∙ pow-succ' 2 (k - 1) ∙ twice

@@ -44,12 +44,12 @@ pub fn release_speed(safe: &BandMap, ebd: &Curve, t_be: u32, trip: Place) -> u16
 {
     // with the number of its bands it is told that curves stand on the map
     prove!(1 <= safe.bands());
-    let mut speed = 0;
+    let mut fast = TOP_KMH as u16 + 1;
     for turn in (0..DIGITS).rev() {
-        let faster = speed + (1 << turn);
-        if faster <= TOP_KMH as u16 && fits(safe, ebd, t_be, trip, faster) {
-            speed = faster;
+        let less = 1 << turn;
+        if less < fast && !fits(safe, ebd, t_be, trip, fast - less) {
+            fast -= less;
         }
     }
-    speed
+    fast - 1
 }

@@ -77,8 +77,10 @@ fn insert_reserved(list: &mut Vec<Step>, i: usize, step: Step)
 {
     let len = list.len();
     list.push_reserved(step);
-    list.copy_within(i..len, i + 1);
-    list[i] = step;
+    if i < len {
+        list.copy_within(i..len, i + 1);
+        list[i] = step;
+    }
 }
 
 /// The first fall among the steps from an index on, where `speed` holds before them.

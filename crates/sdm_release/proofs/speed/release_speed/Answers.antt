@@ -1,37 +1,25 @@
--- A turn asks for a speed between both.
-use Rattle.std.proofs.Common.{◌≡◌, ◌+◌, ◌-◌, ◌^◌, sym, ◌∙◌, arith}
+-- Halving ends where the train stops in time at the speed before.
+use Rattle.std.proofs.Common.{◌≡◌, ◌-◌, true, inl, inr, arith}
+use Rattle.std.proofs.lemmas.Bool.{cases_lt}
+use Rattle.sdm_rules.specs.Limits.{computed}
+use Rattle.sdm_rules.specs.Release.{fits}
 use Rattle.sdm_rules.specs.Slopes.{meaning_of}
 use Rattle.sdm_laws.proofs.Rows.CalculatedRelease.{standstill_fits}
-use Rattle.sdm_release.proofs.Halving.{halved, halves, power_in}
+use Rattle.sdm_release.proofs.Halving.{halved}
 use Rattle.sdm_release.proofs.speed.release_speed.Goals as goal
-
-pub loop-turn-init : goal.loop-turn-init
-loop-turn-init c =
-    let a = c.args in
-    record {
-      range = omega arith;
-      slow = standstill_fits (meaning_of a.safe.now) a.t_be a.ebd.now.place a.trip c.requires.trip;
-      fast = λ le. absurd (omega arith);
-    }
-
-pub loop-turn-preserved-then-fits : goal.loop-turn-preserved-then-fits
-loop-turn-preserved-then-fits c =
-    let k = c.loop-turn.turn - 1 in
-    let speed = c.loop-turn.speed in
-    let power = power_in k (omega arith) in
-    let half = halves c.loop-turn.turn c.loop-turn-test.true in
-    let both : speed + 2 ^ k + 2 ^ k ≡ speed + 2 ^ c.loop-turn.turn = omega (arith, half) in
-    rw power (record {
-      range = omega (arith, power, c.if-faster.true);
-      slow = rw power at (sym c.fits.ensures.value ∙ c.if-fits.true);
-      fast = λ le. rw both (c.loop-turn.invariant.fast (omega (arith, half, le)));
-    })
 
 pub returns-clause-value : goal.returns-clause-value
 returns-clause-value c =
     let a = c.args in
+    let on = meaning_of a.safe.now in
     let end = c.loop-turn in
     let kept = end.invariant in
     let none : end.turn ≡ 0 = omega (arith, c.loop-turn-test.false) in
-    halved (meaning_of a.safe.now) c.bands.ensures.usable a.t_be a.ebd.now.place a.trip end.speed (end.speed + 1)
-    (omega arith) kept.range kept.slow (rw none at kept.fast)
+    let slow : fits computed on a.t_be a.ebd.now.place a.trip (end.fast - 1) ≡ true = elim (cases_lt 1 end.fast) [
+      | inl lt ↦ (rw none at kept.slow) lt
+      | inr le ↦
+          (let standing : end.fast - 1 ≡ 0 = omega (arith, le) in
+          rw standing (standstill_fits on a.t_be a.ebd.now.place a.trip c.requires.trip))
+    ] in
+    halved on c.bands.ensures.usable a.t_be a.ebd.now.place a.trip (end.fast - 1) end.fast (omega (arith, kept.some))
+    (omega (arith, kept.top)) slow kept.fast
