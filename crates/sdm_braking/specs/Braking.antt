@@ -22,12 +22,14 @@ pub record IsSupervisable (d : TrainAndTrack) : Type 0 where
   pub track : IsTrack d.track
   pub usable : HasAcceptedSlopes d
 
--- the slope maps, the use of the service brake and the times of reaction are those of the data; the segments of the
--- safe map are its stretches of track
+-- the slope maps, the use of the service brake and the times of reaction are those of the data; the segments of each
+-- map are its stretches of track
 pub record IsBrakingOf (d : TrainAndTrack) (safe expected normal : SlopeMap) (in_use : Bool)
     (times : Times) : Type 0 where
   pub safe_is : meaning_of safe ≡ slopes_of Safe d
   pub safe_stretches : AreStretches d.track d.train.length_cm safe.starts
+  pub expected_stretches : AreStretches d.track d.train.length_cm expected.starts
+  pub normal_stretches : AreStretches d.track d.train.length_cm normal.starts
   pub expected_is : meaning_of expected ≡ slopes_of Expected d
   pub normal_is : meaning_of normal ≡ slopes_of Normal d
   pub use_is : in_use ≡ service_in_use d

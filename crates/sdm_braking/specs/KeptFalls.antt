@@ -15,7 +15,7 @@ use Rattle.sdm_rules.specs.Targets.{is_fall}
 use Rattle.sdm_speed.specs.Falls.{AreAtFalls}
 use Rattle.sdm_speed.specs.Profiles.{ProfileData, mrsp_of, static_of}
 use Rattle.sdm_speed.specs.ZoneStarts.{FallsTo}
-use Rattle.sdm_targets.specs.Lists.{target_at}
+use Rattle.sdm_targets.specs.Lists.{most_falls, target_at}
 use Rattle.sdm_braking.specs.declared.falls_ahead.KeptFall.{KeptFall}
 use Rattle.sdm_braking.specs.declared.falls_ahead.KeptZone.{KeptZone}
 use Rattle.sdm_braking.specs.declared.falls_ahead.PlacedFall.{PlacedFall}
@@ -158,10 +158,11 @@ pub record IsZoneLess (id : ℕ) (old new : List KeptZone) : Type 0 where
 -- ---- the falls of a profile
 
 -- what is kept of the falls of a profile: one entry for each, in order, with its curves, and how far on these are
--- hidden; and its zones, with their curves
+-- hidden; and its zones, with their curves. There are no more falls than a profile may have
 pub record AreKeptFalls (d : TrainAndTrack) (p : ProfileData) (v : KeptFallsData) : Type 0 where
   pub falls : AreAtFalls fall_of (mrsp_of p) first_cell v.list
   pub each : All (IsKeptFall d) v.list
+  pub few : length v.list ≤ most_falls
   pub zones : AreZonesOf p v
   pub curves : All (IsKeptZone d) v.zones
   pub hidden : AreHidden d (map target_of v.list) v.brake_steps v.guide_steps

@@ -181,16 +181,18 @@ impl Braking {
         &self.safe
     }
 
-    /// The map of A_expected, on which SBDs stand.
+    /// The map of A_expected, on which SBDs stand: segments as those of `safe`.
     pub fn expected(&self) -> &BandMap
-        ensures { meaning_of result.now ≡ slopes_of Expected self.now }
+        ensures slopes { meaning_of result.now ≡ slopes_of Expected self.now }
+        ensures segments { AreStretches self.now.track self.now.train.length_cm result.now.starts }
     {
         &self.expected
     }
 
-    /// The map of A_normal_service, on which guidance curves stand.
+    /// The map of A_normal_service, on which guidance curves stand: segments as those of `safe`.
     pub fn normal(&self) -> &BandMap
-        ensures { meaning_of result.now ≡ slopes_of Normal self.now }
+        ensures slopes { meaning_of result.now ≡ slopes_of Normal self.now }
+        ensures segments { AreStretches self.now.track self.now.train.length_cm result.now.starts }
     {
         &self.normal
     }

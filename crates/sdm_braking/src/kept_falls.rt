@@ -16,7 +16,7 @@ ghost use Rattle.sdm_speed.specs.Falls.{AreAtFalls};
 ghost use Rattle.sdm_speed.specs.Held.{IsHeldRestriction};
 ghost use Rattle.sdm_speed.specs.Profiles.{mrsp_of};
 ghost use Rattle.sdm_speed.specs.Zones.{IsFallInRange};
-ghost use Rattle.sdm_targets.specs.Lists.{falls_past};
+ghost use Rattle.sdm_targets.specs.Lists.{falls_past, most_falls};
 ghost use Rattle.sdm_hiding.specs.Hiding.{AreHiddenFrom, AreInOrder};
 ghost use Rattle.sdm_braking.specs.FallFeet.{AreHidden, brake_foot, guide_foot};
 ghost use Rattle.sdm_braking.specs.KeptFalls.{at_fall, AreKeptFalls, ArePartedPast, AreZonesOf, IsRestricted};
@@ -30,7 +30,7 @@ use crate::zones::{fall_by, target_at, zone_at, zone_between, zone_by_id};
 use sdm_hiding::hide;
 use sdm_num::NoMemory;
 use sdm_rules::{Fall, Restriction};
-use sdm_speed::{MOST_RESTRICTIONS, Profile};
+use sdm_speed::{MOST_RESTRICTIONS, Profile, parted};
 use std::alloc::Global;
 use std::marker::Model;
 
@@ -177,6 +177,7 @@ impl KeptFalls {
         requires { AreZonesOf profile.now self.old }
         ensures falls { AreAtFalls fall_of (mrsp_of profile.now) first_cell self.new.list }
         ensures each { (d : TrainAndTrack) → All (IsKeptZone d) self.old.zones → All (IsKeptFall d) self.new.list }
+        ensures few { length self.new.list ≤ most_falls }
         ensures zones { self.new.zones ≡ self.old.zones }
         ensures room { self.new.room ≡ self.old.room }
     {
@@ -311,8 +312,7 @@ impl KeptFalls {
         ensures parted { (p : ℤ → ℕ) (after : ℤ) → AreAtFalls fall_of p after self.now.list →
             ArePartedPast fall_of last self.now.list result }
     {
-        self.list
-            .partition_point(|placed| i64::from(placed.fall.cell) <= last)
+        parted(&self.list, |placed| i64::from(placed.fall.cell) <= last)
     }
 
     /// What is kept of the fall at a cell, if there is one.
@@ -341,6 +341,7 @@ impl KeptFalls {
         ensures each { (d : TrainAndTrack) → All (IsKeptFall d) self.now.list → All (IsKeptFall d) result.falls }
         ensures falls { (p : ℤ → ℕ) → AreAtFalls fall_of p first_cell self.now.list →
             falls_past p after (pos end) ≡ map at_fall result.falls }
+        ensures few { length result.falls ≤ length self.now.list }
         ensures order { AreInOrder (map brake_foot (map target_of self.now.list)) →
             AreInOrder (map brake_foot (map target_of result.falls)) }
         ensures hidden { (d : TrainAndTrack) →
@@ -349,11 +350,12 @@ impl KeptFalls {
         ensures brake_room { length result.falls ≤ length result.brake_steps.now }
         ensures guide_room { length result.falls ≤ length result.guide_steps.now }
     {
-        let begun = self
-            .list
-            .partition_point(|placed| placed.fall.cell <= after);
+        let begun = parted(&self.list, |placed| placed.fall.cell <= after);
         let ahead = &self.list[begun..];
-        let ended = ahead.partition_point(|placed| i64::from(placed.fall.cell) <= i64::from(end));
+        let ended = parted(
+            ahead,
+            |placed| i64::from(placed.fall.cell) <= i64::from(end),
+        );
         Ahead {
             falls: FallsAhead {
                 list: &ahead[..ended],

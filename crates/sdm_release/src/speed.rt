@@ -1,5 +1,5 @@
 //! The calculated release speed: the greatest whole speed from which a train that is tripped at a place stops by the
-//! SvL. The faster the train, the earlier it must be tripped, so the speed is found by halving.
+//! SvL. The faster the train, the earlier it must be tripped, so the speed is found by halving, in nine turns.
 
 ghost use Rattle.std.specs.Prelude.{◌≡◌, ◌≤◌, ◌≤ℤ◌};
 ghost use Rattle.sdm_num.specs.Units.{top_kmh};
@@ -11,6 +11,9 @@ ghost use Rattle.sdm_curve.specs.Made.{IsMadeFrom};
 use sdm_curve::{BandMap, Curve};
 use sdm_num::{Place, Speed};
 use sdm_rules::TOP_KMH;
+
+/// How many binary digits a speed in km/h has at most.
+const DIGITS: u32 = 9;
 
 /// A train that is tripped at a place, at a whole speed of at most 500 km/h, stops by the foot of its EBD: it runs on
 /// at this speed until the emergency brake works, T_be ds later. (SUBSET-026-3 3.13.9.4.8; form own)
@@ -39,15 +42,14 @@ pub fn release_speed(safe: &BandMap, ebd: &Curve, t_be: u32, trip: Place) -> u16
     ensures value { result ≡ release_speed (meaning_of safe.now) t_be ebd.now.place trip }
     ensures range { result ≤ top_kmh }
 {
-    let mut slow = 0;
+    // with the number of its bands it is told that curves stand on the map
+    prove!(1 <= safe.bands());
     let mut fast = TOP_KMH as u16 + 1;
-    while fast - slow > 1 {
-        let middle = slow + (fast - slow) / 2;
-        if fits(safe, ebd, t_be, trip, middle) {
-            slow = middle;
-        } else {
-            fast = middle;
+    for turn in (0..DIGITS).rev() {
+        let less = 1 << turn;
+        if less < fast && !fits(safe, ebd, t_be, trip, fast - less) {
+            fast -= less;
         }
     }
-    slow
+    fast - 1
 }

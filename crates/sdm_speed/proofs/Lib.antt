@@ -17,3 +17,4 @@ pub mod FallLists
 pub mod KeptLaws
 pub mod BeyondLaws
 pub mod TakenLaws
+pub mod HalvingLaws

@@ -1,19 +1,41 @@
 -- A step that is put where it starts, with the speed that holds there, changes no speed: before its start it says
 -- nothing, and from there on it says what held. Where both ends of a zone were put, the zone covers the steps from the
 -- one to the other.
-use Rattle.std.proofs.Common.{◌≡◌, ◌⊎◌, ℕ, zero, suc, ℤ, List, [], ◌∷◌, length, get_or, take, Bool, true, false}
-use Rattle.std.proofs.Common.{if◌then◌else◌, int_le, Option, Some, None, inl, inr, ◌<◌, ◌≤◌, ◌≤ℤ◌, ◌<ℤ◌, refl, sym, ap}
-use Rattle.std.proofs.Common.{◌∙◌, arith}
-use Rattle.std.specs.List.{insert}
+use Rattle.std.proofs.Common.{◌≡◌, ◌⊎◌, ℕ, zero, suc, ℤ, List, [], ◌∷◌, length, get_or, set, take, drop, ◌++◌}
+use Rattle.std.proofs.Common.{◌+◌, ◌-◌, Bool, true, false, if◌then◌else◌, int_le, Option, Some, None, inl, inr, ◌<◌, ◌≤◌}
+use Rattle.std.proofs.Common.{◌≤ℤ◌, ◌<ℤ◌, refl, sym, ap, ◌∙◌, arith}
+use Rattle.std.specs.List.{insert, copy_within}
 use Rattle.std.proofs.lemmas.Bool.{cases_lt}
 use Rattle.std.proofs.lemmas.Int.{ints, by_lt_z}
-use Rattle.std.proofs.lemmas.List.{get_or-take}
+use Rattle.std.proofs.lemmas.List.{append-nil, drop_all, drop_at, drop-append-le, get_or-take, length_push, length-drop}
+use Rattle.std.proofs.lemmas.List.{length-append, length-take-le, set_split, take_at, take-append-le, take-take}
+use Rattle.std.proofs.lemmas.List.Edits.{get_or-insert_above, get_or-insert_at, get_or-insert_below, length-insert}
 use Rattle.sdm_num.proofs.Comparisons.{le_is, lt_is, not_le_is, not_lt_is}
 use Rattle.sdm_rules.specs.Profile.{Zone, covers}
 use Rattle.sdm_speed.specs.declared.steps.Step.{Step}
 use Rattle.sdm_speed.specs.Steps.{AreAfter, AreCovered, AreRising, ArePartedAt, IsSplit, IsSplitAt, IsStart}
 use Rattle.sdm_speed.specs.Steps.{KeepsStarts, speed_to, speeds_of}
 use Rattle.sdm_speed.proofs.StepLaws.{first_begun, none}
+
+-- a step is put behind all, the steps from an index on are moved up by one, and it is put into the gap: it is inserted
+pub moved_up : (x : Step) (ss : List Step) (i : ℕ) → i ≤ length ss →
+    set (copy_within (ss ++ x ∷ []) i (length ss) (i + 1)) i x ≡ insert ss i x
+moved_up x ss i known =
+    let all = ss ++ x ∷ [] in
+    let front = take (i + 1) all in
+    let long : length front ≡ i + 1 = length-take-le (i + 1) all (omega (arith, known, length_push ss x)) in
+    let later : take (length ss - i) (drop i all) ≡ drop i ss =
+    ap (take (length ss - i)) (drop-append-le i ss (x ∷ []) known)
+    ∙ take_at (drop i ss) (x ∷ []) (length ss - i) (length-drop i ss) in
+    let none : drop (i + 1 + (length ss - i)) all ≡ [] = drop_all _ all (omega (arith, known, length_push ss x)) in
+    let moved : copy_within all i (length ss) (i + 1) ≡ front ++ drop i ss = rw (later, none) (append-nil _) in
+    let before : take i (front ++ drop i ss) ≡ take i ss =
+    take-append-le i front (drop i ss) (omega (arith, long)) ∙ take-take i (i + 1) all (omega arith)
+    ∙ take-append-le i ss (x ∷ []) known in
+    let past : drop (suc i) (front ++ drop i ss) ≡ drop i ss =
+    drop_at front (drop i ss) (suc i) (omega (arith, long)) in
+    rw moved (set_split (front ++ drop i ss) i x (omega (arith, long, length-append front (drop i ss)))
+    ∙ rw (before, past) refl)
 
 either : (b : Bool) (v : ℕ) → (if b then v else v) ≡ v
 either true v = refl
@@ -108,6 +130,24 @@ module _ (x : Step) where
     | inl e ↦ inl e
     | inr rest ↦ inr (inr rest)
   ]
+
+-- a step that starts at a cell is put behind those that start before it, and before the others
+pub insert_parted : (x : Step) (ss : List Step) (i : ℕ) → ArePartedAt x.start ss i →
+    ArePartedAt x.start (insert ss i x) i
+insert_parted x ss i parted = record {
+  bound = omega (arith, parted.bound, length-insert ss i x parted.bound);
+  before = λ k d l. rw (get_or-insert_below ss i x d k l parted.bound) (parted.before k d l);
+  from = λ k d l m. elim (cases_lt i k) [
+    | inl later ↦ (let next : k ≡ k - 1 + 1 = omega (arith, later) in
+        let moved : get_or (insert ss i x) k d ≡ get_or ss (k - 1) d =
+        ap (λ (j : ℕ). get_or (insert ss i x) j d) next
+        ∙ get_or-insert_above ss i x d (k - 1) (omega (arith, later)) parted.bound in
+        rw moved (parted.from (k - 1) d (omega (arith, later))
+        (omega (arith, later, m, length-insert ss i x parted.bound))))
+    | inr here ↦ (let same : k ≡ i = omega (arith, here, l) in
+        rw (same, get_or-insert_at ss i x d parted.bound) (omega (arith, ints)))
+  ];
+}
 
 -- each step has a start
 pub index_is_start : (ss : List Step) (i : ℕ) (d : Step) → i < length ss → IsStart (get_or ss i d).start ss

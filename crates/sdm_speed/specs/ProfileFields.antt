@@ -27,7 +27,8 @@ static_zones_of f = zones_of_track (pos f.length_cm) f.speeds.items
 abbrev pub held_zones_of : Inside → List Zone
 held_zones_of f = map (zone_of (pos f.length_cm)) f.held.items
 
--- the steps give the lowest limits, without and with the restrictions held; there is room for as many steps as may be
+-- the steps give the lowest limits, without and with the restrictions held: at most two steps for each entry of the
+-- static speed profile and each restriction; there is room for as many steps as may be
 pub record IsKeptProfile (f : Inside) : Type 0 where
   pub in_range : IsProfile (profile_data_of f)
   pub distinct : AreDistinct f.held.items
@@ -37,5 +38,7 @@ pub record IsKeptProfile (f : Inside) : Type 0 where
   pub steps : (c : ℤ) → speeds_in f.steps c ≡ zone_limits f.max_speed (static_zones_of f ++ held_zones_of f) c
   pub steps_before : f.steps.before ≡ f.statics.before
   pub zone_ends : AreAtZoneEnds (pos f.length_cm) f.statics.list.items f.held.items f.steps.list.items
+  pub statics_few : vec_len f.statics.list ≤ 2 * vec_len f.speeds
+  pub steps_few : vec_len f.steps.list ≤ vec_len f.statics.list + 2 * vec_len f.held
   pub held_room : most_restrictions ≤ vec_capacity f.held
   pub steps_room : vec_len f.statics.list + 2 * most_restrictions ≤ vec_capacity f.steps.list

@@ -5,8 +5,10 @@
 mod ends;
 mod lifts;
 mod profiles;
+mod searches;
 mod steps;
 mod zones;
 
 pub use profiles::{MOST_RESTRICTIONS, Profile};
 pub use sdm_rules::{Fall, RestrictFault, Restriction, RevokeFault};
+pub use searches::parted;

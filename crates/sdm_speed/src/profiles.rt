@@ -21,6 +21,7 @@ ghost use Rattle.sdm_speed.specs.ZoneStarts.{IsZoneStart};
 
 use crate::ends::{end_for, zone_of};
 use crate::lifts::raise;
+use crate::searches::parted;
 use crate::steps::Steps;
 use crate::zones::Zone;
 use sdm_num::NoMemory;
@@ -308,7 +309,7 @@ impl Profile {
         // the speed of the first cell, and of each step past its start that begins at or before the last
         let steps = &self.steps.list;
         let before = self.steps.before;
-        let begun = steps.partition_point(|step| step.start <= from);
+        let begun = parted(steps, |step| step.start <= from);
         let mut lowest = match begun {
             0 => before,
             _ => steps[begun - 1].speed,

@@ -5,12 +5,14 @@
 
 ghost use Rattle.std.specs.Prelude.{◌≡◌, ◌⊎◌, ◌+◌, ◌+ℤ◌, ◌<◌, ◌≤◌, ℕ, ℤ, pos, [], Some, true, IfOk, length, map, min};
 ghost use Rattle.std.specs.Prelude.{drop, set, take, slice_index_or, vec_len, vec_capacity};
+ghost use Rattle.std.specs.List.{insert};
 ghost use Rattle.sdm_rules.specs.Profile.{capped};
 ghost use Rattle.sdm_speed.specs.ZoneEnds.{AreSpeedsAt, HasStartsOf};
 ghost use Rattle.sdm_speed.specs.Steps.{AreAfter, AreCovered, AreRising, AreRising-prop, ArePartedAt, IsFallAfter};
 ghost use Rattle.sdm_speed.specs.Steps.{IsFallStepAfter, IsSplit, IsStart, KeepsStarts, capped_before, capped_step, speed_to};
 ghost use Rattle.sdm_speed.specs.Steps.{speeds_of};
 
+use crate::searches::parted;
 use crate::zones::Zone;
 use sdm_num::NoMemory;
 use sdm_rules::Fall;
@@ -62,6 +64,22 @@ fn capped_before(before: u16, zone: Zone) -> u16
     match zone.first {
         None => before.min(zone.limit),
         Some(_) => before,
+    }
+}
+
+/// Puts a step at an index of a list that has room for one more; the steps from there on move up.
+fn insert_reserved(list: &mut Vec<Step>, i: usize, step: Step)
+    requires index { i ≤ vec_len list.old }
+    requires room { vec_len list.old < vec_capacity list.old }
+    ensures items { list.new.items ≡ insert list.old.items i step }
+    ensures len { vec_len list.new ≡ vec_len list.old + 1 }
+    ensures room { vec_capacity list.new ≡ vec_capacity list.old }
+{
+    let len = list.len();
+    list.push_reserved(step);
+    if i < len {
+        list.copy_within(i..len, i + 1);
+        list[i] = step;
     }
 }
 
@@ -158,8 +176,7 @@ impl Steps {
     fn started_before(&self, cell: i64) -> usize
         ensures { ArePartedAt cell self.now.list.items result }
     {
-        self.list
-            .partition_point(|step| i64::from(step.start) < cell)
+        parted(&self.list, |step| i64::from(step.start) < cell)
     }
 
     /// The speed up to where the step at this index starts.
@@ -209,10 +226,7 @@ impl Steps {
             return i;
         }
         let speed = self.speed_to(i);
-        let step = Step { start: cell, speed };
-        let Ok(()) = self.list.insert(i, step) else {
-            unreachable!()
-        };
+        insert_reserved(&mut self.list, i, Step { start: cell, speed });
         i
     }
 

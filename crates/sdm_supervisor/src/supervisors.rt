@@ -3,8 +3,8 @@
 //! same machine with each a millimetre earlier, and from every covered row every motion within the reading's bounds
 //! stops at or before the SvL, if there is one.
 
-ghost use Rattle.std.specs.Prelude.{◌≡◌, ◌≤◌, ◌≤ℤ◌, pos, MatchOption, IsTrue, false, None, Some, IfOk, IfErr, OnOk};
-ghost use Rattle.std.specs.Prelude.{OnErr};
+ghost use Rattle.std.specs.Prelude.{◌≡◌, ◌+◌, ◌≤◌, ◌≤ℤ◌, pos, MatchOption, IsTrue, false, None, Some, IfOk, IfErr};
+ghost use Rattle.std.specs.Prelude.{OnOk, OnErr, length};
 ghost use Rattle.sdm_rules.specs.declared.authorities.Authority.TheVariants.{Stop};
 ghost use Rattle.sdm_rules.specs.Display.{passes_limit, release_speed_of, shown_target_of};
 ghost use Rattle.sdm_rules.specs.Machines.{KeepsOrder};
@@ -17,6 +17,7 @@ ghost use Rattle.sdm_rules.specs.Supervision.{after_authority, after_reading, af
 ghost use Rattle.sdm_rules.specs.Supervision.{opening, profile_of, row_of, situation_of};
 ghost use Rattle.sdm_rules.specs.Targets.{is_fall};
 ghost use Rattle.sdm_rules.specs.Ranges.{top_kmh};
+ghost use Rattle.sdm_targets.specs.Lists.{most_falls};
 ghost use Rattle.sdm_supervisor.specs.Supervised.{IsAuthorityCurve, IsFallCurve};
 ghost use Rattle.sdm_braking.specs.Braking.{IsRefusal};
 ghost use Rattle.sdm_supervisor.specs.Sights.{seen_at};
@@ -289,6 +290,7 @@ impl Supervisor {
     #[inline(always)]
     pub fn sight<'a>(&'a self, reading: &'a Reading) -> Sight<'a>
         ensures seen { result ≡ seen_at self.now reading.now }
+        ensures few { length result.situation.targets ≤ most_falls + 2 }
         ensures accepted { IsOpen self.now }
         ensures upwards { (name : LimitName) → IsPassedUpwards self.now reading.now name }
     {
@@ -372,6 +374,7 @@ impl Supervisor {
         ensures gaps { IfOk result (λ row. row.held.eb ≡ false → HasOnlyGaps self.old reading.now) }
         ensures ceiling { IfOk result (λ row. row.held.eb ≡ false → IsWithinCeiling reading.now row) }
         ensures release { OnOk result (BeginsReleaseMonitoring self.old reading.now) }
+        ensures few { OnOk result (length (situation_of self.old reading.now).targets ≤ most_falls + 2) }
         ensures time_back { IfErr result (λ fault. time_fault self.old.last_time reading.now.time ≡ Some fault) }
         ensures unchanged { OnErr result (self.new ≡ self.old) }
     {

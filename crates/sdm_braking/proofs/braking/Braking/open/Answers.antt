@@ -21,6 +21,8 @@ invariant_of-result c = (
   record {
     safe_is = c.in_ok-safe.ensures.slopes;
     safe_stretches = c.in_ok-safe.ensures.segments;
+    expected_stretches = c.in_ok-expected.ensures.segments;
+    normal_stretches = c.in_ok-normal.ensures.segments;
     expected_is = c.in_ok-expected.ensures.slopes;
     normal_is = c.in_ok-normal.ensures.slopes;
     use_is = c.is_service_in_use-service_in_use.ensures;

@@ -8,6 +8,6 @@ pub returns : goal.returns
 returns c eoa svl ebd sbd =
     c.release_start.ensures.at ∙ start_found computed c.args.self.now eoa svl c.args.release_kmh
     _ _ c.args.ebd.now c.args.sbd.now c.times.result.now c.of_kmh.result
-    c.safe.ensures.slopes c.expected.ensures
+    c.safe.ensures.slopes c.expected.ensures.slopes
     ebd.place ebd.speed sbd.place sbd.speed
     c.times.ensures.value c.of_kmh.ensures

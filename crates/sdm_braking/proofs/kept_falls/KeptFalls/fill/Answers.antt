@@ -5,7 +5,7 @@ use Rattle.std.proofs.lemmas.Int.{ints, to_z-of_z}
 use Rattle.std.proofs.lemmas.List.Elements.{All-append, All-cons, All-nil}
 use Rattle.sdm_speed.specs.Falls.{AreAtFalls}
 use Rattle.sdm_speed.specs.Profiles.{mrsp_of, zones_of}
-use Rattle.sdm_targets.proofs.CountLaws.{fall_counts, passed_most, zones_few}
+use Rattle.sdm_targets.proofs.CountLaws.{fall_counts, falls_few, passed_most, zones_few}
 use Rattle.sdm_braking.specs.KeptFalls.{IsKeptFall, KeptFallData, fall_of, first_cell, kept_at}
 use Rattle.sdm_braking.proofs.KeptFallLaws.{begun_more}
 use Rattle.sdm_braking.proofs.ZoneLaws.{kept_zone, no_more, zone_at_fall}
@@ -65,3 +65,7 @@ pub returns-clause-falls : goal.returns-clause-falls
 returns-clause-falls c =
     subst (λ (ks : List KeptFallData). AreAtFalls fall_of (mrsp_of c.args.profile.now) first_cell ks)
     (no_more c.loop-fall.self.list) (c.loop-fall.invariant.falls [] c.in_default.ensures.value)
+
+pub returns-clause-few : goal.returns-clause-few
+returns-clause-few c =
+    falls_few c.args.profile.now _ _ c.in_default.ensures.profile_in_range c.loop-fall.invariant.few

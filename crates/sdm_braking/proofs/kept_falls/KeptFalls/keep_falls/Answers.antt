@@ -35,6 +35,7 @@ returns c =
     record {
       falls = rw list filled.falls;
       each = rw list (filled.each c.args.braking.now c.requires.curves);
+      few = rw list filled.few;
       zones = same_zones c.args.profile.now c.args.self.now c.hide_guides.new.self c.requires.zones
           (guides.zones ∙ brakes.zones ∙ filled.zones) (guides.room ∙ brakes.room ∙ filled.room);
       curves = rw (guides.zones, brakes.zones, filled.zones) c.requires.curves;

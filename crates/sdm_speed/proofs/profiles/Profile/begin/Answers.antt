@@ -1,5 +1,5 @@
 -- The steps are those of the static speed profile; no restriction is held.
-use Rattle.std.proofs.Common.{[], arith}
+use Rattle.std.proofs.Common.{[], ap, length, arith}
 use Rattle.std.proofs.lemmas.Int.{ints}
 use Rattle.std.proofs.lemmas.List.{append-nil}
 use Rattle.std.proofs.lemmas.List.Elements.{All-nil}
@@ -37,6 +37,15 @@ invariant_of-result c =
       steps = λ cell. rw (c.reset.ensures.before, c.reset.ensures.list, held_is, append-nil) (statics cell);
       steps_before = c.reset.ensures.before;
       zone_ends = rw (c.reset.ensures.list, held_is) (zone_ends_none _ _);
+      statics_few = omega (
+        arith,
+        c.in_ok-statics.ensures.few,
+        c.in_ok-zones.ensures.many,
+        ap length c.deref.ensures.value,
+        c.deref-2.ensures.len,
+        c.len.ensures,
+      );
+      steps_few = omega (arith, ap length c.reset.ensures.list);
       held_room = omega (arith, c.in_ok-held.ensures.exact);
       steps_room = omega (
         arith,

@@ -23,20 +23,20 @@ use Rattle.sdm_speed.proofs.profiles.Profile.lowest.Goals.{After-deref-2, in-0, 
 module _ (c : goal.After-deref-2) where
   -- the steps past those that start at the first cell or before it
   abbrev rest : List Step
-  rest = take (length c.deref-2.result.now - c.partition_point-begun.result)
-      (drop c.partition_point-begun.result c.deref-2.result.now)
+  rest = take (length c.deref-2.result.now - c.parted-begun.result)
+      (drop c.parted-begun.result c.deref-2.result.now)
 
   -- these others come first
-  parted : ArePartedAt (c.args.from +ℤ pos 1) c.self.inside.steps.list.items c.partition_point-begun.result
+  parted : ArePartedAt (c.args.from +ℤ pos 1) c.self.inside.steps.list.items c.parted-begun.result
   parted =
       let slice = c.deref.result.now in
       let from = c.args.from in
       let from_is : to_z w32 (of_z w32 from) ≡ from = to_z-of_z w32 from c.ranges.from in
-      let parts = IsPartitionPoint-from_clause (λ (s : Step). int_le s.start from) slice c.partition_point-begun.result
-      c.partition_point-begun.ensures.partitioned
+      let parts = IsPartitionPoint-from_clause (λ (s : Step). int_le s.start from) slice c.parted-begun.result
+      c.parted-begun.ensures.partitioned
       (begun_parted slice from (rw c.deref.ensures.value c.self.inside.steps.rises)) (λ a r f called. search rules) in
       rw (← c.deref.ensures.value) (record {
-        bound = c.partition_point-begun.ensures.bound;
+        bound = c.parted-begun.ensures.bound;
         before = λ k d l.
             let begun : (get_or slice k d).start ≤ℤ from = le_of _ _ (parts.0 k d (omega arith) l) in
             omega (arith, ints);
@@ -47,14 +47,14 @@ module _ (c : goal.After-deref-2) where
 
   -- the search begins with the speed of the last of them
   begins : c.match-begun.lowest
-      ≡ speed_to c.self.inside.steps.before c.self.inside.steps.list.items c.partition_point-begun.result
+      ≡ speed_to c.self.inside.steps.before c.self.inside.steps.list.items c.parted-begun.result
   begins =
       let steps = c.self.inside.steps in
       elim c.match-begun.branch [
         | in-0 w ↦ rw w.in-0.is w.lowest-is
         | in_default w ↦
-            let before = c.partition_point-begun.result - 1 in
-            let one_before : c.partition_point-begun.result ≡ suc before = omega arith in
+            let before = c.parted-begun.result - 1 in
+            let one_before : c.parted-begun.result ≡ suc before = omega arith in
             rw one_before (w.lowest-is ∙ ap (λ (s : Step). s.speed) w.index.ensures
             ∙ sym (speed_to_next steps.before steps.list.items before w.index.result.now (omega arith)))
       ]
@@ -71,7 +71,7 @@ module _ (c : goal.After-deref-2) where
         ← c.self.view_is,
         ← kept_mrsp c.self.inside c.self.invariant,
       )
-      (lowest_past steps.before steps.list.items c.partition_point-begun.result c.args.from
+      (lowest_past steps.before steps.list.items c.parted-begun.result c.args.from
       (int_gap c.args.from c.args.to) c.args.to (int_gap_is c.args.from c.args.to c.requires) steps.rises parted)
 
   -- which is a limit

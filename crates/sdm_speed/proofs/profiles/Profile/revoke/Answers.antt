@@ -5,7 +5,7 @@ use Rattle.sdm_rules.specs.Profile.{lowest_limit, zone_of}
 use Rattle.sdm_speed.specs.Held.{AreDistinct, IsHeldRestriction}
 use Rattle.sdm_speed.specs.ProfileFields.{static_zones_of}
 use Rattle.sdm_speed.proofs.ZoneLaws.{lowest_limit-after}
-use Rattle.sdm_speed.proofs.ZoneEndLaws.{each_left, limit_less, no_other_left}
+use Rattle.sdm_speed.proofs.ZoneEndLaws.{each_left, few_starts, limit_less, no_other_left}
 use Rattle.sdm_speed.proofs.HeldLaws.{get_at, len_is, contains_is, distinct_less, none, removed, All-remove}
 use Rattle.sdm_speed.proofs.KeptLaws.{held_count, with_held}
 use Rattle.sdm_speed.proofs.profiles.Profile.revoke.Goals as goal
@@ -51,6 +51,9 @@ invariant_of-self c =
     let ok_held = c.self.inside.held.ok.0 in
     let ok_left = left.ok.0 in
     let raised = rw c.deref-2.ensures.value at c.raise.ensures in
+    let few = few_starts _ _ _ _ c.raise.new.steps.rises raised.zone_ends in
+    let ok_statics = c.self.inside.statics.list.ok.0 in
+    let ok_steps = c.raise.new.steps.list.ok.0 in
     record {
       in_range = with_held _ _ kept.in_range (rw (len_is left.items distinct)
           (omega (arith, c.remove-lifted.ensures.len, held_count _ kept _ refl, kept.in_range.few)));
@@ -63,6 +66,8 @@ invariant_of-self c =
           ∙ sym (lowest_limit-after top cell (static_zones_of c.self.inside) (map (zone_of length_cm) left.items));
       steps_before = raised.before;
       zone_ends = raised.zone_ends;
+      statics_few = kept.statics_few;
+      steps_few = omega (arith, few);
       held_room = omega (arith, kept.held_room, c.remove-lifted.ensures.capacity);
       steps_room = omega (arith, kept.steps_room, raised.room);
     }

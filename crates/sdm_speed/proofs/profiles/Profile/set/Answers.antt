@@ -15,7 +15,7 @@ use Rattle.sdm_speed.specs.ProfileFields.{profile_data_of, static_zones_of, held
 use Rattle.sdm_speed.proofs.ZoneLaws.{lowest_limit-push}
 use Rattle.sdm_speed.proofs.HeldLaws.{len_is, missing_of, distinct_more, inserted}
 use Rattle.sdm_speed.proofs.KeptLaws.{held_count, with_held}
-use Rattle.sdm_speed.proofs.ZoneEndLaws.{zone_ends_more, few_starts}
+use Rattle.sdm_speed.proofs.ZoneEndLaws.{zone_ends_more}
 use Rattle.sdm_speed.proofs.RestrictLaws.{IsAcceptedRestriction, accepted}
 use Rattle.sdm_speed.proofs.profiles.Profile.set.Goals as goal
 
@@ -53,8 +53,7 @@ lower-requires c =
     let ok = accepted c.args.self.now.track_cm c.args.self.now.restrictions c.args.r
     (sym (rw c.in_ok-check.was at c.check.ensures)) in
     let ok_held = c.self.inside.held.ok.0 in
-    let few = few_starts _ _ _ _ c.self.inside.steps.rises kept.zone_ends in
-    omega (arith, ok.room, held_count _ kept _ c.self.view_is, few, kept.steps_room)
+    omega (arith, ok.room, held_count _ kept _ c.self.view_is, kept.steps_few, kept.steps_room)
 
 pub invariant_of-self : goal.invariant_of-self
 invariant_of-self c =
@@ -85,6 +84,8 @@ invariant_of-self c =
       steps_before = rw c.zone_of.ensures at c.lower.ensures.before ∙ kept.steps_before;
       zone_ends = rw c.push_reserved.ensures.items (zone_ends_more length_cm _ held c.args.r _ _ kept.zone_ends
           (rw c.zone_of.ensures at c.lower.ensures.starts));
+      statics_few = kept.statics_few;
+      steps_few = omega (arith, kept.steps_few, c.lower.ensures.few, c.push_reserved.ensures.len);
       held_room = omega (arith, kept.held_room, c.push_reserved.ensures.capacity);
       steps_room = omega (arith, kept.steps_room, c.lower.ensures.room);
     }

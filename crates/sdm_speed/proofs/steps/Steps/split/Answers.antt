@@ -1,14 +1,11 @@
 -- The step is put where those that start before the cell end, with the speed that holds there.
-use Rattle.std.proofs.Common.{◌≡◌, ◌<◌, ◌<ℤ◌, ◌≤ℤ◌, w32, w64, to_z, of_z, Bool, true, false, if◌then◌else◌, List}
+use Rattle.std.proofs.Common.{◌≡◌, ◌<◌, ◌<ℤ◌, ◌≤ℤ◌, w32, w64, to_z, of_z}
 use Rattle.std.proofs.Common.{length, get_or, sym, ap, ◌∙◌, arith, rules}
-use Rattle.std.specs.List.{insert}
-use Rattle.std.specs.Result.{is_ok}
 use Rattle.std.proofs.lemmas.Int.{ints, to_z-of_z, by_lt_z}
 use Rattle.std.proofs.lemmas.List.{get_or_default}
 use Rattle.sdm_speed.specs.declared.steps.Step.{Step}
-use Rattle.sdm_speed.specs.Steps.{AreRising}
 use Rattle.sdm_speed.proofs.SplitLaws.{insert_same, insert_rising, insert_start, insert_keeps, insert_only}
-use Rattle.sdm_speed.proofs.SplitLaws.{index_is_start}
+use Rattle.sdm_speed.proofs.SplitLaws.{insert_parted, index_is_start}
 use Rattle.sdm_speed.proofs.steps.Steps.split.Goals as goal
 use Rattle.sdm_speed.proofs.steps.Steps.split.Goals.{else-i-len-via-then-i-len+else-index-cell}
 use Rattle.sdm_speed.proofs.steps.Steps.split.Goals.{else-i-len-via-else-i-len}
@@ -30,25 +27,28 @@ returns-clause-speeds c cell =
     let cell_is : to_z w32 (of_z w32 c.args.cell) ≡ c.args.cell = to_z-of_z w32 c.args.cell c.ranges.cell in
     let wide : to_z w64 (of_z w64 c.from.result) ≡ c.args.cell = omega (arith, ints, c.from.ensures, cell_is) in
     let before = (rw wide at c.started_before-i.ensures).before in
-    rw (c.insert.ensures.items, c.in-Ok.is, cell_is) (insert_same
+    rw (c.insert_reserved.ensures.items, cell_is) (insert_same
     (record { start = c.args.cell; speed = c.speed_to-speed.result }) c.args.self.now.before list i cell
     c.speed_to-speed.ensures (λ k d l m. before k d l))
 
 pub returns-clause-start : goal.returns-clause-start
 returns-clause-start c =
     let cell_is : to_z w32 (of_z w32 c.args.cell) ≡ c.args.cell = to_z-of_z w32 c.args.cell c.ranges.cell in
-    rw (c.insert.ensures.items, c.in-Ok.is, cell_is) (insert_start
+    rw (c.insert_reserved.ensures.items, cell_is) (insert_start
     (record { start = c.args.cell; speed = c.speed_to-speed.result }) c.args.self.now.list.items
     c.started_before-i.result)
 
 pub returns-clause-starts : goal.returns-clause-starts
 returns-clause-starts c =
-    rw (c.insert.ensures.items, c.in-Ok.is) (insert_keeps _ c.args.self.now.list.items c.started_before-i.result)
+    rw c.insert_reserved.ensures.items (insert_keeps _ c.args.self.now.list.items c.started_before-i.result)
 
--- either list rises where both do
-either_rising : (first : Bool) (xs ys : List Step) → AreRising xs → AreRising ys → AreRising (if first then xs else ys)
-either_rising true xs ys h k = h
-either_rising false xs ys h k = k
+pub returns-clause-parted : goal.returns-clause-parted
+returns-clause-parted c =
+    let cell_is : to_z w32 (of_z w32 c.args.cell) ≡ c.args.cell = to_z-of_z w32 c.args.cell c.ranges.cell in
+    let wide : to_z w64 (of_z w64 c.from.result) ≡ c.args.cell = omega (arith, ints, c.from.ensures, cell_is) in
+    rw (c.insert_reserved.ensures.items, cell_is) (insert_parted
+    (record { start = c.args.cell; speed = c.speed_to-speed.result }) c.args.self.now.list.items
+    c.started_before-i.result (rw wide at c.started_before-i.ensures))
 
 pub invariant_of-self : goal.invariant_of-self
 invariant_of-self c =
@@ -72,13 +72,10 @@ invariant_of-self c =
     ] in
     let step : Step = record { start = c.args.cell; speed = c.speed_to-speed.result } in
     let rises = insert_rising step list i c.args.self.now.rises (λ k d l m. parted.before k d l) past in
-    record {
-      rises = rw (c.insert.ensures.items, cell_is)
-          (either_rising (is_ok c.insert.result) (insert list i step) list rises c.args.self.now.rises);
-    }
+    record { rises = rw (c.insert_reserved.ensures.items, cell_is) rises }
 
 pub returns-clause-only : goal.returns-clause-only
 returns-clause-only c x start =
     let cell_is : to_z w32 (of_z w32 c.args.cell) ≡ c.args.cell = to_z-of_z w32 c.args.cell c.ranges.cell in
     insert_only (record { start = c.args.cell; speed = c.speed_to-speed.result }) c.args.self.now.list.items
-    c.started_before-i.result x (rw (c.insert.ensures.items, c.in-Ok.is, cell_is) at start)
+    c.started_before-i.result x (rw (c.insert_reserved.ensures.items, cell_is) at start)

@@ -9,13 +9,13 @@ use Rattle.sdm_speed.proofs.steps.Steps.started_before.Goals as goal
 pub returns : goal.returns
 returns c =
     let slice = c.deref.result.now in
-    let i = c.partition_point.result in
+    let i = c.parted.result in
     let cell = c.args.cell in
     let parts = IsPartitionPoint-from_clause (λ (s : Step). int_lt s.start cell) slice i
-    c.partition_point.ensures.partitioned
+    c.parted.ensures.partitioned
     (starts_parted slice cell (rw c.deref.ensures.value c.args.self.now.rises)) (λ a r f called. search rules) in
     rw (← c.deref.ensures.value) (record {
-      bound = c.partition_point.ensures.bound;
+      bound = c.parted.ensures.bound;
       before = λ k d l. lt_of _ _ (parts.0 k d (omega arith) l);
       from = λ k d l m. not_lt_of _ _ (parts.1 k d l m);
     })

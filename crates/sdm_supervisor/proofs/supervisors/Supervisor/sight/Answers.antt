@@ -1,13 +1,15 @@
 -- Each part of what is seen is that of the definitions, by the clause of the call that found it.
 use Rattle.std.proofs.Common.{◌≡◌, min, map, ◌++◌, ◌∙◌, ap, refl, sym, subst, is_some, Option, true, false, to_z, of_z}
-use Rattle.std.proofs.Common.{w32, rules}
+use Rattle.std.proofs.Common.{w32, rules, arith, Bool, length, ◌≤◌}
 use Rattle.std.proofs.lemmas.Int.{ints, to_z-of_z}
-use Rattle.std.proofs.lemmas.List.{length-map}
+use Rattle.std.proofs.lemmas.List.{length-append, length-map}
 use Rattle.std.specs.Int.{int_gap}
 use Rattle.sdm_rules.specs.Cells.{cell_of, lowest}
 use Rattle.sdm_rules.specs.Supervision.{Supervision, release_of, is_past_end}
 use Rattle.sdm_rules.specs.Targets.{end_of, targets_of}
 use Rattle.sdm_speed.specs.Profiles.{mrsp_of}
+use Rattle.sdm_braking.specs.declared.kept_ends.KeptEnd.{KeptEnd}
+use Rattle.sdm_braking.specs.declared.kept_ends.KeptEnd.TheVariants.{Limit, Stop}
 use Rattle.sdm_braking.specs.declared.releases.Release.{Release}
 use Rattle.sdm_braking.specs.KeptCurves.{IsKeptEnd, targets_in}
 use Rattle.sdm_braking.specs.KeptFalls.{target_of}
@@ -153,3 +155,18 @@ returns-clause-accepted c = is_open c.args.self.now (rw (← c.self.view_is) c.i
 
 pub returns-clause-upwards : goal.returns-clause-upwards
 returns-clause-upwards c name = passing c.args.self.now c.args.reading.now name (returns-clause-accepted c)
+
+-- an authority has two targets at most
+at_most_two : (end : KeptEnd) (in_release_monitoring : Bool) → length (targets_in end in_release_monitoring) ≤ 2
+at_most_two (Stop eoa svl) true = omega arith
+at_most_two (Stop eoa svl) false = omega arith
+at_most_two (Limit loa) in_release_monitoring = omega arith
+
+pub returns-clause-few : goal.returns-clause-few
+returns-clause-few c =
+    rw (length-append, length-map) (omega (
+      arith,
+      c.ahead-ahead.ensures.few,
+      c.self.invariant.kept.falls.few,
+      at_most_two c.deref-2.result.now (is_some c.match-self-2.result),
+    ))
