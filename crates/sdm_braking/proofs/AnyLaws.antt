@@ -1,7 +1,7 @@
 -- Whether one of a list passes a test: where one more comes, one goes, or the test is weaker; and such a one is found.
 use Rattle.std.proofs.Common.{◌≡◌, ◌⊎◌, inl, inr, ℕ, zero, suc, List, [], ◌∷◌, Some, None, Bool, true, false, ◌||◌}
 use Rattle.std.proofs.Common.{cond, length, get_or, ◌+◌, ◌<◌, ◌≤◌, refl, sym, ap, ◌∙◌, arith, is_some, position}
-use Rattle.std.specs.List.{insert, list_any, position_from, remove}
+use Rattle.std.specs.List.{insert, list_any, position_from}
 use Rattle.std.proofs.lemmas.Bool.{true≢false}
 use Rattle.std.proofs.lemmas.Iterator.Adapters.{position_from-zero}
 use Rattle.sdm_speed.proofs.FallStarts.{either_first, either_later}
@@ -31,12 +31,25 @@ module _ {A : Type 0} (P : A → Bool) where
   any_new (x ∷ xs) zero y le here = either_first (P y) (list_any P (x ∷ xs)) here
   any_new (x ∷ xs) (suc i) y le here = either_later (P x) (list_any P (insert xs i y)) (any_new xs i y (omega arith) here)
 
-  pub any_less : (xs : List A) (i : ℕ) → i < length xs → ((d : A) → P (get_or xs i d) ≡ false) →
-      list_any P xs ≡ true → list_any P (remove xs i) ≡ true
-  any_less [] i known off on = absurd (true≢false (sym on))
-  any_less (x ∷ xs) zero known off on = other (P x) (list_any P xs) (off x) on
-  any_less (x ∷ xs) (suc i) known off on =
-      either (P x) (list_any P xs) (list_any P (remove xs i)) (any_less xs i (omega arith) off) on
+  -- where one passes it stands at an index
+  pub record IsPassed (xs : List A) : Type 0 where
+    pub index : ℕ
+    pub known : index < length xs
+    pub is : (d : A) → P (get_or xs index d) ≡ true
+
+  pub any_passed : (xs : List A) → list_any P xs ≡ true → IsPassed xs
+  any_passed [] on = absurd (true≢false (sym on))
+  any_passed (x ∷ xs) on = elim (either_of (P x) (list_any P xs) on) [
+    | inl here ↦ record { index = 0; known = omega arith; is = λ d. here }
+    | inr rest ↦ (let later = any_passed xs rest in let known = later.known in
+        record { index = suc later.index; known = omega (arith, known); is = later.is })
+  ]
+
+  pub any_at : (xs : List A) (k : ℕ) (d : A) → k < length xs → P (get_or xs k d) ≡ true → list_any P xs ≡ true
+  any_at [] k d known on = absurd (omega (arith, known))
+  any_at (x ∷ xs) zero d known on = either_first (P x) (list_any P xs) on
+  any_at (x ∷ xs) (suc k) d known on =
+      either_later (P x) (list_any P xs) (any_at xs k d (omega (arith, known)) on)
 
   weaker_first : (Q : A → Bool) (x : A) (xs : List A) (b : Bool) → P x ≡ b → (P x ≡ true → Q x ≡ true) →
       (list_any P xs ≡ true → list_any Q xs ≡ true) → (b || list_any P xs) ≡ true → list_any Q (x ∷ xs) ≡ true

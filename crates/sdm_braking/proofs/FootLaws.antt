@@ -1,7 +1,7 @@
 -- Falls as feet of their curves. What stands at an index of a row of feet is the foot of the fall there; a part of a row
 -- is hidden as it is in the row; and the feet stand in order, as the cells of falls rise.
-use Rattle.std.proofs.Common.{◌≡◌, ℕ, ℤ, List, map, length, get_or, take, drop, true, false, All, Some, None, Option}
-use Rattle.std.proofs.Common.{◌+◌, ◌<◌, ◌≤◌, ◌≤ℤ◌, ◌&&◌, nat_le, int_le, int_lt, sym, ap, subst, ◌∙◌, arith}
+use Rattle.std.proofs.Common.{◌≡◌, ℕ, ℤ, List, map, length, get_or, take, drop, true, All, Some, None, Option}
+use Rattle.std.proofs.Common.{◌+◌, ◌<◌, ◌≤ℤ◌, ◌&&◌, nat_le, int_le, int_lt, sym, ap, subst, ◌∙◌, arith}
 use Rattle.std.specs.Prelude.{slice_index}
 use Rattle.std.proofs.lemmas.Bool.{false≢true}
 use Rattle.std.proofs.lemmas.Int.{ints}
@@ -10,7 +10,6 @@ use Rattle.std.proofs.lemmas.List.{drop-map, length-drop, length-map, length-tak
 use Rattle.sdm_num.proofs.Comparisons.{le_is, le_of}
 use Rattle.sdm_rules.specs.declared.data.SlopeKind.TheVariants.{Normal, Safe}
 use Rattle.sdm_rules.specs.declared.targets.Target.{Target}
-use Rattle.sdm_rules.specs.declared.targets.TargetKind.TheVariants.{Mrsp}
 use Rattle.sdm_rules.specs.Cells.{place_of_cell}
 use Rattle.sdm_rules.specs.Curves.{stepped}
 use Rattle.sdm_rules.specs.Data.{TrainAndTrack}
@@ -22,9 +21,9 @@ use Rattle.sdm_curve.specs.Made.{BrakeCurve}
 use Rattle.sdm_hiding.specs.declared.rows.Foot.{Foot}
 use Rattle.sdm_hiding.specs.Hiding.{AreHiddenFrom, AreInOrder, IsAt, IsHiddenAfter, hides}
 use Rattle.sdm_braking.specs.declared.kept_targets.KeptTarget.{KeptTarget}
-use Rattle.sdm_braking.specs.FallFeet.{AreHidden, IsBrakedOn, IsGuideOn, IsGuidedOn, brake_foot, guide_foot}
+use Rattle.sdm_braking.specs.FallFeet.{IsBrakedOn, IsGuideOn, IsGuidedOn, brake_foot, guide_foot}
 use Rattle.sdm_braking.specs.KeptCurves.{IsGuideOf, brake_kind, is_guided}
-use Rattle.sdm_braking.specs.KeptFalls.{IsKeptFall, KeptFallData, at_fall, fall_of, first_cell, no_zone, target_of}
+use Rattle.sdm_braking.specs.KeptFalls.{IsKeptFall, KeptFallData, fall_of, first_cell, no_zone, target_of}
 use Rattle.sdm_braking.specs.KeptFalls.{zone_fall}
 use Rattle.sdm_braking.proofs.EbdLaws.{ebd_of}
 

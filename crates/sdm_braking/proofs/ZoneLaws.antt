@@ -1,20 +1,19 @@
 -- The zones that are kept: there is one where a profile falls, with its speed. They stay so where a restriction comes
 -- or goes.
-use Rattle.std.proofs.Common.{◌≡◌, ◌⊎◌, inl, inr, ℕ, zero, suc, ℤ, pos, List, [], ◌∷◌, ◌++◌, Option, Some, None, Bool}
-use Rattle.std.proofs.Common.{true, false, ◌&&◌, ◌||◌, ◌==◌, T, cond, map, length, get_or, All, ◌+◌, ◌<◌, ◌≤◌, ◌≤ℤ◌}
+use Rattle.std.proofs.Common.{◌≡◌, ◌≢◌, ◌⊎◌, inl, inr, ℕ, zero, suc, ℤ, pos, List, [], ◌∷◌, ◌++◌, Option, Some, None, Bool}
+use Rattle.std.proofs.Common.{true, false, ◌&&◌, ◌==◌, T, cond, map, length, get_or, All, ◌+◌, ◌<◌, ◌≤◌, ◌≤ℤ◌}
 use Rattle.std.proofs.Common.{◌<ℤ◌, refl, sym, ap, subst, ◌∙◌, arith, is_some, is_none, length-take-le, ◌-◌, position, take, drop}
 use Rattle.std.specs.Cmp.{nat_cmp_total}
 use Rattle.std.specs.FinMap as finite
 use Rattle.std.specs.FinMap.Entries.{below_all, is_sorted}
-use Rattle.std.specs.List.{insert, list_any, position_from, remove}
+use Rattle.std.specs.List.{insert, list_any}
 use Rattle.std.specs.Option.{option_map_or}
 use Rattle.std.specs.Ordering.{int_eq, nat_cmp, eq_by_cmp, is_lt}
 use Rattle.std.proofs.lemmas.Int.{ints, by_lt_z}
 use Rattle.std.proofs.lemmas.Bool.{true≢false, and_from, and_parts}
 use Rattle.std.proofs.lemmas.Bool.Decides.{Decides-int_eq, nat_tests}
 use Rattle.std.proofs.lemmas.List.{take_all}
-use Rattle.std.proofs.lemmas.List.Edits.{length-insert, length-remove}
-use Rattle.std.proofs.lemmas.Iterator.Adapters.{position_from-zero}
+use Rattle.std.proofs.lemmas.List.Edits.{length-insert}
 use Rattle.std.proofs.lemmas.List.Quantifiers.{position-Some}
 use Rattle.std.proofs.lemmas.List.Elements.{All-append, All-cons, All-drop, All-take}
 use Rattle.sdm_rules.specs.declared.restrictions.Restriction.{Restriction}
@@ -23,7 +22,7 @@ use Rattle.sdm_rules.specs.Data.{TrainAndTrack}
 use Rattle.sdm_rules.specs.Profile.{Zone, lowest_limit, zone_of, zones_of_track}
 use Rattle.sdm_rules.specs.Records.{most_restrictions}
 use Rattle.sdm_rules.specs.Targets.{IsNextFall, HasNoFall}
-use Rattle.sdm_speed.proofs.HeldLaws.{All-remove, len_is}
+use Rattle.sdm_speed.proofs.HeldLaws.{len_is}
 use Rattle.sdm_speed.proofs.TakenLaws.{distinct_take, next_missing, not_contained, one_taken}
 use Rattle.sdm_speed.specs.Held.{AreDistinct, by_identity}
 use Rattle.sdm_speed.specs.Profiles.{ProfileData, mrsp_of, static_of, zones_of}
@@ -31,7 +30,7 @@ use Rattle.sdm_speed.specs.ZoneStarts.{FallsTo, IsZoneStart, has_restriction, is
 use Rattle.sdm_targets.proofs.CountLaws.{passed, passed_most, track_count}
 use Rattle.sdm_targets.specs.Lists.{target_at}
 use Rattle.sdm_braking.specs.declared.falls_ahead.KeptZone.{KeptZone}
-use Rattle.sdm_braking.proofs.AnyLaws.{any_less, any_more, any_new, any_weaker, either_of}
+use Rattle.sdm_braking.proofs.AnyLaws.{any_at, any_more, any_passed, any_new, any_weaker, either_of}
 use Rattle.sdm_braking.specs.KeptFalls.{AreZonesOf, IsKeptZone, IsRestricted, IsRevoked, IsZoneAt, IsZoneLess}
 use Rattle.sdm_braking.specs.KeptFalls.{KeptFallsData, fall_by, first_cell, has_id, is_at, is_held_at, is_static_at}
 use Rattle.sdm_braking.specs.KeptFalls.{IsKeptFall, IsZoneMore, kept_at, no_zone}
@@ -221,24 +220,72 @@ left_in : (b : Bool) (s : Restriction) (o : Option Restriction) → cond b None 
 left_in true s o e = absurd cc
 left_in false s o e = (refl, e)
 
+-- two numbers are the same or aren't
+same_or_not : (a b : ℕ) → (a ≡ b) ⊎ (a ≢ b)
+same_or_not a b = by_test (a == b) refl
+  where
+    by_test : (t : Bool) → (a == b) ≡ t → (a ≡ b) ⊎ (a ≢ b)
+    by_test true is = inl (nat_is a b is)
+    by_test false off = inr (λ e. true≢false (sym (ap (λ n. n == b) e ∙ nat_same b) ∙ off))
+
+lt_or_not : (a b : ℕ) → (a < b) ⊎ (b ≤ a)
+lt_or_not a zero = inr (omega arith)
+lt_or_not zero (suc b) = inl (omega arith)
+lt_or_not (suc a) (suc b) = elim (lt_or_not a b) [
+  | inl lt ↦ inl (omega (arith, lt))
+  | inr le ↦ inr (omega (arith, le))
+]
+
+module _ (id : ℕ) (old new : List KeptZone) (less : IsZoneLess id old new) where
+  -- one that passes a test, and isn't that which goes, is left
+  any_left : (P : KeptZone → Bool) → ((d : KeptZone) → P (get_or old less.index d) ≡ false) →
+      list_any P old ≡ true → list_any P new ≡ true
+  any_left P off on =
+      let found = any_passed P old on in
+      let k = found.index in
+      let known = found.known in
+      let fewer = less.fewer in
+      let here = less.known in
+      let apart : k ≢ less.index =
+      λ e. true≢false (sym (found.is no_zone) ∙ ap (λ n. P (get_or old n no_zone)) e ∙ off no_zone) in
+      elim (lt_or_not k (length new)) [
+        | inl lt ↦ any_at P new k no_zone lt
+            (ap P (less.others k no_zone apart (omega (arith, lt, fewer))) ∙ found.is no_zone)
+        | inr past ↦ elim (lt_or_not (less.index + 1) (length old)) [
+          | inl more ↦ (let is_last : length old - 1 ≡ k = omega (arith, past, known, fewer) in
+              any_at P new less.index no_zone (omega (arith, more, fewer))
+              (ap P (less.last no_zone more ∙ ap (λ n. get_or old n no_zone) is_last) ∙ found.is no_zone))
+          | inr end ↦ absurd (apart (omega (arith, end, here, past, known, fewer)))
+        ]
+      ]
+
+  -- what holds of all holds of those that are left
+  all_left : (Q : KeptZone → Type 0) → All Q old → All Q new
+  all_left Q each k d known =
+      let fewer = less.fewer in
+      elim (same_or_not k less.index) [
+        | inl is ↦ subst Q (sym (ap (λ n. get_or new n d) is ∙ less.last d (omega (arith, known, fewer, is))))
+            (each (length old - 1) d (omega (arith, known, fewer)))
+        | inr apart ↦ subst Q (sym (less.others k d apart (omega (arith, known, fewer))))
+            (each k d (omega (arith, known, fewer)))
+      ]
+
 pub revoked_zones : (q : ProfileData) (id : ℕ) (v w : KeptFallsData) → IsRevoked q id v →
     IsZoneLess id v.zones w.zones → w.room ≡ v.room → AreZonesOf q w
 revoked_zones q id v w h less room = subst (λ (x : ProfileData). AreZonesOf x w) (sym h.is) (record {
-  statics = λ c speed past falls. rw less.is (any_less (is_static_at (record { cell = c; speed = speed })) v.zones
-      less.index less.known (λ z. not_static (get_or v.zones less.index z).id id _ (less.was z))
-      (h.zones.statics c speed past falls));
+  statics = λ c speed past falls. any_left id v.zones w.zones less (is_static_at (record { cell = c; speed = speed }))
+      (λ z. not_static (get_or v.zones less.index z).id id _ (less.was z)) (h.zones.statics c speed past falls);
   held = λ k s here.
       let left = left_in (eq_by_cmp nat_cmp k id) s (finite.get h.old.restrictions k)
       (sym (finite.get-remove nat_cmp_total h.old.restrictions id k) ∙ here) in
-      rw less.is (any_less (is_held_at k (fall_by s)) v.zones less.index less.known
-      (λ z. not_held (get_or v.zones less.index z).id id k _ (less.was z) left.0) (h.zones.held k s left.1));
+      any_left id v.zones w.zones less (is_held_at k (fall_by s))
+      (λ z. not_held (get_or v.zones less.index z).id id k _ (less.was z) left.0) (h.zones.held k s left.1);
   few =
-      let long = length-remove v.zones less.index less.known in
-      let longs = ap (λ (xs : List KeptZone). length xs) less.is in
+      let fewer = less.fewer in
       let held = finite.len-remove nat_cmp_total h.old.restrictions id in
       let held_is : finite.len (finite.remove h.old.restrictions id) ≡ finite.len h.old.restrictions - 1 =
       held ∙ rw h.held refl in
-      omega (arith, long, longs, held_is, h.zones.few);
+      omega (arith, fewer, held_is, h.zones.few);
   room = omega (arith, room, h.zones.room);
 })
 
@@ -381,7 +428,7 @@ same_zones p v w h zones room = record {
 -- the zones that are left have their curves
 pub curves_left : (d : TrainAndTrack) (id : ℕ) (old new : List KeptZone) → All (IsKeptZone d) old →
     IsZoneLess id old new → All (IsKeptZone d) new
-curves_left d id old new h less = rw less.is (All-remove (IsKeptZone d) old less.index h)
+curves_left d id old new h less = all_left id old new less (IsKeptZone d) h
 
 -- a fall at the zone that is found is kept
 pub kept_zone : (d : TrainAndTrack) (zs : List KeptZone) (fall : Fall) (i : ℕ) → IsZoneAt fall zs i →

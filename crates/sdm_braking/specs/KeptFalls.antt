@@ -1,8 +1,8 @@
 -- The falls of a speed profile that are kept with their curves, and the zones that may be falls (own).
 use Rattle.std.specs.Prelude.{◌≡◌, ℕ, ℤ, pos, negsuc, Bool, true, false, List, [], Option, Some, None, All, ◌&&◌, is_none}
-use Rattle.std.specs.Prelude.{length, map, slice_index_or, ◌+◌, ◌<◌, ◌≤◌, ◌==◌, ◌≤ℤ◌, ◌<ℤ◌}
+use Rattle.std.specs.Prelude.{length, map, slice_index_or, ◌≢◌, ◌+◌, ◌-◌, ◌<◌, ◌≤◌, ◌==◌, ◌≤ℤ◌, ◌<ℤ◌}
 use Rattle.std.specs.FinMap as finite
-use Rattle.std.specs.List.{insert, list_any, remove}
+use Rattle.std.specs.List.{insert, list_any}
 use Rattle.std.specs.Option.{option_map_or}
 use Rattle.std.specs.Ordering.{int_eq}
 use Rattle.sdm_rules.specs.declared.restrictions.Restriction.{Restriction}
@@ -148,12 +148,16 @@ pub record IsZoneMore (d : TrainAndTrack) (of : Option ℕ) (at : Fall) (old new
   pub fall : zone.fall ≡ at
   pub kept : IsKeptZone d zone
 
--- of zones that of the restriction with this identity is taken out
+-- of zones that of the restriction with this identity is taken out, and the last one takes its place
 pub record IsZoneLess (id : ℕ) (old new : List KeptZone) : Type 0 where
   pub index : ℕ
-  pub is : new ≡ remove old index
   pub known : index < length old
   pub was : (d : KeptZone) → has_id id (slice_index_or old index d) ≡ true
+  pub fewer : length new + 1 ≡ length old
+  pub last : (d : KeptZone) → index + 1 < length old →
+      slice_index_or new index d ≡ slice_index_or old (length old - 1) d
+  pub others : (k : ℕ) (d : KeptZone) → k ≢ index → k + 1 < length old →
+      slice_index_or new k d ≡ slice_index_or old k d
 
 -- ---- the falls of a profile
 

@@ -61,7 +61,7 @@ impl Kept {
         ensures { (p : ProfileData) (before : Authority) →
             IsKept braking.now p before self.old → IsKept braking.now p authority.now self.new }
     {
-        *self.end = braking.keep_end(authority);
+        self.end.take(braking, authority);
         self.release = braking.release(authority, &self.end);
     }
 

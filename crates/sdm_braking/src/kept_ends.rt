@@ -5,6 +5,7 @@ ghost use Rattle.std.specs.Prelude.{◌≡◌, ◌≤◌, ◌≤ℤ◌, None, po
 ghost use Rattle.sdm_rules.specs.Cells.{place_of_cell};
 ghost use Rattle.sdm_rules.specs.Records.{authority_fault};
 ghost use Rattle.sdm_rules.specs.Ranges.{top_kmh};
+ghost use Rattle.sdm_targets.specs.Lists.{IsTarget};
 ghost use Rattle.sdm_braking.specs.KeptCurves.{IsKeptAt, IsKeptEnd, brake_curve_of};
 
 use crate::braking::Braking;
@@ -21,18 +22,37 @@ pub enum KeptEnd {
 }
 
 impl Braking {
+    /// The target of a kind at a place in cm on the track.
+    fn target_at(&self, kind: TargetKind, cm: u32, speed: u16) -> Target
+        requires place { pos cm ≤ℤ self.now.track.length_cm }
+        requires speed { speed ≤ top_kmh }
+        ensures value { result ≡ record { kind = kind; place = place_of_cell (pos cm); speed = speed } }
+        ensures in_range { IsTarget result }
+    {
+        prove!(cm <= self.track_cm());
+        Target {
+            kind,
+            place: Place::of_cm_from_0(cm),
+            speed,
+        }
+    }
+
     /// The target of a kind at a place in cm on the track, with its curves.
     fn keep_at(&self, kind: TargetKind, cm: u32, speed: u16) -> KeptTarget
         requires place { pos cm ≤ℤ self.now.track.length_cm }
         requires speed { speed ≤ top_kmh }
         ensures { IsKeptAt self.now (record { kind = kind; place = place_of_cell (pos cm); speed = speed }) result }
     {
-        prove!(cm <= self.track_cm());
-        self.keep(Target {
-            kind,
-            place: Place::of_cm_from_0(cm),
-            speed,
-        })
+        self.keep(self.target_at(kind, cm, speed))
+    }
+
+    /// Puts such a target in the place of another one.
+    fn keep_at_over(&self, kind: TargetKind, cm: u32, speed: u16, kept: &mut KeptTarget)
+        requires place { pos cm ≤ℤ self.now.track.length_cm }
+        requires speed { speed ≤ top_kmh }
+        ensures { IsKeptAt self.now (record { kind = kind; place = place_of_cell (pos cm); speed = speed }) kept.new }
+    {
+        self.keep_over(self.target_at(kind, cm, speed), kept);
     }
 
     /// The targets at the end of an authority, with their curves.
@@ -53,6 +73,31 @@ impl Braking {
 }
 
 impl KeptEnd {
+    /// Takes the targets at the end of another authority. Where it ends as the one before, they are made in the places of
+    /// those.
+    pub fn take(&mut self, braking: &Braking, authority: &Authority)
+        requires { authority_fault braking.now.track.length_cm authority.now ≡ None }
+        ensures { IsKeptEnd braking.now authority.now self.new }
+    {
+        match (&mut *self, *authority) {
+            (
+                KeptEnd::Stop { eoa, svl },
+                Authority::Stop {
+                    eoa: eoa_cm,
+                    svl: svl_cm,
+                    ..
+                },
+            ) => {
+                braking.keep_at_over(TargetKind::Eoa, eoa_cm, 0, eoa);
+                braking.keep_at_over(TargetKind::Svl, svl_cm, 0, svl);
+            }
+            (KeptEnd::Limit { loa }, Authority::Limit { loa: loa_cm, speed }) => {
+                braking.keep_at_over(TargetKind::Loa, loa_cm, speed, loa);
+            }
+            _ => *self = braking.keep_end(authority),
+        }
+    }
+
     /// The EBD of the SvL or of the LOA.
     pub fn brake_curve(&self) -> &Curve
         ensures { result.now ≡ brake_curve_of self.now }

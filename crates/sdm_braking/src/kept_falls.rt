@@ -33,12 +33,15 @@ use sdm_rules::{Fall, Restriction};
 use sdm_speed::{MOST_RESTRICTIONS, Profile, parted};
 use std::alloc::Global;
 use std::marker::Model;
+use std::mem::swap;
 
 /// The falls of a profile with their curves, in order. (own)
 #[derive(Drop)]
 pub struct KeptFalls {
     list: Vec<PlacedFall>,
-    /// The zones that may be falls: the falls of the static profile, in order, and then the restrictions as they came.
+    /// The list before it, where most falls have the places that they have now. As much room as for falls.
+    older: Vec<PlacedFall>,
+    /// The zones that may be falls: the falls of the static profile, in order, and then the restrictions.
     zones: Vec<KeptZone>,
     /// For each fall how many falls further on the first one stands whose EBD hides this one's. No less room than for
     /// falls.
@@ -63,6 +66,7 @@ impl Model for KeptFalls {
 
     ghost invariant = { λ k. ArePlacedIn k.zones.items k.list.items
         × (vec_capacity k.zones ≤ vec_capacity k.list)
+        × (vec_capacity k.zones ≤ vec_capacity k.older)
         × (length k.list.items ≤ vec_capacity k.zones)
         × (vec_capacity k.zones ≤ length k.brake_steps.items)
         × (vec_capacity k.zones ≤ length k.guide_steps.items) };
@@ -78,6 +82,7 @@ impl KeptFalls {
         let room = profile.speed_count() + MOST_RESTRICTIONS;
         let mut falls = KeptFalls {
             list: Vec::with_capacity(alloc, room)?,
+            older: Vec::with_capacity(alloc, room)?,
             zones: Vec::with_capacity(alloc, room)?,
             brake_steps: vec![in alloc; 0; room]?,
             guide_steps: vec![in alloc; 0; room]?,
@@ -112,17 +117,20 @@ impl KeptFalls {
         let kept = braking.keep(target_at(fall));
         // The check of moves reads the type of this field from here.
         let _guide = kept.guide;
-        self.list.clear();
+        self.clear();
         self.zones.push_reserved(KeptZone { id, fall, kept });
     }
 
-    /// No fall has a place.
+    /// Sets the falls aside, so that none has a place.
     fn clear(&mut self)
         ensures list { self.new.list ≡ [] }
         ensures zones { self.new.zones ≡ self.old.zones }
         ensures room { self.new.room ≡ self.old.room }
     {
-        self.list.clear();
+        if !self.list.is_empty() {
+            swap(&mut self.list, &mut self.older);
+            self.list.clear();
+        }
     }
 
     /// A fall comes to the end of the list, with the place of its zone.
@@ -153,12 +161,37 @@ impl KeptFalls {
         self.zones.len()
     }
 
-    /// The index of a zone that begins at a fall with its speed: as a rule `near`, or one from `held` on.
-    fn zone_of(&self, near: usize, held: usize, fall: Fall) -> usize
+    /// How many of the falls set aside, from a number of them on, lie before a cell.
+    fn older_before(&self, from: usize, cell: i32) -> usize {
+        for i in from..self.older.len() {
+            if cell <= self.older[i].fall.cell {
+                return i;
+            }
+        }
+        self.older.len()
+    }
+
+    /// The place that a fall set aside had, if there is one at its index.
+    fn older_place(&self, i: usize) -> usize {
+        if i < self.older.len() {
+            self.older[i].place
+        } else {
+            0
+        }
+    }
+
+    /// The index of a zone that begins at a fall with its speed: as a rule `older`, or the next one of the static
+    /// profile from `near` on, or one from `held` on.
+    fn zone_of(&self, older: usize, near: &mut usize, held: usize, fall: Fall) -> usize
         requires { list_any (is_at fall) self.now.zones ≡ true }
         ensures { IsZoneAt fall self.now.zones result }
     {
-        if let Some(place) = zone_between(&self.zones, near, near.saturating_add(1), fall) {
+        if let Some(place) = zone_between(&self.zones, older, older.saturating_add(1), fall) {
+            return place;
+        }
+        let next = self.static_from(*near, fall.cell);
+        *near = next;
+        if let Some(place) = zone_between(&self.zones, next, next.saturating_add(1), fall) {
             return place;
         }
         if let Some(place) = zone_between(&self.zones, held, self.zones.len(), fall) {
@@ -170,9 +203,9 @@ impl KeptFalls {
         place
     }
 
-    /// Finds which zones are falls of a profile, in one pass over its steps. The zones of the static profile come
-    /// first, in the order of their cells, so for each fall the next one of them is looked at, and then those of
-    /// restrictions.
+    /// Finds which zones are falls of a profile, in one pass over its steps. Most were falls before. The zones of the
+    /// static profile come first, in the order of their cells, so for another fall the next one of them is looked at,
+    /// and then those of restrictions.
     fn fill(&mut self, profile: &Profile)
         requires { AreZonesOf profile.now self.old }
         ensures falls { AreAtFalls fall_of (mrsp_of profile.now) first_cell self.new.list }
@@ -186,9 +219,10 @@ impl KeptFalls {
         let mut at = i32::MIN;
         let mut near = 0;
         let mut next = 0;
+        let mut older = 0;
         while let Some(fall) = profile.next_fall_near(at, &mut near) {
-            next = self.static_from(next, fall.cell);
-            let place = self.zone_of(next, held, fall);
+            older = self.older_before(older, fall.cell);
+            let place = self.zone_of(self.older_place(older), &mut next, held, fall);
             self.push(fall, place);
             at = fall.cell;
         }
@@ -267,7 +301,7 @@ impl KeptFalls {
         self.keep_falls(braking, profile);
     }
 
-    /// Takes out the zone of the restriction with an identity. No fall has a place then.
+    /// Takes out the zone of the restriction with an identity, whose place the last one takes. No fall has a place then.
     fn remove(&mut self, id: u16)
         requires { list_any (has_id id) self.old.zones ≡ true }
         ensures zone { IsZoneLess id self.old.zones self.new.zones }
@@ -276,8 +310,8 @@ impl KeptFalls {
         let Some(index) = zone_by_id(&self.zones, id) else {
             unreachable!()
         };
-        self.list.clear();
-        self.zones.remove(index);
+        self.clear();
+        self.zones.swap_remove(index);
     }
 
     /// Keeps the falls of a profile that a restriction has gone from.

@@ -78,4 +78,30 @@ impl Braking {
             guide: self.guidance_curve(&target, &speeds),
         }
     }
+
+    /// Puts the guidance curve of a target, where it has one, in the place of another one.
+    fn guide_over(&self, target: &Target, speeds: &SpeedLimits, guide: &mut Option<Curve>)
+        requires target { IsTarget target.now }
+        requires speeds { AreSpeedsOf target.now speeds.now }
+        ensures { IsGuideOf self.now target.now guide.new }
+    {
+        if self.is_guided(target) {
+            *guide = Some(Curve::from_foot(self.normal(), target.place, speeds.permitted));
+        } else if guide.is_some() {
+            *guide = None;
+        }
+    }
+
+    /// Puts a target with its speeds and its curves in the place of another one, so that no curve is moved.
+    pub fn keep_over(&self, target: Target, kept: &mut KeptTarget)
+        requires { IsTarget target }
+        ensures target { kept.new.target ≡ target }
+        ensures kept { IsKeptTarget self.now kept.new }
+    {
+        let speeds = SpeedLimits::of_target(&target);
+        kept.target = target;
+        kept.speeds = speeds;
+        kept.brake = self.brake_curve(&target, &speeds);
+        self.guide_over(&target, &speeds, &mut kept.guide);
+    }
 }

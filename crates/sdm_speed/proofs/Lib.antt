@@ -8,6 +8,7 @@ pub mod MrspLaws
 pub mod StepLaws
 pub mod SplitLaws
 pub mod CapLaws
+pub mod WithinLaws
 pub mod SteadyLaws
 pub mod JoinLaws
 pub mod ZoneEndLaws

@@ -5,27 +5,15 @@
 ghost use Rattle.std.specs.Prelude.{◌≡◌, ◌⊎◌, ◌≤◌, ℕ, ℤ, pos, true, All, map, vec_capacity};
 ghost use Rattle.sdm_rules.specs.Profile.{capped, zone_of};
 ghost use Rattle.sdm_rules.specs.Ranges.{longest_train};
-ghost use Rattle.sdm_speed.specs.ZoneEnds.{AreAtZoneEnds, AreSpeedsAt, IsZoneEnd, IsEnd, IsEndOfOne, retaken};
+ghost use Rattle.sdm_speed.specs.ZoneEnds.{AreAtZoneEnds, AreSpeedsAt, IsZoneEnd, IsEnd, IsEndOfOne, retaken, within};
 ghost use Rattle.sdm_speed.specs.Held.{IsHeldRestriction};
-ghost use Rattle.sdm_speed.specs.Steps.{IsStart};
+ghost use Rattle.sdm_speed.specs.Steps.{IsStart, capped_step};
 ghost use Rattle.sdm_speed.specs.Speeds.{speeds_in, speeds_left};
 
 use crate::ends::{cells_of, zone_of};
 use crate::steps::Steps;
+use crate::zones::Zone;
 use sdm_rules::Restriction;
-
-/// The speed of a cell: the static one, lowered by restrictions.
-fn speed_under(statics: &Steps, held: &[Restriction], length_cm: u32, cell: i32) -> u16
-    requires held { All IsHeldRestriction held.now }
-    requires train { length_cm ≤ longest_train }
-    ensures { result ≡ speeds_left length_cm statics.now held.now cell }
-{
-    let mut speed = statics.speed_at(cell);
-    for r in held {
-        speed = zone_of(*r, length_cm).capped(cell, speed);
-    }
-    speed
-}
 
 /// Whether the zone of a restriction begins or ends at a cell.
 fn is_end_of_one(held: &[Restriction], length_cm: u32, cell: i32) -> bool
@@ -53,7 +41,48 @@ fn is_zone_end(statics: &Steps, held: &[Restriction], length_cm: u32, cell: i32)
     statics.starts_at(cell) || is_end_of_one(held, length_cm, cell)
 }
 
-/// Gives the steps in the zone of a restriction that is no longer held the speeds that are left.
+/// Gives the steps that a zone covers the static speeds, in one pass over both.
+fn take_statics(steps: &mut Steps, zone: Zone, statics: &Steps)
+    ensures before { steps.new.before ≡ steps.old.before }
+    ensures list { steps.new.list.items ≡
+        map (within zone (retaken (speeds_in statics.now))) steps.old.list.items }
+    ensures room { vec_capacity steps.new.list ≡ vec_capacity steps.old.list }
+{
+    let covered = steps.covered(zone);
+    let mut near = 0;
+    for i in covered.from..covered.to {
+        let speed = statics.speed_near(steps.start(i), &mut near);
+        steps.set_speed(i, speed);
+    }
+}
+
+/// Lowers the steps in the zone of a restriction to the limit of another, as far as its zone covers them.
+fn lower_within(steps: &mut Steps, lifted: Restriction, r: Restriction, length_cm: u32)
+    requires lifted { IsHeldRestriction lifted }
+    requires held { IsHeldRestriction r }
+    requires train { length_cm ≤ longest_train }
+    ensures before { steps.new.before ≡ steps.old.before }
+    ensures list { steps.new.list.items ≡ map (within (zone_of (pos length_cm) lifted)
+        (capped_step (zone_of (pos length_cm) r))) steps.old.list.items }
+    ensures room { vec_capacity steps.new.list ≡ vec_capacity steps.old.list }
+{
+    let cells = cells_of(lifted, length_cm);
+    let others = cells_of(r, length_cm);
+    let first = cells.first.max(others.first);
+    let past = cells.past.min(others.past);
+    if first < past {
+        let both = Zone {
+            first: Some(first),
+            past: Some(past),
+            limit: r.speed,
+        };
+        let covered = steps.covered(both);
+        steps.cap(both, covered);
+    }
+}
+
+/// Gives the steps in the zone of a restriction that is no longer held the speeds that are left: the static ones, and
+/// then the limits of the restrictions that lie over the zone.
 fn retake(
     steps: &mut Steps,
     lifted: Restriction,
@@ -71,10 +100,9 @@ fn retake(
         map (retaken (speeds_left length_cm statics.now held.now)) steps.old.list.items }
     ensures room { vec_capacity steps.new.list ≡ vec_capacity steps.old.list }
 {
-    let covered = steps.covered(zone_of(lifted, length_cm));
-    for i in covered.from..covered.to {
-        let speed = speed_under(statics, held, length_cm, steps.start(i));
-        steps.set_speed(i, speed);
+    take_statics(steps, zone_of(lifted, length_cm), statics);
+    for r in held {
+        lower_within(steps, lifted, *r, length_cm);
     }
 }
 

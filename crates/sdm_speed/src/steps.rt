@@ -135,13 +135,6 @@ impl Steps {
         };
     }
 
-    /// The speed of a cell.
-    pub fn speed_at(&self, cell: i32) -> u16
-        ensures { result ≡ speeds_in self.now cell }
-    {
-        self.speed_to(self.started_before(i64::from(cell) + 1))
-    }
-
     /// Whether a step starts at a cell.
     pub fn starts_at(&self, cell: i32) -> bool
         ensures yes { result ≡ true → IsStart cell self.now.list.items }
@@ -265,7 +258,7 @@ impl Steps {
     }
 
     /// Each step that the zone covers takes at most its limit, and so do the cells before the first step.
-    fn cap(&mut self, zone: Zone, covered: Range)
+    pub fn cap(&mut self, zone: Zone, covered: Range)
         requires { AreCovered zone self.old.list.items covered.from covered.to }
         ensures before { self.new.before ≡ capped_before zone self.old.before }
         ensures list { self.new.list.items ≡ map (capped_step zone) self.old.list.items }
@@ -307,6 +300,19 @@ impl Steps {
             return near;
         }
         self.started_before(i64::from(after) + 1)
+    }
+
+    /// The speed of a cell, for cells that are asked for one after another. `near` is how many steps start at the cell
+    /// or before it, as a rule, or one fewer, and then how many do.
+    pub fn speed_near(&self, cell: i32, near: &mut usize) -> u16
+        ensures { result ≡ speeds_in self.now cell }
+    {
+        if *near < self.list.len() && self.list[*near].start <= cell {
+            *near += 1;
+        }
+        let begun = self.begun_near(cell, *near);
+        *near = begun;
+        self.speed_to(begun)
     }
 
     /// The first fall past the start of the cell `after`. `near` is how many steps start there or before, as a rule,

@@ -1,57 +1,43 @@
--- One step more that is covered takes what is left; the others stay.
-use Rattle.std.proofs.Common.{◌≡◌, ◌<◌, pos, length, get_or, refl, sym, ap, ◌∙◌, add-one, w32, to_z, of_z, arith, rules}
-use Rattle.std.proofs.lemmas.Int.{to_z-of_z}
-use Rattle.sdm_speed.specs.declared.steps.Step.{Step}
-use Rattle.sdm_speed.specs.ZoneEnds.{retaken, speed_under}
-use Rattle.sdm_speed.proofs.CapLaws.{prefix_stays, rest_stays, one_more, not_yet}
-use Rattle.sdm_speed.proofs.StepLaws.{none}
-use Rattle.sdm_speed.proofs.SteadyLaws.{retaken_same}
+-- One restriction more lowers the steps in the zone; the steps outside it had what is left already.
+use Rattle.std.proofs.Common.{◌≡◌, ◌+◌, ℤ, pos, [], ◌∷◌, get_or, take, take_all, ◌∙◌}
+use Rattle.std.proofs.lemmas.List.{take_more, map-append}
+use Rattle.sdm_rules.specs.Profile.{capped, zone_of}
+use Rattle.sdm_speed.specs.ZoneEnds.{speed_under}
+use Rattle.sdm_speed.proofs.ZoneLaws.{lowest_limit-push}
+use Rattle.sdm_speed.proofs.HeldLaws.{none}
+use Rattle.sdm_speed.proofs.WithinLaws.{one_limit_more, taken_within}
 use Rattle.sdm_speed.proofs.lifts.retake.Goals as goal
 
-pub loop-i-init : goal.loop-i-init
-loop-i-init c =
-    let speed = speed_under
-    (pos c.args.length_cm) c.args.statics.now.before c.args.statics.now.list.items c.args.held.now in
-    let steps = c.args.steps.now.list.items in
-    record {
-      before = refl;
-      list = sym (prefix_stays (retaken speed) steps c.covered-covered.result.from
-          (λ k d l m. retaken_same speed c.zone_of.result c.args.steps.now.before steps k d c.args.steps.now.rises
-          (rw c.zone_of.ensures c.requires.speeds) m (c.covered-covered.ensures.before k d l m)));
-      len = refl;
-      room = refl;
-    }
+pub loop-r-init : goal.loop-r-init
+loop-r-init c = record {
+  before = c.take_statics.ensures.before;
+  list = rw c.zone_of.ensures at c.take_statics.ensures.list;
+  room = c.take_statics.ensures.room;
+}
 
-pub loop-i-preserved : goal.loop-i-preserved
-loop-i-preserved c =
-    let speed = speed_under
-    (pos c.args.length_cm) c.args.statics.now.before c.args.statics.now.list.items c.args.held.now in
-    let steps = c.args.steps.now.list.items in
-    let i = c.loop-i.i in
-    let inv = c.loop-i.invariant in
-    let covered = c.covered-covered.ensures in
-    let known : i < length steps = omega (arith, covered.bound) in
-    let step = get_or steps i none in
-    let read : get_or c.loop-i.steps.list.items i none
-    ≡ step = rw inv.list (not_yet (retaken speed) steps i none known) in
-    let start_is = c.start.ensures none ∙ ap (λ (s : Step). s.start) read in
-    let fits : to_z w32 (of_z w32 c.start.result) ≡ c.start.result = to_z-of_z w32 c.start.result (search rules) in
-    let speed_is = rw (fits, start_is) at c.speed_under-speed.ensures in
+pub loop-r-preserved : goal.loop-r-preserved
+loop-r-preserved c =
+    let held = c.args.held.now in
+    let zone = zone_of (pos c.args.length_cm) in
+    let left = speed_under (pos c.args.length_cm) c.args.statics.now.before c.args.statics.now.list.items in
+    let i = c.loop-r.r-index in
+    let r = get_or held i none in
+    let inv = c.loop-r.invariant in
+    let one : (x : ℤ) → left (take (i + 1) held) x ≡ capped x (zone r) (left (take i held) x) =
+    λ x. rw (take_more held i none c.loop-r-test.true, map-append zone (take i held) (r ∷ []))
+    (lowest_limit-push _ x _ (zone r)) in
     record {
-      before = c.set_speed.ensures.before ∙ inv.before;
-      list = rw (c.set_speed.ensures.list none, read, speed_is, inv.list, add-one)
-          (one_more (retaken speed) steps i none known);
-      len = c.set_speed.ensures.len ∙ inv.len;
-      room = c.set_speed.ensures.room ∙ inv.room;
+      before = c.lower_within.ensures.before ∙ inv.before;
+      list = rw inv.list at c.lower_within.ensures.list
+          ∙ one_limit_more (zone c.args.lifted) (zone r) (left (take i held)) (left (take (i + 1) held))
+          c.args.steps.now.list.items one;
+      room = c.lower_within.ensures.room ∙ inv.room;
     }
 
 pub returns-clause-list : goal.returns-clause-list
 returns-clause-list c =
-    let speed = speed_under
-    (pos c.args.length_cm) c.args.statics.now.before c.args.statics.now.list.items c.args.held.now in
-    let steps = c.args.steps.now.list.items in
-    c.loop-i.invariant.list
-    ∙ rest_stays (retaken speed) steps c.loop-i.i
-    (λ k d l m. retaken_same speed c.zone_of.result c.args.steps.now.before steps k d c.args.steps.now.rises
-    (rw c.zone_of.ensures c.requires.speeds) m
-    (c.covered-covered.ensures.past k d (omega (arith, c.loop-i-test.false)) m))
+    let left = speed_under (pos c.args.length_cm) c.args.statics.now.before c.args.statics.now.list.items
+    c.args.held.now in
+    (rw (take_all c.loop-r.r-index c.args.held.now c.loop-r-test.false) at c.loop-r.invariant.list)
+    ∙ taken_within (zone_of (pos c.args.length_cm) c.args.lifted) left c.args.steps.now.before
+    c.args.steps.now.list.items c.args.steps.now.rises c.requires.speeds

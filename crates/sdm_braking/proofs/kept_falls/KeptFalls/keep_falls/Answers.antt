@@ -1,8 +1,6 @@
 -- The falls are found, and then the curves of others that hide each.
-use Rattle.std.proofs.Common.{◌≡◌, ◌∙◌, List, map, sym, subst, refl, All}
-use Rattle.sdm_hiding.specs.Hiding.{AreInOrder}
-use Rattle.sdm_braking.specs.FallFeet.{brake_foot, guide_foot}
-use Rattle.sdm_braking.specs.KeptFalls.{IsKeptFall, KeptFallData, target_of}
+use Rattle.std.proofs.Common.{◌∙◌, map}
+use Rattle.sdm_braking.specs.KeptFalls.{target_of}
 use Rattle.sdm_speed.specs.Profiles.{mrsp_of}
 use Rattle.sdm_braking.proofs.FootLaws.{falls_in_order, guides_in_order}
 use Rattle.sdm_braking.proofs.ZoneLaws.{same_zones}

@@ -1,14 +1,17 @@
 -- The zone stands behind the others, with its target.
-use Rattle.std.proofs.Common.{◌∙◌, refl, sym, length, arith}
+use Rattle.std.proofs.Common.{◌≡◌, ◌∙◌, refl, sym, ap, length, arith}
 use Rattle.std.proofs.lemmas.List.Edits.{insert_end}
 use Rattle.sdm_braking.specs.declared.falls_ahead.KeptZone.{KeptZone}
+use Rattle.sdm_braking.specs.KeptFalls.{KeptFallsData}
 use Rattle.sdm_braking.proofs.kept_falls.KeptFalls.keep_zone.Goals as goal
 
 pub returns-clause-zone : goal.returns-clause-zone
 returns-clause-zone c =
     let zs = c.self.inside.zones.items in
     let z : KeptZone = record { id = c.args.id; fall = c.args.fall; kept = c.keep-kept.result } in
-    rw (← c.self.view_is) (record {
+    let same : zs ≡ c.args.self.now.zones =
+    ap (λ (v : KeptFallsData). v.zones) c.self.view_is ∙ c.clear.ensures.zones in
+    rw (← same) (record {
       zone = z;
       index = length zs;
       is = c.push_reserved.ensures.items ∙ sym (insert_end zs z);
