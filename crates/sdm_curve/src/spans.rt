@@ -9,11 +9,14 @@ use std::alloc::{AllocError, Global};
 /// The most segments among which one is sought by looking at each. (own)
 pub const FEW: usize = 12;
 
+/// The most segments that spans are made for: numbers of 16 bits, for a table that stays small. (own)
+const MOST: usize = 65_535;
+
 /// Of so many segments one is looked at when spans are made, and a band has a part for as many. (own)
 const STRIDE: usize = 4;
 
 /// For each band and part a segment at or before those of the part's levels, and one past them, all parts of the first
-/// band first; none where segments are few.
+/// band first; none where segments are few or too many.
 #[derive(Drop)]
 pub struct Spans {
     /// The parts of a band.
@@ -23,7 +26,7 @@ pub struct Spans {
     list: Vec<(u16, u16)>,
 }
 
-/// A segment, or 0 where it's no number of 16 bits.
+/// A segment in 16 bits; 0 for one past `MOST`, which no span has.
 fn narrow(segment: usize) -> u16 {
     u16::try_from(segment).unwrap_or(0)
 }
@@ -81,7 +84,7 @@ fn put_spans(
 impl Spans {
     /// The spans of so many segments in each band, with the sums before each segment, all of the first band first.
     pub fn of(alloc: Global, segments: usize, sums: &[u128]) -> Result<Spans, AllocError> {
-        if segments <= FEW {
+        if segments <= FEW || MOST < segments {
             return Ok(Spans {
                 parts: 0,
                 scale: 0,
