@@ -161,23 +161,18 @@ impl KeptFalls {
         self.zones.len()
     }
 
-    /// How many of the falls set aside, from a number of them on, lie before a cell.
-    fn older_before(&self, from: usize, cell: i32) -> usize {
-        for i in from..self.older.len() {
-            if cell <= self.older[i].fall.cell {
-                return i;
+    /// The place of the first of the falls set aside, from an index on, that doesn't lie before a cell. The next search
+    /// begins there.
+    fn older_place(&self, from: &mut usize, cell: i32) -> usize {
+        for i in *from..self.older.len() {
+            let older = self.older[i];
+            if cell <= older.fall.cell {
+                *from = i;
+                return older.place;
             }
         }
-        self.older.len()
-    }
-
-    /// The place that a fall set aside had, if there is one at its index.
-    fn older_place(&self, i: usize) -> usize {
-        if i < self.older.len() {
-            self.older[i].place
-        } else {
-            0
-        }
+        *from = self.older.len();
+        0
     }
 
     /// The index of a zone that begins at a fall with its speed: as a rule `older`, or the next one of the static
@@ -219,10 +214,10 @@ impl KeptFalls {
         let mut at = i32::MIN;
         let mut near = 0;
         let mut next = 0;
-        let mut older = 0;
+        let mut from = 0;
         while let Some(fall) = profile.next_fall_near(at, &mut near) {
-            older = self.older_before(older, fall.cell);
-            let place = self.zone_of(self.older_place(older), &mut next, held, fall);
+            let older = self.older_place(&mut from, fall.cell);
+            let place = self.zone_of(older, &mut next, held, fall);
             self.push(fall, place);
             at = fall.cell;
         }
