@@ -10,6 +10,8 @@ mod FewLaws
 mod EnoughLaws
 mod FewWalks
 mod FewParts
+mod NoneEarlier
+mod CountingLaws
 mod CycleLaws
 mod CurveLaws
 pub mod FlatFacts

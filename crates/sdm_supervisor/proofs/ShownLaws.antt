@@ -69,7 +69,7 @@ module _ (limit : Target → Fraction) where
 
   module _ (v : ℕ) (ts : List Target) (t : Target) (slower : target_speed t < v) where
     -- so of those that are slower than the train, with one more that is
-    least_more : first_least limit (filter (λ u. nat_lt (target_speed u) v) (ts ++ t ∷ []))
+    pub least_more : first_least limit (filter (λ u. nat_lt (target_speed u) v) (ts ++ t ∷ []))
         ≡ Some (option_map_or (λ u. earlier_target limit u t)
         (first_least limit (filter (λ u. nat_lt (target_speed u) v) ts)) t)
     least_more =

@@ -1,6 +1,7 @@
 -- Which targets of a sight a walk asks, how few of them are falls that are no faster than the train, and that they are
 -- enough (own).
-use Rattle.std.specs.Prelude.{◌≡◌, ◌⊎◌, ℕ, pos, Bool, ◌<◌, ◌≤◌, ◌+◌, ◌++◌, List, length, All, Contains, if◌then◌else◌}
+use Rattle.std.specs.Prelude.{◌≡◌, ◌⊎◌, ℕ, pos, Bool, ◌<◌, ◌≤◌, ◌+◌, ◌++◌, List, length, All, Contains, if◌then◌else◌, true}
+use Rattle.std.specs.Prelude.{◌≤ℤ◌, slice_index_or}
 use Rattle.sdm_num.specs.Readings.{Estimate}
 use Rattle.sdm_rules.specs.declared.targets.Target.{Target}
 use Rattle.sdm_rules.specs.declared.targets.TargetKind.TheVariants.{Svl}
@@ -9,6 +10,7 @@ use Rattle.sdm_rules.specs.Slopes.{Slopes}
 use Rattle.sdm_rules.specs.Targets.{target_speed}
 use Rattle.sdm_order.specs.AskedTargets.{AreOf}
 use Rattle.sdm_order.specs.EnoughTargets.{AreEnough, IsMetFall}
+use Rattle.sdm_order.specs.LimitsInOrder.{brake_place, guide_place}
 use Rattle.sdm_hiding.specs.declared.rows.Foot.{Foot}
 use Rattle.sdm_hiding.specs.Asking.{IsEnough, at_indexes}
 use Rattle.sdm_supervisor.specs.Sights.{Seen}
@@ -58,3 +60,17 @@ pub record IsFoundOfFaster (d : TrainAndTrack) (e : Estimate) (falls before : Li
   pub faster : All (λ t. e.speed < target_speed t) asked
   pub enough : (t : Target) → Contains falls t → e.speed < target_speed t → Contains asked t ⊎ IsMetFall d e t
   pub found : is_found (before ++ asked)
+
+-- ---- falls that are passed over
+
+-- one fall is no later than another one by its EBD at V_bec and, where guidance is permitted, by its guidance curve at
+-- V_est
+pub record IsNoLaterFall (d : TrainAndTrack) (e : Estimate) (t r : Target) : Type 0 where
+  pub brake : brake_place d e t ≤ℤ brake_place d e r
+  pub guide : d.national.guidance ≡ true → guide_place d e t ≤ℤ guide_place d e r
+
+-- the fall at an index is no later than each one from there up to another index, by any estimate
+abbrev pub AreNoneEarlier : TrainAndTrack → List Target → ℕ → ℕ → Type 0
+AreNoneEarlier d falls from to =
+    (k : ℕ) (e : Estimate) → from < k → k < to →
+    IsNoLaterFall d e (slice_index_or falls from no_target) (slice_index_or falls k no_target)

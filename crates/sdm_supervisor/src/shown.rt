@@ -1,14 +1,20 @@
 //! What is shown of a sight: the limits that the train would pass at another speed, and the target that counts.
 
-ghost use Rattle.std.specs.Prelude.{◌≡◌, ◌≤◌, ◌&&◌};
+ghost use Rattle.std.specs.Prelude.{◌≡◌, ◌<◌, ◌≤◌, ◌&&◌, All, length, map};
 ghost use Rattle.sdm_rules.specs.Display.{counts_release, kind_of, passes_limit, shown_target, situation_at};
 ghost use Rattle.sdm_rules.specs.Ranges.{top_kmh};
+ghost use Rattle.sdm_rules.specs.Limits.{computed, limits_of};
 ghost use Rattle.sdm_rules.specs.Triggers.{above_ceiling, above_release};
+ghost use Rattle.sdm_braking.specs.Asked.{IsAsked};
+ghost use Rattle.sdm_braking.specs.KeptFalls.{IsKeptFall, target_of};
+ghost use Rattle.sdm_supervisor.specs.AskedFalls.{AreNoneEarlier};
+ghost use Rattle.sdm_supervisor.specs.Sights.{AreFallsHidden, IsCounting};
 
 use crate::sight::Sight;
 use crate::verdicts::front_for;
 use crate::walks::Walk;
-use sdm_braking::{AskedEstimate, KeptTarget, SpeedLimits};
+use sdm_braking::{AskedEstimate, Braking, FallsAhead, KeptTarget, SpeedLimits};
+use sdm_hiding::none_before_to;
 use sdm_num::{Place, Speed};
 use sdm_rules::{LimitKind, LimitName, Shown};
 use sdm_targets::Target;
@@ -95,6 +101,30 @@ impl Walk for Choosing {
     }
 }
 
+/// The index up to which no fall is before the one at an index, at any speed: neither by its EBD nor, where guidance is
+/// permitted, by its guidance curve. (own)
+fn none_earlier_to<'a>(
+    braking: &'a Braking,
+    falls: &FallsAhead<'a>,
+    brake_steps: &[usize],
+    guide_steps: &[usize],
+    i: usize,
+) -> usize
+    requires falls { All (IsKeptFall braking.now) falls.now }
+    requires hidden { AreFallsHidden braking.now (map target_of falls.now) brake_steps.now guide_steps.now }
+    requires known { i < length falls.now }
+    ensures further { i < result }
+    ensures inside { result ≤ length falls.now }
+    ensures after { AreNoneEarlier braking.now (map target_of falls.now) i result }
+{
+    let braked = none_before_to(&falls.brakes(braking), brake_steps, i);
+    if !braking.has_guidance() {
+        return braked;
+    }
+    let guided = none_before_to(&falls.guides(braking), guide_steps, i);
+    if guided < braked { guided } else { braked }
+}
+
 impl Sight<'_> {
     /// Whether a speed is above the ceiling with the margin of a limit. (SUBSET-026-3 3.13.10.3)
     pub(crate) fn is_above_ceiling(&self, kind: LimitKind, v: Speed) -> bool
@@ -133,15 +163,41 @@ impl Sight<'_> {
         passed
     }
 
+    /// The target that counts, of all. (own)
+    fn counting(&self, asked: &AskedEstimate) -> Option<Counting>
+        requires asked { IsAsked self.now.train_and_track asked.now }
+        ensures { IsCounting (λ t. (limits_of computed self.now.train_and_track asked.now.estimate t).permitted)
+            asked.now.estimate.speed self.now.situation.targets result }
+    {
+        let mut counting = None;
+        let mut at = 0;
+        let count = self.falls.len();
+        'falls: while at < count {
+            let kept = self.falls.target(at);
+            Choosing.meet(self, asked, kept, &mut counting);
+            at = if kept.speeds.permitted < asked.estimate.speed() {
+                none_earlier_to(
+                    self.braking,
+                    &self.falls,
+                    self.brake_steps,
+                    self.guide_steps,
+                    at,
+                )
+            } else {
+                at + 1
+            };
+        }
+        self.walk_end(self.end, &Choosing, asked, &mut counting);
+        counting
+    }
+
     /// The target that counts: of those that are slower than the train the first whose permitted limit is least, with
     /// its speed and its distance; none where no target is slower. No memory is taken. (own)
     pub fn shown(&self) -> Option<Shown>
         ensures { result ≡ shown_target self.now.train_and_track self.now.reading self.now.situation }
     {
         let asked = self.braking.asked(self.reading.estimate());
-        let mut counting = None;
-        self.walk(&Choosing, &asked, &mut counting);
-        let Counting { target, .. } = counting?;
+        let Counting { target, .. } = self.counting(&asked)?;
         Some(Shown {
             kind: target.kind,
             speed: target.speed,

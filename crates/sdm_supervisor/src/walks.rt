@@ -58,7 +58,7 @@ impl Sight<'_> {
     /// Asks the targets at the end of an authority, behind others. In release speed monitoring the EOA and the SvL are
     /// none. (SUBSET-026-3 3.13.8.2; own)
     #[inline(always)]
-    fn walk_end<W: Walk>(
+    pub(crate) fn walk_end<W: Walk>(
         &self,
         end: &KeptEnd,
         walk: &W,

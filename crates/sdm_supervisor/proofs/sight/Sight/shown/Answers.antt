@@ -27,9 +27,9 @@ pub returns-in_err-target : goal.returns-in_err-target
 returns-in_err-target c =
     let seen = c.args.self.now in
     c.from_residual.ensures
-    ∙ sym (shown_of seen.train_and_track seen.reading seen.situation c.asked-asked.result.estimate c.walk.new.found
+    ∙ sym (shown_of seen.train_and_track seen.reading seen.situation c.asked-asked.result.estimate c.counting.result
     (c.asked-asked.ensures.estimate ∙ c.estimate.ensures ∙ (λ k. estimate_of (c.self.view_is k).reading))
-    c.walk.ensures
+    c.counting.ensures
     ∙ ap (option_map (λ x. shown_as seen.situation x.target)) c.in_err-target.was)
 
 pub returns : goal.returns
@@ -42,7 +42,7 @@ returns c =
     ∙ ap (λ (x : Situation). front_for x.est x.front counting.target.kind) (λ j. (c.self.view_is j).situation)) k))
     (pos 0)) in
     (λ k. Some (record { kind = counting.target.kind; speed = counting.target.speed; distance = distance k }))
-    ∙ sym (shown_of seen.train_and_track seen.reading seen.situation c.asked-asked.result.estimate c.walk.new.found
+    ∙ sym (shown_of seen.train_and_track seen.reading seen.situation c.asked-asked.result.estimate c.counting.result
     (c.asked-asked.ensures.estimate ∙ c.estimate.ensures ∙ (λ k. estimate_of (c.self.view_is k).reading))
-    c.walk.ensures
+    c.counting.ensures
     ∙ ap (option_map (λ x. shown_as seen.situation x.target)) c.in_ok-target.was)
