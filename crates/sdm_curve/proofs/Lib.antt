@@ -6,6 +6,7 @@ pub mod Copies
 pub mod Within
 pub mod Sums
 pub mod SumRows
+pub mod Gaps
 pub mod Wide
 pub mod KnotRows
 pub mod CurveKnots
@@ -13,3 +14,4 @@ pub mod KnotOrder
 pub mod Reach
 pub mod Cells
 pub mod GreatestSlopes
+pub mod Halves

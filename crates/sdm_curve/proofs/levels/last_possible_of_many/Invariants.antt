@@ -1,14 +1,14 @@
 -- The segment is among those that halving leaves; the one after these begins past the level.
 use Rattle.std.proofs.Common.{◌-◌, ◌/◌, ◌^◌, ◌<◌, ◌≤◌, length}
 use Rattle.sdm_curve.specs.Integrals.{sum_of}
+use Rattle.sdm_curve.proofs.Halves.{IsLeft}
 use Rattle.sdm_curve.proofs.levels.last_possible_of_many.Given as goal
 
 abbrev pub invariant-halves : goal.invariant-halves
 invariant-halves l = record {
   some : l.low < l.past;
   known : l.past ≤ length l.map.starts;
+  begun : sum_of l.map l.band l.low / 2 ^ 64 ≤ l.key;
   next_past : l.past < length l.map.starts → l.key < sum_of l.map l.band l.past / 2 ^ 64;
+  left : IsLeft l.low l.past (2 ^ l._turn);
 }
-
-abbrev pub decreases-halves : goal.decreases-halves
-decreases-halves l = l.past - l.low
