@@ -14,4 +14,3 @@ pub mod KnotOrder
 pub mod Reach
 pub mod Cells
 pub mod GreatestSlopes
-pub mod Halves

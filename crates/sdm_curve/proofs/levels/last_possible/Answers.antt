@@ -1,5 +1,5 @@
 -- Where segments are few, the twelfth before the last is the first.
-use Rattle.std.proofs.Common.{◌≡◌, ◌-◌, ◌*◌, ◌≤◌, length, arith}
+use Rattle.std.proofs.Common.{◌≡◌, ◌-◌, ◌*◌, length, arith}
 use Rattle.sdm_curve.proofs.Sums.{sum-zero}
 use Rattle.sdm_curve.proofs.levels.last_possible.Goals as goal
 

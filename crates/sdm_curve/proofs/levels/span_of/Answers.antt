@@ -1,5 +1,5 @@
 -- The first segment begins at no level.
-use Rattle.std.proofs.Common.{◌*◌, ◌/◌, ◌^◌, ◌≤◌, length, arith}
+use Rattle.std.proofs.Common.{◌*◌, length, arith}
 use Rattle.sdm_curve.proofs.Sums.{sum-zero}
 use Rattle.sdm_curve.proofs.levels.span_of.Goals as goal
 
