@@ -12,8 +12,8 @@ use sdm_curve::{BandMap, Curve};
 use sdm_num::{Place, Speed};
 use sdm_rules::TOP_KMH;
 
-/// How many binary digits a speed in km/h has at most.
-const DIGITS: u32 = 9;
+/// As often as the speeds from 0 to 500 km/h, and 501, are halved until one is left.
+const HALVINGS: u32 = 9;
 
 /// A train that is tripped at a place, at a whole speed of at most 500 km/h, stops by the foot of its EBD: it runs on
 /// at this speed until the emergency brake works, T_be ds later. (SUBSET-026-3 3.13.9.4.8; form own)
@@ -42,14 +42,17 @@ pub fn release_speed(safe: &BandMap, ebd: &Curve, t_be: u32, trip: Place) -> u16
     ensures value { result ≡ release_speed (meaning_of safe.now) t_be ebd.now.place trip }
     ensures range { result ≤ top_kmh }
 {
-    // with the number of its bands it is told that curves stand on the map
-    prove!(1 <= safe.bands());
+    let mut slow = 0;
     let mut fast = TOP_KMH as u16 + 1;
-    for turn in (0..DIGITS).rev() {
-        let less = 1 << turn;
-        if less < fast && !fits(safe, ebd, t_be, trip, fast - less) {
-            fast -= less;
+    for _turn in (0..HALVINGS).rev() {
+        if fast - slow > 1 {
+            let middle = slow + (fast - slow) / 2;
+            if fits(safe, ebd, t_be, trip, middle) {
+                slow = middle;
+            } else {
+                fast = middle;
+            }
         }
     }
-    fast - 1
+    slow
 }

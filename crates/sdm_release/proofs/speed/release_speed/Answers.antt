@@ -1,25 +1,27 @@
--- Halving ends where the train stops in time at the speed before.
-use Rattle.std.proofs.Common.{◌≡◌, ◌-◌, true, inl, inr, arith}
-use Rattle.std.proofs.lemmas.Bool.{cases_lt}
-use Rattle.sdm_rules.specs.Limits.{computed}
-use Rattle.sdm_rules.specs.Release.{fits}
+use Rattle.std.proofs.Common.{◌≡◌, ◌≤◌, ◌+◌, arith}
 use Rattle.sdm_rules.specs.Slopes.{meaning_of}
 use Rattle.sdm_laws.proofs.Rows.CalculatedRelease.{standstill_fits}
 use Rattle.sdm_release.proofs.Halving.{halved}
 use Rattle.sdm_release.proofs.speed.release_speed.Goals as goal
 
+pub loop-turn-init : goal.loop-turn-init
+loop-turn-init c =
+    let a = c.args in
+    record {
+      apart = omega arith;
+      width = omega arith;
+      top = omega arith;
+      slow = standstill_fits (meaning_of a.safe.now) a.t_be a.ebd.now.place a.trip c.requires.trip;
+      fast = λ le. absurd (omega arith);
+      usable = λ le. absurd (omega arith);
+    }
+
 pub returns-clause-value : goal.returns-clause-value
 returns-clause-value c =
     let a = c.args in
-    let on = meaning_of a.safe.now in
     let end = c.loop-turn in
     let kept = end.invariant in
-    let none : end.turn ≡ 0 = omega (arith, c.loop-turn-test.false) in
-    let slow : fits computed on a.t_be a.ebd.now.place a.trip (end.fast - 1) ≡ true = elim (cases_lt 1 end.fast) [
-      | inl lt ↦ (rw none at kept.slow) lt
-      | inr le ↦
-          (let standing : end.fast - 1 ≡ 0 = omega (arith, le) in
-          rw standing (standstill_fits on a.t_be a.ebd.now.place a.trip c.requires.trip))
-    ] in
-    halved on c.bands.ensures.usable a.t_be a.ebd.now.place a.trip (end.fast - 1) end.fast (omega (arith, kept.some))
-    (omega (arith, kept.top)) slow kept.fast
+    let none : end._turn ≡ 0 = omega (arith, c.loop-turn-test.false) in
+    let next : end.fast ≤ end.slow + 1 = rw none at kept.width in
+    halved (meaning_of a.safe.now) (kept.usable (omega (arith, next))) a.t_be a.ebd.now.place a.trip end.slow end.fast
+    (omega (arith, next, kept.apart)) (omega (arith, kept.apart, kept.top)) kept.slow kept.fast
