@@ -1,15 +1,14 @@
 -- What counts of some targets goes on counting past one whose limit is no earlier than that of one of them.
 use Rattle.std.proofs.Common.{◌≡◌, ℕ, zero, suc, pos, true, false, ◌+◌, ◌-◌, ◌<◌, ◌≤◌, ◌*ℤ◌, int_lt, nat_lt, List, [], ◌∷◌, ◌++◌}
-use Rattle.std.proofs.Common.{Bool, ◌⊎◌, length, map, take, slice_index_or, Option, Some, None, if◌then◌else◌, refl, sym, ap, subst}
+use Rattle.std.proofs.Common.{Bool, length, take, slice_index_or, Option, Some, None, if◌then◌else◌, refl, sym, ap, subst}
 use Rattle.std.proofs.Common.{◌∙◌, arith, inl, inr}
-use Rattle.std.specs.Prelude.{All, Contains, filter, option_map, fold}
+use Rattle.std.specs.Prelude.{All, filter}
 use Rattle.std.specs.Option.{option_map_or}
-use Rattle.std.proofs.lemmas.Bool.{cases_lt, le-ltb, lt-ltb}
-use Rattle.std.proofs.lemmas.Int.{ints}
+use Rattle.std.proofs.lemmas.Bool.{cases_lt, le-ltb}
 use Rattle.std.proofs.lemmas.List.{append-nil, take_more}
-use Rattle.std.proofs.lemmas.List.Elements.{All-contains, All-cons, All-head, All-nil, All-tail, filter-append}
+use Rattle.std.proofs.lemmas.List.Elements.{filter-append}
 use Rattle.sdm_num.specs.Fractions.{Fraction, IsAtMost}
-use Rattle.sdm_num.proofs.Comparisons.{lt_of, not_lt_is, not_lt_of}
+use Rattle.sdm_num.proofs.Comparisons.{not_lt_is, not_lt_of}
 use Rattle.sdm_num.proofs.Order.{at_most_refl, at_most_trans}
 use Rattle.sdm_num.specs.Readings.{Estimate}
 use Rattle.sdm_rules.specs.declared.limits.LimitKind.TheVariants.{Permitted}

@@ -1,7 +1,6 @@
 -- Falls that are passed over: what hides neither curve of a fall is no earlier, so what counts goes on counting.
 use Rattle.std.proofs.Common.{◌≡◌, ℕ, ◌<◌, ◌≤◌, ◌≤ℤ◌, List, length, map, slice_index_or, true, arith}
 use Rattle.std.proofs.lemmas.List.{get_or_default, length-map}
-use Rattle.sdm_num.specs.Readings.{Estimate}
 use Rattle.sdm_rules.specs.declared.data.SlopeKind.TheVariants.{Normal, Safe}
 use Rattle.sdm_rules.specs.declared.targets.Target.{Target}
 use Rattle.sdm_rules.specs.Data.{TrainAndTrack}

@@ -1,9 +1,7 @@
 -- Up to what hides its EBD or its guidance curve no fall is before this one by either.
-use Rattle.std.proofs.Common.{◌≡◌, ◌<◌, ◌≤◌, length, map, sym, ◌∙◌, arith}
+use Rattle.std.proofs.Common.{map, sym, ◌∙◌, arith}
 use Rattle.std.proofs.lemmas.Bool.{false≢true}
-use Rattle.std.proofs.lemmas.Bool.Decides.{nat_tests}
 use Rattle.std.proofs.lemmas.List.{length-map}
-use Rattle.sdm_braking.specs.FallFeet.{brake_foot, guide_foot}
 use Rattle.sdm_braking.specs.KeptFalls.{target_of}
 use Rattle.sdm_braking.proofs.FootLaws.{guides_in_order}
 use Rattle.sdm_supervisor.proofs.NoneEarlier.{none_braked, none_guided}
