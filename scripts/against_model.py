@@ -7,8 +7,9 @@ tools/explain say what is told, and over journeys made from a seed, some of them
     scripts/check-model --program PATH              another program than crates/sdm/out/sdm
 
 Each journey of examples/ and vectors/ is given to `why` besides. The input of each third seed is given to `display`, to
-`why` and to `certify` too, and each third seed makes a drive, and a text for `check`, besides. Of each difference it
-tells the input, the first row or line that differs, and both texts.
+`why` and to `certify` too, and each third seed makes a drive, and a text for `check`, besides. Journeys with many falls
+are given to `display` and `why` alone. Of each difference it tells the input, the first row or line that differs, and
+both texts.
 `tools/journeys input SEED` writes the journey of a seed, `drive SEED` its drive, `falls SEED` its journey with many
 falls, and `tools/certified SEED` its text for `check`.
 """
@@ -151,12 +152,15 @@ def words_of(args):
         help=f"how many journeys are made, one a seed; else {GATE_JOURNEYS}, of those with many falls {GATE_FALLS}",
     )
     add_program(parser)
-    return parser.parse_args(args)
+    words = parser.parse_args(args)
+    if words.journeys is None:
+        words.journeys = GATE_FALLS if words.falls else GATE_JOURNEYS
+    return words
 
 
 def main(args):
     words = words_of(args)
-    first, count, is_all = words.seed or 0, words.journeys or GATE_JOURNEYS, words.seed is None and not words.falls
+    first, count, is_all = words.seed or 0, words.journeys, words.seed is None and not words.falls
     try:
         program = built(words.program)
         bad = compare_stored(program) if is_all else 0
@@ -166,8 +170,8 @@ def main(args):
                 title, cases = f"{what} of each third of these seeds", besides(what, of_seed, first, count)
                 bad += compare(title, program, cases, -(-count // SHARE))
         if words.falls or is_all:
-            fall_count = words.journeys if words.falls and words.journeys else GATE_FALLS
-            bad += compare_seeds("journeys with many falls", program, with_falls, first, fall_count)
+            count = count if words.falls else GATE_FALLS
+            bad += compare_seeds("journeys with many falls", program, with_falls, first, count)
     except Fault as why:
         print(f"check-model: {why}", file=sys.stderr)
         return 1

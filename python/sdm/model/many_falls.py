@@ -26,7 +26,7 @@ LEAST_MARGIN = 2_083  # mm/s, just below dV_ebi: where V_bec is so much above V_
 
 
 def in_range(kmh: int, top: int = 500) -> int:
-    """The speed that may stand in an input next to any."""
+    """The nearest speed from 5 km/h to a top speed."""
     return min(max(kmh, 5), top)
 
 
@@ -61,9 +61,8 @@ def meeting_steps(rng: Random, supervisor: Supervisor, last: int, count: int, to
     curve = supervisor.curves.d_guide if is_guide else supervisor.curves.d_EBD
     places = {last: slowest}
     for kmh in range(slowest + down, top, down)[:count]:
-        cell = int(curve(last * GRAINS_PER_CM, foot(slowest), foot(kmh)) // GRAINS_PER_CM) + rng.choice(
-            [-1, 0, 0, 0, 1]
-        )
+        met = int(curve(last * GRAINS_PER_CM, foot(slowest), foot(kmh)) // GRAINS_PER_CM)
+        cell = met + rng.choice([-1, 0, 0, 0, 1])
         if not 0 < cell < min(places):
             break
         places[cell] = kmh
