@@ -21,6 +21,12 @@ GRADIENTS = 512
 SPEED_STEPS = 128
 AREAS = 64
 RESTRICTIONS = 32
+FASTEST_MM_S = 138_888  # 500 km/h
+
+DENSE_CM = 5_000_000  # where steps that lie close together begin
+DENSE_APPROACH_MM = 15_000_000  # from how far before them on there are readings
+DENSE_GAPS_CM = [1, 1, 2, 5, 20, 100, 400, 1_500]
+DENSE_CHANGES_KMH = [-1, -1, -2, -3, -5, -10, -20, 3, 7, 15]
 
 
 @dataclass
@@ -64,6 +70,10 @@ class Numbers:
         mixed ^= mixed >> 31
         return least + mixed % (greatest - least + 1)
 
+    def choice(self, values):
+        """One of some values."""
+        return values[self.draw(0, len(values) - 1)]
+
 
 def reading(time_ds, est_mm, spread_mm, speed_mm_s, accel_cm_s2, under_mm_s):
     """The record of a reading whose true front end lies within a spread about the estimated one."""
@@ -101,12 +111,12 @@ def smooth_readings(numbers):
             time += 1
 
 
-def scattered_readings(numbers, farthest_mm, fastest_mm_s):
+def scattered_readings(numbers, farthest_mm, fastest_mm_s, slowest_mm_s=0):
     """Readings at random over places and speeds."""
     time = 0
     while True:
         place, spread = numbers.draw(0, farthest_mm), numbers.draw(0, 10_000)
-        speed, accel = numbers.draw(0, fastest_mm_s), numbers.draw(-100, 100)
+        speed, accel = numbers.draw(slowest_mm_s, fastest_mm_s), numbers.draw(-100, 100)
         yield reading(time, place, spread, speed, accel, numbers.draw(0, 1_000))
         time += 1
 
@@ -134,11 +144,10 @@ def table(name, **values):
     return f"[[{name}]]\n" + "".join(f"{key} = {value}\n" for key, value in values.items())
 
 
-def greatest_train(bands=8, width_kmh=60):
-    """A train of 100 m with so many speed bands, each of this width but the last, whose brakes grow weaker with the
-    speed."""
-    text = "[train]\nlength = 10000\nmax_speed = 500\ntraction_cutoff_time = 100\ntraction_cutoff_interface = true\n"
-    text += "emergency_time = 60\nservice_time = 50\nservice_brake = true\n"
+def greatest_train(bands=8, width_kmh=60, length_cm=10_000, cutoff_ds=100):
+    """A train with so many speed bands, each of this width but the last, whose brakes grow weaker with the speed."""
+    text = f"[train]\nlength = {length_cm}\nmax_speed = 500\ntraction_cutoff_time = {cutoff_ds}\n"
+    text += "traction_cutoff_interface = true\nemergency_time = 60\nservice_time = 50\nservice_brake = true\n"
     for band in range(bands):
         upper = {"upper": width_kmh * (band + 1)} if band < bands - 1 else {}
         brakes = {"emergency": 120 - 5 * band, "service": 100 - 5 * band, "normal": 70 - 3 * band}
@@ -146,15 +155,21 @@ def greatest_train(bands=8, width_kmh=60):
     return text
 
 
-def greatest_track(numbers):
+def greatest_speeds():
+    """As many speed steps as there may be, evenly over the track, each slower than the one before: places in cm and
+    speeds in km/h."""
+    return [(TRACK_CM * entry // SPEED_STEPS, 500 - 3 * entry) for entry in range(SPEED_STEPS)]
+
+
+def greatest_track(numbers, speeds):
     """A track of 100 km with as many entries as there may be. No gradient is that of the entry before, and the train is
-    shorter than each entry, so that all of them count; the speeds fall from step to step."""
+    shorter than each entry, so that all of them count."""
     text, grad = f"[track]\nlength = {TRACK_CM}\n", 0
     for entry in range(GRADIENTS):
         grad = (grad + 10 + numbers.draw(1, 20)) % 21 - 10
         text += table("track.gradient", start=TRACK_CM * entry // GRADIENTS, grad=grad)
-    for entry in range(SPEED_STEPS):
-        text += table("track.speed", start=TRACK_CM * entry // SPEED_STEPS, speed=500 - 3 * entry)
+    for start, speed in speeds:
+        text += table("track.speed", start=start, speed=speed)
     for entry in range(AREAS):
         start = TRACK_CM * entry // AREAS + 50_000
         text += table("track.adhesion", start=start, end=start + numbers.draw(20_000, 60_000))
@@ -168,20 +183,25 @@ def greatest_restrictions():
         yield f"restrict,{entry},{start},{start + 20_000},{100 - entry},1\n"
 
 
-def greatest_data(numbers, guidance="false", train=greatest_train()):
+def greatest_data(numbers, guidance="false", train=greatest_train(), speeds=greatest_speeds()):
     """The data part of the greatest data, with the dividing line."""
     text = "version = 1\n" + train
     text += f"[national]\navadh = 10\nadhesion_max = 60\nguidance = {guidance}\nservice_in_target = true\n"
-    text += "early_release = false\ninhibit_under_reading = false\n" + greatest_track(numbers)
+    text += "early_release = false\ninhibit_under_reading = false\n" + greatest_track(numbers, speeds)
     return text + f'[authority]\nkind = "end"\neoa = {TRACK_CM - 10_000}\nsvl = {TRACK_CM}\nrelease = 40\n%%\n'
+
+
+def greatest_with(name, head, readings):
+    """Some of the greatest data, with readings over them."""
+    lines = list(islice(readings, GREATEST_READINGS))
+    return Input(name, ["run"], ["run"], head, lines, len(lines))
 
 
 def greatest_of(name, seed, *data):
     """The greatest data, with readings at random over their track, up to 500 km/h."""
     numbers = Numbers(seed)
     head = greatest_data(numbers, *data) + "".join(greatest_restrictions())
-    lines = list(islice(scattered_readings(numbers, 100_000_000, 138_888), GREATEST_READINGS))
-    return Input(name, ["run"], ["run"], head, lines, len(lines))
+    return greatest_with(name, head, scattered_readings(numbers, 10 * TRACK_CM, FASTEST_MM_S))
 
 
 def greatest(seed):
@@ -197,6 +217,62 @@ def greatest_guided(seed):
 def greatest_ten(seed):
     """The greatest data without guidance curves, for a train of ten bands, as many as there may be."""
     return greatest_of("greatest-ten", seed, "false", greatest_train(bands=10, width_kmh=50))
+
+
+def dense_speeds(numbers):
+    """Speed steps from 1 cm to 15 m apart, most of them slower than the one before: places in cm and speeds in km/h."""
+    steps, start, speed = [(0, 500)], DENSE_CM, 500
+    while len(steps) < SPEED_STEPS:
+        speed = min(max(speed + numbers.choice(DENSE_CHANGES_KMH), 5), 500)
+        steps.append((start, speed))
+        start += numbers.choice(DENSE_GAPS_CM)
+    return steps
+
+
+def dense_readings(numbers, first_mm, last_mm):
+    """Readings before steps that lie close together, and a quarter of them among these, at whole tens of km/h. Some are
+    of a train that accelerates or may be faster than it is read, so that V_bec is up to 284 km/h above V_est."""
+    time = 0
+    while True:
+        place = numbers.draw(first_mm - numbers.choice([0, 1, 1, 1]) * DENSE_APPROACH_MM, last_mm)
+        speed, accel = 10 * numbers.draw(1, 50) * 2_500 // 9, numbers.choice([0, 0, 100, 300])
+        yield reading(time, place, numbers.draw(0, 10_000), speed, accel, numbers.choice([0, 0, 1_000, 10_000]))
+        time += 1
+
+
+def dense(seed):
+    """The greatest data with guidance curves and all speed steps close together, for a train whose traction is cut off
+    late, and which is no longer than the shortest step, so that all of them count."""
+    numbers = Numbers(seed)
+    steps, train = dense_speeds(numbers), greatest_train(length_cm=1, cutoff_ds=300)
+    head = greatest_data(numbers, "true", train, steps)
+    return greatest_with("dense", head, dense_readings(numbers, 10 * steps[1][0], 10 * steps[-1][0]))
+
+
+def staircase(seed):
+    """The greatest data with guidance curves and speeds that fall by 1 km/h from step to step, with readings at random
+    over the track and over these speeds. So as many falls as there may be have V_est between target and foot speed."""
+    numbers = Numbers(seed)
+    steps = [(start, 500 - entry) for entry, (start, _) in enumerate(greatest_speeds())]
+    head, slowest = greatest_data(numbers, "true", speeds=steps), steps[-1][1] * 2_500 // 9
+    return greatest_with("staircase", head, scattered_readings(numbers, 10 * TRACK_CM, FASTEST_MM_S, slowest))
+
+
+def wide_readings(numbers):
+    """Readings whose min and max safe front ends lie 20 to 80 km apart on the track of 100 km."""
+    time = 0
+    while True:
+        place, spread = numbers.draw(40_000_000, 60_000_000), numbers.draw(10_000_000, 40_000_000)
+        speed, accel = numbers.draw(0, FASTEST_MM_S), numbers.draw(-100, 100)
+        yield reading(time, place, spread, speed, accel, numbers.draw(0, 1_000))
+        time += 1
+
+
+def wide(seed):
+    """The greatest data, with readings between whose safe front ends many steps of the speed profile lie."""
+    numbers = Numbers(seed)
+    head = greatest_data(numbers) + "".join(greatest_restrictions())
+    return greatest_with("wide", head, wide_readings(numbers))
 
 
 def greatest_restrict(seed):
@@ -293,6 +369,9 @@ MAKERS = {
     "greatest": greatest,
     "greatest-guided": greatest_guided,
     "greatest-ten": greatest_ten,
+    "dense": dense,
+    "staircase": staircase,
+    "wide": wide,
     "greatest-restrict": greatest_restrict,
     "greatest-revoke": greatest_revoke,
     "covering": covering,

@@ -1,15 +1,17 @@
 """Holds the built program against the model: over examples/, over vectors/, over the mistakes of which the tests of
-tools/explain say what is told, and over journeys made from a seed.
+tools/explain say what is told, and over journeys made from a seed, some of them with many falls.
 
     scripts/check-model                             what the gate runs, after the model's own tests
     scripts/check-model --seed 5000 --journeys 9000 the journeys of the seeds 5000 to 13999 alone
+    scripts/check-model --falls --journeys 9000     9000 journeys with many falls alone
     scripts/check-model --program PATH              another program than crates/sdm/out/sdm
 
 Each journey of examples/ and vectors/ is given to `why` besides. The input of each third seed is given to `display`, to
-`why` and to `certify` too, and each third seed makes a drive, and a text for `check`, besides. Of each difference it
-tells the input, the first row or line that differs, and both texts.
-`tools/journeys input SEED` writes the journey of a seed, `drive SEED` its drive, and `tools/certified SEED` its text
-for `check`.
+`why` and to `certify` too, and each third seed makes a drive, and a text for `check`, besides. Journeys with many falls
+are given to `display` and `why` alone. Of each difference it tells the input, the first row or line that differs, and
+both texts.
+`tools/journeys input SEED` writes the journey of a seed, `drive SEED` its drive, `falls SEED` its journey with many
+falls, and `tools/certified SEED` its text for `check`.
 """
 
 import argparse
@@ -22,15 +24,17 @@ from sdm.laboratory.cases import Case, difference
 from sdm.laboratory.mistakes import mistakes
 from sdm.laboratory.program import TOP, Fault, Result, add_program, built, run
 from sdm.model.certified import a_certify, a_check
-from sdm.model.journeys import a_drive, make
+from sdm.model.journeys import a_drive, a_fall_journey, make
 from sdm.model.words import collect
 from piped import end
 from stored import FOLDERS, journeys_in
 
 GATE_JOURNEYS = 1000
+GATE_FALLS = 200  # journeys with many falls
 PROGRESS = 2000  # journeys between two lines of progress
 SHARE = 3  # each so many seeds an input is given to the other commands too; `display` costs the model more than `run`
 JOURNEYS = (["run"], ["display"], ["certify"])  # the commands whose input is a journey
+OTHERS = ("display", "why")  # to which the journeys of seeds are given besides
 BESIDES = [("drive", a_drive), ("certify", a_certify), ("check", a_check)]
 
 
@@ -50,6 +54,13 @@ def made(first, count, step=1):
         yield Case(f"seed {seed} ({name})", words, data, None)
 
 
+def with_falls(first, count, step=1):
+    """The journeys of some seeds with many falls, as cases with nothing due."""
+    for seed in range(first, first + count, step):
+        words, data = a_fall_journey(seed)
+        yield Case(f"falls {seed}", words, data, None)
+
+
 def mistaken():
     """The inputs of the tests of tools/explain, with the fault line that is due, as cases of `run`."""
     table = (TOP / "python" / "tests" / "laboratory" / "mistakes.txt").read_text()
@@ -60,9 +71,9 @@ def mistaken():
         yield Case(f"mistake {number}", ["run"], data, Result(rows, case.fault + "\n", code))
 
 
-def by(word, first, count):
+def by(word, first, count, of_seeds=made):
     """The inputs of each third of some seeds, whatever their words, as cases of another command."""
-    for case in made(first, count, SHARE):
+    for case in of_seeds(first, count, SHARE):
         yield case._replace(words=[word])
 
 
@@ -105,6 +116,25 @@ def compare(title, program, cases, count):
     return differ if done else 1
 
 
+def compare_seeds(title, program, of_seeds, first, count):
+    """Compares the journeys of some seeds, and each third of them by other commands; how many differ."""
+    title = f"{title}, seeds {first} to {first + count - 1}"
+    differ = compare(title, program, of_seeds(first, count), count)
+    for word in OTHERS:
+        cases = by(word, first, count, of_seeds)
+        differ += compare(f"each third of them by {word}", program, cases, -(-count // SHARE))
+    return differ
+
+
+def compare_stored(program):
+    """Compares what is stored, after the model's own tests; how many differ or fail."""
+    differ = not own_tests()
+    for folder in FOLDERS:
+        differ += compare(folder, program, modelled(journeys_in(folder)), 0)
+        differ += compare(f"journeys of {folder} by why", program, explained(journeys_in(folder)), 0)
+    return differ + compare("mistakes of tools/explain", program, mistaken(), 0)
+
+
 def modelled(cases):
     """The cases of commands that the model has: it has no `live`, whose rows scripts/check-live holds beside those of
     `run`."""
@@ -114,37 +144,34 @@ def modelled(cases):
 def words_of(args):
     parser = argparse.ArgumentParser(prog="scripts/check-model", description=__doc__.split("\n\n")[0])
     parser.add_argument("--seed", type=int, metavar="N", help="made journeys alone, from this seed on")
+    parser.add_argument("--falls", action="store_true", help="journeys with many falls alone")
     parser.add_argument(
         "--journeys",
         type=int,
         metavar="N",
-        default=GATE_JOURNEYS,
-        help=f"how many journeys are made, one a seed; {GATE_JOURNEYS} where it isn't said",
+        help=f"how many journeys are made, one a seed; else {GATE_JOURNEYS}, of those with many falls {GATE_FALLS}",
     )
     add_program(parser)
-    return parser.parse_args(args)
+    words = parser.parse_args(args)
+    if words.journeys is None:
+        words.journeys = GATE_FALLS if words.falls else GATE_JOURNEYS
+    return words
 
 
 def main(args):
     words = words_of(args)
+    first, count, is_all = words.seed or 0, words.journeys, words.seed is None and not words.falls
     try:
         program = built(words.program)
-        bad = 0
-        if words.seed is None:
-            bad += not own_tests()
-            for folder in FOLDERS:
-                bad += compare(folder, program, modelled(journeys_in(folder)), 0)
-                bad += compare(f"journeys of {folder} by why", program, explained(journeys_in(folder)), 0)
-            bad += compare("mistakes of tools/explain", program, mistaken(), 0)
-        first = words.seed or 0
-        title = f"made journeys, seeds {first} to {first + words.journeys - 1}"
-        bad += compare(title, program, made(first, words.journeys), words.journeys)
-        share = -(-words.journeys // SHARE)
-        for word in ("display", "why"):
-            bad += compare(f"each third of them by {word}", program, by(word, first, words.journeys), share)
-        for what, of_seed in BESIDES:
-            title = f"{what} of each third of these seeds"
-            bad += compare(title, program, besides(what, of_seed, first, words.journeys), share)
+        bad = compare_stored(program) if is_all else 0
+        if not words.falls:
+            bad += compare_seeds("made journeys", program, made, first, count)
+            for what, of_seed in BESIDES:
+                title, cases = f"{what} of each third of these seeds", besides(what, of_seed, first, count)
+                bad += compare(title, program, cases, -(-count // SHARE))
+        if words.falls or is_all:
+            count = count if words.falls else GATE_FALLS
+            bad += compare_seeds("journeys with many falls", program, with_falls, first, count)
     except Fault as why:
         print(f"check-model: {why}", file=sys.stderr)
         return 1

@@ -7,6 +7,7 @@ bands are of odd seeds alone.
     tools/journeys lines FIRST COUNT        a line of JSON for each seed, to standard output
     tools/journeys input SEED               the input of one seed
     tools/journeys drive SEED               the input of its drive
+    tools/journeys falls SEED               the input of its journey with many falls
     tools/journeys line SEED KM             the input of a run over a line of so many km, 2 to 95
     tools/journeys specials DIR             a folder for each input at the limits of the formats
 
@@ -16,6 +17,7 @@ import base64
 import json
 import random
 import sys
+from collections.abc import Callable
 from pathlib import Path
 from random import Random
 from typing import Any
@@ -25,6 +27,7 @@ from sdm.model.data import Limit, Stop, data_of
 from sdm.model.documents import SPEEDS, UPPERS, a_document, a_grad, an_open_document, some_starts
 from sdm.model.journey import Supervisor
 from sdm.model.line import a_run
+from sdm.model.many_falls import over_many_falls
 from sdm.model.outcome import Outcome, Refused
 from sdm.model.records import Calculated, Reading, Restriction, Revocation
 from sdm.model.release import release_start
@@ -284,6 +287,13 @@ def a_drive(seed: int) -> tuple[list[str], bytes]:
     return words, toml(document, rng if rng.random() < 0.3 else None).encode()
 
 
+def a_fall_journey(seed: int) -> tuple[list[str], bytes]:
+    """A journey of a seed with many falls: words and input."""
+    rng = random.Random(f"falls {seed}")
+    document, events = over_many_falls(rng, 1 + seed % 2)
+    return ["run"], input_of(rng, document, [record(event) for event in events])
+
+
 def make(seed: int) -> tuple[list[str], str, bytes]:
     """The journey of a seed: words, what it is about, input."""
     rng, version = random.Random(seed), 1 + seed % 2
@@ -322,6 +332,9 @@ def make(seed: int) -> tuple[list[str], str, bytes]:
     return rng.choice(others + [["upgrade", "1"], ["Upgrade"]] * int(version == 2)), "words", b"%%\n"
 
 
+OF_SEED: dict[str, Callable[[int], tuple[Any, ...]]] = {"input": make, "drive": a_drive, "falls": a_fall_journey}
+
+
 def specials() -> list[tuple[str, bytes]]:
     """Inputs at the limits of FORMATS that are too large for every hundredth seed: name and input."""
     document = a_document(random.Random(4))
@@ -352,8 +365,8 @@ def write_folder(folder: Path, words: list[str], name: str, data: bytes) -> None
 
 
 def main(words: list[str]) -> int:
-    if len(words) == 2 and words[0] in ("input", "drive"):
-        sys.stdout.buffer.write(make(int(words[1]))[-1] if words[0] == "input" else a_drive(int(words[1]))[-1])
+    if len(words) == 2 and words[0] in OF_SEED:
+        sys.stdout.buffer.write(OF_SEED[words[0]](int(words[1]))[-1])
         return 0
     if len(words) == 3 and words[0] == "line" and 2 <= int(words[2]) <= 95:
         sys.stdout.buffer.write(a_run(int(words[1]), int(words[2])))
