@@ -1,0 +1,197 @@
+"""Holds the bounds of the calls from C against what c/replay.c takes over inputs: the stack, painted before each call,
+and the instructions, as callgrind counts them for each call. It is no part of the gate.
+
+    scripts/try-bounds [LIBRARY]
+
+The inputs are those of scripts/c_inputs.py, and some that cost more. Instructions of the C library's own functions
+aren't counted, as they aren't in the bounds. It fails where a call took more than its bound, and prints how many times
+the most that was counted a bound is."""
+
+import re
+import subprocess
+import sys
+from collections.abc import Iterator
+from dataclasses import dataclass, field
+from pathlib import Path
+from tempfile import TemporaryDirectory
+
+import c_inputs
+import header
+from bounding import table
+from bounding.calls import Bounds, bounded
+from bounds import TABLE, library_of
+from inputs import RESTRICTIONS, SPEED_STEPS, TRACK_CM, Numbers, greatest_data, greatest_restrictions, greatest_train
+from piped import end
+from sdm.laboratory.program import LIBRARY
+from specs import ROOT
+
+HERE = ROOT / "scripts"
+PARTS = ["replay", "journey", "heap_malloc"]
+WORDS = {"sdm_display": "display", "sdm_causes": "why"}  # of replay, for the calls that `run` doesn't make
+READINGS = 100  # of an input are counted at most
+PAINTED = re.compile(r"^painted (\w+) (\d+)$", re.M)
+COST = re.compile(r"^[+*-]?\d* \d+$")
+FILE = re.compile(r"^(?:ob|cob)=\((\d+)\)(?: (.*))?$")
+
+
+@dataclass
+class Most:
+    """The most that a call took, and the input of it."""
+
+    stack: int = 0
+    instructions: int = 0
+    of: str = ""
+    seen: set[str] = field(default_factory=set)
+
+
+def far_ahead() -> str:
+    """Data whose falls all lie far ahead of a train at the begin, to low speeds: at 500 km/h it passes none of their
+    limits, and each is asked in full. The restrictions make as many falls more as there may be."""
+    data = c_inputs.with_areas(greatest_data(Numbers(1), "true", greatest_train(bands=10, width_kmh=50)))
+    first, step = TRACK_CM - 1_300_000, 10_000
+    speeds = [(0, 500), *((first + step * k, 400 - 3 * k) for k in range(1, SPEED_STEPS))]
+    entries = "".join(f"[[track.speed]]\nstart = {start}\nspeed = {speed}\n" for start, speed in speeds)
+    before, _, behind = data.partition("[[track.speed]]\n")
+    areas = behind[behind.index("[[track.adhesion]]") :]
+    held = [(first + step * (3 * k + 1) + 3000, 400 - 3 * (3 * k + 1) - 1) for k in range(RESTRICTIONS)]
+    lines = "".join(f"restrict,{k},{start},{start + 3000},{speed},0\n" for k, (start, speed) in enumerate(held))
+    return before + entries + areas + lines
+
+
+def heavier() -> Iterator[tuple[str, str]]:
+    """Inputs that cost more than those of bench/: restrictions over the whole track that come and go, readings with all
+    falls ahead, and authorities all along the track."""
+    data = c_inputs.with_areas(greatest_data(Numbers(1), "true", greatest_train(bands=10, width_kmh=50)))
+    held = list(greatest_restrictions())
+    yield "wide", data + "".join(held[:-1]) + f"restrict,99,0,{TRACK_CM},1,1\nrevoke,99\n" * 10
+    speeds = [*range(1000, 138_889, 6000), 138_888]
+    for accel, under in ((300, 10_000), (-10, 500), (100, 472)):
+        reads = "".join(f"read,{n},1000,900,1100,{v},{accel},{under}\n" for n, v in enumerate(speeds))
+        yield f"ahead {accel} {under}", data + "".join(held) + reads
+        yield f"far {accel} {under}", far_ahead() + reads
+    ends = [(TRACK_CM * k // SPEED_STEPS, TRACK_CM) for k in range(1, SPEED_STEPS, 5)]
+    records = "".join(
+        f"endcalc,{eoa},{svl},{eoa}\nend,{eoa},{svl},40\nlimit,{eoa},{eoa % 499 + 1}\n" for eoa, svl in ends
+    )
+    yield "ends", data + "".join(held) + records
+
+
+def shortened(text: str) -> str:
+    """An input with its first readings alone."""
+    data, line, records = text.partition("%%\n")
+    kept: list[str] = []
+    readings = 0
+    for record in records.splitlines(keepends=True):
+        readings += record.startswith("read")
+        if readings > READINGS or len(kept) > 10 * READINGS:
+            break
+        kept.append(record)
+    return data + line + "".join(kept)
+
+
+def inputs() -> dict[str, str]:
+    """All inputs by their names."""
+    found = {name: shortened(data.decode()) for name, data in c_inputs.inputs().items()}
+    return found | dict(heavier())
+
+
+def compiled(library: Path, calls: list[str], folder: Path) -> tuple[Path, Path]:
+    """Two programs: replay, and replay whose calls are wrapped."""
+    sources = [ROOT / "c" / f"{part}.c" for part in PARTS]
+    plain, painted, wrapped = folder / "replay", folder / "painted", folder / "wrapped.s"
+    wrapped.write_text((HERE / "paint_calls.s").read_text() + "".join(f"    wrapped {call}\n" for call in calls))
+    words = [f"-Wl,--wrap={call}" for call in calls]
+    common = ["cc", "-std=c11", "-O2", "-g"]
+    subprocess.run([*common, "-o", plain, *sources, library], check=True)
+    subprocess.run([*common, *words, "-o", painted, *sources, HERE / "paint_calls.c", wrapped, library], check=True)
+    return plain, painted
+
+
+def own_cost(dump: Path) -> int:
+    """The instructions of a dump of callgrind that are of the program itself, not of shared libraries."""
+    names: dict[str, str] = {}
+    ours, after_call, total = True, False, 0
+    for line in dump.read_text().splitlines():
+        if found := FILE.match(line):
+            if found[2]:
+                names[found[1]] = found[2]
+            if line.startswith("ob="):
+                ours = ".so" not in names[found[1]]
+        elif line.startswith("calls="):
+            after_call = True
+        elif COST.match(line):
+            if ours and not after_call:
+                total += int(line.split()[1])
+            after_call = False
+    return total
+
+
+def counted(plain: Path, call: str, words: list[str], data: Path, folder: Path) -> int:
+    """The most instructions of one call over an input."""
+    for old in folder.glob("out*"):
+        old.unlink()
+    options = [f"--toggle-collect={call}", f"--dump-after={call}", f"--callgrind-out-file={folder}/out"]
+    with data.open("rb") as stdin:
+        subprocess.run(
+            ["valgrind", "-q", "--tool=callgrind", *options, plain, *words], stdin=stdin, capture_output=True
+        )
+    return max(map(own_cost, folder.glob("out.*")), default=0)
+
+
+def painted_in(program: Path, words: list[str], data: Path) -> dict[str, int]:
+    """The most stack of each call over an input."""
+    with data.open("rb") as stdin:
+        done = subprocess.run([program, *words], stdin=stdin, capture_output=True, text=True)
+    return {name: int(most) for name, most in PAINTED.findall(done.stderr)}
+
+
+def tried(library: Path, found: list[Bounds]) -> dict[str, Most]:
+    """The most that each call took over all inputs."""
+    calls = [each.call for each in found]
+    most = {call: Most() for call in calls}
+    with TemporaryDirectory() as scratch:
+        folder = Path(scratch)
+        plain, painted = compiled(library, calls, folder)
+        for name, text in inputs().items():
+            data = folder / "input"
+            data.write_text(text)
+            for word in ("run", "display", "why"):
+                words = [word, str(data)] if word == "run" else [word]  # the input again is a change of data
+                for call, stack in painted_in(painted, words, data).items():
+                    most[call].stack = max(most[call].stack, stack)
+                    if call != "sdm_layout" and word == WORDS.get(call, "run"):
+                        instructions = counted(plain, call, words, data, folder)
+                        if instructions > most[call].instructions:
+                            most[call].instructions, most[call].of = instructions, name
+            print(f"{name} was tried", file=sys.stderr, flush=True)
+    return most
+
+
+def compared(bound: Bounds, most: Most) -> tuple[str, bool]:
+    """What a call took at most beside its bound, as a line, and whether it took more."""
+    stack = bound.stack.depth if bound.stack else 0
+    instructions = bound.counts.get("instructions", 0)
+    line = f"{bound.call}: stack {most.stack:,} of {stack:,}"
+    if most.instructions:
+        times = instructions / most.instructions
+        line += f"; instructions {most.instructions:,} of {instructions:,} ({most.of}), {times:.2f} times"
+    return line, most.stack > stack or most.instructions > instructions
+
+
+def main(words: list[str]) -> int:
+    library = Path(words[0]) if words else LIBRARY.path
+    rows = table.read(TABLE)
+    found = bounded(library_of(library, rows), rows, [call.name for call in header.calls(header.text())])
+    # the stack of one that frees has that of the heap, which the bound leaves out
+    found = [each for each in found if each.call not in rows.freeing]
+    took = tried(library, found)
+    is_more = False
+    for each in found:
+        line, more = compared(each, took[each.call])
+        is_more |= more
+        print(line)
+    return int(is_more)
+
+
+if __name__ == "__main__":
+    end(lambda: main(sys.argv[1:]))
