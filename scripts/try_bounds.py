@@ -1,15 +1,16 @@
 """Holds the bounds of the calls from C against what c/replay.c takes over inputs: the stack, painted before each call,
-and the instructions, as callgrind counts them for each call. It is no part of the gate.
+the instructions, as callgrind counts them for each call, and the turns of each loop. It is no part of the gate.
 
     scripts/try-bounds [LIBRARY]
 
 The inputs are those of scripts/c_inputs.py, and some that cost more. Instructions of the C library's own functions
-aren't counted, as they aren't in the bounds. It fails where a call took more than its bound, and prints how many times
-the most that was counted a bound is."""
+aren't counted, as they aren't in the bounds. It fails where a call took more than its bound, or a loop turned more
+often than its row says, and prints both beside each other."""
 
 import re
 import subprocess
 import sys
+from collections import Counter
 from collections.abc import Iterator
 from dataclasses import dataclass, field
 from pathlib import Path
@@ -19,6 +20,9 @@ import c_inputs
 import header
 from bounding import table
 from bounding.calls import Bounds, bounded
+from bounding.counted import Turned, dumps, places, turned
+from bounding.library import Library
+from bounding.table import Table
 from bounds import TABLE, library_of
 from inputs import RESTRICTIONS, SPEED_STEPS, TRACK_CM, Numbers, greatest_data, greatest_restrictions, greatest_train
 from piped import end
@@ -30,8 +34,7 @@ PARTS = ["replay", "journey", "heap_malloc"]
 WORDS = {"sdm_display": "display", "sdm_causes": "why"}  # of replay, for the calls that `run` doesn't make
 READINGS = 100  # of an input are counted at most
 PAINTED = re.compile(r"^painted (\w+) (\d+)$", re.M)
-COST = re.compile(r"^[+*-]?\d* \d+$")
-FILE = re.compile(r"^(?:ob|cob)=\((\d+)\)(?: (.*))?$")
+Places = dict[str, int]  # the addresses of functions
 
 
 @dataclass
@@ -41,7 +44,19 @@ class Most:
     stack: int = 0
     instructions: int = 0
     of: str = ""
-    seen: set[str] = field(default_factory=set)
+
+
+@dataclass
+class Tried:
+    """What was seen of all calls, and of all loops by their functions and numbers."""
+
+    calls: dict[str, Most]
+    loops: dict[tuple[str, int], Turned] = field(default_factory=dict)
+
+    def note_turns(self, name: str, number: int, turned: Turned | None) -> None:
+        before = self.loops.get((name, number))
+        if turned and (before is None or turned.most > before.most):
+            self.loops[name, number] = turned
 
 
 def far_ahead() -> str:
@@ -101,41 +116,10 @@ def compiled(library: Path, calls: list[str], folder: Path) -> tuple[Path, Path]
     plain, painted, wrapped = folder / "replay", folder / "painted", folder / "wrapped.s"
     wrapped.write_text((HERE / "paint_calls.s").read_text() + "".join(f"    wrapped {call}\n" for call in calls))
     words = [f"-Wl,--wrap={call}" for call in calls]
-    common = ["cc", "-std=c11", "-O2", "-g"]
+    common = ["cc", "-std=c11", "-O2", "-no-pie"]
     subprocess.run([*common, "-o", plain, *sources, library], check=True)
     subprocess.run([*common, *words, "-o", painted, *sources, HERE / "paint_calls.c", wrapped, library], check=True)
     return plain, painted
-
-
-def own_cost(dump: Path) -> int:
-    """The instructions of a dump of callgrind that are of the program itself, not of shared libraries."""
-    names: dict[str, str] = {}
-    ours, after_call, total = True, False, 0
-    for line in dump.read_text().splitlines():
-        if found := FILE.match(line):
-            if found[2]:
-                names[found[1]] = found[2]
-            if line.startswith("ob="):
-                ours = ".so" not in names[found[1]]
-        elif line.startswith("calls="):
-            after_call = True
-        elif COST.match(line):
-            if ours and not after_call:
-                total += int(line.split()[1])
-            after_call = False
-    return total
-
-
-def counted(plain: Path, call: str, words: list[str], data: Path, folder: Path) -> int:
-    """The most instructions of one call over an input."""
-    for old in folder.glob("out*"):
-        old.unlink()
-    options = [f"--toggle-collect={call}", f"--dump-after={call}", f"--callgrind-out-file={folder}/out"]
-    with data.open("rb") as stdin:
-        subprocess.run(
-            ["valgrind", "-q", "--tool=callgrind", *options, plain, *words], stdin=stdin, capture_output=True
-        )
-    return max(map(own_cost, folder.glob("out.*")), default=0)
 
 
 def painted_in(program: Path, words: list[str], data: Path) -> dict[str, int]:
@@ -145,26 +129,42 @@ def painted_in(program: Path, words: list[str], data: Path) -> dict[str, int]:
     return {name: int(most) for name, most in PAINTED.findall(done.stderr)}
 
 
-def tried(library: Path, found: list[Bounds]) -> dict[str, Most]:
-    """The most that each call took over all inputs."""
-    calls = [each.call for each in found]
-    most = {call: Most() for call in calls}
+def note_counts(
+    tried: Tried, call: str, name: str, ran: Counter[int], library: Library, rows: Table, at: Places
+) -> None:
+    """Notes what a run of a call over an input took, and how often its loops turned."""
+    most, instructions = tried.calls[call], ran.total()
+    if instructions > most.instructions:
+        most.instructions, most.of = instructions, name
+    for function in library.reached(call):
+        known = library.known.get(function)
+        if known is None or function not in at:
+            continue
+        for loop in known.loops():
+            moved = at[function] - known.function.begin.at
+            seen = turned(known, loop, rows.turns(function, loop), ran, moved)
+            tried.note_turns(function, loop.number, seen)
+
+
+def tried(path: Path, calls: list[str], library: Library, rows: Table) -> Tried:
+    """The most that each call took over all inputs, and each loop turned."""
+    found = Tried({call: Most() for call in calls})
     with TemporaryDirectory() as scratch:
         folder = Path(scratch)
-        plain, painted = compiled(library, calls, folder)
+        plain, painted = compiled(path, calls, folder)
+        at = places(plain)
         for name, text in inputs().items():
             data = folder / "input"
             data.write_text(text)
             for word in ("run", "display", "why"):
                 words = [word, str(data)] if word == "run" else [word]  # the input again is a change of data
                 for call, stack in painted_in(painted, words, data).items():
-                    most[call].stack = max(most[call].stack, stack)
+                    found.calls[call].stack = max(found.calls[call].stack, stack)
                     if call != "sdm_layout" and word == WORDS.get(call, "run"):
-                        instructions = counted(plain, call, words, data, folder)
-                        if instructions > most[call].instructions:
-                            most[call].instructions, most[call].of = instructions, name
+                        for ran in dumps(plain, call, words, data, folder):
+                            note_counts(found, call, name, ran, library, rows, at)
             print(f"{name} was tried", file=sys.stderr, flush=True)
-    return most
+    return found
 
 
 def compared(bound: Bounds, most: Most) -> tuple[str, bool]:
@@ -179,17 +179,27 @@ def compared(bound: Bounds, most: Most) -> tuple[str, bool]:
 
 
 def main(words: list[str]) -> int:
-    library = Path(words[0]) if words else LIBRARY.path
+    path = Path(words[0]) if words else LIBRARY.path
     rows = table.read(TABLE)
-    found = bounded(library_of(library, rows), rows, [call.name for call in header.calls(header.text())])
+    library = library_of(path, rows)
     # the stack of one that frees has that of the heap, which the bound leaves out
-    found = [each for each in found if each.call not in rows.freeing]
-    took = tried(library, found)
+    found = [
+        each
+        for each in bounded(library, rows, [call.name for call in header.calls(header.text())])
+        if each.call not in rows.freeing
+    ]
+    took = tried(path, [each.call for each in found], library, rows)
     is_more = False
     for each in found:
-        line, more = compared(each, took[each.call])
+        line, more = compared(each, took.calls[each.call])
         is_more |= more
         print(line)
+    for name, loops in sorted(rows.loops.items()):
+        for number, row in enumerate(loops):
+            seen = took.loops.get((name, number))
+            is_more |= seen is not None and seen.most > seen.may
+            told = f"{seen.most:.1f} turns of {seen.may}" if seen else "not entered"
+            print(f"{name}, loop {number}, {row.walk}: {told}")
     return int(is_more)
 
 

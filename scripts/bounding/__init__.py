@@ -8,5 +8,6 @@ frames    how deep a function uses the stack, and how deep it calls another
 library   the functions of all objects, and who calls whom
 work      the heaviest path through a call
 table     scripts/bounds.toml: how often each loop turns, and the clause that says so
-page      what docs/INTEGRATION.md has of it
+page      what docs/FROM-C.md and docs/INTEGRATION.md have of it
+counted   what callgrind counts of the same calls
 """

@@ -24,6 +24,7 @@ OPERATORS: dict[type, Callable[[int, int], int]] = {
 }
 FUNCTIONS: dict[str, Callable[[int], int]] = {
     "halvings": lambda count: (count - 1).bit_length(),  # of so many, until one is left
+    "digits": lambda count: count.bit_length(),  # binary ones
 }
 
 
@@ -112,7 +113,7 @@ class Table:
 
 
 def evaluated(tree: ast.expr, sizes: dict[str, int]) -> int:
-    """The value of a formula, of which only numbers, sizes, products, sums, differences and `halvings` are known."""
+    """The value of a formula of numbers and sizes, by OPERATORS and FUNCTIONS."""
     match tree:
         case ast.Constant(value=int(number)):
             return number

@@ -97,6 +97,12 @@ class Compiled(unittest.TestCase):
         self.assertTrue(any(each.is_jump() and each.is_indirect() for each in code), "the switch is no table")
         self.assertEqual(sorted(library_of(made).known["choose"].frame.calls), ["deep", "leaf"])
 
+    def test_each_jump_table_leads_to_its_own_cases(self) -> None:
+        known = library_of(compiled("calls.c", self.folder, "-O1", "-fno-inline")).known["choose_twice"]
+        jumps = [each for each in known.function.code if each.is_jump() and each.is_indirect()]
+        self.assertEqual(len(jumps), 2, "a switch is no table")
+        self.assertEqual(known.loops(), [])  # as if the second switch led to the cases of the first
+
     def test_each_frame_is_the_compiler_s(self) -> None:
         for word in ("-O1", "-O2", "-Os"):
             library = library_of(compiled("calls.c", self.folder, word, "-fstack-usage", "-mno-red-zone"))

@@ -54,6 +54,40 @@ int choose(int n) {
     return 0;
 }
 
+int choose_twice(int n, int m) {
+    int sum = choose(m);
+    switch (n) {
+    case 0:
+        sum += leaf(1) + 7;
+        break;
+    case 1:
+        sum ^= leaf(2) * 3;
+        break;
+    case 2:
+        sum *= leaf(4) + 1;
+        break;
+    case 3:
+        sum -= leaf(7) ^ 5;
+        break;
+    case 4:
+        written = 3;
+        break;
+    }
+    switch (m) {
+    case 0:
+        return sum + leaf(9) * 7;
+    case 1:
+        return sum ^ leaf(3) * 5;
+    case 2:
+        return sum - leaf(5);
+    case 3:
+        return sum * leaf(6);
+    case 4:
+        return written;
+    }
+    return sum;
+}
+
 int walk(const int *of, int count) {
     int most = 0;
     for (int i = 0; i < count; i++)
