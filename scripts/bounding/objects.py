@@ -103,11 +103,14 @@ def base_before(
 
 
 def symbols(path: Path) -> dict[str, Place]:
-    """The place of each symbol by its name, and of each section by its own; without a section for what is
-    elsewhere."""
-    sections, found = {}, {}
+    """The place of each symbol by its name, and of each section by its own; without a section for what is elsewhere.
+    Two sections of code with one name are refused."""
+    sections: dict[str, str] = {}
+    found: dict[str, Place] = {}
     for line in printed("readelf", "--wide", "--section-headers", "--symbols", path).splitlines():
         if header := HEADER.match(line):
+            if header[2].startswith(".text") and header[2] in sections.values():
+                raise Refused(f"two sections of {path.name} are named {header[2]}")
             sections[header[1]] = header[2]
         elif symbol := SYMBOL.match(line):
             section = sections.get(symbol[3], "")

@@ -3,6 +3,7 @@ so. A loop is known by its function, its number there, and its shape."""
 
 import ast
 import operator
+import re
 import tomllib
 from collections.abc import Callable, Iterable, Iterator
 from dataclasses import dataclass
@@ -15,7 +16,9 @@ from bounding.library import Known
 from bounding.work import Turns
 from citations import contracts, sources
 from edits import clauses_of, named
+from specs import definitions, spec_files
 
+FIELD = re.compile(r"^\s+pub (\w+) :", re.M)
 OPERATORS: dict[type, Callable[[int, int], int]] = {
     ast.Add: operator.add,
     ast.Sub: operator.sub,
@@ -154,18 +157,26 @@ def read(path: Path) -> Table:
         raise Bad(f"{path.name}: {why}") from why
 
 
+def clauses(crate: str) -> set[str]:
+    """The clauses of a crate as the table names them: of its functions, and the fields of its definitions."""
+    found = set()
+    for contract in [contract for path in sources(crate) for contract in contracts(path)]:
+        found.add(named(contract))
+        found |= {f"{named(contract)} {clause}" for clause, _ in clauses_of(contract) if clause}
+    for path in spec_files(crate):
+        for each in definitions(path):
+            name = f"{crate}::{path.stem}.{each.name}"
+            found |= {f"{name} {field}" for field in FIELD.findall(each.text)}
+    return found
+
+
 def clause_faults(table: Table) -> Iterator[str]:
     """The clauses that the table names and that aren't there, and the walks with neither a clause nor a reason."""
     rows: dict[str, Size | Walk] = {**table.sizes, **table.walks}
-    cited = {name: each.clause for name, each in rows.items()}
-    crates = {clause.partition("::")[0] for clause in cited.values() if clause}
-    known: set[str] = set()
-    for crate in crates:
-        for contract in [contract for path in sources(crate) for contract in contracts(path)]:
-            known.add(named(contract))
-            known |= {f"{named(contract)} {clause}" for clause, _ in clauses_of(contract) if clause}
+    cited = {name: each.clause for name, each in rows.items() if each.clause}
+    known = set().union(*map(clauses, {clause.partition("::")[0] for clause in cited.values()}))
     for name, clause in cited.items():
-        if clause and clause not in known:
+        if clause not in known:
             yield f"{name}: there is no clause {clause}"
     for name, each in rows.items():
         if bool(each.clause) == bool(each.missing):
