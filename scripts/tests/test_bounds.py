@@ -10,8 +10,9 @@ from pathlib import Path
 from bounding.calls import Bounds, bounds_of, run_by
 from bounding.code import Refused
 from bounding.library import Library
-from bounding.table import Bad, Outside, Row, Size, Table, Walk, clause_faults, row_faults, rows_anew
+from bounding.table import Bad, Outside, Row, Size, Table, Walk, clause_faults, read, row_faults, rows_anew
 from bounding.work import COUNTS, Work
+from bounds import TABLE
 
 SOURCES = Path(__file__).parent / "bounded"
 
@@ -205,3 +206,17 @@ class Counted(unittest.TestCase):
         for formula in ("more", "many ** 2", "print(many)", "halvings(many, 2)"):
             with self.subTest(formula), self.assertRaises(Bad):
                 self.table.value(formula)
+
+
+class Kept(unittest.TestCase):
+    """scripts/bounds.toml itself, as far as it can be read without the library."""
+
+    def test_each_row_names_a_walk_and_each_formula_has_a_value(self) -> None:
+        table = read(TABLE)
+        self.assertEqual({row.walk for rows in table.loops.values() for row in rows}, table.walks.keys())
+        for name, walk in table.walks.items():
+            with self.subTest(name):
+                self.assertGreaterEqual(table.value(walk.turns), 0)
+
+    def test_each_clause_is_there(self) -> None:
+        self.assertEqual(list(clause_faults(read(TABLE))), [])
