@@ -55,20 +55,22 @@ class Tried:
 
     def note_turns(self, name: str, number: int, turned: Turned | None) -> None:
         before = self.loops.get((name, number))
-        if turned and (before is None or turned.most > before.most):
+        if turned and before:
+            turned = Turned(max(turned.turns, before.turns), max(turned.calls, before.calls), turned.may)
+        if turned:
             self.loops[name, number] = turned
 
 
-def far_ahead() -> str:
-    """Data whose falls all lie far ahead of a train at the begin, to low speeds: at 500 km/h it passes none of their
-    limits, and each is asked in full. The restrictions make as many falls more as there may be."""
+def far_ahead(top_kmh: int, step_kmh: int) -> str:
+    """Data whose falls all lie far ahead of a train at the begin, one after the other down from a speed: it passes none
+    of their limits, and none is hidden early. The restrictions make as many falls more as there may be."""
     data = c_inputs.with_areas(greatest_data(Numbers(1), "true", greatest_train(bands=10, width_kmh=50)))
     first, step = TRACK_CM - 1_300_000, 10_000
-    speeds = [(0, 500), *((first + step * k, 400 - 3 * k) for k in range(1, SPEED_STEPS))]
+    speeds = [(0, 500), *((first + step * k, top_kmh - step_kmh * k) for k in range(1, SPEED_STEPS))]
     entries = "".join(f"[[track.speed]]\nstart = {start}\nspeed = {speed}\n" for start, speed in speeds)
     before, _, behind = data.partition("[[track.speed]]\n")
     areas = behind[behind.index("[[track.adhesion]]") :]
-    held = [(first + step * (3 * k + 1) + 3000, 400 - 3 * (3 * k + 1) - 1) for k in range(RESTRICTIONS)]
+    held = [(first + step * (3 * k + 1) + 3000, top_kmh - step_kmh * (3 * k + 1) - 1) for k in range(RESTRICTIONS)]
     lines = "".join(f"restrict,{k},{start},{start + 3000},{speed},0\n" for k, (start, speed) in enumerate(held))
     return before + entries + areas + lines
 
@@ -83,7 +85,8 @@ def heavier() -> Iterator[tuple[str, str]]:
     for accel, under in ((300, 10_000), (-10, 500), (100, 472)):
         reads = "".join(f"read,{n},1000,900,1100,{v},{accel},{under}\n" for n, v in enumerate(speeds))
         yield f"ahead {accel} {under}", data + "".join(held) + reads
-        yield f"far {accel} {under}", far_ahead() + reads
+        for top_kmh, step_kmh in ((400, 3), (330, 1), (220, 1)):
+            yield f"far {top_kmh} {accel} {under}", far_ahead(top_kmh, step_kmh) + reads
     ends = [(TRACK_CM * k // SPEED_STEPS, TRACK_CM) for k in range(1, SPEED_STEPS, 5)]
     records = "".join(
         f"endcalc,{eoa},{svl},{eoa}\nend,{eoa},{svl},40\nlimit,{eoa},{eoa % 499 + 1}\n" for eoa, svl in ends
@@ -197,9 +200,8 @@ def main(words: list[str]) -> int:
     for name, loops in sorted(rows.loops.items()):
         for number, row in enumerate(loops):
             seen = took.loops.get((name, number))
-            is_more |= seen is not None and seen.most > seen.may
-            told = f"{seen.most:.1f} turns of {seen.may}" if seen else "not entered"
-            print(f"{name}, loop {number}, {row.walk}: {told}")
+            is_more |= seen is not None and seen.is_more()
+            print(f"{name}, loop {number}, {row.walk}: {seen.shown() if seen else 'not entered'}")
     return int(is_more)
 
 

@@ -19,11 +19,20 @@ COST = re.compile(r"^0x([0-9a-f]+) (\d+)$")
 
 @dataclass
 class Turned:
-    """How often a loop turned at most each time that it was entered, on an average of a call's entries, or in a run of
-    its function; and how often it may."""
+    """How often a loop turned each time that it was entered, on an average of a call's entries, or in a run of its
+    function, and how often it called functions; and how often it may."""
 
-    most: float
-    may: int
+    turns: float
+    calls: float
+    may: Turns
+
+    def is_more(self) -> bool:
+        """Whether that is more than it may."""
+        return self.turns > self.may.most or (self.may.calls is not None and self.calls > self.may.calls)
+
+    def shown(self) -> str:
+        calls = "" if self.may.calls is None else f", {self.calls:.1f} calls of {self.may.calls}"
+        return f"{self.turns:.1f} turns of {self.may.most}{calls}"
 
 
 def dumps(program: Path, call: str, words: list[str], data: Path, folder: Path) -> Iterator[Counter[int]]:
@@ -77,5 +86,6 @@ def turned(known: Known, loop: Loop, may: Turns, ran: Counter[int], moved: int) 
     entered = count(before) + (runs if 0 in loop.entries else 0)
     if not entered:
         return None
-    more = count(loop.entries) - entered
-    return Turned(more / (runs if may.is_in_run else entered), may.most)
+    calls = count(frozenset(k for k in loop.nodes if code[k].is_call()))
+    times = runs if may.is_in_run else entered
+    return Turned((count(loop.entries) - entered) / times, calls / times, may)

@@ -48,12 +48,13 @@ class Size:
 @dataclass(frozen=True)
 class Walk:
     """A loop of the source: where it stands, what it walks, and how often it turns at most, as a formula of the sizes:
-    each time that it is entered, or in a whole run of its function. Where no clause says so, it says what is missing.
-    """
+    each time that it is entered, or in a whole run of its function; and how often it calls functions, where that isn't
+    at each turn. Where no clause says so, it says what is missing."""
 
     at: str
     of: str
     turns: str
+    calls: str = ""
     clause: str = ""
     missing: str = ""
     in_run: bool = False
@@ -99,7 +100,8 @@ class Table:
         walk = self.walks.get(rows[loop.number].walk)
         if walk is None:
             raise Refused(f"{name} has a loop of no known walk: {loop.number}, {rows[loop.number].walk}")
-        return Turns(self.value(walk.turns), walk.in_run)
+        calls = self.value(walk.calls) if walk.calls else None
+        return Turns(self.value(walk.turns), calls, walk.in_run)
 
     def value(self, formula: str) -> int:
         """The value of a formula of the sizes."""
@@ -110,8 +112,7 @@ class Table:
         walks = {row.walk for name in functions for row in self.loops.get(name, [])} & self.walks.keys()
         sizes = {size for walk in walks for size in sizes_in(self.walks[walk].turns)} & self.sizes.keys()
         return sorted(
-            [walk for walk in walks if not self.walks[walk].clause]
-            + [size for size in sizes if not self.sizes[size].clause]
+            [walk for walk in walks if self.walks[walk].missing] + [size for size in sizes if self.sizes[size].missing]
         )
 
 
@@ -179,8 +180,8 @@ def clause_faults(table: Table) -> Iterator[str]:
         if clause not in known:
             yield f"{name}: there is no clause {clause}"
     for name, each in rows.items():
-        if bool(each.clause) == bool(each.missing):
-            yield f"{name}: it has either a clause, or what is missing"
+        if not each.clause and not each.missing:
+            yield f"{name}: it has neither a clause nor what is missing"
 
 
 def row_faults(table: Table, functions: dict[str, Known]) -> Iterator[str]:

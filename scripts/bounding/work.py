@@ -19,10 +19,26 @@ COUNTS: dict[str, Count] = {
 
 @dataclass(frozen=True)
 class Turns:
-    """How often a loop turns at most: each time that it is entered, or in a whole run of its function."""
+    """How often a loop turns at most, and how often it calls functions where that isn't at each turn: each time that it
+    is entered, or in a whole run of its function."""
 
     most: int
+    calls: int | None = None
     is_in_run: bool = False
+
+
+@dataclass(frozen=True)
+class Weights:
+    """What each instruction of a function weighs by itself, and what the function weighs that it calls."""
+
+    own: list[int]
+    called: list[int]
+
+    def at(self, k: int) -> int:
+        return self.own[k] + self.called[k]
+
+    def without_calls(self) -> "Weights":
+        return Weights(self.own, [0] * len(self.own))
 
 
 Bounds = Callable[[str, Loop], Turns]  # of a loop of a function
@@ -45,18 +61,19 @@ class Work:
             return self.outside.get(name, 0)
         if name not in self.found:
             known = self.library.must_know(name)
-            weights = [self.of_instruction(each) for each in known.function.code]
+            own = [self.of_instruction(each) for each in known.function.code]
+            called = [self.of(each.callee) if each.callee else 0 for each in known.function.code]
             more: list[int] = []
-            self.found[name] = self.heaviest(known.body, weights, name, more) + sum(more)
+            self.found[name] = self.heaviest(known.body, Weights(own, called), name, more) + sum(more)
         return self.found[name]
 
     def of_instruction(self, each: Instruction) -> int:
-        """What an instruction weighs, with the function that it calls."""
+        """What an instruction weighs by itself."""
         if each.is_repeated:
             raise Refused(f"an instruction repeats itself: {each.name} {each.operands}")
-        return self.count(each) + (self.of(each.callee) if each.callee is not None else 0)
+        return self.count(each)
 
-    def heaviest(self, part: Part, weights: list[int], name: str, more: list[int]) -> int:
+    def heaviest(self, part: Part, weights: Weights, name: str, more: list[int]) -> int:
         """The most that a path through a part weighs. What loops weigh that are bounded for a whole run goes to
         `more`."""
         best: dict[int, int] = {}
@@ -65,18 +82,20 @@ class Work:
                 weight = self.of_loop(part.loops[group], weights, name, more)
             else:
                 (k,) = group
-                weight = weights[k]
+                weight = weights.at(k)
             behind = [best[to] for k in group for to in part.after[k] - group]
             best |= dict.fromkeys(group, weight + max(behind, default=0))
         return max(best[k] for k in part.entries)
 
-    def of_loop(self, loop: Loop, weights: list[int], name: str, more: list[int]) -> int:
+    def of_loop(self, loop: Loop, weights: Weights, name: str, more: list[int]) -> int:
         """The most that a loop weighs each time that it is entered."""
         turns = self.turns(name, loop)
-        inner: list[int] = []
-        once = self.heaviest(loop, weights, name, inner)
-        more += inner
+        called = 0
+        if turns.calls is not None:
+            called = turns.calls * max(weights.called[k] for k in loop.nodes)
+            weights = weights.without_calls()
+        once = self.heaviest(loop, weights, name, more)
         if not turns.is_in_run:
-            return (turns.most + 1) * once
-        more.append(turns.most * once)
+            return (turns.most + 1) * once + called
+        more.append(turns.most * once + called)
         return once

@@ -143,6 +143,13 @@ class Counted(unittest.TestCase):
         self.table.walks["inner"] = replace(self.walks["inner"], in_run=True)
         self.assertEqual(self.counted("nested", "instructions"), 1 + 4 * (2 + 1 + 3) + 5 * 3 + 2)
 
+    def test_a_loop_may_call_less_often_than_it_turns(self) -> None:
+        self.table.walks["calling"] = Walk("here", "calls", "3", calls="2", missing="a clause")
+        self.table.loops["calling"] = [Row("calling", self.library.known["calling"].loops()[0].shape)]
+        self.assertEqual(
+            self.counted("calling", "instructions"), 1 + 4 * 4 + 2 * self.counted("leaf", "instructions") + 1
+        )
+
     def test_divisions_and_accesses_are_counted(self) -> None:
         self.assertEqual(self.counted("nested", "divisions"), 1)
         self.assertEqual(self.counted("nested", "accesses"), 4 * 6 + 1)
@@ -196,8 +203,8 @@ class Counted(unittest.TestCase):
             list(clause_faults(self.table)),
             [
                 "outer: there is no clause sdm_num::Speed::gone",
-                "some: it has either a clause, or what is missing",
-                "entered: it has either a clause, or what is missing",
+                "some: it has neither a clause nor what is missing",
+                "entered: it has neither a clause nor what is missing",
             ],
         )
 

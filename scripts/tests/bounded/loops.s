@@ -1,9 +1,11 @@
 # Loops whose instructions test_bounds.py counts: behind the first of some that follow one another stands how many they are.
     .text
-    .globl nested, entered_twice, caller
+    .globl nested, entered_twice, caller, calling, leaf
     .type nested, @function
     .type entered_twice, @function
     .type caller, @function
+    .type calling, @function
+    .type leaf, @function
 nested:
     mov $4, %ecx            # 1
 1:  mov $6, %edx            # 1, of the outer loop
@@ -27,3 +29,14 @@ caller:
     call entered_twice
     pop %rbx
     ret
+leaf:
+    mov %edi, %eax          # 3
+    add $7, %eax
+    ret
+calling:
+    mov $4, %ecx            # 1
+6:  test $1, %ecx           # 4 of the loop, with the call
+    je 7f
+    call leaf
+7:  loop 6b
+    ret                     # 1
