@@ -332,6 +332,7 @@ class Checks(unittest.TestCase):
             "upgrade",
             "certificates",
             "compilers",
+            "bounds",
             "worked",
             "live",
             "c",
@@ -340,7 +341,7 @@ class Checks(unittest.TestCase):
             "refused",
             "scripts",
             "release",
-        }  # test_program.py, all nine; by hand
+        }  # test_program.py, test_bounds.py; by hand
         names = {path.name.removeprefix("check-") for path in (copies.TOP / "scripts").glob("check-*")} - elsewhere
         few = {name for name in names if sum(len(faults) for script, faults in PLANTED if script == name) < 2}
         self.assertEqual(few, set())
