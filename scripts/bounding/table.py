@@ -49,12 +49,13 @@ class Size:
 class Walk:
     """A loop of the source: where it stands, what it walks, and how often it turns at most, as a formula of the sizes:
     each time that it is entered, or in a whole run of its function; and how often it calls functions, where that isn't
-    at each turn. Where no clause says so, it says what is missing."""
+    at each turn, with the clause that says that. Where no clause says so, it says what is missing."""
 
     at: str
     of: str
     turns: str
     calls: str = ""
+    calls_clause: str = ""
     clause: str = ""
     missing: str = ""
     in_run: bool = False
@@ -174,9 +175,10 @@ def clauses(crate: str) -> set[str]:
 def clause_faults(table: Table) -> Iterator[str]:
     """The clauses that the table names and that aren't there, and the walks with neither a clause nor a reason."""
     rows: dict[str, Size | Walk] = {**table.sizes, **table.walks}
-    cited = {name: each.clause for name, each in rows.items() if each.clause}
-    known = set().union(*map(clauses, {clause.partition("::")[0] for clause in cited.values()}))
-    for name, clause in cited.items():
+    cited = [(name, each.clause) for name, each in rows.items() if each.clause]
+    cited += [(name, walk.calls_clause) for name, walk in table.walks.items() if walk.calls_clause]
+    known = set().union(*map(clauses, {clause.partition("::")[0] for _, clause in cited}))
+    for name, clause in cited:
         if clause not in known:
             yield f"{name}: there is no clause {clause}"
     for name, each in rows.items():
