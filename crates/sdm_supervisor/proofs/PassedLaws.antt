@@ -47,7 +47,7 @@ module _ (p : Target → Bool) (ts : List Target) (t : Target) (a : Bool) where
   any_more so_far b is = (λ k. so_far k || (is ∙ sym (or-false (p t))) k) ∙ sym (list_any-append p ts (t ∷ []))
 
   -- one that fails changes nothing
-  any_unless : a ≡ list_any p ts → p t ≡ false → a ≡ list_any p (ts ++ t ∷ [])
+  pub any_unless : a ≡ list_any p ts → p t ≡ false → a ≡ list_any p (ts ++ t ∷ [])
   any_unless so_far none = sym (or-false a) ∙ any_more so_far false (sym none)
 
   -- whether all targets pass, with one more
@@ -74,7 +74,7 @@ module _ (v : ℕ) (est max : ℤ) (t : Target) (kind : LimitKind) (l : Supervis
   not_above within = rw (le-ltb (with_margin (margin_of kind) t) v within)
 
   -- so no limit of a target above the train's speed is passed
-  not_passed : v < target_speed t → passes kind v est max 0 t l ≡ false
+  pub not_passed : v < target_speed t → passes kind v est max 0 t l ≡ false
   not_passed slower = not_above (omega (arith, at_least t.kind (notches t.speed) (margin_of kind t.speed)))
 
   -- nor is one that the front end is not past
@@ -132,10 +132,9 @@ covered_yet d e est max t Svl met none = rw (none.each Ebi) refl
 module _ {d : TrainAndTrack} {e : Estimate} {est max : ℤ} {ts : List Target} {t : Target} {p : Verdict}
     (is : IsSaid d e est max ts p) {s : SpeedLimits} (speeds : AreSpeedsOf t s) where
   -- a target above the train's speed only says whether it is covered
-  pub slower_said : e.speed < s.permitted → {covered : Bool} → covered ≡ (p.covered && is_covered_for d max e t) →
+  pub slower_said : e.speed < target_speed t → {covered : Bool} → covered ≡ (p.covered && is_covered_for d max e t) →
       IsSaid d e est max (ts ++ t ∷ []) (record p { covered = covered })
-  slower_said below covered =
-      let slower = subst (λ (n : ℕ). e.speed < n) speeds.permitted below in
+  slower_said slower covered =
       record {
         passed = record {
           each = λ kind. any_unless _ ts t _ (is.passed.each kind)

@@ -59,6 +59,16 @@ impl Walk for Passing {
             *found = limit.is_passed_by(front_for(sight.reading, kept.target.kind));
         }
     }
+
+    /// None of its limits is passed.
+    #[inline(always)]
+    fn meet_faster(
+        &self,
+        _sight: &Sight<'_>,
+        _asked: &AskedEstimate,
+        _kept: &KeptTarget,
+        _found: &mut bool,
+    ) {}
 }
 
 /// Asks targets for the one that counts. (own)

@@ -1,8 +1,9 @@
 //! What is said of a reading: by its targets, each of which is looked at once and adds to what the others said, and
 //! then by the ceiling, the end of the authority and the release speed.
 
-ghost use Rattle.std.specs.Prelude.{◌≡◌, ◌++◌, ◌∷◌, List, []};
+ghost use Rattle.std.specs.Prelude.{◌≡◌, ◌<◌, ◌++◌, ◌∷◌, List, []};
 ghost use Rattle.sdm_rules.specs.declared.targets.Target.{Target};
+ghost use Rattle.sdm_rules.specs.Targets.{target_speed};
 ghost use Rattle.sdm_rules.specs.Triggers.{front_for};
 ghost use Rattle.sdm_braking.specs.Asked.{IsAsked};
 ghost use Rattle.sdm_braking.specs.KeptCurves.{IsKeptTarget};
@@ -73,9 +74,44 @@ impl Walk for Judging {
     ) {
         found.add(sight.braking, asked, sight.reading, kept);
     }
+
+    #[inline(always)]
+    fn meet_faster(
+        &self,
+        sight: &Sight<'_>,
+        asked: &AskedEstimate,
+        kept: &KeptTarget,
+        found: &mut Verdict,
+    ) {
+        found.add_faster(sight.braking, asked, sight.reading, kept);
+    }
 }
 
 impl Verdict {
+    /// Adds what a target says that is faster than the train: it is not passed, and none of its limits counts. Most such
+    /// targets are met by speed; another is covered where the max safe front end is at or before its EBI. (SUBSET-026-3
+    /// 3.13.10.4; own)
+    fn add_faster(
+        &mut self,
+        braking: &Braking,
+        asked: &AskedEstimate,
+        reading: &Reading,
+        kept: &KeptTarget,
+    )
+        requires asked { IsAsked braking.now asked.now }
+        requires kept { IsKeptTarget braking.now kept.now }
+        requires faster { asked.now.estimate.speed < target_speed kept.now.target }
+        ensures { (ts : List Target) →
+            IsSaid braking.now asked.now.estimate reading.now.est reading.now.max ts self.old →
+            IsSaid braking.now asked.now.estimate reading.now.est reading.now.max
+            (ts ++ kept.now.target ∷ []) self.new }
+    {
+        let max = reading.max_mm();
+        if self.covered && !asked.is_met_by_speed(kept) {
+            self.covered = braking.is_before_ebi(asked, kept, max);
+        }
+    }
+
     /// Adds what a target says: a limit is passed where the estimated speed is above the target's with its margin, and
     /// the front end that the target compares is past the limit. (SUBSET-026-3 3.13.10.4; own)
     fn add(
@@ -94,15 +130,11 @@ impl Verdict {
     {
         let v_est = asked.estimate.speed();
         let speeds = &kept.speeds;
-        let max = reading.max_mm();
-        // A target above the train's speed is not passed, and none of its limits counts. Most such targets are met by
-        // speed; another is covered where the max safe front end is at or before its EBI.
         if v_est < speeds.permitted {
-            if self.covered && !asked.is_met_by_speed(kept) {
-                self.covered = braking.is_before_ebi(asked, kept, max);
-            }
+            self.add_faster(braking, asked, reading, kept);
             return;
         }
+        let max = reading.max_mm();
         let limits = braking.limits(asked, kept);
         self.nearest = Some(Nearest::with(self.nearest, &limits));
         let front = front_for(reading, kept.target.kind);

@@ -1,9 +1,10 @@
 //! The walk over the targets of a sight: the falls ahead, and behind them the targets at the end of the authority.
 
-ghost use Rattle.std.specs.Prelude.{◌≡◌, ◌≤◌, ◌++◌, ◌∷◌, [], ℕ, All, List, is_some, length, map};
+ghost use Rattle.std.specs.Prelude.{◌≡◌, ◌<◌, ◌≤◌, ◌++◌, ◌∷◌, [], ℕ, All, List, is_some, length, map};
 ghost use Rattle.sdm_num.specs.Readings.{Estimate};
 ghost use Rattle.sdm_rules.specs.declared.targets.Target.{Target};
 ghost use Rattle.sdm_rules.specs.Slopes.{IsUsable};
+ghost use Rattle.sdm_rules.specs.Targets.{target_speed};
 ghost use Rattle.sdm_hiding.specs.Asking.{AreFeet};
 ghost use Rattle.sdm_hiding.specs.Hiding.{AreHiddenFrom};
 ghost use Rattle.sdm_braking.specs.Asked.{IsAsked};
@@ -39,6 +40,24 @@ pub trait Walk {
         requires kept { IsKeptTarget sight.now.train_and_track kept.now }
         ensures { (ts : List Target) → is_found self.now sight.now asked.now.estimate ts found.old →
             is_found self.now sight.now asked.now.estimate (ts ++ kept.now.target ∷ []) found.new };
+
+    /// Adds what one more target gives that is faster than the train.
+    #[inline(always)]
+    fn meet_faster(
+        &self,
+        sight: &Sight<'_>,
+        asked: &AskedEstimate,
+        kept: &KeptTarget,
+        found: &mut Self::Found,
+    )
+        requires asked { IsAsked sight.now.train_and_track asked.now }
+        requires kept { IsKeptTarget sight.now.train_and_track kept.now }
+        requires faster { asked.now.estimate.speed < target_speed kept.now.target }
+        ensures { (ts : List Target) → is_found self.now sight.now asked.now.estimate ts found.old →
+            is_found self.now sight.now asked.now.estimate (ts ++ kept.now.target ∷ []) found.new }
+    {
+        self.meet(sight, asked, kept, found);
+    }
 }
 
 impl Sight<'_> {
@@ -155,7 +174,7 @@ impl Sight<'_> {
         for i in 0..falls.len() {
             let kept = falls.target(i);
             if v_est < kept.speeds.permitted {
-                walk.meet(self, asked, kept, found);
+                walk.meet_faster(self, asked, kept, found);
             }
         }
     }

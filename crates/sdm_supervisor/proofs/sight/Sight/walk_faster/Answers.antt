@@ -28,10 +28,17 @@ returns-then-notches g c before so_far =
     ) in
     none_faster e falls before d _ (met_falls falls (are_falls d c.args.falls.now c.requires.falls) d e near) so_far
 
-pub meet-requires-clause-kept : goal.meet-requires-clause-kept
-meet-requires-clause-kept g c =
+pub meet_faster-requires-clause-kept : goal.meet_faster-requires-clause-kept
+meet_faster-requires-clause-kept g c =
     kept_there c.args.falls.now c.target-kept.ensures (omega (arith, c.loop-i-test.true, c.len-i-end.ensures))
     c.requires.falls
+
+pub meet_faster-requires-clause-faster : goal.meet_faster-requires-clause-faster
+meet_faster-requires-clause-faster g c =
+    let within : c.loop-i.i < length c.args.falls.now = omega (arith, c.loop-i-test.true, c.len-i-end.ensures) in
+    let speed = (kept_there c.args.falls.now c.target-kept.ensures within c.requires.falls).speeds.permitted in
+    let fast : c.speed-v_est.result < c.target-kept.result.now.speeds.permitted = grind (arith, nat_tests) in
+    omega (arith, fast, speed, c.speed-v_est.ensures.value)
 
 pub loop-i-preserved : goal.loop-i-preserved
 loop-i-preserved g c before so_far =
@@ -50,7 +57,7 @@ loop-i-preserved g c before so_far =
       | then-lt w ↦
           let fast : c.speed-v_est.result < c.target-kept.result.now.speeds.permitted = grind (arith, nat_tests) in
           rw w.found-is (faster_more e falls before i t known there _ _
-          (omega (arith, fast, speed, c.speed-v_est.ensures.value)) w.meet.ensures h)
+          (omega (arith, fast, speed, c.speed-v_est.ensures.value)) w.meet_faster.ensures h)
       | else-lt w ↦
           let slow : c.target-kept.result.now.speeds.permitted ≤ c.speed-v_est.result = grind (arith, nat_tests) in
           rw w.found-is (faster_not e falls before i t known there _

@@ -1,54 +1,20 @@
--- Above the train's speed a target only says whether it is covered, and up to its indication limit only where its
--- limits lie. Past that each limit is passed as the profile says, by the speed and the place that are kept or found
+-- Up to its indication limit a target that is no faster than the train only says where its limits lie. Past that each limit is passed as the profile says, by the speed and the place that are kept or found
 -- for it.
-use Rattle.std.proofs.Common.{◌≡◌, Bool, not, true, ◌&&◌, ◌||◌, ◌∙◌, Some, ap, refl, sym, arith}
-use Rattle.std.specs.Option.{option_map_or}
+use Rattle.std.proofs.Common.{◌≡◌, Bool, ◌&&◌, ◌||◌, ◌∙◌, Some, ap, refl, sym, arith}
 use Rattle.std.proofs.lemmas.Bool.Decides.{nat_tests}
 use Rattle.std.proofs.Math.Bool.{and-true, or-false}
 use Rattle.sdm_rules.specs.declared.limits.LimitKind.TheVariants.{Ebi}
 use Rattle.sdm_rules.specs.Limits.{computed, limits_of, v_bec_for}
 use Rattle.sdm_rules.specs.Supervision.{is_covered_for, is_met_by_speed}
 use Rattle.sdm_rules.specs.Targets.{foot_speed_of}
-use Rattle.sdm_rules.specs.Triggers.{is_past}
 use Rattle.sdm_limits.specs.Sides.{place_of, place_where}
 use Rattle.sdm_limits.proofs.Passed.{past_of}
-use Rattle.sdm_order.proofs.Enough.{covered_where_met}
-use Rattle.sdm_supervisor.proofs.PassedLaws.{covered_at, covered_unmet, covered_without}
-use Rattle.sdm_supervisor.proofs.PassedLaws.{not_there, nothing_said, passes_there, reached_said, slower_said}
+use Rattle.sdm_supervisor.proofs.PassedLaws.{covered_at, covered_without}
+use Rattle.sdm_supervisor.proofs.PassedLaws.{not_there, nothing_said, passes_there, reached_said}
 use Rattle.sdm_supervisor.proofs.VerdictLaws.{above}
 use Rattle.sdm_supervisor.proofs.verdicts.Verdict.add.Goals as goal
 use Rattle.sdm_supervisor.proofs.verdicts.Verdict.add.Goals.{then-not-is_passed_by-2}
-use Rattle.sdm_supervisor.proofs.verdicts.Verdict.add.Goals.{else-self-via-then-self+else-not-is_met_by_speed}
-use Rattle.sdm_supervisor.proofs.verdicts.Verdict.add.Goals.{else-not-is_passed_by-2, else-self-via-else-self}
-
-pub returns-then-not-is_met_by_speed : goal.returns-then-not-is_met_by_speed
-returns-then-not-is_met_by_speed c ts is =
-    let d = c.args.braking.now in
-    let e = c.args.asked.now.estimate in
-    let max = c.args.reading.now.max in
-    let t = c.args.kept.now.target in
-    let met = sym c.if-not-is_met_by_speed.true ∙ c.is_met_by_speed.ensures d c.requires.asked in
-    let before = c.is_before_ebi-self.ensures
-    ∙ (λ k. option_map_or (λ ebi. not (is_past 0 (c.max_mm-max.ensures k) ebi)) (limits_of computed d e t).ebi true) in
-    let covered = before ∙ covered_unmet max _ (limits_of computed d e t).ebi met in
-    slower_said is c.requires.kept.speeds (grind (arith, nat_tests))
-    (covered ∙ (λ k. sym c.if-self.true k && is_covered_for d max e t))
-
-pub returns-else-self : goal.returns-else-self
-returns-else-self c ts is =
-    let d = c.args.braking.now in
-    let e = c.args.asked.now.estimate in
-    let max = c.args.reading.now.max in
-    let t = c.args.kept.now.target in
-    let p = c.args.self.now in
-    let covered : p.covered ≡ (p.covered && is_covered_for d max e t) = elim c.else-self.branch [
-      | else-self-via-then-self+else-not-is_met_by_speed w ↦
-          let met = covered_where_met max _ (limits_of computed d e t).ebi
-          (sym (w.is_met_by_speed.ensures d c.requires.asked) ∙ w.if-not-is_met_by_speed.false) in
-          sym (and-true p.covered) ∙ (λ k. p.covered && sym met k)
-      | else-self-via-else-self w ↦ rw w.if-self.false refl
-    ] in
-    slower_said is c.requires.kept.speeds (grind (arith, nat_tests)) covered
+use Rattle.sdm_supervisor.proofs.verdicts.Verdict.add.Goals.{else-not-is_passed_by-2}
 
 pub returns-then-not-is_passed_by : goal.returns-then-not-is_passed_by
 returns-then-not-is_passed_by c ts is =
@@ -78,7 +44,7 @@ returns-after-not-is_passed_by-2 c ts is =
       | then-not-is_passed_by-2 w ↦ w.self-is ∙ rw w.if-not-is_passed_by-2.true refl ∙ met _ refl
       | else-not-is_passed_by-2 w ↦
           w.self-is ∙ rw w.if-not-is_passed_by-2.false refl
-          ∙ met _ (w.is_met_by_speed-else-not-is_passed_by-2.ensures d c.requires.asked)
+          ∙ met _ (w.is_met_by_speed.ensures d c.requires.asked)
     ] in
     reached_said is s (grind (arith, nat_tests)) places c.with.ensures front c.is_passed_by.ensures
     c.if-not-is_passed_by.false v c.lt-2.ensures c.is_passed_by-2.ensures c.lt-3.ensures c.is_passed_by-3.ensures
