@@ -1,12 +1,13 @@
 -- Halving ends where the greater speed is the next one.
-use Rattle.std.proofs.Common.{arith}
+use Rattle.std.proofs.Common.{◌≡◌, ◌≤◌, ◌+◌, arith}
 use Rattle.sdm_display.proofs.Halving.{halved}
 use Rattle.sdm_display.proofs.speeds.halve.Goals as goal
 
 pub returns-clause-value : goal.returns-clause-value
 returns-clause-value g c =
-    let end = c.loop-past in
+    let end = c.loop-turn in
     let kept = end.invariant in
-    let next = c.loop-past-test in
-    halved (g.P.Passed.passed c.args.places.now c.args.limit) c.requires.upwards end.within end.past (omega arith)
-    (omega arith) kept.within kept.past
+    let none : end._turn ≡ 0 = omega (arith, c.loop-turn-test.false) in
+    let next : end.past ≤ end.within + 1 = rw none at kept.width in
+    halved (g.P.Passed.passed c.args.places.now c.args.limit) c.requires.upwards end.within end.past
+    (omega (arith, next, kept.apart)) (omega (arith, kept.apart, kept.top)) kept.within kept.past
