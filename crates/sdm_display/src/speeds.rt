@@ -1,7 +1,7 @@
 //! A limit as a speed: the greatest whole speed at which it isn't passed. A faster train passes every limit that a
 //! slower one does, so the speed is found by halving, and sooner where one near it is known.
 
-ghost use Rattle.std.specs.Prelude.{◌≡◌, ◌+◌, ◌*◌, ◌^◌, ◌<◌, ◌≤◌, ℕ, Bool, not, false, true};
+ghost use Rattle.std.specs.Prelude.{◌≡◌, ◌+◌, ◌<◌, ◌≤◌, ℕ, Bool, not, false, true};
 ghost use Rattle.sdm_num.specs.Units.{top_kmh};
 ghost use Rattle.sdm_rules.specs.declared.display.LimitName.{LimitName};
 ghost use Rattle.sdm_rules.specs.Machines.{Implies};
@@ -35,15 +35,6 @@ const ALL_SPEEDS: Between = Between {
     within: 0,
     past: TOP_KMH as u16 + 1,
 };
-
-/// How many binary digits a number has.
-fn digits(n: u16) -> u32
-    ensures enough { n < 2 ^ result }
-    ensures few { 2 ^ result ≤ 2 * n + 1 }
-    ensures bound { result ≤ 16 }
-{
-    u16::BITS - n.leading_zeros()
-}
 
 /// Two such speeds, found from a speed in steps that double: a few steps away, where the limit is near it. (own)
 fn around<P: Passed>(places: &P, limit: LimitName, near: u16) -> Between
@@ -102,14 +93,15 @@ fn halve<P: Passed>(places: &P, limit: LimitName, between: Between) -> u16
         mut within,
         mut past,
     } = between;
-    for _turn in (0..digits(past - within - 1)).rev() {
-        if past - within > 1 {
-            let middle = within + (past - within) / 2;
-            if places.passed(limit, middle) {
-                past = middle;
-            } else {
-                within = middle;
-            }
+    for _turn in (0..DIGITS).rev() {
+        if past - within <= 1 {
+            break;
+        }
+        let middle = within + (past - within) / 2;
+        if places.passed(limit, middle) {
+            past = middle;
+        } else {
+            within = middle;
         }
     }
     within
