@@ -19,6 +19,7 @@ from edits import clauses_of, named
 from specs import definitions, spec_files
 
 FIELD = re.compile(r"^\s+pub (\w+) :", re.M)
+CONSTANT = re.compile(r"^(?:pub(?:\(crate\))? )?const (\w+): \w+ = (\d+);", re.M)
 OPERATORS: dict[type, Callable[[int, int], int]] = {
     ast.Add: operator.add,
     ast.Sub: operator.sub,
@@ -160,8 +161,9 @@ def read(path: Path) -> Table:
 
 
 def clauses(crate: str) -> set[str]:
-    """The clauses of a crate as the table names them: of its functions, and the fields of its definitions."""
-    found = set()
+    """The clauses of a crate as the table names them: of its functions, and the fields of its definitions; and its
+    constants with their values, which bound a `for`."""
+    found = {f"{crate}::{name} = {n}" for path in sources(crate) for name, n in CONSTANT.findall(path.read_text())}
     for contract in [contract for path in sources(crate) for contract in contracts(path)]:
         found.add(named(contract))
         found |= {f"{named(contract)} {clause}" for clause, _ in clauses_of(contract) if clause}
