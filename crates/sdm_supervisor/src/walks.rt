@@ -100,9 +100,7 @@ impl Sight<'_> {
             KeptEnd::Limit { loa } => walk.meet(self, asked, loa, found),
         }
     }
-}
 
-impl Sight<'_> {
     /// Asks the few targets that are enough: the falls that no other one hides by its EBD, or by its guidance curve
     /// where guidance is permitted; the faster ones; and the targets at the end of the authority. (SUBSET-026-3
     /// 3.13.8.2; own)
