@@ -13,13 +13,6 @@ pub record IsClearTo (on : Slopes) (feet : List Foot) (i k : ℕ) : Type 0 where
   pub begun : i < k
   pub clear : (m : ℕ) (h f : Foot) → i < m → m < k → IsAt feet m h → IsAt feet i f → hides on h f ≡ false
 
--- right behind a curve nothing has been looked at
-pub next_clear : (on : Slopes) (feet : List Foot) (i : ℕ) → IsClearTo on feet i (i + 1)
-next_clear on feet i = record {
-  begun = omega arith;
-  clear = λ m h f after before at at_i. absurd (omega (arith, after, before));
-}
-
 module _ (on : Slopes) (usable : IsUsable on) (feet : List Foot) (order : AreInOrder feet) where
   -- a curve that doesn't hide the first, and how far on that one is hidden
   pub clear_further : (i k s to : ℕ) (g : Foot) → IsClearTo on feet i k → IsAt feet k g →

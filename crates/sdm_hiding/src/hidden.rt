@@ -15,8 +15,9 @@ pub(crate) fn hider(steps: usize, i: usize, count: usize) -> usize
     if steps < count - i { i + steps } else { count }
 }
 
-/// Works out how many curves further on each curve of a row is hidden. It goes from what is hidden to what hides it:
-/// what hides none of a row of curves doesn't hide the first of them.
+/// Works out how many curves further on each curve of a row is hidden, in at most two turns for each curve. It goes from
+/// what is hidden to what hides it: what hides none of a row of curves doesn't hide the first of them. So a curve that
+/// was passed over is not looked at again.
 pub fn hide<F: Feet>(feet: &F, steps: &mut [usize])
     requires usable { IsUsable (F.on feet.now) }
     requires order { AreInOrder (F.feet feet.now) }
@@ -25,11 +26,12 @@ pub fn hide<F: Feet>(feet: &F, steps: &mut [usize])
     ensures room { length steps.new ≡ length steps.old }
 {
     let count = feet.len();
-    let mut i = count;
-    'each: while i > 0 {
-        i -= 1;
+    // how often curves may still be passed over in the whole run: each of them is at most once
+    let mut passes = count;
+    'each: for i in (0..count).rev() {
         let mut k = i + 1;
-        'further: while k < count && !feet.hides(k, i) {
+        'further: while k < count && passes > 0 && !feet.hides(k, i) {
+            passes -= 1;
             k = hider(steps[k], k, count);
         }
         steps[i] = k - i;
