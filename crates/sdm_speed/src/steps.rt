@@ -12,6 +12,7 @@ ghost use Rattle.sdm_speed.specs.Steps.{AreAfter, AreCovered, AreRising, AreRisi
 ghost use Rattle.sdm_speed.specs.Steps.{IsFallStepAfter, IsSplit, IsStart, KeepsStarts, capped_before, capped_step, speed_to};
 ghost use Rattle.sdm_speed.specs.Steps.{speeds_of};
 
+use crate::removals::remove_at;
 use crate::searches::parted;
 use crate::zones::Zone;
 use sdm_num::NoMemory;
@@ -201,7 +202,7 @@ impl Steps {
     {
         let i = self.started_before(i64::from(cell));
         if i < self.list.len() && self.list[i].start == cell {
-            self.list.remove(i);
+            remove_at(&mut self.list, i);
         }
     }
 
