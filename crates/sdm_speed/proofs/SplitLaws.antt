@@ -163,7 +163,7 @@ get_same xs ys i k d same l =
     sym (get_or-take i xs k d l) ∙ ap (λ (ss : List Step). get_or ss k d) same ∙ get_or-take i ys k d l
 
 -- no more steps start before a cell than before a later one
-parted_earlier : (ss : List Step) (a b : ℤ) (i j : ℕ) → a ≤ℤ b → ArePartedAt a ss i → ArePartedAt b ss j → i ≤ j
+pub parted_earlier : (ss : List Step) (a b : ℤ) (i j : ℕ) → a ≤ℤ b → ArePartedAt a ss i → ArePartedAt b ss j → i ≤ j
 parted_earlier ss a b i j le first past = elim (cases_lt j i) [
   | inl lt ↦ (let bound = first.bound in let before = first.before j none lt in let from =
       past.from j none (omega arith) (omega arith) in absurd (omega (arith, ints)))

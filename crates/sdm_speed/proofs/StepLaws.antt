@@ -50,6 +50,15 @@ rises (s ∷ ss) (suc i) zero d rising le known = absurd (omega arith)
 rises (s ∷ ss) (suc i) (suc j) d rising le known =
     rises ss i j d (rising_of s.start ss rising) (omega arith) (omega arith)
 
+-- and indeed past it
+rises_past : (ss : List Step) (i j : ℕ) (d : Step) → AreRising ss → i < j → j < length ss →
+    (get_or ss i d).start <ℤ (get_or ss j d).start
+rises_past [] i j d rising lt known = absurd (omega arith)
+rises_past (s ∷ ss) i zero d rising lt known = absurd (omega arith)
+rises_past (s ∷ ss) zero (suc j) d rising lt known = after_all s.start ss j d rising (omega arith)
+rises_past (s ∷ ss) (suc i) (suc j) d rising lt known =
+    rises_past ss i j d (rising_of s.start ss rising) (omega arith) (omega arith)
+
 -- where one step starts at a cell or before it, and the next one past it, they part the steps
 pub parted_between : (ss : List Step) (i : ℕ) (cell : ℤ) → AreRising ss → 1 ≤ i → i < length ss →
     ((d : Step) → (get_or ss (i - 1) d).start ≤ℤ cell) → ((d : Step) → cell <ℤ (get_or ss i d).start) →
@@ -58,6 +67,15 @@ parted_between ss i cell rising some known begun later = record {
   bound = omega arith;
   before = λ k d l. let r = rises ss k (i - 1) d rising (omega arith) (omega arith) in omega (arith, ints, begun d);
   from = λ k d l m. let r = rises ss i k d rising l m in omega (arith, ints, later d);
+}
+
+-- a step parts them behind it, at the cell where it starts
+pub parted_behind : (ss : List Step) (i : ℕ) (cell : ℤ) → AreRising ss → 1 ≤ i → i ≤ length ss →
+    ((d : Step) → cell ≡ (get_or ss (i - 1) d).start) → ArePartedAt (cell +ℤ pos 1) ss i
+parted_behind ss i cell rising some known here = record {
+  bound = known;
+  before = λ k d l. let r = rises ss k (i - 1) d rising (omega arith) (omega arith) in omega (arith, ints, here d);
+  from = λ k d l m. let r = rises_past ss (i - 1) k d rising (omega arith) m in omega (arith, ints, here d);
 }
 
 -- the steps that start before a cell come first

@@ -5,6 +5,7 @@
 mod ends;
 mod lifts;
 mod profiles;
+mod removals;
 mod searches;
 mod steps;
 mod zones;

@@ -21,6 +21,7 @@ ghost use Rattle.sdm_speed.specs.ZoneStarts.{IsZoneStart};
 
 use crate::ends::{end_for, zone_of};
 use crate::lifts::raise;
+use crate::removals::remove_at;
 use crate::searches::parted;
 use crate::steps::Steps;
 use crate::zones::Zone;
@@ -289,7 +290,7 @@ impl Profile {
         let Some(index) = index_of(&self.held, id) else {
             return Err(RevokeFault::Unknown { id });
         };
-        let lifted = self.held.remove(index);
+        let lifted = remove_at(&mut self.held, index);
         raise(
             &mut self.steps,
             lifted,

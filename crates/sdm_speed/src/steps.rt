@@ -3,8 +3,8 @@
 //! each step that it covers takes its limit. A step can take another speed, and go again, where a restriction has
 //! gone.
 
-ghost use Rattle.std.specs.Prelude.{◌≡◌, ◌⊎◌, ◌+◌, ◌+ℤ◌, ◌<◌, ◌≤◌, ℕ, ℤ, pos, [], Some, true, IfOk, length, map, min};
-ghost use Rattle.std.specs.Prelude.{drop, set, take, slice_index_or, vec_len, vec_capacity};
+ghost use Rattle.std.specs.Prelude.{◌≡◌, ◌⊎◌, ◌+◌, ◌-◌, ◌+ℤ◌, ◌<◌, ◌≤◌, ℕ, ℤ, pos, [], Some, true, IfOk, length, map, min};
+ghost use Rattle.std.specs.Prelude.{drop, IfSome, set, take, slice_index_or, vec_len, vec_capacity};
 ghost use Rattle.std.specs.List.{insert};
 ghost use Rattle.sdm_rules.specs.Profile.{capped};
 ghost use Rattle.sdm_speed.specs.ZoneEnds.{AreSpeedsAt, HasStartsOf};
@@ -12,6 +12,7 @@ ghost use Rattle.sdm_speed.specs.Steps.{AreAfter, AreCovered, AreRising, AreRisi
 ghost use Rattle.sdm_speed.specs.Steps.{IsFallStepAfter, IsSplit, IsStart, KeepsStarts, capped_before, capped_step, speed_to};
 ghost use Rattle.sdm_speed.specs.Steps.{speeds_of};
 
+use crate::removals::remove_at;
 use crate::searches::parted;
 use crate::zones::Zone;
 use sdm_num::NoMemory;
@@ -83,10 +84,15 @@ fn insert_reserved(list: &mut Vec<Step>, i: usize, step: Step)
     }
 }
 
-/// The first fall among the steps from an index on, where `speed` holds before them.
+/// The first fall among the steps from an index on, where `speed` holds before them. The steps from there up to it are
+/// passed.
 fn first_fall(steps: &[Step], from: usize, speed: u16) -> Option<FallStep>
-    ensures { (after : ℤ) → AreAfter after (drop from steps.now) →
+    ensures value { (after : ℤ) → AreAfter after (drop from steps.now) →
         IsFallStepAfter (speeds_of speed (drop from steps.now)) after result }
+    ensures further { IfSome result (λ found. from < found.begun) }
+    ensures bound { IfSome result (λ found. found.begun ≤ length steps.now) }
+    ensures cell { (d : Step) → IfSome result
+        (λ found. found.fall.cell ≡ (slice_index_or steps.now (found.begun - 1) d).start) }
 {
     let mut before = speed;
     for i in from..steps.len() {
@@ -196,7 +202,7 @@ impl Steps {
     {
         let i = self.started_before(i64::from(cell));
         if i < self.list.len() && self.list[i].start == cell {
-            self.list.remove(i);
+            remove_at(&mut self.list, i);
         }
     }
 
@@ -316,9 +322,13 @@ impl Steps {
     }
 
     /// The first fall past the start of the cell `after`. `near` is how many steps start there or before, as a rule,
-    /// and then how many do where the fall is.
+    /// and then how many do where the fall is. The steps between are passed: a search that begins at the fall goes on
+    /// behind them.
     pub fn next_fall(&self, after: i32, near: &mut usize) -> Option<Fall>
-        ensures { IsFallAfter (speeds_in self.now) after result }
+        ensures value { IsFallAfter (speeds_in self.now) after result }
+        ensures further { IfSome result (λ _. (from : ℕ) →
+            ArePartedAt (after +ℤ pos 1) self.now.list.items from → from < near.new) }
+        ensures passed { IfSome result (λ fall. ArePartedAt (fall.cell +ℤ pos 1) self.now.list.items near.new) }
     {
         let begun = self.begun_near(after, *near);
         let Some(found) = first_fall(&self.list, begun, self.speed_to(begun)) else {

@@ -15,8 +15,8 @@ loop-i-preserved c =
     sym (falls_later c.loop-i.before (get_or steps i none) (drop (i + 1) steps) c.if-step-before.false)
     ∙ (rw (drop_more steps i none c.loop-i-test.true) at c.loop-i.invariant)
 
-pub returns-then-step-before : goal.returns-then-step-before
-returns-then-step-before c after later =
+pub returns-then-step-before-clause-value : goal.returns-then-step-before-clause-value
+returns-then-step-before-clause-value c after later =
     let steps = c.args.steps.now in
     let i = c.loop-i.i in
     let step = get_or steps i none in
@@ -27,8 +27,8 @@ returns-then-step-before c after later =
     rw start_is (subst (λ (next : Option Fall). IsFallAfter (speeds_of c.args.speed rest) after next) found
     (first_fall_is c.args.speed rest after later))
 
-pub returns : goal.returns
-returns c after later =
+pub returns-clause-value : goal.returns-clause-value
+returns-clause-value c after later =
     let steps = c.args.steps.now in
     let rest = drop c.args.from steps in
     let found : first_fall c.args.speed rest

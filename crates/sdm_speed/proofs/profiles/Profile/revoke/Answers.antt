@@ -23,19 +23,19 @@ raise-requires c =
     let longest = kept.in_range.longest_train in
     let index = rw c.deref.ensures.value at c.in-Some.ensures in
     let known = (get_at held c.args.id c.in-Some.index none (sym index)).0 in
-    rw (c.deref-2.ensures.value, c.remove-lifted.ensures.items) (record {
+    rw (c.deref-2.ensures.value, c.remove_at-lifted.ensures.items) (record {
       speeds = λ cell.
           kept.steps cell ∙ lowest_limit-after c.self.inside.max_speed cell (static_zones_of c.self.inside)
           (map (zone_of length_cm) held)
           ∙ ap (λ n. lowest_limit n cell (map (zone_of length_cm) held)) (sym (kept.statics cell))
-          ∙ rw c.remove-lifted.ensures.value
-          (limit_less _ cell length_cm held c.in-Some.index c.remove-lifted.result known);
+          ∙ rw c.remove_at-lifted.ensures.value
+          (limit_less _ cell length_cm held c.in-Some.index c.remove_at-lifted.result known);
       before = kept.steps_before;
       each = λ cell. each_left length_cm _ held c.in-Some.index _ kept.zone_ends cell;
-      no_other = λ cell start. rw c.remove-lifted.ensures.value
-          (no_other_left length_cm _ held c.in-Some.index _ kept.zone_ends cell c.remove-lifted.result start);
+      no_other = λ cell start. rw c.remove_at-lifted.ensures.value
+          (no_other_left length_cm _ held c.in-Some.index _ kept.zone_ends cell c.remove_at-lifted.result start);
       held = All-remove IsHeldRestriction _ _ kept.each_held;
-      lifted = rw c.remove-lifted.ensures.value (kept.each_held c.in-Some.index c.remove-lifted.result known);
+      lifted = rw c.remove_at-lifted.ensures.value (kept.each_held c.in-Some.index c.remove_at-lifted.result known);
       train = omega (arith, ints);
     })
 
@@ -45,8 +45,8 @@ invariant_of-self c =
     let held = c.self.inside.held.items in
     let length_cm = pos c.self.inside.length_cm in
     let top = c.self.inside.max_speed in
-    let left = c.remove-lifted.new.self in
-    let distinct : AreDistinct left.items = rw c.remove-lifted.ensures.items
+    let left = c.remove_at-lifted.new.list in
+    let distinct : AreDistinct left.items = rw c.remove_at-lifted.ensures.items
     (distinct_less held c.in-Some.index kept.distinct) in
     let ok_held = c.self.inside.held.ok.0 in
     let ok_left = left.ok.0 in
@@ -56,10 +56,10 @@ invariant_of-self c =
     let ok_steps = c.raise.new.steps.list.ok.0 in
     record {
       in_range = with_held _ _ kept.in_range (rw (len_is left.items distinct)
-          (omega (arith, c.remove-lifted.ensures.len, held_count _ kept _ refl, kept.in_range.few)));
+          (omega (arith, c.remove_at-lifted.ensures.len, held_count _ kept _ refl, kept.in_range.few)));
       distinct = distinct;
       each_static = kept.each_static;
-      each_held = rw c.remove-lifted.ensures.items (All-remove IsHeldRestriction _ _ kept.each_held);
+      each_held = rw c.remove_at-lifted.ensures.items (All-remove IsHeldRestriction _ _ kept.each_held);
       statics = kept.statics;
       steps = λ cell.
           raised.speeds cell ∙ ap (λ n. lowest_limit n cell (map (zone_of length_cm) left.items)) (kept.statics cell)
@@ -68,7 +68,7 @@ invariant_of-self c =
       zone_ends = raised.zone_ends;
       statics_few = kept.statics_few;
       steps_few = omega (arith, few);
-      held_room = omega (arith, kept.held_room, c.remove-lifted.ensures.capacity);
+      held_room = omega (arith, kept.held_room, c.remove_at-lifted.ensures.room);
       steps_room = omega (arith, kept.steps_room, raised.room);
     }
 
@@ -82,6 +82,6 @@ returns-clause-removed c =
     let index = rw c.deref.ensures.value at c.in-Some.ensures in
     rw (
       ← c.self.view_is,
-      c.remove-lifted.ensures.items,
+      c.remove_at-lifted.ensures.items,
       removed c.self.inside.held.items c.args.id c.in-Some.index c.self.invariant.distinct (sym index),
     ) refl

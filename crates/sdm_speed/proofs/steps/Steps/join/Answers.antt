@@ -11,17 +11,17 @@ use Rattle.sdm_speed.proofs.steps.Steps.join.Goals.{else-i-len-via-else-i-len}
 
 pub invariant_of-self : goal.invariant_of-self
 invariant_of-self c = record {
-  rises = rw c.remove.ensures.items
+  rises = rw c.remove_at.ensures.items
       (remove_rising c.args.self.now.list.items c.started_before-i.result c.args.self.now.rises);
 }
 
 pub returns-then-index-cell-clause-speeds : goal.returns-then-index-cell-clause-speeds
 returns-then-index-cell-clause-speeds c speed each =
-    rw c.remove.ensures.items (remove_speeds speed c.args.self.now.list.items c.started_before-i.result each)
+    rw c.remove_at.ensures.items (remove_speeds speed c.args.self.now.list.items c.started_before-i.result each)
 
 pub returns-then-index-cell-clause-fewer : goal.returns-then-index-cell-clause-fewer
 returns-then-index-cell-clause-fewer c x start =
-    remove_fewer x c.args.self.now.list.items c.started_before-i.result (rw c.remove.ensures.items at start)
+    remove_fewer x c.args.self.now.list.items c.started_before-i.result (rw c.remove_at.ensures.items at start)
 
 pub returns-then-index-cell-clause-gone : goal.returns-then-index-cell-clause-gone
 returns-then-index-cell-clause-gone c start =
@@ -35,7 +35,7 @@ returns-then-index-cell-clause-gone c start =
     let here : (get_or list i none).start ≡ c.args.cell = ap (λ (s : Step). s.start)
     (sym (c.index.ensures ∙ get_or_default list i step none known)) ∙ sym start_is
     ∙ ap (to_z w32) c.if-index-cell.true ∙ cell_is in
-    remove_gone list i none c.args.self.now.rises known (rw here (rw c.remove.ensures.items at start))
+    remove_gone list i none c.args.self.now.rises known (rw here (rw c.remove_at.ensures.items at start))
 
 pub returns-then-index-cell-clause-others : goal.returns-then-index-cell-clause-others
 returns-then-index-cell-clause-others c x start =
@@ -51,7 +51,7 @@ returns-then-index-cell-clause-others c x start =
     ∙ ap (to_z w32) c.if-index-cell.true ∙ cell_is in
     elim (remove_others x list i none start) [
       | inl e ↦ inl (e ∙ here)
-      | inr rest ↦ inr (rw c.remove.ensures.items rest)
+      | inr rest ↦ inr (rw c.remove_at.ensures.items rest)
     ]
 
 pub returns-else-i-len-clause-gone : goal.returns-else-i-len-clause-gone
