@@ -306,7 +306,9 @@ impl KeptFalls {
             unreachable!()
         };
         self.clear();
-        self.zones.swap_remove(index);
+        let last = self.zones.len() - 1;
+        self.zones.copy_within(last.., index);
+        self.zones.truncate(last);
     }
 
     /// Keeps the falls of a profile that a restriction has gone from.

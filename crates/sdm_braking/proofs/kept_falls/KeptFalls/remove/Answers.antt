@@ -1,5 +1,6 @@
 -- The zone of the restriction is found, and the others stay.
-use Rattle.std.proofs.Common.{◌≡◌, ◌-◌, List, Some, get_or, length, position, vec_len, sym, ap, subst, ◌∙◌, arith}
+use Rattle.std.proofs.Common.{◌≡◌, List, Some, get_or, length, position, vec_len, sym, ap, subst, ◌∙◌, arith, inl, inr}
+use Rattle.std.proofs.lemmas.Bool.{cases_lt}
 use Rattle.std.proofs.lemmas.List.Quantifiers.{position-Some}
 use Rattle.sdm_braking.specs.declared.falls_ahead.KeptZone.{KeptZone}
 use Rattle.sdm_braking.specs.KeptFalls.{KeptFallsData, has_id, no_zone}
@@ -22,15 +23,21 @@ returns-clause-zone c =
     (sym (rw (c.in-Some.is, c.deref.ensures.value) at c.zone_by_id.ensures)) in
     let found_now = subst (λ (xs : List KeptZone). position (has_id c.args.id) xs ≡ Some index) (sym same) found in
     let long : vec_len c.self-2.inside.zones ≡ length zs = omega (arith, c.self-2.inside.zones.ok.0) in
-    let left : vec_len c.swap_remove.new.self ≡ length c.swap_remove.new.self.items
-    = omega (arith, c.swap_remove.new.self.ok.0) in
-    let fewer = c.swap_remove.ensures.len in
+    let left : vec_len c.truncate.new.self ≡ length c.truncate.new.self.items
+    = omega (arith, c.truncate.new.self.ok.0) in
+    let known = (position-Some (has_id c.args.id) zs index no_zone found_now).0 in
+    let moved = c.copy_within.ensures.by_index in
+    let cut = c.truncate.ensures.by_index in
     rw (← same) (record {
       index = index;
-      known = (position-Some (has_id c.args.id) zs index no_zone found_now).0;
+      known = known;
       was = λ d. (position-Some (has_id c.args.id) zs index d found_now).1;
-      fewer = omega (arith, fewer, long, left);
-      last = λ d more. c.swap_remove.ensures.by_index.0 d (omega (arith, more, long))
-          ∙ ap (λ n. get_or zs (n - 1) d) long;
-      others = λ k d apart more. c.swap_remove.ensures.by_index.1 k d apart (omega (arith, more, long));
+      fewer = omega (arith, c.truncate.ensures.len, c.copy_within.ensures.len, c.len-last.ensures, long, left, known);
+      last = λ d more. cut index d (omega (arith, c.len-last.ensures, long, more))
+          ∙ moved.0 index d (omega arith) (omega (arith, c.len-last.ensures, long, more))
+          ∙ ap (λ n. get_or zs n d) (omega (arith, c.len-last.ensures, long, more));
+      others = λ k d apart more. cut k d (omega (arith, c.len-last.ensures, long, more)) ∙ elim (cases_lt k index) [
+        | inl lt ↦ moved.1 k d lt
+        | inr le ↦ moved.2 k d (omega (arith, le, apart, c.len-last.ensures, long, more))
+      ];
     })
