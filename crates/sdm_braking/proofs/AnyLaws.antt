@@ -1,7 +1,7 @@
 -- Whether one of a list passes a test: where one more comes, one goes, or the test is weaker; and such a one is found.
-use Rattle.std.proofs.Common.{◌≡◌, ◌⊎◌, inl, inr, ℕ, zero, suc, List, [], ◌∷◌, Some, None, Bool, true, false, ◌||◌}
-use Rattle.std.proofs.Common.{cond, length, get_or, ◌+◌, ◌<◌, ◌≤◌, refl, sym, ap, ◌∙◌, arith, is_some, position}
-use Rattle.std.specs.List.{insert, list_any, position_from}
+use Rattle.std.proofs.Common.{◌≡◌, ◌⊎◌, inl, inr, ℕ, zero, suc, List, [], ◌∷◌, ◌++◌, Some, None, Bool, true, false, ◌||◌}
+use Rattle.std.proofs.Common.{cond, length, get_or, ◌+◌, ◌<◌, refl, sym, ap, ◌∙◌, arith, is_some, position}
+use Rattle.std.specs.List.{list_any, position_from}
 use Rattle.std.proofs.lemmas.Bool.{true≢false}
 use Rattle.std.proofs.lemmas.Iterator.Adapters.{position_from-zero}
 use Rattle.sdm_speed.proofs.FallStarts.{either_first, either_later}
@@ -20,16 +20,13 @@ either_of true b h = inl refl
 either_of false b h = inr h
 
 module _ {A : Type 0} (P : A → Bool) where
-  pub any_more : (xs : List A) (i : ℕ) (y : A) → list_any P xs ≡ true → list_any P (insert xs i y) ≡ true
-  any_more [] i y on = absurd (true≢false (sym on))
-  any_more (x ∷ xs) zero y on = either_later (P y) (list_any P (x ∷ xs)) on
-  any_more (x ∷ xs) (suc i) y on = either (P x) (list_any P xs) (list_any P (insert xs i y)) (any_more xs i y) on
+  pub any_more : (xs : List A) (y : A) → list_any P xs ≡ true → list_any P (xs ++ y ∷ []) ≡ true
+  any_more [] y on = absurd (true≢false (sym on))
+  any_more (x ∷ xs) y on = either (P x) (list_any P xs) (list_any P (xs ++ y ∷ [])) (any_more xs y) on
 
-  pub any_new : (xs : List A) (i : ℕ) (y : A) → i ≤ length xs → P y ≡ true → list_any P (insert xs i y) ≡ true
-  any_new [] zero y le here = either_first (P y) false here
-  any_new [] (suc i) y le here = absurd (omega arith)
-  any_new (x ∷ xs) zero y le here = either_first (P y) (list_any P (x ∷ xs)) here
-  any_new (x ∷ xs) (suc i) y le here = either_later (P x) (list_any P (insert xs i y)) (any_new xs i y (omega arith) here)
+  pub any_new : (xs : List A) (y : A) → P y ≡ true → list_any P (xs ++ y ∷ []) ≡ true
+  any_new [] y here = either_first (P y) false here
+  any_new (x ∷ xs) y here = either_later (P x) (list_any P (xs ++ y ∷ [])) (any_new xs y here)
 
   -- where one passes it stands at an index
   pub record IsPassed (xs : List A) : Type 0 where

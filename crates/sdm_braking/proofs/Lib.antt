@@ -4,5 +4,6 @@ pub mod FootLaws
 pub mod KeptFallLaws
 pub mod PlaceLaws
 pub mod ReleaseLaws
+pub mod StaticLaws
 pub mod WalkLaws
 pub mod ZoneLaws

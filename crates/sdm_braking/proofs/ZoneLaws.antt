@@ -6,16 +6,15 @@ use Rattle.std.proofs.Common.{◌<ℤ◌, refl, sym, ap, subst, ◌∙◌, arith
 use Rattle.std.specs.Cmp.{nat_cmp_total}
 use Rattle.std.specs.FinMap as finite
 use Rattle.std.specs.FinMap.Entries.{below_all, is_sorted}
-use Rattle.std.specs.List.{insert, list_any}
+use Rattle.std.specs.List.{list_any}
 use Rattle.std.specs.Option.{option_map_or}
 use Rattle.std.specs.Ordering.{int_eq, nat_cmp, eq_by_cmp, is_lt}
 use Rattle.std.proofs.lemmas.Int.{ints, by_lt_z}
 use Rattle.std.proofs.lemmas.Bool.{true≢false, and_from, and_parts}
 use Rattle.std.proofs.lemmas.Bool.Decides.{Decides-int_eq, nat_tests}
-use Rattle.std.proofs.lemmas.List.{take_all}
-use Rattle.std.proofs.lemmas.List.Edits.{length-insert}
+use Rattle.std.proofs.lemmas.List.{get_or-drop, length-append, length-drop, take_all}
 use Rattle.std.proofs.lemmas.List.Quantifiers.{position-Some}
-use Rattle.std.proofs.lemmas.List.Elements.{All-append, All-cons, All-drop, All-take}
+use Rattle.std.proofs.lemmas.List.Elements.{All-append, All-cons, All-nil}
 use Rattle.sdm_rules.specs.declared.restrictions.Restriction.{Restriction}
 use Rattle.sdm_rules.specs.declared.targets.Fall.{Fall}
 use Rattle.sdm_rules.specs.Data.{TrainAndTrack}
@@ -138,6 +137,11 @@ zone_at_fall p v fall h past (inr on) =
 
 -- ---- a restriction comes
 
+-- zones are one more
+pub one_more : (d : TrainAndTrack) (of : Option ℕ) (fall : Fall) (old new : List KeptZone) →
+    IsZoneMore d of fall old new → length new ≡ length old + 1
+one_more d of fall old new more = ap (λ (zs : List KeptZone). length zs) more.is ∙ length-append old (more.zone ∷ [])
+
 at_itself : (fall : Fall) (z : KeptZone) → z.fall ≡ fall → is_at fall z ≡ true
 at_itself fall z is = subst (λ (f : Fall). is_at f z ≡ true) is
     (and_from (int_eq z.fall.cell z.fall.cell) (z.fall.speed == z.fall.speed) (int_same z.fall.cell)
@@ -156,32 +160,31 @@ found_in true r s o e = inl (refl, same_some r s e)
 found_in false r s o e = inr e
 
 pub restricted_zones : (d : TrainAndTrack) (q : ProfileData) (r : Restriction) (v w : KeptFallsData) →
-    IsRestricted q r v → IsZoneMore d (Some r.id) (fall_by r) v.zones w.zones → w.room ≡ v.room → AreZonesOf q w
-restricted_zones d q r v w h more room = subst (λ (x : ProfileData). AreZonesOf x w) (sym h.is) (record {
+    IsRestricted q r v → IsZoneMore d (Some r.id) (fall_by r) v.zones w.zones → w.statics ≡ v.statics →
+    w.room ≡ v.room → AreZonesOf q w
+restricted_zones d q r v w h more statics room = subst (λ (x : ProfileData). AreZonesOf x w) (sym h.is) (record {
   statics = λ c speed past falls. rw more.is (any_more (is_static_at (record { cell = c; speed = speed })) v.zones
-      more.index more.zone (h.zones.statics c speed past falls));
+      more.zone (h.zones.statics c speed past falls));
   held = λ id s here. rw more.is (by_id id s (found_in (eq_by_cmp nat_cmp id r.id) r s (finite.get h.old.restrictions id)
       (sym (finite.get-insert nat_cmp_total h.old.restrictions r.id r id) ∙ here)));
-  few =
-      let long = length-insert v.zones more.index more.zone more.bound in
-      let longs = ap (λ (xs : List KeptZone). length xs) more.is in
-      let held = finite.len-insert nat_cmp_total h.old.restrictions r.id r in
-      let held_is : finite.len (finite.insert h.old.restrictions r.id r) ≡ finite.len h.old.restrictions + 1 =
-      held ∙ rw h.new refl in
-      omega (arith, long, longs, held_is, h.zones.few);
+  few = omega (arith, one_more d (Some r.id) (fall_by r) v.zones w.zones more, held_is, h.zones.few);
+  few_held = omega (arith, one_more d (Some r.id) (fall_by r) v.zones w.zones more, held_is, statics, h.zones.few_held);
   room = omega (arith, room, h.zones.room);
 })
   where
+    held_is : finite.len (finite.insert h.old.restrictions r.id r) ≡ finite.len h.old.restrictions + 1
+    held_is = finite.len-insert nat_cmp_total h.old.restrictions r.id r ∙ rw h.new refl
+
     by_id : (id : ℕ) (s : Restriction) →
         ((eq_by_cmp nat_cmp id r.id ≡ true) × (r ≡ s)) ⊎ (finite.get h.old.restrictions id ≡ Some s) →
-        list_any (is_held_at id (fall_by s)) (insert v.zones more.index more.zone) ≡ true
+        list_any (is_held_at id (fall_by s)) (v.zones ++ more.zone ∷ []) ≡ true
     by_id id s (inl same) =
-        any_new (is_held_at id (fall_by s)) v.zones more.index more.zone more.bound
+        any_new (is_held_at id (fall_by s)) v.zones more.zone
         (and_from (has_id id more.zone) (is_at (fall_by s) more.zone)
         (id_itself id more.zone (more.id ∙ ap Some (sym (tied_is id r.id same.0))))
         (at_itself (fall_by s) more.zone (more.fall ∙ ap fall_by same.1)))
     by_id id s (inr old) =
-        any_more (is_held_at id (fall_by s)) v.zones more.index more.zone (h.zones.held id s old)
+        any_more (is_held_at id (fall_by s)) v.zones more.zone (h.zones.held id s old)
 
 -- ---- a restriction goes
 
@@ -271,8 +274,8 @@ module _ (id : ℕ) (old new : List KeptZone) (less : IsZoneLess id old new) whe
       ]
 
 pub revoked_zones : (q : ProfileData) (id : ℕ) (v w : KeptFallsData) → IsRevoked q id v →
-    IsZoneLess id v.zones w.zones → w.room ≡ v.room → AreZonesOf q w
-revoked_zones q id v w h less room = subst (λ (x : ProfileData). AreZonesOf x w) (sym h.is) (record {
+    IsZoneLess id v.zones w.zones → w.statics ≡ v.statics → w.room ≡ v.room → AreZonesOf q w
+revoked_zones q id v w h less statics room = subst (λ (x : ProfileData). AreZonesOf x w) (sym h.is) (record {
   statics = λ c speed past falls. any_left id v.zones w.zones less (is_static_at (record { cell = c; speed = speed }))
       (λ z. not_static (get_or v.zones less.index z).id id _ (less.was z)) (h.zones.statics c speed past falls);
   held = λ k s here.
@@ -280,14 +283,13 @@ revoked_zones q id v w h less room = subst (λ (x : ProfileData). AreZonesOf x w
       (sym (finite.get-remove nat_cmp_total h.old.restrictions id k) ∙ here) in
       any_left id v.zones w.zones less (is_held_at k (fall_by s))
       (λ z. not_held (get_or v.zones less.index z).id id k _ (less.was z) left.0) (h.zones.held k s left.1);
-  few =
-      let fewer = less.fewer in
-      let held = finite.len-remove nat_cmp_total h.old.restrictions id in
-      let held_is : finite.len (finite.remove h.old.restrictions id) ≡ finite.len h.old.restrictions - 1 =
-      held ∙ rw h.held refl in
-      omega (arith, fewer, held_is, h.zones.few);
+  few = omega (arith, less.fewer, held_is, h.zones.few);
+  few_held = omega (arith, less.fewer, held_is, statics, h.zones.few_held);
   room = omega (arith, room, h.zones.room);
 })
+  where
+    held_is : finite.len (finite.remove h.old.restrictions id) ≡ finite.len h.old.restrictions - 1
+    held_is = finite.len-remove nat_cmp_total h.old.restrictions id ∙ rw h.held refl
 
 -- ---- the restrictions of another profile come, one after the other
 
@@ -319,12 +321,13 @@ all_restricted p rs i v all past h =
 -- ---- a search
 
 -- the zone that is found
-pub zone_found : (fall : Fall) (zs : List KeptZone) (i : ℕ) → position (is_at fall) zs ≡ Some i → IsZoneAt fall zs i
-zone_found fall zs i found =
-    record {
-      known = (position-Some (is_at fall) zs i no_zone found).0;
-      at = λ d. fall_at (get_or zs i d) fall (position-Some (is_at fall) zs i d found).1;
-    }
+pub zone_found : (fall : Fall) (zs : List KeptZone) (n i : ℕ) → position (is_at fall) (drop n zs) ≡ Some i →
+    n ≤ length zs → IsZoneAt fall zs (n + i)
+zone_found fall zs n i found first = record {
+  known = omega (arith, (position-Some (is_at fall) (drop n zs) i no_zone found).0, length-drop n zs, first);
+  at = λ d. fall_at (get_or zs (n + i) d) fall (ap (is_at fall) (sym (get_or-drop n zs i d))
+      ∙ (position-Some (is_at fall) (drop n zs) i d found).1);
+}
 
 -- ---- the zones of the static profile
 
@@ -332,10 +335,6 @@ zone_found fall zs i found =
 pub record AreStaticsTo (p : ℤ → ℕ) (at : ℤ) (zs : List KeptZone) : Type 0 where
   pub each : (c : ℤ) (speed : ℕ) → first_cell <ℤ c → c ≤ℤ at → FallsTo p c speed →
       list_any (is_static_at (record { cell = c; speed = speed })) zs ≡ true
-
--- at the beginning there is none
-pub no_statics : (p : ℤ → ℕ) (at : ℤ) (zs : List KeptZone) → at ≤ℤ first_cell → AreStaticsTo p at zs
-no_statics p at zs low = record { each = λ c speed past le falls. absurd (omega (arith, ints)) }
 
 no_id : (o : Option ℕ) → o ≡ None → is_none o ≡ true
 no_id o is = ap is_none is
@@ -353,18 +352,17 @@ one_static d p at fall old new h next more = record {
       let cell : fall.cell ≡ c = omega (arith, ints) in
       let lower : fall.speed ≡ speed = next.lower ∙ ap p cell ∙ falls.to in
       let same : fall ≡ record { cell = c; speed = speed } = λ i. record { cell = cell i; speed = lower i } in
-      any_new test old more.index more.zone more.bound
+      any_new test old more.zone
       (and_from (is_none more.zone.id) (is_at (record { cell = c; speed = speed }) more.zone)
       (no_id more.zone.id more.id) (at_itself (record { cell = c; speed = speed }) more.zone (more.fall ∙ same)))))
-      (λ (reached : c ≤ℤ at). any_more test old more.index more.zone (h.each c speed past reached falls)));
+      (λ (reached : c ≤ℤ at). any_more test old more.zone (h.each c speed past reached falls)));
 }
 
 -- with its curves
 pub one_curve : (d : TrainAndTrack) (of : Option ℕ) (fall : Fall) (old new : List KeptZone) →
     All (IsKeptZone d) old → IsZoneMore d of fall old new → All (IsKeptZone d) new
-one_curve d of fall old new h more = rw more.is (All-append (IsKeptZone d) (take more.index old) _
-    (All-take (IsKeptZone d) more.index old h)
-    (All-cons (IsKeptZone d) more.zone (drop more.index old) more.kept (All-drop (IsKeptZone d) more.index old h)))
+one_curve d of fall old new h more = rw more.is (All-append (IsKeptZone d) old (more.zone ∷ []) h
+    (All-cons (IsKeptZone d) more.zone [] more.kept (All-nil (IsKeptZone d))))
 
 no_length : {A : Type 0} (xs : List A) → length xs ≡ 0 → xs ≡ []
 no_length [] e = refl
@@ -394,8 +392,8 @@ few_statics p at n bare le =
 -- past the last fall the zones are those of the profile
 pub static_zones_are : (p : ProfileData) (at : ℤ) (v : KeptFallsData) → p.restrictions ≡ finite.empty →
     HasNoFall (mrsp_of p) at → AreStaticsTo (mrsp_of p) at v.zones → length v.zones ≤ length p.speeds →
-    length p.speeds + most_restrictions ≤ v.room → AreZonesOf p v
-static_zones_are p at v bare none h few room = record {
+    v.statics ≡ length v.zones → length p.speeds + most_restrictions ≤ v.room → AreZonesOf p v
+static_zones_are p at v bare none h few statics room = record {
   statics = λ c speed past falls.
       let here = subst (λ (f : ℤ → ℕ). FallsTo f c speed) (sym static_is) falls in
       by_lt_z at c
@@ -404,6 +402,7 @@ static_zones_are p at v bare none h few room = record {
   held = λ id r here. absurd (none_held id r (sym (ap (λ (m : finite.FinMap nat_cmp Restriction). finite.get m id) bare
       ∙ finite.get-empty nat_cmp id) ∙ here));
   few = omega (arith, few);
+  few_held = omega (arith, statics);
   room = room;
 }
   where
@@ -416,12 +415,13 @@ static_zones_are p at v bare none h few room = record {
 -- ---- what stays
 
 -- zones that stay are those of the profile
-pub same_zones : (p : ProfileData) (v w : KeptFallsData) → AreZonesOf p v → w.zones ≡ v.zones → w.room ≡ v.room →
-    AreZonesOf p w
-same_zones p v w h zones room = record {
+pub same_zones : (p : ProfileData) (v w : KeptFallsData) → AreZonesOf p v → w.zones ≡ v.zones →
+    w.statics ≡ v.statics → w.room ≡ v.room → AreZonesOf p w
+same_zones p v w h zones statics room = record {
   statics = λ c speed past falls. rw zones (h.statics c speed past falls);
   held = λ id r here. rw zones (h.held id r here);
   few = rw zones h.few;
+  few_held = rw (zones, statics) h.few_held;
   room = rw room h.room;
 }
 
@@ -436,8 +436,3 @@ pub kept_zone : (d : TrainAndTrack) (zs : List KeptZone) (fall : Fall) (i : ℕ)
 kept_zone d zs fall i found h =
     let kept = h i no_zone found.known in
     record { at = kept.at ∙ ap target_at (found.at no_zone); kept = kept.kept }
-
-pub one_more : (d : TrainAndTrack) (of : Option ℕ) (fall : Fall) (old new : List KeptZone) →
-    IsZoneMore d of fall old new → length new ≡ length old + 1
-one_more d of fall old new more =
-    ap (λ (zs : List KeptZone). length zs) more.is ∙ length-insert old more.index more.zone more.bound

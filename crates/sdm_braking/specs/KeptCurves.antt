@@ -77,6 +77,11 @@ pub record IsKeptAt (d : TrainAndTrack) (t : Target) (k : KeptTarget) : Type 0 w
   pub at : k.target ≡ t
   pub kept : IsKeptTarget d k
 
+-- whether an EOA and an SvL are kept, and no LOA
+abbrev pub is_stop : KeptEnd → Bool
+is_stop (KeptStop e s) = true
+is_stop (KeptLimit l) = false
+
 -- what is kept of the end of an authority: its targets with their curves
 abbrev pub IsKeptEnd : TrainAndTrack → Authority → KeptEnd → Type 0
 IsKeptEnd d (Stop eoa svl release) (KeptStop e s) =

@@ -1,8 +1,8 @@
 -- The falls of a speed profile that are kept with their curves, and the zones that may be falls (own).
-use Rattle.std.specs.Prelude.{◌≡◌, ℕ, ℤ, pos, negsuc, Bool, true, false, List, [], Option, Some, None, All, ◌&&◌, is_none}
-use Rattle.std.specs.Prelude.{length, map, slice_index_or, ◌≢◌, ◌+◌, ◌-◌, ◌<◌, ◌≤◌, ◌==◌, ◌≤ℤ◌, ◌<ℤ◌}
+use Rattle.std.specs.Prelude.{◌≡◌, ℕ, ℤ, pos, negsuc, Bool, true, false, List, [], ◌∷◌, Option, Some, None, All, ◌&&◌, is_none}
+use Rattle.std.specs.Prelude.{length, map, slice_index_or, ◌≢◌, ◌++◌, ◌+◌, ◌-◌, ◌<◌, ◌≤◌, ◌==◌, ◌≤ℤ◌, ◌<ℤ◌}
 use Rattle.std.specs.FinMap as finite
-use Rattle.std.specs.List.{insert, list_any}
+use Rattle.std.specs.List.{list_any}
 use Rattle.std.specs.Option.{option_map_or}
 use Rattle.std.specs.Ordering.{int_eq}
 use Rattle.sdm_rules.specs.declared.restrictions.Restriction.{Restriction}
@@ -57,11 +57,12 @@ zone_fall z = record { fall = z.fall; kept = z.kept }
 abbrev pub IsKeptZone : TrainAndTrack → KeptZone → Type 0
 IsKeptZone d z = IsKeptFall d (zone_fall z)
 
--- what is kept of falls, in order, the zones that may be falls, and of how many zones there is room for; and for each
--- fall how many falls further on its EBD and its guidance curve are hidden
+-- what is kept of falls, in order, the zones that may be falls, how many of these are of the static profile, and of how
+-- many zones there is room for; and for each fall how many falls further on its EBD and its guidance curve are hidden
 pub record KeptFallsData : Type 0 where
   pub list : List KeptFallData
   pub zones : List KeptZone
+  pub statics : ℕ
   pub room : ℕ
   pub brake_steps : List ℕ
   pub guide_steps : List ℕ
@@ -128,22 +129,28 @@ is_held_at id fall z = has_id id z && is_at fall z
 abbrev pub first_cell : ℤ
 first_cell = negsuc 2_147_483_647
 
--- there is a zone for each fall of the static profile, and one for each restriction, and no more than there is room
--- for beside the restrictions that may come
+-- so many zones come first and are of no restriction, in the order of their cells
+pub record AreStaticsFirst (statics : ℕ) (zones : List KeptZone) : Type 0 where
+  pub known : statics ≤ length zones
+  pub first : (k : ℕ) (d : KeptZone) → k < statics → (slice_index_or zones k d).id ≡ None
+  pub order : (j k : ℕ) (d : KeptZone) → j < k → k < statics →
+      (slice_index_or zones j d).fall.cell <ℤ (slice_index_or zones k d).fall.cell
+
+-- there is a zone for each fall of the static profile, and one for each restriction; no more than there is room for
+-- beside the restrictions that may come, and behind those of the static profile no more than restrictions
 pub record AreZonesOf (p : ProfileData) (v : KeptFallsData) : Type 0 where
   pub statics : (c : ℤ) (speed : ℕ) → first_cell <ℤ c → FallsTo (static_of p) c speed →
       list_any (is_static_at (record { cell = c; speed = speed })) v.zones ≡ true
   pub held : (id : ℕ) (r : Restriction) → finite.get p.restrictions id ≡ Some r →
       list_any (is_held_at id (fall_by r)) v.zones ≡ true
   pub few : length v.zones ≤ length p.speeds + finite.len p.restrictions
+  pub few_held : length v.zones ≤ v.statics + finite.len p.restrictions
   pub room : length p.speeds + most_restrictions ≤ v.room
 
--- of zones one more is kept, with its curves
+-- behind zones one more is kept, with its curves
 pub record IsZoneMore (d : TrainAndTrack) (of : Option ℕ) (at : Fall) (old new : List KeptZone) : Type 0 where
   pub zone : KeptZone
-  pub index : ℕ
-  pub is : new ≡ insert old index zone
-  pub bound : index ≤ length old
+  pub is : new ≡ old ++ zone ∷ []
   pub id : zone.id ≡ of
   pub fall : zone.fall ≡ at
   pub kept : IsKeptZone d zone

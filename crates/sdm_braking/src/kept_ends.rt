@@ -1,12 +1,12 @@
 //! The targets at the end of the authority with their curves, as a supervisor keeps them between records. They follow
 //! from the train and track and the authority alone.
 
-ghost use Rattle.std.specs.Prelude.{◌≡◌, ◌≤◌, ◌≤ℤ◌, None, pos};
+ghost use Rattle.std.specs.Prelude.{◌≡◌, ◌≤◌, ◌≤ℤ◌, None, false, pos, true};
 ghost use Rattle.sdm_rules.specs.Cells.{place_of_cell};
 ghost use Rattle.sdm_rules.specs.Records.{authority_fault};
 ghost use Rattle.sdm_rules.specs.Ranges.{top_kmh};
 ghost use Rattle.sdm_targets.specs.Lists.{IsTarget};
-ghost use Rattle.sdm_braking.specs.KeptCurves.{IsKeptAt, IsKeptEnd, brake_curve_of};
+ghost use Rattle.sdm_braking.specs.KeptCurves.{IsKeptAt, IsKeptEnd, brake_curve_of, is_stop};
 
 use crate::braking::Braking;
 use crate::kept_targets::KeptTarget;
@@ -73,28 +73,52 @@ impl Braking {
 }
 
 impl KeptEnd {
-    /// Takes the targets at the end of another authority. Where it ends as the one before, they are made in the places of
-    /// those.
+    /// Makes room for an EOA and an SvL: copies of an LOA, where one is kept, stand there until these are made.
+    #[inline(never)]
+    fn turn_to_stop(&mut self)
+        ensures { is_stop self.new ≡ true }
+    {
+        if let KeptEnd::Limit { loa: eoa } = *self {
+            let svl = eoa;
+            *self = KeptEnd::Stop { eoa, svl };
+        }
+    }
+
+    /// Makes room for an LOA: a copy of an SvL, where one is kept, stands there until it is made.
+    #[inline(never)]
+    fn turn_to_limit(&mut self)
+        ensures { is_stop self.new ≡ false }
+    {
+        if let KeptEnd::Stop { svl, .. } = *self {
+            *self = KeptEnd::Limit { loa: svl };
+        }
+    }
+
+    /// Takes the targets at the end of another authority. They are large, so each is made in the place of one before it.
     pub fn take(&mut self, braking: &Braking, authority: &Authority)
         requires { authority_fault braking.now.track.length_cm authority.now ≡ None }
         ensures { IsKeptEnd braking.now authority.now self.new }
     {
-        match (&mut *self, *authority) {
-            (
-                KeptEnd::Stop { eoa, svl },
-                Authority::Stop {
-                    eoa: eoa_cm,
-                    svl: svl_cm,
-                    ..
-                },
-            ) => {
+        match *authority {
+            Authority::Stop {
+                eoa: eoa_cm,
+                svl: svl_cm,
+                ..
+            } => {
+                self.turn_to_stop();
+                let KeptEnd::Stop { eoa, svl } = self else {
+                    unreachable!()
+                };
                 braking.keep_at_over(TargetKind::Eoa, eoa_cm, 0, eoa);
                 braking.keep_at_over(TargetKind::Svl, svl_cm, 0, svl);
             }
-            (KeptEnd::Limit { loa }, Authority::Limit { loa: loa_cm, speed }) => {
+            Authority::Limit { loa: loa_cm, speed } => {
+                self.turn_to_limit();
+                let KeptEnd::Limit { loa } = self else {
+                    unreachable!()
+                };
                 braking.keep_at_over(TargetKind::Loa, loa_cm, speed, loa);
             }
-            _ => *self = braking.keep_end(authority),
         }
     }
 

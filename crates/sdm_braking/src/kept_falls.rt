@@ -26,7 +26,7 @@ ghost use Rattle.sdm_braking.specs.KeptFalls.{has_id, is_at, kept_at, target_of}
 
 use crate::braking::Braking;
 use crate::falls_ahead::{Ahead, FallsAhead, KeptFall, KeptZone, PlacedFall};
-use crate::zones::{fall_by, target_at, zone_at, zone_between, zone_by_id};
+use crate::zones::{fall_by, is_zone_at, older_place, remove_held, target_at, zone_at};
 use sdm_hiding::hide;
 use sdm_num::NoMemory;
 use sdm_rules::{Fall, Restriction};
@@ -43,6 +43,8 @@ pub struct KeptFalls {
     older: Vec<PlacedFall>,
     /// The zones that may be falls: the falls of the static profile, in order, and then the restrictions.
     zones: Vec<KeptZone>,
+    /// How many of these are falls of the static profile.
+    statics: usize,
     /// For each fall how many falls further on the first one stands whose EBD hides this one's. No less room than for
     /// falls.
     brake_steps: Vec<usize>,
@@ -52,13 +54,14 @@ pub struct KeptFalls {
 
 impl Model for KeptFalls {
     ghost use Rattle.std.specs.Prelude.{length, vec_capacity, ◌≤◌};
-    ghost use Rattle.sdm_braking.specs.KeptFalls.{KeptFallsData, kept_in, ArePlacedIn};
+    ghost use Rattle.sdm_braking.specs.KeptFalls.{AreStaticsFirst, KeptFallsData, kept_in, ArePlacedIn};
 
     ghost Value = { KeptFallsData };
 
     ghost view = { λ k. record {
       list = kept_in k.zones.items k.list.items;
       zones = k.zones.items;
+      statics = k.statics;
       room = vec_capacity k.zones;
       brake_steps = k.brake_steps.items;
       guide_steps = k.guide_steps.items;
@@ -69,7 +72,8 @@ impl Model for KeptFalls {
         × (vec_capacity k.zones ≤ vec_capacity k.older)
         × (length k.list.items ≤ vec_capacity k.zones)
         × (vec_capacity k.zones ≤ length k.brake_steps.items)
-        × (vec_capacity k.zones ≤ length k.guide_steps.items) };
+        × (vec_capacity k.zones ≤ length k.guide_steps.items)
+        × AreStaticsFirst k.statics k.zones.items };
 }
 
 impl KeptFalls {
@@ -84,6 +88,7 @@ impl KeptFalls {
             list: Vec::with_capacity(alloc, room)?,
             older: Vec::with_capacity(alloc, room)?,
             zones: Vec::with_capacity(alloc, room)?,
+            statics: 0,
             brake_steps: vec![in alloc; 0; room]?,
             guide_steps: vec![in alloc; 0; room]?,
         };
@@ -105,6 +110,7 @@ impl KeptFalls {
             self.keep_zone(braking, None, fall);
             at = fall.cell;
         }
+        self.statics = self.zones.len();
     }
 
     /// Keeps a zone behind the others. No fall has a place then.
@@ -112,6 +118,7 @@ impl KeptFalls {
         requires fall { IsFallInRange fall }
         requires room { length self.old.zones < self.old.room }
         ensures zone { IsZoneMore braking.now id fall self.old.zones self.new.zones }
+        ensures statics { self.new.statics ≡ self.old.statics }
         ensures room { self.new.room ≡ self.old.room }
     {
         let kept = braking.keep(target_at(fall));
@@ -125,6 +132,7 @@ impl KeptFalls {
     fn clear(&mut self)
         ensures list { self.new.list ≡ [] }
         ensures zones { self.new.zones ≡ self.old.zones }
+        ensures statics { self.new.statics ≡ self.old.statics }
         ensures room { self.new.room ≡ self.old.room }
     {
         if !self.list.is_empty() {
@@ -140,84 +148,52 @@ impl KeptFalls {
         ensures list { self.new.list ≡
             self.old.list ++ kept_at self.old.zones (record { fall = fall; place = place }) ∷ [] }
         ensures zones { self.new.zones ≡ self.old.zones }
+        ensures statics { self.new.statics ≡ self.old.statics }
         ensures room { self.new.room ≡ self.old.room }
     {
         self.list.push_reserved(PlacedFall { fall, place });
     }
 
-    /// The index of the first zone behind those of the static profile, where so many restrictions have theirs.
-    fn first_held(&self, count: usize) -> usize {
-        self.zones.len().saturating_sub(count)
-    }
-
-    /// The index of the first zone of the static profile, from an index on, that doesn't begin before a cell.
-    fn static_from(&self, from: usize, cell: i32) -> usize {
-        for i in from..self.zones.len() {
-            let zone = &self.zones[i];
-            if zone.id.is_some() || cell <= zone.fall.cell {
-                return i;
-            }
-        }
-        self.zones.len()
-    }
-
-    /// The place of the first of the falls set aside, from an index on, that doesn't lie before a cell. The next search
-    /// begins there.
-    fn older_place(&self, from: &mut usize, cell: i32) -> usize {
-        for i in *from..self.older.len() {
-            let older = self.older[i];
-            if cell <= older.fall.cell {
-                *from = i;
-                return older.place;
-            }
-        }
-        *from = self.older.len();
-        0
-    }
-
-    /// The index of a zone that begins at a fall with its speed: as a rule `older`, or the next one of the static
-    /// profile from `near` on, or one from `held` on.
-    fn zone_of(&self, older: usize, near: &mut usize, held: usize, fall: Fall) -> usize
+    /// The index of a zone that begins at a fall with its speed: as a rule `older`, else the first one of the static
+    /// profile that doesn't begin before the fall, or one of a restriction.
+    fn zone_of(&self, older: usize, fall: Fall) -> usize
         requires { list_any (is_at fall) self.now.zones ≡ true }
         ensures { IsZoneAt fall self.now.zones result }
     {
-        if let Some(place) = zone_between(&self.zones, older, older.saturating_add(1), fall) {
-            return place;
+        if is_zone_at(&self.zones, older, fall) {
+            return older;
         }
-        let next = self.static_from(*near, fall.cell);
-        *near = next;
-        if let Some(place) = zone_between(&self.zones, next, next.saturating_add(1), fall) {
-            return place;
+        let next = parted(
+            &self.zones[..self.statics],
+            |zone| zone.fall.cell < fall.cell,
+        );
+        if is_zone_at(&self.zones, next, fall) {
+            return next;
         }
-        if let Some(place) = zone_between(&self.zones, held, self.zones.len(), fall) {
-            return place;
-        }
-        let Some(place) = zone_at(&self.zones, fall) else {
+        let Some(held) = zone_at(&self.zones[self.statics..], fall) else {
             unreachable!()
         };
-        place
+        self.statics + held
     }
 
-    /// Finds which zones are falls of a profile, in one pass over its steps. Most were falls before. The zones of the
-    /// static profile come first, in the order of their cells, so for another fall the next one of them is looked at,
-    /// and then those of restrictions.
+    /// Finds which zones are falls of a profile, in one pass over its steps. Most were falls before, and have the
+    /// places that they had then, so these are looked at first.
     fn fill(&mut self, profile: &Profile)
         requires { AreZonesOf profile.now self.old }
         ensures falls { AreAtFalls fall_of (mrsp_of profile.now) first_cell self.new.list }
         ensures each { (d : TrainAndTrack) → All (IsKeptZone d) self.old.zones → All (IsKeptFall d) self.new.list }
         ensures few { length self.new.list ≤ most_falls }
         ensures zones { self.new.zones ≡ self.old.zones }
+        ensures statics { self.new.statics ≡ self.old.statics }
         ensures room { self.new.room ≡ self.old.room }
     {
         self.clear();
-        let held = self.first_held(profile.held_count());
         let mut at = i32::MIN;
         let mut near = 0;
-        let mut next = 0;
         let mut from = 0;
         while let Some(fall) = profile.next_fall_near(at, &mut near) {
-            let older = self.older_place(&mut from, fall.cell);
-            let place = self.zone_of(older, &mut next, held, fall);
+            let older = older_place(&self.older, &mut from, fall.cell);
+            let place = self.zone_of(older, fall);
             self.push(fall, place);
             at = fall.cell;
         }
@@ -231,6 +207,7 @@ impl KeptFalls {
             self.new.brake_steps 0 }
         ensures list { self.new.list ≡ self.old.list }
         ensures zones { self.new.zones ≡ self.old.zones }
+        ensures statics { self.new.statics ≡ self.old.statics }
         ensures room { self.new.room ≡ self.old.room }
     {
         let falls = FallsAhead {
@@ -248,6 +225,7 @@ impl KeptFalls {
             (map guide_foot (map target_of self.new.list)) self.new.guide_steps 0 }
         ensures list { self.new.list ≡ self.old.list }
         ensures zones { self.new.zones ≡ self.old.zones }
+        ensures statics { self.new.statics ≡ self.old.statics }
         ensures room { self.new.room ≡ self.old.room }
         ensures brakes { self.new.brake_steps ≡ self.old.brake_steps }
     {
@@ -300,13 +278,11 @@ impl KeptFalls {
     fn remove(&mut self, id: u16)
         requires { list_any (has_id id) self.old.zones ≡ true }
         ensures zone { IsZoneLess id self.old.zones self.new.zones }
+        ensures statics { self.new.statics ≡ self.old.statics }
         ensures room { self.new.room ≡ self.old.room }
     {
-        let Some(index) = zone_by_id(&self.zones, id) else {
-            unreachable!()
-        };
         self.clear();
-        self.zones.swap_remove(index);
+        remove_held(&mut self.zones, self.statics, id);
     }
 
     /// Keeps the falls of a profile that a restriction has gone from.

@@ -51,35 +51,8 @@ impl Braking {
         }
     }
 
-    /// The guidance curve of a target, where it has one: its foot is at the target place, with the target speed.
-    /// (SUBSET-026-3 3.13.8.5; own feet)
-    fn guidance_curve(&self, target: &Target, speeds: &SpeedLimits) -> Option<Curve>
-        requires target { IsTarget target.now }
-        requires speeds { AreSpeedsOf target.now speeds.now }
-        ensures { IsGuideOf self.now target.now result }
-    {
-        if !self.is_guided(target) {
-            return None;
-        }
-        Some(Curve::from_foot(self.normal(), target.place, speeds.permitted))
-    }
-
-    /// A target with its speeds and its curves.
-    pub fn keep(&self, target: Target) -> KeptTarget
-        requires { IsTarget target }
-        ensures target { result.target ≡ target }
-        ensures kept { IsKeptTarget self.now result }
-    {
-        let speeds = SpeedLimits::of_target(&target);
-        KeptTarget {
-            target,
-            speeds,
-            brake: self.brake_curve(&target, &speeds),
-            guide: self.guidance_curve(&target, &speeds),
-        }
-    }
-
-    /// Puts the guidance curve of a target, where it has one, in the place of another one.
+    /// Puts the guidance curve of a target, where it has one, in the place of another one: its foot is at the target
+    /// place, with the target speed. (SUBSET-026-3 3.13.8.5; own feet)
     fn guide_over(&self, target: &Target, speeds: &SpeedLimits, guide: &mut Option<Curve>)
         requires target { IsTarget target.now }
         requires speeds { AreSpeedsOf target.now speeds.now }
@@ -90,6 +63,23 @@ impl Braking {
         } else if guide.is_some() {
             *guide = None;
         }
+    }
+
+    /// A target with its speeds and its curves.
+    pub fn keep(&self, target: Target) -> KeptTarget
+        requires { IsTarget target }
+        ensures target { result.target ≡ target }
+        ensures kept { IsKeptTarget self.now result }
+    {
+        let speeds = SpeedLimits::of_target(&target);
+        let mut kept = KeptTarget {
+            target,
+            speeds,
+            brake: self.brake_curve(&target, &speeds),
+            guide: None,
+        };
+        self.guide_over(&target, &speeds, &mut kept.guide);
+        kept
     }
 
     /// Puts a target with its speeds and its curves in the place of another one, so that no curve is moved.

@@ -57,6 +57,7 @@ loop-fall-preserved c =
           (rw inv.zones curves)) (All-nil (IsKeptFall d))));
       few = rw (c.push.ensures.list, length-append list (k ∷ [])) (omega (arith, more, inv.few));
       zones = c.push.ensures.zones ∙ inv.zones;
+      statics = c.push.ensures.statics ∙ inv.statics;
       room = c.push.ensures.room ∙ inv.room;
       low = omega (arith, ints);
     })

@@ -14,6 +14,7 @@ invariant-loop-fall l = record {
   each : (d : TrainAndTrack) → All (IsKeptZone d) l.fn.self.zones → All (IsKeptFall d) l.self.list;
   few : length l.self.list ≤ passed (zones_of l.profile) l.at;
   zones : l.self.zones ≡ l.fn.self.zones;
+  statics : l.self.statics ≡ l.fn.self.statics;
   room : l.self.room ≡ l.fn.self.room;
   low : first_cell ≤ℤ l.at;
 }

@@ -35,7 +35,8 @@ returns c =
       each = rw list (filled.each c.args.braking.now c.requires.curves);
       few = rw list filled.few;
       zones = same_zones c.args.profile.now c.args.self.now c.hide_guides.new.self c.requires.zones
-          (guides.zones ∙ brakes.zones ∙ filled.zones) (guides.room ∙ brakes.room ∙ filled.room);
+          (guides.zones ∙ brakes.zones ∙ filled.zones) (guides.statics ∙ brakes.statics ∙ filled.statics)
+          (guides.room ∙ brakes.room ∙ filled.room);
       curves = rw (guides.zones, brakes.zones, filled.zones) c.requires.curves;
       hidden = record {
         brakes = rw (guides.list, guides.brakes) brakes.hidden;

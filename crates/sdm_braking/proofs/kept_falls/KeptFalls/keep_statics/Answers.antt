@@ -1,8 +1,10 @@
 -- Each next fall gets its zone; past the last one all have theirs.
-use Rattle.std.proofs.Common.{◌≡◌, None, w32, to_z, of_z, ◌∙◌, arith, rules}
+use Rattle.std.proofs.Common.{◌≡◌, None, w32, to_z, of_z, ◌∙◌, ap, arith, rules}
 use Rattle.std.proofs.lemmas.Int.{to_z-of_z}
 use Rattle.sdm_speed.specs.Profiles.{mrsp_of}
 use Rattle.sdm_targets.proofs.CountLaws.{fall_counts}
+use Rattle.sdm_braking.specs.KeptFalls.{KeptFallsData}
+use Rattle.sdm_braking.proofs.StaticLaws.{next_static}
 use Rattle.sdm_braking.proofs.ZoneLaws.{few_statics, one_curve, one_more, one_static, static_zones_are}
 use Rattle.sdm_braking.proofs.kept_falls.KeptFalls.keep_statics.Goals as goal
 
@@ -25,6 +27,8 @@ loop-fall-preserved c =
     rw cell_is (record {
       statics = one_static d (mrsp_of p) _ fall c.loop-fall.self.zones c.keep_zone.new.self.zones inv.statics
           c.in-Some.ensures.value more;
+      order = next_static d _ fall c.loop-fall.self.zones c.keep_zone.new.self.zones inv.order
+          c.in-Some.ensures.value.beyond more;
       curves = one_curve d None fall c.loop-fall.self.zones c.keep_zone.new.self.zones inv.curves more;
       few = omega (arith, counts, inv.few, one_more d None fall c.loop-fall.self.zones c.keep_zone.new.self.zones more);
       room = c.keep_zone.ensures.room ∙ inv.room;
@@ -34,5 +38,8 @@ pub returns-clause-zones : goal.returns-clause-zones
 returns-clause-zones c =
     let p = c.args.profile.now in
     let inv = c.loop-fall.invariant in
-    static_zones_are p _ c.loop-fall.self c.requires.bare c.in_default.ensures.value inv.statics
-    (few_statics p _ _ c.requires.bare inv.few) (omega (arith, inv.room, c.requires.room))
+    let room = ap (λ (v : KeptFallsData). v.room) c.self.view_is in
+    static_zones_are p _ _ c.requires.bare c.in_default.ensures.value (rw (← c.self.view_is) at inv.statics)
+    (rw (← c.self.view_is) at (few_statics p _ _ c.requires.bare inv.few))
+    (c.len-self-inside.ensures ∙ c.self.inside.zones.ok.0)
+    (omega (arith, room, inv.room, c.requires.room))

@@ -1,6 +1,5 @@
 -- The zone stands behind the others, with its target.
-use Rattle.std.proofs.Common.{◌≡◌, ◌∙◌, refl, sym, ap, length, arith}
-use Rattle.std.proofs.lemmas.List.Edits.{insert_end}
+use Rattle.std.proofs.Common.{◌≡◌, ◌∙◌, refl, ap}
 use Rattle.sdm_braking.specs.declared.falls_ahead.KeptZone.{KeptZone}
 use Rattle.sdm_braking.specs.KeptFalls.{KeptFallsData}
 use Rattle.sdm_braking.proofs.kept_falls.KeptFalls.keep_zone.Goals as goal
@@ -13,9 +12,7 @@ returns-clause-zone c =
     ap (λ (v : KeptFallsData). v.zones) c.self.view_is ∙ c.clear.ensures.zones in
     rw (← same) (record {
       zone = z;
-      index = length zs;
-      is = c.push_reserved.ensures.items ∙ sym (insert_end zs z);
-      bound = omega arith;
+      is = c.push_reserved.ensures.items;
       id = refl;
       fall = refl;
       kept = record { at = c.keep-kept.ensures.target ∙ c.target_at.ensures.value; kept = c.keep-kept.ensures.kept };

@@ -7,7 +7,7 @@ remove-requires c = zone_of_held c.args.profile.now c.args.id c.args.self.now c.
 
 pub keep_falls-requires-clause-zones : goal.keep_falls-requires-clause-zones
 keep_falls-requires-clause-zones c = revoked_zones c.args.profile.now c.args.id c.args.self.now c.remove.new.self
-    c.requires.before c.remove.ensures.zone c.remove.ensures.room
+    c.requires.before c.remove.ensures.zone c.remove.ensures.statics c.remove.ensures.room
 
 pub keep_falls-requires-clause-curves : goal.keep_falls-requires-clause-curves
 keep_falls-requires-clause-curves c =

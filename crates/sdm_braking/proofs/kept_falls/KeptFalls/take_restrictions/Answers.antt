@@ -29,7 +29,7 @@ loop-i-preserved c =
     let next = next_restricted c.args.profile.now held c.loop-i.i none old said.all said.distinct said.in_range.few
     c.loop-i-test.true inv.zones in
     record {
-      zones = restricted_zones d _ r old new next one c.keep_zone.ensures.room;
+      zones = restricted_zones d _ r old new next one c.keep_zone.ensures.statics c.keep_zone.ensures.room;
       curves = one_curve d (Some r.id) (fall_by r) old.zones new.zones inv.curves one;
     }
 
