@@ -2,7 +2,7 @@
 many segments as there may be, and all in one short part of the track. A place that is sought there costs most: the
 segments are halved down to twelve, and then gone back over."""
 
-from collections.abc import Iterator
+from collections.abc import Iterable, Iterator
 from dataclasses import dataclass
 
 from inputs import AREAS, FASTEST_MM_S, GRADIENTS, RESTRICTIONS, SPEED_STEPS, TRACK_CM, reading, table
@@ -85,48 +85,54 @@ def dips(falls: Steps, count: int, after_cm: int, long_cm: int) -> str:
     )
 
 
+def packed(first_cm: int, speeds: Iterable[int]) -> Steps:
+    """Falls 10 cm from one another."""
+    return [(first_cm + 10 * k, speed) for k, speed in enumerate(speeds)]
+
+
 def asking() -> str:
     """Readings that ask all falls: 17 that are slower than the train or as fast, each of which is asked as it is slower
-    than the one before, and all others, as V_bec is above the foot speeds of all. The EBDs of all are one at V_bec,
-    where the map is dense, and each fall is covered."""
-    train, v_est, v_bec = Train(100, 50, 50, 100, 300, 300), 105, 105 + 10 + 30 + 8  # m/s: with V_delta0, 1 and 2
-    speeds = range(v_est * 18 // 5 - MARGIN_KMH - 1 + SPEED_STEPS - 2, v_est * 18 // 5 - MARGIN_KMH - 2, -1)
-    falls = [(IN_WIDE_CM + train.distance_cm(v_bec, v + MARGIN_KMH), v) for v in speeds]
-    text = data(train, falls, IN_WIDE_CM + train.distance_cm(v_bec, 0)) + dips(falls, RESTRICTIONS, 1500, 1000)
+    than the one before, and all others, as V_bec for each is above its foot speed. The EBDs at V_bec and the guidance
+    curves at V_est lie where the map is dense, and each fall is covered."""
+    train, v_est, gain = Train(400, 400, 400, emergency_ds=300, service_ds=300), 105, 12  # m/s, by 0.4 m/s2 in 30 s
+    slowest_kmh = v_est * 18 // 5 - MARGIN_KMH - 1
+    falls = packed(IN_WIDE_CM + 5500, range(slowest_kmh + SPEED_STEPS - 2, slowest_kmh - 1, -1))
+    text = data(train, falls, IN_WIDE_CM + train.distance_cm(v_est + gain, 0)) + dips(falls, RESTRICTIONS, 3, 3)
     places = (-10_000_000, 70_000_000, 81_000_000)  # before all limits, and past some
-    return text + "".join(reading(k, place, 0, 1000 * v_est, 300, 10_000) for k, place in enumerate(places))
+    return text + "".join(reading(k, place, 0, 1000 * v_est, 300, 0) for k, place in enumerate(places))
 
 
 def showing() -> str:
     """Displays of a train that passes no limit at any speed that is looked at while speeds are halved, 250, 375, 437,
     468 km/h and so on up to 500: at each of them as many falls are asked as may be, where the map is dense. And all
     falls are slower than the train, and may be the target that counts."""
-    train = Train(400, 400, 400)
-    speeds = [*range(499, 422, -1), *range(375, 359, -1), *range(250, 216, -1)]
-    falls = [(IN_WIDE_CM + 10 * k, speed) for k, speed in enumerate(speeds)]
+    train, speeds = Train(400, 400, 400), [*range(499, 422, -1), *range(375, 359, -1), *range(250, 216, -1)]
+    falls = packed(IN_WIDE_CM, speeds)
     text = data(train, falls, IN_WIDE_CM + train.distance_cm(TOP_KMH / 3.6, 0)) + dips(falls, RESTRICTIONS, 3, 3)
     return text + "".join(reading(k, place, 0, FASTEST_MM_S, 0, 0) for k, place in enumerate((-10_000_000, 80_000_000)))
 
 
-def staircase(count: int) -> Steps:
-    """Falls up to the dense part, none of which hides the one before."""
-    return [(IN_WIDE_CM - 7000 * (count - k), TOP_KMH - 1 - k) for k in range(count)]
+def hidden(top_kmh: int) -> Steps:
+    """Falls from a speed on of which none hides the one before, but all are hidden by the last, which is far slower."""
+    count = SPEED_STEPS - 2
+    return [*((IN_WIDE_CM - 7000 * (count - k), top_kmh - k) for k in range(count)), (IN_WIDE_CM, 1)]
 
 
 def restricting() -> str:
-    """Restrictions that come and go behind a staircase of falls and hide them all, so that for each fall two others are
-    looked at: the next one, which doesn't hide it, and the restriction."""
-    train, falls = Train(100, 100, 100), staircase(SPEED_STEPS - 1)
-    text = data(train, falls, TRACK_CM) + dips(falls[1 - RESTRICTIONS :], RESTRICTIONS - 1, 3500, 1000)
-    return text + f"restrict,99,{IN_WIDE_CM},{IN_WIDE_CM + 1000},1,0\nrevoke,99\n" * 3
+    """A restriction that comes and goes ahead of as many falls as there may be beside it. All are slower, so it covers
+    all steps and lowers none. Its curves reach the bands below the last one where the map is dense."""
+    train, falls = Train(100, 100, 94), hidden(TOP_KMH - 2)
+    start = IN_WIDE_CM + 100 - train.distance_cm((TOP_KMH - 1 + MARGIN_KMH) / 3.6, BANDS - 1)
+    text = data(train, falls, TRACK_CM) + dips(falls[-RESTRICTIONS:-1], RESTRICTIONS - 1, 3500, 1000)
+    return text + f"restrict,99,{start},{TRACK_CM},{TOP_KMH - 1},0\nrevoke,99\n" * 3
 
 
 def revoking() -> str:
     """A restriction over the whole track that hides all falls comes and goes, under as many as there may be that lie
-    over nearly all steps and lower none. Again the last fall hides the others."""
-    train, falls = Train(100, 100, 100), [*staircase(SPEED_STEPS - 2), (IN_WIDE_CM, 1)]
+    over nearly all steps and lower none."""
     wide = "".join(f"restrict,{k},{k + 1},{TRACK_CM - k - 1},{TOP_KMH},0\n" for k in range(RESTRICTIONS - 1))
-    return data(train, falls, TRACK_CM) + wide + f"restrict,99,0,{TRACK_CM},1,0\nrevoke,99\n" * 3
+    text = data(Train(100, 100, 100), hidden(TOP_KMH - 1), TRACK_CM) + wide
+    return text + f"restrict,99,0,{TRACK_CM},1,0\nrevoke,99\n" * 3
 
 
 def inputs() -> Iterator[tuple[str, str]]:
