@@ -3,9 +3,10 @@ the instructions, as callgrind counts them for each call, and the turns of each 
 
     scripts/try-bounds [LIBRARY]
 
-The inputs are those of scripts/c_inputs.py, and some that cost more. Instructions of the C library's own functions
-aren't counted, as they aren't in the bounds. It fails where a call took more than its bound, or a loop turned more
-often than its row says, and prints both beside each other."""
+The inputs are those of scripts/c_inputs.py, those of scripts/heavy_inputs.py, and more that cost much. Instructions of
+the C library's own functions aren't counted, as they aren't in the bounds. It prints what was counted beside the
+bounds, and fails where a call took more than its bound, a loop turned more often than its row says, or the bound of a
+call is more times as much as was counted than is its aim."""
 
 import re
 import subprocess
@@ -18,6 +19,7 @@ from tempfile import TemporaryDirectory
 
 import c_inputs
 import header
+import heavy_inputs
 from bounding import table
 from bounding.calls import Bounds, bounded
 from bounding.counted import Turned, dumps, places, turned
@@ -33,6 +35,7 @@ HERE = ROOT / "scripts"
 PARTS = ["replay", "journey", "heap_malloc"]
 WORDS = {"sdm_display": "display", "sdm_causes": "why"}  # of replay, for the calls that `run` doesn't make
 READINGS = 100  # of an input are counted at most
+AIMS = {"sdm_cycle": 2, "sdm_display": 5, "sdm_restrict": 5, "sdm_revoke": 5}  # times the most that is counted
 PAINTED = re.compile(r"^painted (\w+) (\d+)$", re.M)
 Places = dict[str, int]  # the addresses of functions
 
@@ -92,6 +95,7 @@ def heavier() -> Iterator[tuple[str, str]]:
         f"endcalc,{eoa},{svl},{eoa}\nend,{eoa},{svl},40\nlimit,{eoa},{eoa % 499 + 1}\n" for eoa, svl in ends
     )
     yield "ends", data + "".join(held) + records
+    yield from heavy_inputs.inputs()
 
 
 def shortened(text: str) -> str:
@@ -181,6 +185,12 @@ def compared(bound: Bounds, most: Most) -> tuple[str, bool]:
     return line, most.stack > stack or most.instructions > instructions
 
 
+def aimed(bound: Bounds, most: Most) -> tuple[str, bool]:
+    """How many times the most that was counted the bound of a call is, as a line, and whether that is above the aim."""
+    times, aim = bound.counts.get("instructions", 0) / max(most.instructions, 1), AIMS[bound.call]
+    return f"{bound.call}: the bound is {times:.2f} times the most that was counted; {aim} is the aim", times > aim
+
+
 def main(words: list[str]) -> int:
     path = Path(words[0]) if words else LIBRARY.path
     rows = table.read(TABLE)
@@ -202,6 +212,11 @@ def main(words: list[str]) -> int:
             seen = took.loops.get((name, number))
             is_more |= seen is not None and seen.is_more()
             print(f"{name}, loop {number}, {row.walk}: {seen.shown() if seen else 'not entered'}")
+    for each in found:
+        if each.call in AIMS:
+            line, more = aimed(each, took.calls[each.call])
+            is_more |= more
+            print(line)
     return int(is_more)
 
 

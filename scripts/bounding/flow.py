@@ -59,10 +59,12 @@ class Part:
 
 
 class Loop(Part):
-    """A loop. Its number counts the loops of its function, by the address at which they are entered."""
+    """A loop. Its number counts the loops of its function, by the address at which they are entered. `back` are the
+    instructions from which a way leads back to one of its entries."""
 
     number = 0
     shape = ""
+    back: frozenset[int] = frozenset()
 
 
 P = TypeVar("P", bound=Part)
@@ -125,6 +127,7 @@ def body(function: Function, after: Sequence[frozenset[int]]) -> Part:
     for number, loop in enumerate(sorted(part.all_loops(), key=lambda loop: (min(loop.entries), -len(loop.nodes)))):
         loop.number = number
         loop.shape = shape_of(function, loop)
+        loop.back = frozenset(k for k in loop.nodes if after[k] & loop.entries)
     return part
 
 

@@ -130,8 +130,13 @@ class Counted(unittest.TestCase):
         self.table = table_of(**self.walks)
         self.names = {"nested": ["outer", "inner"], "entered_twice": ["entered"], "caller": []}
         for name, walks in self.names.items():
-            loops = self.library.known[name].loops()
-            self.table.loops[name] = [Row(walk, loop.shape) for walk, loop in zip(walks, loops, strict=True)]
+            self.named(name, **{walk: self.walks[walk] for walk in walks})
+
+    def named(self, name: str, **walks: Walk) -> None:
+        """Makes the loops of a function those of some walks."""
+        loops = self.library.known[name].loops()
+        self.table.walks |= walks
+        self.table.loops[name] = [Row(walk, loop.shape) for walk, loop in zip(walks, loops, strict=True)]
 
     def counted(self, call: str, kind: str) -> int:
         return Work(self.library, self.table.turns, COUNTS[kind]).of(call)
@@ -144,11 +149,29 @@ class Counted(unittest.TestCase):
         self.assertEqual(self.counted("nested", "instructions"), 1 + 4 * (2 + 1 + 3) + 5 * 3 + 2)
 
     def test_a_loop_may_call_less_often_than_it_turns(self) -> None:
-        self.table.walks["calling"] = Walk("here", "calls", "3", calls="2", missing="a clause")
-        self.table.loops["calling"] = [Row("calling", self.library.known["calling"].loops()[0].shape)]
-        self.assertEqual(
-            self.counted("calling", "instructions"), 1 + 4 * 4 + 2 * self.counted("leaf", "instructions") + 1
-        )
+        self.named("calling", calling=Walk("here", "calls", "3", calls="2", missing="a clause"))
+        leaf = self.counted("leaf", "instructions")
+        self.assertEqual(leaf, 3)
+        # two turns call and one doesn't; where it is left it may be behind a call
+        self.assertEqual(self.counted("calling", "instructions"), 1 + 2 * 4 + 1 * 3 + 4 + 2 * leaf + 1)
+
+    def test_a_loop_is_left_once_with_what_is_behind_that(self) -> None:
+        self.named("left_early", leaving=Walk("here", "left early", "3", missing="a clause"))
+        self.assertEqual(self.counted("left_early", "instructions"), 1 + 3 * 8 + (2 + 7))
+        self.assertEqual(self.counted("left_early", "accesses"), 3 * 1 + 1)
+
+    def test_a_loop_that_is_bounded_in_a_run_is_left_each_time(self) -> None:
+        self.named("left_early", leaving=Walk("here", "left early", "3", in_run=True, missing="a clause"))
+        self.assertEqual(self.counted("left_early", "instructions"), 1 + 3 * 8 + (2 + 7))
+
+    def test_a_function_that_ends_by_another_one_runs_that_once(self) -> None:
+        self.named("ended_elsewhere", ended=Walk("here", "left for leaf", "5", missing="a clause"))
+        self.assertEqual(self.counted("ended_elsewhere", "instructions"), 5 * 3 + 2 + 3)
+
+    def test_what_never_ends_is_refused(self) -> None:
+        self.named("endless", never=Walk("here", "endless", "5", missing="a clause"))
+        with self.assertRaisesRegex(Refused, "endless never ends"):
+            self.counted("endless", "instructions")
 
     def test_divisions_and_accesses_are_counted(self) -> None:
         self.assertEqual(self.counted("nested", "divisions"), 1)
