@@ -26,12 +26,12 @@ any_behind : (P : KeptZone → Bool) (n k : ℕ) (zs : List KeptZone) → n ≤ 
 any_behind P n k zs le known on = any_at P (drop n zs) (k - n) no_zone (omega (arith, le, known, length-drop n zs))
     (ap P (get_or-drop n zs (k - n) no_zone ∙ ap (λ j. get_or zs j no_zone) (omega (arith, le))) ∙ on)
 
--- one of the static profile has no identity
+-- one of no restriction has no identity
 no_identity : (o : Option ℕ) (id : ℕ) → o ≡ None → option_map_or (λ held. held == id) o false ≡ true → ⊥
 no_identity o id none on =
     true≢false (sym on ∙ ap (λ (x : Option ℕ). option_map_or (λ held. held == id) x false) none)
 
--- so that of a restriction stands behind them
+-- so that of a restriction stands behind the first ones
 pub held_behind : (n id : ℕ) (zs : List KeptZone) → AreStaticsFirst n zs → (k : ℕ) → k < length zs →
     ((d : KeptZone) → has_id id (get_or zs k d) ≡ true) → n ≤ k
 held_behind n id zs h k known is = elim (cases_lt k n) [
@@ -54,7 +54,7 @@ first_less n id old new h less = record {
     same : (k : ℕ) (d : KeptZone) → k < n → get_or new k d ≡ get_or old k d
     same k d lt = less.others k d (λ e. absurd (omega (arith, e, lt, behind))) (omega (arith, lt, behind, less.known))
 
--- there is one behind them of each identity that there is
+-- one of each identity that there is stands behind them
 pub any_held : (n id : ℕ) (zs : List KeptZone) → AreStaticsFirst n zs → list_any (has_id id) zs ≡ true →
     list_any (has_id id) (drop n zs) ≡ true
 any_held n id zs h on =
@@ -108,6 +108,7 @@ module _ (n : ℕ) (zs : List KeptZone) (h : AreStaticsFirst n zs) where
   abbrev pub is_before : ℤ → KeptZone → Bool
   is_before cell z = int_lt z.fall.cell cell
 
+  -- each of the first ones stands where it stands among all
   among : (k : ℕ) (d : KeptZone) → k < length (take n zs) → get_or (take n zs) k d ≡ get_or zs k d
   among k d lt = get_or-take n zs k d (omega (arith, lt, length-take n zs))
 
