@@ -30,7 +30,8 @@ use crate::zones::{fall_by, is_zone_at, older_place, remove_held, target_at, zon
 use sdm_hiding::hide;
 use sdm_num::NoMemory;
 use sdm_rules::{Fall, Restriction};
-use sdm_speed::{MOST_RESTRICTIONS, Profile, parted};
+use sdm_search::parted;
+use sdm_speed::{MOST_RESTRICTIONS, Profile};
 use std::alloc::Global;
 use std::marker::Model;
 use std::mem::swap;

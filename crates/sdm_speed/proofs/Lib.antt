@@ -18,4 +18,3 @@ pub mod FallLists
 pub mod KeptLaws
 pub mod BeyondLaws
 pub mod TakenLaws
-pub mod HalvingLaws

@@ -6,10 +6,8 @@ mod ends;
 mod lifts;
 mod profiles;
 mod removals;
-mod searches;
 mod steps;
 mod zones;
 
 pub use profiles::{MOST_RESTRICTIONS, Profile};
 pub use sdm_rules::{Fall, RestrictFault, Restriction, RevokeFault};
-pub use searches::parted;

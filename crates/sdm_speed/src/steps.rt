@@ -13,10 +13,10 @@ ghost use Rattle.sdm_speed.specs.Steps.{IsFallStepAfter, IsSplit, IsStart, Keeps
 ghost use Rattle.sdm_speed.specs.Steps.{speeds_of};
 
 use crate::removals::remove_at;
-use crate::searches::parted;
 use crate::zones::Zone;
 use sdm_num::NoMemory;
 use sdm_rules::Fall;
+use sdm_search::parted;
 use std::alloc::Global;
 
 /// The speed in km/h from a cell on, up to where the next step starts.

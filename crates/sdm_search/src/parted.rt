@@ -1,26 +1,10 @@
 //! A search in a list in order, whose number of turns the list's length gives.
 
-ghost use Rattle.std.specs.Prelude.{◌≡◌, ◌+◌, ◌*◌, ◌^◌, ◌<◌, ◌≤◌, Bool, true, false, length};
+ghost use Rattle.std.specs.Prelude.{◌≡◌, ◌≤◌, Bool, true, false, length};
 ghost use Rattle.std.specs.Fn.{ComputesKey};
 ghost use Rattle.std.specs.List.Sorted.{IsPartitionedBy, IsPartitionPoint};
 
-/// How many binary digits a number has.
-fn digits(n: usize) -> u32
-    ensures enough { n < 2 ^ result }
-    ensures few { 2 ^ result ≤ 2 * n + 1 }
-    ensures bound { result ≤ 64 }
-{
-    usize::BITS - n.leading_zeros()
-}
-
-/// A power of 2.
-fn power_of_2(exponent: u32) -> usize
-    requires { exponent < 64 }
-    ensures value { result ≡ 2 ^ exponent }
-    ensures some { 1 ≤ result }
-{
-    1 << exponent
-}
+use crate::digits::{digits, power_of_2};
 
 /// How many elements of a list come first for which a test holds, where all these come before the others. It takes as
 /// many turns as the list's length has binary digits.
