@@ -3,13 +3,14 @@
 
 ghost use Rattle.std.specs.Prelude.{◌≡◌};
 ghost use Rattle.sdm_rules.specs.Decelerations.{slopes_of};
+ghost use Rattle.sdm_rules.specs.Slopes.{meaning_of};
 ghost use Rattle.sdm_rules.specs.Targets.{foot_speed_of};
 ghost use Rattle.sdm_targets.specs.Lists.{IsTarget};
 ghost use Rattle.sdm_braking.specs.KeptCurves.{AreSpeedsOf, IsCurveOn, IsGuideOf, IsKeptTarget, brake_kind, is_guided};
 
 use crate::braking::Braking;
 use crate::speeds::SpeedLimits;
-use sdm_curve::Curve;
+use sdm_curve::{BandMap, Curve};
 use sdm_targets::{Target, TargetKind};
 
 /// A target with its speeds and its curves. (SUBSET-026-3 3.13.8.3 to 3.13.8.5, 3.13.9.2; own)
@@ -25,19 +26,14 @@ pub struct KeptTarget {
 }
 
 impl Braking {
-    /// The curve by which the brake supervises a target: an SBD for the EOA, else an EBD. Its foot speed is the target
-    /// speed with its EBI margin. (SUBSET-026-3 3.13.8.3, 3.13.8.4)
-    fn brake_curve(&self, target: &Target, speeds: &SpeedLimits) -> Curve
-        requires target { IsTarget target.now }
-        requires speeds { AreSpeedsOf target.now speeds.now }
-        ensures { IsCurveOn (slopes_of (brake_kind target.now.kind) self.now)
-            target.now.place (foot_speed_of target.now) result }
+    /// The map on which the brake curve of a target of a kind stands: of the EOA the SBD's, else the EBD's.
+    /// (SUBSET-026-3 3.13.8.3, 3.13.8.4)
+    fn brake_map(&self, kind: TargetKind) -> &BandMap
+        ensures { meaning_of result.now ≡ slopes_of (brake_kind kind) self.now }
     {
-        match target.kind {
-            TargetKind::Mrsp | TargetKind::Loa | TargetKind::Svl => {
-                Curve::from_foot(self.safe(), target.place, speeds.ebi)
-            }
-            TargetKind::Eoa => Curve::from_foot(self.expected(), target.place, speeds.ebi),
+        match kind {
+            TargetKind::Mrsp | TargetKind::Loa | TargetKind::Svl => self.safe(),
+            TargetKind::Eoa => self.expected(),
         }
     }
 
@@ -75,7 +71,7 @@ impl Braking {
         let mut kept = KeptTarget {
             target,
             speeds,
-            brake: self.brake_curve(&target, &speeds),
+            brake: Curve::from_foot(self.brake_map(target.kind), target.place, speeds.ebi),
             guide: None,
         };
         self.guide_over(&target, &speeds, &mut kept.guide);
@@ -91,7 +87,8 @@ impl Braking {
         let speeds = SpeedLimits::of_target(&target);
         kept.target = target;
         kept.speeds = speeds;
-        kept.brake = self.brake_curve(&target, &speeds);
+        kept.brake
+            .take_foot(self.brake_map(target.kind), target.place, speeds.ebi);
         self.guide_over(&target, &speeds, &mut kept.guide);
     }
 }

@@ -2,8 +2,8 @@
 //! turns of other searches that halve.
 #![tactic(auto)]
 
-mod digits;
-mod parted;
+mod binary;
+mod halving;
 
-pub use digits::{digits, power_of_2};
-pub use parted::parted;
+pub use binary::{digits, power_of_2};
+pub use halving::parted;

@@ -6,9 +6,9 @@ use Rattle.std.proofs.Math.Nat.{pow-succ'}
 use Rattle.std.proofs.lemmas.Fn.{called}
 use Rattle.std.proofs.lemmas.List.{get_or_read}
 use Rattle.sdm_search.proofs.HalvingLaws.{left_past, left_before, left_short}
-use Rattle.sdm_search.proofs.parted.parted.Goals as goal
-use Rattle.sdm_search.proofs.parted.parted.Goals.{else-more-list-via-then-more-list+else-comes_first}
-use Rattle.sdm_search.proofs.parted.parted.Goals.{else-more-list-via-else-more-list}
+use Rattle.sdm_search.proofs.halving.parted.Goals as goal
+use Rattle.sdm_search.proofs.halving.parted.Goals.{else-more-list-via-then-more-list+else-comes_first}
+use Rattle.sdm_search.proofs.halving.parted.Goals.{else-more-list-via-else-more-list}
 
 -- a call of a test that computes p answers p, and leaves a test that computes p
 answers : {F A : Type 0} (g : Mut F (Bor A × Unit {0}) Bool) (p : A → Bool) (f f' : F) (a : Bor A × Unit {0})

@@ -4,7 +4,7 @@ ghost use Rattle.std.specs.Prelude.{◌≡◌, ◌≤◌, Bool, true, false, len
 ghost use Rattle.std.specs.Fn.{ComputesKey};
 ghost use Rattle.std.specs.List.Sorted.{IsPartitionedBy, IsPartitionPoint};
 
-use crate::digits::{digits, power_of_2};
+use crate::binary::{digits, power_of_2};
 
 /// How many elements of a list come first for which a test holds, where all these come before the others. It takes as
 /// many turns as the list's length has binary digits.

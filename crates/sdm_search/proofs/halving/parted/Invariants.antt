@@ -3,7 +3,7 @@ use Rattle.std.proofs.Common.{Bool, length, ◌^◌, ◌≤◌}
 use Rattle.std.specs.Fn.{ComputesKey}
 use Rattle.std.specs.List.Sorted.{IsPartitionedBy}
 use Rattle.sdm_search.proofs.HalvingLaws.{AreLeft}
-use Rattle.sdm_search.proofs.parted.parted.Given as goal
+use Rattle.sdm_search.proofs.halving.parted.Given as goal
 
 abbrev pub invariant-loop-turn : goal.invariant-loop-turn
 invariant-loop-turn g l = record {

@@ -2,7 +2,7 @@
 use Rattle.std.proofs.Common.{◌≡◌, ◌^◌, ◌*◌, ◌<◌, arith}
 use Rattle.std.proofs.Math.Nat.{mod-eq_of_lt}
 use Rattle.std.proofs.Math.Pow.{pow-lt}
-use Rattle.sdm_search.proofs.digits.power_of_2.Goals as goal
+use Rattle.sdm_search.proofs.binary.power_of_2.Goals as goal
 
 pub returns-clause-value : goal.returns-clause-value
 returns-clause-value c =
