@@ -59,14 +59,15 @@ rises_past (s ∷ ss) zero (suc j) d rising lt known = after_all s.start ss j d 
 rises_past (s ∷ ss) (suc i) (suc j) d rising lt known =
     rises_past ss i j d (rising_of s.start ss rising) (omega arith) (omega arith)
 
--- where one step starts at a cell or before it, and the next one past it, they part the steps
-pub parted_between : (ss : List Step) (i : ℕ) (cell : ℤ) → AreRising ss → 1 ≤ i → i < length ss →
-    ((d : Step) → (get_or ss (i - 1) d).start ≤ℤ cell) → ((d : Step) → cell <ℤ (get_or ss i d).start) →
-    ArePartedAt (cell +ℤ pos 1) ss i
-parted_between ss i cell rising some known begun later = record {
-  bound = omega arith;
-  before = λ k d l. let r = rises ss k (i - 1) d rising (omega arith) (omega arith) in omega (arith, ints, begun d);
-  from = λ k d l m. let r = rises ss i k d rising l m in omega (arith, ints, later d);
+-- where the step before an index starts at a cell or before it, and that at the index past it, they part the steps
+pub parted_between : (ss : List Step) (i : ℕ) (cell : ℤ) → AreRising ss → i ≤ length ss →
+    ((d : Step) → 1 ≤ i → (get_or ss (i - 1) d).start ≤ℤ cell) →
+    ((d : Step) → i < length ss → cell <ℤ (get_or ss i d).start) → ArePartedAt (cell +ℤ pos 1) ss i
+parted_between ss i cell rising known begun later = record {
+  bound = known;
+  before = λ k d l. let r = rises ss k (i - 1) d rising (omega arith) (omega arith) in
+      omega (arith, ints, begun d (omega arith));
+  from = λ k d l m. let r = rises ss i k d rising l m in omega (arith, ints, later d (omega arith));
 }
 
 -- a step parts them behind it, at the cell where it starts

@@ -19,6 +19,10 @@ either_first false false k m n = refl
 pub not_capped : (c : ℤ) (z : Zone) (n : ℕ) → covers c z ≡ false → capped c z n ≡ n
 not_capped c z n off = rw off refl
 
+-- a zone that covers it
+pub is_capped : (c : ℤ) (z : Zone) (n : ℕ) → covers c z ≡ true → capped c z n ≡ min z.limit n
+is_capped c z n on = rw on refl
+
 -- it does not matter which of two zones is taken first
 pub capped_in_any_order : (c : ℤ) (y z : Zone) (n : ℕ) → capped c y (capped c z n) ≡ capped c z (capped c y n)
 capped_in_any_order c y z n = either_first (covers c y) (covers c z) y.limit z.limit n

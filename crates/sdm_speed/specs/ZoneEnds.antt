@@ -1,7 +1,10 @@
 -- Where the speeds of a profile may change, and what they are under restrictions (own).
-use Rattle.std.specs.Prelude.{◌≡◌, ◌⊎◌, ℕ, ℤ, pos, List, [], ◌∷◌, Some, map, if◌then◌else◌}
+use Rattle.std.specs.Prelude.{◌≡◌, ◌⊎◌, ◌+◌, ◌*◌, ◌<◌, ◌≤◌, ℕ, ℤ, pos, List, [], ◌∷◌, Some, map, if◌then◌else◌}
+use Rattle.std.specs.Prelude.{slice_index, slice_index_or}
 use Rattle.sdm_rules.specs.declared.restrictions.Restriction.{Restriction}
 use Rattle.sdm_rules.specs.Profile.{Zone, covers, end_for, lowest_limit, zone_of}
+use Rattle.sdm_rules.specs.Ranges.{most_speeds}
+use Rattle.sdm_rules.specs.Records.{most_restrictions}
 use Rattle.sdm_speed.specs.declared.ends.Cells.{Cells}
 use Rattle.sdm_speed.specs.declared.steps.Step.{Step}
 use Rattle.sdm_speed.specs.Steps.{IsStart, KeepsStarts, speeds_of}
@@ -42,6 +45,15 @@ retaken speed s = record { start = s.start; speed = speed s.start }
 -- the step, changed where the zone covers its start
 abbrev pub within : Zone → (Step → Step) → Step → Step
 within z change s = if covers s.start z then change s else s
+
+-- the most steps of a profile: two for each entry of the static speed profile and each restriction (own)
+abbrev pub most_steps : ℕ
+most_steps = 2 * (most_speeds + most_restrictions)
+
+-- each speed at the indices from `from` up to, but not including, `to` holds at the start of the step at that index
+abbrev pub AreSpeedsOf : (ℤ → ℕ) → List Step → ℕ → ℕ → List ℕ → Type 0
+AreSpeedsOf speed steps from to speeds =
+    (k : ℕ) (d : Step) → from ≤ k → k < to → slice_index speeds k ≡ speed (slice_index_or steps k d).start
 
 -- each step has the speed that holds at its start
 abbrev pub AreSpeedsAt : (ℤ → ℕ) → List Step → Type 0

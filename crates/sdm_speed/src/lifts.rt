@@ -2,18 +2,21 @@
 //! the static profile and of the restrictions that are left; then a step goes that started at an end of the zone
 //! alone.
 
-ghost use Rattle.std.specs.Prelude.{◌≡◌, ◌⊎◌, ◌≤◌, ℕ, ℤ, pos, true, All, map, vec_capacity};
+ghost use Rattle.std.specs.Prelude.{◌≡◌, ◌⊎◌, ◌≤◌, ℕ, ℤ, pos, true, All, length, map, vec_capacity};
 ghost use Rattle.sdm_rules.specs.Profile.{capped, zone_of};
 ghost use Rattle.sdm_rules.specs.Ranges.{longest_train};
-ghost use Rattle.sdm_speed.specs.ZoneEnds.{AreAtZoneEnds, AreSpeedsAt, IsZoneEnd, IsEnd, IsEndOfOne, retaken, within};
+ghost use Rattle.sdm_speed.specs.ZoneEnds.{AreAtZoneEnds, AreSpeedsAt, AreSpeedsOf, IsZoneEnd, IsEnd, IsEndOfOne};
+ghost use Rattle.sdm_speed.specs.ZoneEnds.{most_steps, retaken};
 ghost use Rattle.sdm_speed.specs.Held.{IsHeldRestriction};
-ghost use Rattle.sdm_speed.specs.Steps.{IsStart, capped_step};
+ghost use Rattle.sdm_speed.specs.Steps.{IsStart};
 ghost use Rattle.sdm_speed.specs.Speeds.{speeds_in, speeds_left};
 
 use crate::ends::{cells_of, zone_of};
-use crate::steps::Steps;
-use crate::zones::Zone;
+use crate::steps::{Range, Steps};
 use sdm_rules::Restriction;
+
+/// The most steps of a profile: two for each entry of the static speed profile and each restriction. (own)
+const MOST_STEPS: usize = 320;
 
 /// Whether the zone of a restriction begins or ends at a cell.
 fn is_end_of_one(held: &[Restriction], length_cm: u32, cell: i32) -> bool
@@ -41,48 +44,47 @@ fn is_zone_end(statics: &Steps, held: &[Restriction], length_cm: u32, cell: i32)
     statics.starts_at(cell) || is_end_of_one(held, length_cm, cell)
 }
 
-/// Gives the steps that a zone covers the static speeds, in one pass over both.
-fn take_statics(steps: &mut Steps, zone: Zone, statics: &Steps)
-    ensures before { steps.new.before ≡ steps.old.before }
-    ensures list { steps.new.list.items ≡
-        map (within zone (retaken (speeds_in statics.now))) steps.old.list.items }
-    ensures room { vec_capacity steps.new.list ≡ vec_capacity steps.old.list }
+/// Speeds in km/h of steps, each at the index of its step.
+type StepSpeeds = [u16; MOST_STEPS];
+
+/// Puts down the static speeds at the starts of the covered steps, in one pass over both.
+fn take_statics(speeds: &mut StepSpeeds, steps: &Steps, covered: Range, statics: &Steps)
+    requires few { covered.to ≤ most_steps }
+    requires known { covered.to ≤ length steps.now.list.items }
+    ensures speeds { AreSpeedsOf (speeds_in statics.now) steps.now.list.items covered.from covered.to speeds.new }
 {
-    let covered = steps.covered(zone);
     let mut near = 0;
     for i in covered.from..covered.to {
-        let speed = statics.speed_near(steps.start(i), &mut near);
-        steps.set_speed(i, speed);
+        speeds[i] = statics.speed_near(steps.start(i), &mut near);
     }
 }
 
-/// Lowers the steps in the zone of a restriction to the limit of another, as far as its zone covers them.
-fn lower_within(steps: &mut Steps, lifted: Restriction, r: Restriction, length_cm: u32)
-    requires lifted { IsHeldRestriction lifted }
+/// Lowers the speeds of the covered steps to the limit of a restriction, as far as its zone covers them too.
+fn lower_within(
+    speeds: &mut StepSpeeds,
+    steps: &Steps,
+    covered: Range,
+    r: Restriction,
+    length_cm: u32,
+)
+    requires few { covered.to ≤ most_steps }
+    requires known { covered.to ≤ length steps.now.list.items }
     requires held { IsHeldRestriction r }
     requires train { length_cm ≤ longest_train }
-    ensures before { steps.new.before ≡ steps.old.before }
-    ensures list { steps.new.list.items ≡ map (within (zone_of (pos length_cm) lifted)
-        (capped_step (zone_of (pos length_cm) r))) steps.old.list.items }
-    ensures room { vec_capacity steps.new.list ≡ vec_capacity steps.old.list }
+    ensures speeds { (speed : ℤ → ℕ) → AreSpeedsOf speed steps.now.list.items covered.from covered.to speeds.old →
+        AreSpeedsOf (λ c. capped c (zone_of (pos length_cm) r) (speed c)) steps.now.list.items
+        covered.from covered.to speeds.new }
 {
-    let cells = cells_of(lifted, length_cm);
-    let others = cells_of(r, length_cm);
-    let first = cells.first.max(others.first);
-    let past = cells.past.min(others.past);
-    if first < past {
-        let both = Zone {
-            first: Some(first),
-            past: Some(past),
-            limit: r.speed,
-        };
-        let covered = steps.covered(both);
-        steps.cap(both, covered);
+    let limited = steps.covered(zone_of(r, length_cm));
+    let limit = r.speed;
+    for i in covered.from.max(limited.from)..covered.to.min(limited.to) {
+        speeds[i] = speeds[i].min(limit);
     }
 }
 
 /// Gives the steps in the zone of a restriction that is no longer held the speeds that are left: the static ones, and
 /// then the limits of the restrictions that lie over the zone.
+// The speeds alone stand beside one another meanwhile, so that a processor lowers many of them at once.
 fn retake(
     steps: &mut Steps,
     lifted: Restriction,
@@ -90,6 +92,7 @@ fn retake(
     held: &[Restriction],
     length_cm: u32,
 )
+    requires few { length steps.old.list.items ≤ most_steps }
     requires speeds { (c : ℤ) → speeds_in steps.old c ≡
         capped c (zone_of (pos length_cm) lifted) (speeds_left length_cm statics.now held.now c) }
     requires held { All IsHeldRestriction held.now }
@@ -100,9 +103,14 @@ fn retake(
         map (retaken (speeds_left length_cm statics.now held.now)) steps.old.list.items }
     ensures room { vec_capacity steps.new.list ≡ vec_capacity steps.old.list }
 {
-    take_statics(steps, zone_of(lifted, length_cm), statics);
+    let covered = steps.covered(zone_of(lifted, length_cm));
+    let mut speeds = [0; MOST_STEPS];
+    take_statics(&mut speeds, steps, covered, statics);
     for r in held {
-        lower_within(steps, lifted, *r, length_cm);
+        lower_within(&mut speeds, steps, covered, *r, length_cm);
+    }
+    for i in covered.from..covered.to {
+        steps.set_speed(i, speeds[i]);
     }
 }
 
@@ -138,6 +146,7 @@ pub fn raise(
     held: &[Restriction],
     length_cm: u32,
 )
+    requires few { length steps.old.list.items ≤ most_steps }
     requires speeds { (c : ℤ) → speeds_in steps.old c ≡
         capped c (zone_of (pos length_cm) lifted) (speeds_left length_cm statics.now held.now c) }
     requires before { steps.old.before ≡ statics.now.before }

@@ -264,7 +264,7 @@ impl Steps {
     }
 
     /// Each step that the zone covers takes at most its limit, and so do the cells before the first step.
-    pub fn cap(&mut self, zone: Zone, covered: Range)
+    fn cap(&mut self, zone: Zone, covered: Range)
         requires { AreCovered zone self.old.list.items covered.from covered.to }
         ensures before { self.new.before ≡ capped_before zone self.old.before }
         ensures list { self.new.list.items ≡ map (capped_step zone) self.old.list.items }
@@ -298,10 +298,9 @@ impl Steps {
         ensures { ArePartedAt (after +ℤ pos 1) self.now.list.items result }
     {
         let list = &self.list;
-        if 0 < near
-            && near < list.len()
-            && list[near - 1].start <= after
-            && after < list[near].start
+        if near <= list.len()
+            && (near == 0 || list[near - 1].start <= after)
+            && (near == list.len() || after < list[near].start)
         {
             return near;
         }

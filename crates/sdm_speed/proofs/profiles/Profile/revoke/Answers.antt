@@ -37,6 +37,7 @@ raise-requires c =
       held = All-remove IsHeldRestriction _ _ kept.each_held;
       lifted = rw c.remove_at-lifted.ensures.value (kept.each_held c.in-Some.index c.remove_at-lifted.result known);
       train = omega (arith, ints);
+      few = omega (arith, kept.steps_few, kept.statics_few, kept.in_range.speeds.few, kept.in_range.few, held_count _ kept _ refl, c.self.inside.held.ok.0, c.self.inside.speeds.ok.0, c.self.inside.statics.list.ok.0, c.self.inside.steps.list.ok.0);
     })
 
 pub invariant_of-self : goal.invariant_of-self
