@@ -81,7 +81,7 @@ no_zone = record {
   kept = record {
     target = record { kind = Svl; place = pos 0; speed = 0 };
     speeds = record { permitted = 0; warning = 0; sbi = 0; ebi = 0 };
-    brake = record { place = pos 0; speed = 0; knots = [] };
+    brake = record { place = pos 0; speed = 0; band = 0; knots = [] };
     guide = None;
   };
 }
