@@ -98,6 +98,11 @@ kept_in zones list = map (kept_at zones) list
 abbrev pub ArePlacedIn : List KeptZone → List PlacedFall → Type 0
 ArePlacedIn zones list = All (λ e. e.place < length zones) list
 
+-- the falls that are listed now, and those that were before, are no more than a profile may have
+pub record AreFewPlaced (list older : List PlacedFall) : Type 0 where
+  pub now : length list ≤ most_falls
+  pub before : length older ≤ most_falls
+
 -- ---- the zones of a profile
 
 -- the zone begins at the fall with its speed

@@ -55,7 +55,7 @@ pub struct KeptFalls {
 
 impl Model for KeptFalls {
     ghost use Rattle.std.specs.Prelude.{length, vec_capacity, ◌≤◌};
-    ghost use Rattle.sdm_braking.specs.KeptFalls.{AreStaticsFirst, KeptFallsData, kept_in, ArePlacedIn};
+    ghost use Rattle.sdm_braking.specs.KeptFalls.{AreFewPlaced, AreStaticsFirst, KeptFallsData, kept_in, ArePlacedIn};
 
     ghost Value = { KeptFallsData };
 
@@ -74,7 +74,8 @@ impl Model for KeptFalls {
         × (length k.list.items ≤ vec_capacity k.zones)
         × (vec_capacity k.zones ≤ length k.brake_steps.items)
         × (vec_capacity k.zones ≤ length k.guide_steps.items)
-        × AreStaticsFirst k.statics k.zones.items };
+        × AreStaticsFirst k.statics k.zones.items
+        × AreFewPlaced k.list.items k.older.items };
 }
 
 impl KeptFalls {
@@ -146,6 +147,7 @@ impl KeptFalls {
     fn push(&mut self, fall: Fall, place: usize)
         requires zone { IsZoneAt fall self.old.zones place }
         requires room { length self.old.list < self.old.room }
+        requires few { length self.old.list < most_falls }
         ensures list { self.new.list ≡
             self.old.list ++ kept_at self.old.zones (record { fall = fall; place = place }) ∷ [] }
         ensures zones { self.new.zones ≡ self.old.zones }

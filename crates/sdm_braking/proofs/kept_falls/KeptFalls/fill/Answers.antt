@@ -1,5 +1,5 @@
 -- There is a zone at each fall; there are no more falls than there is room for.
-use Rattle.std.proofs.Common.{◌≡◌, ◌<ℤ◌, List, [], ◌∷◌, length-append, w32, to_z, of_z, refl, subst}
+use Rattle.std.proofs.Common.{◌≡◌, ◌<ℤ◌, ◌+◌, List, [], ◌∷◌, length, length-append, w32, to_z, of_z, refl, subst}
 use Rattle.std.proofs.Common.{◌∙◌, arith, rules}
 use Rattle.std.proofs.lemmas.Int.{ints, to_z-of_z}
 use Rattle.std.proofs.lemmas.List.Elements.{All-append, All-cons, All-nil}
@@ -36,6 +36,16 @@ push-requires-clause-room c =
       inv.room,
       c.requires.room,
     )
+
+pub push-requires-clause-few : goal.push-requires-clause-few
+push-requires-clause-few c =
+    let p = c.args.profile.now in
+    let fall = c.in-Some.fall in
+    let more = fall_counts p _ fall c.in-Some.ensures.value in
+    let inv = c.loop-fall.invariant in
+    let few = falls_few p fall.cell (length c.loop-fall.self.list + 1) c.in-Some.ensures.profile_in_range
+    (omega (arith, inv.few, more)) in
+    omega (arith, few)
 
 pub loop-fall-preserved : goal.loop-fall-preserved
 loop-fall-preserved c =

@@ -19,4 +19,5 @@ invariant_of-self c =
       search rules,
       first_less c.self.inside.statics c.args.id zs c.remove_held.new.zones.items c.self.invariant.6
           c.remove_held.ensures.zone,
+      c.self.invariant.7,
     )
