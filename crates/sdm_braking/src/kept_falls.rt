@@ -157,21 +157,24 @@ impl KeptFalls {
         self.list.push_reserved(PlacedFall { fall, place });
     }
 
-    /// The index of a zone that begins at a fall with its speed: as a rule `older`, else the first one of the static
-    /// profile that doesn't begin before the fall, or one of a restriction.
-    fn zone_of(&self, older: usize, fall: Fall) -> usize
+    /// The index of a zone that begins at a fall with its speed: as a rule `older` or `next`, else the first one of the
+    /// static profile that doesn't begin before the fall, or one of a restriction.
+    fn zone_of(&self, older: usize, next: usize, fall: Fall) -> usize
         requires { list_any (is_at fall) self.now.zones ≡ true }
         ensures { IsZoneAt fall self.now.zones result }
     {
         if is_zone_at(&self.zones, older, fall) {
             return older;
         }
-        let next = parted(
+        if is_zone_at(&self.zones, next, fall) {
+            return next;
+        }
+        let first = parted(
             &self.zones[..self.statics],
             |zone| zone.fall.cell < fall.cell,
         );
-        if is_zone_at(&self.zones, next, fall) {
-            return next;
+        if is_zone_at(&self.zones, first, fall) {
+            return first;
         }
         let Some(held) = zone_at(&self.zones[self.statics..], fall) else {
             unreachable!()
@@ -180,7 +183,8 @@ impl KeptFalls {
     }
 
     /// Finds which zones are falls of a profile, in one pass over its steps. Most were falls before, and have the
-    /// places that they had then, so these are looked at first.
+    /// places that they had then, so these are looked at first. Those that a restriction covered are mostly falls one
+    /// after another, so the zone behind the last one of the static profile that was found is looked at next.
     fn fill(&mut self, profile: &Profile)
         requires { AreZonesOf profile.now self.old }
         ensures falls { AreAtFalls fall_of (mrsp_of profile.now) first_cell self.new.list }
@@ -194,9 +198,13 @@ impl KeptFalls {
         let mut at = i32::MIN;
         let mut near = 0;
         let mut from = 0;
+        let mut next = 0;
         while let Some(fall) = profile.next_fall_near(at, &mut near) {
             let older = older_place(&self.older, &mut from, fall.cell);
-            let place = self.zone_of(older, fall);
+            let place = self.zone_of(older, next, fall);
+            if place < self.statics {
+                next = place + 1;
+            }
             self.push(fall, place);
             at = fall.cell;
         }

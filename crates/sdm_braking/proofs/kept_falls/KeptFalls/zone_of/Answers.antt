@@ -14,18 +14,18 @@ unreachable-requires c =
     let n = c.self.inside.statics in
     let h = c.self.invariant.6 in
     let fall = c.args.fall in
-    let parts = IsPartitionPoint-from_clause (is_before n zs h fall.cell) (take n zs) c.parted-next.result
-    (rw c.deref-2.ensures.value at c.parted-next.ensures.partitioned) (statics_parted n zs h fall.cell)
+    let parts = IsPartitionPoint-from_clause (is_before n zs h fall.cell) (take n zs) c.parted-first.result
+    (rw c.deref-3.ensures.value at c.parted-first.ensures.partitioned) (statics_parted n zs h fall.cell)
     (λ a r f called. search rules) in
     one_found (is_at fall) (drop n zs)
-    (held_at n zs h fall c.parted-next.result parts
-    (rw c.deref-3.ensures.value at (c.is_zone_at-2.ensures.other c.if-is_zone_at-2.false))
+    (held_at n zs h fall c.parted-first.result parts
+    (rw c.deref-4.ensures.value at (c.is_zone_at-3.ensures.other c.if-is_zone_at-3.false))
     (rw (← c.self.view_is) at c.requires))
-    (sym (rw (c.in_default.is, c.deref-4.ensures.value, take_rest) at c.zone_at.ensures))
+    (sym (rw (c.in_default.is, c.deref-5.ensures.value, take_rest) at c.zone_at.ensures))
 
 pub returns : goal.returns
 returns c =
     let zs = c.self.inside.zones.items in
     let n = c.self.inside.statics in
     rw (← c.self.view_is) (zone_found c.args.fall zs n c.in-Some.held
-    (sym (rw (c.in-Some.is, c.deref-4.ensures.value, take_rest) at c.zone_at.ensures)) c.self.invariant.6.known)
+    (sym (rw (c.in-Some.is, c.deref-5.ensures.value, take_rest) at c.zone_at.ensures)) c.self.invariant.6.known)
