@@ -112,27 +112,34 @@ def showing() -> str:
     return text + "".join(reading(k, place, 0, FASTEST_MM_S, 0, 0) for k, place in enumerate((-10_000_000, 80_000_000)))
 
 
-def hidden(top_kmh: int) -> Steps:
-    """Falls from a speed on of which none hides the one before, but all are hidden by the last, which is far slower."""
+def hidden(top_kmh: int, apart_cm: int) -> Steps:
+    """Falls from a speed on, so far apart that none hides the one before, but all are hidden by the last, which is far
+    slower."""
     count = SPEED_STEPS - 2
-    return [*((IN_WIDE_CM - 7000 * (count - k), top_kmh - k) for k in range(count)), (IN_WIDE_CM, 1)]
+    return [*((IN_WIDE_CM - apart_cm * (count - k), top_kmh - k) for k in range(count)), (IN_WIDE_CM, 1)]
 
 
 def restricting() -> str:
     """A restriction that comes and goes ahead of as many falls as there may be beside it. All are slower, so it covers
     all steps and lowers none. Its curves reach the bands below the last one where the map is dense."""
-    train, falls = Train(100, 100, 94), hidden(TOP_KMH - 2)
+    train, falls = Train(100, 100, 94), hidden(TOP_KMH - 2, 7000)
     start = IN_WIDE_CM + 100 - train.distance_cm((TOP_KMH - 1 + MARGIN_KMH) / 3.6, BANDS - 1)
     text = data(train, falls, TRACK_CM) + dips(falls[-RESTRICTIONS:-1], RESTRICTIONS - 1, 3500, 1000)
     return text + f"restrict,99,{start},{TRACK_CM},{TOP_KMH - 1},0\nrevoke,99\n" * 3
 
 
 def revoking() -> str:
-    """A restriction over the whole track that hides all falls comes and goes, under as many as there may be that lie
-    over nearly all steps and lower none."""
-    wide = "".join(f"restrict,{k},{k + 1},{TRACK_CM - k - 1},{TOP_KMH},0\n" for k in range(RESTRICTIONS - 1))
-    text = data(Train(100, 100, 100), hidden(TOP_KMH - 1), TRACK_CM) + wide
-    return text + f"restrict,99,0,{TRACK_CM},1,0\nrevoke,99\n" * 3
+    """A restriction over the whole track that covers half of the static falls comes and goes. The others lie within one
+    another over all static falls, and begin at falls themselves. So there are as many falls as may be, no two of the
+    others end in one place, and each covers nearly all steps."""
+    apart_cm, others = 4500, RESTRICTIONS - 1
+    falls = hidden(TOP_KMH - RESTRICTIONS, apart_cm)
+    first_cm = falls[0][0] - apart_cm * others
+    nested = "".join(
+        f"restrict,{k},{first_cm + apart_cm * k},{TRACK_CM - 1 - k},{TOP_KMH - 1 - k},0\n" for k in range(others)
+    )
+    text = data(Train(100, 100, 100), falls, TRACK_CM) + nested
+    return text + f"restrict,99,0,{TRACK_CM},{falls[SPEED_STEPS // 2][1]},0\nrevoke,99\n" * 3
 
 
 def inputs() -> Iterator[tuple[str, str]]:
