@@ -13,12 +13,17 @@ use Rattle.std.proofs.lemmas.List.Elements.{All-get_or}
 use Rattle.std.proofs.lemmas.List.Sorted.{IsPartitionPoint-from_clause}
 use Rattle.sdm_braking.specs.declared.falls_ahead.PlacedFall.{PlacedFall}
 use Rattle.sdm_braking.specs.declared.falls_ahead.KeptZone.{KeptZone}
+use Rattle.sdm_rules.specs.declared.targets.Fall.{Fall}
 use Rattle.sdm_rules.specs.declared.targets.Target.{Target}
 use Rattle.sdm_speed.specs.Falls.{AreAtFalls}
 use Rattle.sdm_speed.proofs.FallLists.{falls_parted, not_past}
 use Rattle.sdm_targets.specs.Lists.{target_at}
 use Rattle.sdm_braking.specs.KeptFalls.{ArePartedPast, ArePlacedIn, KeptFallData, at_fall}
-use Rattle.sdm_braking.specs.KeptFalls.{fall_of, kept_at, kept_in, no_zone, placed}
+use Rattle.sdm_braking.specs.KeptFalls.{fall_of, kept_at, kept_in, no_zone}
+
+-- the fall that has a place
+abbrev pub placed : PlacedFall → Fall
+placed e = e.fall
 
 -- ---- lists of places and of what is kept
 

@@ -69,10 +69,6 @@ pub record KeptFallsData : Type 0 where
 
 -- ---- places of zones
 
--- the fall that has a place
-abbrev pub placed : PlacedFall → Fall
-placed e = e.fall
-
 -- what stands for a zone at a place past the last, which no fall has
 abbrev pub no_zone : KeptZone
 no_zone = record {

@@ -1,11 +1,15 @@
 -- Where the speeds before were those that are left under one zone more, only the steps in that zone have to take them.
 use Rattle.std.proofs.Common.{◌≡◌, ℕ, suc, ℤ, List, [], ◌∷◌, length, get_or, map, Bool, true, false, ◌<◌, refl, sym, ap}
-use Rattle.std.proofs.Common.{◌∙◌, arith}
+use Rattle.std.proofs.Common.{if◌then◌else◌, ◌∙◌, arith}
 use Rattle.sdm_rules.specs.Profile.{Zone, capped, covers}
 use Rattle.sdm_speed.specs.declared.steps.Step.{Step}
 use Rattle.sdm_speed.specs.Steps.{AreRising, speeds_of}
-use Rattle.sdm_speed.specs.ZoneEnds.{retaken, within}
+use Rattle.sdm_speed.specs.ZoneEnds.{retaken}
 use Rattle.sdm_speed.proofs.SteadyLaws.{retaken_same}
+
+-- the step, changed where the zone covers its start
+abbrev pub within : Zone → (Step → Step) → Step → Step
+within z change s = if covers s.start z then change s else s
 
 -- ---- one step in a zone
 

@@ -1,8 +1,8 @@
 -- Where the speeds of a profile may change, and what they are under restrictions (own).
-use Rattle.std.specs.Prelude.{◌≡◌, ◌⊎◌, ◌+◌, ◌*◌, ◌<◌, ◌≤◌, ℕ, ℤ, pos, List, [], ◌∷◌, Some, map, if◌then◌else◌}
+use Rattle.std.specs.Prelude.{◌≡◌, ◌⊎◌, ◌+◌, ◌*◌, ◌<◌, ◌≤◌, ℕ, ℤ, pos, List, [], ◌∷◌, Some, map}
 use Rattle.std.specs.Prelude.{slice_index, slice_index_or}
 use Rattle.sdm_rules.specs.declared.restrictions.Restriction.{Restriction}
-use Rattle.sdm_rules.specs.Profile.{Zone, covers, end_for, lowest_limit, zone_of}
+use Rattle.sdm_rules.specs.Profile.{Zone, end_for, lowest_limit, zone_of}
 use Rattle.sdm_rules.specs.Ranges.{most_speeds}
 use Rattle.sdm_rules.specs.Records.{most_restrictions}
 use Rattle.sdm_speed.specs.declared.ends.Cells.{Cells}
@@ -41,10 +41,6 @@ pub record AreAtZoneEnds (length_cm : ℤ) (statics : List Step) (held : List Re
 -- the step with the speed that holds at its start
 abbrev pub retaken : (ℤ → ℕ) → Step → Step
 retaken speed s = record { start = s.start; speed = speed s.start }
-
--- the step, changed where the zone covers its start
-abbrev pub within : Zone → (Step → Step) → Step → Step
-within z change s = if covers s.start z then change s else s
 
 -- the most steps of a profile: two for each entry of the static speed profile and each restriction (own)
 abbrev pub most_steps : ℕ

@@ -4,11 +4,11 @@ use Rattle.std.proofs.Common.{◌≡◌, ◌+◌, ◌<◌, ℤ, pos, [], ◌∷�
 use Rattle.std.proofs.Common.{arith}
 use Rattle.std.proofs.lemmas.List.{take_more, map-append}
 use Rattle.sdm_rules.specs.Profile.{capped, zone_of}
-use Rattle.sdm_speed.specs.ZoneEnds.{retaken, speed_under, within}
+use Rattle.sdm_speed.specs.ZoneEnds.{retaken, speed_under}
 use Rattle.sdm_speed.proofs.CapLaws.{prefix_stays, rest_stays, one_more, not_yet}
 use Rattle.sdm_speed.proofs.HeldLaws.{none}
 use Rattle.sdm_speed.proofs.StepLaws.{none as no_step}
-use Rattle.sdm_speed.proofs.WithinLaws.{off_stays, on_changes, taken_within}
+use Rattle.sdm_speed.proofs.WithinLaws.{off_stays, on_changes, taken_within, within}
 use Rattle.sdm_speed.proofs.ZoneLaws.{lowest_limit-push}
 use Rattle.sdm_speed.proofs.lifts.retake.Goals as goal
 

@@ -2,7 +2,8 @@
 use Rattle.std.proofs.Common.{◌≡◌, ◌++◌, pos, drop, map, take, vec_len, vec_capacity}
 use Rattle.sdm_rules.specs.Profile.{zone_of}
 use Rattle.sdm_speed.specs.Speeds.{speeds_left}
-use Rattle.sdm_speed.specs.ZoneEnds.{AreSpeedsOf, retaken, speed_under, within}
+use Rattle.sdm_speed.specs.ZoneEnds.{AreSpeedsOf, retaken, speed_under}
+use Rattle.sdm_speed.proofs.WithinLaws.{within}
 use Rattle.sdm_speed.proofs.lifts.retake.Given as goal
 
 abbrev pub invariant-loop-r : goal.invariant-loop-r

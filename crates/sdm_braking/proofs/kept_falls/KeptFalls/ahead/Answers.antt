@@ -8,9 +8,9 @@ use Rattle.sdm_rules.specs.Decelerations.{slopes_of}
 use Rattle.sdm_speed.specs.Falls.{AreAtFalls}
 use Rattle.sdm_speed.proofs.FallLists.{rest_at}
 use Rattle.sdm_targets.proofs.FallLists.{falls_up_to}
-use Rattle.sdm_braking.specs.KeptFalls.{IsKeptFall, first_cell, placed}
+use Rattle.sdm_braking.specs.KeptFalls.{IsKeptFall, first_cell}
 use Rattle.sdm_braking.proofs.FootLaws.{part_hidden, part_of_row, part_order}
-use Rattle.sdm_braking.proofs.PlaceLaws.{falls_placed, kept_part, parted_at, targets_at}
+use Rattle.sdm_braking.proofs.PlaceLaws.{falls_placed, kept_part, parted_at, placed, targets_at}
 use Rattle.sdm_braking.proofs.kept_falls.KeptFalls.ahead.Goals as goal
 
 pub returns-clause-falls : goal.returns-clause-falls
