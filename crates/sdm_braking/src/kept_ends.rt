@@ -74,6 +74,7 @@ impl Braking {
 
 impl KeptEnd {
     /// Makes room for an EOA and an SvL: copies of an LOA, where one is kept, stand there until these are made.
+    // Seldom called: out of line, its copies of targets take no stack where a new authority's curves are made.
     #[inline(never)]
     fn turn_to_stop(&mut self)
         ensures { is_stop self.new ≡ true }
@@ -85,6 +86,7 @@ impl KeptEnd {
     }
 
     /// Makes room for an LOA: a copy of an SvL, where one is kept, stands there until it is made.
+    // Seldom called: out of line, its copies of targets take no stack where a new authority's curves are made.
     #[inline(never)]
     fn turn_to_limit(&mut self)
         ensures { is_stop self.new ≡ false }
