@@ -1,22 +1,29 @@
 """Holds the bounds of the calls from C against what c/replay.c takes over inputs: the stack, painted before each call,
 the instructions, as callgrind counts them for each call, and the turns of each loop. It is no part of the gate.
 
-    scripts/try-bounds [LIBRARY]
+    scripts/try-bounds [LIBRARY]           over the inputs of scripts/c_inputs.py and scripts/heavy_inputs.py, and more
+                                           that cost much
+    scripts/try-bounds --made [LIBRARY]    over the journeys of vectors/, and those that scripts/check-model makes,
+                                           besides: an hour of processor time
 
-The inputs are those of scripts/c_inputs.py, those of scripts/heavy_inputs.py, and more that cost much. Instructions of
-the C library's own functions aren't counted, as they aren't in the bounds. It prints what was counted beside the
-bounds, and fails where a call took more than its bound, a loop turned more often than its row says, or the bound of a
-call is more times as much as was counted than is its aim."""
+Instructions of the C library's own functions aren't counted, as they aren't in the bounds. It prints what was counted
+beside the bounds, and fails where a call took more than its bound, a loop turned more often than its row says, or the
+bound of a call is more times as much as was counted than is its aim."""
+
+import os
 
 import re
 import subprocess
 import sys
 from collections import Counter
 from collections.abc import Iterator
+from concurrent.futures import ThreadPoolExecutor
 from dataclasses import dataclass, field
 from pathlib import Path
 from tempfile import TemporaryDirectory
 
+import against_model
+import against_replay
 import c_inputs
 import header
 import heavy_inputs
@@ -28,6 +35,7 @@ from bounding.table import Table
 from bounds import TABLE, library_of
 from inputs import RESTRICTIONS, SPEED_STEPS, TRACK_CM, Numbers, greatest_data, greatest_restrictions, greatest_train
 from piped import end
+from sdm.laboratory.cases import cases_under
 from sdm.laboratory.program import LIBRARY
 from specs import ROOT
 
@@ -48,6 +56,11 @@ class Most:
     instructions: int = 0
     of: str = ""
 
+    def add(self, other: "Most") -> None:
+        self.stack = max(self.stack, other.stack)
+        if other.instructions > self.instructions:
+            self.instructions, self.of = other.instructions, other.of
+
 
 @dataclass
 class Tried:
@@ -62,6 +75,12 @@ class Tried:
             turned = Turned(max(turned.turns, before.turns), max(turned.calls, before.calls), turned.may)
         if turned:
             self.loops[name, number] = turned
+
+    def add(self, other: "Tried") -> None:
+        for call, most in other.calls.items():
+            self.calls[call].add(most)
+        for (name, number), seen in other.loops.items():
+            self.note_turns(name, number, seen)
 
 
 def far_ahead(top_kmh: int, step_kmh: int) -> str:
@@ -111,10 +130,26 @@ def shortened(text: str) -> str:
     return data + line + "".join(kept)
 
 
-def inputs() -> dict[str, str]:
-    """All inputs by their names."""
-    found = {name: shortened(data.decode()) for name, data in c_inputs.inputs().items()}
-    return found | dict(heavier())
+def costly() -> Iterator[tuple[str, bytes]]:
+    """Inputs that cost much, by their names."""
+    for name, data in c_inputs.inputs().items():
+        yield name, shortened(data.decode()).encode()
+    for name, text in heavier():
+        yield name, text.encode()
+
+
+def made() -> Iterator[tuple[str, bytes]]:
+    """The journeys of vectors/ and those that scripts/check-model makes, with records as replay takes them."""
+    subprocess.run([ROOT / "vectors" / "make", "missing"], check=True, stdout=sys.stderr)
+    cases = [
+        *cases_under(ROOT / "vectors"),
+        *against_model.made(0, against_model.GATE_JOURNEYS),
+        *against_model.with_falls(0, against_model.GATE_FALLS),
+    ]
+    for case in cases:
+        head, lines = against_replay.parts(case.data)
+        if case.words in (["run"], ["display"]) and (plain := against_replay.written_plain(lines)) is not None:
+            yield case.name, head + plain
 
 
 def compiled(library: Path, calls: list[str], folder: Path) -> tuple[Path, Path]:
@@ -153,23 +188,42 @@ def note_counts(
             tried.note_turns(function, loop.number, seen)
 
 
-def tried(path: Path, calls: list[str], library: Library, rows: Table) -> Tried:
-    """The most that each call took over all inputs, and each loop turned."""
-    found = Tried({call: Most() for call in calls})
-    with TemporaryDirectory() as scratch:
-        folder = Path(scratch)
-        plain, painted = compiled(path, calls, folder)
-        at = places(plain)
-        for name, text in inputs().items():
-            data = folder / "input"
-            data.write_text(text)
+@dataclass
+class Played:
+    """What plays inputs: the two programs, the addresses of the first one's functions, the library and its table."""
+
+    plain: Path
+    painted: Path
+    at: Places
+    calls: list[str]
+    library: Library
+    rows: Table
+
+    def over(self, name: str, data: bytes) -> Tried:
+        """The most that each call took over an input, and each loop turned."""
+        found = Tried({call: Most() for call in self.calls})
+        with TemporaryDirectory() as scratch:
+            folder = Path(scratch)
+            stored = folder / "input"
+            stored.write_bytes(data)
             for word in ("run", "display", "why"):
-                words = [word, str(data)] if word == "run" else [word]  # the input again is a change of data
-                for call, stack in painted_in(painted, words, data).items():
+                words = [word, str(stored)] if word == "run" else [word]  # the input again is a change of data
+                for call, stack in painted_in(self.painted, words, stored).items():
                     found.calls[call].stack = max(found.calls[call].stack, stack)
                     if call != "sdm_layout" and word == WORDS.get(call, "run"):
-                        for ran in dumps(plain, call, words, data, folder):
-                            note_counts(found, call, name, ran, library, rows, at)
+                        for ran in dumps(self.plain, call, words, stored, folder):
+                            note_counts(found, call, name, ran, self.library, self.rows, self.at)
+        return found
+
+
+def tried(path: Path, calls: list[str], library: Library, rows: Table, inputs: list[tuple[str, bytes]]) -> Tried:
+    """The most that each call took over all inputs, and each loop turned."""
+    found = Tried({call: Most() for call in calls})
+    with TemporaryDirectory() as scratch, ThreadPoolExecutor(os.cpu_count()) as pool:
+        plain, painted = compiled(path, calls, Path(scratch))
+        played = Played(plain, painted, places(plain), calls, library, rows)
+        for (name, _), seen in zip(inputs, pool.map(lambda each: played.over(*each), inputs), strict=True):
+            found.add(seen)
             print(f"{name} was tried", file=sys.stderr, flush=True)
     return found
 
@@ -192,7 +246,9 @@ def aimed(bound: Bounds, most: Most) -> tuple[str, bool]:
 
 
 def main(words: list[str]) -> int:
-    path = Path(words[0]) if words else LIBRARY.path
+    inputs = [*costly(), *(made() if "--made" in words else [])]
+    libraries = [word for word in words if word != "--made"]
+    path = Path(libraries[0]) if libraries else LIBRARY.path
     rows = table.read(TABLE)
     library = library_of(path, rows)
     # the stack of one that frees has that of the heap, which the bound leaves out
@@ -201,7 +257,7 @@ def main(words: list[str]) -> int:
         for each in bounded(library, rows, [call.name for call in header.calls(header.text())])
         if each.call not in rows.freeing
     ]
-    took = tried(path, [each.call for each in found], library, rows)
+    took = tried(path, [each.call for each in found], library, rows, inputs)
     is_more = False
     for each in found:
         line, more = compared(each, took.calls[each.call])
