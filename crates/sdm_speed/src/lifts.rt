@@ -2,8 +2,8 @@
 //! the static profile and of the restrictions that are left; then a step goes that started at an end of the zone
 //! alone.
 
-ghost use Rattle.std.specs.Prelude.{◌≡◌, ◌⊎◌, ◌≤◌, ℕ, ℤ, pos, true, All, length, map, vec_capacity};
-ghost use Rattle.sdm_rules.specs.Profile.{capped, zone_of};
+ghost use Rattle.std.specs.Prelude.{◌≡◌, ◌⊎◌, ◌≤◌, ℕ, ℤ, pos, false, true, All, length, map, vec_capacity};
+ghost use Rattle.sdm_rules.specs.Profile.{capped, covers, zone_of};
 ghost use Rattle.sdm_rules.specs.Ranges.{longest_train};
 ghost use Rattle.sdm_speed.specs.ZoneEnds.{AreAtZoneEnds, AreSpeedsAt, AreSpeedsOf, IsZoneEnd, IsEnd, IsEndOfOne};
 ghost use Rattle.sdm_speed.specs.ZoneEnds.{most_steps, retaken};
@@ -59,6 +59,19 @@ fn take_statics(speeds: &mut StepSpeeds, steps: &Steps, covered: Range, statics:
     }
 }
 
+/// Whether there may be a cell that two restrictions cover both.
+fn meet(one: Restriction, other: Restriction, length_cm: u32) -> bool
+    requires one { IsHeldRestriction one }
+    requires other { IsHeldRestriction other }
+    requires train { length_cm ≤ longest_train }
+    ensures apart { result ≡ false → (c : ℤ) → covers c (zone_of (pos length_cm) one) ≡ true →
+        covers c (zone_of (pos length_cm) other) ≡ false }
+{
+    let cells = cells_of(one, length_cm);
+    let others = cells_of(other, length_cm);
+    others.first < cells.past && cells.first < others.past
+}
+
 /// Lowers the speeds of the covered steps to the limit of a restriction, as far as its zone covers them too.
 fn lower_within(
     speeds: &mut StepSpeeds,
@@ -107,7 +120,9 @@ fn retake(
     let mut speeds = [0; MOST_STEPS];
     take_statics(&mut speeds, steps, covered, statics);
     for r in held {
-        lower_within(&mut speeds, steps, covered, *r, length_cm);
+        if meet(lifted, *r, length_cm) {
+            lower_within(&mut speeds, steps, covered, *r, length_cm);
+        }
     }
     for i in covered.from..covered.to {
         steps.set_speed(i, speeds[i]);

@@ -1,7 +1,7 @@
--- One restriction more lowers the speeds in the zone; one step more that is covered takes its speed, and the steps
--- outside the zone had what is left already.
-use Rattle.std.proofs.Common.{◌≡◌, ◌+◌, ◌<◌, ℤ, pos, [], ◌∷◌, length, get_or, slice_index, take, take_all, refl, sym, ap, ◌∙◌, add-one}
-use Rattle.std.proofs.Common.{arith}
+-- One restriction more lowers the speeds in the zone, where it has a cell there; one step more that is covered takes
+-- its speed, and the steps outside the zone had what is left already.
+use Rattle.std.proofs.Common.{◌≡◌, ◌+◌, ◌<◌, ℤ, pos, [], ◌∷◌, length, get_or, slice_index, take, take_all, refl, sym}
+use Rattle.std.proofs.Common.{ap, ◌∙◌, add-one, arith}
 use Rattle.std.proofs.lemmas.List.{take_more, map-append}
 use Rattle.sdm_rules.specs.Profile.{capped, zone_of}
 use Rattle.sdm_speed.specs.ZoneEnds.{retaken, speed_under}
@@ -9,8 +9,9 @@ use Rattle.sdm_speed.proofs.CapLaws.{prefix_stays, rest_stays, one_more, not_yet
 use Rattle.sdm_speed.proofs.HeldLaws.{none}
 use Rattle.sdm_speed.proofs.StepLaws.{none as no_step}
 use Rattle.sdm_speed.proofs.WithinLaws.{off_stays, on_changes, taken_within, within}
-use Rattle.sdm_speed.proofs.ZoneLaws.{lowest_limit-push}
+use Rattle.sdm_speed.proofs.ZoneLaws.{lowest_limit-push, not_capped}
 use Rattle.sdm_speed.proofs.lifts.retake.Goals as goal
+use Rattle.sdm_speed.proofs.lifts.retake.Goals.{then-meet, else-meet}
 
 pub loop-r-preserved : goal.loop-r-preserved
 loop-r-preserved c =
@@ -22,8 +23,16 @@ loop-r-preserved c =
     let one : (x : ℤ) → left (take (i + 1) held) x ≡ capped x (zone r) (left (take i held) x) =
     λ x. rw (take_more held i none c.loop-r-test.true, map-append zone (take i held) (r ∷ []))
     (lowest_limit-push _ x _ (zone r)) in
-    λ k d from to. c.lower_within.ensures.speeds (left (take i held)) c.loop-r.invariant k d from to
-    ∙ sym (one (get_or c.args.steps.now.list.items k d).start)
+    λ k d from to.
+    let start = (get_or c.args.steps.now.list.items k d).start in
+    let on = rw c.zone_of.ensures at c.covered-covered.ensures.within k d from to in
+    elim c.if-meet.branch [
+      | then-meet w ↦ rw w.speeds-is (w.lower_within.ensures.speeds (left (take i held)) c.loop-r.invariant k d from to
+          ∙ sym (one start))
+      | else-meet w ↦ rw w.speeds-is (c.loop-r.invariant k d from to
+          ∙ sym (not_capped start (zone r) (left (take i held) start) (c.meet.ensures.apart w.if-meet.false start on))
+          ∙ sym (one start))
+    ]
 
 pub loop-i-init : goal.loop-i-init
 loop-i-init c =
