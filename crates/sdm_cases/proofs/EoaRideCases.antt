@@ -1,16 +1,14 @@
 -- There are rides under the service brake: a train runs at 0.2 m/s, and its reading 12 cm before the EOA, at the SBI,
 -- promises the EOA. The next one, 0.1 s later, commands the service brake, as all that follow do. The brake works 0.4 s
 -- after the order, and the train stops at the EOA to the grain. The scale is 1.
-use Rattle.std.proofs.Common.{◌≡◌, ℕ, ℤ, suc, pos, Bool, true, false, List, [], ◌∷◌, ◌+◌, ◌-◌, ◌*◌, ◌≤◌}
-use Rattle.std.proofs.Common.{◌+ℤ◌, ◌*ℤ◌}
+use Rattle.std.proofs.Common.{◌≡◌, ℕ, ℤ, suc, pos, Bool, true, false, List, [], ◌∷◌, ◌+◌, ◌*◌}
+use Rattle.std.proofs.Common.{◌+ℤ◌}
 use Rattle.std.proofs.Common.{refl, subst, sym, ap, ◌∙◌, arith}
-use Rattle.std.specs.Prelude.{Option, Some, None, int_le, nat_le, not, ◌&&◌, ◌||◌, if◌then◌else◌, option_map}
-use Rattle.std.proofs.lemmas.Bool.{and_parts, le-leb, le-ltb, leb-true, true≢false}
+use Rattle.std.specs.Prelude.{Option, Some, None, nat_le, not, ◌&&◌, ◌||◌, if◌then◌else◌, option_map}
+use Rattle.std.proofs.lemmas.Bool.{and_parts, le-ltb, leb-true, true≢false}
 use Rattle.std.proofs.lemmas.Int.{ints}
-use Rattle.std.proofs.lemmas.Nat.{mul-le}
 use Rattle.std.proofs.lemmas.Option.{same_Some}
 use Rattle.sdm_num.specs.Readings.{OdometerReading, estimate_of}
-use Rattle.sdm_num.proofs.Comparisons.{le_of}
 use Rattle.sdm_rules.specs.declared.authorities.Authority.{Authority}
 use Rattle.sdm_rules.specs.declared.authorities.Authority.TheVariants.{Stop}
 use Rattle.sdm_rules.specs.declared.commands.Held.{Held}
@@ -20,48 +18,37 @@ use Rattle.sdm_rules.specs.declared.limits.LimitKind.TheVariants.{Sbi}
 use Rattle.sdm_rules.specs.declared.records.Event.TheVariants as record_kinds
 use Rattle.sdm_rules.specs.declared.rows.Row.{Row}
 use Rattle.sdm_rules.specs.Cells.{place_of_cell}
-use Rattle.sdm_rules.specs.Commands.{commands_after, emergency_after, nothing_held}
-use Rattle.sdm_rules.specs.Curves.{place_at, corner, arc, stepped, arc_back, back, grain_energy}
+use Rattle.sdm_rules.specs.Commands.{commands_after, emergency_after}
+use Rattle.sdm_rules.specs.Curves.{place_at, corner, arc, stepped, arc_back, back}
 use Rattle.sdm_rules.specs.Data.{TrainAndTrack}
 use Rattle.sdm_rules.specs.Decelerations.{slope_at, slopes_of}
 use Rattle.sdm_rules.specs.Limits.{computed, limits_of, release_start}
-use Rattle.sdm_rules.specs.Motion.{BrakesAtLeast}
 use Rattle.sdm_rules.specs.Profile.{mrsp}
 use Rattle.sdm_rules.specs.Reaction.{reaction_times}
 use Rattle.sdm_rules.specs.Records.{step, time_cause, time_fault, unless}
 use Rattle.sdm_rules.specs.Supervision.{Supervision, after_reading, commands_in, opening, row_in, row_of, state_in}
 use Rattle.sdm_rules.specs.Targets.{targets_of}
 use Rattle.sdm_rules.specs.Triggers.{is_passed, triggers_of}
-use Rattle.sdm_ride.specs.declared.happenings.Happening.{Happening}
-use Rattle.sdm_ride.specs.declared.happenings.Happening.TheVariants.{Record, Tick}
+use Rattle.sdm_ride.specs.Happenings.{Happening, Record, Tick}
 use Rattle.sdm_ride.specs.Moments.{Moment, Promise, after, after_record, is_release, ordered, promise_after}
 use Rattle.sdm_ride.specs.RideLaws.{IsRideStart, KeepsPromise}
 use Rattle.sdm_ride.proofs.Promises.{mapped}
 use Rattle.sdm_service_ride.specs.ServiceMoments.{Allowance, by_eoa, commands_brake, has_eoa, no_allowance}
 use Rattle.sdm_service_ride.specs.ServiceMoments.{promises_eoa, steady_after}
-use Rattle.sdm_service_ride.specs.ServiceRides.{HoldsServiceDelays, IsByServiceOrders, IsServiceRide, MayFollow, Moves}
+use Rattle.sdm_service_ride.specs.ServiceRides.{HoldsServiceDelays, IsByServiceOrders, IsServiceRide, MayFollow}
 use Rattle.sdm_service_ride.specs.ServiceRideLaws.{IsByItsEoa, is_clear}
 use Rattle.sdm_cases.proofs.Journeys.{plain_band, plain_national, plain_train_and_track, reading_at}
 use Rattle.sdm_cases.proofs.Openings.{opening_row, situation_in, situation_with}
+use Rattle.sdm_cases.proofs.TickTests.{braking_is, if_so, is_braking, is_old, old_is}
 use Rattle.sdm_cases.proofs.RideLine.{braking_in, delays, line_open_under, ride_line}
 use Rattle.sdm_cases.proofs.StopCases.{plain_slopes}
 
 -- a service brake of 0.5 s, the EOA at 10 m, the SvL at 11 m
 abbrev line : TrainAndTrack
-line = ride_line (pos 5)
+line = ride_line (pos 2) (pos 5)
 
 abbrev authority : Authority
 authority = Stop 1000 1100 0
-
--- the T_bs that was handed in holds a brake that works 0.3 s after the order at the interface
-delays_held : HoldsServiceDelays (delays 3) line
-unfolding ride_line plain_train_and_track plain_national reaction_times
-delays_held = omega arith
-
--- and none that works 0.4 s after it
-delays_not_held : HoldsServiceDelays (delays 4) line → ⊥
-unfolding ride_line plain_train_and_track plain_national reaction_times
-delays_not_held h = omega (arith, h)
 
 -- ---- the first reading
 
@@ -71,6 +58,19 @@ first = reading_at 0 (pos 5_335_200_000_000) 10_800
 
 abbrev before : Supervision
 before = opening line authority
+
+abbrev promised : Promise
+promised = record { under = before; reading = first; age = 0 }
+
+-- the T_bs that was handed in holds a brake that works 0.3 s after the order at the interface
+delays_held : HoldsServiceDelays (delays 3) promised
+unfolding ride_line plain_train_and_track plain_national reaction_times
+delays_held = omega arith
+
+-- and none that works 0.4 s after it
+delays_not_held : HoldsServiceDelays (delays 4) promised → ⊥
+unfolding ride_line plain_train_and_track plain_national reaction_times
+delays_not_held h = omega (arith, h)
 
 -- whether a row promises the EOA
 abbrev promises_by : Row → Bool
@@ -135,7 +135,7 @@ start = record {
 }
 
 start_is_one : IsRideStart start
-start_is_one = record { is_open = line_open_under (pos 5) authority; none = refl }
+start_is_one = record { is_open = line_open_under (pos 2) (pos 5) authority; none = refl }
 
 -- a moment at which the promise of the first reading stands
 abbrev moment : Supervision → ℤ → ℕ → ℕ → Option ℕ → ℕ → Moment
@@ -169,42 +169,16 @@ go a b m m' h hs end e may rest = record {
   stands = subst (λ (n : Moment). option_map (λ c. c.under) (last_of a n hs).promise ≡ Some before) (sym e) rest.stands;
 }
 
--- an order has stood for the latency and the build-up
-abbrev is_old : ℕ → Option ℕ → Bool
-is_old b None = false
-is_old b (Some o) = nat_le (1 * (1 + b)) o
-
-old_is : (b o : ℕ) (order : Option ℕ) → order ≡ Some o → 1 * (1 + b) ≤ o → is_old b order ≡ true
-old_is b o order is long = subst (λ (x : Option ℕ). is_old b x ≡ true) (sym is) (le-leb _ _ long)
-
 -- a move of the train in a ds
 record Move : Type 0 where
   to : ℕ
   length : ℕ
 
--- it brakes at least with 1 m/s²
-abbrev is_braking : ℤ → ℕ → Move → Bool
-is_braking p v x =
-    nat_le x.to v
-    && int_le (pos (27 * 200_000_000_000) *ℤ (p +ℤ pos x.length))
-    (pos (27 * 200_000_000_000) *ℤ p +ℤ pos (grain_energy plain_slopes (v * v - x.to * x.to)))
-
-braking_is : (p : ℤ) (v : ℕ) (x : Move) → is_braking p v x ≡ true →
-    BrakesAtLeast plain_slopes 200_000_000_000 p (v * v) (p +ℤ pos x.length) (x.to * x.to)
-braking_is p v x e =
-    let parts = and_parts (nat_le x.to v) _ e in
-    let le = leb-true x.to v parts.0 in
-    record { forward = omega (arith, ints); slower = mul-le _ _ _ _ le le; enough = le_of _ _ parts.1 }
-
 -- it gains no more than the allowance, is at most its mean speed long, and brakes once the order is old
 abbrev may_move : Allowance → ℕ → Option ℕ → ℤ → ℕ → Move → Bool
 may_move a b order p v x =
     nat_le x.to (v + 54 * a.accel)
-    && (nat_le (2 * x.length) (1_000_000 * (v + x.to)) && (not (is_old b order) || is_braking p v x))
-
-if_old : (old braking : Bool) → (not old || braking) ≡ true → old ≡ true → braking ≡ true
-if_old true braking e is = e
-if_old false braking e is = absurd (true≢false (sym is))
+    && (nat_le (2 * x.length) (1_000_000 * (v + x.to)) && (not (is_old (1 * (1 + b)) order) || is_braking p v x.to x.length))
 
 -- a tick of a move
 goes : (a : Allowance) (b : ℕ) (s : Supervision) (p : ℤ) (v age : ℕ) (order : Option ℕ) (x : Move)
@@ -225,8 +199,8 @@ goes a b s p v age order x hs end may rest =
       moves = leb-true _ _ moves.0;
       brakes = λ o is long. (
         [],
-        braking_in (pos 5) Expected _ _
-            (braking_is p v x (if_old (is_old b order) _ moves.1 (old_is b o order is long))),
+        braking_in (pos 2) (pos 5) Expected _ _
+            (braking_is p v x.to x.length (if_so _ _ moves.1 (old_is _ o order is long))),
       );
     })) rest
 
@@ -375,9 +349,6 @@ late_passes keeps =
     absurd (omega (arith, ints, by, a_late_ride.ends))
 
 -- ---- with an allowance
-
-abbrev promised : Promise
-promised = record { under = before; reading = first; age = 0 }
 
 -- the first reading is clear of the EOA itself
 clear_of_eoa : is_clear no_allowance promised (place_of_cell (pos 1000)) ≡ true

@@ -25,10 +25,10 @@ use Rattle.sdm_cases.proofs.RideLine.{authority, line_open, ride_line}
 
 -- without a service brake's time, and with one of 0.5 s
 abbrev line : TrainAndTrack
-line = ride_line (pos 0)
+line = ride_line (pos 2) (pos 0)
 
 abbrev slow_service : TrainAndTrack
-slow_service = ride_line (pos 5)
+slow_service = ride_line (pos 2) (pos 5)
 
 abbrev state : Supervision
 state = opening line authority
@@ -42,13 +42,13 @@ slow_state = opening slow_service authority
 at_530_stops : StopsBy (slopes_of Safe line) (trip_start line 530 10) (place_of_cell (pos 1000))
 unfolding ride_line plain_train_and_track plain_national plain_band slopes_of slope_at exact exact_at place_at corner arc
     arc_back back
-at_530_stops = (exact_trip state 1000 530 10 (line_open (pos 0))).stops refl
+at_530_stops = (exact_trip state 1000 530 10 (line_open (pos 2) (pos 0))).stops refl
 
 -- a centimetre further on it may not
 at_531_passes : MayPass (slopes_of Safe line) (trip_start line 531 10) (place_of_cell (pos 1000))
 unfolding ride_line plain_train_and_track plain_national plain_band slopes_of slope_at exact exact_at place_at corner arc
     arc_back back
-at_531_passes = (exact_trip state 1000 531 10 (line_open (pos 0))).passes refl
+at_531_passes = (exact_trip state 1000 531 10 (line_open (pos 2) (pos 0))).passes refl
 
 at_531_doesn't_stop : StopsBy (slopes_of Safe line) (trip_start line 531 10) (place_of_cell (pos 1000)) → ⊥
 at_531_doesn't_stop stops =
@@ -58,7 +58,7 @@ at_531_doesn't_stop stops =
 with_one_more_passes : MayPass (slopes_of Safe line) (trip_start line 530 11) (place_of_cell (pos 1000))
 unfolding ride_line plain_train_and_track plain_national plain_band slopes_of slope_at exact exact_at place_at corner arc
     arc_back back
-with_one_more_passes = (exact_trip state 1000 530 11 (line_open (pos 0))).passes refl
+with_one_more_passes = (exact_trip state 1000 530 11 (line_open (pos 2) (pos 0))).passes refl
 
 -- ---- the start of release speed monitoring at 9 km/h
 
@@ -66,13 +66,13 @@ with_one_more_passes = (exact_trip state 1000 530 11 (line_open (pos 0))).passes
 at_start_stops : StopsAtRelease line 1000 1000 9 (pos 3_307_500_000_000)
 unfolding ride_line plain_train_and_track plain_national plain_band release_start reaction_times slopes_of slope_at exact
     exact_at place_at corner arc arc_back back
-at_start_stops = (exact_start state 1000 1000 9 (pos 3_307_500_000_000) (line_open (pos 0))).stops refl
+at_start_stops = (exact_start state 1000 1000 9 (pos 3_307_500_000_000) (line_open (pos 2) (pos 0))).stops refl
 
 -- a grain further on one of them may not
 past_start_passes : MayPassAtRelease line 1000 1000 9 (pos 3_307_500_000_001)
 unfolding ride_line plain_train_and_track plain_national plain_band release_start reaction_times slopes_of slope_at exact
     exact_at place_at corner arc arc_back back
-past_start_passes = (exact_start state 1000 1000 9 (pos 3_307_500_000_001) (line_open (pos 0))).passes refl
+past_start_passes = (exact_start state 1000 1000 9 (pos 3_307_500_000_001) (line_open (pos 2) (pos 0))).passes refl
 
 not_both : (d : TrainAndTrack) (eoa svl release : ℕ) (front : ℤ) → MayPassAtRelease d eoa svl release front →
     StopsAtRelease d eoa svl release front → ⊥
@@ -88,14 +88,14 @@ past_start_doesn't_stop = not_both line 1000 1000 9 (pos 3_307_500_000_001) past
 by_eoa_stops : StopsAtRelease slow_service 900 1100 9 (pos 2_497_500_000_000)
 unfolding ride_line plain_train_and_track plain_national plain_band release_start reaction_times slopes_of slope_at exact
     exact_at place_at corner arc arc_back back
-by_eoa_stops = (exact_start slow_state 900 1100 9 (pos 2_497_500_000_000) (line_open (pos 5))).stops refl
+by_eoa_stops = (exact_start slow_state 900 1100 9 (pos 2_497_500_000_000) (line_open (pos 2) (pos 5))).stops refl
 
 past_eoa_doesn't_stop : StopsAtRelease slow_service 900 1100 9 (pos 2_497_500_000_001) → ⊥
 unfolding ride_line plain_train_and_track plain_national plain_band release_start reaction_times slopes_of slope_at exact
     exact_at place_at corner arc arc_back back
 past_eoa_doesn't_stop =
     not_both slow_service 900 1100 9 (pos 2_497_500_000_001)
-    ((exact_start slow_state 900 1100 9 (pos 2_497_500_000_001) (line_open (pos 5))).passes refl)
+    ((exact_start slow_state 900 1100 9 (pos 2_497_500_000_001) (line_open (pos 2) (pos 5))).passes refl)
 
 -- ---- what the laws of tightness say, from which a weaker text wouldn't give it
 
@@ -116,7 +116,7 @@ one_more_passes : LawOfTightRelease → calculated line 1000 530 ≡ 10 →
     MayPass (slopes_of Safe line) (millimetre_later line 530 11) (place_of_cell (pos 1000))
 one_more_passes tight is =
     subst (λ (kmh : ℕ). MayPass (slopes_of Safe line) (millimetre_later line 530 (suc kmh)) (place_of_cell (pos 1000))) is
-    (tight state 1000 530 (line_open (pos 0)) (omega arith) (rw is (omega arith)))
+    (tight state 1000 530 (line_open (pos 2) (pos 0)) (omega arith) (rw is (omega arith)))
 
 -- in a row in release speed monitoring some motion from a millimetre further on passes the EOA or the SvL, and in another
 -- both brakes stop the train from the max safe front end on

@@ -1,6 +1,6 @@
 -- A ride that never comes to an order of the emergency brake: at 0.2 m/s the train is past the SBI, and its service
 -- brake stops it 6 cm before the SvL. Each reading is covered, and none commands the emergency brake.
-use Rattle.std.proofs.Common.{◌≡◌, ℕ, ℤ, pos, Bool, true, false, List, [], ◌∷◌, ◌+◌, ◌*◌, ◌+ℤ◌, refl, subst, sym, ap}
+use Rattle.std.proofs.Common.{◌≡◌, ℕ, ℤ, pos, Bool, true, false, List, [], ◌∷◌, ◌+◌, ◌*◌, refl, subst, sym, ap}
 use Rattle.std.proofs.Common.{◌∙◌, ◌≤◌, arith}
 use Rattle.std.specs.Prelude.{All, Option, Some, None, if◌then◌else◌}
 use Rattle.std.proofs.lemmas.Int.{ints}
@@ -22,8 +22,7 @@ use Rattle.sdm_rules.specs.Supervision.{Supervision, after_reading, commands_in,
 use Rattle.sdm_rules.specs.Supervision.{state_in}
 use Rattle.sdm_rules.specs.Targets.{targets_of}
 use Rattle.sdm_rules.specs.Triggers.{triggers_of}
-use Rattle.sdm_ride.specs.declared.happenings.Happening.{Happening}
-use Rattle.sdm_ride.specs.declared.happenings.Happening.TheVariants.{Record, Tick}
+use Rattle.sdm_ride.specs.Happenings.{Happening, Record, Tick}
 use Rattle.sdm_ride.specs.Moments.{Moment, Promise, after, after_record, by_rows, is_ordered, moments, promise_after}
 use Rattle.sdm_ride.specs.Rides.{IsByOrders, IsRide, MayHappen}
 use Rattle.sdm_ride.specs.MotionRides.{last_moment}
@@ -35,7 +34,7 @@ use Rattle.sdm_cases.proofs.RideLine.{authority, delays, ride_line}
 
 -- a service brake of 0.5 s
 abbrev line : TrainAndTrack
-line = ride_line (pos 5)
+line = ride_line (pos 2) (pos 5)
 
 -- 10, 8, 6.5 and 6 cm before the SvL
 abbrev first : OdometerReading

@@ -70,7 +70,7 @@ up_to_90_m = record { id = 7; start = 1000; end = 9000; speed = 40; delayed = fa
 abbrev two : finite.FinMap nat_cmp Restriction
 two = finite.insert (finite.insert finite.empty 7 up_to_90_m) 3 up_to_80_m
 
-none_in : finite.entries (finite.empty {X = Restriction} {R = nat_cmp}) ≡ []
+pub none_in : finite.entries (finite.empty {X = Restriction} {R = nat_cmp}) ≡ []
 none_in =
     nil_from_length (finite.entries (finite.empty {X = Restriction} {R = nat_cmp}))
     (sym (finite.len-entries (finite.empty {X = Restriction} {R = nat_cmp})) ∙ finite.len-empty nat_cmp Restriction)

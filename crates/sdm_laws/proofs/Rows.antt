@@ -10,6 +10,7 @@ pub mod StopFacts
 pub mod Stops
 pub mod WithinSvl
 pub mod CalculatedRelease
+pub mod TripPlaces
 pub mod Passing
 pub mod Headline
 pub mod Falls

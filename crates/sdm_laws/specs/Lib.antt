@@ -5,3 +5,4 @@ pub mod MotionLaws
 pub mod SupervisionLaws
 pub mod Falls
 pub mod PrintedLimits
+pub mod TripPlaces

@@ -8,6 +8,7 @@ ghost use Rattle.sdm_laws.specs.SupervisionLaws.{LawOfGaps, LawOfJourneys, LawOf
 ghost use Rattle.sdm_laws.specs.SupervisionLaws.{LawOfOpening};
 ghost use Rattle.sdm_laws.specs.SupervisionLaws.{LawOfPassing, LawOfReleaseSpeed, LawOfReleaseStart, LawOfStop};
 ghost use Rattle.sdm_laws.specs.SupervisionLaws.{LawOfSupervision, LawOfWithin};
+ghost use Rattle.sdm_laws.specs.TripPlaces.{LawOfCalculatedTrips, LawOfTripPlaces};
 
 /// The slopes of accepted data are usable: brake curves on them have their laws.
 #[tactic(auto, using(crate::proofs::Openings::AcceptedSlopes::accepted_usable))]
@@ -98,6 +99,18 @@ pub fn law_of_release_start()
 #[tactic(auto, using(crate::proofs::Rows::CalculatedRelease::release_speed_is))]
 pub fn law_of_release_speed()
     ensures { LawOfReleaseSpeed }
+{}
+
+/// A release speed has a trip place exactly where the place W past the EOA is one.
+#[tactic(auto, using(crate::proofs::Rows::TripPlaces::trip_places))]
+pub fn law_of_trip_places()
+    ensures { LawOfTripPlaces }
+{}
+
+/// A calculated release speed has the trip place that it is calculated for.
+#[tactic(auto, using(crate::proofs::Rows::TripPlaces::calculated_trips))]
+pub fn law_of_calculated_trips()
+    ensures { LawOfCalculatedTrips }
 {}
 
 /// A faster train passes every limit that a slower one would pass where it is, and a standing one none.

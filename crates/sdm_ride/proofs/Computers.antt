@@ -5,15 +5,16 @@ use Rattle.std.proofs.Common.{if◌then◌else◌, subst, ap}
 use Rattle.std.specs.Prelude.{Result, Ok, Err, is_some, option_map}
 use Rattle.sdm_num.specs.Readings.{OdometerReading}
 use Rattle.sdm_rules.specs.declared.faults.EventCause.{EventCause}
+use Rattle.sdm_rules.specs.declared.faults.TakeOverFault.{TakeOverFault}
 use Rattle.sdm_rules.specs.declared.records.Event.{Event}
 use Rattle.sdm_rules.specs.declared.records.Event.TheVariants as record_kinds
 use Rattle.sdm_rules.specs.Records.{step}
 use Rattle.sdm_rules.specs.Supervision.{Supervision}
-use Rattle.sdm_ride.specs.declared.happenings.Happening.{Happening}
-use Rattle.sdm_ride.specs.declared.happenings.Happening.TheVariants.{Record, Unread, Overdue, Tick}
-use Rattle.sdm_ride.specs.Moments.{Judging, Moment, after, after_record, ordered}
+use Rattle.sdm_rules.specs.TakeOver.{change}
+use Rattle.sdm_ride.specs.Happenings.{Happening, Record, Unread, Overdue, Change, Tick}
+use Rattle.sdm_ride.specs.Moments.{Judging, Moment, after, after_change, after_record, ordered}
 use Rattle.sdm_ride.specs.Orders.{Computer, GoesOn, LawOfOrders, OrdersAs, judged_in, reading_if}
-use Rattle.sdm_ride.specs.Orders.{supervision_after, taken_or}
+use Rattle.sdm_ride.specs.Orders.{changed_or, supervision_after, taken_or}
 
 -- ---- the supervisor
 
@@ -27,6 +28,12 @@ leads_to j m (record_kinds.Restrict r) (Ok t) = refl
 leads_to j m (record_kinds.Revoke id) (Ok t) = refl
 leads_to j m e (Err cause) = refl
 
+-- so does a change of data
+leads_over : (m : Moment) (t : Result Supervision TakeOverFault) →
+    (after_change m t).supervision ≡ changed_or m.supervision t
+leads_over m (Ok t) = refl
+leads_over m (Err fault) = refl
+
 -- so does each happening
 pub leads : (j : Judging) (m : Moment) (h : Happening) →
     (after j m h).supervision ≡ supervision_after m.supervision h
@@ -34,6 +41,7 @@ unfolding after
 leads j m (Record e) = leads_to j m e (step m.supervision e)
 leads j m Unread = refl
 leads j m Overdue = refl
+leads j m (Change next) = leads_over m (change next m.supervision)
 leads j m (Tick to length) = refl
 
 -- ---- the order
@@ -68,6 +76,11 @@ record_orders j m (record_kinds.Calculated eoa svl trip) (Ok t) before now asks 
 record_orders j m (record_kinds.Restrict r) (Ok t) before now asks stands both is = stands refl (both is)
 record_orders j m (record_kinds.Revoke id) (Ok t) before now asks stands both is = stands refl (both is)
 
+-- over a change of data the order stays
+same_order : (m : Moment) (t : Result Supervision TakeOverFault) → (after_change m t).order ≡ m.order
+same_order m (Ok t) = refl
+same_order m (Err fault) = refl
+
 -- after a happening, of a computer whose supervisor is that of the ride
 still_ordered : (j : Judging) (m : Moment) (c : Computer) (h : Happening) (d : Computer) →
     c.supervision ≡ m.supervision → GoesOn j c h d → (is_some m.order ≡ true → c.orders_brake ≡ true) →
@@ -82,6 +95,8 @@ still_ordered j m c (Record e) d same g both is =
     both is
 still_ordered j m c Unread d same g both is = g.stands refl (both is)
 still_ordered j m c Overdue d same g both is = g.overdue refl
+still_ordered j m c (Change next) d same g both is =
+    g.stands refl (both (ap (λ o. is_some o) (sym (same_order m (change next m.supervision))) ∙ is))
 still_ordered j m c (Tick to length) d same g both is = g.stands refl (both (was_there m.order is))
 
 -- one happening

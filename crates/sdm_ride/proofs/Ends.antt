@@ -13,6 +13,7 @@ use Rattle.sdm_rules.specs.declared.authorities.Authority.TheVariants.{Stop, Lim
 use Rattle.sdm_rules.specs.declared.commands.State.{State}
 use Rattle.sdm_rules.specs.declared.commands.State.TheVariants.{C, T, R}
 use Rattle.sdm_rules.specs.declared.faults.EventCause.{EventCause}
+use Rattle.sdm_rules.specs.declared.faults.TakeOverFault.{TakeOverFault}
 use Rattle.sdm_rules.specs.declared.motions.Point.{Point}
 use Rattle.sdm_rules.specs.declared.records.Event.{Event}
 use Rattle.sdm_rules.specs.declared.records.Event.TheVariants as record_kinds
@@ -21,11 +22,11 @@ use Rattle.sdm_rules.specs.Data.{TrainAndTrack}
 use Rattle.sdm_rules.specs.Motion.{IsBy}
 use Rattle.sdm_rules.specs.Records.{step}
 use Rattle.sdm_rules.specs.Supervision.{Supervision, after_reading, release_of, row_in, row_of, situation_of, state_in}
+use Rattle.sdm_rules.specs.TakeOver.{change}
 use Rattle.sdm_rules.specs.Within.{is_within_svl}
 use Rattle.sdm_laws.proofs.Rows.Headline.{over_kinds}
-use Rattle.sdm_ride.specs.declared.happenings.Happening.{Happening}
-use Rattle.sdm_ride.specs.declared.happenings.Happening.TheVariants.{Record, Unread, Overdue, Tick}
-use Rattle.sdm_ride.specs.Moments.{Judging, Moment, Promise, after, after_record, after_taken, aged, by_free_rows}
+use Rattle.sdm_ride.specs.Happenings.{Happening, Record, Unread, Overdue, Change, Tick}
+use Rattle.sdm_ride.specs.Moments.{Judging, Moment, Promise, after, after_change, after_record, after_taken, aged, by_free_rows}
 use Rattle.sdm_ride.specs.Moments.{by_rows, by_svl, is_release, moments, promise_after}
 use Rattle.sdm_ride.specs.Rides.{point_of}
 use Rattle.sdm_ride.specs.RideLaws.{AreKeptByOrders, EndsBy, IsAsCovered, IsAsFree, IsByItsSvl, IsNeverPast}
@@ -87,13 +88,13 @@ svl_else place s r e within = or_not (row_of s r).held.eb (is_within_svl s r) wi
 
 -- ---- a promise stands
 
-some_stays : (promises orders : Bool) (new : Promise) (last : Option Promise) → (promises ≡ false → orders ≡ true) →
+pub some_stays : (promises orders : Bool) (new : Promise) (last : Option Promise) → (promises ≡ false → orders ≡ true) →
     is_some last ≡ true → is_some (promise_after promises orders new last) ≡ true
 some_stays true orders new last h e = refl
 some_stays false true new last h e = e
 some_stays false false new last h e = let k : false ≡ true = h refl in absurd cc
 
-some_mapped : (f : Promise → Promise) (o : Option Promise) → is_some o ≡ true → is_some (option_map f o) ≡ true
+pub some_mapped : (f : Promise → Promise) (o : Option Promise) → is_some o ≡ true → is_some (option_map f o) ≡ true
 some_mapped f (Some c) e = refl
 some_mapped f None e = e
 
@@ -158,6 +159,10 @@ module _ (j : Judging) (orders_else : OrdersElse j) (place : ℕ) where
   record_goes m e (Ok t) h k = k
   record_goes m e (Err cause) h k = record { ending = h; stands = λ s. s }
 
+  change_goes : (m : Moment) (t : Result Supervision TakeOverFault) → IsEnding place m → Goes place m (after_change m t)
+  change_goes m (Ok t) h = record { ending = h; stands = λ s. s }
+  change_goes m (Err fault) h = record { ending = h; stands = λ s. s }
+
   -- after whatever happens
   goes : (m : Moment) (h : Happening) → EndsBy place m.supervision.authority → IsEnding place m →
       Goes place m (after j m h)
@@ -165,6 +170,7 @@ module _ (j : Judging) (orders_else : OrdersElse j) (place : ℕ) where
   goes m (Record e) by h = record_goes m e (step m.supervision e) h (taken_goes m e by h)
   goes m Unread by h = record { ending = h; stands = λ s. s }
   goes m Overdue by h = record { ending = h; stands = λ s. s }
+  goes m (Change next) by h = change_goes m (change next m.supervision) h
   goes m (Tick to length) by h = record {
     ending = λ c is.
         let x = mapped aged m.promise c is in
@@ -216,8 +222,8 @@ module _ (j : Judging) (orders_else : OrdersElse j) (place : ℕ) where
 stays_before : (j : Judging) (what : Promised) → OrdersElse j → AreKeptByOrders j what →
     ((s : ℕ) (under : Supervision) (r : OdometerReading) (x : Point) → what s under r x → IsByItsSvl s under r x) →
     StaysBeforeByOrders j
-stays_before j what orders_else kept stops w s place m hs s_pos holds h =
-    let all = kept w s m hs s_pos h.start holds h.ride in
+stays_before j what orders_else kept stops w s place m hs s_pos h =
+    let all = kept w s m hs s_pos h.start h.ride in
     all_since j orders_else place s m hs
     (λ c is. absurd (none-some c (subst (λ (o : Option Promise). o ≡ Some c) h.start.none is))) h.authorities
     (λ k d lt c is. stops s c.under c.reading _ (all k d lt c is))

@@ -6,3 +6,4 @@ pub mod Ends
 pub mod Computers
 pub mod Ridden
 pub mod MotionRides
+pub mod ComputerRides

@@ -23,7 +23,7 @@ use Rattle.sdm_rules.specs.Supervision.{Supervision, after_reading}
 use Rattle.sdm_laws.proofs.Moving.SliceBounds.{distance_of, distance_of-append, last_end, last_speed, last_speed-append}
 use Rattle.sdm_laws.proofs.Moving.SliceBounds.{slices_split}
 use Rattle.sdm_laws.proofs.Rows.Headline.{open_usable}
-use Rattle.sdm_ride.specs.declared.happenings.Happening.TheVariants.{Tick}
+use Rattle.sdm_ride.specs.Happenings.{Tick}
 use Rattle.sdm_ride.specs.Moments.{Judging, Moment, Promise, after}
 use Rattle.sdm_ride.specs.Rides.{BrakesBy, IsBraked, IsByClock, IsTick, start_of}
 use Rattle.sdm_ride.specs.MotionRides.{ComesTo, LawOfMotionRides, is_tick}

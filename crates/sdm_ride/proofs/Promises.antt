@@ -10,6 +10,7 @@ use Rattle.std.proofs.lemmas.List.Elements.{All-nil, All-cons}
 use Rattle.sdm_num.specs.Readings.{OdometerReading}
 use Rattle.sdm_rules.specs.declared.data.SlopeKind.TheVariants.{Safe}
 use Rattle.sdm_rules.specs.declared.faults.EventCause.{EventCause}
+use Rattle.sdm_rules.specs.declared.faults.TakeOverFault.{TakeOverFault}
 use Rattle.sdm_rules.specs.declared.motions.Point.{Point}
 use Rattle.sdm_rules.specs.declared.records.Event.{Event}
 use Rattle.sdm_rules.specs.declared.records.Event.TheVariants as record_kinds
@@ -22,15 +23,15 @@ use Rattle.sdm_rules.specs.Records.{step}
 use Rattle.sdm_rules.specs.Slopes.{Slopes, IsUsable}
 use Rattle.sdm_rules.specs.Stop.{IsMotionOn}
 use Rattle.sdm_rules.specs.Supervision.{Supervision, after_reading, profile_of, row_of}
+use Rattle.sdm_rules.specs.TakeOver.{change, take_over_fault, taken_over, unless_refused}
 use Rattle.sdm_rules.specs.Targets.{fall_at, foot_speed_of}
 use Rattle.sdm_rules.specs.Within.{is_within_svl}
 use Rattle.sdm_laws.specs.Falls.{allowance}
 use Rattle.sdm_laws.proofs.Rows.Falls.{falls}
 use Rattle.sdm_laws.proofs.Rows.Headline.{open_usable, over_kinds, still_open, stop}
 use Rattle.sdm_laws.proofs.Rows.WithinSvl.{commanded, within_stops}
-use Rattle.sdm_ride.specs.declared.happenings.Happening.{Happening}
-use Rattle.sdm_ride.specs.declared.happenings.Happening.TheVariants.{Record, Unread, Overdue, Tick}
-use Rattle.sdm_ride.specs.Moments.{Judging, Moment, Promise, after, after_record, after_taken, aged, by_free_rows}
+use Rattle.sdm_ride.specs.Happenings.{Happening, Record, Unread, Overdue, Change, Tick}
+use Rattle.sdm_ride.specs.Moments.{Judging, Moment, Promise, after, after_change, after_record, after_taken, aged, by_free_rows}
 use Rattle.sdm_ride.specs.Moments.{by_rows, by_svl, moments, promise_after}
 use Rattle.sdm_ride.specs.Rides.{IsByClock, IsRide, IsTrueReading, IsTrueRecord, MayHappen, start_of}
 use Rattle.sdm_ride.specs.RideLaws.{AreKeptByClock, IsAsCovered, IsAsFree, IsByItsSvl, IsRideStart, KeepsPromise}
@@ -52,7 +53,7 @@ later_all Q [] ys h = h
 later_all Q (x ∷ xs) ys h = later_all Q xs ys (λ k d lt. h (suc k) d (omega arith))
 
 -- a covered row
-covered_gives : Gives by_rows IsAsCovered
+pub covered_gives : Gives by_rows IsAsCovered
 covered_gives under r o covered m is =
     let safe = stop under r o covered in
     λ k d lt. record {
@@ -182,6 +183,22 @@ next_promise true orders new last c e = inl (refl, sym (same_Some _ _ e))
 next_promise false true new last c e = inr e
 next_promise false false new last c e = absurd (none-some c e)
 
+-- ---- a change of data
+
+-- what holds of the state that takes over holds after a change that is taken
+pub over_change : (P : Supervision → Type 0) (next before : Supervision) → P (taken_over next before) →
+    IfOk (change next before) P
+unfolding change
+over_change P next before h = unless (take_over_fault next.train_and_track.track.length_cm before.restrictions)
+  where
+    unless : (f : Option TakeOverFault) → IfOk (unless_refused f (taken_over next before)) P
+    unless None = h
+    unless (Some fault) = tt
+
+-- the state over accepted data is open
+pub change_opens : (next before : Supervision) → IsOpen next → IfOk (change next before) IsOpen
+change_opens next before o = over_change IsOpen next before (still_open next _ refl o)
+
 -- ---- the ride
 
 -- what a ride keeps: the data are accepted, and what is left of the promise that stands
@@ -272,6 +289,12 @@ module _ (j : Judging) (what : Promised) (gives : Gives j what) (s : ℕ) (s_pos
   record_keeps m e (Ok t) h k told = k told
   record_keeps m e (Err cause) h k told = h
 
+  -- after a change of data
+  change_keeps : (m : Moment) (t : Result Supervision TakeOverFault) → IsOnRide what s m → IfOk t IsOpen →
+      IsOnRide what s (after_change m t)
+  change_keeps m (Ok t) h o = record { is_open = o; left = h.left }
+  change_keeps m (Err fault) h o = h
+
   -- after whatever happens
   keeps : (m : Moment) (h : Happening) → IsOnRide what s m → MayHappen j (IsByClock s) s m h →
       IsOnRide what s (after j m h)
@@ -279,6 +302,7 @@ module _ (j : Judging) (what : Promised) (gives : Gives j what) (s : ℕ) (s_pos
   keeps m (Record e) h may = record_keeps m e (step m.supervision e) h (taken_keeps m e h) may
   keeps m Unread h may = h
   keeps m Overdue h may = record { is_open = h.is_open; left = h.left }
+  keeps m (Change next) h may = change_keeps m (change next m.supervision) h (change_opens next m.supervision may)
   keeps m (Tick to length) h may = record {
     is_open = h.is_open;
     left = λ c e.

@@ -8,11 +8,10 @@ use Rattle.sdm_rules.specs.declared.faults.EventFault.{EventFault}
 use Rattle.sdm_rules.specs.declared.records.Event.{Event}
 use Rattle.sdm_rules.specs.Records.{Journey, Turn, go_on, journey_from, row_at, rows_of, step, turn_of, turn_to}
 use Rattle.sdm_rules.specs.Supervision.{Supervision}
-use Rattle.sdm_ride.specs.declared.happenings.Happening.{Happening}
-use Rattle.sdm_ride.specs.declared.happenings.Happening.TheVariants.{Record, Unread, Overdue, Tick}
+use Rattle.sdm_ride.specs.Happenings.{Happening, Record, Unread, Overdue, Change, Tick}
 use Rattle.sdm_ride.specs.Moments.{Judging, Moment, after}
 use Rattle.sdm_ride.specs.Orders.{taken_or}
-use Rattle.sdm_ride.specs.RideLaws.{LawOfRiddenRows, records_of, rows_on}
+use Rattle.sdm_ride.specs.RideLaws.{HasNoChange, LawOfRiddenRows, records_of, rows_on}
 use Rattle.sdm_ride.proofs.Computers.{leads}
 
 -- each turn begins in the state that the one before it left
@@ -53,28 +52,29 @@ taken_to : (j : Judging) (m : Moment) (e : Event) (s : Supervision) → step m.s
 taken_to j m e s is = leads j m (Record e) ∙ ap (taken_or m.supervision) is
 
 -- turns in which the ride's records come in order have its rows
-rows_same : (j : Judging) (m : Moment) (ts : List Turn) (hs : List Happening) → AreTurnsFrom m.supervision ts →
-    map (λ t. t.event) ts ≡ records_of hs →
+rows_same : (j : Judging) (m : Moment) (ts : List Turn) (hs : List Happening) → HasNoChange hs →
+    AreTurnsFrom m.supervision ts → map (λ t. t.event) ts ≡ records_of hs →
     rows_of ts ≡ rows_on j m hs
 unfolding after
-rows_same j m [] [] h e = refl
-rows_same j m (t ∷ ts) [] h e = absurd cc
-rows_same j m [] (Record x ∷ hs) h e = absurd cc
-rows_same j m (t ∷ ts) (Record x ∷ hs) h e =
+rows_same j m [] [] none h e = refl
+rows_same j m (t ∷ ts) [] none h e = absurd cc
+rows_same j m [] (Record x ∷ hs) none h e = absurd cc
+rows_same j m (t ∷ ts) (Record x ∷ hs) none h e =
     let first = same_head t.event x (map (λ t. t.event) ts) (records_of hs) e in
     let rest = same_tail t.event x (map (λ t. t.event) ts) (records_of hs) e in
     let before = h.0 in
     let goes : step m.supervision x ≡ Ok t.after = subst (λ (y : Event). step m.supervision y ≡ Ok t.after) first
     h.1 in
     let state = taken_to j m x t.after goes in
-    let later = rows_same j (after j m (Record x)) ts hs
+    let later = rows_same j (after j m (Record x)) ts hs none
     (subst (λ (s : Supervision). AreTurnsFrom s ts) (sym state) h.2) rest in
     rw (before, first) (ap (λ rows. cons_option (row_at m.supervision x) rows) later)
-rows_same j m ts (Unread ∷ hs) h e = rows_same j m ts hs h e
-rows_same j m ts (Overdue ∷ hs) h e = rows_same j (after j m Overdue) ts hs h e
-rows_same j m ts (Tick to length ∷ hs) h e = rows_same j (after j m (Tick to length)) ts hs h e
+rows_same j m ts (Unread ∷ hs) none h e = rows_same j m ts hs none h e
+rows_same j m ts (Overdue ∷ hs) none h e = rows_same j (after j m Overdue) ts hs none h e
+rows_same j m ts (Change next ∷ hs) none h e = absurd none
+rows_same j m ts (Tick to length ∷ hs) none h e = rows_same j (after j m (Tick to length)) ts hs none h e
 
 -- the law of ridden rows
 pub ridden_rows : {A : Type 0} → LawOfRiddenRows A
-ridden_rows form n j m xs hs e =
-    rows_same j m (journey_from form n m.supervision xs).turns hs (turns_from form n m.supervision xs) e
+ridden_rows form n j m xs hs none e =
+    rows_same j m (journey_from form n m.supervision xs).turns hs none (turns_from form n m.supervision xs) e

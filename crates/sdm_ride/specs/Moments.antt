@@ -6,14 +6,15 @@ use Rattle.sdm_num.specs.Readings.{OdometerReading}
 use Rattle.sdm_rules.specs.declared.commands.State.{State}
 use Rattle.sdm_rules.specs.declared.commands.State.TheVariants.{C, T, R}
 use Rattle.sdm_rules.specs.declared.faults.EventCause.{EventCause}
+use Rattle.sdm_rules.specs.declared.faults.TakeOverFault.{TakeOverFault}
 use Rattle.sdm_rules.specs.declared.records.Event.{Event}
 use Rattle.sdm_rules.specs.declared.records.Event.TheVariants as record_kinds
 use Rattle.sdm_rules.specs.declared.rows.Row.{Row}
 use Rattle.sdm_rules.specs.Records.{step}
 use Rattle.sdm_rules.specs.Supervision.{Supervision, row_of}
+use Rattle.sdm_rules.specs.TakeOver.{change}
 use Rattle.sdm_rules.specs.Within.{is_within_svl}
-use Rattle.sdm_ride.specs.declared.happenings.Happening.{Happening}
-use Rattle.sdm_ride.specs.declared.happenings.Happening.TheVariants.{Record, Unread, Overdue, Tick}
+use Rattle.sdm_ride.specs.Happenings.{Happening, Record, Unread, Overdue, Change, Tick}
 
 -- ---- what a reading does
 
@@ -51,8 +52,8 @@ by_svl = record { promises = is_within_svl; orders = λ s r. (row_of s r).held.e
 
 -- ---- a moment
 
--- the promise that stands: the reading that gave it, what the supervisor held at that reading, and how many ticks ago
--- it was (own)
+-- the promise that stands: the reading that gave it, what the supervisor held at that reading with its data, and how many
+-- ticks ago it was (own)
 pub record Promise : Type 0 where
   pub under : Supervision
   pub reading : OdometerReading
@@ -105,6 +106,12 @@ abbrev pub after_record : Judging → Moment → Event → Result Supervision Ev
 after_record j m e (Ok s) = after_taken j m e s
 after_record j m e (Err cause) = m
 
+-- after a change of data: the promise that stands stays under the data of its reading; a change that is refused changes
+-- nothing (own)
+abbrev pub after_change : Moment → Result Supervision TakeOverFault → Moment
+after_change m (Ok s) = record m { supervision = s }
+after_change m (Err fault) = m
+
 -- a promise a tick later (own)
 abbrev pub aged : Promise → Promise
 aged c = record c { age = suc c.age }
@@ -124,6 +131,7 @@ unfoldable pub after : Judging → Moment → Happening → Moment
 after j m (Record e) = after_record j m e (step m.supervision e)
 after j m Unread = m
 after j m Overdue = record m { silence = 0; order = ordered m.order }
+after j m (Change next) = after_change m (change next m.supervision)
 after j m (Tick to length) = after_tick m to length
 
 -- the moments that follow (own)

@@ -9,8 +9,7 @@ use Rattle.sdm_rules.specs.Opening.{IsOpen}
 use Rattle.sdm_rules.specs.Reaction.{reaction_start}
 use Rattle.sdm_rules.specs.Stop.{IsMotionOn}
 use Rattle.sdm_rules.specs.Supervision.{Supervision, after_reading}
-use Rattle.sdm_ride.specs.declared.happenings.Happening.{Happening}
-use Rattle.sdm_ride.specs.declared.happenings.Happening.TheVariants.{Record, Unread, Overdue, Tick}
+use Rattle.sdm_ride.specs.Happenings.{Happening, Record, Unread, Overdue, Change, Tick}
 use Rattle.sdm_ride.specs.Moments.{Judging, Moment, after}
 use Rattle.sdm_ride.specs.Rides.{IsByClock, IsRide, point_of}
 
@@ -30,6 +29,7 @@ abbrev pub is_tick : Happening → Bool
 is_tick (Record e) = false
 is_tick Unread = false
 is_tick Overdue = false
+is_tick (Change next) = false
 is_tick (Tick to length) = true
 
 -- the moment after all that happens (own)

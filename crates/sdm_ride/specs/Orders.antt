@@ -2,12 +2,13 @@
 use Rattle.std.specs.Prelude.{◌≡◌, Bool, true, List, [], ◌∷◌, Option, Some, None, Result, Ok, Err, is_some, ⊤}
 use Rattle.sdm_num.specs.Readings.{OdometerReading}
 use Rattle.sdm_rules.specs.declared.faults.EventCause.{EventCause}
+use Rattle.sdm_rules.specs.declared.faults.TakeOverFault.{TakeOverFault}
 use Rattle.sdm_rules.specs.declared.records.Event.{Event}
 use Rattle.sdm_rules.specs.declared.records.Event.TheVariants as record_kinds
 use Rattle.sdm_rules.specs.Records.{step}
 use Rattle.sdm_rules.specs.Supervision.{Supervision}
-use Rattle.sdm_ride.specs.declared.happenings.Happening.{Happening}
-use Rattle.sdm_ride.specs.declared.happenings.Happening.TheVariants.{Record, Unread, Overdue, Tick}
+use Rattle.sdm_rules.specs.TakeOver.{change}
+use Rattle.sdm_ride.specs.Happenings.{Happening, Record, Unread, Overdue, Change, Tick}
 use Rattle.sdm_ride.specs.Moments.{Judging, Moment, after}
 
 -- what the supervisor of a computer holds, and whether the computer orders the brake of the ride, the emergency brake or
@@ -21,11 +22,17 @@ abbrev pub taken_or : Supervision → Result Supervision EventCause → Supervis
 taken_or s (Ok t) = t
 taken_or s (Err cause) = s
 
+-- the supervision state after a change of data: one that is refused changes nothing (own)
+abbrev pub changed_or : Supervision → Result Supervision TakeOverFault → Supervision
+changed_or s (Ok t) = t
+changed_or s (Err fault) = s
+
 -- the supervision state after a happening (own)
 abbrev pub supervision_after : Supervision → Happening → Supervision
 supervision_after s (Record e) = taken_or s (step s e)
 supervision_after s Unread = s
 supervision_after s Overdue = s
+supervision_after s (Change next) = changed_or s (change next s)
 supervision_after s (Tick to length) = s
 
 -- the reading of a record that is one and is taken (own)
@@ -42,6 +49,7 @@ abbrev pub judged_in : Supervision → Happening → Option OdometerReading
 judged_in s (Record e) = reading_if e (step s e)
 judged_in s Unread = None
 judged_in s Overdue = None
+judged_in s (Change next) = None
 judged_in s (Tick to length) = None
 
 -- a computer goes on as a ride does: its supervisor takes what happens; it orders the brake after a reading that orders

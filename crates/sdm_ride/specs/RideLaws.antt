@@ -1,6 +1,6 @@
 -- The laws of rides, as statements over their definitions alone (own).
 use Rattle.std.specs.Prelude.{◌≡◌, ℕ, ℤ, pos, All, Contains, List, [], ◌∷◌, Some, None, ◌+◌, ◌<◌, ◌≤◌}
-use Rattle.std.specs.Prelude.{Result, is_some, map, if◌then◌else◌}
+use Rattle.std.specs.Prelude.{Result, is_some, map, ⊤, if◌then◌else◌}
 use Rattle.std.specs.List.{cons_option}
 use Rattle.sdm_num.specs.Readings.{OdometerReading}
 use Rattle.sdm_rules.specs.declared.authorities.Authority.{Authority}
@@ -18,10 +18,9 @@ use Rattle.sdm_rules.specs.Stop.{IsSpeedTarget}
 use Rattle.sdm_rules.specs.Supervision.{Supervision, profile_of, row_of, situation_of}
 use Rattle.sdm_rules.specs.Targets.{fall_at, foot_speed_of}
 use Rattle.sdm_laws.specs.Falls.{IsFallAhead, allowance}
-use Rattle.sdm_ride.specs.declared.happenings.Happening.{Happening}
-use Rattle.sdm_ride.specs.declared.happenings.Happening.TheVariants.{Record, Unread, Overdue, Tick}
+use Rattle.sdm_ride.specs.Happenings.{Happening, Record, Unread, Overdue, Change, Tick}
 use Rattle.sdm_ride.specs.Moments.{Judging, Moment, Promise, after, by_free_rows, by_rows, by_svl, moments}
-use Rattle.sdm_ride.specs.Rides.{Delays, HoldsDelays, IsByClock, IsByOrders, IsRide, TickRule, point_of}
+use Rattle.sdm_ride.specs.Rides.{Delays, IsByClock, IsByTimelyOrders, IsRide, TickRule, point_of}
 
 -- ---- what a promise says of where the train is
 
@@ -60,13 +59,12 @@ pub record IsRideStart (m : Moment) : Type 0 where
   pub is_open : IsOpen m.supervision
   pub none : m.promise ≡ None
 
--- on every ride by the orders, at every scale, where the times that were handed in hold the delays, the promise that
--- stands is true of the train at every moment (own)
+-- on every ride by orders that work in time, at every scale, the promise that stands is true of the train at every
+-- moment (own)
 abbrev pub AreKeptByOrders : Judging → Promised → Type 0
 AreKeptByOrders j what =
     (w : Delays) (s : ℕ) (m : Moment) (hs : List Happening) → 0 < s → IsRideStart m →
-    HoldsDelays w m.supervision.train_and_track → IsRide j (IsByOrders w s) s m hs →
-    All (KeepsPromise what s) (moments j m hs)
+    IsRide j (IsByTimelyOrders w s) s m hs → All (KeepsPromise what s) (moments j m hs)
 
 -- the same of every ride by the clock, whatever is ordered (own)
 abbrev pub AreKeptByClock : Judging → Promised → Type 0
@@ -87,6 +85,13 @@ pub record LawOfTimedRides : Type 0 where
   pub rows : AreKeptByClock by_rows IsAsCovered
   pub free_rows : AreKeptByClock by_free_rows IsAsFree
   pub svl : AreKeptByClock by_svl IsByItsSvl
+
+-- THE CLOCK IS OWED BY THE ORDERS: however readings are judged, each ride by orders that work in time is one by the clock,
+-- from every moment at which no promise stands
+abbrev pub LawOfClocks : Type 0
+LawOfClocks =
+    (j : Judging) (w : Delays) (s : ℕ) (m : Moment) (hs : List Happening) → m.promise ≡ None →
+    IsRide j (IsByTimelyOrders w s) s m hs → IsRide j (IsByClock s) s m hs
 
 -- where the train moves, under a stop without a release speed, a ride by the SvL orders the emergency brake exactly
 -- where the supervisor commands it
@@ -121,8 +126,7 @@ pub record IsRideBefore (j : Judging) (rule : TickRule) (s place : ℕ) (m : Mom
 abbrev pub StaysBeforeByOrders : Judging → Type 0
 StaysBeforeByOrders j =
     (w : Delays) (s place : ℕ) (m : Moment) (hs : List Happening) → 0 < s →
-    HoldsDelays w m.supervision.train_and_track → IsRideBefore j (IsByOrders w s) s place m hs →
-    IsNeverPast s place (moments j m hs)
+    IsRideBefore j (IsByTimelyOrders w s) s place m hs → IsNeverPast s place (moments j m hs)
 
 -- NEVER PAST: where every authority in force is a stop without a release speed by a place, the true front end never
 -- passes it from the first promise on, however readings are judged
@@ -139,6 +143,7 @@ records_of [] = []
 records_of (Record e ∷ hs) = e ∷ records_of hs
 records_of (Unread ∷ hs) = records_of hs
 records_of (Overdue ∷ hs) = records_of hs
+records_of (Change next ∷ hs) = records_of hs
 records_of (Tick to length ∷ hs) = records_of hs
 
 -- the rows of a ride: those of its readings (own)
@@ -147,12 +152,22 @@ rows_on j m [] = []
 rows_on j m (Record e ∷ hs) = cons_option (row_at m.supervision e) (rows_on j (after j m (Record e)) hs)
 rows_on j m (Unread ∷ hs) = rows_on j m hs
 rows_on j m (Overdue ∷ hs) = rows_on j (after j m Overdue) hs
+rows_on j m (Change next ∷ hs) = rows_on j (after j m (Change next)) hs
 rows_on j m (Tick to length ∷ hs) = rows_on j (after j m (Tick to length)) hs
 
--- the rows of a ride are those of the journey of its records, by whatever form they are read
+-- no data are changed to (own)
+abbrev pub HasNoChange : List Happening → Type 0
+HasNoChange [] = ⊤
+HasNoChange (Record e ∷ hs) = HasNoChange hs
+HasNoChange (Unread ∷ hs) = HasNoChange hs
+HasNoChange (Overdue ∷ hs) = HasNoChange hs
+HasNoChange (Change next ∷ hs) = ⊥
+HasNoChange (Tick to length ∷ hs) = HasNoChange hs
+
+-- the rows of a ride over one set of data are those of the journey of its records, by whatever form they are read
 abbrev pub LawOfRiddenRows : Type 0 → Type 0
 LawOfRiddenRows A =
     (form : ℕ → A → Result Event EventFault) (n : ℕ) (j : Judging) (m : Moment) (records : List A)
-    (hs : List Happening) →
+    (hs : List Happening) → HasNoChange hs →
     map (λ t. t.event) (journey_from form n m.supervision records).turns ≡ records_of hs →
     rows_of (journey_from form n m.supervision records).turns ≡ rows_on j m hs

@@ -6,18 +6,19 @@ use Rattle.sdm_rules.specs.declared.motions.Point.{Point}
 use Rattle.sdm_rules.specs.declared.motions.Start.{Start}
 use Rattle.sdm_rules.specs.declared.records.Event.{Event}
 use Rattle.sdm_rules.specs.declared.records.Event.TheVariants as record_kinds
-use Rattle.sdm_rules.specs.Data.{TrainAndTrack}
 use Rattle.sdm_rules.specs.Decelerations.{slopes_of}
 use Rattle.sdm_rules.specs.Motion.{IsStep}
-use Rattle.sdm_rules.specs.Reaction.{reaction_start, reaction_times, v_est_delta0}
+use Rattle.sdm_rules.specs.Opening.{IsOpen}
+use Rattle.sdm_rules.specs.Reaction.{reaction_start, v_est_delta0}
 use Rattle.sdm_rules.specs.Slopes.{Slopes}
-use Rattle.sdm_ride.specs.declared.happenings.Happening.{Happening}
-use Rattle.sdm_ride.specs.declared.happenings.Happening.TheVariants.{Record, Unread, Overdue, Tick}
+use Rattle.sdm_ride.specs.Happenings.{Happening, Record, Unread, Overdue, Change, Tick}
 use Rattle.sdm_ride.specs.Moments.{Judging, Moment, Promise, after, after_tick}
 
 -- ---- readings
 
--- the reading is true: the true front end is at most the max safe one, the true speed at most V_est + V_delta0 (own)
+-- the reading is true of a moment, the one for which it holds: there the true front end is at most the max safe one, and
+-- the true speed at most V_est + V_delta0. A ride has a reading at that moment, however late it is judged; what the
+-- supervisor takes ahead of it comes before it in the ride (own)
 pub record IsTrueReading (s : ℕ) (m : Moment) (r : OdometerReading) : Type 0 where
   pub front : m.place ≤ℤ (pos (s * s) *ℤ r.max)
   pub speed : m.speed ≤ s * v_est_delta0 m.supervision.train_and_track (estimate_of r)
@@ -62,14 +63,9 @@ start_of c = reaction_start c.under.train_and_track c.reading
 -- times of the computer and the train, in ds (own)
 pub record Delays : Type 0 where
   pub period : ℕ  -- p: at most from a reading that is judged or found missing to the next one
-  pub latency : ℕ  -- c: at most from a reading until what it orders stands at the interface
+  pub latency : ℕ  -- c: at most from the moment for which a reading holds until what it orders stands at the interface
   pub cut_off : ℕ  -- K: at most from there until the traction is off
   pub build_up : ℕ  -- E: at most from there until the brake gives the whole deceleration
-
--- the times that were handed in hold the delays (own)
-pub record HoldsDelays (w : Delays) (d : TrainAndTrack) : Type 0 where
-  pub traction : w.period + w.latency + w.cut_off ≤ (reaction_times d).traction
-  pub emergency : w.period + w.latency + w.build_up ≤ (reaction_times d).traction + (reaction_times d).berem
 
 -- THE ORDERS. In each tick in which a promise stands: no reading is overdue; the acceleration is at most A_est1; it is
 -- at most A_est2 once an order has cut the traction off; and once the ordered brake works, the train brakes at least
@@ -80,6 +76,18 @@ pub record IsByOrders (w : Delays) (s : ℕ) (c : Promise) (m : Moment) (to leng
   pub cut_off : (o : ℕ) → m.order ≡ Some o → s * (w.latency + w.cut_off) ≤ o →
       IsTick (start_of c).accel2 m.speed to length
   pub brakes : (o : ℕ) → m.order ≡ Some o → s * (w.latency + w.build_up) ≤ o → IsBraked s c m to length
+
+-- the times that were handed in hold the delays for a promise: the ordered brake works by T_traction + T_berem after its
+-- reading; and where A_est2 is lower than A_est1, the traction is cut off by T_traction (own)
+pub record HoldsDelays (w : Delays) (c : Promise) : Type 0 where
+  pub traction : (start_of c).accel2 < (start_of c).accel1 →
+      w.period + w.latency + w.cut_off ≤ (start_of c).traction
+  pub emergency : w.period + w.latency + w.build_up ≤ (start_of c).traction + (start_of c).berem
+
+-- by orders that work in time: the times that were handed in hold the delays for the promise that stands (own)
+pub record IsByTimelyOrders (w : Delays) (s : ℕ) (c : Promise) (m : Moment) (to length : ℕ) : Type 0 where
+  pub times : HoldsDelays w c
+  pub orders : IsByOrders w s c m to length
 
 -- ---- by the clock
 
@@ -98,11 +106,13 @@ pub record IsByClock (s : ℕ) (c : Promise) (m : Moment) (to length : ℕ) : Ty
 abbrev pub TickRule : Type 1
 TickRule = Promise → Moment → ℕ → ℕ → Type 0
 
--- what may happen: a reading that gives a promise is true, and each tick in which one stands keeps the rule (own)
+-- what may happen: a reading that gives a promise is true; data that are changed to are accepted; and each tick in which a
+-- promise stands keeps the rule (own)
 abbrev pub MayHappen : Judging → TickRule → ℕ → Moment → Happening → Type 0
 MayHappen j rule s m (Record e) = IsTrueRecord j s m e
 MayHappen j rule s m Unread = ⊤
 MayHappen j rule s m Overdue = ⊤
+MayHappen j rule s m (Change next) = IsOpen next
 MayHappen j rule s m (Tick to length) = (c : Promise) → m.promise ≡ Some c → rule c m to length
 
 -- a ride: one thing after another that may happen (own)

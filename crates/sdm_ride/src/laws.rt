@@ -1,8 +1,9 @@
 //! The laws of rides: proofs about definitions alone. Each function makes no call and only states its law.
 
+ghost use Rattle.sdm_ride.specs.ComputerRides.{LawOfComputerPlaces, LawOfComputerRides};
 ghost use Rattle.sdm_ride.specs.MotionRides.{LawOfMotionRides};
 ghost use Rattle.sdm_ride.specs.Orders.{LawOfOrders};
-ghost use Rattle.sdm_ride.specs.RideLaws.{LawOfPlaces, LawOfRiddenRows, LawOfRides, LawOfSvlOrders};
+ghost use Rattle.sdm_ride.specs.RideLaws.{LawOfClocks, LawOfPlaces, LawOfRiddenRows, LawOfRides, LawOfSvlOrders};
 ghost use Rattle.sdm_ride.specs.RideLaws.{LawOfTimedRides};
 
 /// THE RIDE: however the train is driven, where the emergency brake is ordered after each reading that gives no promise
@@ -17,6 +18,13 @@ pub fn law_of_rides()
 #[tactic(auto, using(crate::proofs::Promises::timed_rides))]
 pub fn law_of_timed_rides()
     ensures { LawOfTimedRides }
+{}
+
+/// Each ride by orders that work in time is one by the clock, so what the train must do by the clock is done where it does
+/// in time what is ordered.
+#[tactic(auto, using(crate::proofs::Orders::clocks))]
+pub fn law_of_clocks()
+    ensures { LawOfClocks }
 {}
 
 /// What the emergency brake is ordered for on a ride by the SvL, of a train that moves: the supervisor's command alone.
@@ -48,4 +56,18 @@ pub fn law_of_ridden_rows<Record>()
 #[tactic(auto, using(crate::proofs::Computers::orders))]
 pub fn law_of_orders()
     ensures { LawOfOrders }
+{}
+
+/// THE RIDE BESIDE A COMPUTER: where the train does what the order at the interface of such a computer asks, the promise
+/// that stands is true of it at every moment.
+#[tactic(auto, using(crate::proofs::ComputerRides::computer_rides))]
+pub fn law_of_computer_rides()
+    ensures { LawOfComputerRides }
+{}
+
+/// NEVER PAST, beside such a computer: where each of its authorities is a stop without a release speed that ends by a
+/// place, the train never passes that place from the first promise on.
+#[tactic(auto, using(crate::proofs::ComputerRides::computer_places))]
+pub fn law_of_computer_places()
+    ensures { LawOfComputerPlaces }
 {}

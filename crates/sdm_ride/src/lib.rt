@@ -2,7 +2,4 @@
 //! The laws say what is promised at every moment, and no code computes a ride.
 #![tactic(auto)]
 
-mod happenings;
 pub mod laws;
-
-pub use happenings::Happening;

@@ -14,7 +14,7 @@ use Rattle.sdm_rules.specs.Cells.{place_of_cell}
 use Rattle.sdm_rules.specs.Commands.{commands_after, emergency_after}
 use Rattle.sdm_rules.specs.Decelerations.{slopes_of}
 use Rattle.sdm_rules.specs.Limits.{computed, limits_of}
-use Rattle.sdm_rules.specs.Reaction.{reaction_times}
+use Rattle.sdm_rules.specs.Reaction.{build_up_of, d_bec, reaction_times, v_bec}
 use Rattle.sdm_rules.specs.declared.limits.LimitKind.TheVariants.{Sbi}
 use Rattle.sdm_rules.specs.Supervision.{situation_of, profile_of, row_in, state_in, commands_in}
 use Rattle.sdm_rules.specs.Targets.{targets_of, falls_ahead, ends_of}
@@ -23,6 +23,7 @@ use Rattle.sdm_laws.proofs.Rows.CalculatedRelease.{way_of_trip}
 use Rattle.sdm_laws.proofs.Rows.Gaps.{any_false}
 use Rattle.sdm_laws.proofs.Rows.Headline.{open_usable}
 use Rattle.sdm_laws.proofs.Rows.Stops.{stops_before}
+use Rattle.sdm_row_laws.specs.Clearances.{LawOfClearStops, start_with}
 use Rattle.sdm_row_laws.specs.ServiceStop.{LawOfServiceStop, LawOfServiceRows, eoa_target, service_start}
 
 -- the law of the service stop
@@ -33,6 +34,15 @@ service_stop s r eoa o before =
     let time = (reaction_times d).bs in
     stops_before (slopes_of Expected d) (open_usable s o Expected) (service_start d r) (place_of_cell (pos eoa)) r.speed
     (distance_at r.speed time) (omega arith) (way_of_trip r.speed time) (not-true _ before)
+
+-- the law of clear places
+pub clear_stops : LawOfClearStops
+clear_stops a s r place o clear =
+    let d = s.train_and_track in
+    let start = start_with a d r in
+    let b = build_up_of start in
+    stops_before (slopes_of Expected d) (open_usable s o Expected) start place (v_bec b 0) (d_bec b 0) refl refl
+    (not-true _ clear)
 
 -- outside release speed monitoring the EOA is among the targets
 has_eoa : (profile : ℤ → ℕ) (front : ℤ) (eoa svl release : ℕ) →

@@ -1,5 +1,6 @@
 pub mod AllCommands
 pub mod ServiceStop
+pub mod Clearances
 pub mod Tightness
 pub mod CoveredFalls
 pub mod ShownTriggers

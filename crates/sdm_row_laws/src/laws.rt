@@ -2,6 +2,7 @@
 
 ghost use Rattle.sdm_row_laws.specs.AllCommands.{LawOfAllCommands, LawOfAllJourneys};
 ghost use Rattle.sdm_row_laws.specs.AllCommands.{LawOfEmergencyOrder, LawOfRowMachine};
+ghost use Rattle.sdm_row_laws.specs.Clearances.{LawOfClearStops};
 ghost use Rattle.sdm_row_laws.specs.CoveredFalls.{LawOfCoveredFalls, LawOfFreeFalls};
 ghost use Rattle.sdm_row_laws.specs.OpenTurns.{LawOfCoveredFallJourneys, LawOfFallJourneys};
 ghost use Rattle.sdm_row_laws.specs.OpenTurns.{LawOfLimitJourneys, LawOfOpenTurns};
@@ -38,6 +39,12 @@ pub fn law_of_all_journeys<Record>()
 /// THE EOA: from a reading at or before the SBI of the EOA the service brake stops the train at or before the EOA.
 pub fn law_of_service_stop()
     ensures { LawOfServiceStop }
+{}
+
+/// From a reading that is clear of a place with an allowance the service brake stops the train at or before it.
+#[tactic(auto, using(crate::proofs::Service::clear_stops))]
+pub fn law_of_clear_stops()
+    ensures { LawOfClearStops }
 {}
 
 /// So it does from each row of a moving train under a stop that commands no brake, outside release speed monitoring.

@@ -8,13 +8,14 @@ use Rattle.std.proofs.lemmas.Option.{same_Some}
 use Rattle.std.proofs.lemmas.List.Elements.{All-nil, All-cons}
 use Rattle.sdm_num.specs.Readings.{OdometerReading}
 use Rattle.sdm_rules.specs.declared.faults.EventCause.{EventCause}
+use Rattle.sdm_rules.specs.declared.faults.TakeOverFault.{TakeOverFault}
 use Rattle.sdm_rules.specs.declared.records.Event.{Event}
 use Rattle.sdm_rules.specs.declared.records.Event.TheVariants as record_kinds
 use Rattle.sdm_rules.specs.Records.{step}
 use Rattle.sdm_rules.specs.Supervision.{Supervision, row_of}
-use Rattle.sdm_ride.specs.declared.happenings.Happening.{Happening}
-use Rattle.sdm_ride.specs.declared.happenings.Happening.TheVariants.{Record, Unread, Overdue, Tick}
-use Rattle.sdm_ride.specs.Moments.{Moment, Promise, after, after_record, aged, ordered, promise_after}
+use Rattle.sdm_rules.specs.TakeOver.{change}
+use Rattle.sdm_ride.specs.Happenings.{Happening, Record, Unread, Overdue, Change, Tick}
+use Rattle.sdm_ride.specs.Moments.{Moment, Promise, after, after_change, after_record, aged, ordered, promise_after}
 use Rattle.sdm_ride.specs.Orders.{judged_in, reading_if}
 use Rattle.sdm_ride.specs.Rides.{Delays}
 use Rattle.sdm_service_ride.specs.ServiceMoments.{Allowance, by_eoa, commands_brake, is_steady, promises_eoa}
@@ -90,6 +91,7 @@ cut_stays w a s m cut (Record e) h stays = record {
 }
 cut_stays w a s m cut Unread h stays = h
 cut_stays w a s m cut Overdue h stays = record { since = h.since; is = missing cut h.since h.is; long = h.long }
+cut_stays w a s m cut (Change next) h stays = h
 cut_stays w a s m cut (Tick to length) h stays =
     let long = h.long in record { since = suc h.since; is = ticked cut h.since h.is; long = omega arith }
 
@@ -100,12 +102,18 @@ tick_stays : (m : Moment) (steady : Bool) → steady ≡ true → is_some m.prom
 tick_stays m true e h = h
 tick_stays m false e h = absurd (true≢false (sym e))
 
+over_change : (m : Moment) (t : Result Supervision TakeOverFault) → is_some m.promise ≡ true →
+    is_some (after_change m t).promise ≡ true
+over_change m (Ok t) h = h
+over_change m (Err fault) h = h
+
 promise_stays : (w : Delays) (a : Allowance) (s : ℕ) (m : Moment) (cut : Option ℕ) (h : Happening) → IsCut w s cut →
     is_some m.promise ≡ true → StaysCut w a s m cut h → is_some (steady_after a m h).promise ≡ true
 unfolding after
 promise_stays w a s m cut (Record e) c h stays = record_left m e (step m.supervision e) stays h
 promise_stays w a s m cut Unread c h stays = h
 promise_stays w a s m cut Overdue c h stays = h
+promise_stays w a s m cut (Change next) c h stays = over_change m (change next m.supervision) h
 promise_stays w a s m cut (Tick to length) c h stays =
     tick_stays (after by_eoa m (Tick to length)) (is_steady a m (Tick to length)) (stays c) (still m.promise h)
 

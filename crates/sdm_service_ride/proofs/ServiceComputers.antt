@@ -1,7 +1,7 @@
 -- A ride under the service brake has the order and the supervisor of the ride that is judged by the EOA: that a promise
 -- ends by a gain of speed changes neither. So a computer orders as it does there.
 use Rattle.std.proofs.Common.{Bool, true, false, [], ◌∷◌, None, if◌then◌else◌}
-use Rattle.sdm_ride.specs.declared.happenings.Happening.{Happening}
+use Rattle.sdm_ride.specs.Happenings.{Happening}
 use Rattle.sdm_ride.specs.Moments.{Moment, after}
 use Rattle.sdm_ride.specs.Orders.{Computer, GoesOn, OrdersAs}
 use Rattle.sdm_ride.proofs.Computers.{orders_on}

@@ -15,35 +15,37 @@ use Rattle.sdm_rules.specs.declared.commands.State.{State}
 use Rattle.sdm_rules.specs.declared.commands.State.TheVariants.{R}
 use Rattle.sdm_rules.specs.declared.data.SlopeKind.TheVariants.{Expected}
 use Rattle.sdm_rules.specs.declared.faults.EventCause.{EventCause}
+use Rattle.sdm_rules.specs.declared.faults.TakeOverFault.{TakeOverFault}
 use Rattle.sdm_rules.specs.declared.motions.Phase.TheVariants.{Traction}
 use Rattle.sdm_rules.specs.declared.motions.Point.{Point}
 use Rattle.sdm_rules.specs.declared.motions.Slice.{Slice}
+use Rattle.sdm_rules.specs.declared.motions.Start.{Start}
 use Rattle.sdm_rules.specs.declared.records.Event.{Event}
 use Rattle.sdm_rules.specs.declared.records.Event.TheVariants as record_kinds
 use Rattle.sdm_rules.specs.Cells.{place_of_cell}
 use Rattle.sdm_rules.specs.Decelerations.{slopes_of}
 use Rattle.sdm_rules.specs.Motion.{IsBy, Motion, last_point, slice_ends}
 use Rattle.sdm_rules.specs.Opening.{IsOpen}
-use Rattle.sdm_rules.specs.Reaction.{build_up_of, d_bec, v_bec}
 use Rattle.sdm_rules.specs.Records.{step}
 use Rattle.sdm_rules.specs.Slopes.{Slopes, IsUsable}
 use Rattle.sdm_rules.specs.Stop.{IsMotionOn, StopsBy}
 use Rattle.sdm_rules.specs.Supervision.{Supervision, after_reading, row_of}
+use Rattle.sdm_rules.specs.TakeOver.{change}
 use Rattle.sdm_laws.proofs.Rows.Headline.{open_usable, over_kinds, still_open}
-use Rattle.sdm_laws.proofs.Rows.Stops.{stops_before}
+use Rattle.sdm_row_laws.specs.Clearances.{start_with}
 use Rattle.sdm_row_laws.specs.ServiceStop.{StopsByEoa, is_before_eoa}
-use Rattle.sdm_row_laws.proofs.Service.{service_rows, service_stop}
-use Rattle.sdm_ride.specs.declared.happenings.Happening.{Happening}
-use Rattle.sdm_ride.specs.declared.happenings.Happening.TheVariants.{Record, Unread, Overdue, Tick}
-use Rattle.sdm_ride.specs.Moments.{Moment, Promise, after, after_record, after_taken, after_tick, aged, is_release}
+use Rattle.sdm_row_laws.proofs.Service.{clear_stops, service_rows, service_stop}
+use Rattle.sdm_ride.specs.Happenings.{Happening, Record, Unread, Overdue, Change, Tick}
+use Rattle.sdm_ride.specs.Moments.{Moment, Promise, after, after_change, after_record, after_taken, after_tick, aged}
+use Rattle.sdm_ride.specs.Moments.{is_release}
 use Rattle.sdm_ride.specs.RideLaws.{IsRideStart, KeepsPromise}
 use Rattle.sdm_ride.proofs.Left.{LeftBraking, LeftBuild, at, brakes_on, braking_begins, build_tick, now_braking}
 use Rattle.sdm_ride.proofs.Left.{now_build}
-use Rattle.sdm_ride.proofs.Promises.{mapped, next_promise}
+use Rattle.sdm_ride.proofs.Promises.{change_opens, mapped, next_promise}
 use Rattle.sdm_service_ride.specs.ServiceMoments.{Allowance, by_eoa, commands_brake, has_eoa, is_steady, no_allowance}
 use Rattle.sdm_service_ride.specs.ServiceMoments.{promises_eoa, steady_after, steady_moments}
 use Rattle.sdm_service_ride.specs.ServiceRides.{IsByServiceClock, IsEstimatedRecord, IsServiceRide, IsTrueEstimate}
-use Rattle.sdm_service_ride.specs.ServiceRides.{MayFollow, allowed_start, service_time}
+use Rattle.sdm_service_ride.specs.ServiceRides.{MayFollow, service_time}
 use Rattle.sdm_service_ride.specs.ServiceRideLaws.{IsByItsEoa, LawOfTimedServiceRides, StaysClear}
 
 -- ---- a reading
@@ -51,6 +53,10 @@ use Rattle.sdm_service_ride.specs.ServiceRideLaws.{IsByItsEoa, LawOfTimedService
 -- the slopes of the reading of a promise
 abbrev slopes_at : Promise → Slopes
 slopes_at c = slopes_of Expected c.under.train_and_track
+
+-- the train at that reading, with the allowance
+abbrev allowed_start : Allowance → Promise → Start
+allowed_start a c = start_with a c.under.train_and_track c.reading
 
 -- a point is at or before each place by which every motion from the reading of a promise stops
 abbrev IsByStops : Allowance → ℕ → Promise → Point → Type 0
@@ -245,6 +251,12 @@ module _ (a : Allowance) (s : ℕ) (s_pos : 0 < s) where
         });
   }
 
+  -- after a change of data
+  change_keeps : (m : Moment) (t : Result Supervision TakeOverFault) → IsOnRide a s m → IfOk t IsOpen →
+      IsOnRide a s (after_change m t)
+  change_keeps m (Ok t) h o = record { is_open = o; promise = h.promise }
+  change_keeps m (Err fault) h o = h
+
   -- after whatever happens
   keeps : (m : Moment) (h : Happening) → IsOnRide a s m → MayFollow (IsByServiceClock s) a s m h →
       IsOnRide a s (steady_after a m h)
@@ -252,6 +264,7 @@ module _ (a : Allowance) (s : ℕ) (s_pos : 0 < s) where
   keeps m (Record e) h may = record_keeps m e (step m.supervision e) h (taken_keeps m e h) may
   keeps m Unread h may = h
   keeps m Overdue h may = record { is_open = h.is_open; promise = h.promise }
+  keeps m (Change next) h may = change_keeps m (change next m.supervision) h (change_opens next m.supervision may)
   keeps m (Tick to length) h may = tick_keeps m to length (is_steady a m (Tick to length)) refl h may
 
   -- so from what a ride keeps on
@@ -333,11 +346,7 @@ eoa_kept s m h c e eoa svl release is =
 -- with an allowance each place that the reading was clear of
 pub clear_kept : (a : Allowance) (s : ℕ) (m : Moment) → KeepsStops a s m → StaysClear a s m
 clear_kept a s m h c e place clear =
-    let k = h c e in
-    let start = allowed_start a c in
-    let b = build_up_of start in
-    k.stops place (stops_before (slopes_at c) (open_usable c.under k.is_open Expected) start place (v_bec b 0) (d_bec b 0)
-    refl refl (not-true _ clear))
+    let k = h c e in k.stops place (clear_stops a c.under c.reading place k.is_open clear)
 
 -- the law of rides by the clock
 pub timed_service_rides : LawOfTimedServiceRides

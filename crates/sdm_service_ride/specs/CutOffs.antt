@@ -4,8 +4,7 @@ use Rattle.std.specs.Prelude.{◌+◌, ◌*◌, ◌≤◌, is_some, option_map, 
 use Rattle.sdm_num.specs.Readings.{OdometerReading}
 use Rattle.sdm_rules.specs.declared.rows.Row.{Row}
 use Rattle.sdm_rules.specs.Supervision.{Supervision, row_of}
-use Rattle.sdm_ride.specs.declared.happenings.Happening.{Happening}
-use Rattle.sdm_ride.specs.declared.happenings.Happening.TheVariants.{Record, Unread, Overdue, Tick}
+use Rattle.sdm_ride.specs.Happenings.{Happening, Record, Unread, Overdue, Change, Tick}
 use Rattle.sdm_ride.specs.Moments.{Moment, ordered}
 use Rattle.sdm_ride.specs.Orders.{judged_in}
 use Rattle.sdm_ride.specs.Rides.{Delays}
@@ -26,6 +25,7 @@ abbrev pub cut_after : Supervision → Happening → Option ℕ → Option ℕ
 cut_after s (Record e) cut = cut_after_reading s (judged_in s (Record e)) cut
 cut_after s Unread cut = cut
 cut_after s Overdue cut = ordered cut
+cut_after s (Change next) cut = cut
 cut_after s (Tick to length) cut = option_map (λ o. suc o) cut
 
 -- the ordered cut-off works: its order is c + K old (own)
@@ -48,6 +48,7 @@ abbrev pub StaysCut : Delays → Allowance → ℕ → Moment → Option ℕ →
 StaysCut w a s m cut (Record e) = IsTrue (leaves_cut m.supervision (judged_in m.supervision (Record e)))
 StaysCut w a s m cut Unread = ⊤
 StaysCut w a s m cut Overdue = ⊤
+StaysCut w a s m cut (Change next) = ⊤
 StaysCut w a s m cut (Tick to length) = IsCut w s cut → IsTrue (is_steady a m (Tick to length))
 
 -- so over a list of happenings (own)

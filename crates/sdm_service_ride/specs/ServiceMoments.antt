@@ -1,6 +1,6 @@
 -- A ride under the service brake from moment to moment: it goes on as a ride that is judged by the EOA, and its promise
 -- ends once the train gains more speed than it is allowed (own). In its moments the order is that of the service brake.
-use Rattle.std.specs.Prelude.{ℕ, Bool, true, false, not, ◌&&◌, ◌||◌, List, [], ◌∷◌, None, ◌+◌, ◌*◌, nat_lt, nat_le}
+use Rattle.std.specs.Prelude.{Bool, true, false, not, ◌&&◌, ◌||◌, List, [], ◌∷◌, None, ◌+◌, ◌*◌, nat_lt, nat_le}
 use Rattle.std.specs.Prelude.{if◌then◌else◌}
 use Rattle.sdm_num.specs.Readings.{OdometerReading}
 use Rattle.sdm_rules.specs.declared.authorities.Authority.{Authority}
@@ -8,17 +8,10 @@ use Rattle.sdm_rules.specs.declared.authorities.Authority.TheVariants.{Stop, Lim
 use Rattle.sdm_rules.specs.declared.rows.Row.{Row}
 use Rattle.sdm_rules.specs.Data.{TrainAndTrack}
 use Rattle.sdm_rules.specs.Supervision.{Supervision, row_of}
-use Rattle.sdm_ride.specs.declared.happenings.Happening.{Happening}
-use Rattle.sdm_ride.specs.declared.happenings.Happening.TheVariants.{Record, Unread, Overdue, Tick}
+use Rattle.sdm_ride.specs.Happenings.{Happening, Record, Unread, Overdue, Change, Tick}
 use Rattle.sdm_ride.specs.Moments.{Judging, Moment, after, is_release}
+pub use Rattle.sdm_row_laws.specs.Clearances.{Allowance}
 use Rattle.sdm_row_laws.specs.ServiceStop.{is_before_eoa}
-
--- what the train may be beyond its estimate at a reading, and gain after it: its front end in grains, its speed in
--- notches, its acceleration in cm/s² (own)
-pub record Allowance : Type 0 where
-  pub front : ℕ
-  pub speed : ℕ
-  pub accel : ℕ
 
 -- no allowance: the estimate is true, and no speed is gained (own)
 abbrev pub no_allowance : Allowance
@@ -52,6 +45,7 @@ abbrev pub is_steady : Allowance → Moment → Happening → Bool
 is_steady a m (Record e) = true
 is_steady a m Unread = true
 is_steady a m Overdue = true
+is_steady a m (Change next) = true
 is_steady a m (Tick to length) = nat_le to (m.speed + 54 * a.accel)
 
 -- the next moment: that of a ride by the EOA, without a promise where the train gains more speed than it is allowed

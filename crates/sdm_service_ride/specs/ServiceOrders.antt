@@ -1,7 +1,7 @@
 -- A computer beside a ride under the service brake: what its builder owes the ride is what one owes a ride that is judged
 -- by the EOA, with the service brake as its brake (own).
 use Rattle.std.specs.Prelude.{List, [], ◌∷◌, ⊤}
-use Rattle.sdm_ride.specs.declared.happenings.Happening.{Happening}
+use Rattle.sdm_ride.specs.Happenings.{Happening}
 use Rattle.sdm_ride.specs.Moments.{Moment}
 use Rattle.sdm_ride.specs.Orders.{AllGoOn, Computer, OrdersAs}
 use Rattle.sdm_service_ride.specs.ServiceMoments.{Allowance, by_eoa, steady_after}

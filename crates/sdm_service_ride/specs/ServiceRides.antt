@@ -4,14 +4,12 @@ use Rattle.std.specs.Prelude.{◌≡◌, ℕ, pos, ⊤, IsTrue, List, [], ◌∷
 use Rattle.sdm_num.specs.Readings.{OdometerReading}
 use Rattle.sdm_rules.specs.declared.data.SlopeKind.TheVariants.{Expected}
 use Rattle.sdm_rules.specs.declared.motions.Point.{Point}
-use Rattle.sdm_rules.specs.declared.motions.Start.{Start}
 use Rattle.sdm_rules.specs.declared.records.Event.{Event}
 use Rattle.sdm_rules.specs.declared.records.Event.TheVariants as record_kinds
-use Rattle.sdm_rules.specs.Data.{TrainAndTrack}
 use Rattle.sdm_rules.specs.Decelerations.{slopes_of}
+use Rattle.sdm_rules.specs.Opening.{IsOpen}
 use Rattle.sdm_rules.specs.Reaction.{reaction_times}
-use Rattle.sdm_ride.specs.declared.happenings.Happening.{Happening}
-use Rattle.sdm_ride.specs.declared.happenings.Happening.TheVariants.{Record, Unread, Overdue, Tick}
+use Rattle.sdm_ride.specs.Happenings.{Happening, Record, Unread, Overdue, Change, Tick}
 use Rattle.sdm_ride.specs.Moments.{Moment, Promise, after_tick}
 use Rattle.sdm_ride.specs.Rides.{BrakesBy, Delays, TickRule, point_of}
 use Rattle.sdm_service_ride.specs.ServiceMoments.{Allowance, promises_eoa, steady_after}
@@ -49,22 +47,7 @@ IsServiceBraked s c m to length =
 abbrev pub service_time : Promise → ℕ
 service_time c = (reaction_times c.under.train_and_track).bs
 
--- the train at that reading, with the allowance, until the service brake works T_bs later (own)
-abbrev pub allowed_start : Allowance → Promise → Start
-allowed_start a c = record {
-  front = c.reading.est +ℤ pos a.front;
-  speed = c.reading.speed + a.speed;
-  accel1 = 0;
-  accel2 = a.accel;
-  traction = 0;
-  berem = service_time c;
-}
-
 -- ---- by the orders
-
--- the T_bs that was handed in holds the delays, of which the build-up is that of the service brake (own)
-abbrev pub HoldsServiceDelays : Delays → TrainAndTrack → Type 0
-HoldsServiceDelays w d = w.period + w.latency + w.build_up ≤ (reaction_times d).bs
 
 -- THE ORDERS. In each tick in which a promise stands: no reading is overdue; the train moves at most its mean speed; and
 -- once the ordered service brake works, the train brakes at least with A_expected (own)
@@ -72,6 +55,15 @@ pub record IsByServiceOrders (w : Delays) (s : ℕ) (c : Promise) (m : Moment) (
   pub in_time : m.silence < s * w.period
   pub moves : Moves m.speed to length
   pub brakes : (o : ℕ) → m.order ≡ Some o → s * (w.latency + w.build_up) ≤ o → IsServiceBraked s c m to length
+
+-- the T_bs that was handed in holds the delays for a promise, of which the build-up is that of the service brake (own)
+abbrev pub HoldsServiceDelays : Delays → Promise → Type 0
+HoldsServiceDelays w c = w.period + w.latency + w.build_up ≤ service_time c
+
+-- by orders that work in time: the T_bs that was handed in holds the delays for the promise that stands (own)
+pub record IsByTimelyServiceOrders (w : Delays) (s : ℕ) (c : Promise) (m : Moment) (to length : ℕ) : Type 0 where
+  pub times : HoldsServiceDelays w c
+  pub orders : IsByServiceOrders w s c m to length
 
 -- ---- by the clock
 
@@ -83,12 +75,13 @@ pub record IsByServiceClock (s : ℕ) (c : Promise) (m : Moment) (to length : �
 
 -- ---- a ride
 
--- what may happen: the estimate of a reading that promises the EOA is true, and each tick in which a promise stands
--- keeps the rule (own)
+-- what may happen: the estimate of a reading that promises the EOA is true; data that are changed to are accepted; and
+-- each tick in which a promise stands keeps the rule (own)
 abbrev pub MayFollow : TickRule → Allowance → ℕ → Moment → Happening → Type 0
 MayFollow rule a s m (Record e) = IsEstimatedRecord a s m e
 MayFollow rule a s m Unread = ⊤
 MayFollow rule a s m Overdue = ⊤
+MayFollow rule a s m (Change next) = IsOpen next
 MayFollow rule a s m (Tick to length) = (c : Promise) → m.promise ≡ Some c → rule c m to length
 
 -- a ride under the service brake: one thing after another that may happen (own)

@@ -1,0 +1,3 @@
+pub mod LessAsked
+pub mod CutOffs
+pub mod TwoColumns

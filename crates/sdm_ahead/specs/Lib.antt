@@ -1,0 +1,2 @@
+pub mod WhatIfs
+pub mod CutOffs

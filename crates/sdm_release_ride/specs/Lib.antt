@@ -1,0 +1,2 @@
+pub mod TripPlaces
+pub mod ReleaseRideLaws
