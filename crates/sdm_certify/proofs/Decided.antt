@@ -4,45 +4,29 @@ use Rattle.std.proofs.Common.{◌≡◌, ℕ, zero, suc, false, List, [], ◌∷
 use Rattle.std.proofs.Common.{refl, sym, subst, arith}
 use Rattle.std.proofs.lemmas.Bool.{false≢true}
 use Rattle.sdm_rules.specs.declared.faults.EventCause.TheVariants.{Line}
-use Rattle.sdm_rules.specs.Slopes.{IsUsable, SlopeMap, meaning_of}
+use Rattle.sdm_rules.specs.Slopes.{SlopeMap, meaning_of}
 use Rattle.sdm_formats.specs.Input.{End, Done, BadEvent}
-use Rattle.sdm_laws.proofs.Marks.Stopping.{marks_stop}
 use Rattle.sdm_curve.specs.Maps.{MapData}
 use Rattle.sdm_certify.specs.declared.answers.Answer.{Answer}
 use Rattle.sdm_certify.specs.Checker.{AreAnswers, IsAnswerTo, IsChecked, IsCheckedFrom, IsLastOf, IsMadeOf}
 use Rattle.sdm_certify.specs.Lines.{Certified, LinesLeft, Read, lines_in, map_in, next_claim}
 use Rattle.sdm_certify.proofs.DecidedMarks.{hold_decided}
-use Rattle.sdm_certify.proofs.DecidedSlopes.{made_decided, made_usable}
+use Rattle.sdm_certify.proofs.DecidedSlopes.{made_decided}
 pub use Rattle.sdm_certify.proofs.DecidedSlopes.{made_one}
 use Rattle.sdm_certify.proofs.LinesTaken.{claim_reads}
 use Rattle.sdm_certify.proofs.ReadSegments.{map_data_read}
 
--- a map that is made is usable
-abbrev IsUsableMap : Option SlopeMap → Type 0
-IsUsableMap None = Unit {0}
-IsUsableMap (Some m) = IsUsable (meaning_of m)
-
 -- each claim has an answer
-answered : (made : Option SlopeMap) → IsUsableMap made → (c : Certified) → (a : Answer) × IsAnswerTo made c a
-answered None usable c = (
+answered : (made : Option SlopeMap) (c : Certified) → (a : Answer) × IsAnswerTo made c a
+answered None c = (
   record { time = c.claim.time; yes = false },
-  record {
-    time = refl;
-    yes = ((λ t. false≢true t), (λ shown. absurd shown));
-    stops = λ t. false≢true t;
-  },
+  record { time = refl; yes = ((λ t. false≢true t), (λ shown. absurd shown)) },
 )
-answered (Some m) usable c =
-    let hold = hold_decided (meaning_of m) c.claim c.marks in (
-      record { time = c.claim.time; yes = hold.0 },
-      record {
-        time = refl;
-        yes = hold.1;
-        stops = λ t. marks_stop (meaning_of m) c.claim c.marks usable (hold.1.0 t);
-      },
-    )
+answered (Some m) c =
+    let hold = hold_decided (meaning_of m) c.claim c.marks in
+    (record { time = c.claim.time; yes = hold.0 }, record { time = refl; yes = hold.1 })
 
-module _ (made : Option SlopeMap) (usable : IsUsableMap made) where
+module _ (made : Option SlopeMap) where
   -- there are answers to the claims from the lines on
   abbrev HaveAnswers : LinesLeft → Type 0
   HaveAnswers at = (answers : List Answer) × ((end : End) × AreAnswers made at answers end)
@@ -54,7 +38,7 @@ module _ (made : Option SlopeMap) (usable : IsUsableMap made) where
   with_next at (Some (Err n)) is more =
       ([], (BadEvent n Line, subst (λ (o : Option (Read Certified)). IsLastOf o (BadEvent n Line)) (sym is) refl))
   with_next at (Some (Ok (c, after))) is more =
-      let answer = answered made usable c in
+      let answer = answered made c in
       let rest = more after (claim_reads at after c is).1 in
       (answer.0 ∷ rest.0, (rest.1.0, (c, after, is, answer.1, rest.1.1)))
 
@@ -63,12 +47,6 @@ module _ (made : Option SlopeMap) (usable : IsUsableMap made) where
   answers_of zero at few = with_next at (next_claim at) refl (λ after lt. absurd (omega (arith, lt, few)))
   answers_of (suc n) at few =
       with_next at (next_claim at) refl (λ after lt. answers_of n after (omega (arith, lt, few)))
-
--- what is made of a map that was read is usable
-usable_map : (at after : LinesLeft) (written : MapData) → map_in at ≡ Ok (written, after) →
-    (made : Option SlopeMap) → IsMadeOf written made → IsUsableMap made
-usable_map at after written is None h = tt
-usable_map at after written is (Some m) h = made_usable written m (map_data_read at after written is) h
 
 -- a text has answers, and an end
 pub checked : (text : List ℕ) → (answers : List Answer) × ((end : End) × IsChecked text answers end)
@@ -79,6 +57,5 @@ checked text = of_map (map_in (lines_in text)) refl
     of_map (Err n) is = ([], (BadEvent n Line, (refl, refl)))
     of_map (Ok (written, left)) is =
         let made = made_decided written (map_data_read (lines_in text) left written is) in
-        let usable = usable_map (lines_in text) left written is made.0 made.1 in
-        let rest = answers_of made.0 usable (length left.lines) left (omega arith) in
+        let rest = answers_of made.0 (length left.lines) left (omega arith) in
         (rest.0, (rest.1.0, (made.0, made.1, rest.1.1)))

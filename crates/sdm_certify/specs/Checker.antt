@@ -50,14 +50,14 @@ IsStopOn (Some m) claim = StopsBy (meaning_of m) (start_of claim) claim.svl
 pub record IsAnswerTo (made : Option SlopeMap) (c : Certified) (a : Answer) : Type 0 where
   pub time : a.time ≡ c.claim.time
   pub yes : IsTrue a.yes ↔ IsShown made c
-  pub stops : IsTrue a.yes → IsStopOn made c.claim
 
--- the next claim is read and answered
+-- the next claim is read and answered, and where the answer is yes every motion from it stops
 pub record IsNextAnswer (old new : Checking) (a : Answer) : Type 0 where
   pub certified : Certified
   pub read : next_claim old.left ≡ Some (Ok (certified, new.left))
   pub made : new.made ≡ old.made
   pub answer : IsAnswerTo old.made certified a
+  pub stops : IsTrue a.yes → IsStopOn old.made certified.claim
 
 -- ---- the output of `check`
 

@@ -36,3 +36,9 @@ turn_stops tell bytes output told s after ts is h =
 too_slow_at_100 : IsReleaseSpeed short_train 10_000 6_000 100 → ⊥
 unfolding short_train slopes_of slope_at exact exact_at place_at corner arc arc_back back
 too_slow_at_100 h = absurd (false≢true (h.greatest (omega arith)))
+
+-- from 500 km/h, the top speed, it comes 964.51 m, so for a trip 980 m before the SvL not even 499 km/h are: the last speed
+-- of which `greatest` speaks
+too_slow_at_499 : IsReleaseSpeed short_train 200_000 102_000 499 → ⊥
+unfolding short_train slopes_of slope_at exact exact_at place_at corner arc arc_back back
+too_slow_at_499 h = absurd (false≢true (h.greatest (omega arith)))

@@ -1,27 +1,27 @@
 -- What a yes of `check` says: that the train of the claim stops at or before the claim's place. The claims are of
 -- a train that stands, with an SvL at 10 m.
-use Rattle.std.proofs.Common.{◌≡◌, ℕ, pos, true, [], ◌∷◌, refl, arith, List, subst}
+use Rattle.std.proofs.Common.{◌≡◌, ◌∙◌, ℕ, pos, true, [], ◌∷◌, refl, arith, List, subst, sym}
 use Rattle.std.proofs.lemmas.Int.{ints}
 use Rattle.std.specs.Prelude.{IsTrue, None, Ok, Option, Some}
 use Rattle.sdm_rules.specs.declared.certificates.Claim.{Claim}
 use Rattle.sdm_rules.specs.declared.certificates.Mark.{Mark}
-use Rattle.sdm_rules.specs.Certificates.{start_of}
-use Rattle.sdm_rules.specs.Slopes.{SlopeMap, meaning_of}
+use Rattle.sdm_rules.specs.Certificates.{LawOfMarks, start_of}
+use Rattle.sdm_rules.specs.Slopes.{IsUsable, SlopeMap, meaning_of}
 use Rattle.sdm_rules.specs.Stop.{StopsBy}
 use Rattle.sdm_certify.specs.declared.answers.Answer.{Answer}
 use Rattle.sdm_certify.specs.Checker.{IsAnswerTo, IsMadeOf, IsStopOn}
 use Rattle.sdm_certify.specs.Lines.{Certified, LinesLeft, Read, lines_in, map_in, next_claim}
 use Rattle.sdm_curve.specs.Maps.{MapData}
 use Rattle.sdm_formats.specs.Flat.{Output}
-use Rattle.sdm_run.specs.Checks.{AreAnswersSafe, IsCheckOf}
+use Rattle.sdm_run.specs.Checks.{AreAnswersSafe, AreYesesSafe, IsCheckOf}
 use Rattle.sdm_run.specs.Commands.{AreRowsSafe}
 use Rattle.sdm_run.specs.declared.words.Command.TheVariants.{Check}
 use Rattle.sdm_command_cases.proofs.StandingTrain.{no_stop_before}
 
--- from a yes follows the stop, of every claim
-yes_stops : (m : SlopeMap) (c : Certified) (a : Answer) → IsAnswerTo (Some m) c a → IsTrue a.yes →
-    StopsBy (meaning_of m) (start_of c.claim) c.claim.svl
-yes_stops m c a h said = h.stops said
+-- from a yes follows the stop by the law of marks, of every claim on slopes that are usable
+yes_stops : LawOfMarks → (m : SlopeMap) (c : Certified) (a : Answer) → IsUsable (meaning_of m) →
+    IsAnswerTo (Some m) c a → IsTrue a.yes → StopsBy (meaning_of m) (start_of c.claim) c.claim.svl
+yes_stops law m c a usable h said = law (meaning_of m) c.claim c.marks usable (h.yes.0 said)
 
 -- 1 m/s² everywhere
 abbrev one_slope : SlopeMap
@@ -40,15 +40,20 @@ a_grain_past = record {
   svl = pos 5_400_000_000_000;
 }
 
--- so there is no yes, whatever the marks
-no_yes_past_it : (marks : List Mark) →
-    IsAnswerTo (Some one_slope) (record { claim = a_grain_past; marks = marks }) (record { time = 7; yes = true }) → ⊥
-no_yes_past_it marks h = no_stop_before (meaning_of one_slope) (pos 5_400_000_000_001) (pos 5_400_000_000_000)
-    (omega (arith, ints)) (h.stops refl)
+-- so where its claim is the next one there is no yes, whatever the marks
+no_yes_past_it : (marks : List Mark) (at after : LinesLeft) (more : List Answer) →
+    next_claim at ≡ Some (Ok (record { claim = a_grain_past; marks = marks }, after)) →
+    AreYesesSafe (Some one_slope) at (record { time = 7; yes = true } ∷ more) → ⊥
+no_yes_past_it marks at after more next (c, after', read, stops, rest) =
+    let both : (c, after') ≡ (record { claim = a_grain_past; marks = marks }, after) =
+    (let same = sym read ∙ next in cc) in
+    no_stop_before (meaning_of one_slope) (pos 5_400_000_000_001) (pos 5_400_000_000_000)
+    (omega (arith, ints))
+    (subst (λ (x : Certified × LinesLeft). IsStopOn (Some one_slope) x.0.claim) both (stops refl))
 
 -- nor is there one on slopes that aren't accepted
 no_yes_without_slopes : (c : Certified) → IsAnswerTo None c (record { time = 7; yes = true }) → ⊥
-no_yes_without_slopes c h = h.stops refl
+no_yes_without_slopes c h = h.yes.0 refl
 
 -- ---- from what the top call says of `check`
 

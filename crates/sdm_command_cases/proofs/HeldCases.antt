@@ -4,6 +4,7 @@ use Rattle.std.proofs.Common.{◌≡◌, ◌∙◌, ℕ, List, [], ◌∷◌, Op
 use Rattle.std.specs.Prelude.{IsTrue}
 use Rattle.sdm_rules.specs.declared.data.SlopeKind.TheVariants.{Safe}
 use Rattle.sdm_rules.specs.Certificates.{Hold}
+use Rattle.sdm_rules.specs.Data.{TrainAndTrack}
 use Rattle.sdm_rules.specs.Decelerations.{slopes_of}
 use Rattle.sdm_rules.specs.Slopes.{Slopes, SlopeMap, meaning_of}
 use Rattle.sdm_formats.specs.Flat.{Output}
@@ -14,7 +15,13 @@ use Rattle.sdm_certify.specs.Lines.{Certified, LinesLeft, Read, lines_in, map_in
 use Rattle.sdm_certify.specs.ReadBack.{AreHeld, IsHeldText}
 use Rattle.sdm_certify.proofs.DecidedSlopes.{made_one}
 use Rattle.sdm_curve.specs.Maps.{MapData}
-use Rattle.sdm_run.specs.Certifying.{AreCertificatesHeld, IsCertifyOutput, certified_by, certified_turns}
+use Rattle.sdm_data.specs.Division.{divide}
+use Rattle.sdm_run.specs.Certifying.{AreCertificatesHeld, IsCertifyOutput, certified_by, certified_turns, data_before}
+
+-- the data that there are, or others
+abbrev data_or : TrainAndTrack → Option TrainAndTrack → TrainAndTrack
+data_or other None = other
+data_or other (Some d) = d
 
 -- each answer is yes, and there is one for each claim
 abbrev AreYes : List Certified → List Answer → Type 0
@@ -58,13 +65,18 @@ all_yes count bytes h output is answers end checked =
     of_held (slopes_of Safe h.read) output.text (certified_by (certified_turns count is.turns)) answers end
     (h.held output is) checked
 
--- the marks of the first claim hold on the slopes of the data
-first_holds : (count : ℕ) (bytes : List ℕ) (h : AreCertificatesHeld count bytes) (output : Output)
+-- the marks of the first claim hold on the slopes of the data that the input has
+first_holds : (count : ℕ) (bytes : List ℕ) → AreCertificatesHeld count bytes →
+    (d : TrainAndTrack) → data_before bytes (divide bytes) ≡ Some d → (output : Output)
     (is : IsCertifyOutput count bytes output) (c : Certified) (more : List Certified) →
-    certified_by (certified_turns count is.turns) ≡ c ∷ more → Hold (slopes_of Safe h.read) c.claim c.marks
-first_holds count bytes h output is c more first =
-    of_text (subst (IsHeldText (slopes_of Safe h.read) output.text) first (h.held output is))
+    certified_by (certified_turns count is.turns) ≡ c ∷ more → Hold (slopes_of Safe d) c.claim c.marks
+first_holds count bytes h d there_are output is c more first =
+    subst (λ (d : TrainAndTrack). Hold (slopes_of Safe d) c.claim c.marks) same
+    (of_text (subst (IsHeldText (slopes_of Safe h.read) output.text) first (h.held output is)))
   where
+    same : h.read ≡ d
+    same = ap (λ (o : Option TrainAndTrack). data_or d o) (sym h.is_read ∙ there_are)
+
     of_text : IsHeldText (slopes_of Safe h.read) output.text (c ∷ more) → Hold (slopes_of Safe h.read) c.claim c.marks
     of_text text = of_first text.made text.left text.slopes text.held
       where

@@ -14,3 +14,4 @@ mod CauseLineCases
 mod CauseLawCases
 mod FirstCauseCases
 mod NoCauseLineCases
+mod OneOutputCases

@@ -22,3 +22,10 @@ along_map (Some h) (Some k) R T f p = f h k p
 pub along_self : (a : Option History) (T : History → History → Type 0) → ((h : History) → T h h) → Along a a T
 along_self None T f = tt
 along_self (Some h) T f = f h
+
+pub along_both : (a b : Option History) (R Q T : History → History → Type 0) →
+    ((h k : History) → R h k → Q h k → T h k) → Along a b R → Along a b Q → Along a b T
+along_both None None R Q T f p q = tt
+along_both None (Some k) R Q T f p q = absurd p
+along_both (Some h) None R Q T f p q = tt
+along_both (Some h) (Some k) R Q T f p q = f h k p q

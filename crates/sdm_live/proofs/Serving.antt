@@ -1,5 +1,6 @@
 -- The loop, from one moment to the next.
-use Rattle.std.proofs.Common.{◌≡◌, ◌∙◌, sym, ap, subst, refl, ℕ, List, [], ◌∷◌, ◌++◌, append-nil, append_assoc, true, false}
+use Rattle.std.proofs.Common.{◌≡◌, ◌∙◌, sym, ap, subst, refl, ℕ, suc, ◌+◌, List, [], ◌∷◌, ◌++◌, append-nil, append_assoc}
+use Rattle.std.proofs.Common.{length, true, false, arith}
 use Rattle.sdm_live.specs.Answers.{IsCut, IsWhole}
 use Rattle.sdm_live.specs.Exchanges.{Gave, Gave_fault, Given_on, Held_fault, History, IsAnswered, IsPrompt, came, sent}
 use Rattle.sdm_live.specs.Exchanges.{asked_at, is_given_on}
@@ -243,3 +244,21 @@ module _ {S : Type 0} (rules : Rules S) (first : S) (given : List ℕ) where
           begins = subst C (whole_after_text rules first (sent h) (given ++ all))
               (subst B (sym (leads_end none)) part.begins);
         }
+
+-- ---- how often it asked
+
+-- it asked so often
+abbrev pub HasAsked : ℕ → History → History → Type 0
+HasAsked n before now = length (asked_at now) ≡ n + length (asked_at before)
+
+pub asked_never : (h k : History) → DidNotAsk h k → HasAsked 0 h k
+asked_never h k quiet = let same = ap length quiet.asked_is in omega (arith, same)
+
+pub asked_again : (n : ℕ) (bytes : List ℕ) (h k l : History) → HasAsked n h k → l ≡ Gave bytes ∷ k →
+    HasAsked (n + 1) h l
+asked_again n bytes h k l so_far is =
+    let one : length (asked_at l) ≡ suc (length (asked_at k)) = ap (λ l. length (asked_at l)) is in
+    omega (arith, one, so_far)
+
+pub asked_still : (n : ℕ) (h k l : History) → HasAsked n h k → DidNotAsk k l → HasAsked n h l
+asked_still n h k l so_far quiet = ap length quiet.asked_is ∙ so_far

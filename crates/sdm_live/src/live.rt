@@ -81,7 +81,7 @@ pub fn serve<S: Step, P: Peer>(step: &mut S, given: &[u8], peer: &mut P) -> Ende
         return Ended::WriteFault;
     };
     let mut block = [0u8; BLOCK];
-    'reads: for _ in 0..u64::MAX {
+    'reads: for asks in 0..u64::MAX {
         let Ok(n) = peer.ask(&mut block) else {
             return Ended::ReadFault;
         };

@@ -4,3 +4,6 @@ mod ExchangeCases
 mod PromptCases
 mod EndCases
 mod AnswerCases
+mod DueCases
+mod RunCases
+mod LawCases

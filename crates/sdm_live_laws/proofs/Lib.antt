@@ -7,3 +7,5 @@ mod LineRecords
 mod Marks
 mod SameRows
 mod TurnCases
+mod RowLines
+pub mod SameText

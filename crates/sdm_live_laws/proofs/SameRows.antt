@@ -28,18 +28,18 @@ use Rattle.sdm_live_laws.proofs.Unbroken.{AllUnbroken, unbroken}
 use Rattle.sdm_live_laws.proofs.Written.{AreWritten, written}
 
 -- the journey of records of which the first has a number
-abbrev journey_at : ℕ → Supervision → List Record → Journey
+abbrev pub journey_at : ℕ → Supervision → List Record → Journey
 journey_at n s records = journey_from (event_at event_of) n s records
 
-abbrev IsAccepted : ℕ → Supervision → List Record → Type 0
+abbrev pub IsAccepted : ℕ → Supervision → List Record → Type 0
 IsAccepted n s records = (journey_at n s records).refused ≡ None
 
 -- the first record is taken, and those after it are accepted
-record IsFirstTaken (n : ℕ) (s : Supervision) (first : Record) (more : List Record) : Type 0 where
-  turn : Turn
-  takes : turn_of s (event_of first) ≡ Ok turn
-  rest : IsAccepted (suc n) turn.after more
-  turns : (journey_at n s (first ∷ more)).turns ≡ turn ∷ (journey_at (suc n) turn.after more).turns
+pub record IsFirstTaken (n : ℕ) (s : Supervision) (first : Record) (more : List Record) : Type 0 where
+  pub turn : Turn
+  pub takes : turn_of s (event_of first) ≡ Ok turn
+  pub rest : IsAccepted (suc n) turn.after more
+  pub turns : (journey_at n s (first ∷ more)).turns ≡ turn ∷ (journey_at (suc n) turn.after more).turns
 
 module _ (n : ℕ) (s : Supervision) (first : Record) (more : List Record) where
   on : Supervision → Journey
@@ -59,7 +59,7 @@ module _ (n : ℕ) (s : Supervision) (first : Record) (more : List Record) where
   by_count true h turns = absurd cc
   by_count false h turns = taken_at (turn_of s (event_of first)) refl h turns
 
-  first_taken : IsAccepted n s (first ∷ more) → IsFirstTaken n s first more
+  pub first_taken : IsAccepted n s (first ∷ more) → IsFirstTaken n s first more
   unfolding on
   first_taken h = by_count (nat_lt most_records n) h refl
 
@@ -78,7 +78,7 @@ accepted_unbroken (x ∷ xs) n s h =
     let first = first_taken n s x xs h in
     ((taken_written s x first.turn first.takes).unbroken, accepted_unbroken xs (suc n) first.turn.after first.rest)
 
-accepted_on_lines : (s : Supervision) (bytes : List ℕ) → IsAccepted 1 s (records_of bytes) → AreOnLines bytes
+pub accepted_on_lines : (s : Supervision) (bytes : List ℕ) → IsAccepted 1 s (records_of bytes) → AreOnLines bytes
 accepted_on_lines s bytes h =
     let text = strip_bom bytes in
     unbroken text st.StartRecord [] []
@@ -92,7 +92,7 @@ TakesAll lines = (n : ℕ) (s : Supervision) → IsAccepted n s (map split_field
     turns_taken (line_answers s lines) ≡ (journey_at n s (map split_fields lines)).turns
 
 -- a line is answered as the record of fields is, where that is taken
-abbrev IsTakenAlike : List ℕ → Record → Type 0
+abbrev pub IsTakenAlike : List ℕ → Record → Type 0
 IsTakenAlike line fields = (s : Supervision) (t : Turn) → turn_of s (event_of fields) ≡ Ok t →
     (length line ≤ longest_line) × (turn_of_line s line ≡ turn_of s (event_of fields))
 
@@ -107,7 +107,7 @@ takes_first lines ih n s line fields alike h =
     ∙ (ap (λ ts. first.turn ∷ ts) (ih (suc n) first.turn.after first.rest) ∙ sym first.turns))
 
 -- a line has the turn of its fields
-alike_plain : (line : List ℕ) → IsTakenAlike line (split_fields line)
+pub alike_plain : (line : List ℕ) → IsTakenAlike line (split_fields line)
 alike_plain line s t is =
     let short = written_short line (taken_written s (split_fields line) t is) in
     (omega (arith, short), ap (λ l. turn_of s (event_of (split_fields l))) (taken_unmarked s line t is))
@@ -126,7 +126,7 @@ unfolding strip_bom event_of
 mark_alone s lines = refl
 
 -- a mark that begins a line changes nothing of its fields, and makes it three bytes longer
-alike_marked : (line : List ℕ) → IsTakenAlike (marked line) (split_fields line)
+pub alike_marked : (line : List ℕ) → IsTakenAlike (marked line) (split_fields line)
 unfolding strip_bom
 alike_marked line s t is =
     let short = written_short line (taken_written s (split_fields line) t is) in

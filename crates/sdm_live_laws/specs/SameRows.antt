@@ -1,5 +1,6 @@
 -- A live run beside `run`, which reads all records at once (own).
-use Rattle.std.specs.Prelude.{◌≡◌, ℕ, Bool, true, false, List, [], ◌∷◌, ◌&&◌, ◌||◌, None, map}
+use Rattle.std.specs.Prelude.{◌≡◌, ℕ, Bool, true, false, List, [], ◌∷◌, ◌++◌, ◌&&◌, ◌||◌, None, map, if◌then◌else◌}
+use Rattle.std.specs.Char.{is_ascii_digit}
 use Rattle.csv.specs.Machine.{step}
 use Rattle.csv.specs.Reading.{default_config, strip_bom}
 use Rattle.csv.specs.declared.parser.State.{State}
@@ -7,11 +8,13 @@ use Rattle.csv.specs.declared.parser.State.TheVariants as st
 use Rattle.sdm_rules.specs.Records.{Journey, event_at, journey_from}
 use Rattle.sdm_rules.specs.Supervision.{Supervision}
 use Rattle.sdm_formats.specs.Forms.{event_of}
+use Rattle.sdm_formats.specs.Lines.{ended_lines}
+use Rattle.sdm_formats.specs.Text.{run_tells, told}
 use Rattle.sdm_events.specs.Journey.{records_of}
 use Rattle.sdm_live.specs.ByLines.{lines_of}
 use Rattle.sdm_live.specs.Progress.{ends_line}
 use Rattle.sdm_live_records.specs.Fields.{split_fields}
-use Rattle.sdm_live_laws.specs.Turns.{live_turns}
+use Rattle.sdm_live_laws.specs.Turns.{answers_text, line_answers, live_turns}
 
 -- within quotes, where `csv` stands so in a text
 abbrev pub is_quoted : State → Bool
@@ -51,3 +54,24 @@ run_journey s bytes = journey_from (event_at event_of) 1 s (records_of bytes)
 abbrev pub LawOfSameRows : Type 0
 LawOfSameRows = (s : Supervision) (bytes : List ℕ) → (run_journey s bytes).refused ≡ None →
     live_turns s bytes ≡ (run_journey s bytes).turns
+
+-- ---- their text
+
+-- a line of a row: it begins with a digit, as no other answer does
+abbrev pub is_row_line : List ℕ → Bool
+is_row_line [] = false
+is_row_line (c ∷ cs) = is_ascii_digit c
+
+-- those lines among others, one after the other
+abbrev pub rows_among : List (List ℕ) → List ℕ
+rows_among [] = []
+rows_among (line ∷ lines) = if is_row_line line then line ++ rows_among lines else rows_among lines
+
+-- THE ROWS in a text of answers: its lines that begin with a digit
+abbrev pub rows_in : List ℕ → List ℕ
+rows_in text = rows_among (ended_lines text)
+
+-- THE TEXT OF `run`: where it accepts the bytes, its text is that of the rows in the answers of the live run
+abbrev pub LawOfSameText : Type 0
+LawOfSameText = (s : Supervision) (bytes : List ℕ) → (run_journey s bytes).refused ≡ None →
+    rows_in (answers_text (line_answers s (lines_of bytes))) ≡ told run_tells (run_journey s bytes).turns

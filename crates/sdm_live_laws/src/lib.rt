@@ -1,7 +1,7 @@
 //! The laws of live runs: proofs about definitions alone. Each function makes no call and only states its law.
 #![tactic(auto)]
 
-ghost use Rattle.sdm_live_laws.specs.SameRows.{LawOfLineRecords, LawOfSameRows};
+ghost use Rattle.sdm_live_laws.specs.SameRows.{LawOfLineRecords, LawOfSameRows, LawOfSameText};
 ghost use Rattle.sdm_live_laws.specs.Turns.{LawOfLiveRows, LawOfLiveText};
 
 /// The whole text of a live run is one answer to each line, in order: the row of a reading that is taken, `taken` for
@@ -26,4 +26,10 @@ pub fn law_of_line_records()
 /// record that is accepted stands on a line of its own, which isn't too long.
 pub fn law_of_same_rows()
     ensures { LawOfSameRows }
+{}
+
+/// Then the text of `run` is that of the rows in the answers of the live run.
+#[tactic(auto, using(crate::proofs::SameText::same_text))]
+pub fn law_of_same_text()
+    ensures { LawOfSameText }
 {}

@@ -1,7 +1,7 @@
 -- What is due after the data part is what the records make due; before it ends, nothing is.
 use Rattle.std.proofs.Common.{◌≡◌, ◌∙◌, ◌≤◌, sym, ap, subst, refl, ℕ, List, [], ◌∷◌, ◌++◌, append-nil, append_assoc}
 use Rattle.std.proofs.Common.{Option, Some, None, true, length, take, drop, inl, inr, arith}
-use Rattle.std.proofs.Common.{◌-◌, length-drop}
+use Rattle.std.proofs.Common.{◌-◌, length-append, length-drop}
 use Rattle.std.proofs.lemmas.List.{drop-append-le, take-append-le, take_all}
 use Rattle.std.proofs.Common.{false, ◌+◌}
 use Rattle.std.proofs.lemmas.Bool.{MatchBool-at_false, MatchBool-at_true, cases_Bool}
@@ -293,8 +293,13 @@ module _ (bytes : List ℕ) (s : Supervision) (d : Division) (read : IsDataRead 
         cut_live s bytes d.data_end d.records_start read.division.order read.division.within
         (lasting bytes d read.division not) read.opens h k l p q
     ended_live ends.Endless h k l p q =
-        inr (answered_live s bytes d.data_end d.records_start read.division.order read.division.within
-        (lasting bytes d read.division not) read.opens h k l p q)
+        let before = length-append p.prompt.asks (asked_at h) in
+        let same = ap length p.prompt.asks_are in
+        inr (record {
+          answered = answered_live s bytes d.data_end d.records_start read.division.order read.division.within
+              (lasting bytes d read.division not) read.opens h k l p q.answered;
+          asks = omega (arith, q.asks, before, same);
+        })
 
     pub ended_along : (a b c : Option History) (ended : Ended) → Along a b (IsGathered bytes) →
         Along b c (IsEndOn given ended) → Along a c (λ h l. IsLiveEnd h (outcome_of ended) l)

@@ -1,2 +1,4 @@
 mod Composing
 mod LiveRows
+pub mod SameRun
+mod Logging

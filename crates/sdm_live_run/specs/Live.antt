@@ -1,6 +1,6 @@
 -- What `live` owes for the bytes that came (own). Which state the data open is a relation, so what is due is one too; it
 -- is one text for all bytes.
-use Rattle.std.specs.Prelude.{◌≡◌, ◌⊎◌, ℕ, List, [], ◌++◌, Option, Some, None, take, drop, true, length, ◌<◌}
+use Rattle.std.specs.Prelude.{◌≡◌, ◌⊎◌, ℕ, List, [], ◌++◌, Option, Some, None, take, drop, true, length, ◌+◌, ◌<◌, ◌≤◌}
 use Rattle.std.specs.List.{AllByRecursion}
 use Rattle.sdm_rules.specs.Supervision.{Supervision}
 use Rattle.sdm_report.specs.declared.outcome.InputFault.TheVariants.{NoSplit}
@@ -11,6 +11,7 @@ use Rattle.sdm_formats.specs.Input.{most_bytes}
 use Rattle.sdm_data.specs.Division.{divide}
 use Rattle.sdm_opening.specs.Openings.{IsOpeningOf}
 use Rattle.sdm_run.specs.RunParts.{IsRefusedBy}
+use Rattle.sdm_live.specs.Answers.{most_asks}
 use Rattle.sdm_live.specs.Exchanges.{History, asked_at, came, is_given_on, sent}
 use Rattle.sdm_live.specs.Progress.{due, whole}
 use Rattle.sdm_live.specs.Taken.{Begins}
@@ -101,13 +102,18 @@ module _ (start : History) where
     pub long : most_bytes < length bytes
     pub sent_is : sent now ≡ sent start
 
+  -- it asked as often as the loop over the records counts, and at the last time all that was due was with the peer
+  pub record IsOutOfAsksLive (now : History) : Type 0 where
+    pub answered : IsAnsweredLive now
+    pub asks : most_asks + length (asked_at start) ≤ length (asked_at now)
+
   -- THE END: what an outcome says of what the peer has
   abbrev pub IsLiveEnd : Outcome → History → Type 0
   IsLiveEnd Done now = IsWholeLive now
   IsLiveEnd Usage now = ⊥
   IsLiveEnd ReadFault now = IsAnsweredLive now
   IsLiveEnd WriteFault now = IsCutLive now
-  IsLiveEnd TooLong now = IsTooLong now ⊎ IsAnsweredLive now
+  IsLiveEnd TooLong now = IsTooLong now ⊎ IsOutOfAsksLive now
   IsLiveEnd (BadData fault) now = IsRefusedLive (BadData fault) now
   IsLiveEnd (Refused fault) now = IsRefusedLive (Refused fault) now
   IsLiveEnd (BadEvent number cause) now = ⊥

@@ -4,8 +4,10 @@
 
 mod data_parts;
 mod live_run;
+mod memory;
 mod records;
 mod streams;
 
 pub use live_run::sdm_live_main;
+pub use memory::{Call, MemoryPeer, live_in_memory};
 pub use streams::StreamPeer;

@@ -8,6 +8,7 @@ ghost use Rattle.sdm_live.specs.Exchanges.{Along, Told, is_given_on};
 ghost use Rattle.sdm_report.specs.OutcomeLines.{outcome_line};
 ghost use Rattle.sdm_live_run.specs.Live.{IsAnsweredLive, IsLiveEnd, IsPromptLive};
 ghost use Rattle.sdm_live_run.specs.Rows.{AreLiveRowsSafe};
+ghost use Rattle.sdm_live_run.specs.SameRun.{IsRunLive};
 
 use crate::data_parts::read_data;
 use crate::records::{outcome_of, serve_records};
@@ -29,7 +30,10 @@ pub fn sdm_live_main<P: Peer, E: Sink>(alloc: Global, peer: &mut P, err: &mut E)
     // looked back on from the end
     ensures prompt { Along (P.history peer.old) (P.history peer.new) IsPromptLive }
     ensures answer { Along (P.history peer.old) (P.history peer.new) (λ h k. IsLiveEnd h result k) }
-    ensures rows { AreLiveRowsSafe }
+    ensures rows { Along (P.history peer.old) (P.history peer.new) AreLiveRowsSafe }
+
+    // where `run` accepts the bytes, the rows in what was handed over are its text
+    ensures run { result ≡ Outcome.Done → Along (P.history peer.old) (P.history peer.new) IsRunLive }
 
     // a fault is answered only where it was counted
     ensures fault { (result ≡ Outcome.ReadFault) ⊎ (result ≡ Outcome.WriteFault)

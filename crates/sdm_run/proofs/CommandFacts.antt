@@ -18,13 +18,14 @@ use Rattle.sdm_report.specs.declared.outcome.Outcome.TheVariants.{TooLong}
 use Rattle.sdm_run.specs.declared.tellers.Teller.TheVariants.{Rows, Displays, Causes, Certificates}
 use Rattle.sdm_run.specs.Words.{IsCommandInRange}
 use Rattle.sdm_run.specs.Answers.{IsAnswer}
-use Rattle.sdm_run.specs.Commands.{AreRowsSafe, IsOutputOf, within_limit}
+use Rattle.sdm_run.specs.Commands.{AreRowsSafe, HasSafeRows, IsOutputOf, OfOutput, with_rows, within_limit}
 use Rattle.sdm_run.specs.Shapes.{OfInput, Shape, shape_of}
 use Rattle.sdm_run.specs.Upgrades.{upgrade_output}
 use Rattle.sdm_run.proofs.CheckAnswers.{check_answers_safe}
 use Rattle.sdm_run.proofs.CheckTexts.{check_too_long}
 use Rattle.sdm_run.proofs.DriveTexts.{drive_rows_safe, drive_too_long}
 use Rattle.sdm_run.proofs.FlatOrder.{flat_rows_safe}
+use Rattle.sdm_run.proofs.OutputLaws.{one_output}
 use Rattle.sdm_run.proofs.RunAnswers.{journey_too_long, turns_are_safe}
 use Rattle.sdm_run.proofs.TrialRuns.{trial_rows_safe}
 
@@ -55,9 +56,12 @@ of_input shape left P h = by_reading shape.reads_input left
 -- the promise of a command's rows, at the command that the words ask for
 pub rows_told : (o : Option Command) (command : Command) (left : Option (List ℕ)) → o ≡ Some command →
     IsCommandInRange command →
-    IfSome o (λ command. OfInput (shape_of command) left (AreRowsSafe command))
+    IfSome o (λ command. OfInput (shape_of command) left (HasSafeRows command))
 rows_told o command left is range =
-    rw is (of_input (shape_of command) left (AreRowsSafe command) (λ bytes. rows_safe command bytes range))
+    rw is (of_input (shape_of command) left (HasSafeRows command) (λ bytes. record {
+      one = one_output (with_rows command) bytes;
+      safe = rows_safe command bytes range;
+    }))
 
 -- ---- the bytes that are answered
 
@@ -100,6 +104,38 @@ answer_told o command left read bytes A is whole same h =
     rw is (answered (shape_of command).reads_input left read
     (λ told. (output : Output) → IsOutputOf command told output → A output) whole of_read
     (outputs_alike command A read of_read))
+
+-- what holds of each output holds of the one that there is
+of_bytes : (reads : Bool) (left : Option (List ℕ)) (command : Command) (A : Output → Type 0) →
+    MatchBool reads (Told left (λ bytes. (output : Output) → IsOutputOf command bytes output → A output))
+    ((bytes : List ℕ) (output : Output) → IsOutputOf command bytes output → A output) →
+    MatchBool reads (Told left (λ bytes. OfOutput command bytes A)) ((bytes : List ℕ) → OfOutput command bytes A)
+of_bytes true None command A h = tt
+of_bytes true (Some bytes) command A h = record { one = one_output command bytes; holds = h }
+of_bytes false left command A h = λ bytes. record { one = one_output command bytes; holds = h bytes }
+
+pub of_one_output : (o : Option Command) (left : Option (List ℕ)) (A : Output → Type 0) →
+    IfSome o (λ command. OfInput (shape_of command) left
+    (λ bytes. (output : Output) → IsOutputOf command bytes output → A output)) →
+    IfSome o (λ command. OfInput (shape_of command) left (λ bytes. OfOutput command bytes A))
+of_one_output None left A h = tt
+of_one_output (Some command) left A h = of_bytes (shape_of command).reads_input left command A h
+
+-- and what holds of that one holds of each
+pub of_each_output : (o : Option Command) (left : Option (List ℕ)) (A : Output → Type 0) →
+    IfSome o (λ command. OfInput (shape_of command) left (λ bytes. OfOutput command bytes A)) →
+    IfSome o (λ command. OfInput (shape_of command) left
+    (λ bytes. (output : Output) → IsOutputOf command bytes output → A output))
+of_each_output None left A h = tt
+of_each_output (Some command) left A h = each (shape_of command).reads_input left h
+  where
+    each : (reads : Bool) (left : Option (List ℕ)) →
+        MatchBool reads (Told left (λ bytes. OfOutput command bytes A)) ((bytes : List ℕ) → OfOutput command bytes A) →
+        MatchBool reads (Told left (λ bytes. (output : Output) → IsOutputOf command bytes output → A output))
+        ((bytes : List ℕ) (output : Output) → IsOutputOf command bytes output → A output)
+    each true None h = tt
+    each true (Some bytes) h = h.holds
+    each false left h = λ bytes. (h bytes).holds
 
 -- ---- the limit
 

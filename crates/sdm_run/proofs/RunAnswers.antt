@@ -4,7 +4,7 @@ use Rattle.std.proofs.Common.{◌≡◌, ℕ, ◌≤◌, ◌<◌, ◌++◌, true
 use Rattle.std.proofs.Common.{nat_lt, inl, inr, refl, ap, ◌∙◌, sym, subst, arith}
 use Rattle.std.proofs.lemmas.Bool.Decides.{nat_tests}
 use Rattle.std.specs.Prelude.{Result, Ok, Err, Bool, MatchBool, not}
-use Rattle.std.proofs.KnownBytes.{Appends-nil}
+use Rattle.std.proofs.KnownBytes.{Appends-nil, Keeps-refl}
 use Rattle.toml.specs.Data.{Members}
 use Rattle.sdm_rules.specs.declared.authorities.Authority.{Authority}
 use Rattle.sdm_rules.specs.declared.faults.EventCause.{EventCause}
@@ -135,6 +135,10 @@ run_of_parts bytes turns end short parts =
     let no : nat_lt most_bytes (length bytes) ≡ false = grind (arith, nat_tests) in rw no parts
 
 -- ---- the data part
+
+-- a fault of the reading
+pub unread : (old : Option (List ℕ)) (output : Output) → IsAnswer output old old ReadFault
+unread old output = record { ended = inr (inl refl); taken = Keeps-refl old }
 
 -- want of memory before the first row
 pub memory_first : (old : Option (List ℕ)) (output : Output) → IsAnswer output old old Memory

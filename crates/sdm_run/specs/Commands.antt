@@ -40,6 +40,11 @@ pub record HasOneOutput (command : Command) (bytes : List ℕ) : Type 0 where
   pub is : IsOutputOf command bytes output
   pub only : (other : Output) → IsOutputOf command bytes other → other ≡ output
 
+-- this holds of the output of a command, which is one and no other
+pub record OfOutput (command : Command) (bytes : List ℕ) (P : Output → Type 0) : Type 0 where
+  pub one : HasOneOutput command bytes
+  pub holds : (output : Output) → IsOutputOf command bytes output → P output
+
 -- whatever turns make an output of a journey (their texts are its text), what a command says of its rows holds for each
 -- of them, from no command held on
 abbrev pub AreJourneyTurnsSafe : (Turn → List ℕ) → List ℕ → Type 0
@@ -64,6 +69,23 @@ AreRowsSafe Upgrade bytes = ⊤
 AreRowsSafe (Drive seed cycles) bytes = AreDriveRowsSafe seed cycles bytes
 AreRowsSafe (Certify count) bytes = AreJourneyTurnsSafe run_tells bytes
 AreRowsSafe Check bytes = AreCheckAnswersSafe bytes
+
+-- the command in whose output the rows of a command stand: `run` for `certify`, which tells them by certificates
+abbrev pub with_rows : Command → Command
+with_rows (Flat decel end) = Flat decel end
+with_rows Run = Run
+with_rows Display = Display
+with_rows Why = Why
+with_rows (Trial seed cycles) = Trial seed cycles
+with_rows Upgrade = Upgrade
+with_rows (Drive seed cycles) = Drive seed cycles
+with_rows (Certify count) = Run
+with_rows Check = Check
+
+-- there is one output with the rows of a command, and what is promised of them holds
+pub record HasSafeRows (command : Command) (bytes : List ℕ) : Type 0 where
+  pub one : HasOneOutput (with_rows command) bytes
+  pub safe : AreRowsSafe command bytes
 
 -- the words name no command that reads the input
 abbrev pub ReadsNothing : Option Command → Type 0

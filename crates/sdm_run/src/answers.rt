@@ -12,7 +12,7 @@ ghost use Rattle.sdm_run.specs.declared.words.Command.{Command};
 ghost use Rattle.sdm_run.specs.Answers.{ComesOfReadingAlone, LeavesOutUntouched, NeedsTheWholeInput, IsAnswer};
 ghost use Rattle.sdm_run.specs.Answers.{IsComplete, IsEndOfRecords, told_end};
 ghost use Rattle.sdm_run.specs.Certifying.{AreCertificatesHeld};
-ghost use Rattle.sdm_run.specs.Commands.{AreRowsSafe, HasOneOutput, IsOutputOf, ReadsNothing};
+ghost use Rattle.sdm_run.specs.Commands.{AreRowsSafe, HasOneOutput, HasSafeRows, IsOutputOf, OfOutput, ReadsNothing};
 ghost use Rattle.sdm_run.specs.Shapes.{IsOutcomeIn, OfInput, shape_of};
 ghost use Rattle.sdm_run.specs.Upgrades.{IsReadBack};
 ghost use Rattle.sdm_run.specs.Words.{IsCommandInRange, asked_by};
@@ -46,12 +46,11 @@ pub fn sdm_main<I: Source, O: Sink, E: Sink>(
 ) -> Outcome
     ensures usage { (result ≡ Outcome.Usage) ↔ IsNone (asked_by words.now) }
 
-    // what the command defines for the bytes of the input, and what out took of it
+    // the one output that the command defines for the bytes of the input, and what out took of it
     ensures answer { IfSome (asked_by words.now) (λ command. OfInput (shape_of command) (I.left input.old) (λ bytes.
-        (output : Output) → IsOutputOf command bytes output
-        → IsAnswer output (O.taken out.old) (O.taken out.new) result)) }
+        OfOutput command bytes (λ output. IsAnswer output (O.taken out.old) (O.taken out.new) result))) }
     ensures rows { IfSome (asked_by words.now)
-        (λ command. OfInput (shape_of command) (I.left input.old) (AreRowsSafe command)) }
+        (λ command. OfInput (shape_of command) (I.left input.old) (HasSafeRows command)) }
     ensures possible { IfSome (asked_by words.now) (λ command. IsOutcomeIn (shape_of command) result) }
     ensures complete { IfSome (asked_by words.now) (λ command. OfInput (shape_of command) (I.left input.old) (λ bytes.
         (output : Output) → IsOutputOf command bytes output

@@ -9,6 +9,7 @@ mod events;
 mod faults;
 mod inputs;
 mod io;
+mod live;
 mod runs;
 mod trial;
 

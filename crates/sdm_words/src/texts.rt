@@ -1,4 +1,4 @@
-//! The texts of `version` and `help`, written by scripts/manual write.
+//! The texts of `version` and `help`, written by scripts/house write manual.
 
 /// The text of `version`, and that of `help`: an array, since a clause can cite one.
 pub const TEXTS: [&str; 2] = [

@@ -45,7 +45,7 @@ fn put_word(alloc: Global, word: &str, words: &mut Vec<String>) -> bool {
 }
 
 /// Adds the numbers that a field writes; `-` is none. False where one is no number or no memory is left.
-fn put_numbers(field: &str, numbers: &mut Vec<u32>) -> bool {
+pub fn put_numbers(field: &str, numbers: &mut Vec<u32>) -> bool {
     for word in field.split_whitespace() {
         if word != "-" && !put_number(word, numbers) {
             return false;

@@ -1,12 +1,13 @@
 -- One turn after the other.
-use Rattle.std.proofs.Common.{◌≡◌, ◌∷◌, [], ap, take, arith}
+use Rattle.std.proofs.Common.{◌≡◌, ◌+◌, ◌∷◌, [], ap, subst, take, arith}
 use Rattle.sdm_live.specs.declared.live.Ended.TheVariants.{Done, ReadFault, WriteFault, Endless}
-use Rattle.sdm_live.specs.Answers.{IsLiveAnswer}
+use Rattle.sdm_live.specs.Answers.{IsLiveAnswer, most_asks}
 use Rattle.sdm_live.specs.Exchanges.{Gave, Gave_fault, IsPrompt}
 use Rattle.sdm_live.specs.Moments.{due_after, whole_after}
 use Rattle.sdm_live.specs.Taken.{IsEndedPart, IsPieceAnswered, IsRestAnswered, IsTakenPart}
-use Rattle.sdm_live.proofs.Along.{along_map, along_then}
-use Rattle.sdm_live.proofs.Serving.{IsAnsweredSoFar, IsAskedSoFar, answered_now, asked, begun_of, fault_answered, fault_prompt, first_cut_of}
+use Rattle.sdm_live.proofs.Along.{along_both, along_map, along_then}
+use Rattle.sdm_live.proofs.Serving.{HasAsked, IsAnsweredSoFar, IsAskedSoFar, answered_now, asked, asked_again, asked_never}
+use Rattle.sdm_live.proofs.Serving.{asked_still, begun_of, fault_answered, fault_prompt, first_cut_of}
 use Rattle.sdm_live.proofs.Serving.{next_so_far, piece_cut, quiet_since, rest_cut, rest_whole}
 use Rattle.sdm_live.proofs.live.serve.Goals as goal
 
@@ -31,6 +32,8 @@ reads-init g c =
           (λ h k p. begun_of rules first given c.answer_piece.new.step c.new-line.result c.answer_piece.new.line h k
           c.new-line.ensures p)
           c.in-Ok.ensures.ok;
+      asked = along_map _ _ (IsPieceAnswered rules first c.new-line.result given c.answer_piece.new.step
+          c.answer_piece.new.line) (HasAsked 0) (λ h k p. asked_never h k p.taken.quiet) c.in-Ok.ensures.ok;
       later = c.in-Ok.ensures.cause.later;
     }
 
@@ -194,6 +197,12 @@ reads-preserved g c =
           (IsAnsweredSoFar rules first given c.answer_piece-in-reads.new.step c.answer_piece-in-reads.new.line)
           (λ h l m p q. next_so_far rules first given state line bytes h l m p c.answer_piece-in-reads.new.step c.answer_piece-in-reads.new.line q)
           so_far c.in-Ok-answer_piece.ensures.ok;
+      asked = along_then _ _ _ (HasAsked (c.reads.asks + 1))
+          (IsPieceAnswered rules state line bytes c.answer_piece-in-reads.new.step c.answer_piece-in-reads.new.line)
+          (HasAsked (c.reads.asks + 1)) (λ h l m p q. asked_still (c.reads.asks + 1) h l m p q.taken.quiet)
+          (along_then _ _ _ (HasAsked c.reads.asks) (λ k l. l ≡ Gave bytes ∷ k) (HasAsked (c.reads.asks + 1))
+          (λ h k l p q. asked_again c.reads.asks bytes h k l p q) c.reads.invariant.asked c.in-Ok-ask.ensures.told)
+          c.in-Ok-answer_piece.ensures.ok;
       later = omega (arith, later, asked_later, piece_later);
     }
 
@@ -204,6 +213,11 @@ returns-clause-answer g c =
     let given = c.args.given.now in
     let state = c.reads.step in
     let line = c.reads.line in
-    along_map _ _ (IsAnsweredSoFar rules first given state line)
+    let most : c.reads.asks ≡ most_asks = omega (arith, c.reads.auto.asks-end, c.reads-test.false) in
+    along_both _ _ (IsAnsweredSoFar rules first given state line) (HasAsked c.reads.asks)
     (λ h m. IsLiveAnswer (due_after rules first given) (whole_after rules first given) h Endless m)
-    (λ h k p. answered_now rules first given state line h k p) c.reads.invariant.so_far
+    (λ h k p asked. record {
+      answered = answered_now rules first given state line h k p;
+      asks = subst (λ n. HasAsked n h k) most asked;
+    })
+    c.reads.invariant.so_far c.reads.invariant.asked

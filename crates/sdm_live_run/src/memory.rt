@@ -1,0 +1,133 @@
+//! A peer over memory that tells what went to and fro: it gives the bytes of an input, a few at a time, takes all, and logs
+//! each call. It wants all that was due before it is asked.
+
+ghost use Rattle.std.specs.Prelude.{◌≡◌, ◌∷◌, [], Some, IfSome, IfOk, OnOk, OnErr, length, ◌<◌};
+ghost use Rattle.std.specs.Io.{ReadsAtMost, WritesAtMost};
+ghost use Rattle.sdm_io.specs.Causes.{HasCause};
+ghost use Rattle.sdm_live.specs.Exchanges.{Along, Gave, Given_on, Told, Took};
+ghost use Rattle.sdm_live_run.specs.Live.{IsAnsweredLive, IsPromptLive};
+ghost use Rattle.sdm_live_run.specs.Memory.{history_of};
+ghost use Rattle.sdm_live_run.specs.SameRun.{IsRunLive};
+
+use crate::live_run::sdm_live_main;
+use sdm_io::{Failed, NullSink};
+use sdm_live::Peer;
+use sdm_report::Outcome;
+use std::alloc::Global;
+
+/// A call that was made. (own)
+#[derive(Drop)]
+pub enum Call {
+    /// These bytes were given.
+    Gave(Vec<u8>),
+    /// These were taken.
+    Took(Vec<u8>),
+    /// What was taken was given on.
+    GivenOn,
+}
+
+/// The peer over memory. Where memory for its log is refused it tells nothing from then on. (own)
+#[derive(Drop)]
+pub struct MemoryPeer<'a> {
+    alloc: Global,
+    rest: &'a [u8],
+    most: usize,
+    /// The calls so far, the oldest first.
+    pub log: Vec<Call>,
+    /// Memory for a call was refused, so the log says nothing any more.
+    pub lost: bool,
+}
+
+impl<'a> MemoryPeer<'a> {
+    /// Gives these bytes, at most so many at once.
+    pub fn new(alloc: Global, bytes: &'a [u8], most: usize) -> MemoryPeer<'a>
+        ensures { history_of result.lost result.log.items ≡ Some [] }
+    {
+        MemoryPeer {
+            alloc,
+            rest: bytes,
+            most,
+            log: Vec::new(alloc),
+            lost: false,
+        }
+    }
+}
+
+/// Logs that these bytes were given.
+#[tactic(auto, using(crate::proofs::Logging::noted, crate::proofs::Logging::lost_now))]
+fn note_gave(alloc: Global, log: &mut Vec<Call>, lost: &mut bool, bytes: &[u8])
+    ensures { Along (history_of lost.old log.old.items) (history_of lost.new log.new.items)
+        (λ h k. k ≡ Gave bytes.now ∷ h) }
+{
+    let Ok(copy) = bytes.to_vec(alloc) else {
+        *lost = true;
+        return;
+    };
+    let Ok(()) = log.push(Call::Gave(copy)) else {
+        *lost = true;
+        return;
+    };
+}
+
+/// Logs that these bytes were taken.
+#[tactic(auto, using(crate::proofs::Logging::noted, crate::proofs::Logging::lost_now))]
+fn note_took(alloc: Global, log: &mut Vec<Call>, lost: &mut bool, bytes: &[u8])
+    ensures { Along (history_of lost.old log.old.items) (history_of lost.new log.new.items)
+        (λ h k. k ≡ Took bytes.now ∷ h) }
+{
+    let Ok(copy) = bytes.to_vec(alloc) else {
+        *lost = true;
+        return;
+    };
+    let Ok(()) = log.push(Call::Took(copy)) else {
+        *lost = true;
+        return;
+    };
+}
+
+/// Logs that what was taken was given on.
+#[tactic(auto, using(crate::proofs::Logging::noted, crate::proofs::Logging::lost_now))]
+fn note_given_on(log: &mut Vec<Call>, lost: &mut bool)
+    ensures { Along (history_of lost.old log.old.items) (history_of lost.new log.new.items) (λ h k. k ≡ Given_on ∷ h) }
+{
+    let Ok(()) = log.push(Call::GivenOn) else {
+        *lost = true;
+        return;
+    };
+}
+
+impl<'a> Peer for MemoryPeer<'a> {
+    ghost history = { λ p. history_of p.lost p.log.items };
+
+    ghost may_be_asked = { λ p. Told (history_of p.lost p.log.items) (IsAnsweredLive []) };
+
+    ghost faults = { λ _. 0 };
+
+    fn ask(&mut self, buffer: &mut [u8]) -> Result<usize, Failed> {
+        let n = self.most.min(buffer.len().min(self.rest.len()));
+        buffer[..n].copy_from_slice(&self.rest[..n]);
+        self.rest = &self.rest[n..];
+        note_gave(self.alloc, &mut self.log, &mut self.lost, &buffer[..n]);
+        Ok(n)
+    }
+
+    fn hand(&mut self, piece: &[u8]) -> Result<usize, Failed> {
+        note_took(self.alloc, &mut self.log, &mut self.lost, piece);
+        Ok(piece.len())
+    }
+
+    fn flush(&mut self) -> Result<(), Failed> {
+        note_given_on(&mut self.log, &mut self.lost);
+        Ok(())
+    }
+}
+
+/// `live` over bytes in memory, with the log of its calls: an instance of the top call, whose clauses can be met together.
+pub fn live_in_memory<'a>(alloc: Global, bytes: &'a [u8], most: usize) -> (Outcome, MemoryPeer<'a>)
+    ensures prompt { Told (history_of result.1.lost result.1.log.items) (IsPromptLive []) }
+    ensures run { result.0 ≡ Outcome.Done → Told (history_of result.1.lost result.1.log.items) (IsRunLive []) }
+{
+    let mut peer = MemoryPeer::new(alloc, bytes, most);
+    let outcome = sdm_live_main(alloc, &mut peer, &mut NullSink::new());
+    (outcome, peer)
+}
