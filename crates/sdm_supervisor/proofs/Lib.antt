@@ -18,3 +18,4 @@ pub mod FlatFacts
 pub mod FlatCurves
 pub mod FlatFormula
 pub mod WithinLaws
+mod ClearLaws

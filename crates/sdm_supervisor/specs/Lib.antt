@@ -7,3 +7,4 @@ pub mod TakeOvers
 pub mod FlatLines
 pub mod Flats
 pub mod FlatLaws
+pub mod Clearances

@@ -1,6 +1,7 @@
 -- What a supervisor stores beside its supervision state (own).
-use Rattle.std.specs.Prelude.{◌≡◌, ℤ, pos, true, None, ◌≤ℤ◌, unsigned_abs}
+use Rattle.std.specs.Prelude.{◌≡◌, ℕ, ℤ, pos, true, None, ◌≤ℤ◌, unsigned_abs}
 use Rattle.sdm_num.specs.Readings.{OdometerReading}
+use Rattle.sdm_num.specs.Units.{notches_of_mm_s}
 use Rattle.sdm_rules.specs.declared.authorities.Authority.{Authority}
 use Rattle.sdm_rules.specs.declared.authorities.Authority.TheVariants.{Stop, Limit}
 use Rattle.sdm_rules.specs.declared.data.SlopeKind.TheVariants.{Safe}
@@ -14,6 +15,7 @@ use Rattle.sdm_rules.specs.Records.{authority_fault}
 use Rattle.sdm_rules.specs.Supervision.{Supervision, profile_of}
 use Rattle.sdm_rules.specs.Targets.{fall_at, foot_speed_of, is_fall}
 use Rattle.sdm_rules.specs.Within.{is_within_svl}
+use Rattle.sdm_laws.specs.TripPlaces.{TripBounds}
 use Rattle.sdm_speed.specs.Profiles.{ProfileData}
 use Rattle.sdm_curve.specs.Made.{BrakeCurve}
 use Rattle.sdm_braking.specs.declared.kept.Kept.{Kept}
@@ -57,3 +59,7 @@ pub record IsClaimOf (s : Supervision) (r : OdometerReading) (place : ℤ) (curv
   pub not_below_0 : pos 0 ≤ℤ place
   pub on_track : place ≤ℤ place_of_cell (pos longest_track)
   pub ebd : IsAuthorityCurve s curve
+
+-- the bounds of readings W in cm and U in mm/s (own)
+abbrev pub bounds_of : ℕ → ℕ → TripBounds
+bounds_of width_cm excess_mm_s = record { width = width_cm; excess = notches_of_mm_s excess_mm_s }

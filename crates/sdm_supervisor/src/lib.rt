@@ -3,7 +3,9 @@
 //! of drives work with slope maps or curves. No code here reads or writes text.
 #![tactic(auto)]
 
+mod allowances;
 mod causes;
+mod clearances;
 mod flat;
 pub mod flat_laws;
 mod nearest;
@@ -13,6 +15,7 @@ mod supervisors;
 mod verdicts;
 mod walks;
 
+pub use allowances::Allowance;
 pub use flat::Flat;
 pub use sdm_formats::FlatRow;
 pub use sdm_rules::{CycleFault, OpenFault, Row, SlopeKind};

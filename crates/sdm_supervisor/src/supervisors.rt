@@ -24,13 +24,17 @@ ghost use Rattle.sdm_supervisor.specs.Sights.{seen_at};
 ghost use Rattle.sdm_rules.specs.declared.display.LimitName.{LimitName};
 ghost use Rattle.sdm_laws.specs.Falls.{MeetsFalls};
 ghost use Rattle.sdm_laws.specs.SupervisionLaws.{IsPassedUpwards};
+ghost use Rattle.sdm_laws.specs.TripPlaces.{HasItsTrip};
 ghost use Rattle.sdm_row_laws.specs.AllCommands.{KeepsAllOrder};
 ghost use Rattle.sdm_row_laws.specs.CoveredFalls.{MeetsEachFall};
 ghost use Rattle.sdm_row_laws.specs.OpenTurns.{HasNearLimits};
 ghost use Rattle.sdm_row_laws.specs.ServiceStop.{CommandsNoBrake, StopsByItsEoa};
 
+mod asked;
+mod clear;
 mod explained;
 mod take_over;
+mod trips;
 mod within;
 
 use crate::sight::Sight;
@@ -224,6 +228,7 @@ impl Supervisor {
             (Stop eoa svl (calculated self.old.train_and_track svl trip))) }
         ensures stops { OnOk result (IsReleaseSpeed self.old.train_and_track svl trip
             (calculated self.old.train_and_track svl trip)) }
+        ensures trip { OnOk result (HasItsTrip self.old.train_and_track eoa svl trip) }
         ensures refused { IfErr result
             (λ fault. trip_fault self.old.train_and_track.track.length_cm eoa svl trip ≡ Some fault) }
         ensures unchanged { OnErr result (self.new ≡ self.old) }
@@ -345,6 +350,14 @@ impl Supervisor {
         ensures { result ≡ shown_target_of self.now reading.now }
     {
         self.sight(reading).shown()
+    }
+
+    /// The time of the last reading that was taken, in ds; none before the first one. A reading that repeats it is judged
+    /// too, though it tells nothing new: whoever waits for a new one compares. (own)
+    pub fn last_time(&self) -> Option<u32>
+        ensures { result ≡ self.now.last_time }
+    {
+        self.last_time
     }
 
     /// Judges a reading, and takes its time and the commands after it. TimeBack comes exactly where its time is before

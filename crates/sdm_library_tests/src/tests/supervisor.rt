@@ -3,8 +3,10 @@
 
 ghost use Rattle.std.specs.Prelude.{◌≤◌};
 
+mod asked;
 mod curves;
 mod flat;
+mod stops;
 
 use crate::tests::plain::{opened, parts_of, plain_parts, stop};
 use sdm_braking::TrainAndTrack;
@@ -146,13 +148,16 @@ fn refuses_time(supervisor: &mut Supervisor, reading: Option<Reading>, last: u32
     }
 }
 
-/// Times may be equal and never go back; a time that is refused isn't kept, nor what its reading says.
+/// Times may be equal and never go back; a time that is refused isn't kept, nor what its reading says. None is told
+/// before the first reading.
 fn keeps_its_time(supervisor: &mut Supervisor) -> bool {
     let at_10 = "10,C,N,0,0,0,1,160,1000000,1000000,1000000,1000000,1000000";
     let at_11 = "11,C,N,0,0,0,1,160,1000000,1000000,1000000,1000000,1000000";
-    is_answered(supervisor, reading(10, 0, 0), at_10)
+    supervisor.last_time().is_none()
+        && is_answered(supervisor, reading(10, 0, 0), at_10)
         && refuses_time(supervisor, reading(9, 900_000, 40_000), 10)
         && refuses_time(supervisor, reading(9, 0, 0), 10)
+        && supervisor.last_time() == Some(10)
         && is_answered(supervisor, reading(10, 0, 0), at_10)
         && is_answered(supervisor, reading(11, 0, 0), at_11)
         && refuses_time(supervisor, reading(10, 0, 0), 11)
