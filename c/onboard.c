@@ -23,6 +23,8 @@ static const struct orders BRAKE = {true, true, true};
 
 struct onboard {
     struct sdm supervisor;
+    bool is_judged; /* a reading was, and the last one had this time */
+    uint32_t last_time_ds;
     bool is_authority_missing;   /* the last authority was refused */
     bool is_restriction_missing; /* a restriction was refused: it takes a restart to run on */
     struct orders orders;
@@ -38,14 +40,19 @@ static struct orders orders_of(const struct sdm_row *row, bool is_unsupervised) 
     return orders;
 }
 
-/* Takes a reading. One that is refused isn't judged; to brake then is always enough. */
+/* Takes a reading. One that repeats the time of the last one tells nothing new: it is a missing one. One that is refused
+ * isn't judged. To brake then is always enough. */
 static void take_reading(struct onboard *onboard, const struct sdm_reading *reading) {
     struct sdm_row row;
     memset(&row, 0, sizeof row);
-    if (sdm_cycle(&onboard->supervisor, reading, &row) == SDM_DONE)
-        onboard->orders = orders_of(&row, onboard->is_authority_missing || onboard->is_restriction_missing);
-    else
+    bool is_repeated = onboard->is_judged && reading->time_ds == onboard->last_time_ds;
+    if (is_repeated || sdm_cycle(&onboard->supervisor, reading, &row) != SDM_DONE) {
         onboard->orders = BRAKE;
+        return;
+    }
+    onboard->orders = orders_of(&row, onboard->is_authority_missing || onboard->is_restriction_missing);
+    onboard->is_judged = true;
+    onboard->last_time_ds = reading->time_ds;
 }
 
 /* Notes whether an authority or a restriction is missing now; where it is, the brake is ordered at once. */
@@ -138,7 +145,7 @@ static void run_further(struct onboard *onboard, const char *name, unsigned *num
 }
 
 int main(int count, char **words) {
-    struct onboard onboard = {SDM_INIT, false, false, BRAKE};
+    struct onboard onboard = {SDM_INIT, false, 0, false, false, BRAKE};
     struct journey journey;
     unsigned number = 1;
     if (sdm_layout() != SDM_LAYOUT || journey_read(stdin, &journey) != JOURNEY_READ)

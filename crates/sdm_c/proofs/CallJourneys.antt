@@ -156,7 +156,7 @@ module _ (s : Supervision) (w : Written) (opening : Result Supervision ℕ) (bef
   one n calls.Close later rest same = same n
 
   -- which supervisor it leaves
-  stays : (c : Call) → IsTrue (keeps_data c) → left s before c ≡ Some (after_record s (record_of c))
+  pub stays : (c : Call) → IsTrue (keeps_data c) → left s before c ≡ Some (after_record s (record_of c))
   stays calls.Open is = refl
   stays (calls.Cycle r) is = refl
   stays (calls.End eoa svl release) is = refl

@@ -7,4 +7,6 @@ pub mod OneCall
 pub mod MadeCalls
 pub mod CallFolds
 pub mod CallJourneys
+pub mod CallSteps
 pub mod CallCases
+pub mod OpeningCases

@@ -7,3 +7,4 @@ pub mod Statuses
 pub mod Openings
 pub mod CallLists
 pub mod CallRows
+pub mod CallRides

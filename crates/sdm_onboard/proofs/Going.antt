@@ -12,6 +12,7 @@ use Rattle.sdm_rules.specs.declared.faults.EventCause.{EventCause}
 use Rattle.sdm_rules.specs.declared.faults.EventCause.TheVariants as causes
 use Rattle.sdm_rules.specs.declared.faults.RestrictFault.{RestrictFault}
 use Rattle.sdm_rules.specs.declared.faults.RevokeFault.{RevokeFault}
+use Rattle.sdm_rules.specs.declared.faults.TakeOverFault.{TakeOverFault}
 use Rattle.sdm_rules.specs.declared.records.Event.{Event}
 use Rattle.sdm_rules.specs.declared.records.Event.TheVariants as record_kinds
 use Rattle.sdm_rules.specs.declared.restrictions.Restriction.{Restriction}
@@ -19,10 +20,10 @@ use Rattle.sdm_rules.specs.declared.rows.Row.{Row}
 use Rattle.sdm_rules.specs.Records.{authority_fault, restrict_fault, revoke_fault, step, time_cause, time_fault, unless}
 use Rattle.sdm_rules.specs.Supervision.{Supervision, after_authority, after_reading, after_restriction}
 use Rattle.sdm_rules.specs.Supervision.{after_revocation, row_of}
-use Rattle.sdm_ride.specs.declared.happenings.Happening.{Happening}
-use Rattle.sdm_ride.specs.declared.happenings.Happening.TheVariants.{Record, Unread, Overdue}
+use Rattle.sdm_rules.specs.TakeOver.{change, take_over_fault, taken_over, unless_refused}
+use Rattle.sdm_ride.specs.Happenings.{Happening, Record, Unread, Overdue, Change}
 use Rattle.sdm_ride.specs.Moments.{Judging, is_ordered, is_release}
-use Rattle.sdm_ride.specs.Orders.{Computer, GoesOn, reading_if, taken_or}
+use Rattle.sdm_ride.specs.Orders.{Computer, GoesOn, changed_or, reading_if, taken_or}
 use Rattle.sdm_service_ride.specs.ServiceMoments.{commands_brake}
 
 -- a record in which no reading is judged, where it takes no order away
@@ -163,6 +164,36 @@ overdue j before now same braked = record {
   overdue = λ _. braked;
   stands = λ _ _. braked;
 }
+
+-- a change of data that is taken, and one that is refused
+changed : (j : Judging) (before now : Computer) (next : Supervision) (t : Result Supervision TakeOverFault) →
+    change next before.supervision ≡ t → now.supervision ≡ changed_or before.supervision t →
+    (before.orders_brake ≡ true → now.orders_brake ≡ true) →
+    GoesOn j before (Change next) now
+changed j before now next t is same stands = record {
+  supervision = same ∙ ap (changed_or before.supervision) (sym is);
+  judged = λ r judged orders. absurd (none-some r judged);
+  overdue = λ other. absurd cc;
+  stands = λ _ stood. stands stood;
+}
+
+pub taken_data : (j : Judging) (before now : Computer) (next : Supervision) →
+    take_over_fault next.train_and_track.track.length_cm before.supervision.restrictions ≡ None →
+    now.supervision ≡ taken_over next before.supervision → (before.orders_brake ≡ true → now.orders_brake ≡ true) →
+    GoesOn j before (Change next) now
+unfolding change
+taken_data j before now next none taken stands =
+    let t = taken_over next before.supervision in
+    changed j before now next (Ok t) (ap (λ f. unless_refused f t) none) taken stands
+
+pub refused_data : (j : Judging) (before now : Computer) (next : Supervision) (fault : TakeOverFault) →
+    take_over_fault next.train_and_track.track.length_cm before.supervision.restrictions ≡ Some fault →
+    now.supervision ≡ before.supervision → (before.orders_brake ≡ true → now.orders_brake ≡ true) →
+    GoesOn j before (Change next) now
+unfolding change
+refused_data j before now next fault is same stands =
+    changed j before now next (Err fault) (ap (λ f. unless_refused f (taken_over next before.supervision)) is) same
+    stands
 
 -- an order more than is asked for
 pub braked : (j : Judging) (before now later : Computer) (h : Happening) → later.supervision ≡ now.supervision →

@@ -1,3 +1,5 @@
 pub mod Going
 pub mod Taking
 pub mod Runs
+pub mod Remembering
+pub mod Brakes

@@ -1,16 +1,21 @@
 -- A computer over messages and ticks goes on as a ride does: its clause says so of a message, and a tick changes
 -- nothing.
 use Rattle.std.proofs.Common.{◌≡◌, ◌⊎◌, ℕ, true, List, [], ◌∷◌, refl, subst, sym, inl, inr}
-use Rattle.std.specs.Prelude.{map, None}
-use Rattle.sdm_ride.specs.declared.happenings.Happening.{Happening}
-use Rattle.sdm_ride.specs.declared.happenings.Happening.TheVariants.{Overdue, Tick}
+use Rattle.std.specs.Prelude.{All, map, None, suc}
+use Rattle.std.proofs.Common.{arith}
+use Rattle.std.proofs.lemmas.List.Elements.{All-nil, All-cons}
+use Rattle.sdm_ride.specs.Happenings.{Happening, Overdue, Tick}
 use Rattle.sdm_ride.specs.Moments.{Judging, by_rows}
 use Rattle.sdm_ride.specs.Orders.{AllGoOn, Computer, GoesOn}
+use Rattle.sdm_ride.specs.RideLaws.{EndsBy}
+use Rattle.sdm_ride.proofs.ComputerRides.{computer_places, computer_rides}
 use Rattle.sdm_ride.proofs.Computers.{orders}
 use Rattle.sdm_service_ride.specs.ServiceMoments.{by_eoa}
 use Rattle.sdm_service_ride.proofs.ServiceComputers.{service_orders}
 use Rattle.sdm_onboard.specs.declared.onboard.Onboard.{Onboard}
-use Rattle.sdm_onboard.specs.Messages.{Follows, IsOver, IsRun, LawOfMessages, LawOfServiceMessages, computer_of, service_of}
+use Rattle.sdm_onboard.specs.Messages.{Follows, computer_of, service_of}
+use Rattle.sdm_onboard.specs.Runs.{IsOver, IsRun, LawOfMessagePlaces, LawOfMessageRides, LawOfMessages}
+use Rattle.sdm_onboard.specs.Runs.{LawOfServiceMessages}
 
 -- in a tick nothing changes
 over_tick : (j : Judging) (c : Computer) (to length : ℕ) → GoesOn j c (Tick to length) c
@@ -21,9 +26,10 @@ over_tick j c to length = record {
   stands = λ none stood. stood;
 }
 
-goes_on : (o : Onboard) (h : Happening) (p : Onboard) → IsOver o h p → Follows o h p
+pub goes_on : (o : Onboard) (h : Happening) (p : Onboard) → IsOver o h p → Follows o h p
 goes_on o h p (inl x) = x.1.follows
-goes_on o h p (inr x) =
+goes_on o h p (inr (inl x)) = x.1.follows
+goes_on o h p (inr (inr x)) =
     subst (λ (h : Happening). Follows o h p) (sym x.2)
     (subst (λ (q : Onboard). Follows o (Tick x.0 x.1) q) (sym x.3)
     (record {
@@ -53,3 +59,24 @@ pub service_runs : LawOfServiceMessages
 service_runs a m o hs os same run =
     service_orders a m (service_of o) hs (map service_of os) same
     (all_go_on by_eoa service_of (λ o h p follows. follows.service) o hs os run)
+
+-- ---- the train
+
+-- what holds of each computer holds of what is seen of it
+all_seen : {A B : Type 0} (P : B → Type 0) (f : A → B) (xs : List A) → All (λ x. P (f x)) xs → All P (map f xs)
+all_seen P f [] all = All-nil P
+all_seen P f (x ∷ xs) all =
+    All-cons P (f x) (map f xs) (all 0 x (omega arith)) (all_seen P f xs (λ k d lt. all (suc k) d (omega arith)))
+
+-- the ride of the computer
+pub message_rides : LawOfMessageRides
+message_rides w s m o hs os s_pos start same run ride =
+    computer_rides.rows w s m (computer_of o) hs (map computer_of os) s_pos start same
+    (all_go_on by_rows computer_of (λ o h p follows. follows.emergency) o hs os run) ride
+
+-- from messages to the place
+pub message_places : LawOfMessagePlaces
+message_places w s place m o hs os s_pos start same run ride ends =
+    computer_places.rows w s place m (computer_of o) hs (map computer_of os) s_pos start same
+    (all_go_on by_rows computer_of (λ o h p follows. follows.emergency) o hs os run) ride
+    (all_seen (λ d. EndsBy place d.supervision.authority) computer_of (o ∷ os) ends)

@@ -1,31 +1,50 @@
 -- What each kind of message is for the ride, as the clause of a computer that takes it says.
-use Rattle.std.proofs.Common.{◌≡◌, ◌∙◌, ℕ, true, Option, Some, None, refl, ap, inl, inr}
+use Rattle.std.proofs.Common.{◌≡◌, ◌∙◌, ◌==◌, ℕ, Bool, true, false, Option, Some, None, refl, ap, subst, sym, inl, inr}
 use Rattle.std.specs.Prelude.{Result, Ok, Err, OnOk, OnErr, IfErr}
+use Rattle.std.specs.Option.{option_eq}
+use Rattle.std.proofs.lemmas.Bool.{true≢false}
+use Rattle.std.proofs.lemmas.Bool.Decides.{eqb_tells}
 use Rattle.sdm_num.specs.Readings.{IsReading}
 use Rattle.sdm_rules.specs.declared.authorities.Authority.{Authority}
 use Rattle.sdm_rules.specs.declared.faults.AuthorityFault.{AuthorityFault}
 use Rattle.sdm_rules.specs.declared.faults.RestrictFault.{RestrictFault}
 use Rattle.sdm_rules.specs.declared.faults.RevokeFault.{RevokeFault}
+use Rattle.sdm_rules.specs.declared.faults.TakeOverFault.{TakeOverFault}
 use Rattle.sdm_rules.specs.declared.records.Event.TheVariants as record_kinds
 use Rattle.sdm_rules.specs.declared.restrictions.Restriction.{Restriction}
 use Rattle.sdm_rules.specs.Records.{authority_fault, restrict_fault, revoke_fault}
-use Rattle.sdm_rules.specs.Supervision.{after_authority, after_restriction, after_revocation}
-use Rattle.sdm_ride.specs.declared.happenings.Happening.{Happening}
-use Rattle.sdm_ride.specs.declared.happenings.Happening.TheVariants.{Record, Unread, Overdue}
+use Rattle.sdm_rules.specs.Supervision.{Supervision, after_authority, after_restriction, after_revocation}
+use Rattle.sdm_rules.specs.TakeOver.{take_over_fault, taken_over}
+use Rattle.sdm_ride.specs.Happenings.{Happening, Record, Unread, Overdue, Change}
 use Rattle.sdm_ride.specs.Moments.{by_rows}
 use Rattle.sdm_service_ride.specs.ServiceMoments.{by_eoa}
 use Rattle.sdm_onboard.specs.declared.messages.Message.{Message}
 use Rattle.sdm_onboard.specs.declared.messages.Message.TheVariants as messages
 use Rattle.sdm_onboard.specs.declared.messages.Odometry.{Odometry}
 use Rattle.sdm_onboard.specs.declared.onboard.Onboard.{Onboard}
-use Rattle.sdm_onboard.specs.Messages.{Follows, HasSpeed, Takes, computer_of, reading_in, service_of}
+use Rattle.sdm_onboard.specs.declared.opening.OpeningFault.{OpeningFault}
+use Rattle.sdm_onboard.specs.Messages.{Changes, Follows, HasSpeed, IsOpenedFor, IsRepeated, Takes, computer_of}
+use Rattle.sdm_onboard.specs.Messages.{reading_in, service_of}
+use Rattle.sdm_onboard.specs.Missing.{IsBraked}
 use Rattle.sdm_onboard.proofs.Going as going
 
+-- a time that isn't that of the last reading
+pub not_again : (last : Option ℕ) (time : ℕ) (equal : Bool) → equal ≡ option_eq (λ a b. a == b) last (Some time) →
+    equal ≡ false → last ≡ Some time → ⊥
+not_again last time equal is differs again =
+    let same : (time == time) ≡ false =
+    subst (λ (o : Option ℕ). option_eq (λ a b. a == b) o (Some time) ≡ false) again (sym is ∙ differs) in
+    elim (eqb_tells time time) [
+      | inl e ↦ true≢false (sym e.0 ∙ same)
+      | inr e ↦ e.1 refl
+    ]
+
+-- a reading that tells of a new moment
 pub reading : (before now : Onboard) (o : Odometry) → IsReading (reading_in o) →
-    Follows before (Record (record_kinds.Read (reading_in o))) now →
+    (IsRepeated before.supervisor o → ⊥) → Follows before (Record (record_kinds.Read (reading_in o))) now →
     (h : Happening) × Takes before (messages.Odometry o) h now
-reading before now o is follows =
-    (Record (record_kinds.Read (reading_in o)), record { is_for = inl (is, refl); follows = follows })
+reading before now o is new follows =
+    (Record (record_kinds.Read (reading_in o)), record { is_for = inl (is, (new, refl)); follows = follows })
 
 -- a record out of its form, which takes no order away
 follows_unread : (before now : Onboard) → now.supervisor ≡ before.supervisor →
@@ -42,21 +61,27 @@ pub unread : (before now : Onboard) (o : Odometry) → (IsReading (reading_in o)
     (before.orders.service ≡ true → now.orders.service ≡ true) →
     (h : Happening) × Takes before (messages.Odometry o) h now
 unread before now o not same stands serves =
-    (Unread, record { is_for = inr (not, refl); follows = follows_unread before now same stands serves })
+    (Unread, record { is_for = inr (inr (not, refl)); follows = follows_unread before now same stands serves })
 
-pub missing : (before now : Onboard) → now.supervisor ≡ before.supervisor → now.orders.emergency ≡ true →
-    now.orders.service ≡ true →
+-- a missing reading: then both brakes are ordered
+follows_overdue : (before now : Onboard) → now.supervisor ≡ before.supervisor → IsBraked now.orders →
+    Follows before Overdue now
+follows_overdue before now same braked = record {
+  emergency = going.overdue by_rows (computer_of before) (computer_of now) same braked.emergency;
+  service = going.overdue by_eoa (service_of before) (service_of now) same braked.service;
+}
+
+pub missing : (before now : Onboard) → now.supervisor ≡ before.supervisor → IsBraked now.orders →
     (h : Happening) × Takes before messages.Overdue h now
-missing before now same braked served = (
-  Overdue,
-  record {
-    is_for = refl;
-    follows = record {
-      emergency = going.overdue by_rows (computer_of before) (computer_of now) same braked;
-      service = going.overdue by_eoa (service_of before) (service_of now) same served;
-    };
-  },
-)
+missing before now same braked =
+    (Overdue, record { is_for = refl; follows = follows_overdue before now same braked })
+
+-- so is one that repeats a time
+pub repeated : (before now : Onboard) (o : Odometry) → IsReading (reading_in o) → IsRepeated before.supervisor o →
+    now.supervisor ≡ before.supervisor → IsBraked now.orders →
+    (h : Happening) × Takes before (messages.Odometry o) h now
+repeated before now o is again same braked =
+    (Overdue, record { is_for = inr (inl (is, (again, refl))); follows = follows_overdue before now same braked })
 
 -- an authority that is taken
 pub authority : (before now : Onboard) (a : Authority) →
@@ -170,6 +195,53 @@ refused_revocation before now id fault is same kept = (
     };
   },
 )
+
+-- a supervisor that was opened is changed to
+opened_for : (opened : Result Supervision OpeningFault) (next : Supervision) → opened ≡ Ok next →
+    IsOpenedFor opened (Change next)
+opened_for opened next is = subst (λ o. IsOpenedFor o (Change next)) (sym is) refl
+
+-- new data that are taken
+pub taken_data : (before now : Onboard) (opened : Result Supervision OpeningFault) (next : Supervision) →
+    opened ≡ Ok next →
+    take_over_fault next.train_and_track.track.length_cm before.supervisor.restrictions ≡ None →
+    now.supervisor ≡ taken_over next before.supervisor → now.orders ≡ before.orders →
+    (h : Happening) × Changes before opened h now
+taken_data before now opened next is_opened none taken same = (
+  Change next,
+  record {
+    is_for = opened_for opened next is_opened;
+    follows = record {
+      emergency = going.taken_data by_rows (computer_of before) (computer_of now) next none taken
+          (λ stood. ap (λ o. o.emergency) same ∙ stood);
+      service = going.taken_data by_eoa (service_of before) (service_of now) next none taken
+          (λ stood. ap (λ o. o.service) same ∙ stood);
+    };
+  },
+)
+
+-- new data whose supervisor doesn't take over: then both brakes are ordered
+pub refused_data : (before now : Onboard) (opened : Result Supervision OpeningFault) (next : Supervision)
+    (fault : TakeOverFault) → opened ≡ Ok next →
+    take_over_fault next.train_and_track.track.length_cm before.supervisor.restrictions ≡ Some fault →
+    now.supervisor ≡ before.supervisor → now.orders.emergency ≡ true → now.orders.service ≡ true →
+    (h : Happening) × Changes before opened h now
+refused_data before now opened next fault is_opened is same braked served = (
+  Change next,
+  record {
+    is_for = opened_for opened next is_opened;
+    follows = record {
+      emergency = going.refused_data by_rows (computer_of before) (computer_of now) next fault is same (λ _. braked);
+      service = going.refused_data by_eoa (service_of before) (service_of now) next fault is same (λ _. served);
+    };
+  },
+)
+
+-- new data that open no supervisor
+pub unopened : (before now : Onboard) (fault : OpeningFault) → now.supervisor ≡ before.supervisor →
+    now.orders.emergency ≡ true → now.orders.service ≡ true → (h : Happening) × Changes before (Err fault) h now
+unopened before now fault same braked served =
+    (Unread, record { is_for = refl; follows = follows_unread before now same (λ _. braked) (λ _. served) })
 
 -- an order more than a message asks for
 pub braked : (before now later : Onboard) (message : Message) → later.supervisor ≡ now.supervisor →

@@ -1,19 +1,19 @@
 -- The computer beside a ride: what a message is for the ride, and how the computer goes on with it (own).
-use Rattle.std.specs.Prelude.{◌≡◌, ◌⊎◌, ℕ, pos, ⊤, List, [], ◌∷◌, ◌≤◌, ◌+ℤ◌, ◌-ℤ◌, map}
+use Rattle.std.specs.Prelude.{◌≡◌, ◌⊎◌, pos, Some, ◌≤◌, ◌+ℤ◌, ◌-ℤ◌, Result, Ok, Err}
 use Rattle.sdm_num.specs.Readings.{IsReading, OdometerReading, reading_of}
 use Rattle.sdm_num.specs.Units.{top_kmh}
 use Rattle.sdm_rules.specs.declared.records.Event.TheVariants as record_kinds
 use Rattle.sdm_rules.specs.declared.restrictions.Restriction.{Restriction}
-use Rattle.sdm_ride.specs.declared.happenings.Happening.{Happening}
-use Rattle.sdm_ride.specs.declared.happenings.Happening.TheVariants.{Record, Unread, Overdue, Tick}
-use Rattle.sdm_ride.specs.Moments.{Moment, by_rows}
-use Rattle.sdm_ride.specs.Orders.{AllOrderAs, Computer, GoesOn, OrdersAs}
-use Rattle.sdm_service_ride.specs.ServiceMoments.{Allowance, by_eoa}
-use Rattle.sdm_service_ride.specs.ServiceOrders.{AllServeAs}
+use Rattle.sdm_rules.specs.Supervision.{Supervision}
+use Rattle.sdm_ride.specs.Happenings.{Happening, Record, Unread, Overdue, Change}
+use Rattle.sdm_ride.specs.Moments.{by_rows}
+use Rattle.sdm_ride.specs.Orders.{Computer, GoesOn}
+use Rattle.sdm_service_ride.specs.ServiceMoments.{by_eoa}
 use Rattle.sdm_onboard.specs.declared.messages.Message.{Message}
 use Rattle.sdm_onboard.specs.declared.messages.Message.TheVariants as messages
 use Rattle.sdm_onboard.specs.declared.messages.Odometry.{Odometry}
 use Rattle.sdm_onboard.specs.declared.onboard.Onboard.{Onboard}
+use Rattle.sdm_onboard.specs.declared.opening.OpeningFault.{OpeningFault}
 
 -- what the odometer tells as a reading: the front end is known to 5 m, the speed to 0.2 m/s (own)
 abbrev pub reading_in : Odometry → OdometerReading
@@ -24,17 +24,27 @@ pub record HasSpeed (r : Restriction) : Type 0 where
   pub slowest : 1 ≤ r.speed
   pub fastest : r.speed ≤ top_kmh
 
--- what a message is for the ride: a record of it, which is unread where it is out of its form; or a missing reading
--- (own)
-abbrev pub IsFor : Message → Happening → Type 0
-IsFor (messages.Odometry o) h =
-    (IsReading (reading_in o) × (h ≡ Record (record_kinds.Read (reading_in o))))
-    ⊎ ((IsReading (reading_in o) → ⊥) × (h ≡ Unread))
-IsFor messages.Overdue h = h ≡ Overdue
-IsFor (messages.Authority a) h = h ≡ Record (record_kinds.Authority a)
-IsFor (messages.Restriction r) h =
+-- the odometer repeats the time of the last reading that was judged (own)
+abbrev pub IsRepeated : Supervision → Odometry → Type 0
+IsRepeated s o = s.last_time ≡ Some o.time
+
+-- what an odometer's message is for the ride: a reading; where it repeats a time a missing one, since it tells nothing of
+-- another moment; and where it is out of its form an unread record (own)
+abbrev pub IsForReading : Supervision → Odometry → Happening → Type 0
+IsForReading s o h =
+    (IsReading (reading_in o) × ((IsRepeated s o → ⊥) × (h ≡ Record (record_kinds.Read (reading_in o)))))
+    ⊎ ((IsReading (reading_in o) × (IsRepeated s o × (h ≡ Overdue)))
+    ⊎ ((IsReading (reading_in o) → ⊥) × (h ≡ Unread)))
+
+-- what a message is for the ride, by what the supervisor holds: a record of it, which is unread where it is out of its
+-- form; or a missing reading (own)
+abbrev pub IsFor : Supervision → Message → Happening → Type 0
+IsFor s (messages.Odometry o) h = IsForReading s o h
+IsFor s messages.Overdue h = h ≡ Overdue
+IsFor s (messages.Authority a) h = h ≡ Record (record_kinds.Authority a)
+IsFor s (messages.Restriction r) h =
     (HasSpeed r × (h ≡ Record (record_kinds.Restrict r))) ⊎ ((HasSpeed r → ⊥) × (h ≡ Unread))
-IsFor (messages.Revocation id) h = h ≡ Record (record_kinds.Revoke id)
+IsFor s (messages.Revocation id) h = h ≡ Record (record_kinds.Revoke id)
 
 -- what the computer's supervisor holds, and whether the emergency brake stands at its interface (own)
 abbrev pub computer_of : Onboard → Computer
@@ -52,32 +62,15 @@ pub record Follows (before : Onboard) (h : Happening) (now : Onboard) : Type 0 w
 
 -- so it does with a message (own)
 pub record Takes (before : Onboard) (message : Message) (h : Happening) (now : Onboard) : Type 0 where
-  pub is_for : IsFor message h
+  pub is_for : IsFor before.supervisor message h
   pub follows : Follows before h now
 
--- between messages ticks pass, in which the computer stays as it is (own)
-abbrev pub IsOver : Onboard → Happening → Onboard → Type 0
-IsOver before h now =
-    ((message : Message) × Takes before message h now)
-    ⊎ ((to : ℕ) × (length : ℕ) × (h ≡ Tick to length) × (now ≡ before))
+-- what an opening over new data is for the ride: a change to them, or nothing that the supervisor is asked (own)
+abbrev pub IsOpenedFor : Result Supervision OpeningFault → Happening → Type 0
+IsOpenedFor (Ok next) h = h ≡ Change next
+IsOpenedFor (Err fault) h = h ≡ Unread
 
--- the computer over happenings one after the other, each a message that it takes or a tick (own)
-abbrev pub IsRun : Onboard → List Happening → List Onboard → Type 0
-IsRun o [] [] = ⊤
-IsRun o [] (p ∷ ps) = ⊥
-IsRun o (h ∷ hs) [] = ⊥
-IsRun o (h ∷ hs) (p ∷ ps) = IsOver o h p × IsRun p hs ps
-
--- over every list of messages, with any ticks between them, the emergency brake stands at the interface wherever the
--- ride counts an order of it
-abbrev pub LawOfMessages : Type 0
-LawOfMessages =
-    (m : Moment) (o : Onboard) (hs : List Happening) (os : List Onboard) → OrdersAs m (computer_of o) →
-    IsRun o hs os → AllOrderAs by_rows m hs (map computer_of os)
-
--- over every list of messages, with any ticks between them, the service brake stands at the interface wherever a ride
--- under the service brake counts an order of it
-abbrev pub LawOfServiceMessages : Type 0
-LawOfServiceMessages =
-    (a : Allowance) (m : Moment) (o : Onboard) (hs : List Happening) (os : List Onboard) →
-    OrdersAs m (service_of o) → IsRun o hs os → AllServeAs a m hs (map service_of os)
+-- so the computer goes on with new data (own)
+pub record Changes (before : Onboard) (opened : Result Supervision OpeningFault) (h : Happening) (now : Onboard) : Type 0 where
+  pub is_for : IsOpenedFor opened h
+  pub follows : Follows before h now

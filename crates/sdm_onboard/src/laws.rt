@@ -1,6 +1,7 @@
 //! What the computer owes the ride, over every list of its messages.
 
-ghost use Rattle.sdm_onboard.specs.Messages.{LawOfMessages, LawOfServiceMessages};
+ghost use Rattle.sdm_onboard.specs.Runs.{LawOfBrakes, LawOfMessagePlaces, LawOfMessageRides};
+ghost use Rattle.sdm_onboard.specs.Runs.{LawOfMessages, LawOfServiceMessages};
 
 /// The emergency brake stands at the interface wherever the ride counts an order of it: by the clause of
 /// `Onboard::take`, of each message, over all of them.
@@ -13,4 +14,25 @@ pub fn law_of_messages()
 #[tactic(auto, using(crate::proofs::Runs::service_runs))]
 pub fn law_of_service_messages()
     ensures { LawOfServiceMessages }
+{}
+
+/// THE BRAKES: they stand from the beginning on until a reading is judged, and while something that was refused is
+/// missing; and none works against the traction.
+#[tactic(auto, using(crate::proofs::Brakes::brakes))]
+pub fn law_of_brakes()
+    ensures { LawOfBrakes }
+{}
+
+/// THE RIDE OF THE COMPUTER: what the last covered reading promised is true of the train at every moment, where the train
+/// does in time what the emergency brake at the interface makes it do.
+#[tactic(auto, using(crate::proofs::Runs::message_rides))]
+pub fn law_of_message_rides()
+    ensures { LawOfMessageRides }
+{}
+
+/// FROM MESSAGES TO THE PLACE: where besides each authority that the computer has taken is a stop without a release speed
+/// that ends by a place, the train never passes that place from the first covered reading on.
+#[tactic(auto, using(crate::proofs::Runs::message_places))]
+pub fn law_of_message_places()
+    ensures { LawOfMessagePlaces }
 {}

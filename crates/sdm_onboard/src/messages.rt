@@ -1,6 +1,6 @@
 //! What comes in: the odometer's readings, and what the radio and the balises bring. The lists are a journey in which
-//! each call of the supervisor is made and refused; of two readings that aren't judged one has a clock that goes back,
-//! and one a speed out of range.
+//! each call of the supervisor is made and refused; of three readings that aren't judged one comes again, one has a
+//! clock that goes back, and one a speed out of range.
 
 ghost use Rattle.std.specs.Option.{SomeIff};
 ghost use Rattle.sdm_num.specs.Readings.{IsReading};
@@ -104,11 +104,13 @@ pub fn beginning() -> [Message; 2] {
 }
 
 /// The journey from there on.
-pub fn journey() -> [Message; 19] {
+pub fn journey() -> [Message; 20] {
     [
         read(5, 1_010_000, 20_000, 0),
         Message::Revocation(7),
         Message::Revocation(7),
+        read(10, 1_020_000, 20_000, 0),
+        // The odometer sends the same again, which tells nothing new.
         read(10, 1_020_000, 20_000, 0),
         // The authority is shortened, and then one comes that can't be taken.
         stop(130_000, 135_000),

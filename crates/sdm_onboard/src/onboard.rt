@@ -3,11 +3,12 @@
 //! it is there.
 
 ghost use Rattle.std.specs.Prelude.{◌≡◌, ◌⊎◌, IsTrue, IsOkAnd, OnOk};
-ghost use Rattle.sdm_ride.specs.declared.happenings.Happening.{Happening};
-ghost use Rattle.sdm_ride.specs.declared.happenings.Happening.TheVariants.{Record};
+ghost use Rattle.sdm_ride.specs.Happenings.{Happening, Record};
 ghost use Rattle.sdm_rules.specs.declared.records.Event.TheVariants as record_kinds;
 ghost use Rattle.sdm_onboard.specs.declared.messages.Message.TheVariants as messages;
-ghost use Rattle.sdm_onboard.specs.Messages.{Follows, Takes};
+ghost use Rattle.sdm_onboard.specs.Messages.{Changes, Follows, Takes};
+ghost use Rattle.sdm_onboard.specs.Missing.{HoldsBrakes, IsBraked, IsMissingAsBefore, Remembers};
+ghost use Rattle.sdm_onboard.specs.Missing.{RemembersOver, TakesRestriction};
 ghost use Rattle.std.specs.Prelude.{IfOk};
 ghost use Rattle.std.specs.FinMap as finite;
 ghost use Rattle.sdm_rules.specs.TakeOver.{taken_over};
@@ -29,6 +30,9 @@ use thiserror::Error;
 pub enum ReadingFault {
     #[error("out of range")]
     Range,
+    /// Its time is that of the last one that was judged, so that it tells nothing new.
+    #[error("time {0} again")]
+    Repeated(u32),
     #[error("{0}")]
     Time(CycleFault),
 }
@@ -73,7 +77,9 @@ impl Onboard {
     /// The computer over a supervisor that was just opened. Before the first reading no row promises anything, so it
     /// brakes.
     pub fn over(supervisor: Supervisor) -> Onboard
-        ensures { result.supervisor ≡ supervisor }
+        ensures supervisor { result.supervisor ≡ supervisor }
+        ensures braked { IsBraked result.orders }
+        ensures holds { HoldsBrakes result }
     {
         Onboard {
             supervisor,
@@ -91,9 +97,11 @@ impl Onboard {
     }
 
     /// Takes a message: the supervisor goes on as in a ride, and where the ride counts an order of the emergency brake or
-    /// of the service brake, that brake stands at the interface.
+    /// of the service brake, that brake stands at the interface. A refused authority is missing until one is taken, and a
+    /// refused restriction for good. While one is the emergency brake stands, and under either brake the traction is off.
     pub fn take(&mut self, message: &Message) -> News
-        ensures { (h : Happening) × Takes self.old message.now h self.new }
+        ensures takes { (h : Happening) × Takes self.old message.now h self.new }
+        ensures remembers { Remembers self.old message.now self.new }
     {
         match message {
             Message::Odometry(odometry) => self.take_odometry(odometry),
@@ -109,6 +117,8 @@ impl Onboard {
     /// are refused the old supervisor runs on, as where an authority is refused.
     pub fn change_data(&mut self, opened: Result<Supervisor, OpeningFault>) -> News
         requires fresh { IfOk opened (λ next. next.restrictions ≡ finite.empty) }
+        ensures follows { (h : Happening) × Changes self.old opened h self.new }
+        ensures remembers { RemembersOver self.old opened self.new }
         ensures taken { result ≡ News.Taken →
             IsOkAnd opened (λ next. self.new.supervisor ≡ taken_over next self.old.supervisor) }
         ensures changed { IsOkAnd opened (λ next. self.new.supervisor ≡ taken_over next self.old.supervisor)
@@ -120,7 +130,7 @@ impl Onboard {
     {
         let mut next = match opened {
             Ok(next) => next,
-            Err(fault) => return self.keep_data(News::DataRefused(fault)),
+            Err(fault) => return self.miss_authority(News::DataRefused(fault)),
         };
         match next.take_over(&self.supervisor) {
             Ok(()) => {
@@ -128,44 +138,50 @@ impl Onboard {
                 self.is_authority_missing = false;
                 News::Taken
             }
-            Err(fault) => self.keep_data(News::NotTakenOver(fault)),
+            Err(fault) => self.miss_authority(News::NotTakenOver(fault)),
         }
     }
 
-    /// The authority that came with new data is missing where they are refused.
-    fn keep_data(&mut self, news: News) -> News
+    /// An authority that was refused, or came with data that were, is missing: the old one stays in force, and may be the
+    /// longer or the faster one.
+    fn miss_authority(&mut self, news: News) -> News
         ensures news { result ≡ news }
         ensures supervisor { self.new.supervisor ≡ self.old.supervisor }
-        ensures missing { IsTrue self.new.is_authority_missing }
-        ensures braked { IsTrue self.new.orders.emergency }
-        ensures served { IsTrue self.new.orders.service }
+        ensures authority { IsTrue self.new.is_authority_missing }
+        ensures restriction { self.new.is_restriction_missing ≡ self.old.is_restriction_missing }
+        ensures braked { IsBraked self.new.orders }
     {
         self.is_authority_missing = true;
+        self.brake(news)
+    }
+
+    /// Orders both brakes.
+    fn brake(&mut self, news: News) -> News
+        ensures news { result ≡ news }
+        ensures supervisor { self.new.supervisor ≡ self.old.supervisor }
+        ensures missing { IsMissingAsBefore self.old self.new }
+        ensures braked { IsBraked self.new.orders }
+    {
         self.orders = Orders::BRAKE;
         news
     }
 
-    /// A reading that can't be judged leaves the train without supervision, so it brakes.
-    #[tactic(auto, using(crate::proofs::Taking::reading, crate::proofs::Taking::unread, crate::proofs::Taking::braked))]
+    /// A reading that can't be judged leaves the train without supervision, so it brakes. So does one with the time of the
+    /// last one: from an odometer that sends the same again no new reading comes, and the time p runs out.
     fn take_odometry(&mut self, odometry: &Odometry) -> News
-        ensures { (h : Happening) × Takes self.old (messages.Odometry odometry.now) h self.new }
+        ensures takes { (h : Happening) × Takes self.old (messages.Odometry odometry.now) h self.new }
+        ensures remembers { Remembers self.old (messages.Odometry odometry.now) self.new }
     {
         let Some(reading) = odometry.reading() else {
-            return self.not_judged(ReadingFault::Range);
+            return self.brake(News::NotJudged(ReadingFault::Range));
         };
+        if self.supervisor.last_time() == Some(odometry.time) {
+            return self.brake(News::NotJudged(ReadingFault::Repeated(odometry.time)));
+        }
         match self.judge(&reading) {
             Ok(row) => News::Row(row),
-            Err(fault) => self.not_judged(ReadingFault::Time(fault)),
+            Err(fault) => self.brake(News::NotJudged(ReadingFault::Time(fault))),
         }
-    }
-
-    fn not_judged(&mut self, fault: ReadingFault) -> News
-        ensures supervisor { self.new.supervisor ≡ self.old.supervisor }
-        ensures braked { IsTrue self.new.orders.emergency }
-        ensures served { IsTrue self.new.orders.service }
-    {
-        self.orders = Orders::BRAKE;
-        News::NotJudged(fault)
     }
 
     /// A refused reading changes nothing.
@@ -173,6 +189,8 @@ impl Onboard {
         ensures follows { Follows self.old (Record (record_kinds.Read reading.now)) self.new }
         ensures unsupervised { OnOk result (IsTrue self.old.is_authority_missing
             ⊎ IsTrue self.old.is_restriction_missing → IsTrue self.new.orders.emergency) }
+        ensures missing { IsMissingAsBefore self.old self.new }
+        ensures holds { HoldsBrakes self.old → HoldsBrakes self.new }
     {
         let row = self.supervisor.cycle(reading)?;
         let is_unsupervised = self.is_authority_missing || self.is_restriction_missing;
@@ -181,17 +199,16 @@ impl Onboard {
     }
 
     /// The commands of the last row are too old to be relied on.
-    #[tactic(auto, using(crate::proofs::Taking::missing))]
     fn overdue(&mut self) -> News
-        ensures { (h : Happening) × Takes self.old messages.Overdue h self.new }
+        ensures takes { (h : Happening) × Takes self.old messages.Overdue h self.new }
+        ensures remembers { Remembers self.old messages.Overdue self.new }
     {
-        self.orders = Orders::BRAKE;
-        News::Overdue
+        self.brake(News::Overdue)
     }
 
-    /// The old authority stays in force where the new one is refused, and may be the longer or the faster one.
     fn take_authority(&mut self, authority: Authority) -> News
         ensures takes { (h : Happening) × Takes self.old (messages.Authority authority) h self.new }
+        ensures remembers { Remembers self.old (messages.Authority authority) self.new }
         ensures refused { result ≡ News.Taken
             ⊎ (IsTrue self.new.is_authority_missing × IsTrue self.new.orders.emergency) }
     {
@@ -200,17 +217,13 @@ impl Onboard {
                 self.is_authority_missing = false;
                 News::Taken
             }
-            Err(fault) => {
-                self.is_authority_missing = true;
-                self.orders = Orders::BRAKE;
-                News::AuthorityRefused(fault)
-            }
+            Err(fault) => self.miss_authority(News::AuthorityRefused(fault)),
         }
     }
 
-    #[tactic(auto, using(crate::proofs::Taking::braked))]
     fn take_restriction(&mut self, restriction: Restriction) -> News
         ensures takes { (h : Happening) × Takes self.old (messages.Restriction restriction) h self.new }
+        ensures remembers { Remembers self.old (messages.Restriction restriction) self.new }
         ensures refused { result ≡ News.Taken
             ⊎ (IsTrue self.new.is_restriction_missing × IsTrue self.new.orders.emergency) }
     {
@@ -218,8 +231,7 @@ impl Onboard {
             Ok(()) => News::Taken,
             Err(fault) => {
                 self.is_restriction_missing = true;
-                self.orders = Orders::BRAKE;
-                News::RestrictionRefused(fault)
+                self.brake(News::RestrictionRefused(fault))
             }
         }
     }
@@ -227,7 +239,10 @@ impl Onboard {
     /// The supervisor asks its caller for a speed from 1 to 500 km/h.
     #[tactic(auto, using(crate::proofs::Taking::unread_restriction))]
     fn restrict(&mut self, restriction: Restriction) -> Result<(), RestrictionFault>
-        ensures { (h : Happening) × Takes self.old (messages.Restriction restriction) h self.new }
+        ensures takes { (h : Happening) × Takes self.old (messages.Restriction restriction) h self.new }
+        ensures accepted { OnOk result (TakesRestriction self.old.supervisor restriction) }
+        ensures orders { self.new.orders ≡ self.old.orders }
+        ensures missing { IsMissingAsBefore self.old self.new }
     {
         if restriction.speed < 1 || restriction.speed > 500 {
             return Err(RestrictionFault::Speed(restriction.speed));
@@ -239,7 +254,8 @@ impl Onboard {
 
     /// Where it is refused, the restriction stays in force, which brakes sooner and never later.
     fn revoke(&mut self, id: u16) -> News
-        ensures { (h : Happening) × Takes self.old (messages.Revocation id) h self.new }
+        ensures takes { (h : Happening) × Takes self.old (messages.Revocation id) h self.new }
+        ensures remembers { Remembers self.old (messages.Revocation id) self.new }
     {
         match self.supervisor.revoke(id) {
             Ok(()) => News::Taken,
