@@ -1,7 +1,7 @@
 /* Rides made at random (ride.h), as many as standard input has: it reads worlds and, after each, the rides over it, as
- * python/sdm/rides.py writes them, and writes a line for each ride:
+ * python/sdm_evidence/makers/rides.py writes them, and writes a line for each ride:
  *
- *     VERDICT READINGS COVERED ORDERS OVERDUE REFUSED STOPS NEAREST
+ *     VERDICT READINGS COVERED RELEASED ORDERS OVERDUE REFUSED CHANGES STOPS NEAREST
  *
  * NEAREST is `-` where no SvL was ever promised. The exit status is 1 where the input has another form. */
 #include "ride.h"
@@ -18,14 +18,14 @@ static bool read_count(int64_t *count, int64_t least, int64_t most) {
     return read_number(count) && *count >= least && *count <= most;
 }
 
-static bool read_data(struct world *world) {
+static bool read_data(struct ground *ground) {
     int64_t bytes;
     if (!read_count(&bytes, 0, 16777216) || getchar() != '\n')
         return false;
-    free(world->data);
-    world->data_bytes = (size_t)bytes;
-    world->data = (uint8_t *)malloc(world->data_bytes + 1);
-    return world->data != NULL && fread(world->data, 1, world->data_bytes, stdin) == world->data_bytes;
+    free(ground->data);
+    ground->data_bytes = (size_t)bytes;
+    ground->data = (uint8_t *)malloc(ground->data_bytes + 1);
+    return ground->data != NULL && fread(ground->data, 1, ground->data_bytes, stdin) == ground->data_bytes;
 }
 
 static bool read_brake(struct brake *brake) {
@@ -47,12 +47,14 @@ static bool read_brake(struct brake *brake) {
 static bool read_happening(struct happening *happening) {
     char record[128];
     unsigned column;
-    if (!read_number(&happening->time_ds) || scanf("%127s", record) != 1)
+    if (!read_number(&happening->time_ds) || !read_count(&happening->ground, 0, MOST_PARTS - 1) ||
+        scanf("%127s", record) != 1)
         return false;
     const uint8_t *at = (const uint8_t *)record;
     if (event_read(&at, at + strlen(record), &happening->event, &column) != FORM_DONE)
         return false;
-    if (!read_number(&happening->end_notches) || !read_count(&happening->falls_count, 0, MOST_FALLS))
+    if (!read_number(&happening->end_notches) || !read_number(&happening->has_trip) ||
+        !read_count(&happening->falls_count, 0, MOST_FALLS))
         return false;
     for (int64_t i = 0; i < happening->falls_count; i++)
         if (!read_number(&happening->falls[i].cm) || !read_number(&happening->falls[i].notches))
@@ -60,12 +62,21 @@ static bool read_happening(struct happening *happening) {
     return true;
 }
 
+static bool read_ground(struct ground *ground) {
+    return read_data(ground) && read_number(&ground->is_under_reading_inhibited) && read_number(&ground->traction_ds) &&
+           read_number(&ground->berem_ds) && read_brake(&ground->brake);
+}
+
 static bool read_world(struct world *world) {
-    if (!read_data(world) || !read_number(&world->is_under_reading_inhibited) || !read_brake(&world->brake) ||
-        !read_count(&world->happenings_count, 1, MOST_HAPPENINGS))
+    if (!read_count(&world->grounds_count, 1, MOST_PARTS))
+        return false;
+    for (int64_t i = 0; i < world->grounds_count; i++)
+        if (!read_ground(&world->grounds[i]))
+            return false;
+    if (!read_count(&world->happenings_count, 1, MOST_HAPPENINGS))
         return false;
     for (int64_t i = 0; i < world->happenings_count; i++)
-        if (!read_happening(&world->happenings[i]))
+        if (!read_happening(&world->happenings[i]) || world->happenings[i].ground >= world->grounds_count)
             return false;
     return true;
 }
@@ -81,8 +92,11 @@ static bool read_scenario(struct scenario *scenario) {
 }
 
 static void put_outcome(const struct outcome *outcome) {
-    printf("%s %" PRId64 " %" PRId64 " %" PRId64 " %" PRId64 " %" PRId64 " %" PRId64, VERDICTS[outcome->verdict],
-           outcome->readings, outcome->covered, outcome->orders, outcome->overdue, outcome->refused, outcome->stops);
+    const int64_t counts[] = {outcome->readings, outcome->covered, outcome->released, outcome->orders,
+                              outcome->overdue,  outcome->refused, outcome->changes,  outcome->stops};
+    printf("%s", VERDICTS[outcome->verdict]);
+    for (size_t i = 0; i < sizeof counts / sizeof counts[0]; i++)
+        printf(" %" PRId64, counts[i]);
     if (outcome->has_nearest)
         printf(" %" PRId64 "\n", outcome->nearest_mm);
     else
@@ -94,7 +108,7 @@ static bool take_word(struct world *world, const char *word) {
     struct scenario scenario;
     if (strcmp(word, "world") == 0)
         return read_world(world);
-    if (strcmp(word, "ride") != 0 || world->data == NULL || !read_scenario(&scenario))
+    if (strcmp(word, "ride") != 0 || world->grounds_count == 0 || !read_scenario(&scenario))
         return false;
     struct outcome outcome = ride(world, &scenario);
     put_outcome(&outcome);
@@ -107,8 +121,8 @@ int main(void) {
     bool is_formed = world != NULL && sdm_layout() == SDM_LAYOUT;
     while (is_formed && scanf("%7s", word) == 1)
         is_formed = take_word(world, word);
-    if (world != NULL)
-        free(world->data);
+    for (size_t i = 0; world != NULL && i < MOST_PARTS; i++)
+        free(world->grounds[i].data);
     free(world);
     return is_formed && fflush(stdout) == 0 ? 0 : 1;
 }
