@@ -1,5 +1,6 @@
 """What a program takes over an input: processor time as the system counts it, instructions as callgrind does, memory as
 GNU time does; and what is to be told of the machine beside these figures."""
+from __future__ import annotations
 
 import os
 import re
@@ -11,12 +12,12 @@ ROOT = Path(__file__).resolve().parent.parent
 TOOLS = ["valgrind", "/usr/bin/time"]
 
 
-def tools_missing():
+def tools_missing() -> list[str]:
     """The tools that are not there; `scripts/setup tools` installs them."""
     return [tool for tool in TOOLS if not shutil.which(tool)]
 
 
-def ending(program, words, path):
+def ending(program: Path, words: list[str], path: Path) -> tuple[int, str]:
     """How the program ends over an input: its status, and what it tells of a fault."""
     with open(path, "rb") as source:
         ran = subprocess.run(
@@ -25,17 +26,17 @@ def ending(program, words, path):
     return ran.returncode, ran.stderr.decode(errors="replace").strip()
 
 
-def spent(program, words, path):
+def spent(program: Path, words: list[str], path: Path) -> float:
     """The seconds of processor time, of the program and of the system for it, that one run takes. The rows go to
     /dev/null."""
     with open(path, "rb") as source:
         run = subprocess.Popen([program, *words], stdin=source, stdout=subprocess.DEVNULL, stderr=subprocess.DEVNULL)
         _, status, usage = os.wait4(run.pid, 0)
     run.returncode = os.waitstatus_to_exitcode(status)
-    return usage.ru_utime + usage.ru_stime
+    return float(usage.ru_utime + usage.ru_stime)
 
 
-def peak_kib(program, words, path, folder):
+def peak_kib(program: Path, words: list[str], path: Path, folder: Path) -> int:
     """The most memory of one run that was resident at once, in KiB. GNU time starts the program: the system counts
     what the starter of a program had at first, and Python has more than the program takes."""
     report = folder / "memory"
@@ -50,10 +51,10 @@ def peak_kib(program, words, path, folder):
     return int(report.read_text().split()[-1])
 
 
-def instructions(program, words, path, profile):
+def instructions(program: Path, words: list[str], path: Path, profile: Path) -> int:
     """The instructions of one run with an empty environment, of which the loader would read each byte before `main`;
     the profile stays, for callgrind_annotate."""
-    tool = [shutil.which("valgrind"), "--tool=callgrind", f"--callgrind-out-file={profile}"]
+    tool = [shutil.which("valgrind") or "valgrind", "--tool=callgrind", f"--callgrind-out-file={profile}"]
     with open(path, "rb") as source:
         subprocess.run(
             [*tool, program, *words],
@@ -61,12 +62,12 @@ def instructions(program, words, path, profile):
             stdout=subprocess.DEVNULL,
             stderr=subprocess.DEVNULL,
             check=True,
-            env={},
+            env=dict[str, str](),
         )
-    return int(re.search(r"^(?:summary|totals): (\d+)", profile.read_text(), re.MULTILINE).group(1))
+    return int(re.findall(r"^(?:summary|totals): (\d+)", profile.read_text(), re.MULTILINE)[0])
 
 
-def said(command):
+def said(command: list[str]) -> str:
     """What a command says; `unknown` where it fails."""
     try:
         return subprocess.run(command, cwd=ROOT, capture_output=True, text=True, check=True).stdout.strip()
@@ -74,12 +75,12 @@ def said(command):
         return "unknown"
 
 
-def load():
+def load() -> float:
     """The load average of the last minute."""
     return os.getloadavg()[0]
 
 
-def machine():
+def machine() -> str:
     """The processor, its cores and the memory."""
     names = re.findall(r"^model name\s*: (.*)$", Path("/proc/cpuinfo").read_text(), re.MULTILINE)
     name = re.sub(r"\s+", " ", names[0]) if names else "unknown processor"
@@ -87,7 +88,7 @@ def machine():
     return f"{name}, {os.cpu_count()} cores, {memory:.0f} GiB of memory"
 
 
-def commit():
+def commit() -> str:
     """The commit of this repository, and whether its files differ from it."""
     same = subprocess.run(["git", "diff", "--quiet", "HEAD"], cwd=ROOT, check=False).returncode == 0
     return said(["git", "rev-parse", "--short", "HEAD"]) + ("" if same else ", with changes")

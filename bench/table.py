@@ -1,6 +1,7 @@
 """Measures the built program over the standard inputs and prints a table in Markdown. It asserts nothing: an input that
 the program refuses, or a command that it doesn't know, is a note in the table. bench/README.md says what each column
 is."""
+from __future__ import annotations
 
 import argparse
 import hashlib
@@ -11,9 +12,8 @@ from pathlib import Path
 
 import inputs
 import measure
-
+from sdm.laboratory.piped import end
 from sdm.laboratory.program import Fault, add_program, built, sum_of
-from piped import end
 
 COUNTS = ["Input", "Records", "Counted"]
 TIMES = ["ns each"]
@@ -23,7 +23,7 @@ REST = ["Instructions each", "Peak memory, MiB", "Start-up, ms", "Start-up, inst
 BUSY = 1.5  # a load above this means that others ran beside the programs
 
 
-def options():
+def options() -> argparse.Namespace:
     """What the command line asks for."""
     parser = argparse.ArgumentParser(description="Measures the built program over the standard inputs.")
     add_program(parser)
@@ -48,7 +48,7 @@ def options():
     return parser.parse_args()
 
 
-def stored(made, folder):
+def stored(made: inputs.Input, folder: Path) -> tuple[Path, Path]:
     """Writes an input, and the same with its first line alone; their paths."""
     whole, one = folder / f"{made.name}.input", folder / f"{made.name}-one.input"
     whole.write_bytes(made.whole())
@@ -59,22 +59,22 @@ def stored(made, folder):
 class Least:
     """The least that a program took over an input, and over the same with one reading, of several runs."""
 
-    def __init__(self, program, made):
+    def __init__(self, program: Path, made: inputs.Input) -> None:
         self.program, self.made = program, made
         self.whole = self.one = float("inf")
 
-    def run(self, whole, one):
+    def run(self, whole: Path, one: Path) -> None:
         """Runs the program over both once more."""
         self.whole = min(self.whole, measure.spent(self.program, self.made.words, whole))
         self.one = min(self.one, measure.spent(self.program, self.made.words_of_one, one))
 
-    def ns_each(self):
+    def ns_each(self) -> float:
         """What one reading costs, or one record where none is a reading: what the whole takes above the input with one,
         by those but that one, so that neither the start of the process nor the opening is in it."""
         return 1e9 * (self.whole - self.one) / (self.made.counted - 1)
 
 
-def figures(made, whole, one, chosen, folder):
+def figures(made: inputs.Input, whole: Path, one: Path, chosen: argparse.Namespace, folder: Path) -> list[str]:
     """The cells of an input's row after its counts."""
     program = chosen.program
     timed = [Least(each, made) for each in (program, chosen.reference) if each]
@@ -94,12 +94,12 @@ def figures(made, whole, one, chosen, folder):
     ]
 
 
-def columns(chosen):
+def columns(chosen: argparse.Namespace) -> list[str]:
     """The heads of the table's columns."""
     return COUNTS + TIMES + (BESIDE if chosen.reference else []) + REST
 
 
-def row(made, chosen, folder, digest):
+def row(made: inputs.Input, chosen: argparse.Namespace, folder: Path, digest: hashlib._Hash) -> str:
     """The row of an input. One that the program doesn't take to its end has a note in place of figures."""
     whole, one = stored(made, folder)
     digest.update(whole.read_bytes())
@@ -113,7 +113,7 @@ def row(made, chosen, folder, digest):
     return "| " + " | ".join(counts + cells) + " |"
 
 
-def measured(chosen, folder):
+def measured(chosen: argparse.Namespace, folder: Path) -> None:
     """Measures the chosen inputs and prints the table, each row as it comes, and what must be known beside it."""
     before, digest = measure.load(), hashlib.sha256()
     print("| " + " | ".join(columns(chosen)) + " |")
@@ -135,7 +135,7 @@ def measured(chosen, folder):
     )
 
 
-def main():
+def main() -> None:
     chosen = options()
     try:
         chosen.program = built(chosen.program)

@@ -6,16 +6,16 @@ from importlib import import_module
 from typing import TYPE_CHECKING, Any
 
 if TYPE_CHECKING:  # for mypy and editors; _HOMES says the same where it runs
-    from .arrays import READING, ROW, frame, readings, text
-    from .findings import Explanation, Finding, explain, explanation
-    from .importing import ImportFault, Journey, import_recording
-    from .library import Supervisor
-    from .picture import Picture, plot
-    from .records import End, EndCalculated, Limit, Reading, Record, Restriction, Revocation, records_of
-    from .reporting import Report, report
-    from .rows import Cause, Causes, Display, Row, Rule, SdmError, Standing, State, Status, Supervision, Target
-    from .runs import run
-    from .sweeps import summary, sweep
+    from sdm.arrays import READING, ROW, frame, readings, text
+    from sdm.findings import Explanation, Finding, explain, explanation
+    from sdm.importing import ImportFault, Journey, import_recording
+    from sdm.library import Supervisor
+    from sdm.picture import Picture, plot
+    from sdm.records import End, EndCalculated, Limit, Reading, Record, Restriction, Revocation, records_of
+    from sdm.reporting import Report, report
+    from sdm.rows import Cause, Causes, Display, Row, Rule, SdmError, Standing, State, Status, Supervision, Target
+    from sdm.runs import run
+    from sdm.sweeps import summary, sweep
 
 __version__ = "0.11.1"
 _HOMES = {

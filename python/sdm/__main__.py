@@ -5,7 +5,7 @@ import sys
 from importlib import import_module
 from typing import NoReturn
 
-from .laboratory.piped import end
+from sdm.laboratory.piped import end
 
 COMMANDS = {
     "explain": "sdm.explain_input",
@@ -16,11 +16,8 @@ COMMANDS = {
     "campaign": "sdm.campaign",
     "plot": "sdm.picture",
     "report": "sdm.reporting.words",
-    "rides": "sdm.rides",
     "bench-live": "sdm.bench",
-    "model": "sdm.model.words",
-    "journeys": "sdm.model.journeys",
-    "certified": "sdm.model.certified",
+    "model": "sdm.exact",
 }
 
 

@@ -7,9 +7,9 @@ from typing import TYPE_CHECKING, Any
 import numpy as np
 import numpy.typing as npt
 
-from .library import FLAGS, LIMITS, ReadingStruct, RowStruct
-from .records import Reading, Record, records_of
-from .rows import STATES, SUPERVISIONS, SdmError, Status
+from sdm.library import FLAGS, LIMITS, ReadingStruct, RowStruct
+from sdm.records import Reading, Record, records_of
+from sdm.rows import STATES, SUPERVISIONS, SdmError, Status
 
 if TYPE_CHECKING:
     import pandas

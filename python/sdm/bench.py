@@ -22,10 +22,8 @@ from random import Random
 from statistics import median, quantiles
 from typing import Any, NamedTuple, TypeVar
 
-from .laboratory.program import Fault, add_program, built
-from .model.data import Stop
-from .model.outcome import Outcome
-from .model.words import open_run
+from sdm.laboratory.program import Fault, add_program, built
+from sdm.exact import Outcome, Stop, open_run
 
 DIVIDING_LINE = "%%\n"
 SWAYS_MM = 200  # how far the odometer's error sways within a reading
@@ -85,11 +83,11 @@ class Scenario:
     message: list[Message] = field(default_factory=list)
 
 
-Part = TypeVar("Part", Train, Driver, Odometer, Message, Scenario)
+ScenarioPart = TypeVar("ScenarioPart", Train, Driver, Odometer, Message, Scenario)
 PARTS = {"train": Train, "driver": Driver, "odometer": Odometer, "message": Message}
 
 
-def part_of(kind: type[Part], table: object, where: str) -> Part:
+def part_of(kind: type[ScenarioPart], table: object, where: str) -> ScenarioPart:
     """A part of a scenario from its table."""
     if not isinstance(table, dict):
         raise Fault(f"{where} is no table.")
@@ -128,7 +126,7 @@ def scenario_in(path: Path) -> tuple[Scenario, str]:
     return scenario, data
 
 
-class Row(NamedTuple):
+class BenchRow(NamedTuple):
     """What a row commands, and whether it is covered."""
 
     tco: bool
@@ -137,10 +135,10 @@ class Row(NamedTuple):
     covered: bool
 
 
-def row_of(text: str) -> Row | None:
+def row_of(text: str) -> BenchRow | None:
     """What a row commands; none where an answer is no row."""
     columns = text.rstrip("\n").split(",")
-    return Row._make(column == "1" for column in columns[3:7]) if len(columns) == 13 else None
+    return BenchRow._make(column == "1" for column in columns[3:7]) if len(columns) == 13 else None
 
 
 class Program:
@@ -189,8 +187,8 @@ class Ride:
         self.scenario = scenario
         self.place, self.speed = 10 * scenario.train.place, scenario.train.speed
         self.read_at = self.speed
-        self.standing = Row(False, False, False, False)
-        self.coming: list[tuple[int, Row]] = []
+        self.standing = BenchRow(False, False, False, False)
+        self.coming: list[tuple[int, BenchRow]] = []
         self.since = {"tco": 0, "sb": 0, "eb": 0}
         self.rng, self.error = Random(scenario.odometer.seed), 0
 
@@ -291,7 +289,7 @@ def keep(into: Path, program: Program, picture: bool) -> None:
     (into / "input").write_text("".join(program.sent))
     (into / "rows").write_text("".join(answer for answer in program.answers if row_of(answer)))
     if picture:
-        from .picture import main as plot
+        from sdm.picture import main as plot
 
         if plot([str(into / "input"), str(into / "rows"), str(into / "picture.svg"), "--title", ""]):
             raise Fault("No picture is drawn.")

@@ -6,8 +6,8 @@ import subprocess
 import sys
 from pathlib import Path
 
-from .laboratory.program import LIBRARY, TOP
-from .library import PLACES
+from sdm.laboratory.program import LIBRARY, TOP
+from sdm.library import PLACES
 
 
 def build(archive: Path, out: Path) -> None:
@@ -22,7 +22,7 @@ def main(words: list[str]) -> int:
     """Builds it from the words' archive, else from that of the repository."""
     archive = Path(words[0]) if words else LIBRARY.path
     if not archive.is_file():
-        print(f"build_library: {archive} isn't there; `scripts/library build` proves and builds it", file=sys.stderr)
+        print(f"build_library: {archive} isn't there; `scripts/house library build` makes it", file=sys.stderr)
         return 1
     build(archive, Path(words[1]) if words[1:] else PLACES[1])
     return 0

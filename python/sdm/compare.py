@@ -16,8 +16,8 @@ from pathlib import Path
 from typing import Any
 
 from sdm.laboratory.program import Fault
-from sdm.laboratory.recording import Line, Value, recording_of
-from sdm.laboratory.rows import COLUMNS, UNITS, Row, is_row, rows_of, text_of
+from sdm.laboratory.recording import RecordedLine, Value, recording_of
+from sdm.laboratory.rows import COLUMNS, UNITS, RowTexts, is_row, rows_of, text_of
 from sdm.laboratory.texts import number
 from sdm.laboratory.walk import read, write
 
@@ -49,7 +49,7 @@ def due_of(name: str, text: str) -> Value:
     return None if text == "-" else int(text)
 
 
-def matched(rows: list[Row], lines: list[Line], most: int) -> list[tuple[int, int]]:
+def matched(rows: list[RowTexts], lines: list[RecordedLine], most: int) -> list[tuple[int, int]]:
     """Pairs of a row's number and a line's number, in order: the nearest times, at most so many ds apart."""
     pairs, next_line = [], 0
     for i, row in enumerate(rows):
@@ -65,7 +65,7 @@ def matched(rows: list[Row], lines: list[Line], most: int) -> list[tuple[int, in
     return pairs
 
 
-def comes_near(lines: list[Line], at: int, name: str, due: Value, most: int) -> bool:
+def comes_near(lines: list[RecordedLine], at: int, name: str, due: Value, most: int) -> bool:
     """Whether the recording has a value at most so many ds beside a line."""
     time = lines[at][1]["time"]
     for step in (-1, 1):
@@ -78,7 +78,7 @@ def comes_near(lines: list[Line], at: int, name: str, due: Value, most: int) -> 
 
 
 def difference(
-    rows: list[Row], lines: list[Line], pair: tuple[int, int], name: str, allowed: Allowed
+    rows: list[RowTexts], lines: list[RecordedLine], pair: tuple[int, int], name: str, allowed: Allowed
 ) -> Difference | None:
     """How a column differs between a row and its line; None where it does so by no more than is allowed."""
     i, at = pair
@@ -95,7 +95,7 @@ def shown(value: Value) -> str:
     return "-" if value is None else number(value, 3) if isinstance(value, (int, Fraction)) else str(value)
 
 
-def told(each: Difference, rows: list[Row]) -> str:
+def told(each: Difference, rows: list[RowTexts]) -> str:
     """A difference in a line."""
     by = "" if each.deviation is None else f", {number(each.deviation, 3)} {UNITS[each.column]} apart"
     return (
@@ -125,7 +125,7 @@ def is_beyond(each: Difference, allowed: Allowed) -> bool:
     return each.deviation is None or each.deviation > allowed[UNITS[each.column]]
 
 
-def put_in(rows: list[Row], beyond: list[Difference]) -> str:
+def put_in(rows: list[RowTexts], beyond: list[Difference]) -> str:
     """The rows as text, with the recording's values where they differ; a value that no row can have is left out."""
     rows = [dict(row) for row in rows]
     for each in beyond:
@@ -137,7 +137,9 @@ def put_in(rows: list[Row], beyond: list[Difference]) -> str:
     return "".join(text_of(row) + "\n" for row in rows)
 
 
-def compare(rows: list[Row], lines: list[Line], allowed: Allowed, most: int) -> tuple[list[str], list[Difference]]:
+def compare(
+    rows: list[RowTexts], lines: list[RecordedLine], allowed: Allowed, most: int
+) -> tuple[list[str], list[Difference]]:
     """The report in lines, and the differences of more than is allowed."""
     pairs = matched(rows, lines, allowed["ds"])
     if not pairs:

@@ -13,11 +13,7 @@ from typing import TextIO
 
 from sdm.laboratory.program import Fault
 from sdm.laboratory.walk import at_row, at_speed, read
-from sdm.model.journey import Supervisor
-from sdm.model.limits import Target
-from sdm.model.records import Reading
-from sdm.model.speeds import dV_ebi
-from sdm.model.units import NOTCHES_PER_KM_H, Number, printed
+from sdm.exact import NOTCHES_PER_KM_H, Number, Reading, Supervisor, Target, dV_ebi, printed
 
 COLUMNS = "target,place,target_speed,speed,EBD,SBD,guidance,EBI,SBI1,SBI2,W,P,I".split(",")
 

@@ -18,8 +18,8 @@ from pathlib import Path
 from types import TracebackType
 from typing import TYPE_CHECKING, Any
 
-from .records import Data, End, EndCalculated, Limit, Reading, Record, Restriction, Revocation, toml_of
-from .rows import (
+from sdm.records import Data, End, EndCalculated, Limit, Reading, Record, Restriction, Revocation, toml_of
+from sdm.rows import (
     TEXTS,
     Cause,
     Causes,
@@ -35,7 +35,7 @@ from .rows import (
 )
 
 if TYPE_CHECKING:
-    from .arrays import Array
+    from sdm.arrays import Array
 
 LAYOUT = 2  # SDM_LAYOUT
 HERE = Path(__file__).resolve().parent
@@ -51,7 +51,7 @@ class Handle(ctypes.Structure):
     _fields_ = [("at", c_void_p), ("is_open", c_uint32)]
 
 
-class Line(ctypes.Structure):
+class LineStruct(ctypes.Structure):
     """struct sdm_line."""
 
     _fields_ = [("count", c_uint32), ("bytes", c_uint8 * 192)]
@@ -69,7 +69,7 @@ class ReadingStruct(ctypes.Structure):
     ]
 
 
-class Place(ctypes.Structure):
+class PlaceStruct(ctypes.Structure):
     """struct sdm_place."""
 
     _fields_ = [("mm", c_int64), ("is_some", c_uint32)]
@@ -84,7 +84,7 @@ class RowStruct(ctypes.Structure):
 
     _fields_ = [
         *((name, c_uint32) for name in ("time_ds", "state", "status", *FLAGS, "ceiling_kmh")),
-        *((name, Place) for name in LIMITS),
+        *((name, PlaceStruct) for name in LIMITS),
     ]
 
 
@@ -206,7 +206,7 @@ class Supervisor:
         """Opens it over a data part (docs/FORMATS.md), a TOML text or a table. BAD_DATA and REFUSED carry the program's
         line."""
         self._lock = threading.Lock()
-        self._handle, line, text = Handle(), Line(), toml_of(data)
+        self._handle, line, text = Handle(), LineStruct(), toml_of(data)
         self._library = library if library is not None else load()
         self._at = ctypes.addressof(self._handle)
         status = self._library.sdm_open(self._at, text, len(text), ctypes.addressof(line))
@@ -238,7 +238,7 @@ class Supervisor:
 
         TypeError where it has another type. Where a reading is refused, those before it were judged: SdmError has their
         rows as `rows`, and so many are there."""
-        from .arrays import READING, rows_for, taken
+        from sdm.arrays import READING, rows_for, taken
 
         given = taken(readings, READING)
         rows = rows_for(len(given))
@@ -312,7 +312,7 @@ class Supervisor:
     def take_all(self, records: Iterable[Record]) -> Array:
         """Takes records one after the other: the rows of the readings. SdmError of one that is refused has the rows
         before it."""
-        from .arrays import rows_for
+        from sdm.arrays import rows_for
 
         held = list(records)
         rows, done = rows_for(sum(isinstance(record, Reading) for record in held)), 0

@@ -26,23 +26,22 @@ from sdm.drawing.journey import display_journey, flat_journey, run_journey
 from sdm.drawing.places import place_panel
 from sdm.drawing.sheet import BETWEEN, HEIGHT, NOTE, WIDTH, Sheet
 from sdm.drawing.strips import height_of, strip_panel
-from sdm.drawing.values import Journey, Span, Window
+from sdm.drawing.values import DrawnJourney, Span, Window
 from sdm.laboratory.program import Fault
 from sdm.laboratory.walk import read
-from sdm.model.outcome import Outcome
-from sdm.model.words import number_word
+from sdm.exact import Outcome, number_word
 from sdm.records import Data, input_of
 
 if TYPE_CHECKING:
-    from .arrays import Array
-    from .runs import Records
+    from sdm.arrays import Array
+    from sdm.runs import Records
 
 TERMINALS = {".svg": "svg", ".png": "pngcairo fontscale 0.75"}
 ALL = (float("-inf"), float("inf"))
 MOST_NOTES = 8  # rows that the model has otherwise, that are told
 LEAST_PIXELS, MOST_PIXELS = (480, 400), 8_000
 JOURNEYS = {"run": run_journey, "display": display_journey, "check": check_journey}  # of the commands that are one word
-NUMBERED: dict[str, tuple[Callable[..., Journey], tuple[int, int], tuple[int, int], str]] = {
+NUMBERED: dict[str, tuple[Callable[..., DrawnJourney], tuple[int, int], tuple[int, int], str]] = {
     # of those with two numbers: the journey, the range of each, and how it is told
     "flat": (flat_journey, (5, 400), (0, 10_000_000), "A is 5 to 400 cm/s², END is 0 to 10,000,000 cm"),
     "drive": (drive_journey, (0, 65_535), (1, 100_000), "NUMBER is 0 to 65,535, CYCLES is 1 to 100,000"),
@@ -57,7 +56,7 @@ def write(path: str, picture: bytes) -> None:
         raise Fault(f"{path} can't be written: {why.strerror}.") from None
 
 
-def sheet_of(journey: Journey, size: tuple[int, int] | None, title: str) -> Sheet:
+def sheet_of(journey: DrawnJourney, size: tuple[int, int] | None, title: str) -> Sheet:
     """The sheet of a picture: its notes say of the first rows that the model has otherwise which columns, and how
     much. Where no size is given, it is higher by them."""
     notes = journey.notes[:MOST_NOTES]
@@ -68,7 +67,7 @@ def sheet_of(journey: Journey, size: tuple[int, int] | None, title: str) -> Shee
 
 
 def script_of(
-    journey: Journey,
+    journey: DrawnJourney,
     form: str,
     places: Span | None = None,
     speeds: Span | None = None,
@@ -104,7 +103,7 @@ def drawn(script: str, title: str) -> bytes:
     return done.stdout.replace(b"<title>Gnuplot</title>", b"<title>" + title.encode() + b"</title>", 1)
 
 
-def journey_of(words: argparse.Namespace, source: bytes, rows: str) -> Journey:
+def journey_of(words: argparse.Namespace, source: bytes, rows: str) -> DrawnJourney:
     """The journey of an input and its rows, for the words."""
     window = Window(words.times, words.places)
     if len(words.words) == 1:
@@ -140,8 +139,8 @@ def plot(
     """The picture of a journey: times in s, places in m and speeds in km/h draw a part of it. Its size is in pixels; a
     title stands above it. Where no rows are given, the journey is run. Raises sdm.laboratory.program.Fault where the
     rows are not those of the records, and where gnuplot is missing."""
-    from .arrays import records_in, text
-    from .runs import run
+    from sdm.arrays import records_in, text
+    from sdm.runs import run
 
     held = records_in(records)
     shown = run(data, held) if rows is None else rows

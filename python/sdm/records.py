@@ -2,15 +2,14 @@
 docs/FORMATS.md, in their order."""
 from __future__ import annotations
 
-from collections.abc import Iterable, Iterator, Mapping
+import csv
+import io
+import re
+from collections.abc import Iterable, Iterator, Mapping, Sequence
 from dataclasses import astuple, dataclass
 from typing import Any, ClassVar
 
-from .model import records as model_records
-from .model.data import Limit as ModelLimit
-from .model.data import Stop
-from .model.outcome import Refused
-from .model.toml_text import toml
+from sdm.toml_text import toml
 
 Data = str | bytes | Mapping[str, Any]
 
@@ -89,25 +88,59 @@ class Revocation(Record):
     id: int
 
 
-OF_MODEL: dict[type, type[Record]] = {
-    model_records.Reading: Reading,
-    Stop: End,
-    model_records.Calculated: EndCalculated,
-    ModelLimit: Limit,
-    model_records.Restriction: Restriction,
-    model_records.Revocation: Revocation,
+Range = tuple[int | None, int | None]  # None: the estimated front end of the record
+NUMBER = re.compile("-?[0-9]{1,18}")
+TIME, SPEED, REARMOST, FOREMOST = (0, 100_000_000), (0, 138_888), -10_000_000, 110_000_000  # ds, mm/s, mm, mm
+PLACES = ((REARMOST, FOREMOST), (REARMOST, None), (None, FOREMOST))  # est, min, max
+CM, KM_H, IDENTITY = (0, 10_000_000), (1, 500), (0, 65_535)
+# The record of each kind, with the ranges of the columns from 2 on (docs/FORMATS.md, "What a record writes").
+FORMS: dict[str, tuple[type[Record], tuple[Range, ...]]] = {
+    "read": (Reading, (TIME, *PLACES, SPEED, (-300, 300), (0, 10_000))),
+    "end": (End, (CM, CM, (0, 500))),
+    "endcalc": (EndCalculated, (CM, CM, CM)),
+    "limit": (Limit, (CM, KM_H)),
+    "restrict": (Restriction, (IDENTITY, CM, CM, KM_H, (0, 1))),
+    "revoke": (Revocation, (IDENTITY,)),
 }
+
+
+def fields_of(text: bytes) -> list[list[str]]:
+    """The fields of each record of a text (docs/FORMATS.md, "What a record is"); an empty line is none. A byte is a
+    character here."""
+    characters = text.removeprefix(b"\xef\xbb\xbf").decode("latin-1")
+    longest = csv.field_size_limit(max(len(characters), csv.field_size_limit()))
+    try:
+        return [fields for fields in csv.reader(io.StringIO(characters, newline="")) if fields]
+    finally:
+        csv.field_size_limit(longest)
+
+
+def record_of(fields: Sequence[str]) -> Record:
+    """The record that fields write. ValueError, with the text of docs/FORMATS.md, where they write none."""
+    if fields[0] not in FORMS:
+        raise ValueError("unknown kind")
+    made, ranges = FORMS[fields[0]]
+    if len(fields) != len(ranges) + 1:
+        raise ValueError("field count")
+    numbers: list[int] = []
+    for column, (field, ends) in enumerate(zip(fields[1:], ranges), 2):
+        if not NUMBER.fullmatch(field):
+            raise ValueError(f"field {column}: not a number")
+        least, most = (numbers[1] if end is None else end for end in ends)
+        if not least <= int(field) <= most:
+            raise ValueError(f"field {column}: out of range")
+        numbers.append(int(field))
+    return made(*numbers)
 
 
 def records_of(text: str | bytes) -> Iterator[Record]:
     """The records of a text as the program takes it. ValueError, with the text of docs/FORMATS.md, at the first of
     another form."""
-    for number, fields in enumerate(model_records.records(text.encode() if isinstance(text, str) else text), 1):
+    for number, fields in enumerate(fields_of(text.encode() if isinstance(text, str) else text), 1):
         try:
-            event = model_records.event_of(fields)
-        except Refused as why:
+            yield record_of(fields)
+        except ValueError as why:
             raise ValueError(f"record {number}: {why}") from None
-        yield OF_MODEL[type(event)](*event)
 
 
 def toml_of(data: Data) -> bytes:
@@ -119,7 +152,7 @@ def toml_of(data: Data) -> bytes:
         return data.encode()
     if not isinstance(data, Mapping):
         raise TypeError("a data part is a text or a table")
-    return toml(dict(data)).encode()
+    return toml(data).encode()
 
 
 def input_of(data: Data, records: Iterable[Record]) -> bytes:

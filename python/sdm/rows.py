@@ -6,7 +6,7 @@ from enum import IntEnum
 from typing import TYPE_CHECKING
 
 if TYPE_CHECKING:
-    from .arrays import Array
+    from sdm.arrays import Array
 
 
 class Status(IntEnum):

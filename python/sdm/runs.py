@@ -6,9 +6,9 @@ from collections.abc import Iterable
 
 import numpy as np
 
-from .arrays import Array
-from .library import Supervisor
-from .records import Data, Record, records_of
+from sdm.arrays import Array
+from sdm.library import Supervisor
+from sdm.records import Data, Record, records_of
 
 Records = Array | str | bytes | Iterable[Record]
 

@@ -13,10 +13,10 @@ from typing import Any
 
 import numpy as np
 
-from .arrays import Array, records_in
-from .records import Data
-from .rows import SdmError
-from .runs import Records, run
+from sdm.arrays import Array, records_in
+from sdm.records import Data
+from sdm.rows import SdmError
+from sdm.runs import Records, run
 
 Variation = Mapping[str, Any]
 Measure = Callable[[Array], Mapping[str, Any]]

@@ -15,13 +15,25 @@ from pathlib import Path
 from sdm.laboratory.program import Fault, add_program, built, run
 from sdm.laboratory.texts import metres, number, seconds, short, speed, target
 from sdm.laboratory.walk import at_rows, read
-from sdm.model.data import Stop
-from sdm.model.journey import MOST_RECORDS, Cycle, Supervisor
-from sdm.model.limits import Situation, TargetLimits
-from sdm.model.records import Reading
-from sdm.model.speeds import dV_ebi, dV_sbi, dV_warning, no_margin
-from sdm.model.triggers import Cause, Commands
-from sdm.model.units import GRAINS_PER_CM, NOTCHES_PER_KM_H, Number, printed
+from sdm.exact import (
+    Cause,
+    Commands,
+    Cycle,
+    GRAINS_PER_CM,
+    MOST_RECORDS,
+    NOTCHES_PER_KM_H,
+    Number,
+    Reading,
+    Situation,
+    Stop,
+    Supervisor,
+    TargetLimits,
+    dV_ebi,
+    dV_sbi,
+    dV_warning,
+    no_margin,
+    printed,
+)
 
 LIMITS = {"EBI": "d_EBI", "SBI": "d_SBI", "W": "d_W", "P": "d_P", "I": "d_I"}
 TRIGGERS = {  # name: the limit that a target is passed by, the margin over it and its name

@@ -2,7 +2,7 @@
 
 What a release speed is worth shows where release speed monitoring starts, and at the speeds on both sides of it there.
 """
-from sdm.model.units import GRAINS_PER_MM, NOTCHES_PER_KM_H
+from sdm_evidence.model.units import GRAINS_PER_MM, NOTCHES_PER_KM_H
 
 from .curves import BANDS, STEEP
 from .plain import KM, Journey, limit, plain, speeds_around, stop

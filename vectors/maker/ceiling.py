@@ -1,6 +1,6 @@
 """ceiling/: the speed profile, the ceiling of a reading, and its margins."""
-from sdm.model.speeds import dV_ebi, dV_sbi, dV_warning
-from sdm.model.units import NOTCHES_PER_KM_H
+from sdm_evidence.model.speeds import dV_ebi, dV_sbi, dV_warning
+from sdm_evidence.model.units import NOTCHES_PER_KM_H
 
 from .plain import KM, Journey, plain, speeds_around, stop
 

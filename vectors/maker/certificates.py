@@ -1,5 +1,5 @@
 """certify/ and check/: certificates of readings, and texts of certificates at the edges of what holds and of what is read."""
-from sdm.model.words import collect
+from sdm_evidence.model.words import collect
 
 from .curves import AREAS, STEEP, before_the_track
 from .plain import KM, Journey, limit, plain, stop

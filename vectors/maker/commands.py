@@ -1,5 +1,5 @@
 """commands/, times/ and release/: what is held and released; the times of the brakes; release speed monitoring."""
-from sdm.model.units import GRAINS_PER_MM, NOTCHES_PER_KM_H
+from sdm_evidence.model.units import GRAINS_PER_MM, NOTCHES_PER_KM_H
 
 from .plain import KM, Journey, plain, speeds_around, stop
 

@@ -1,7 +1,7 @@
 """display/: limits as whole speeds, at the places and margins where the next one begins, and the target that counts."""
-from sdm.model.speeds import dV_ebi, dV_sbi
-from sdm.model.toml_text import toml
-from sdm.model.units import GRAINS_PER_MM, NOTCHES_PER_KM_H
+from sdm_evidence.model.speeds import dV_ebi, dV_sbi
+from sdm_evidence.makers.toml_text import toml
+from sdm_evidence.model.units import GRAINS_PER_MM, NOTCHES_PER_KM_H
 
 from .curves import STEEP
 from .plain import KM, Journey, limit, plain, stop

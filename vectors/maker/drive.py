@@ -1,7 +1,7 @@
 """drive/: trains that a number drives, as data parts: what they are read with, how they brake and when, and what can't be
 driven."""
-from sdm.model.data import REFUSED
-from sdm.model.toml_text import toml
+from sdm_evidence.model.data import REFUSED
+from sdm_evidence.makers.toml_text import toml
 
 from .curves import AREAS, STEEP
 from .plain import KM, limit, plain, stop

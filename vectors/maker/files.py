@@ -17,7 +17,7 @@ DIGESTS = VECTORS / "DIGESTS"  # a line for each group: its name, its journeys, 
 
 from maker import (calculated, ceiling, certificates, commands, curves, display, drive, records, refusals,
                    targets, ten_bands, upgrades, version2)
-from sdm.model.words import collect
+from sdm_evidence.model.words import collect
 
 GROUPS = {
     # group: what makes its vectors, one after the other

@@ -1,4 +1,4 @@
-"""Misreadings of docs/PROFILE.md and docs/FORMATS.md, each as a change of one line of python/sdm/model: module, text, misread text.
+"""Misreadings of docs/PROFILE.md and docs/FORMATS.md, each as a change of one line of python/sdm_evidence/model: module, text, misread text.
 
 `vectors/mutants` shows that vectors/ finds each of them.
 """
@@ -259,9 +259,9 @@ MISREADINGS = [
     ("drive", "if w >= n:", "if w >= n or True:"),
     ("drive", "(distance_at(w, 1) + distance_at(w - n, 1)) // 2", "distance_at(w - n, 1)"),
     ("drive", "(distance_at(w, 1) + distance_at(w - n, 1)) // 2", "distance_at(w, 1)"),
-    ("drive", "return Train(place + brake.square(w) // (27 * slope), 0)", "return Train(place + distance_at(w, 1) // 2, 0)"),
-    ("drive", "return Train(place + brake.square(w) // (27 * slope), 0)", "return Train(place, 0)"),
-    ("drive", "return Train(place + brake.square(w) // (27 * slope), 0)", "return Train(place + brake.square(w) // (54 * slope), 0)"),
+    ("drive", "return TrueTrain(place + brake.square(w) // (27 * slope), 0)", "return TrueTrain(place + distance_at(w, 1) // 2, 0)"),
+    ("drive", "return TrueTrain(place + brake.square(w) // (27 * slope), 0)", "return TrueTrain(place, 0)"),
+    ("drive", "return TrueTrain(place + brake.square(w) // (27 * slope), 0)", "return TrueTrain(place + brake.square(w) // (54 * slope), 0)"),
     ("drive", "max(train.speed + NOTCHES_PER_CM_S2_DS * accel, 0)", "abs(train.speed + NOTCHES_PER_CM_S2_DS * accel)"),
     ("drive", "min(max(train.speed + NOTCHES_PER_CM_S2_DS * accel, 0), GREATEST_DRIVEN)", "max(train.speed + NOTCHES_PER_CM_S2_DS * accel, 0)"),
     ("drive", "distance_at(train.speed + speed, 1) // 2", "distance_at(speed, 1)"),

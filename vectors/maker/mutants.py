@@ -16,7 +16,7 @@ import sys
 from pathlib import Path
 
 VECTORS = Path(__file__).resolve().parents[1]
-MODEL = VECTORS.parent / "python" / "sdm" / "model"
+MODEL = VECTORS.parent / "python" / "sdm_evidence" / "model"
 
 from sdm.laboratory.cases import cases_under, difference
 from sdm.laboratory.program import Result
@@ -34,7 +34,7 @@ FIRST = {
 }
 HEAD = """# Misreadings that the vectors find
 
-Written by `vectors/mutants write`. Each line is a change of one line of `python/sdm/model`: the module, what stands there, what
+Written by `vectors/mutants write`. Each line is a change of one line of `python/sdm_evidence/model`: the module, what stands there, what
 was put in its place, and a vector that comes out otherwise. [README.md](README.md#misreadings) tells what that shows.
 
 | No. | Module | Stands there | Misread | Found by |
@@ -49,7 +49,7 @@ class Misread(importlib.abc.MetaPathFinder, importlib.abc.Loader):
         self.codes = codes
 
     def find_spec(self, name, path=None, target=None):
-        return importlib.util.spec_from_loader(name, self, is_package=name == "sdm.model") if name in self.codes else None
+        return importlib.util.spec_from_loader(name, self, is_package=name == "sdm_evidence.model") if name in self.codes else None
 
     def exec_module(self, module):
         exec(self.codes[module.__name__], module.__dict__)
@@ -61,13 +61,13 @@ def texts_of_model():
 
 
 def compiled(name, text):
-    return {"sdm.model" if name == "__init__" else f"sdm.model.{name}": compile(text, f"model/{name}.py", "exec")}
+    return {"sdm_evidence.model" if name == "__init__" else f"sdm_evidence.model.{name}": compile(text, f"model/{name}.py", "exec")}
 
 
 def first_other(codes, cases):
     """The first case that a model of these modules has otherwise."""
     sys.meta_path.insert(0, Misread(codes))
-    from sdm.model.words import collect
+    from sdm_evidence.model.words import collect
     for case in cases:
         try:
             same = not difference(("due", "misread"), case.due, Result(*collect(case.words, case.data)), case.words)
@@ -105,7 +105,7 @@ def lines_of(wanted):
         if not any(wanted in each for each in (module, text, misread)):
             continue
         if text not in texts[module]:
-            raise SystemExit(f"mutants: python/sdm/model/{module}.py has no such text any more: {text}")
+            raise SystemExit(f"mutants: python/sdm_evidence/model/{module}.py has no such text any more: {text}")
         other = compiled(module, texts[module].replace(text, misread, 1))
         order = sorted(cases, key=lambda case: case.name.split("/")[1] not in FIRST.get(module, []))
         name = found_by(codes | other, order)

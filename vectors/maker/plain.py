@@ -1,11 +1,11 @@
 """The plain train of examples/, changed where a vector asks for it, and a builder of journeys that aims at exact limits."""
 import copy
 
-from sdm.model.data import data_of
-from sdm.model.journey import Supervisor
-from sdm.model.records import Reading, event_of
-from sdm.model.toml_text import toml
-from sdm.model.units import GRAINS_PER_MM
+from sdm_evidence.model.data import data_of
+from sdm_evidence.model.journey import Supervisor
+from sdm_evidence.model.records import Reading, event_of
+from sdm_evidence.makers.toml_text import toml
+from sdm_evidence.model.units import GRAINS_PER_MM
 
 BAND = {"emergency": 100, "service": 100, "normal": 100, "kdry": 1000, "kwet": 1000, "kn_up": 0, "kn_down": 0}
 KM = 100_000  # cm

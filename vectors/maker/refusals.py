@@ -1,8 +1,8 @@
 """data/, openings/, records/, texts/ and words/: each refusal, what is just accepted, and other spellings."""
 
-from sdm.model.data import (KIND, REFUSED, Area, Band, Gradient, Limit, National, Root, StaticSpeed, Stop, Track, Train,
+from sdm_evidence.model.data import (KIND, REFUSED, Area, Band, Gradient, Limit, National, Root, StaticSpeed, Stop, Track, Train,
                         keys_of, known_keys)
-from sdm.model.toml_text import Raw, toml
+from sdm_evidence.makers.toml_text import Raw, toml
 
 from .plain import KM, Journey, limit, plain, stop
 

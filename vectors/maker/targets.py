@@ -1,6 +1,6 @@
 """targets/: each kind of target, each of its limits, and which targets there are."""
-from sdm.model.speeds import dV_ebi, dV_sbi, dV_warning
-from sdm.model.units import NOTCHES_PER_KM_H
+from sdm_evidence.model.speeds import dV_ebi, dV_sbi, dV_warning
+from sdm_evidence.model.units import NOTCHES_PER_KM_H
 
 from .plain import KM, Journey, limit, plain, speeds_around, stop
 

@@ -1,6 +1,6 @@
 """upgrade/: data parts of either version, and the table of version 2 that they become."""
-from sdm.model.data import REFUSED
-from sdm.model.toml_text import Raw, toml
+from sdm_evidence.model.data import REFUSED
+from sdm_evidence.makers.toml_text import Raw, toml
 
 from .plain import KM, limit, plain, stop
 from .refusals import changed, full

@@ -2,8 +2,8 @@
 brakes, and what each version knows."""
 import copy
 
-from sdm.model.data import REFUSED
-from sdm.model.toml_text import Raw
+from sdm_evidence.model.data import REFUSED
+from sdm_evidence.makers.toml_text import Raw
 
 from .curves import AREAS, BANDS as FOUR_BANDS, STEEP, before_the_track, journey_over, through_bands
 from .plain import KM, Journey, limit, plain, stop

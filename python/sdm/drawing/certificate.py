@@ -7,15 +7,24 @@ from math import isqrt
 
 from sdm.laboratory.program import Fault
 from sdm.laboratory.rows import lines_of
-from sdm.model.certificates import Claim, Mark, until_it_works
-from sdm.model.checker import Lines, hold, is_accepted, read_claim, read_map
-from sdm.model.decelerations import Brake
-from sdm.model.outcome import Outcome
-from sdm.model.units import GRAINS_PER_MM, NOTCHES_PER_KM_H
+from sdm.exact import (
+    Brake,
+    Claim,
+    GRAINS_PER_MM,
+    Lines,
+    Mark,
+    NOTCHES_PER_KM_H,
+    Outcome,
+    hold,
+    is_accepted,
+    read_claim,
+    read_map,
+    until_it_works,
+)
 
-from .journey import counted
-from .values import End, Held, Journey, Line, Reading, SeriesData, Span, Window
-from .sheet import BLACK, WHITE, Shade
+from sdm.drawing.journey import counted
+from sdm.drawing.values import DrawnEnd, Held, DrawnJourney, Polyline, DrawnReading, SeriesData, Span, Window
+from sdm.drawing.sheet import BLACK, WHITE, Shade
 
 GRAINS_PER_M = 1000 * GRAINS_PER_MM
 POINTS = 24  # of the line from a mark to the next
@@ -30,7 +39,7 @@ SERIES = {
 }
 
 
-def check_journey(source: bytes, text: str, window: Window) -> Journey:
+def check_journey(source: bytes, text: str, window: Window) -> DrawnJourney:
     """The claims of a text of certificates as readings, with the answers that were given to them."""
     brake, claims, fault = claims_of(source)
     answers = answers_of(text)
@@ -39,7 +48,7 @@ def check_journey(source: bytes, text: str, window: Window) -> Journey:
     kept = [n for n, reading in enumerate(readings) if window.has(reading.time)]
     if not kept:
         raise Fault("No claim lies within these times.")
-    journey = Journey([readings[n] for n in kept], ends_of(claims[n][0] for n in kept))
+    journey = DrawnJourney([readings[n] for n in kept], ends_of(claims[n][0] for n in kept))
     journey.certificates = {name: [points(brake, *claims[n]) for n in kept] for name, points in POINTS_OF.items()}
     wrong = [str(n) for n, reading in enumerate(readings, 1) if reading.differs]
     journey.note = f"answers that the model has otherwise: {', '.join(wrong)}" if wrong else ""
@@ -65,14 +74,14 @@ def claims_of(source: bytes) -> tuple[Brake, list[tuple[Claim, list[Mark]]], str
     return brake, claims, ""
 
 
-def reading_of(brake: Brake, claim: Claim, marks: list[Mark], answer: re.Match[str]) -> Reading:
+def reading_of(brake: Brake, claim: Claim, marks: list[Mark], answer: re.Match[str]) -> DrawnReading:
     """A claim as a reading, with the answer to it."""
     if int(answer[1]) != claim.time:
         raise Fault(f"The rows are not those of the input: an answer has the time {answer[1]}, its claim {claim.time}.")
     due = "yes" if is_accepted(brake) and hold(brake, claim, marks) else "no"
     front = claim.front / GRAINS_PER_M
     row = {"time": answer[1], "holds": answer[2]}
-    return Reading(
+    return DrawnReading(
         claim.time / 10,
         front,
         front,
@@ -84,11 +93,11 @@ def reading_of(brake: Brake, claim: Claim, marks: list[Mark], answer: re.Match[s
     )
 
 
-def ends_of(claims: Iterable[Claim]) -> list[Held[End]]:
+def ends_of(claims: Iterable[Claim]) -> list[Held[DrawnEnd]]:
     """The SvL of each claim, once for as long as it stands unchanged."""
-    ends: list[Held[End]] = []
+    ends: list[Held[DrawnEnd]] = []
     for n, claim in enumerate(claims):
-        end = End("SvL", claim.svl / GRAINS_PER_M)
+        end = DrawnEnd("SvL", claim.svl / GRAINS_PER_M)
         if ends and ends[-1].what == end:
             ends[-1].until = n + 1
         else:
@@ -101,7 +110,7 @@ def point_of(brake: Brake, place: int, energy: int) -> Span:
     return place / GRAINS_PER_M, isqrt(energy // (5 * 10**12 * brake.q)) / NOTCHES_PER_KM_H
 
 
-def claim_line(brake: Brake, claim: Claim, marks: list[Mark]) -> Line:
+def claim_line(brake: Brake, claim: Claim, marks: list[Mark]) -> Polyline:
     """From where the train is to where the brake works at the latest."""
     V_bec, D_bec = until_it_works(claim)
     return [
@@ -110,7 +119,7 @@ def claim_line(brake: Brake, claim: Claim, marks: list[Mark]) -> Line:
     ]
 
 
-def way_line(brake: Brake, claim: Claim, marks: list[Mark]) -> Line:
+def way_line(brake: Brake, claim: Claim, marks: list[Mark]) -> Polyline:
     """From mark to mark, along which the energy falls evenly."""
     line = [point_of(brake, *marks[0])]
     for one, other in zip(marks, marks[1:]):
@@ -121,7 +130,7 @@ def way_line(brake: Brake, claim: Claim, marks: list[Mark]) -> Line:
     return line
 
 
-def mark_points(brake: Brake, claim: Claim, marks: list[Mark]) -> Line:
+def mark_points(brake: Brake, claim: Claim, marks: list[Mark]) -> Polyline:
     """The marks."""
     return [point_of(brake, *mark) for mark in marks]
 
@@ -129,7 +138,7 @@ def mark_points(brake: Brake, claim: Claim, marks: list[Mark]) -> Line:
 POINTS_OF = {"claims": claim_line, "ways": way_line, "marks": mark_points}
 
 
-def series_data(journey: Journey) -> SeriesData:
+def series_data(journey: DrawnJourney) -> SeriesData:
     """The data of the certificates, a break between two."""
     data = {}
     for name, lines in journey.certificates.items():

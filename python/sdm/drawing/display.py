@@ -3,10 +3,10 @@ that tell where the train's own speed lies among them and which target is shown.
 
 import re
 
-from sdm.laboratory.rows import Row, lines_of
+from sdm.laboratory.rows import RowTexts, lines_of
 
-from .sheet import BLACK, WHITE, Shade
-from .values import Reading, SeriesData
+from sdm.drawing.sheet import BLACK, WHITE, Shade
+from sdm.drawing.values import DrawnReading, SeriesData
 
 COLUMNS = ["time", "permitted", "sbi", "ebi", "release", "kind", "distance"]
 FORM = re.compile(r"\d+(,\d+){4},(-,-|[MLES],\d+)", re.ASCII)
@@ -27,27 +27,27 @@ ZONES = {
 }
 
 
-def rows_of(text: str) -> list[Row]:
+def rows_of(text: str) -> list[RowTexts]:
     """The lines of `display`, each as its values by the names of its fields."""
     return [dict(zip(COLUMNS, line[0].split(","))) for line in lines_of(text, FORM, "line of sdm display")]
 
 
-def speeds_of(row: Row) -> dict[str, int]:
+def speeds_of(row: RowTexts) -> dict[str, int]:
     """The speeds of a line of `display` in km/h, by the columns."""
     return {name: int(row[name]) for name in SPEEDS}
 
 
-def zone_of(reading: Reading) -> str:
+def zone_of(reading: DrawnReading) -> str:
     """Where the train's own speed lies among those that are shown."""
     return next((name for name in SPEEDS if reading.speed > reading.shown[name]), "none")
 
 
-def target_of(reading: Reading) -> str:
+def target_of(reading: DrawnReading) -> str:
     """The target that is shown."""
     return TARGETS.get(reading.row["kind"], "")
 
 
-def series_data(readings: list[Reading]) -> SeriesData:
+def series_data(readings: list[DrawnReading]) -> SeriesData:
     """The data of the speeds that are shown, each up to the next reading."""
     shown = [reading for reading in readings if reading.shown]
     data = {"shown_" + name: [f"{r.front:.3f} {r.shown[name]}" for r in shown] for name in SPEEDS}

@@ -2,20 +2,27 @@
 the train itself."""
 
 from sdm.laboratory.program import Fault
-from sdm.model.data import data_of, read_document
-from sdm.model.drive import STEP_TIME, Drive, Train, drive_lines
-from sdm.model.journey import Cycle
-from sdm.model.outcome import Outcome
-from sdm.model.units import GRAINS_PER_MM, NOTCHES_PER_KM_H
-from sdm.model.words import opened
+from sdm.exact import (
+    Cycle,
+    Drive,
+    GRAINS_PER_MM,
+    NOTCHES_PER_KM_H,
+    Outcome,
+    STEP_TIME,
+    TrueTrain,
+    data_of,
+    drive_lines,
+    opened,
+    read_document,
+)
 
-from .journey import run_journey
-from .values import Journey, Span, Window
+from sdm.drawing.journey import run_journey
+from sdm.drawing.values import DrawnJourney, Span, Window
 
 GRAINS_PER_M = 1000 * GRAINS_PER_MM
 
 
-def drive_journey(source: bytes, text: str, number: int, cycles: int, window: Window) -> Journey:
+def drive_journey(source: bytes, text: str, number: int, cycles: int, window: Window) -> DrawnJourney:
     """The journey of an input of `drive` for its words, and its five lines. Of the limits it has those that this train
     obeys."""
     try:
@@ -43,6 +50,6 @@ def records_of(cycles: list[Cycle]) -> bytes:
     return "".join(line + "\n" for line in lines).encode()
 
 
-def point_of(train: Train) -> Span:
+def point_of(train: TrueTrain) -> Span:
     """Where the true train is, in m, and its true speed in km/h."""
     return train.place / GRAINS_PER_M, train.speed / NOTCHES_PER_KM_H

@@ -13,28 +13,41 @@ from fractions import Fraction
 
 from sdm.laboratory.events import events_of
 from sdm.laboratory.program import Fault
-from sdm.laboratory.rows import LIMITS, UNITS, Row, rows_of
+from sdm.laboratory.rows import LIMITS, UNITS, RowTexts, rows_of
 from sdm.laboratory.texts import short
 from sdm.laboratory.walk import Walk, at_speed
-from sdm.model import records
-from sdm.model.curves import BrakeCurve
-from sdm.model.data import Area, Authority, Data, Limit, Stop
-from sdm.model.decelerations import Brake
-from sdm.model.display import display_of
-from sdm.model.flat import numbers_of
-from sdm.model.journey import Cycle, Supervisor
-from sdm.model.limits import Situation, Target
-from sdm.model.outcome import Outcome, Refused
-from sdm.model.records import Event
-from sdm.model.speeds import Zone, restriction_zone, static_zones
-from sdm.model.units import GRAINS_PER_CM, GRAINS_PER_MM, NOTCHES_PER_KM_H
-from sdm.model.words import open_run
+from sdm import exact
+from sdm.exact import (
+    Area,
+    Authority,
+    Brake,
+    BrakeCurve,
+    Cycle,
+    Data,
+    Event,
+    GRAINS_PER_CM,
+    GRAINS_PER_MM,
+    Limit,
+    NOTCHES_PER_KM_H,
+    Outcome,
+    Refused,
+    Situation,
+    Stop,
+    Supervisor,
+    Target,
+    Zone,
+    display_of,
+    numbers_of,
+    open_run,
+    restriction_zone,
+    static_zones,
+)
 
-from . import display
-from .overview import braking_curves, near_ends
-from .values import T, End, Held, Journey, Line, Reading, Span, Window
+from sdm.drawing import display
+from sdm.drawing.overview import braking_curves, near_ends
+from sdm.drawing.values import T, DrawnEnd, Held, DrawnJourney, Polyline, DrawnReading, Span, Window
 
-Read = tuple[records.Reading, Cycle | None]  # None where the row isn't looked at
+WalkedReading = tuple[exact.Reading, Cycle | None]  # None where the row isn't looked at
 CM_PER_M, GRAINS_PER_M, TENTHS = 100, 1000 * GRAINS_PER_MM, 10  # TENTHS of a per mille, the model's unit of gradients
 FIELDS = dict(zip(LIMITS, "d_EBI d_SBI d_W d_P d_I".split()))  # the model's names
 # What a column is called in a picture, where that is another word.
@@ -48,7 +61,7 @@ def steps(zones: list[Zone]) -> list[tuple[float, int]]:
     return [(b, min(z.speed for z in zones if z.start <= b < z.end)) for b in borders]
 
 
-def highest(readings: list[Reading]) -> float:
+def highest(readings: list[DrawnReading]) -> float:
     """The greatest speed that the picture has room for, in km/h: what the train comes to, with the ceilings near it, or
     the speeds that are shown."""
     fastest, tops = max(r.speed for r in readings), [int(r.row["ceiling"]) for r in readings if "ceiling" in r.row]
@@ -56,14 +69,14 @@ def highest(readings: list[Reading]) -> float:
     return max([1.3 * fastest, 10, *(1.12 * top for top in tops if top <= 1.6 * fastest)])
 
 
-def reading_of(n: int, event: records.Reading, row: Row) -> Reading:
+def reading_of(n: int, event: exact.Reading, row: RowTexts) -> DrawnReading:
     """A reading with its row."""
     if int(row["time"]) != event.time:
         raise Fault(
             f"The rows are not those of the input: row {n} has the time {row['time']}, its reading {event.time}."
         )
     front, least, most = (getattr(event, which) / 1000 for which in ("est", "min", "max"))
-    return Reading(event.time / 10, front, least, most, float(event.speed) * 0.0036, row, {})
+    return DrawnReading(event.time / 10, front, least, most, float(event.speed) * 0.0036, row, {})
 
 
 def counted(rows: Sequence[object], readings: int, fault: str) -> None:
@@ -85,7 +98,7 @@ class Course:
     def __init__(self, source: bytes, judged: range) -> None:
         self.walk, self.judged = Walk(source, judged), judged
         self.supervisor = self.walk.supervisor
-        self.readings: list[Read] = []
+        self.readings: list[WalkedReading] = []
         self.authorities = [Held(self.supervisor.authority, 0)]
         self.restrictions: list[Held[Zone]] = []
         self.in_force: dict[int, Held[Zone]] = {}
@@ -94,19 +107,19 @@ class Course:
 
     def take(self, event: Event, cycle: Cycle | None) -> None:
         now = len(self.readings)
-        if isinstance(event, records.Reading):
+        if isinstance(event, exact.Reading):
             self.readings.append((event, cycle))
         elif self.supervisor.authority is not self.authorities[-1].what:
             self.authorities[-1].until = now
             self.authorities.append(Held(self.supervisor.authority, now))
-        elif isinstance(event, records.Restriction):
+        elif isinstance(event, exact.Restriction):
             self.in_force[event.identity] = Held(restriction_zone(self.supervisor.data, event), now)
             self.restrictions.append(self.in_force[event.identity])
-        elif isinstance(event, records.Revocation):
+        elif isinstance(event, exact.Revocation):
             self.in_force.pop(event.identity).until = now
 
 
-def window_of(source: bytes, rows: list[Row], window: Window) -> range:
+def window_of(source: bytes, rows: list[RowTexts], window: Window) -> range:
     """The numbers of the readings that a window shows, from the first to the last of them."""
     shown = [n for n, row in enumerate(rows, 1) if window.has(int(row["time"]) / 10)]
     if not shown and rows:
@@ -115,7 +128,7 @@ def window_of(source: bytes, rows: list[Row], window: Window) -> range:
         low, high = (1000 * place for place in window.places)
         near = set()
         try:
-            walked = (event for event in events_of(open_run(source)[1]) if isinstance(event, records.Reading))
+            walked = (event for event in events_of(open_run(source)[1]) if isinstance(event, exact.Reading))
             near = {n for n, reading in enumerate(walked, 1) if reading.min <= high and reading.max >= low}
         except Outcome as outcome:
             raise Fault(f"The input has no rows: {outcome.line}.") from None
@@ -125,7 +138,7 @@ def window_of(source: bytes, rows: list[Row], window: Window) -> range:
     return range(shown[0], shown[-1] + 1) if shown else range(1, 2)
 
 
-def run_journey(source: bytes, text: str, window: Window) -> Journey:
+def run_journey(source: bytes, text: str, window: Window) -> DrawnJourney:
     """The journey of an input of `run` and its rows."""
     rows = rows_of(text)
     course = Course(source, window_of(source, rows, window))
@@ -145,7 +158,7 @@ def run_journey(source: bytes, text: str, window: Window) -> Journey:
     return journey
 
 
-def display_journey(source: bytes, text: str, window: Window) -> Journey:
+def display_journey(source: bytes, text: str, window: Window) -> DrawnJourney:
     """The journey of an input of `display` and its lines."""
     rows = display.rows_of(text)
     course = Course(source, window_of(source, rows, window))
@@ -159,7 +172,7 @@ def display_journey(source: bytes, text: str, window: Window) -> Journey:
     return journey
 
 
-def readings_of(course: Course, rows: list[Row], text_of: Callable[[Cycle], str]) -> list[Reading]:
+def readings_of(course: Course, rows: list[RowTexts], text_of: Callable[[Cycle], str]) -> list[DrawnReading]:
     """The readings of an input with their rows; of those that are worked out, the columns that the model has
     otherwise."""
     counted(rows, len(course.readings), course.walk.fault)
@@ -172,7 +185,7 @@ def readings_of(course: Course, rows: list[Row], text_of: Callable[[Cycle], str]
     return readings
 
 
-def otherwise_of(row: Row, due: Row) -> list[tuple[str, str]]:
+def otherwise_of(row: RowTexts, due: RowTexts) -> list[tuple[str, str]]:
     """The columns that a row has otherwise than the model, and what is told of each."""
     found = []
     for name in row:
@@ -185,7 +198,7 @@ def otherwise_of(row: Row, due: Row) -> list[tuple[str, str]]:
     return found
 
 
-def part_of(course: Course, readings: list[Reading]) -> tuple[Journey, list[Read]]:
+def part_of(course: Course, readings: list[DrawnReading]) -> tuple[DrawnJourney, list[WalkedReading]]:
     """The journey, up to a record that is refused, of those readings alone that are worked out; and their events and
     cycles."""
     first, last = course.judged.start - 1, min(course.judged.stop - 1, len(readings))
@@ -194,14 +207,16 @@ def part_of(course: Course, readings: list[Reading]) -> tuple[Journey, list[Read
     note = f"rows that the model has otherwise: {numbers}{' ...' if differ[10:] else ''}" if differ else ""
     ends = ends_held(seen(course.authorities, len(readings))) + release_starts(course.readings)
     restrictions = within(seen(course.restrictions, len(readings)), first, last)
-    journey = Journey(readings[first:last], within(seen(ends, len(readings)), first, last), restrictions, note=note)
+    journey = DrawnJourney(
+        readings[first:last], within(seen(ends, len(readings)), first, last), restrictions, note=note
+    )
     journey.notes = [
         f"row {n} at {reading.time:g} s: " + "; ".join(text for _, text in reading.otherwise) for n, reading in differ
     ]
     return with_track(journey, course.supervisor.data), course.readings[first:last]
 
 
-def with_track(journey: Journey, data: Data) -> Journey:
+def with_track(journey: DrawnJourney, data: Data) -> DrawnJourney:
     """The journey with what the data part tells of the track."""
     train = Zone(data.train.max_speed, -math.inf, math.inf)
     journey.profile = [train, *static_zones(data)]
@@ -238,17 +253,17 @@ def within(helds: list[Held[T]], first: int, last: int) -> list[Held[T]]:
     return [held for held in part if held.since < held.until]
 
 
-def ends_of(authority: Authority) -> tuple[End, ...]:
+def ends_of(authority: Authority) -> tuple[DrawnEnd, ...]:
     """What ends an authority."""
     if isinstance(authority, Limit):
-        return (End(f"LOA {authority.speed} km/h", authority.loa / CM_PER_M),)
-    return End("EOA", authority.eoa / CM_PER_M), End("SvL", authority.svl / CM_PER_M)
+        return (DrawnEnd(f"LOA {authority.speed} km/h", authority.loa / CM_PER_M),)
+    return DrawnEnd("EOA", authority.eoa / CM_PER_M), DrawnEnd("SvL", authority.svl / CM_PER_M)
 
 
-def ends_held(authorities: list[Held[Authority]]) -> list[Held[End]]:
+def ends_held(authorities: list[Held[Authority]]) -> list[Held[DrawnEnd]]:
     """The ends of authorities that follow each other, each once for as long as it stands unchanged."""
-    ends: list[Held[End]] = []
-    last: dict[End, Held[End]] = {}
+    ends: list[Held[DrawnEnd]] = []
+    last: dict[DrawnEnd, Held[DrawnEnd]] = {}
     for authority in authorities:
         now = {end: last.get(end) or Held(end, authority.since) for end in ends_of(authority.what)}
         ends += [held for end, held in now.items() if end not in last]
@@ -258,12 +273,12 @@ def ends_held(authorities: list[Held[Authority]]) -> list[Held[End]]:
     return ends
 
 
-def release_starts(readings: list[Read]) -> list[Held[End]]:
+def release_starts(readings: list[WalkedReading]) -> list[Held[DrawnEnd]]:
     """The starts of release speed monitoring, each for as long as it stands."""
-    starts: list[Held[End]] = []
+    starts: list[Held[DrawnEnd]] = []
     for n, (_, cycle) in enumerate(readings):
         start = None if cycle is None else cycle.situation.release_start
-        end = None if start is None else End("start of R", float(start / GRAINS_PER_M))
+        end = None if start is None else DrawnEnd("start of R", float(start / GRAINS_PER_M))
         if end and starts and starts[-1].what == end and starts[-1].until == n:
             starts[-1].until = n + 1
         elif end:
@@ -274,7 +289,7 @@ def release_starts(readings: list[Read]) -> list[Held[End]]:
 # ---- whole curves
 
 
-def curves_of(supervisor: Supervisor, readings: list[Read], highest_kmh: float) -> dict[str, list[Line]]:
+def curves_of(supervisor: Supervisor, readings: list[WalkedReading], highest_kmh: float) -> dict[str, list[Polyline]]:
     """EBD, SBD and all limits of each set of targets that counted, over all speeds, as lines of (m, km/h).
 
     They are those of the acceleration and the under-reading amount that most of the readings with these targets have.
@@ -283,7 +298,7 @@ def curves_of(supervisor: Supervisor, readings: list[Read], highest_kmh: float) 
     for event, cycle in readings:
         if cycle is not None:
             sets[tuple(each.target for each in cycle.situation.targets)].append(event)
-    curves: dict[str, list[Line]] = collections.defaultdict(list)
+    curves: dict[str, list[Polyline]] = collections.defaultdict(list)
     for targets, events in sets.items():
         (accel, under), _ = collections.Counter((event.accel, event.under) for event in events).most_common(1)[0]
         probe = events[0]._replace(accel=accel, under=under)
@@ -294,8 +309,8 @@ def curves_of(supervisor: Supervisor, readings: list[Read], highest_kmh: float) 
 
 
 def set_lines(
-    supervisor: Supervisor, targets: Sequence[Target], probe: records.Reading, highest_kmh: float
-) -> Iterator[tuple[str, Line]]:
+    supervisor: Supervisor, targets: Sequence[Target], probe: exact.Reading, highest_kmh: float
+) -> Iterator[tuple[str, Polyline]]:
     """The lines of a set of targets: at each speed the least place, broken where a target or its brake curve begins to
     count."""
     top, foot = math.ceil(highest_kmh), {each: Fraction(each.foot_speed, NOTCHES_PER_KM_H) for each in targets}
@@ -314,7 +329,7 @@ def set_lines(
 
 
 def places_at(
-    supervisor: Supervisor, slower: list[Target], braked: list[Target], reading: records.Reading
+    supervisor: Supervisor, slower: list[Target], braked: list[Target], reading: exact.Reading
 ) -> dict[str, float | None]:
     """The least place of each limit of the slower targets, and of each curve of those that are braked, at a speed, in
     m."""
@@ -333,7 +348,7 @@ def places_at(
 # ---- a journey of `flat`
 
 
-def flat_journey(source: bytes, text: str, A: int, END: int, window: Window) -> Journey:
+def flat_journey(source: bytes, text: str, A: int, END: int, window: Window) -> DrawnJourney:
     """The journey of an input of `flat` for its words, and its rows."""
     lines: list[list[int]] = []
     given = source.split(b"\n")
@@ -353,11 +368,13 @@ def flat_journey(source: bytes, text: str, A: int, END: int, window: Window) -> 
         if int(row["time"]) != time:
             raise Fault(f"The rows are not those of the input: row {n} has the time {row['time']}, its line {time}.")
         place = front / 1000
-        readings.append(Reading(time / 10, place, place, place, speed * 0.0036, row, {"ebi": int(row["ebi"]) / 1000}))
+        readings.append(
+            DrawnReading(time / 10, place, place, place, speed * 0.0036, row, {"ebi": int(row["ebi"]) / 1000})
+        )
     readings = [reading for reading in readings if window.has(reading.time)]
     if not readings:
         raise Fault("No reading lies within these times.")
     curve = BrakeCurve(Brake("flat", 100, (), (), ((A * 2 * 10**9,),)), END * GRAINS_PER_CM, 0, exact=True)
     top = math.ceil(highest(readings))
     points = [(float(curve.place(kmh * NOTCHES_PER_KM_H) / GRAINS_PER_M), float(kmh)) for kmh in range(top + 1)]
-    return Journey(readings, [Held(End("END", END / CM_PER_M), 0, len(readings))], curves={"ebi": [points]})
+    return DrawnJourney(readings, [Held(DrawnEnd("END", END / CM_PER_M), 0, len(readings))], curves={"ebi": [points]})

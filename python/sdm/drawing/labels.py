@@ -5,11 +5,11 @@ from collections.abc import Callable
 from dataclasses import dataclass, replace
 from typing import Any, Self
 
-from sdm.model.speeds import Zone
+from sdm.exact import Zone
 
-from .journey import CM_PER_M, steps
-from .sheet import BLACK, LEFT, LETTER, LEVEL, SMALL, Sheet, seconds
-from .values import Held, Journey, Reading
+from sdm.drawing.journey import CM_PER_M, steps
+from sdm.drawing.sheet import BLACK, LEFT, LETTER, LEVEL, SMALL, Sheet, seconds
+from sdm.drawing.values import Held, DrawnJourney, DrawnReading
 
 # At most so many levels of labels stand above the plot; names that lie nearer than so many pixels share a label.
 LEVELS, NEAR = 5, 12
@@ -50,7 +50,7 @@ class Label:
         return not lower.start - 3 < upper.line < lower.end + 3
 
 
-def period(held: Held[Any], readings: list[Reading]) -> str:
+def period(held: Held[Any], readings: list[DrawnReading]) -> str:
     """When something counts, where that is not the whole journey."""
     since = seconds(readings[held.since].time) if held.since else ""
     if held.until == len(readings):
@@ -58,7 +58,7 @@ def period(held: Held[Any], readings: list[Reading]) -> str:
     return f" {since} to {seconds(readings[held.until].time)} s".replace("  ", " ")
 
 
-def wanted_labels(journey: Journey, sheet: Sheet, low: float, high: float) -> list[Label]:
+def wanted_labels(journey: DrawnJourney, sheet: Sheet, low: float, high: float) -> list[Label]:
     """The labels of what ends an authority and of restrictions that come or go, the last ones in force first."""
     scale = (sheet.right - LEFT) / (high - low)
     labels: list[Label] = []

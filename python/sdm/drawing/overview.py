@@ -4,19 +4,16 @@ import collections
 from collections.abc import Iterable
 
 from sdm.laboratory.walk import at_speed
-from sdm.model.journey import Cycle, Supervisor
-from sdm.model.limits import Target
-from sdm.model.records import Reading
-from sdm.model.units import GRAINS_PER_MM, NOTCHES_PER_KM_H
+from sdm.exact import Cycle, GRAINS_PER_MM, NOTCHES_PER_KM_H, Reading, Supervisor, Target
 
-from .values import End, Held, Journey, Line
+from sdm.drawing.values import DrawnEnd, Held, DrawnJourney, Polyline
 
 NEAR_M, STEP_KMH = 1_500, 4
 CURVES = {"ebi": "d_EBI", "permitted": "d_P"}  # those of an overview: its limits, and the model's names
 GRAINS_PER_M = 1000 * GRAINS_PER_MM
 
 
-def near_ends(journey: Journey) -> list[Held[End]]:
+def near_ends(journey: DrawnJourney) -> list[Held[DrawnEnd]]:
     """The ends of authorities to which the train came near while they were in force."""
     found = []
     for held in journey.ends:
@@ -42,13 +39,13 @@ def braked_for(cycles: Iterable[tuple[Reading, Cycle | None]]) -> dict[Target, t
 
 def braking_curves(
     supervisor: Supervisor, cycles: Iterable[tuple[Reading, Cycle | None]], highest_kmh: float
-) -> dict[str, list[Line]]:
+) -> dict[str, list[Polyline]]:
     """EBI and permitted of each target that the train braked for, from the target's speed up to a little above the
     train's, as lines of (m, km/h)."""
-    curves: dict[str, list[Line]] = collections.defaultdict(list)
+    curves: dict[str, list[Polyline]] = collections.defaultdict(list)
     for target, (probe, kmh) in braked_for(cycles).items():
         top = min(kmh + 4 * STEP_KMH, int(highest_kmh))
-        lines: dict[str, Line] = {name: [] for name in CURVES}
+        lines: dict[str, Polyline] = {name: [] for name in CURVES}
         for speed in range(target.V_target, top + 1, STEP_KMH):
             limits = supervisor.limits(at_speed(probe, speed, accel=0), target)
             for name, field in CURVES.items():

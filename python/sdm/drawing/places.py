@@ -7,16 +7,30 @@ that the upper panel and the strips are read together.
 import math
 from collections.abc import Iterable
 
-from sdm.model.speeds import dV_ebi, dV_sbi, dV_warning
-from sdm.model.units import NOTCHES_PER_KM_H
+from sdm.exact import NOTCHES_PER_KM_H, dV_ebi, dV_sbi, dV_warning
 
-from . import certificate, display
-from .journey import CM_PER_M, highest, steps
-from .labels import fields_of, label_lines, placed, wanted_labels
-from .sheet import BLACK, COMMAND, GREY, LEFT, LEVEL, PALE, SMALL, STATUSES, STRIP, WHITE, Shade, Sheet, block, rgb
-from .track import track_rows, track_strip
-from .values import Journey, Line, Reading, SeriesData, Span
-from .view import LINE, MARK, MOST_MARKS, View, changes
+from sdm.drawing import certificate, display
+from sdm.drawing.journey import CM_PER_M, highest, steps
+from sdm.drawing.labels import fields_of, label_lines, placed, wanted_labels
+from sdm.drawing.sheet import (
+    BLACK,
+    COMMAND,
+    GREY,
+    LEFT,
+    LEVEL,
+    PALE,
+    SMALL,
+    STATUSES,
+    STRIP,
+    WHITE,
+    Shade,
+    Sheet,
+    block,
+    rgb,
+)
+from sdm.drawing.track import track_rows, track_strip
+from sdm.drawing.values import DrawnJourney, Polyline, DrawnReading, SeriesData, Span
+from sdm.drawing.view import LINE, MARK, MOST_MARKS, View, changes
 
 # Limits and targets farther from the train than this many m, or than twice the distance that it runs, are left out.
 LEAST_REACH = 5000
@@ -43,7 +57,7 @@ MOST_CHANGES = 24  # of commands, that are named
 
 
 def place_panel(
-    journey: Journey, sheet: Sheet, low_edge: int, places: Span | None = None, speeds: Span | None = None
+    journey: DrawnJourney, sheet: Sheet, low_edge: int, places: Span | None = None, speeds: Span | None = None
 ) -> list[str]:
     """The panel's part of the script, above a height; for places and speeds of its own where they are given."""
     low, high = places or reach_of(journey)
@@ -77,7 +91,7 @@ def kilometres(low: float, high: float, is_named: bool) -> str:
     return "set xtics (" + ", ".join(f'"{km if is_named else ""}" {1000 * km}' for km in whole) + ")"
 
 
-def with_kilometres(track: list[str], journey: Journey, low: float, high: float) -> list[str]:
+def with_kilometres(track: list[str], journey: DrawnJourney, low: float, high: float) -> list[str]:
     """The strip of the track, which has the axis of places where it is there."""
     if not (track and journey.is_long):
         return track
@@ -88,7 +102,7 @@ def with_kilometres(track: list[str], journey: Journey, low: float, high: float)
 # ---- the places that are shown
 
 
-def reach_of(journey: Journey) -> Span:
+def reach_of(journey: DrawnJourney) -> Span:
     """The places from and to which the picture reaches."""
     readings = journey.readings
     low, high = min(r.least for r in readings), max(r.most for r in readings)
@@ -104,7 +118,7 @@ def reach_of(journey: Journey) -> Span:
 # ---- upright lines
 
 
-def end_lines(journey: Journey) -> list[str]:
+def end_lines(journey: DrawnJourney) -> list[str]:
     """The ends of authorities, as upright lines: dashed where another authority has taken their place."""
     lines = []
     for held in journey.ends:
@@ -115,7 +129,7 @@ def end_lines(journey: Journey) -> list[str]:
     return lines
 
 
-def changes_of(journey: Journey, near: float) -> list[tuple[float, list[str]]]:
+def changes_of(journey: DrawnJourney, near: float) -> list[tuple[float, list[str]]]:
     """Where commands come and go: places in m and what changes there, those as near as a label's height together."""
     last: dict[str, bool] = {}
     changes: list[tuple[float, list[str]]] = []
@@ -131,7 +145,7 @@ def changes_of(journey: Journey, near: float) -> list[tuple[float, list[str]]]:
     return changes
 
 
-def change_lines(journey: Journey, scale: float) -> list[str]:
+def change_lines(journey: DrawnJourney, scale: float) -> list[str]:
     """A thin upright line where commands come and go, with their names; `scale` is the way of a pixel."""
     lines, changes = [], changes_of(journey, 13 * scale)
     for front, words in changes:
@@ -148,7 +162,7 @@ def change_lines(journey: Journey, scale: float) -> list[str]:
 # ---- the data of the series
 
 
-def series_data(journey: Journey, view: View) -> SeriesData:
+def series_data(journey: DrawnJourney, view: View) -> SeriesData:
     """The data of each series that the panel has, by name."""
     readings, differ = journey.readings, any(r.front < r.most for r in journey.readings)
     is_thinned = len(readings) > MOST_MARKS
@@ -190,7 +204,7 @@ def within_speeds(data: SeriesData, top: float) -> SeriesData:
     return {name: lines for name, lines in data.items() if lowest[name] < top}
 
 
-def curve_lines(lines: list[Line], low: float, high: float) -> list[str]:
+def curve_lines(lines: list[Polyline], low: float, high: float) -> list[str]:
     """The data of whole curves, a break between two, without what lies far from the picture."""
     width = high - low
     found: list[str] = []
@@ -200,7 +214,7 @@ def curve_lines(lines: list[Line], low: float, high: float) -> list[str]:
     return found
 
 
-def colour_of(reading: Reading) -> str:
+def colour_of(reading: DrawnReading) -> str:
     """The colour of a reading's mark: that of its status, of `display` where its speed lies, of `flat` the emergency
     brake, of `check` the answer."""
     if reading.shown:
@@ -211,13 +225,13 @@ def colour_of(reading: Reading) -> str:
     return STATUSES[row["status"]].colour if "status" in row else COMMAND.get(row["eb"], Shade(WHITE)).colour
 
 
-def profile_lines(journey: Journey, low: float, high: float) -> list[str]:
+def profile_lines(journey: DrawnJourney, low: float, high: float) -> list[str]:
     """The static speed profile, to be drawn in steps."""
     pairs = [(max(cm / CM_PER_M, low), kmh) for cm, kmh in steps(journey.profile) if cm / CM_PER_M < high]
     return [f"{x:.3f} {kmh}" for x, kmh in pairs + [(high, kmh) for _, kmh in pairs[-1:]]]
 
 
-def restriction_lines(journey: Journey, low: float, high: float) -> list[str]:
+def restriction_lines(journey: DrawnJourney, low: float, high: float) -> list[str]:
     """The fields of all restrictions."""
     fields = [field for held in journey.restrictions for field in fields_of(held.what, journey.profile, low, high)]
     return [f"{start:.3f} {kmh} {start:.3f} {end:.3f} {speed} {kmh}" for start, end, speed, kmh in fields]
@@ -291,7 +305,7 @@ def drawn_series(data: SeriesData, count: int) -> list[str]:
     return [f"${name} using {using} with {style} notitle" for name, using, style in series if name in data]
 
 
-def train_of(journey: Journey) -> str:
+def train_of(journey: DrawnJourney) -> str:
     """What the key calls the marks of the train."""
     row = journey.readings[0].row
     return "claim" if "holds" in row else "train, by status" if "status" in row else "train"

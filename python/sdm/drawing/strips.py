@@ -4,10 +4,10 @@ The strips lie over time and not over place, since a train that stands has many 
 their axis tell both.
 """
 
-from . import certificate, display
-from .values import Journey, Reading
-from .sheet import BLACK, COMMAND, COVERED, GREY, LEFT, SMALL, STATES, STATUSES, STRIP, TARGETS, WHITE
-from .sheet import Shade, Sheet, block, rgb, seconds
+from sdm.drawing import certificate, display
+from sdm.drawing.values import DrawnJourney, DrawnReading
+from sdm.drawing.sheet import BLACK, COMMAND, COVERED, GREY, LEFT, SMALL, STATES, STATUSES, STRIP, TARGETS, WHITE
+from sdm.drawing.sheet import Shade, Sheet, block, rgb, seconds
 
 STRIPS: dict[str, tuple[str, dict[str, Shade] | None]] = {
     # column of the row: name, how its values are shown
@@ -32,17 +32,17 @@ KEYS = {"status": list((STATES | STATUSES).items()), "zone": [("", shade) for sh
 APART, ROOM, LEAST_STEP = 50, 12, 13
 
 
-def height_of(journey: Journey, sheet: Sheet) -> int:
+def height_of(journey: DrawnJourney, sheet: Sheet) -> int:
     """The upper edge of the panel in pixels."""
     return sheet.foot + STRIP * len(columns_of(journey))
 
 
-def columns_of(journey: Journey) -> list[str]:
+def columns_of(journey: DrawnJourney) -> list[str]:
     """The columns of the rows that have a strip, from top to bottom."""
     return [column for column in STRIPS if any(value_of(reading, column) for reading in journey.readings)]
 
 
-def value_of(reading: Reading, column: str) -> str:
+def value_of(reading: DrawnReading, column: str) -> str:
     """What a reading has in a strip: a value of its row, the target that its permitted limit is of, whether the model's
     row differs; of `display` where its speed lies, and the target that is shown."""
     if column in ("zone", "target"):
@@ -62,7 +62,7 @@ def shade_of(column: str, value: str) -> Shade | None:
     return (STRIPS[column][1] or {}).get(value)
 
 
-def strip_panel(journey: Journey, sheet: Sheet) -> list[str]:
+def strip_panel(journey: DrawnJourney, sheet: Sheet) -> list[str]:
     """The panel's part of the script."""
     readings, columns, edge = journey.readings, columns_of(journey), height_of(journey, sheet)
     end, unit = end_of(readings), "km" if journey.is_long else "m"
@@ -85,14 +85,14 @@ def strip_panel(journey: Journey, sheet: Sheet) -> list[str]:
     return lines + ["plot " + ", ".join(series or ["-1 notitle"])]
 
 
-def end_of(readings: list[Reading]) -> float:
+def end_of(readings: list[DrawnReading]) -> float:
     """The time up to which the last reading is shown. No reading follows it, so that this is a stub."""
     times = [r.time for r in readings]
     between = [after - before for before, after in zip(times, times[1:]) if after > before]
     return times[-1] + max(min(between, default=1), 0.04 * (times[-1] - times[0]))
 
 
-def runs_of(readings: list[Reading], column: str, end: float) -> list[tuple[float, float, str]]:
+def runs_of(readings: list[DrawnReading], column: str, end: float) -> list[tuple[float, float, str]]:
     """The runs of readings with one value of a column: since when, until when, the value."""
     runs: list[tuple[float, str]] = []
     for reading in readings:
@@ -105,7 +105,9 @@ def runs_of(readings: list[Reading], column: str, end: float) -> list[tuple[floa
     return [(since, until, value) for (since, value), until in zip(runs, ends)]
 
 
-def strip_lines(readings: list[Reading], columns: list[str], end: float, width: int) -> tuple[list[str], list[str]]:
+def strip_lines(
+    readings: list[DrawnReading], columns: list[str], end: float, width: int
+) -> tuple[list[str], list[str]]:
     """The rectangles of the strips, and the letters that have room in them."""
     boxes, letters = [], []
     scale = width / (end - readings[0].time)
@@ -122,7 +124,7 @@ def strip_lines(readings: list[Reading], columns: list[str], end: float, width: 
     return boxes, letters
 
 
-def tics_of(journey: Journey, end: float, width: int) -> str:
+def tics_of(journey: DrawnJourney, end: float, width: int) -> str:
     """Labels of the time axis at readings: the time, and below it the place of the front end."""
     readings = journey.readings
     apart = APART * (end - readings[0].time) / width
@@ -135,12 +137,12 @@ def tics_of(journey: Journey, end: float, width: int) -> str:
     return ", ".join(f'"{seconds(r.time)}\\n{place}" {r.time:.1f}' for r, place in zip(shown, places))
 
 
-def tenths(reading: Reading) -> int:
+def tenths(reading: DrawnReading) -> int:
     """The time of a reading in tenths of a second."""
     return round(reading.time * 10)
 
 
-def round_step(readings: list[Reading], apart: float) -> int:
+def round_step(readings: list[DrawnReading], apart: float) -> int:
     """The round step in tenths, of at least so many seconds, most of whose multiples have a reading; 1 where none is
     such."""
     times = {tenths(reading) for reading in readings}

@@ -1,26 +1,26 @@
 """The strip of the track below the upper panel: gradients in per mille, areas of reduced adhesion, those without the
 special brake."""
 
-from .sheet import BLACK, LEFT, LETTER, SMALL, STRIP, Sheet, block, rgb
-from .values import Journey, Span
+from sdm.drawing.sheet import BLACK, LEFT, LETTER, SMALL, STRIP, Sheet, block, rgb
+from sdm.drawing.values import DrawnJourney, Span
 
 GRADES = {-1: "#F3C9B1", 0: "#EEEEEE", 1: "#CFE6D2"}  # downhill, level, uphill
 AREAS = {"adhesion": ("reduced", "#A9D3EE"), "special brake": ("not used", "#D8C6E6")}  # row: text, colour
 
 
-def track_rows(journey: Journey, low: float, high: float) -> list[str]:
+def track_rows(journey: DrawnJourney, low: float, high: float) -> list[str]:
     """The rows of the strip: what the track tells within these places."""
     is_within = lambda area: area[0] < high and area[1] > low
     within = [name for name, areas in areas_of(journey).items() if any(map(is_within, areas))]
     return ["gradient"] * any(grad for _, _, grad in journey.gradients) + within
 
 
-def areas_of(journey: Journey) -> dict[str, list[Span]]:
+def areas_of(journey: DrawnJourney) -> dict[str, list[Span]]:
     """The areas of each row, as pairs of m."""
     return dict(zip(AREAS, (journey.adhesion, journey.no_special)))
 
 
-def track_strip(journey: Journey, sheet: Sheet, low: float, high: float, edge: int) -> list[str]:
+def track_strip(journey: DrawnJourney, sheet: Sheet, low: float, high: float, edge: int) -> list[str]:
     """The strip's part of the script, over the same places: gradients in per mille, areas of reduced adhesion, those
     without the special brake."""
     rows = track_rows(journey, low, high)

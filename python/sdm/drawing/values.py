@@ -4,12 +4,12 @@ import sys
 from dataclasses import dataclass, field
 from typing import Generic, TypeVar
 
-from sdm.laboratory.rows import Row
-from sdm.model.speeds import Zone
+from sdm.laboratory.rows import RowTexts
+from sdm.exact import Zone
 
 T = TypeVar("T")
 Span = tuple[float, float]  # from, to
-Line = list[tuple[float, float]]  # of m and km/h
+Polyline = list[tuple[float, float]]  # of m and km/h
 SeriesData = dict[str, list[str]]
 LONG_WAY = 20_000  # m; of a longer way the picture is an overview
 
@@ -28,7 +28,7 @@ class Window:
 
 
 @dataclass
-class Reading:
+class DrawnReading:
     """A reading with its row, the target that its permitted limit is of, and the columns that the model has
     otherwise."""
 
@@ -37,7 +37,7 @@ class Reading:
     least: float  # m, the min safe front end
     most: float  # m, the max safe front end
     speed: float  # km/h
-    row: Row
+    row: RowTexts
     limits: dict[str, float]  # m
     shown: dict[str, int] = field(default_factory=dict)  # km/h, of `display`
     release: int | None = None  # km/h, in release speed monitoring
@@ -56,7 +56,7 @@ class Held(Generic[T]):
 
 
 @dataclass(frozen=True)
-class End:
+class DrawnEnd:
     """What ends an authority: its name, and its place in m."""
 
     name: str
@@ -64,20 +64,20 @@ class End:
 
 
 @dataclass
-class Journey:
+class DrawnJourney:
     """All that a picture shows. `curves` has for each name the whole lines of all that counted, as points of m and
     km/h."""
 
-    readings: list[Reading]
-    ends: list[Held[End]] = field(default_factory=list)
+    readings: list[DrawnReading]
+    ends: list[Held[DrawnEnd]] = field(default_factory=list)
     restrictions: list[Held[Zone]] = field(default_factory=list)
     profile: list[Zone] = field(default_factory=list)  # the static profile and the maximum train speed
     gradients: list[tuple[float, float, float]] = field(default_factory=list)  # from m, to m, per mille
     adhesion: list[Span] = field(default_factory=list)  # in m, as the next one
     no_special: list[Span] = field(default_factory=list)
-    curves: dict[str, list[Line]] = field(default_factory=dict)
-    true: Line = field(default_factory=list)  # the train itself, of `drive`
-    certificates: dict[str, list[Line]] = field(default_factory=dict)  # of `check`, by the name of their series
+    curves: dict[str, list[Polyline]] = field(default_factory=dict)
+    true: Polyline = field(default_factory=list)  # the train itself, of `drive`
+    certificates: dict[str, list[Polyline]] = field(default_factory=dict)  # of `check`, by the name of their series
     note: str = ""  # what is told of rows that the model has otherwise
     notes: list[str] = field(default_factory=list)  # the same of each row, in words
 

@@ -4,7 +4,7 @@ from collections.abc import Callable, Iterable
 from dataclasses import dataclass
 from typing import TypeVar
 
-from .values import Reading
+from sdm.drawing.values import DrawnReading
 
 T = TypeVar("T")
 MOST_MARKS = 200  # readings, all of which are drawn
@@ -49,7 +49,7 @@ class View:
         return kept if last is None or kept[-1] is last else [*kept, last]
 
 
-def changes(readings: list[Reading], column: str) -> list[Reading]:
+def changes(readings: list[DrawnReading], column: str) -> list[DrawnReading]:
     """The readings at which a column of the rows changes, with the ones before them, and the first and the last."""
     values = [reading.row[column] for reading in readings]
     before, after = [None, *values], [*values[1:], None]

@@ -1,5 +1,5 @@
 """Why an input of `run` is refused, and what looks wrong in one that isn't."""
-from .finding import Finding
-from .whole import Explanation, explain, explanation
+from sdm.findings.finding import Finding
+from sdm.findings.whole import Explanation, explain, explanation
 
 __all__ = ["Explanation", "Finding", "explain", "explanation"]

@@ -1,10 +1,9 @@
 """What refuses an authority, with its numbers (PROFILE "What a record does")."""
 from typing import NamedTuple
 
-from sdm.model.data import Limit, Stop
-from sdm.model.records import Calculated
+from sdm.exact import Calculated, Limit, Stop
 
-from .expected import SMALLER
+from sdm.findings.expected import SMALLER
 
 
 class Refusal(NamedTuple):

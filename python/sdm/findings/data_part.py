@@ -4,14 +4,14 @@ The model stops at the first broken rule; here each section is gone through to i
 """
 from typing import Any
 
-from sdm.model.data import (
-    KIND,
-    REFUSED,
+from sdm.exact import (
     Area,
     Band,
+    KIND,
     Key,
     Limit,
     National,
+    REFUSED,
     Root,
     Stop,
     Table,
@@ -22,9 +22,9 @@ from sdm.model.data import (
     known_keys,
 )
 
-from .expected import due, kind_hint, nearest, range_of, smaller_hint, span, told, unit_of, with_unit
-from .finding import Finding
-from .toml_places import Path, Places
+from sdm.findings.expected import due, kind_hint, nearest, range_of, smaller_hint, span, told, unit_of, with_unit
+from sdm.findings.finding import Finding
+from sdm.findings.toml_places import KeyPath, Places
 
 SECTIONS: dict[str, type] = {"train": Train, "train.band": Band, "national": National, "track": Track}
 SECTIONS |= {f"track.{key.name}": key.of for key in keys_of(Track) if key.kind is list}
@@ -34,7 +34,7 @@ HOMES = SECTIONS | {f"authority of the kind {kind}": made for kind, made in AUTH
 NAMES_OF_KINDS = " or ".join(f'"{name}"' for name in AUTHORITIES)
 
 
-def path_text(path: Path) -> str:
+def path_text(path: KeyPath) -> str:
     """A path as a fault line writes it: lists count from 1."""
     text = "".join(f"[{part + 1}]" if isinstance(part, int) else f".{part}" for part in path)
     return text.removeprefix(".") or "root"
@@ -59,7 +59,7 @@ class DataPart:
                 self.track_list(key)
         self.authority()
 
-    def tell(self, path: Path, found: str, expected: str, hint: str = "", is_key: bool = False) -> None:
+    def tell(self, path: KeyPath, found: str, expected: str, hint: str = "", is_key: bool = False) -> None:
         """A fault at a value, or at a key."""
         at = self.places.of_key(path) if is_key else self.places.of_value(path)
         line, column = at if at is not None else (None, None)
@@ -84,7 +84,7 @@ class DataPart:
             value = value.get(part) if isinstance(value, dict) else None
         return value if isinstance(value, list) and all(is_of(dict, each) for each in value) else []
 
-    def section(self, path: Path, table: Any, made: type, **ranges: tuple[int, int]) -> None:
+    def section(self, path: KeyPath, table: Any, made: type, **ranges: tuple[int, int]) -> None:
         """A section's keys: not known, missing, of the wrong kind, out of range."""
         if not isinstance(table, dict):
             return
@@ -98,7 +98,7 @@ class DataPart:
                 missing = path_text(path + (key.name,))
                 self.tell(path, f"no key {missing}", f"{missing}: {due(key, ends, self.version)}", is_key=True)
 
-    def value(self, path: Path, key: Key, value: Any, ends: tuple[int, int]) -> None:
+    def value(self, path: KeyPath, key: Key, value: Any, ends: tuple[int, int]) -> None:
         """One value: its kind, and of a number the range."""
         if not is_of(key.kind, value) or key.kind is list and not all(is_of(dict, each) for each in value):
             hint = kind_hint(key, value, ends, self.version)
@@ -108,7 +108,7 @@ class DataPart:
             hint = smaller_hint(value, unit, ends)
             self.tell(path, with_unit(str(value), unit), span(*ends, unit, key.step), hint)
 
-    def unknown(self, path: Path, table: Table, keys: list[Key]) -> set[str]:
+    def unknown(self, path: KeyPath, table: Table, keys: list[Key]) -> set[str]:
         """Tells the keys that a section doesn't know; answers the missing ones that are meant by them."""
         meant: set[str] = set()
         names = [key.name for key in keys]

@@ -3,13 +3,12 @@ from collections.abc import Iterator
 from fractions import Fraction
 from statistics import median
 
-from sdm.model.data import Authority, Data, Limit, Stop
-from sdm.model.records import Calculated, Reading
+from sdm.exact import Authority, Calculated, Data, Limit, Reading, Stop
 
-from .finding import Finding
-from .motion import ACCEL_MOST, Read, by_speed, is_place_possible, is_speed_possible, reads, way
-from .records_part import Placed
-from .toml_places import Places
+from sdm.findings.finding import Finding
+from sdm.findings.motion import ACCEL_MOST, PlacedReading, by_speed, is_place_possible, is_speed_possible, reads, way
+from sdm.findings.records_part import Placed
+from sdm.findings.toml_places import Places
 
 FAR_CM = 100_000  # from an authority's end
 LONG_GAP_DS = 600
@@ -43,7 +42,7 @@ def doubt(line: int | None, where: str, found: str, expected: str, hint: str) ->
     return Finding(line, None, where, found, expected, hint, is_refusal=False)
 
 
-def named(read: Read, column: str) -> str:
+def named(read: PlacedReading, column: str) -> str:
     return f"record {read.number}, read {column}"
 
 
@@ -55,7 +54,7 @@ def also(lines: list[int]) -> str:
     return f"; likewise on {len(lines)} more lines: {shown}" if len(lines) > 1 else f"; likewise on line {shown}"
 
 
-def standing(path: list[Read]) -> list[Finding]:
+def standing(path: list[PlacedReading]) -> list[Finding]:
     """A train that never moves although it has a speed."""
     if len(path) < 3:
         return []
@@ -67,7 +66,7 @@ def standing(path: list[Read]) -> list[Finding]:
     return [doubt(path[0].line, named(path[0], "est"), found, expected, "the front end never moves")]
 
 
-def slip(path: list[Read]) -> list[Finding]:
+def slip(path: list[PlacedReading]) -> list[Finding]:
     """A whole journey in another unit: most steps have its ratio, and the whole way isn't possible."""
     if len(path) < 3:
         return []
@@ -83,7 +82,7 @@ def slip(path: list[Read]) -> list[Finding]:
     return []
 
 
-def way_doubt(path: list[Read], hint: str) -> Finding:
+def way_doubt(path: list[PlacedReading], hint: str) -> Finding:
     """A whole way that the speeds and times don't make."""
     whole = way(path)
     found = f"{whole.gone:,} mm of way from line {path[0].line} to line {path[-1].line}"
@@ -91,7 +90,7 @@ def way_doubt(path: list[Read], hint: str) -> Finding:
     return doubt(path[0].line, named(path[0], "est, speed, time"), found, expected, hint)
 
 
-def steps(path: list[Read]) -> list[Finding]:
+def steps(path: list[PlacedReading]) -> list[Finding]:
     """Readings that don't follow from the one before: each kind of doubt once, with the lines of the others. Where each
     does, the whole way still may not."""
     first: dict[str, Finding] = {}
@@ -107,7 +106,7 @@ def steps(path: list[Read]) -> list[Finding]:
     ] or drift(path)
 
 
-def step_doubts(path: list[Read]) -> Iterator[tuple[str, Finding]]:
+def step_doubts(path: list[PlacedReading]) -> Iterator[tuple[str, Finding]]:
     """Each reading that the one before can't have led to; one with a slip of its own is passed over."""
     if not path:
         return
@@ -130,10 +129,10 @@ def step_doubts(path: list[Read]) -> Iterator[tuple[str, Finding]]:
             before = read
 
 
-OneSlip = tuple[str, Read, str]  # the kind of doubt, the reading that has the slip, the hint
+OneSlip = tuple[str, PlacedReading, str]  # the kind of doubt, the reading that has the slip, the hint
 
 
-def one_slip(column: str, right: Read, wrong: Read) -> OneSlip | None:
+def one_slip(column: str, right: PlacedReading, wrong: PlacedReading) -> OneSlip | None:
     """A unit in which one number of a reading would fit to the other reading, taken to be right."""
     fits = is_place_possible if column == "est" else is_speed_possible
     value = getattr(wrong.reading, column)
@@ -147,7 +146,7 @@ def one_slip(column: str, right: Read, wrong: Read) -> OneSlip | None:
     return None
 
 
-def place_doubt(before: Read, read: Read, slipped: OneSlip | None) -> Finding:
+def place_doubt(before: PlacedReading, read: PlacedReading, slipped: OneSlip | None) -> Finding:
     """A front end where the train can't have come."""
     step, at = way([before, read]), slipped[1] if slipped else read
     lines = f"from line {before.line} to line {read.line} in {read.time - before.time:g} s"
@@ -156,7 +155,7 @@ def place_doubt(before: Read, read: Read, slipped: OneSlip | None) -> Finding:
     return doubt(at.line, named(at, "est"), found, expected, slipped[2] if slipped else "a jump")
 
 
-def speed_doubt(before: Read, read: Read, slipped: OneSlip | None) -> Finding:
+def speed_doubt(before: PlacedReading, read: PlacedReading, slipped: OneSlip | None) -> Finding:
     """A speed that the train can't have reached."""
     at = slipped[1] if slipped else read
     lines = f"on line {before.line}, and {read.reading.speed} mm/s {read.time - before.time:g} s later"
@@ -165,14 +164,14 @@ def speed_doubt(before: Read, read: Read, slipped: OneSlip | None) -> Finding:
     return doubt(at.line, named(at, "speed"), found, expected, slipped[2] if slipped else "a jump")
 
 
-def drift(path: list[Read]) -> list[Finding]:
+def drift(path: list[PlacedReading]) -> list[Finding]:
     """Steps that are each possible, and a whole way that isn't."""
     if not path or way(path).is_possible():
         return []
     return [way_doubt(path, "way and speeds drift apart")]
 
 
-def gaps(path: list[Read]) -> list[Finding]:
+def gaps(path: list[PlacedReading]) -> list[Finding]:
     """Times far apart while the train moves, where the others are close together."""
     times = [b.reading.time - a.reading.time for a, b in zip(path, path[1:])]
     usual = median(times) if len(times) >= 4 else 0
@@ -217,7 +216,7 @@ def authority_doubts(
     return found + far_past("EOA", eoa, path, length) + end_in_mm(line, where, "EOA", eoa, path)
 
 
-def far_past(name: str, place: int, path: list[Read], length: int) -> list[Finding]:
+def far_past(name: str, place: int, path: list[PlacedReading], length: int) -> list[Finding]:
     """Readings far past the end of their authority."""
     far = [read for read in path if read.reading.min - 10 * place > 10 * FAR_CM]
     if not far:
@@ -231,7 +230,7 @@ def far_past(name: str, place: int, path: list[Read], length: int) -> list[Findi
     return [doubt(far[0].line, named(far[0], "min"), text, f"at most {FAR_CM // 100_000} km past it", hint)]
 
 
-def end_in_mm(line: int | None, where: str, name: str, place: int, path: list[Read]) -> list[Finding]:
+def end_in_mm(line: int | None, where: str, name: str, place: int, path: list[PlacedReading]) -> list[Finding]:
     """A train that comes to stand right where the authority would end, were it in mm."""
     if not path or path[-1].reading.speed > 0 or path[-1].reading.est - path[0].reading.est < 100_000:
         return []

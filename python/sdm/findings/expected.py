@@ -2,7 +2,7 @@
 from difflib import get_close_matches
 from typing import Any
 
-from sdm.model.data import Key
+from sdm.exact import Key
 
 # What a unit is often mixed up with: its name, and how many of the unit it is.
 LARGER = {"cm": ("m", 100), "ds": ("s", 10), "cm/s²": ("m/s²", 100), "mm": ("m", 1000), "mm/s": ("m/s", 1000)}

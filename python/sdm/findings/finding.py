@@ -1,7 +1,7 @@
 """A finding: where an input is refused or looks wrong, what was found there, and what is expected."""
 from dataclasses import dataclass
 
-Place = tuple[int, int]  # a line and a column of a text, each from 1
+TextPlace = tuple[int, int]  # a line and a column of a text, each from 1
 
 
 @dataclass(frozen=True)

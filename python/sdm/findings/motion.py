@@ -7,9 +7,9 @@ the way.
 from collections.abc import Iterable, Sequence
 from typing import NamedTuple
 
-from sdm.model.records import Reading
+from sdm.exact import Reading
 
-from .records_part import Placed
+from sdm.findings.records_part import Placed
 
 ACCEL_MOST = 4_000  # mm/s², the most deceleration that data may hand in
 TOLERANCE_MM = 1_000
@@ -27,7 +27,7 @@ class Way(NamedTuple):
         return self.least <= self.gone <= self.most
 
 
-class Read(NamedTuple):
+class PlacedReading(NamedTuple):
     """A reading with its line and number; times in s, places in mm, speeds in mm/s."""
 
     line: int
@@ -47,9 +47,9 @@ class Read(NamedTuple):
         return self.reading.max - self.reading.min
 
 
-def reads(placed: Iterable[Placed]) -> list[Read]:
+def reads(placed: Iterable[Placed]) -> list[PlacedReading]:
     """The readings among records."""
-    return [Read(each.line, each.number, each.event) for each in placed if isinstance(each.event, Reading)]
+    return [PlacedReading(each.line, each.number, each.event) for each in placed if isinstance(each.event, Reading)]
 
 
 def reach(v1: float, v2: float, time: float) -> tuple[float, float]:
@@ -62,12 +62,12 @@ def reach(v1: float, v2: float, time: float) -> tuple[float, float]:
     return least, most
 
 
-def tolerance(first: Read, last: Read, way: float) -> float:
+def tolerance(first: PlacedReading, last: PlacedReading, way: float) -> float:
     """How far a way by front ends may be from one by speeds, in mm."""
     return TOLERANCE_MM + first.width + last.width + way / 10
 
 
-def way(path: Sequence[Read]) -> Way:
+def way(path: Sequence[PlacedReading]) -> Way:
     """The way along readings, step by step."""
     steps = [reach(a.speed, b.speed, b.time - a.time) for a, b in zip(path, path[1:])]
     least, most = sum(step[0] for step in steps), sum(step[1] for step in steps)
@@ -76,14 +76,14 @@ def way(path: Sequence[Read]) -> Way:
     return Way(gone, least - tolerance(*ends, least), most + tolerance(*ends, most))
 
 
-def by_speed(path: Sequence[Read]) -> float:
+def by_speed(path: Sequence[PlacedReading]) -> float:
     """The way by the mean speed of each step."""
     return sum((a.speed + b.speed) / 2 * (b.time - a.time) for a, b in zip(path, path[1:]))
 
 
-def is_place_possible(a: Read, b: Read) -> bool:
+def is_place_possible(a: PlacedReading, b: PlacedReading) -> bool:
     return way([a, b]).is_possible()
 
 
-def is_speed_possible(a: Read, b: Read) -> bool:
+def is_speed_possible(a: PlacedReading, b: PlacedReading) -> bool:
     return abs(b.speed - a.speed) <= ACCEL_MOST * (b.time - a.time) + TOLERANCE_OF_SPEED

@@ -1,19 +1,17 @@
 """What refuses the opening over data that hold: slopes, and then the authority (PROFILE "Slopes that are refused")."""
 from fractions import Fraction
 
-from sdm.model.data import Data
-from sdm.model.decelerations import Brake, brakes_of, under_the_train
-from sdm.model.units import GRAINS_PER_CM
+from sdm.exact import Brake, Data, GRAINS_PER_CM, brakes_of, under_the_train
 
-from .authority import refusals
-from .data_part import path_text
-from .finding import Finding
-from .toml_places import Path, Places
+from sdm.findings.authority import refusals
+from sdm.findings.data_part import path_text
+from sdm.findings.finding import Finding
+from sdm.findings.toml_places import KeyPath, Places
 
 KEYS = {"safe": "emergency", "expected": "service", "normal": "normal"}  # the deceleration that a slope is made of
 
 
-def tell(places: Places, path: Path, found: str, expected: str, hint: str = "") -> Finding:
+def tell(places: Places, path: KeyPath, found: str, expected: str, hint: str = "") -> Finding:
     line, column = places.of_value(path) or (None, None)
     return Finding(line, column, path_text(path), found, expected, hint)
 

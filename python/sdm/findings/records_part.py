@@ -7,15 +7,30 @@ import re
 from collections.abc import Iterator
 from typing import NamedTuple
 
-from sdm.model.data import Key, Limit, Stop, keys_of
-from sdm.model.journey import MOST_RECORDS, MOST_RESTRICTIONS
-from sdm.model.outcome import Refused
-from sdm.model.records import EST, EVENTS, PLACE, Calculated, Event, Reading, Restriction, Revocation
-from sdm.model.records import event_of, placed_records, read_int
+from sdm.exact import (
+    Calculated,
+    EST,
+    EVENTS,
+    Event,
+    Key,
+    Limit,
+    MOST_RECORDS,
+    MOST_RESTRICTIONS,
+    PLACE,
+    Reading,
+    Refused,
+    Restriction,
+    Revocation,
+    Stop,
+    event_of,
+    keys_of,
+    placed_records,
+    read_int,
+)
 
-from .authority import Refusal, refusals
-from .expected import nearest, span, with_unit
-from .finding import Finding
+from sdm.findings.authority import Refusal, refusals
+from sdm.findings.expected import nearest, span, with_unit
+from sdm.findings.finding import Finding
 
 LINE_END = re.compile(rb"\r\n|\r|\n")
 KINDS = {kind.decode(): made for kind, (made, *_) in EVENTS.items()}

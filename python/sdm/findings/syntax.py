@@ -7,12 +7,12 @@ import re
 import tomllib
 from typing import Any, NamedTuple
 
-from sdm.model.data import KIND, MOST_DEEP, Key, Table, is_in_bounds, known_keys
+from sdm.exact import KIND, Key, MOST_DEEP, Table, is_in_bounds, known_keys
 
-from .data_part import AUTHORITIES, NAMES_OF_KINDS, SECTIONS, path_text
-from .expected import due, range_of
-from .finding import Finding
-from .toml_places import Path, Places
+from sdm.findings.data_part import AUTHORITIES, NAMES_OF_KINDS, SECTIONS, path_text
+from sdm.findings.expected import due, range_of
+from sdm.findings.finding import Finding
+from sdm.findings.toml_places import KeyPath, Places
 
 PLACED = re.compile(r"(.*) \(at (?:line (\d+), column (\d+)|end of document)\)", re.DOTALL)
 HEADER = re.compile(r"\s*\[+\s*([\w. ]+?)\s*\]+")
@@ -21,7 +21,7 @@ MOST_LINES = 64  # that are left out
 REST = "a TOML document up to its end"
 
 
-class Read(NamedTuple):
+class ReadDocument(NamedTuple):
     """What could be read: the table (None where nothing could), its text, the keys on lines left out, the faults."""
 
     table: Table | None
@@ -30,7 +30,7 @@ class Read(NamedTuple):
     findings: list[Finding]
 
 
-def read_text(data: bytes) -> Read:
+def read_text(data: bytes) -> ReadDocument:
     """The table of a data part with the faults of its syntax."""
     try:
         text = data.decode("utf-8").removeprefix("\ufeff")
@@ -38,7 +38,7 @@ def read_text(data: bytes) -> Read:
         line = data.count(b"\n", 0, why.start) + 1
         column = len(data[data.rfind(b"\n", 0, why.start) + 1 : why.start].decode("utf-8")) + 1
         found = f"the byte 0x{data[why.start]:02x}"
-        return Read(None, "", frozenset(), [Finding(line, column, "text", found, "UTF-8")])
+        return ReadDocument(None, "", frozenset(), [Finding(line, column, "text", found, "UTF-8")])
     findings: list[Finding] = []
     unread: set[str] = set()
     lines = text.split("\n")
@@ -46,7 +46,7 @@ def read_text(data: bytes) -> Read:
         try:
             table = tomllib.loads("\n".join(lines))
             whole = "\n".join(lines)
-            return Read(table, whole, frozenset(unread), findings + out_of_bounds(table, whole))
+            return ReadDocument(table, whole, frozenset(unread), findings + out_of_bounds(table, whole))
         except RecursionError:
             findings.append(Finding(None, None, "text", "deeply nested values", f"at most {MOST_DEEP} deep"))
             break
@@ -57,7 +57,7 @@ def read_text(data: bytes) -> Read:
                 break
             unread.add(key[1])
             lines[number] = ""
-    return Read(None, text, frozenset(unread), findings)
+    return ReadDocument(None, text, frozenset(unread), findings)
 
 
 def fault_line(message: str, lines: list[str]) -> int | None:
@@ -140,7 +140,7 @@ def out_of_bounds(table: Table, text: str) -> list[Finding]:
     return found or [Finding(None, None, "text", "deeply nested values", f"at most {MOST_DEEP} deep")]
 
 
-def numbers(path: Path, value: Any) -> list[tuple[Path, int]]:
+def numbers(path: KeyPath, value: Any) -> list[tuple[KeyPath, int]]:
     """All whole numbers of a document, with their paths."""
     if isinstance(value, (dict, list)):
         inner = value.items() if isinstance(value, dict) else enumerate(value)

@@ -6,9 +6,9 @@ lists, the indices from 0, as they lead to a value of the table.
 import re
 from typing import NamedTuple
 
-from .finding import Place
+from sdm.findings.finding import TextPlace
 
-Path = tuple[str | int, ...]
+KeyPath = tuple[str | int, ...]
 BLANK = re.compile(r"(?:[ \t\r\n]|#[^\n]*)*")
 KEY = re.compile(r'[ \t]*(?:"((?:[^"\\]|\\.)*)"|\'([^\']*)\'|([A-Za-z0-9_-]+))[ \t]*')
 TEXT = re.compile(
@@ -30,22 +30,22 @@ class Places:
 
     def __init__(self, text: str) -> None:
         self.text, self.at = text, 0
-        self.found: dict[Path, At] = {}
-        self.counts: dict[Path, int] = {}  # of the arrays of tables: how many tables so far
+        self.found: dict[KeyPath, At] = {}
+        self.counts: dict[KeyPath, int] = {}  # of the arrays of tables: how many tables so far
         self.read()
 
-    def place(self, offset: int) -> Place:
+    def place(self, offset: int) -> TextPlace:
         """The line and the column of an offset."""
         before = self.text[:offset]
         return before.count("\n") + 1, offset - (before.rfind("\n") + 1) + 1
 
-    def of_key(self, path: Path) -> Place | None:
+    def of_key(self, path: KeyPath) -> TextPlace | None:
         """Where a key stands, or else the nearest section around it that has a place."""
         while path and path not in self.found:
             path = path[:-1]
         return self.place(self.found[path].key) if path else None
 
-    def of_value(self, path: Path) -> Place | None:
+    def of_value(self, path: KeyPath) -> TextPlace | None:
         return self.place(self.found[path].value) if path in self.found else self.of_key(path)
 
     def skip(self, pattern: re.Pattern[str]) -> re.Match[str]:
@@ -60,13 +60,13 @@ class Places:
 
     def read(self) -> None:
         """The whole document: headers, and keys with their values."""
-        section: Path = ()
+        section: KeyPath = ()
         self.skip(BLANK)
         while self.at < len(self.text):
             section = self.header() if self.is_next("[") else self.key_and_value(section)
             self.skip(BLANK)
 
-    def header(self) -> Path:
+    def header(self) -> KeyPath:
         """`[a.b]` or `[[a.b]]`: the section that begins here."""
         begin, is_list = self.at, self.is_next("[[")
         self.at += 2 if is_list else 1
@@ -83,7 +83,7 @@ class Places:
         self.found.setdefault(path, At(begin, begin))
         return path
 
-    def resolved(self, section: Path, names: list[str]) -> Path:
+    def resolved(self, section: KeyPath, names: list[str]) -> KeyPath:
         """The path of names below a section; on the way, a list of tables stands for its last table."""
         path = section
         for name in names[:-1]:
@@ -102,7 +102,7 @@ class Places:
             self.at += more
         return found
 
-    def key_and_value(self, section: Path) -> Path:
+    def key_and_value(self, section: KeyPath) -> KeyPath:
         """A key with its value; the section that goes on behind it is the same."""
         begin, names = self.at, self.names()
         self.at += 1  # =
@@ -114,7 +114,7 @@ class Places:
         self.value(path)
         return section
 
-    def value(self, path: Path) -> None:
+    def value(self, path: KeyPath) -> None:
         if self.is_next("["):
             self.entries(path, "]")
         elif self.is_next("{"):
@@ -124,7 +124,7 @@ class Places:
         else:
             self.skip(PLAIN)
 
-    def entries(self, path: Path, end: str) -> None:
+    def entries(self, path: KeyPath, end: str) -> None:
         """The values of a list, or the keys of an inline table."""
         self.at += 1
         self.skip(BLANK)

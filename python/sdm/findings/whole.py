@@ -2,19 +2,29 @@
 import re
 from dataclasses import dataclass
 
-from sdm.model.data import DIVIDING_LINE, Data, Table, Track, data_of, is_of, keys_of, read_document
-from sdm.model.journey import Supervisor
-from sdm.model.outcome import Outcome, Refused
-from sdm.model.records import EVENTS
-from sdm.model.words import MOST_BYTES
+from sdm.exact import (
+    DIVIDING_LINE,
+    Data,
+    EVENTS,
+    MOST_BYTES,
+    Outcome,
+    Refused,
+    Supervisor,
+    Table,
+    Track,
+    data_of,
+    is_of,
+    keys_of,
+    read_document,
+)
 
-from .data_part import DataPart
-from .doubts import doubts
-from .finding import Finding
-from .opening import opening_faults
-from .records_part import RecordsPart
-from .syntax import read_text
-from .toml_places import Places
+from sdm.findings.data_part import DataPart
+from sdm.findings.doubts import doubts
+from sdm.findings.finding import Finding
+from sdm.findings.opening import opening_faults
+from sdm.findings.records_part import RecordsPart
+from sdm.findings.syntax import read_text
+from sdm.findings.toml_places import Places
 
 MEANT = re.compile(rb"^[ \t]*%+[ \t]*\r?$\n?", re.MULTILINE)  # what is likely meant as the dividing line
 RECORD = re.compile(rb"^(?:" + b"|".join(EVENTS) + rb"),", re.MULTILINE)

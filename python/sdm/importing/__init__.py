@@ -2,8 +2,8 @@
 import os
 from pathlib import Path
 
-from .faults import ImportFault
-from .journey import Journey, journey_of
+from sdm.importing.faults import ImportFault
+from sdm.importing.journey import Journey, journey_of
 
 __all__ = ["ImportFault", "Journey", "import_recording"]
 

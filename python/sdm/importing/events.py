@@ -1,10 +1,10 @@
 """Authorities and restrictions in the order of their times, and the identities that restrictions get."""
 from dataclasses import dataclass, field
 
-from sdm.model.data import MOST_CM
+from sdm.exact import MOST_CM
 from sdm.records import End, EndCalculated, Limit, Record, Restriction, Revocation
 
-from .faults import Findings, Place
+from sdm.importing.faults import Findings, FieldPlace
 
 MOST_KMH, MOST_IDENTITY, NO_IDENTITY = 500, 65_535, 255  # a restriction of NID_TSR 255 can't be revoked
 Authority = End | EndCalculated | Limit
@@ -16,7 +16,7 @@ class Event:
 
     time: int
     record: Record
-    at: Place
+    at: FieldPlace
 
 
 @dataclass
@@ -28,10 +28,10 @@ class Events:
     held: dict[int, Restriction] = field(default_factory=dict)
     free: int = NO_IDENTITY + 1
 
-    def add(self, time: int, record: Record, at: Place) -> None:
+    def add(self, time: int, record: Record, at: FieldPlace) -> None:
         self.found.append(Event(time, record, at))
 
-    def authority(self, time: int, record: Authority, at: Place) -> None:
+    def authority(self, time: int, record: Authority, at: FieldPlace) -> None:
         """An authority whose places and speeds are in their ranges; else a fault."""
         if isinstance(record, Limit):
             fits = self.is_place(record.loa_cm, "LOA", at) & self.is_speed(record.speed_kmh, at, 1)
@@ -48,7 +48,7 @@ class Events:
         if fits:
             self.add(time, record, at)
 
-    def restrict(self, time: int, made: Restriction, at: Place) -> None:
+    def restrict(self, time: int, made: Restriction, at: FieldPlace) -> None:
         """A restriction: left out where an equal one of its identity is held, after a revocation where another is."""
         fits = self.is_place(made.start_cm, "the start", at) & self.is_place(made.end_cm, "the end", at)
         fits &= self.is_speed(made.speed_kmh, at, 1)
@@ -69,19 +69,19 @@ class Events:
         self.free += 1
         return self.free - 1
 
-    def revoke(self, time: int, identity: int, at: Place) -> None:
+    def revoke(self, time: int, identity: int, at: FieldPlace) -> None:
         """The end of a restriction; of one that isn't held there is a warning alone."""
         if self.held.pop(identity, None) is None:
             self.findings.warn(at, f"no restriction {identity} is held: this revocation is left out")
         else:
             self.add(time, Revocation(identity), at)
 
-    def is_place(self, place: int, name: str, at: Place) -> bool:
+    def is_place(self, place: int, name: str, at: FieldPlace) -> bool:
         if not 0 <= place <= MOST_CM:
             self.findings.fault(at, f"{name} at {place:,} cm", f"0 to {MOST_CM:,} cm")
         return 0 <= place <= MOST_CM
 
-    def is_speed(self, speed: int, at: Place, least: int) -> bool:
+    def is_speed(self, speed: int, at: FieldPlace, least: int) -> bool:
         if not least <= speed <= MOST_KMH:
             self.findings.fault(at, f"{speed} km/h", f"{least} to {MOST_KMH} km/h")
         return least <= speed <= MOST_KMH

@@ -6,7 +6,7 @@ MOST_SHOWN = 40  # faults in a message
 
 
 @dataclass(frozen=True)
-class Place:
+class FieldPlace:
     """A field of a file: the line counts from 1, 0 where there is none; the column is its name, "" where it is none."""
 
     file: str
@@ -22,10 +22,10 @@ class Place:
 
 
 @dataclass(frozen=True)
-class Finding:
+class ImportFinding:
     """A fault or a warning at a place."""
 
-    at: Place
+    at: FieldPlace
     text: str
 
     def __str__(self) -> str:
@@ -35,7 +35,7 @@ class Finding:
 class ImportFault(ValueError):
     """A recording that can't be imported: all that was found wrong with it."""
 
-    def __init__(self, faults: list[Finding]) -> None:
+    def __init__(self, faults: list[ImportFinding]) -> None:
         more = [f"and {len(faults) - MOST_SHOWN} more"] if faults[MOST_SHOWN:] else []
         super().__init__("\n".join([*map(str, faults[:MOST_SHOWN]), *more]))
         self.faults = faults
@@ -45,20 +45,20 @@ class ImportFault(ValueError):
 class Findings:
     """Collects the faults and the warnings of an import, so that all are reported at once."""
 
-    faults: list[Finding] = field(default_factory=list)
-    warnings: list[Finding] = field(default_factory=list)
+    faults: list[ImportFinding] = field(default_factory=list)
+    warnings: list[ImportFinding] = field(default_factory=list)
     told: set[str] = field(default_factory=set)
 
-    def fault(self, at: Place, found: object, expected: str) -> None:
+    def fault(self, at: FieldPlace, found: object, expected: str) -> None:
         """A fault: what was found, and what is expected in its place."""
-        self.faults.append(Finding(at, f"found {found}, expected {expected}"))
+        self.faults.append(ImportFinding(at, f"found {found}, expected {expected}"))
 
-    def warn(self, at: Place, text: str, once: str = "") -> None:
+    def warn(self, at: FieldPlace, text: str, once: str = "") -> None:
         """A warning; of those with the same `once` the first alone is kept."""
         if once and once in self.told:
             return
         self.told.add(once)
-        self.warnings.append(Finding(at, text))
+        self.warnings.append(ImportFinding(at, text))
 
     def end(self) -> NoReturn:
         """Ends the import with the faults."""

@@ -2,25 +2,19 @@
 import tomllib
 from dataclasses import astuple, dataclass
 from pathlib import Path
-from typing import Any
 
-from sdm.model.data import MOST_CM, data_of
-from sdm.model.journey import MOST_RECORDS, Supervisor
-from sdm.model.outcome import Outcome, Refused
-from sdm.model.records import event_of
-from sdm.model.toml_text import toml
+from sdm.exact import MOST_CM, MOST_RECORDS, Outcome, Refused, Supervisor, data_of, event_of
+from sdm.toml_text import toml
 from sdm.records import End, Limit, Record, Restriction
 
-from .events import Event, Events
-from .faults import Findings, Place
-from .listed import listed
-from .mapping import Mapping, mapping_of
-from .packets import Packets
-from .readings import Read, readings_of
-from .times import Times, start_clock
-from .track import Entry, Line
-
-Raw = dict[str, Any]
+from sdm.importing.events import Event, Events
+from sdm.importing.faults import Findings, FieldPlace
+from sdm.importing.listed import listed
+from sdm.importing.mapping import Mapping, Raw, mapping_of
+from sdm.importing.packets import Packets
+from sdm.importing.readings import SourcedReading, readings_of
+from sdm.importing.times import Times, start_clock
+from sdm.importing.track import Entry, RecordedTrack
 
 
 @dataclass(frozen=True)
@@ -42,7 +36,7 @@ def journey_of(recording: Path, mapping_file: Path) -> Journey:
     mapping = mapping_of(mapping_file, recording, findings)
     document, where = data_file(mapping)
     findings.end_if_faulty()
-    events, track = Events(findings), Line(findings)
+    events, track = Events(findings), RecordedTrack(findings)
     readings = read_all(mapping, events, track)
     findings.end_if_faulty()
     complete(document, where, track, events, readings, findings)
@@ -54,7 +48,7 @@ def journey_of(recording: Path, mapping_file: Path) -> Journey:
     return Journey(data, "".join(lines), tuple(map(str, findings.warnings)))
 
 
-def read_all(mapping: Mapping, events: Events, track: Line) -> list[Read]:
+def read_all(mapping: Mapping, events: Events, track: RecordedTrack) -> list[SourcedReading]:
     """The readings; events and track get what the other parts say. Packets come first: they place balise groups."""
     reading = mapping.parts["reading"][0]
     start_clock(mapping, reading)
@@ -66,17 +60,17 @@ def read_all(mapping: Mapping, events: Events, track: Line) -> list[Read]:
     listed(mapping, events, track, readings)
     events.found.sort(key=lambda each: each.time)
     if not readings and not mapping.findings.faults:
-        mapping.findings.fault(Place(mapping.recording.name), "no reading", "at least one line")
+        mapping.findings.fault(FieldPlace(mapping.recording.name), "no reading", "at least one line")
     return readings
 
 
-def data_file(mapping: Mapping) -> tuple[Raw, Place]:
+def data_file(mapping: Mapping) -> tuple[Raw, FieldPlace]:
     """The data part that the mapping names, which may lack what packets and columns say."""
     findings = mapping.findings
     if mapping.data is None:
         findings.fault(mapping.place("import"), "no key `data`", "the file with the train and the national values")
-        return {}, Place("")
-    where = Place(mapping.data.name)
+        return {}, FieldPlace("")
+    where = FieldPlace(mapping.data.name)
     try:
         document = tomllib.loads(mapping.data.read_bytes().decode("utf-8-sig"))
     except OSError as why:
@@ -96,7 +90,12 @@ def data_file(mapping: Mapping) -> tuple[Raw, Place]:
 
 
 def complete(
-    document: Raw, where: Place, track: Line, events: Events, readings: list[Read], findings: Findings
+    document: Raw,
+    where: FieldPlace,
+    track: RecordedTrack,
+    events: Events,
+    readings: list[SourcedReading],
+    findings: Findings,
 ) -> None:
     """Puts the authority and the track into the data part."""
     if "authority" not in document:
@@ -127,7 +126,7 @@ def complete(
         document["track"]["length"] = track_length(document, track, events, where, findings)
 
 
-def opening(document: Raw, where: Place, events: Events, first: int, findings: Findings) -> None:
+def opening(document: Raw, where: FieldPlace, events: Events, first: int, findings: Findings) -> None:
     """The first authority becomes that of the data part; it must be there when the first reading comes."""
     of_authority = [
         each for each in events.found if isinstance(each.record, (End, Limit)) or is_calculated(each.record)
@@ -151,7 +150,7 @@ def is_calculated(record: Record) -> bool:
     return record.kind == "endcalc"
 
 
-def track_length(document: Raw, track: Line, events: Events, where: Place, findings: Findings) -> int:
+def track_length(document: Raw, track: RecordedTrack, events: Events, where: FieldPlace, findings: Findings) -> int:
     """The track's length: up to the farthest place that is named."""
     authority = document.get("authority", {})
     ends: list[int] = [authority.get("svl", 0), authority.get("loa", 0)]
@@ -171,7 +170,7 @@ def track_length(document: Raw, track: Line, events: Events, where: Place, findi
     return max(ends)
 
 
-def in_order(events: list[Event], readings: list[Read]) -> list[Record]:
+def in_order(events: list[Event], readings: list[SourcedReading]) -> list[Record]:
     """All records: those of a time before the first reading that isn't earlier."""
     records: list[Record] = []
     rest = list(events)
@@ -182,15 +181,15 @@ def in_order(events: list[Event], readings: list[Read]) -> list[Record]:
     return records
 
 
-def check(data: str, events: list[Event], readings: list[Read], mapping: Mapping, findings: Findings) -> None:
+def check(data: str, events: list[Event], readings: list[SourcedReading], mapping: Mapping, findings: Findings) -> None:
     """What the program would refuse: the data part, the opening, and records that aren't readings."""
-    where = Place(mapping.data.name if mapping.data else "")
+    where = FieldPlace(mapping.data.name if mapping.data else "")
     late = [each for each in events if each.time > readings[-1].reading.time_ds]
     if late:
         findings.warn(late[0].at, f"{len(late)} records after the last reading are left out")
     if len(events) - len(late) + len(readings) > MOST_RECORDS:
         findings.fault(
-            Place(mapping.recording.name), f"{len(readings):,} readings", f"at most {MOST_RECORDS:,} records"
+            FieldPlace(mapping.recording.name), f"{len(readings):,} readings", f"at most {MOST_RECORDS:,} records"
         )
     try:
         supervisor = Supervisor(data_of(tomllib.loads(data)))

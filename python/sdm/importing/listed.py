@@ -8,14 +8,14 @@ from fractions import Fraction
 
 from sdm.records import End, EndCalculated, Limit, Restriction
 
-from .events import Authority, Events
-from .faults import Place
-from .mapping import Mapping, Part
-from .readings import Read
-from .tables import Line as FileLine
-from .times import Times
-from .track import Areas, Profile, Stretch
-from .track import Line as TrackLine
+from sdm.importing.events import Authority, Events
+from sdm.importing.faults import FieldPlace
+from sdm.importing.mapping import Mapping, Part
+from sdm.importing.readings import SourcedReading
+from sdm.importing.tables import FileLine
+from sdm.importing.times import Times
+from sdm.importing.track import Areas, Profile, Stretch
+from sdm.importing.track import RecordedTrack
 
 Values = dict[str, Fraction | None]
 
@@ -90,7 +90,7 @@ def restrictions(mapping: Mapping, part: Part, events: Events) -> None:
             events.restrict(time, made, at)
 
 
-def profile(mapping: Mapping, part: Part, known: Profile, readings: list[Read]) -> None:
+def profile(mapping: Mapping, part: Part, known: Profile, readings: list[SourcedReading]) -> None:
     """Gradients or speeds; in the recording each change begins at the estimated front end of its line."""
     fronts = {each.line.number: round(Fraction(each.reading.est_mm, 10)) for each in readings}
     entries: list[tuple[int, object]] = []
@@ -107,7 +107,7 @@ def profile(mapping: Mapping, part: Part, known: Profile, readings: list[Read]) 
         else:
             entries.append((place, value))
     if entries:
-        known.add(Stretch(tuple(entries), None, Place(part.table.name)))
+        known.add(Stretch(tuple(entries), None, FieldPlace(part.table.name)))
 
 
 def value_of(name: str, values: Values) -> object | None:
@@ -130,7 +130,7 @@ def areas(mapping: Mapping, part: Part, found: Areas) -> None:
             found.add(start, math.ceil(end))
 
 
-def listed(mapping: Mapping, events: Events, track: TrackLine, readings: list[Read]) -> None:
+def listed(mapping: Mapping, events: Events, track: RecordedTrack, readings: list[SourcedReading]) -> None:
     """All parts but readings and packets."""
     for part in mapping.parts.get("authority", []):
         authorities(mapping, part, events)

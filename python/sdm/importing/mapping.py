@@ -11,8 +11,8 @@ from typing import Any
 
 from sdm.laboratory.clock import Clock
 
-from .faults import Findings, Place
-from .tables import NONE, Column, Table, table_of
+from sdm.importing.faults import Findings, FieldPlace
+from sdm.importing.tables import NONE, Column, Table, table_of
 
 Raw = dict[str, Any]
 QUANTITIES = {  # of each part: its quantities and their units
@@ -76,8 +76,8 @@ class Mapping:
     data: Path | None = None
     groups: dict[str, int] = field(default_factory=dict)  # the places of balise groups, in cm
 
-    def place(self, key: str) -> Place:
-        return Place(f"{self.path.name}, key {key}")
+    def place(self, key: str) -> FieldPlace:
+        return FieldPlace(f"{self.path.name}, key {key}")
 
     def one(self, name: str) -> Part | None:
         return next(iter(self.parts.get(name, [])), None)
@@ -89,14 +89,14 @@ def mapping_of(path: Path, recording: Path, findings: Findings) -> Mapping:
     try:
         raw = tomllib.loads(path.read_bytes().decode("utf-8-sig"), parse_float=Fraction)
     except OSError as why:
-        findings.fault(Place(path.name), why.strerror, "a file that can be read")
+        findings.fault(FieldPlace(path.name), why.strerror, "a file that can be read")
         findings.end()
     except ValueError as why:
-        findings.fault(Place(path.name), str(why), "TOML")
+        findings.fault(FieldPlace(path.name), str(why), "TOML")
         findings.end()
     inner = raw.get("import")
     if not isinstance(inner, dict) or not isinstance(inner.get("reading"), dict) or "time" not in raw:
-        findings.fault(Place(path.name), ", ".join(raw) or "nothing", "the tables `time` and `import.reading`")
+        findings.fault(FieldPlace(path.name), ", ".join(raw) or "nothing", "the tables `time` and `import.reading`")
         findings.end()
     fill(mapping, raw, inner)
     return mapping
@@ -217,7 +217,7 @@ def check_columns(mapping: Mapping, table: Table, columns: Iterable[Column]) -> 
         if column.value is None and table.columns and column.name not in table.columns:
             is_one = len(table.columns) == 1  # as where the mapping doesn't say what stands between columns
             expected = f"another `delimiter`, or {list(table.columns)[0]!r}" if is_one else one_of(table.columns)
-            mapping.findings.fault(Place(table.name, 1), f"no column {column.name!r} for `{column.key}`", expected)
+            mapping.findings.fault(FieldPlace(table.name, 1), f"no column {column.name!r} for `{column.key}`", expected)
 
 
 def are_texts(value: Any) -> bool:

@@ -11,14 +11,14 @@ from typing import Any
 
 from sdm.records import End, EndCalculated, Limit, Restriction
 
-from .events import Authority, Events, NO_IDENTITY
-from .faults import Place
-from .mapping import Mapping, Part
-from .readings import group_of
-from .tables import Line, decimal_of
-from .times import Times
-from .track import Line as TrackLine
-from .track import Profile, Stretch
+from sdm.importing.events import Authority, Events, NO_IDENTITY
+from sdm.importing.faults import FieldPlace
+from sdm.importing.mapping import Mapping, Part
+from sdm.importing.readings import group_of
+from sdm.importing.tables import FileLine, decimal_of
+from sdm.importing.times import Times
+from sdm.importing.track import RecordedTrack
+from sdm.importing.track import Profile, Stretch
 
 SCALES = {0: 10, 1: 100, 2: 1000}  # Q_SCALE: cm in a unit
 SPEED_STEP, MOST_STEPS, END_OF_SPEEDS, END_OF_GRADIENTS = 5, 120, 127, 255  # km/h in a step of V_..
@@ -47,7 +47,7 @@ class Packet:
     time: int
     reference: int
     unit: int
-    rows: tuple[Line, ...]
+    rows: tuple[FileLine, ...]
 
 
 @dataclass
@@ -57,29 +57,29 @@ class Packets:
     mapping: Mapping
     part: Part
     events: Events
-    track: TrackLine
+    track: RecordedTrack
     first_reading: int  # its time
-    unused: dict[str, tuple[Line, set[int]]] = field(default_factory=dict)  # where first, and in which packets
+    unused: dict[str, tuple[FileLine, set[int]]] = field(default_factory=dict)  # where first, and in which packets
 
     def __post_init__(self) -> None:
         self.findings, self.table, self.groups = self.mapping.findings, self.part.table, self.mapping.groups
         self.group = group_of(self.mapping, self.part)
         self.special: list[int] = self.part.others.get("M_TRACKCOND", [])  # those that leave the special brake out
         if "NID_PACKET" not in self.table.columns and self.table.columns:
-            self.findings.fault(Place(self.table.name, 1), "no column NID_PACKET", "it")
+            self.findings.fault(FieldPlace(self.table.name, 1), "no column NID_PACKET", "it")
         if (self.group is None) == ("reference" not in self.part.columns):
             expected = "either `group`, the column of the reference group, or `reference`, of its place"
             self.findings.fault(self.mapping.place("import.packets"), "both or none of them", expected)
 
     # Fields
 
-    def at(self, row: Line, variable: str = "") -> Place:
+    def at(self, row: FileLine, variable: str = "") -> FieldPlace:
         return self.table.at(row, variable)
 
-    def has(self, row: Line, variable: str) -> bool:
+    def has(self, row: FileLine, variable: str) -> bool:
         return row.fields.get(variable, "").strip() not in ("", "-")
 
-    def whole(self, row: Line, variable: str, least: int, most: int) -> int | None:
+    def whole(self, row: FileLine, variable: str, least: int, most: int) -> int | None:
         """The number of a variable; a fault where it is none, or out of its range."""
         text = row.fields.get(variable, "").strip()
         number = decimal_of(text, self.table.decimal)
@@ -88,12 +88,12 @@ class Packets:
             return None
         return int(number)
 
-    def speed(self, row: Line, variable: str, least: int = 1) -> int | None:
+    def speed(self, row: FileLine, variable: str, least: int = 1) -> int | None:
         """A speed in km/h."""
         steps = self.whole(row, variable, least, MOST_STEPS)
         return None if steps is None else SPEED_STEP * steps
 
-    def length(self, packet: Packet, row: Line, variable: str, least: int = 0) -> int | None:
+    def length(self, packet: Packet, row: FileLine, variable: str, least: int = 0) -> int | None:
         """A length in cm."""
         units = self.whole(row, variable, least, 32_767)
         return None if units is None else packet.unit * units
@@ -119,7 +119,7 @@ class Packets:
             if packet is not None:
                 yield packet
 
-    def packet(self, number: int, time: int, rows: tuple[Line, ...]) -> Packet | None:
+    def packet(self, number: int, time: int, rows: tuple[FileLine, ...]) -> Packet | None:
         """A packet that has a meaning here; None where it has none, which is a warning or a fault."""
         first = rows[0]
         if number not in USED:
@@ -136,7 +136,7 @@ class Packets:
         reference, scale = self.reference(first), self.whole(first, "Q_SCALE", 0, 2)
         return None if reference is None or scale is None else Packet(number, time, reference, SCALES[scale], rows)
 
-    def note_unused(self, number: int, rows: tuple[Line, ...]) -> None:
+    def note_unused(self, number: int, rows: tuple[FileLine, ...]) -> None:
         """Notes each variable that has a value and no meaning in this packet."""
         mapped = {column.name for column in self.part.columns.values()} | {"NID_PACKET"}
         mapped |= {column.name for column in (self.group, self.part.time) if column is not None}
@@ -151,7 +151,7 @@ class Packets:
             of = ("packet " if len(numbers) == 1 else "packets ") + ", ".join(map(str, sorted(numbers)))
             self.findings.warn(self.at(row, variable), f"{variable} isn't used: it has no meaning here in {of}")
 
-    def reference(self, row: Line) -> int | None:
+    def reference(self, row: FileLine) -> int | None:
         """The place that lengths count from, in cm."""
         if self.group is None:
             place = self.part.columns["reference"].number(self.table, row, self.findings)
@@ -186,7 +186,7 @@ class Packets:
             readers[packet.number](packet)
         self.warn_of_unused()
 
-    def chained(self, packet: Packet, variable: str) -> list[tuple[Line, int]]:
+    def chained(self, packet: Packet, variable: str) -> list[tuple[FileLine, int]]:
         """The rows that have a distance, each with the place: distances count from the element before."""
         place, found = packet.reference, []
         for row in packet.rows:
@@ -226,7 +226,7 @@ class Packets:
         if made is not None:
             self.events.authority(packet.time, made, at)
 
-    def stop(self, packet: Packet, row: Line, eoa: int) -> Authority | None:
+    def stop(self, packet: Packet, row: FileLine, eoa: int) -> Authority | None:
         """An authority to an end: the SvL by the overlap, else by the danger point, and the release speed of that."""
         for flag, distance, release in (
             ("Q_OVERLAP", "D_OL", "V_RELEASEOL"),
@@ -238,7 +238,7 @@ class Packets:
                 return None if length is None else self.released(row, eoa, eoa + length, release)
         return End(eoa, eoa)
 
-    def released(self, row: Line, eoa: int, svl: int, variable: str) -> Authority | None:
+    def released(self, row: FileLine, eoa: int, svl: int, variable: str) -> Authority | None:
         """The authority with its release speed, given, national or calculated."""
         steps = self.whole(row, variable, 0, 127)
         if steps is None or steps <= MOST_STEPS:
@@ -262,7 +262,7 @@ class Packets:
             self.findings.fault(at, steps, "0 to 120, 126 or 127")
         return None
 
-    def mapped(self, row: Line, key: str) -> Fraction | None:
+    def mapped(self, row: FileLine, key: str) -> Fraction | None:
         """A quantity that the mapping adds to packets."""
         column = self.part.columns.get(key)
         if column is None:

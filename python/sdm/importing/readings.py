@@ -4,13 +4,13 @@ from dataclasses import dataclass
 from fractions import Fraction
 from typing import Any
 
-from sdm.model.records import PLACE, SPEED, TIME
+from sdm.exact import PLACE, SPEED, TIME
 from sdm.records import Reading
 
-from .faults import Place
-from .mapping import Mapping, Part, column_of, one_of
-from .tables import Column, Line
-from .times import Times
+from sdm.importing.faults import FieldPlace
+from sdm.importing.mapping import Mapping, Part, column_of, one_of
+from sdm.importing.tables import Column, FileLine
+from sdm.importing.times import Times
 
 ACCEL, UNDER = (-300, 300), (0, 10_000)  # cm/s², mm/s: docs/FORMATS.md, "What a record writes"
 
@@ -27,10 +27,10 @@ class Doubt:
 
 
 @dataclass(frozen=True)
-class Read:
+class SourcedReading:
     """A reading with the line that it comes from."""
 
-    line: Line
+    line: FileLine
     reading: Reading
 
 
@@ -58,7 +58,7 @@ def doubt_of(mapping: Mapping, part: Part) -> Doubt | None:
     }
     for column in columns.values():
         if column.name not in part.table.columns:
-            findings.fault(Place(part.table.name, 1), f"no column {column.name!r}", one_of(part.table.columns))
+            findings.fault(FieldPlace(part.table.name, 1), f"no column {column.name!r}", one_of(part.table.columns))
     return Doubt(
         Fraction(1000 * numbers["metres"]), Fraction(numbers["percent"]), columns.get("since"), columns.get("balise")
     )
@@ -68,7 +68,7 @@ def shown_keys(raw: Any) -> str:
     return ", ".join(raw) if isinstance(raw, dict) else repr(raw)
 
 
-class Odometer:
+class ReadingMaker:
     """Makes readings of lines, in order. What is wrong with a field is a fault."""
 
     def __init__(self, mapping: Mapping, part: Part, groups: dict[str, int]) -> None:
@@ -93,11 +93,11 @@ class Odometer:
             expected = "`min` and `max`, `doubt_over` and `doubt_under`, or `doubt`"
             mapping.findings.fault(mapping.place("import.reading"), found, expected)
 
-    def number(self, key: str, line: Line) -> Fraction | None:
+    def number(self, key: str, line: FileLine) -> Fraction | None:
         column = self.part.columns.get(key)
         return None if column is None else self.needed(column, line)
 
-    def needed(self, column: Column, line: Line) -> Fraction | None:
+    def needed(self, column: Column, line: FileLine) -> Fraction | None:
         """A quantity that each line must have."""
         before = len(self.findings.faults)
         number = column.number(self.part.table, line, self.findings)
@@ -106,7 +106,7 @@ class Odometer:
             self.findings.fault(at, "no value", f"a number for `{column.key}` ({column.unit})")
         return number
 
-    def within(self, line: Line, key: str, number: int, ends: tuple[int, int]) -> bool:
+    def within(self, line: FileLine, key: str, number: int, ends: tuple[int, int]) -> bool:
         """Whether a quantity is in its range, else a fault."""
         if ends[0] <= number <= ends[1]:
             return True
@@ -115,7 +115,7 @@ class Odometer:
         self.findings.fault(at, f"{number:,} {column.unit} for `{key}`", f"{ends[0]:,} to {ends[1]:,} {column.unit}")
         return False
 
-    def front_end(self, line: Line) -> Fraction | None:
+    def front_end(self, line: FileLine) -> Fraction | None:
         """The estimated front end; it counts from a balise group where the mapping names the column of one."""
         est = self.number("est", line)
         if est is None or self.group is None:
@@ -127,7 +127,7 @@ class Odometer:
             return None
         return est + 10 * self.groups[identity]
 
-    def ends(self, line: Line, est: Fraction) -> tuple[Fraction, Fraction] | None:
+    def ends(self, line: FileLine, est: Fraction) -> tuple[Fraction, Fraction] | None:
         """The min and the max safe front end."""
         if self.doubt is not None:
             doubt = self.doubt_at(line, est)
@@ -138,7 +138,7 @@ class Odometer:
         over, under = self.number("doubt_over", line), self.number("doubt_under", line)
         return None if over is None or under is None else (est - over, est + under)
 
-    def doubt_at(self, line: Line, est: Fraction) -> Fraction | None:
+    def doubt_at(self, line: FileLine, est: Fraction) -> Fraction | None:
         assert self.doubt is not None
         since: Fraction | None = Fraction(0)
         if self.doubt.since is not None:
@@ -150,7 +150,7 @@ class Odometer:
             since = abs(est - self.balise[1])
         return None if since is None else self.doubt.constant + abs(since) * self.doubt.percent / 100
 
-    def speed(self, line: Line) -> int | None:
+    def speed(self, line: FileLine) -> int | None:
         """The speed in mm/s: 0 at standstill and, where the recording tells standstill, nowhere else."""
         speed, column = self.number("speed", line), self.part.columns.get("standstill")
         if speed is None or column is None:
@@ -164,7 +164,7 @@ class Odometer:
             self.findings.warn(self.part.table.at(line, column.name), text_of_warning, "moves")
         return 0 if text == "1" else max(1, round(speed))
 
-    def read(self, line: Line) -> Read | None:
+    def read(self, line: FileLine) -> SourcedReading | None:
         """The reading of a line; None where a field is at fault."""
         time = self.times.of(line)
         est = self.front_end(line)
@@ -174,9 +174,9 @@ class Odometer:
             return None
         low, high = math.floor(ends[0]), math.ceil(ends[1])
         made = Reading(time, round(est), low, high, speed, round(accel), math.ceil(under))
-        return Read(line, made) if self.is_reading(line, made) else None
+        return SourcedReading(line, made) if self.is_reading(line, made) else None
 
-    def is_reading(self, line: Line, made: Reading) -> bool:
+    def is_reading(self, line: FileLine, made: Reading) -> bool:
         """Whether a reading is one that the program takes, after the one before it; else a fault."""
         at = self.part.table.at(line, self.part.time.name if self.part.time else "")
         if not self.time <= made.time_ds <= TIME[1]:
@@ -203,13 +203,13 @@ def group_of(mapping: Mapping, part: Part) -> Column | None:
         return None
     column = column_of(mapping, f"import.{part.name}.group", part.others["group"], "a balise group")
     if column.name not in part.table.columns:
-        at = Place(part.table.name, 1)
+        at = FieldPlace(part.table.name, 1)
         mapping.findings.fault(at, f"no column {column.name!r} for `{column.key}`", one_of(part.table.columns))
     return column
 
 
-def readings_of(mapping: Mapping, part: Part, groups: dict[str, int]) -> list[Read]:
+def readings_of(mapping: Mapping, part: Part, groups: dict[str, int]) -> list[SourcedReading]:
     """The readings of all lines."""
-    odometer = Odometer(mapping, part, groups)
+    odometer = ReadingMaker(mapping, part, groups)
     mapping.findings.end_if_faulty()
     return [each for line in part.table.lines if (each := odometer.read(line)) is not None]

@@ -10,14 +10,14 @@ from typing import Any
 
 from sdm.laboratory.texts import number as number_text
 
-from .faults import Findings, Place
+from sdm.importing.faults import Findings, FieldPlace
 
 NONE = ("", "-")  # what stands for no value where the mapping names nothing
 NEARLY = Fraction(1, 10)  # km/h
 
 
 @dataclass(frozen=True)
-class Line:
+class FileLine:
     """A line of a table: its number, and its fields by the names of the columns."""
 
     number: int
@@ -31,10 +31,10 @@ class Table:
     name: str
     decimal: str
     columns: tuple[str, ...]
-    lines: tuple[Line, ...]
+    lines: tuple[FileLine, ...]
 
-    def at(self, line: Line, column: str = "") -> Place:
-        return Place(self.name, line.number, column)
+    def at(self, line: FileLine, column: str = "") -> FieldPlace:
+        return FieldPlace(self.name, line.number, column)
 
 
 @dataclass(frozen=True)
@@ -51,12 +51,12 @@ class Column:
     values: tuple[tuple[str, Any], ...] = ()
     value: Fraction | None = None
 
-    def text(self, line: Line) -> str | None:
+    def text(self, line: FileLine) -> str | None:
         """The field, None where it is empty or stands for none."""
         text = line.fields.get(self.name, "").strip()
         return None if text in self.none else str(dict(self.values).get(text, text))
 
-    def number(self, table: Table, line: Line, findings: Findings) -> Fraction | None:
+    def number(self, table: Table, line: FileLine, findings: Findings) -> Fraction | None:
         """The quantity of a line in its unit; None where there is none, and where it is no number, which is a fault."""
         if self.value is not None:
             return self.value
@@ -69,7 +69,7 @@ class Column:
             return None
         return number * self.scale + self.shift
 
-    def warn_if_nearly_whole(self, value: Fraction | None, table: Table, line: Line, findings: Findings) -> None:
+    def warn_if_nearly_whole(self, value: Fraction | None, table: Table, line: FileLine, findings: Findings) -> None:
         """Warns of a speed that is rounded down from just below a whole km/h, as that of a recording in other units."""
         if self.unit == "km/h" and value is not None and 0 < math.ceil(value) - value < NEARLY:
             text = f"{number_text(value, 3)} km/h for `{self.key}` count as {math.floor(value)}"
@@ -93,28 +93,30 @@ def table_of(path: Path, delimiter: str, decimal: str, findings: Findings) -> Ta
     try:
         text = path.read_bytes().decode("utf-8-sig")
     except OSError as why:
-        findings.fault(Place(path.name), why.strerror, "a file that can be read")
+        findings.fault(FieldPlace(path.name), why.strerror, "a file that can be read")
         return Table(path.name, decimal, (), ())
     except UnicodeDecodeError as why:
-        findings.fault(Place(path.name), f"the byte {why.object[why.start]:#04x}", "a text in UTF-8")
+        findings.fault(FieldPlace(path.name), f"the byte {why.object[why.start]:#04x}", "a text in UTF-8")
         return Table(path.name, decimal, (), ())
     reader = csv.reader(io.StringIO(text, newline=""), delimiter=delimiter)
     columns = tuple(name.strip() for name in next(reader, []))
     twice = sorted({name for name in columns if name and columns.count(name) > 1})
     for name in twice:
-        findings.fault(Place(path.name, 1, name), "the column twice", "one column of each name")
+        findings.fault(FieldPlace(path.name, 1, name), "the column twice", "one column of each name")
     lines = tuple(lines_of(reader, path.name, columns, findings))
     if not lines:
-        findings.fault(Place(path.name), f"{len(columns)} columns and no line", "a header and lines below it")
+        findings.fault(FieldPlace(path.name), f"{len(columns)} columns and no line", "a header and lines below it")
     return Table(path.name, decimal, columns, lines)
 
 
-def lines_of(reader: Any, name: str, columns: tuple[str, ...], findings: Findings) -> Iterator[Line]:
+def lines_of(reader: Any, name: str, columns: tuple[str, ...], findings: Findings) -> Iterator[FileLine]:
     """The lines below the header; empty ones are skipped."""
     for fields in reader:
         if not any(field.strip() for field in fields):
             continue
         if len(fields) != len(columns):
-            findings.fault(Place(name, reader.line_num), f"{len(fields)} fields", f"{len(columns)}, as the header has")
+            findings.fault(
+                FieldPlace(name, reader.line_num), f"{len(fields)} fields", f"{len(columns)}, as the header has"
+            )
             continue
-        yield Line(reader.line_num, dict(zip(columns, fields)))
+        yield FileLine(reader.line_num, dict(zip(columns, fields)))

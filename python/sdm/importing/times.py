@@ -4,8 +4,8 @@ from typing import Any
 
 from sdm.laboratory.clock import Clock
 
-from .mapping import Mapping, Part
-from .tables import Line
+from sdm.importing.mapping import Mapping, Part
+from sdm.importing.tables import FileLine
 
 
 def start_clock(mapping: Mapping, part: Part) -> None:
@@ -25,7 +25,7 @@ class Times:
         self.part, self.findings = part, mapping.findings
         self.clock = mapping.clock if part.is_recording else own_clock(mapping, part)
 
-    def of(self, line: Line) -> int | None:
+    def of(self, line: FileLine) -> int | None:
         """The time of a line, rounded; without a column for it 0. None where it is none, which is a fault."""
         column = self.part.time
         if column is None:

@@ -6,7 +6,7 @@ cut (docs/LABORATORY.md, "Cutting a journey").
 from dataclasses import dataclass, field
 from typing import Any
 
-from .faults import Findings, Place
+from sdm.importing.faults import Findings, FieldPlace
 
 Entry = tuple[int, Any]  # where it begins (cm), and what holds from there
 
@@ -17,7 +17,7 @@ class Stretch:
 
     entries: tuple[Entry, ...]
     end: int | None
-    at: Place
+    at: FieldPlace
 
     @property
     def start(self) -> int:
@@ -58,7 +58,7 @@ class Profile:
             self.findings.warn(new.at, f"{self.name} isn't described from {old.known_to:,} to {new.start:,} cm")
         self.known = joined(old, new)
 
-    def entries(self, base: list[Entry], where: Place) -> list[Entry]:
+    def entries(self, base: list[Entry], where: FieldPlace) -> list[Entry]:
         """The entries of the data part: those of the data file up to the first described place, then the others."""
         if self.known is None:
             return base
@@ -119,7 +119,7 @@ class Areas:
 
 
 @dataclass
-class Line:
+class RecordedTrack:
     """All that a recording says of the track."""
 
     findings: Findings

@@ -6,7 +6,7 @@ import argparse
 import sys
 from pathlib import Path
 
-from . import ImportFault, import_recording
+from sdm.importing import ImportFault, import_recording
 
 
 def main(args: list[str]) -> int:

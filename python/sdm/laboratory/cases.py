@@ -9,7 +9,7 @@ from collections.abc import Iterable, Iterator, Sequence
 from pathlib import Path
 from typing import NamedTuple
 
-from .program import Fault, Result
+from sdm.laboratory.program import Fault, Result
 
 
 class Case(NamedTuple):

@@ -2,9 +2,7 @@
 import re
 from collections.abc import Iterator
 
-from sdm.model.journey import MOST_RECORDS
-from sdm.model.outcome import Refused
-from sdm.model.records import EVENTS, HIGH, LOW, Event, Reading, event_of, placed_records
+from sdm.exact import EVENTS, Event, HIGH, LOW, MOST_RECORDS, Reading, Refused, event_of, placed_records
 
 PLAIN = re.compile(rb"read" + 7 * rb",(-?[0-9]{1,18})" + rb"\r?\n")
 _, (EARLIEST, LATEST), _, _, _, (SLOWEST, FASTEST), (LEAST, MOST), (NONE, ALL) = EVENTS[b"read"]

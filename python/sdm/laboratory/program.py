@@ -1,8 +1,9 @@
 """The program: which one is taken, whether it is of the sources that lie here, and what it makes of an input.
 
-Scripts and tools take `crates/sdm/out/sdm`, and only where its mark, `sdm.sources` beside it, has the checksum of these
-sources and that of the program. `scripts/program` writes the mark when the program was built. A program that is named
-by `--program` is taken as it is. Where the package is installed, the tools take the `sdm` that the path has.
+Scripts and tools take `crates/sdm/out/sdm`, and only where its mark, `sdm.sources` beside it, has the checksum of
+these sources and that of the program. `scripts/house program` writes the mark when the program was built. A program
+that is named by `--program` is taken as it is. Where the package is installed, the tools take the `sdm` that the path
+has.
 """
 import argparse
 import hashlib
@@ -110,7 +111,7 @@ def built(program: Path) -> Path:
     else:
         fault = None if program.is_file() else f"There is no program at {program}"
     if fault:
-        makers = ".ci/run or `scripts/program build` builds it, and --program" if IS_REPOSITORY else "--program"
+        makers = ".ci/run or `scripts/house program build` builds it, and --program" if IS_REPOSITORY else "--program"
         raise Fault(f"{fault}: {makers} names another one.")
     if not os.access(program, os.X_OK):
         raise Fault(f"{program} is no program.")

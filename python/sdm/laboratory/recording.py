@@ -19,19 +19,19 @@ import tomllib
 from fractions import Fraction
 from typing import Any
 
-from .clock import Clock
-from .program import Fault
-from .rows import COLUMNS, UNITS
+from sdm.laboratory.clock import Clock
+from sdm.laboratory.program import Fault
+from sdm.laboratory.rows import COLUMNS, UNITS
 
-Table = dict[str, Any]
-Mapping = tuple[str, str, dict[str, Table]]  # delimiter, decimal point, the table of each column
+ColumnTable = dict[str, Any]
+ColumnMapping = tuple[str, str, dict[str, ColumnTable]]  # delimiter, decimal point, the table of each column
 Value = Any  # a number, a word, or None for none
-Line = tuple[int, dict[str, Value]]  # its number, and its values by the columns of a row
+RecordedLine = tuple[int, dict[str, Value]]  # its number, and its values by the columns of a row
 WHOLE = re.compile(r"-?[0-9]{1,18}")
 KEYS = {"column", "scale", "shift", "none", "values"}
 
 
-def mapping_of(text: bytes) -> Mapping:
+def mapping_of(text: bytes) -> ColumnMapping:
     """The mapping that a file tells, checked."""
     try:
         mapping = tomllib.loads(text.decode("utf-8-sig"), parse_float=Fraction)
@@ -59,7 +59,7 @@ def keys_of(name: str) -> set[str]:
     return KEYS | {"origin"} if name == "time" else KEYS
 
 
-def clock_of(table: Table) -> Clock:
+def clock_of(table: ColumnTable) -> Clock:
     """The clock that the table of the time gives."""
     try:
         return Clock(Fraction(table.get("scale", 1)), Fraction(table.get("shift", 0)), table.get("origin"))
@@ -67,7 +67,7 @@ def clock_of(table: Table) -> Clock:
         raise Fault("The mapping's table 'time' must have numbers, and a timestamp as `origin`.") from None
 
 
-def own_mapping(text: str) -> tuple[Mapping, bool]:
+def own_mapping(text: str) -> tuple[ColumnMapping, bool]:
     """The mapping of a recording that has a row's own columns: by its header, or in their order where it has none."""
     first = text.split("\n", 1)[0].strip().split(",")
     header = [name for name in first if name in COLUMNS]
@@ -83,7 +83,7 @@ def exact(value: Any) -> int | Fraction:
     return value if isinstance(value, (int, Fraction)) else Fraction(value)
 
 
-def value_of(name: str, table: Table, text: str, decimal: str, line: int) -> Value:
+def value_of(name: str, table: ColumnTable, text: str, decimal: str, line: int) -> Value:
     """A field as the row's column has it: a number, a word, or None for none."""
     text = text.strip()
     if text in table.get("none", ["-", ""]):
@@ -99,7 +99,7 @@ def value_of(name: str, table: Table, text: str, decimal: str, line: int) -> Val
     return number
 
 
-def time_of(clock: Clock, table: Table, text: str, decimal: str, line: int) -> int:
+def time_of(clock: Clock, table: ColumnTable, text: str, decimal: str, line: int) -> int:
     """A time in whole ds."""
     text = text.strip()
     if text in table.get("none", ["-", ""]):
@@ -113,7 +113,7 @@ def time_of(clock: Clock, table: Table, text: str, decimal: str, line: int) -> i
         ) from None
 
 
-def recording_of(text: bytes, mapping: bytes | None) -> list[Line]:
+def recording_of(text: bytes, mapping: bytes | None) -> list[RecordedLine]:
     """The lines of a recording: each its number and its values by the names of a row's columns."""
     lines = text.decode("utf-8-sig", "replace")
     (delimiter, decimal, columns), is_bare = (mapping_of(mapping), False) if mapping is not None else own_mapping(lines)
@@ -122,7 +122,7 @@ def recording_of(text: bytes, mapping: bytes | None) -> list[Line]:
     missing = [name for name in wanted if name not in (reader.fieldnames or [])]
     if missing:
         raise Fault(f"The recording has no column {missing[0]!r}; it has {', '.join(reader.fieldnames or ['none'])}.")
-    found: list[Line] = []
+    found: list[RecordedLine] = []
     time = columns.pop("time")
     clock = clock_of(time)
     for fields in reader:

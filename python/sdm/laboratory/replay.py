@@ -8,15 +8,22 @@ amount, at which P lies no later: those that are the same for many readings, so 
 """
 from bisect import bisect_right
 
-from sdm.model.data import Limit
-from sdm.model.journey import Supervisor
-from sdm.model.limits import Target
-from sdm.model.outcome import Refused
-from sdm.model.records import Event, Reading
-from sdm.model.release import release_start
-from sdm.model.speeds import ceiling, falls, no_margin
-from sdm.model.triggers import Commands
-from sdm.model.units import GRAINS_PER_CM, NOTCHES_PER_KM_H, Number
+from sdm.exact import (
+    Commands,
+    Event,
+    GRAINS_PER_CM,
+    Limit,
+    NOTCHES_PER_KM_H,
+    Number,
+    Reading,
+    Refused,
+    Supervisor,
+    Target,
+    ceiling,
+    falls,
+    no_margin,
+    release_start,
+)
 
 SPEED, ACCEL, UNDER = 250, 10, 50  # what a reading's numbers are rounded up to: mm/s, cm/s², mm/s
 FASTEST, MOST_ACCEL, MOST_UNDER = 138_888, 300, 10_000  # what they are at most

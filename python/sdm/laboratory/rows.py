@@ -1,9 +1,9 @@
 """The rows of `sdm run` as text: their columns, and what a column counts in."""
 import re
 
-from .program import Fault
+from sdm.laboratory.program import Fault
 
-Row = dict[str, str]  # its values by the names of the columns
+RowTexts = dict[str, str]  # its values by the names of the columns
 LIMITS = "ebi sbi warning permitted indication".split()
 COLUMNS = ["time", "state", "status", "tco", "sb", "eb", "covered", "ceiling", *LIMITS]
 FORM = re.compile(r"\d+,[CTR],[NIOWX],[01],[01],[01],[01],\d+(,(-|-?\d+)){5}", re.ASCII)
@@ -14,7 +14,7 @@ def is_row(line: str) -> bool:
     return FORM.fullmatch(line) is not None
 
 
-def text_of(row: Row) -> str:
+def text_of(row: RowTexts) -> str:
     """A row as its line, by its values."""
     return ",".join(row[name] for name in COLUMNS)
 
@@ -30,6 +30,6 @@ def lines_of(text: str, form: re.Pattern[str], kind: str) -> list[re.Match[str]]
     return lines
 
 
-def rows_of(text: str) -> list[Row]:
+def rows_of(text: str) -> list[RowTexts]:
     """The rows of a text, each as its values by the names of the columns."""
     return [dict(zip(COLUMNS, line[0].split(","))) for line in lines_of(text, FORM, "row of sdm run")]

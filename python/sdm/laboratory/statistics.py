@@ -10,14 +10,12 @@ from dataclasses import dataclass, field
 from pathlib import Path
 from typing import TextIO, TypeVar
 
-from sdm.model.data import split
-from sdm.model.outcome import Outcome, Refused
-from sdm.model.records import Reading
+from sdm.exact import Outcome, Reading, Refused, split
 
-from .cases import Case, text_of
-from .events import events_of
-from .program import Fault, Result
-from .rows import Row, rows_of
+from sdm.laboratory.cases import Case, text_of
+from sdm.laboratory.events import events_of
+from sdm.laboratory.program import Fault, Result
+from sdm.laboratory.rows import RowTexts, rows_of
 
 COMMANDS = {"tco": "traction cut-off", "sb": "service brake", "eb": "emergency brake"}
 STATUSES = {"N": "normal", "I": "indication", "O": "overspeed", "W": "warning", "X": "intervention"}
@@ -50,7 +48,7 @@ class Counts:
     fastest_row: int | None = None
     way_mm: int = 0  # from the first estimated front end to the last one
 
-    def add(self, row: Row, reading: Reading) -> None:
+    def add(self, row: RowTexts, reading: Reading) -> None:
         """Counts one row more."""
         self.readings += 1
         self.covered += row["covered"] == "1"
@@ -63,7 +61,7 @@ class Counts:
         if self.fastest_row is None or reading.speed > self.fastest_mm_s:
             self.fastest_mm_s, self.fastest_row = int(reading.speed), self.readings
 
-    def add_commands(self, row: Row, before: Row | None) -> None:
+    def add_commands(self, row: RowTexts, before: RowTexts | None) -> None:
         """Counts the commands of the row that was counted last, and those that the row before it hadn't."""
         for name in COMMANDS:
             comes = row[name] == "1" and (before is None or before[name] == "0")
@@ -183,7 +181,7 @@ def figures_of(case: Case, verdict: str, made: Result | None, microseconds: int 
     return count(found, zip(rows, readings_in(case.data)))
 
 
-def count(found: C, pairs: Iterable[tuple[Row, Reading]]) -> C:
+def count(found: C, pairs: Iterable[tuple[RowTexts, Reading]]) -> C:
     """Counts rows with their readings."""
     before, begun = None, 0
     for row, reading in pairs:

@@ -1,8 +1,7 @@
 """Quantities as texts: exact where they have an end, else with a mark that digits follow."""
 from fractions import Fraction
 
-from sdm.model.limits import Target
-from sdm.model.units import GRAINS_PER_MM, NOTCHES_PER_KM_H, NOTCHES_PER_MM_S, Number
+from sdm.exact import GRAINS_PER_MM, NOTCHES_PER_KM_H, NOTCHES_PER_MM_S, Number, Target
 
 DIGITS = 9  # behind the point
 

@@ -5,16 +5,11 @@ from collections.abc import Iterator
 from fractions import Fraction
 from pathlib import Path
 
-from sdm.model.journey import Cycle, Supervisor
-from sdm.model.outcome import Outcome, Refused
-from sdm.model.records import Event, Reading
-from sdm.model.triggers import Commands
-from sdm.model.units import Number
-from sdm.model.words import open_run
+from sdm.exact import Commands, Cycle, Event, Number, Outcome, Reading, Refused, Supervisor, open_run
 
-from .events import events_of
-from .program import Fault
-from .replay import Replay
+from sdm.laboratory.events import events_of
+from sdm.laboratory.program import Fault
+from sdm.laboratory.replay import Replay
 
 
 def read(path: str | os.PathLike[str]) -> bytes:

@@ -8,7 +8,7 @@ from typing import TYPE_CHECKING
 from sdm.laboratory.program import Result
 from sdm.laboratory.walk import read
 
-from .made import Recorded, Report, Source, report_of
+from sdm.reporting.made import Recorded, Report, Source, report_of
 
 if TYPE_CHECKING:
     from sdm.arrays import Array
@@ -16,10 +16,10 @@ if TYPE_CHECKING:
     from sdm.runs import Records
 
 __all__ = ["Report", "report"]
-Path = str | os.PathLike[str]
+AnyPath = str | os.PathLike[str]
 
 
-def file(path: Path) -> Source:
+def file(path: AnyPath) -> Source:
     """A file by its name. Raises Fault where it can't be read."""
     return Source(os.path.basename(path), read(path))
 
@@ -29,8 +29,8 @@ def report(
     records: Records,
     rows: Array | None = None,
     *,
-    recording: Path | None = None,
-    mapping: Path | None = None,
+    recording: AnyPath | None = None,
+    mapping: AnyPath | None = None,
     mm: float = 2,
     kmh: float = 0.5,
     ds: int = 0,

@@ -10,20 +10,20 @@ from fractions import Fraction
 from sdm.compare import Allowed, Difference, difference, is_beyond, matched, shown
 from sdm.compare import told as told_of
 from sdm.laboratory.program import Fault
-from sdm.laboratory.recording import Line
-from sdm.laboratory.rows import COLUMNS, UNITS, Row
+from sdm.laboratory.recording import RecordedLine
+from sdm.laboratory.rows import COLUMNS, UNITS, RowTexts
 from sdm.laboratory.texts import number
 
-from .journey import Json, steps_of
+from sdm.reporting.journey import Json, steps_of
+from sdm.reporting.page import TextTable
 
 MILLI = 1000  # of a deviation's unit
-Table = list[list[str]]
 
 
 class Comparison:
     """Rows beside a recording: what was compared, and all that differs, by column."""
 
-    def __init__(self, rows: Sequence[Row], lines: list[Line], allowed: Allowed) -> None:
+    def __init__(self, rows: Sequence[RowTexts], lines: list[RecordedLine], allowed: Allowed) -> None:
         """Raises Fault where no row has the time of a line."""
         self.rows, self.allowed, held = list(rows), allowed, list(rows)
         self.pairs = matched(held, lines, allowed["ds"]) if lines else []
@@ -52,7 +52,7 @@ class Comparison:
         many = "1 row differs" if len(differing) == 1 else f"{len(differing)} rows differ"
         return f"{matching}{many} by more than the tolerances, first {told_of(first, self.rows)}."
 
-    def table(self) -> Table:
+    def table(self) -> TextTable:
         """The statistics by column, under a head; a column that the recording lacks says so."""
         head = [
             "column",

@@ -13,18 +13,25 @@ from collections.abc import Hashable, Iterable, Sequence
 from typing import Any
 
 from sdm.drawing.journey import counted, ends_held, set_lines, steps
-from sdm.drawing.values import End, Held
+from sdm.drawing.values import DrawnEnd, Held
 from sdm.laboratory.program import Fault
-from sdm.laboratory.rows import COLUMNS, LIMITS, Row
+from sdm.laboratory.rows import COLUMNS, LIMITS, RowTexts
 from sdm.laboratory.texts import short
 from sdm.laboratory.walk import Walk
-from sdm.model import records
-from sdm.model.data import Stop
-from sdm.model.journey import Cycle, Supervisor
-from sdm.model.limits import Situation, Target
-from sdm.model.speeds import Zone, restriction_zone, static_zones
-from sdm.model.triggers import Commands
-from sdm.model.units import GRAINS_PER_MM, NOTCHES_PER_KM_H
+from sdm import exact
+from sdm.exact import (
+    Commands,
+    Cycle,
+    GRAINS_PER_MM,
+    NOTCHES_PER_KM_H,
+    Situation,
+    Stop,
+    Supervisor,
+    Target,
+    Zone,
+    restriction_zone,
+    static_zones,
+)
 from sdm.why import LIMITS as FIELDS
 from sdm.why import command_lines, force_lines, section, situation_lines, trigger_lines
 
@@ -77,7 +84,7 @@ class Sets:
     def __init__(self) -> None:
         self.numbers: dict[tuple[Target, ...], int] = {}
         self.at: list[int] = []
-        self.events: list[records.Reading] = []
+        self.events: list[exact.Reading] = []
         self.common: list[collections.Counter[tuple[int, int]]] = []
 
     def add(self, cycle: Cycle) -> None:
@@ -110,21 +117,21 @@ class Told:
     def __init__(self, source: bytes) -> None:
         self.walk = Walk(source)
         self.supervisor = self.walk.supervisor
-        self.readings: list[records.Reading] = []
+        self.readings: list[exact.Reading] = []
         self.rows: list[str] = []  # the model's
         self.release: list[int | None] = []  # km/h
         self.force, self.causes, self.counting, self.sets = Texts(), Texts(), Texts(), Sets()
         self.authorities = [Held(self.supervisor.authority, 0)]
         self.restrictions: list[Held[Zone]] = []
         self.in_force: dict[int, Held[Zone]] = {}
-        self.starts: list[Held[End]] = []  # of release speed monitoring
+        self.starts: list[Held[DrawnEnd]] = []  # of release speed monitoring
         self._force = (self.supervisor.authority, "")
         before = self.supervisor.commands
         for event, cycle in self.walk:
             self.take(event, cycle, before)
             before = self.supervisor.commands
 
-    def take(self, event: records.Event, cycle: Cycle | None, before: Commands) -> None:
+    def take(self, event: exact.Event, cycle: Cycle | None, before: Commands) -> None:
         """Takes a record that was accepted."""
         now = len(self.readings)
         if cycle is not None:
@@ -134,10 +141,10 @@ class Told:
         if self.supervisor.authority is not self.authorities[-1].what:
             self.authorities[-1].until = now
             self.authorities.append(Held(self.supervisor.authority, now))
-        elif isinstance(event, records.Restriction):
+        elif isinstance(event, exact.Restriction):
             self.in_force[event.identity] = Held(restriction_zone(self.supervisor.data, event), now)
             self.restrictions.append(self.in_force[event.identity])
-        elif isinstance(event, records.Revocation):
+        elif isinstance(event, exact.Revocation):
             self.in_force.pop(event.identity).until = now
 
     def take_reading(self, cycle: Cycle, before: Commands) -> None:
@@ -158,7 +165,7 @@ class Told:
         if situation.release_start is None:
             return
         now, mm = len(self.readings), situation.release_start / GRAINS_PER_MM
-        end = End("start of R", float(mm / 1000))
+        end = DrawnEnd("start of R", float(mm / 1000))
         if self.starts and self.starts[-1].what == end and self.starts[-1].until == now:
             self.starts[-1].until = now + 1
         else:
@@ -193,7 +200,7 @@ def held_json(helds: Sequence[Held[Any]], count: int) -> list[list[Any]]:
 
 def what_json(what: Hashable) -> list[Any]:
     """The values of what is held: of an end its name and mm, of a zone its km/h, and its ends in mm or None."""
-    if isinstance(what, End):
+    if isinstance(what, DrawnEnd):
         return [what.name, round(1000 * what.place)]
     assert isinstance(what, Zone), "nothing else is held"
     return [what.speed, *(None if math.isinf(cm) else round(10 * cm) for cm in (what.start, what.end))]
@@ -211,7 +218,7 @@ def track_json(supervisor: Supervisor) -> Json:
     }
 
 
-def highest(readings: Sequence[records.Reading], rows: Sequence[Row]) -> float:
+def highest(readings: Sequence[exact.Reading], rows: Sequence[RowTexts]) -> float:
     """The greatest speed that the plot has room for, in km/h: what the train comes to, and the ceilings near it."""
     fastest = max(float(each.speed) for each in readings) * 0.0036
     tops = {int(row["ceiling"]) for row in rows}
@@ -224,7 +231,7 @@ def release_of(situation: Situation) -> int | None:
     return authority.release if situation.in_release and isinstance(authority, Stop) else None
 
 
-def columns_json(readings: Sequence[records.Reading], rows: Sequence[Row]) -> Json:
+def columns_json(readings: Sequence[exact.Reading], rows: Sequence[RowTexts]) -> Json:
     """The columns of the readings and of the rows."""
     words = {name: "".join(row[name] for row in rows) for name in WORDS}
     numbers = {name: [None if row[name] == "-" else int(row[name]) for row in rows] for name in NUMBERS}
@@ -235,7 +242,7 @@ def columns_json(readings: Sequence[records.Reading], rows: Sequence[Row]) -> Js
     }
 
 
-def refuse_others(readings: Sequence[records.Reading], rows: Sequence[Row], fault: str) -> None:
+def refuse_others(readings: Sequence[exact.Reading], rows: Sequence[RowTexts], fault: str) -> None:
     """Refuses rows that are not those of the readings."""
     counted(rows, len(readings), fault)
     for n, (reading, row) in enumerate(zip(readings, rows), 1):
@@ -245,7 +252,7 @@ def refuse_others(readings: Sequence[records.Reading], rows: Sequence[Row], faul
             )
 
 
-def journey_json(told: Told, rows: Sequence[Row]) -> Json:
+def journey_json(told: Told, rows: Sequence[RowTexts]) -> Json:
     """A journey with the rows that were written for it. Raises Fault where these are not those of its readings."""
     refuse_others(told.readings, rows, told.walk.fault)
     count, top = len(rows), highest(told.readings, rows)

@@ -15,10 +15,10 @@ from sdm.laboratory.program import PROGRAM, Fault, Result
 from sdm.laboratory.recording import recording_of
 from sdm.laboratory.rows import rows_of
 
-from .differences import Comparison
-from .journey import Json, Told, journey_json
-from .page import Table, page, plot_section, section, shades, table
-from .statistics import journey_table
+from sdm.reporting.differences import Comparison
+from sdm.reporting.journey import Json, Told, journey_json
+from sdm.reporting.page import TextTable, page, plot_section, section, shades, table
+from sdm.reporting.statistics import journey_table
 
 ALLOWED: Allowed = {"mm": Fraction(2), "km/h": Fraction(1, 2), "ds": 0}  # where nothing else is said
 MOST_FINDINGS = 40
@@ -66,7 +66,7 @@ def program_fact(program: Path) -> str:
     return text + "".join(f"; {name} {mark[name]}" for name in ("sources", "kit") if name in mark)
 
 
-def run_facts(source: Source, result: Result, ran: str, recorded: Recorded | None) -> Table:
+def run_facts(source: Source, result: Result, ran: str, recorded: Recorded | None) -> TextTable:
     """What was run."""
     lines = [
         ["package", f"sdm {sdm.__version__}, which made this page; the causes and the curves are its model's"],

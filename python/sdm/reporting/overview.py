@@ -13,8 +13,8 @@ from sdm.laboratory.cases import case_of
 from sdm.laboratory.statistics import COMMANDS, MARGINS, Figures, Statistics, milliseconds
 from sdm.laboratory.walk import write
 
-from .made import Source, report_of
-from .page import Table, page, section, table
+from sdm.reporting.made import Source, report_of
+from sdm.reporting.page import TextTable, page, section, table
 
 PAGE = "report.html"  # beside the input of a journey
 Pages = dict[str, str]  # the way from the overview to the page of a journey, by the journey's name
@@ -61,7 +61,7 @@ def line_of(figures: Figures, pages: Pages) -> str:
     return f"<tr{kind}>{''.join(f'<td>{cell}</td>' for cell in cells)}</tr>\n"
 
 
-def ends_table(journeys: Sequence[Figures]) -> Table:
+def ends_table(journeys: Sequence[Figures]) -> TextTable:
     """How many journeys ended in which way, and how many came out as due."""
     ends = collections.Counter(map(ended, journeys))
     dues = collections.Counter(each.verdict for each in journeys if each.code is not None)

@@ -15,13 +15,13 @@ from string import Template
 from sdm.drawing.sheet import STATES, STATUSES
 from sdm.laboratory.program import Fault
 
-from .journey import Json
+from sdm.reporting.journey import Json
 
 HERE = Path(__file__).resolve().parent
 D3 = Path("/usr/share/nodejs/d3/dist/d3.min.js")
 LICENCE = Path("/usr/share/doc/node-d3/copyright")
 SCRIPTS = ["plot.js", "page.js", "view.js"]
-Table = list[list[str]]
+TextTable = list[list[str]]
 
 
 def part(name: str) -> str:
@@ -49,7 +49,7 @@ def unpacked(text: str) -> Json:
     return data
 
 
-def table(lines: Table, name: str = "", head: bool = False) -> str:
+def table(lines: TextTable, name: str = "", head: bool = False) -> str:
     """A table of texts; its first line is a head where it is said so, and else the first cell of each line is."""
     named = f' id="{name}"' if name else ""
     made = []

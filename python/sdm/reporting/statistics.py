@@ -4,11 +4,10 @@ from collections import Counter
 from collections.abc import Sequence
 
 from sdm.drawing.sheet import STATES
-from sdm.laboratory.rows import Row
+from sdm.laboratory.rows import RowTexts
 from sdm.laboratory.statistics import COMMANDS, MARGINS, STATUSES, Counts, count
-from sdm.model.records import Reading
-
-Table = list[list[str]]
+from sdm.exact import Reading
+from sdm.reporting.page import TextTable
 
 
 def metres(mm: int) -> str:
@@ -30,7 +29,7 @@ def shares(counts: Counter[str], names: dict[str, str]) -> str:
     return ", ".join(f"{counts[value]} {value} ({name})" for value, name in names.items() if counts[value])
 
 
-def journey_table(readings: Sequence[Reading], rows: Sequence[Row]) -> Table:
+def journey_table(readings: Sequence[Reading], rows: Sequence[RowTexts]) -> TextTable:
     """The table of a journey that has rows."""
     found = count(Counts(), zip(rows, readings))
     first, last = readings[0], readings[-1]

@@ -14,8 +14,8 @@ from pathlib import Path
 from sdm.laboratory.program import Fault, Result, add_program, built, run
 from sdm.laboratory.walk import read, write
 
-from .made import ALLOWED, Recorded, Report, Source, program_fact, report_of
-from .overview import write_overview
+from sdm.reporting.made import ALLOWED, Recorded, Report, Source, program_fact, report_of
+from sdm.reporting.overview import write_overview
 
 
 def source_of(path: str) -> Source:

@@ -3,8 +3,8 @@ import tempfile
 import unittest
 from pathlib import Path
 
-from ..folders import EXAMPLES
-from ..tool import program, tool
+from tests.folders import EXAMPLES
+from tests.tool import program, tool
 
 DATA = (EXAMPLES / "approach" / "input").read_text()
 SCENARIO = """

@@ -8,10 +8,10 @@ from pathlib import Path
 from sdm.campaign import statistics
 from sdm.laboratory.rows import rows_of
 from sdm.laboratory.statistics import Counts, Margin, count
-from sdm.model.records import Reading
+from sdm_evidence.model.records import Reading
 
-from ..folders import EXAMPLES
-from ..tool import program, tool
+from tests.folders import EXAMPLES
+from tests.tool import program, tool
 
 # A program whose rows are its input, and which ends with 7 where it reads a row `bad`.
 COPIES = (

@@ -3,8 +3,8 @@ import tempfile
 import unittest
 from pathlib import Path
 
-from ..folders import EXAMPLES
-from ..tool import tool
+from tests.folders import EXAMPLES
+from tests.tool import tool
 
 ROWS = EXAMPLES / "interventions" / "rows"
 MAPPING = """

@@ -7,12 +7,12 @@ from pathlib import Path
 import sdm
 from sdm.laboratory.cases import cases_under
 from sdm.laboratory.mistakes import FAULT, edited, mistakes
-from sdm.model.data import data_of, read_document
-from sdm.model.drive import Drive
-from sdm.model.words import collect
+from sdm_evidence.model.data import data_of, read_document
+from sdm_evidence.model.drive import Drive
+from sdm_evidence.model.words import collect
 
-from ..folders import EXAMPLES, TOP
-from ..tool import tool
+from tests.folders import EXAMPLES, TOP
+from tests.tool import tool
 
 TABLE = (Path(__file__).parent / "mistakes.txt").read_text()
 WHOLE = (EXAMPLES / "every-key" / "input").read_text()

@@ -7,10 +7,10 @@ from pathlib import Path
 
 import sdm
 from sdm.laboratory.clock import Clock
-from sdm.model.words import collect
+from sdm_evidence.model.words import collect
 
-from ..folders import EXAMPLES
-from ..tool import tool
+from tests.folders import EXAMPLES
+from tests.tool import tool
 
 STORED = EXAMPLES / "recording"
 DATA = (STORED / "data.toml").read_text() + "[track]\nspeed = [{start = 0, speed = 100}]\n"

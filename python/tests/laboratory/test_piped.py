@@ -2,7 +2,7 @@
 import subprocess
 import unittest
 
-from ..folders import EXAMPLES, TOP
+from tests.folders import EXAMPLES, TOP
 
 INPUT = str(EXAMPLES / "realistic" / "input")
 TOOLS = [

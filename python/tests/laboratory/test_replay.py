@@ -4,14 +4,14 @@ import unittest
 from unittest import mock
 
 from sdm.laboratory.events import events_of
-from sdm.model.line import a_run
+from sdm_evidence.makers.line import a_run
 from sdm.laboratory.program import Fault
 from sdm.laboratory.walk import ALL, Walk, at_row, at_rows
-from sdm.model.journeys import make
-from sdm.model.outcome import Refused
-from sdm.model.records import event_of, records
+from sdm_evidence.makers.journeys import make
+from sdm_evidence.model.outcome import Refused
+from sdm_evidence.model.records import event_of, records
 
-from ..tool import tool
+from tests.tool import tool
 
 NOTHING = range(10**6, 10**6 + 1)
 

@@ -1,5 +1,5 @@
 """A report is one page that asks for nothing from elsewhere, and holds the program's rows, why's causes and the
-differences. What a browser makes of it is tried by scripts/try-report."""
+differences. What a browser makes of it is tried by scripts/house try report."""
 import hashlib
 import re
 import shutil
@@ -14,8 +14,8 @@ from sdm.laboratory.rows import COLUMNS
 from sdm.reporting import page
 from sdm.reporting.journey import READING, steps_of
 
-from ..folders import EXAMPLES
-from ..tool import program, tool
+from tests.folders import EXAMPLES
+from tests.tool import program, tool
 
 VOID = {"meta", "input", "br", "link", "img"}
 LEADS = {"src", "srcset", "data", "action", "poster", "background", "cite", "longdesc", "manifest", "ping"}

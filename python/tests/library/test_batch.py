@@ -7,7 +7,7 @@ import numpy as np
 import sdm
 from sdm import Reading, SdmError, Status, Supervisor
 
-from ..folders import EXAMPLES
+from tests.folders import EXAMPLES
 
 DATA = (EXAMPLES / "realistic" / "input").read_text().partition("%%\n")[0]
 COUNT = 100_000

@@ -5,14 +5,14 @@ import unittest
 
 from sdm import library, rows
 
-from ..folders import TOP
+from tests.folders import TOP
 
 HEADER = (TOP / "c" / "sdm.h").read_text()
 STRUCTS = {
     "sdm": library.Handle,
-    "sdm_line": library.Line,
+    "sdm_line": library.LineStruct,
     "sdm_reading": library.ReadingStruct,
-    "sdm_place": library.Place,
+    "sdm_place": library.PlaceStruct,
     "sdm_row": library.RowStruct,
     "sdm_restriction": library.RestrictionStruct,
     "sdm_display": library.DisplayStruct,
@@ -53,7 +53,7 @@ class Layout(unittest.TestCase):
             "uint32_t": ctypes.c_uint32,
             "int32_t": ctypes.c_int32,
             "int64_t": ctypes.c_int64,
-            "struct sdm_place": library.Place,
+            "struct sdm_place": library.PlaceStruct,
             "struct sdm_cause": library.CauseStruct,
         }
         for name in set(STRUCTS) - {"sdm", "sdm_line"}:

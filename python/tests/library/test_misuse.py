@@ -12,7 +12,7 @@ import sdm
 from sdm import End, EndCalculated, Limit, Reading, Restriction, Revocation, SdmError, Status, Supervisor
 from sdm.arrays import READING
 
-from ..folders import EXAMPLES
+from tests.folders import EXAMPLES
 
 DATA = (EXAMPLES / "realistic" / "input").read_text().partition("%%\n")[0]
 SOME = Reading(10, 3_000_000, 2_995_000, 3_005_000, 40_000)

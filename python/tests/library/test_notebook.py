@@ -7,7 +7,7 @@ import tempfile
 import unittest
 from pathlib import Path
 
-from ..folders import TOP
+from tests.folders import TOP
 
 
 class Notebook(unittest.TestCase):

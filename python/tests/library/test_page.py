@@ -8,7 +8,7 @@ from pathlib import Path
 
 import sdm
 
-from ..folders import EXAMPLES, TOP
+from tests.folders import EXAMPLES, TOP
 
 BLOCKS = re.findall(r"^```python\n(.*?)^```$", (TOP / "docs" / "PYTHON.md").read_text(), re.M | re.S)
 

@@ -5,13 +5,12 @@ import unittest
 from sdm import Reading, SdmError, Status, Supervisor
 from sdm.laboratory.cases import cases_under, difference
 from sdm.laboratory.program import Result
-from sdm.model.data import split
-from sdm.model.outcome import Outcome, Refused
-from sdm.model.records import event_of, records
-from sdm.model.words import collect
-from sdm.records import OF_MODEL
+from sdm_evidence.model.data import split
+from sdm_evidence.model.outcome import Outcome
+from sdm_evidence.model.words import collect
+from sdm.records import fields_of, record_of
 
-from ..folders import TOP
+from tests.folders import TOP
 
 CODES = {Status.BAD_DATA: 5, Status.REFUSED: 6}
 MOST_RECORDS = 100_000
@@ -33,14 +32,13 @@ def played(word, source):
     except SdmError as why:
         return Result("", f"{why}\n", CODES[why.status])
     with supervisor:
-        for number, fields in enumerate(records(rest), 1):
+        for number, fields in enumerate(fields_of(rest), 1):
             try:
                 if number > MOST_RECORDS:
-                    raise Refused("too many events")
-                event = event_of(fields)
-                record = OF_MODEL[type(event)](*event)
+                    raise ValueError("too many events")
+                record = record_of(fields)
                 row = supervisor.take(record)
-            except (Refused, SdmError) as why:
+            except (ValueError, SdmError) as why:
                 return Result("".join(lines), f"sdm: bad event {number}: {why}\n", 7)
             if isinstance(record, Reading):
                 lines.append(TOLD[word](supervisor, record, row).text())

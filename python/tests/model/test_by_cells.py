@@ -3,12 +3,12 @@ import random
 import unittest
 from fractions import Fraction
 
-from sdm.model.curves import BrakeCurve
-from sdm.model.data import Area, Band, Data, Gradient, National, StaticSpeed, Stop, Track, Train
-from sdm.model.decelerations import brakes_of
-from sdm.model.records import Restriction
-from sdm.model.speeds import mrsp
-from sdm.model.units import GRAINS_PER_CM, NOTCHES_PER_KM_H
+from sdm_evidence.model.curves import BrakeCurve
+from sdm_evidence.model.data import Area, Band, Data, Gradient, National, StaticSpeed, Stop, Track, Train
+from sdm_evidence.model.decelerations import brakes_of
+from sdm_evidence.model.records import Restriction
+from sdm_evidence.model.speeds import mrsp
+from sdm_evidence.model.units import GRAINS_PER_CM, NOTCHES_PER_KM_H
 
 CM, KMH = GRAINS_PER_CM, NOTCHES_PER_KM_H
 

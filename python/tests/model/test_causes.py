@@ -2,9 +2,9 @@
 import unittest
 
 from sdm.laboratory.cases import cases_under
-from sdm.model.words import collect
+from sdm_evidence.model.words import collect
 
-from ..folders import EXAMPLES
+from tests.folders import EXAMPLES
 
 JOURNEYS = [case for case in cases_under(EXAMPLES) if case.words == ["run"]]
 COMMANDS = range(5, 8)  # the fields of tco, sb and eb

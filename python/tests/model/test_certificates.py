@@ -3,16 +3,16 @@ marks that hold."""
 import random
 import unittest
 
-from sdm.model.certificates import Claim, Mark, marks_of, until_it_works, written_segments
-from sdm.model.certified import a_certify, a_check
-from sdm.model.checker import hold
-from sdm.model.curves import BrakeCurve
-from sdm.model.decelerations import brakes_of
-from sdm.model.units import GRAINS_PER_CM, NOTCHES_PER_KM_H
-from sdm.model.words import collect
+from sdm_evidence.model.certificates import Claim, Mark, marks_of, until_it_works, written_segments
+from sdm_evidence.makers.certified import a_certify, a_check
+from sdm_evidence.model.checker import hold
+from sdm_evidence.model.curves import BrakeCurve
+from sdm_evidence.model.decelerations import brakes_of
+from sdm_evidence.model.units import GRAINS_PER_CM, NOTCHES_PER_KM_H
+from sdm_evidence.model.words import collect
 
-from ..folders import EXAMPLES
-from .test_by_cells import slope, small_data, walk
+from tests.folders import EXAMPLES
+from tests.model.test_by_cells import slope, small_data, walk
 
 PLAIN = (EXAMPLES / "approach" / "input").read_text().partition("%%")[0] + "%%\n"
 REALISTIC = (EXAMPLES / "realistic" / "input").read_text().partition("%%")[0] + "%%\n"

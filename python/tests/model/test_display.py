@@ -2,12 +2,12 @@
 import random
 import unittest
 
-from sdm.model.display import PASSED, display_speed, is_passed
-from sdm.model.journey import cycles
-from sdm.model.journeys import make
-from sdm.model.words import collect, open_run
+from sdm_evidence.model.display import PASSED, display_speed, is_passed
+from sdm_evidence.model.journey import cycles
+from sdm_evidence.makers.journeys import make
+from sdm_evidence.model.words import collect, open_run
 
-from ..folders import EXAMPLES
+from tests.folders import EXAMPLES
 
 APPROACH = (EXAMPLES / "approach" / "input").read_text().partition("%%")[0]
 

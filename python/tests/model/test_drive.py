@@ -2,17 +2,17 @@
 import random
 import unittest
 
-from sdm.model.data import data_of, read_document
-from sdm.model.decelerations import brakes_of
-from sdm.model.drive import Drive, Train, braked, coasted, driven, greatest_slope, reading_of
-from sdm.model.journeys import a_drive, an_open_document
-from sdm.model.outcome import Outcome
-from sdm.model.toml_text import toml
-from sdm.model.units import GRAINS_PER_CM, GRAINS_PER_MM, NOTCHES_PER_MM_S
-from sdm.model.words import collect
+from sdm_evidence.model.data import data_of, read_document
+from sdm_evidence.model.decelerations import brakes_of
+from sdm_evidence.model.drive import Drive, TrueTrain, braked, coasted, driven, greatest_slope, reading_of
+from sdm_evidence.makers.journeys import a_drive, an_open_document
+from sdm_evidence.model.outcome import Outcome
+from sdm_evidence.makers.toml_text import toml
+from sdm_evidence.model.units import GRAINS_PER_CM, GRAINS_PER_MM, NOTCHES_PER_MM_S
+from sdm_evidence.model.words import collect
 
-from ..folders import EXAMPLES
-from .test_by_cells import small_data
+from tests.folders import EXAMPLES
+from tests.model.test_by_cells import small_data
 
 PLAIN = (
     (EXAMPLES / "approach" / "input")
@@ -105,25 +105,25 @@ class Moves(unittest.TestCase):
 
     def test_a_decisecond_of_each(self):
         # 1 m/s: 100 mm in coasting; with 1 m/s² 100 ± 5 mm
-        train = Train(0, 1000 * NOTCHES_PER_MM_S)
+        train = TrueTrain(0, 1000 * NOTCHES_PER_MM_S)
         for after, mm, mm_s in (
             (coasted(train), 100, 1000),
             (braked(self.brake, train), 95, 900),
             (driven(train, 100), 105, 1100),
             (driven(train, -100), 95, 900),
         ):
-            self.assertEqual(after, Train(mm * GRAINS_PER_MM, mm_s * NOTCHES_PER_MM_S))
+            self.assertEqual(after, TrueTrain(mm * GRAINS_PER_MM, mm_s * NOTCHES_PER_MM_S))
 
     def test_the_last_decisecond_of_braking(self):
         # 0.1 m/s are gone after a whole one, 0.06 m/s after 0.06²/2 m, which are 1.8 mm
         for mm_s, um in ((100, 5_000), (60, 1_800), (0, 0)):
-            train = braked(self.brake, Train(0, mm_s * NOTCHES_PER_MM_S))
-            self.assertEqual(train, Train(um * GRAINS_PER_MM // 1000, 0))
+            train = braked(self.brake, TrueTrain(0, mm_s * NOTCHES_PER_MM_S))
+            self.assertEqual(train, TrueTrain(um * GRAINS_PER_MM // 1000, 0))
 
     def test_driving_stays_within_its_speeds(self):
         greatest = 138_888 * NOTCHES_PER_MM_S
-        self.assertEqual(driven(Train(0, greatest - 1), 40).speed, greatest)
-        self.assertEqual(driven(Train(0, 100), -20), Train(100 * 500_000, 0))
+        self.assertEqual(driven(TrueTrain(0, greatest - 1), 40).speed, greatest)
+        self.assertEqual(driven(TrueTrain(0, 100), -20), TrueTrain(100 * 500_000, 0))
 
     def test_a_braked_train_is_braked_by_the_greatest_slope_at_least(self):
         """The way of a decisecond is no longer than by the greatest slope of its cells and bands, and by coasting."""
@@ -132,7 +132,7 @@ class Moves(unittest.TestCase):
             brake = brakes_of(small_data(rng))["safe"]
             place = rng.randint(-2, 8) * 100 * GRAINS_PER_CM + rng.randint(0, 9)
             w = rng.choice([1, 54, rng.randint(0, 10**6)])
-            after = braked(brake, Train(place, w))
+            after = braked(brake, TrueTrain(place, w))
             far = place + 1_000_000 * w
             cells = range(place // GRAINS_PER_CM, far // GRAINS_PER_CM + 1)
             at = lambda cell: brake.slopes[sum(border <= cell * GRAINS_PER_CM for border in brake.borders)]
@@ -145,13 +145,13 @@ class Moves(unittest.TestCase):
 class Readings(unittest.TestCase):
     def test_what_is_read(self):
         # 4085 mod 5001 = 4085, mod 500 = 85, mod 61 = 59
-        train = Train(3 * GRAINS_PER_MM + 1, 1000 * NOTCHES_PER_MM_S + 1)
+        train = TrueTrain(3 * GRAINS_PER_MM + 1, 1000 * NOTCHES_PER_MM_S + 1)
         self.assertEqual(reading_of(10, 4085, train, False), (10, -911, -5911, 4089, 915, 39, 500))
         self.assertEqual(reading_of(10, 4085, train, True), (10, -911, -5911, 4089, 1001, 39, 0))
-        self.assertEqual(reading_of(10, 4085, Train(0, 54), False).speed, 1)
+        self.assertEqual(reading_of(10, 4085, TrueTrain(0, 54), False).speed, 1)
         for inhibited in (False, True):
-            self.assertEqual(reading_of(10, 4085, Train(0, 0), inhibited).speed, 0)
-            self.assertEqual(reading_of(10, 4085, Train(0, 1), inhibited).speed, 1)
+            self.assertEqual(reading_of(10, 4085, TrueTrain(0, 0), inhibited).speed, 0)
+            self.assertEqual(reading_of(10, 4085, TrueTrain(0, 1), inhibited).speed, 1)
 
 
 class Drives(unittest.TestCase):

@@ -3,10 +3,10 @@ import unittest
 
 from sdm.laboratory.cases import difference
 from sdm.laboratory.program import Result
-from sdm.model.records import read_int, records
-from sdm.model.words import collect
+from sdm_evidence.model.records import read_int, records
+from sdm_evidence.model.words import collect
 
-from ..folders import EXAMPLES
+from tests.folders import EXAMPLES
 
 APPROACH = (EXAMPLES / "approach" / "input").read_text()
 

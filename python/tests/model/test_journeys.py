@@ -6,12 +6,12 @@ import subprocess
 import sys
 import unittest
 
-from sdm.model.data import read_document
-from sdm.model.journeys import a_document, make
-from sdm.model.toml_text import toml
-from sdm.model.words import collect
+from sdm_evidence.model.data import read_document
+from sdm_evidence.makers.journeys import a_document, make
+from sdm_evidence.makers.toml_text import toml
+from sdm_evidence.model.words import collect
 
-from ..folders import TOP
+from tests.folders import TOP
 
 
 class Journeys(unittest.TestCase):

@@ -5,16 +5,16 @@ import sys
 import unittest
 from itertools import combinations, pairwise
 
-from sdm.model.journey import Supervisor
-from sdm.model.journeys import a_fall_journey
-from sdm.model.outcome import Refused
-from sdm.model.records import Reading, Restriction, Revocation, event_of
-from sdm.model.records import records as fields_of
-from sdm.model.speeds import dV_ebi, falls
-from sdm.model.units import GRAINS_PER_CM, NOTCHES_PER_KM_H
-from sdm.model.words import open_run
+from sdm_evidence.model.journey import Supervisor
+from sdm_evidence.makers.journeys import a_fall_journey
+from sdm_evidence.model.outcome import Refused
+from sdm_evidence.model.records import Reading, Restriction, Revocation, event_of
+from sdm_evidence.model.records import records as fields_of
+from sdm_evidence.model.speeds import dV_ebi, falls
+from sdm_evidence.model.units import GRAINS_PER_CM, NOTCHES_PER_KM_H
+from sdm_evidence.model.words import open_run
 
-from ..folders import TOP
+from tests.folders import TOP
 
 SEEDS = range(80)
 

@@ -2,19 +2,19 @@
 import unittest
 from fractions import Fraction as F
 
-from sdm.model.curves import BrakeCurve
-from sdm.model.data import Limit
-from sdm.model.decelerations import Brake, brakes_of
-from sdm.model.journey import cycles
-from sdm.model.limits import Target, times_of, until_the_emergency_brake_works
-from sdm.model.records import Reading, Restriction
-from sdm.model.release import release_start
-from sdm.model.speeds import dV_ebi, dV_sbi, dV_warning
-from sdm.model.trial import REALISTIC
-from sdm.model.units import GRAINS_PER_CM, GRAINS_PER_MM, NOTCHES_PER_KM_H, NOTCHES_PER_MM_S
-from sdm.model.words import collect, open_run
+from sdm_evidence.model.curves import BrakeCurve
+from sdm_evidence.model.data import Limit
+from sdm_evidence.model.decelerations import Brake, brakes_of
+from sdm_evidence.model.journey import cycles
+from sdm_evidence.model.limits import Target, times_of, until_the_emergency_brake_works
+from sdm_evidence.model.records import Reading, Restriction
+from sdm_evidence.model.release import release_start
+from sdm_evidence.model.speeds import dV_ebi, dV_sbi, dV_warning
+from sdm_evidence.model.trial import REALISTIC
+from sdm_evidence.model.units import GRAINS_PER_CM, GRAINS_PER_MM, NOTCHES_PER_KM_H, NOTCHES_PER_MM_S
+from sdm_evidence.model.words import collect, open_run
 
-from ..folders import EXAMPLES
+from tests.folders import EXAMPLES
 
 M, M_S = 1000 * GRAINS_PER_MM, 1000 * NOTCHES_PER_MM_S
 

@@ -2,16 +2,16 @@
 import random
 import unittest
 
-from sdm.model.data import Area, Gradient, Stop
-from sdm.model.journey import Supervisor
-from sdm.model.outcome import Outcome, Refused
-from sdm.model.records import Calculated, event_of
-from sdm.model.release import calculated, fits, latest_trip
-from sdm.model.units import GRAINS_PER_CM, GRAINS_PER_MM, NOTCHES_PER_KM_H, distance_at
-from sdm.model.words import collect, open_run
+from sdm_evidence.model.data import Area, Gradient, Stop
+from sdm_evidence.model.journey import Supervisor
+from sdm_evidence.model.outcome import Outcome, Refused
+from sdm_evidence.model.records import Calculated, event_of
+from sdm_evidence.model.release import calculated, fits, latest_trip
+from sdm_evidence.model.units import GRAINS_PER_CM, GRAINS_PER_MM, NOTCHES_PER_KM_H, distance_at
+from sdm_evidence.model.words import collect, open_run
 
-from ..folders import EXAMPLES
-from .test_by_cells import small_data, walk
+from tests.folders import EXAMPLES
+from tests.model.test_by_cells import small_data, walk
 
 APPROACH = (EXAMPLES / "approach" / "input").read_text()
 

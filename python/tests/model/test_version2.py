@@ -7,12 +7,12 @@ import tomllib
 import unittest
 from fractions import Fraction as F
 
-from sdm.model.data import data_of, read_document, table_of
-from sdm.model.decelerations import brakes_of, under_the_train
-from sdm.model.toml_text import laid_out
-from sdm.model.words import collect
+from sdm_evidence.model.data import data_of, read_document, table_of
+from sdm_evidence.model.decelerations import brakes_of, under_the_train
+from sdm_evidence.model.layout import laid_out
+from sdm_evidence.model.words import collect
 
-from ..folders import EXAMPLES
+from tests.folders import EXAMPLES
 
 PLAIN = (EXAMPLES / "approach" / "input").read_text().partition("%%")[0]
 AT_20 = ["read,0,500000,500000,500000,20000,0,0"]

@@ -10,11 +10,11 @@ from pathlib import Path
 from unittest import mock
 
 import sdm
-from sdm.model.line import a_run
-from sdm.model.words import collect
+from sdm_evidence.makers.line import a_run
+from sdm_evidence.model.words import collect
 
-from ..folders import EXAMPLES, TOP
-from ..tool import tool
+from tests.folders import EXAMPLES, TOP
+from tests.tool import tool
 
 APPROACH = EXAMPLES / "approach" / "input", EXAMPLES / "approach" / "rows"
 POINT = re.compile(r"([\d.]+),([\d.]+)")
