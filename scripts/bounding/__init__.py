@@ -1,8 +1,9 @@
-"""What scripts/bounds makes of machine code: for each call of a library the most stack, instructions, divisions and
-accesses to memory. Each step refuses what it can't bound.
+"""What `scripts/house show bounds` makes of machine code: for each call of a library the most stack, instructions,
+divisions and accesses to memory. Each step refuses what it can't bound.
 
-code      instructions and functions, as objdump prints them
-objects   the objects of an archive, with their symbols and their jump tables
+decoding  the bytes of an instruction as its name and operands, by Capstone
+code      functions with their instructions, and where calls and jumps lead
+objects   the objects of an archive, with their symbols and their jump tables, by pyelftools
 flow      which instruction may follow which, and the loops
 frames    how deep a function uses the stack, and how deep it calls another
 library   the functions of all objects, and who calls whom

@@ -1,12 +1,13 @@
 """The bounds of the calls of a library."""
+from __future__ import annotations
 
 from collections.abc import Iterator
 from dataclasses import dataclass, field
 
-from bounding.code import Refused
-from bounding.library import Known, Library, Stack
-from bounding.table import Outside, Table
-from bounding.work import COUNTS, Count, Work
+from scripts.bounding.code import Refused
+from scripts.bounding.library import Known, Library, Stack
+from scripts.bounding.table import Outside, Table
+from scripts.bounding.work import COUNTS, Count, Work
 
 
 @dataclass

@@ -1,5 +1,6 @@
-"""Machine code for x86-64, as `objdump` prints it: the functions of an object with their instructions, and where each
-call and each jump leads."""
+"""Machine code for x86-64: the functions of an object with their instructions, and where each call and each jump
+leads. pyelftools reads the object, and Capstone decodes it."""
+from __future__ import annotations
 
 import re
 import subprocess
@@ -7,15 +8,16 @@ from collections.abc import Iterator
 from dataclasses import dataclass, field
 from pathlib import Path
 
-DUMP = ["objdump", "--disassemble", "--reloc", "--no-show-raw-insn", "--wide"]
-SECTION = re.compile(r"^Disassembly of section (.*):$")
-HEAD = re.compile(r"^([0-9a-f]+) <(.*)>:$")
-LINE = re.compile(r"^\s*([0-9a-f]+):\t(\S.*?)\s*$")
-RELOCATION = re.compile(r"\t[0-9a-f]+: R_X86_64_(\w+)\t(.*?)\s*$")
-NAMED = re.compile(r"^(.*?)([+-]0x[0-9a-f]+)?$")  # a symbol with an offset; names have `::`, `<#..>` and `-` in them
+from capstone import CsInsn
+from elftools.elf.constants import SH_FLAGS
+from elftools.elf.elffile import ELFFile
+from elftools.elf.relocation import RelocationSection
+from elftools.elf.sections import Section
+
+from scripts.bounding.decoding import decoded, is_repeated, name_of, operands_of
+
+BY_TABLE = {9, 41, 42}  # R_X86_64_GOTPCREL, R_X86_64_GOTPCRELX, R_X86_64_REX_GOTPCRELX
 ADDRESS = re.compile(r"^([0-9a-f]+)(?: <.*>)?$")
-PREFIX = re.compile(r"^(?:notrack|bnd|cs|ds|data16|repz|repnz|rep|lock) +")
-REPEATED = re.compile(r"^rep(?:n?z)? +(?:movs|stos|lods|cmps|scas)")
 CALLS = {"call", "callq"}
 JUMPS = {"jmp", "jmpq"}
 STACK = CALLS | {"ret", "retq", "push", "pushq", "pop", "popq", "leave", "leaveq"}
@@ -97,41 +99,55 @@ def printed(*words: str | Path) -> str:
     return subprocess.run(words, check=True, capture_output=True, text=True).stdout
 
 
-def instruction(line: str) -> Instruction | None:
-    """The instruction of a line, with its relocation, which stands behind it."""
-    relocation = RELOCATION.search(line)
-    found = LINE.match(line[: relocation.start()] if relocation else line)
-    if not found:
-        return None
-    text = re.sub(r"\s+#.*$", "", found[2])
-    is_repeated = bool(REPEATED.match(text))
-    while PREFIX.match(text):
-        text = PREFIX.sub("", text, count=1)
-    name, _, operands = text.partition(" ")
-    made = Instruction(int(found[1], 16), name, operands.strip(), is_repeated)
-    if relocation:
-        named = NAMED.match(relocation[2])
-        made.symbol, made.offset = (named[1], int(named[2] or "0", 16)) if named else ("", 0)
-        made.is_by_table = "GOTPCREL" in relocation[1]
+def relocations(elf: ELFFile, section: Section) -> dict[int, tuple[str, int, bool]]:
+    """The relocated words of a section, by their places: the symbol, or the section that it stands for, what is added
+    to it, and whether it goes by the table of global offsets."""
+    table, found = elf.get_section_by_name(f".rela{section.name}"), {}
+    if not isinstance(table, RelocationSection):
+        return {}
+    symbols = elf.get_section(table["sh_link"])
+    for each in table.iter_relocations():
+        symbol = symbols.get_symbol(each["r_info_sym"])
+        is_section = symbol["st_info"]["type"] == "STT_SECTION"
+        name = elf.get_section(symbol["st_shndx"]).name if is_section else symbol.name
+        found[each["r_offset"]] = name, each["r_addend"], each["r_info_type"] in BY_TABLE
+    return found
+
+
+def instruction(each: CsInsn, words: dict[int, tuple[str, int, bool]]) -> Instruction:
+    """An instruction, with what its relocation says."""
+    made = Instruction(each.address, name_of(each), operands_of(each), is_repeated(each))
+    for at in range(each.address, each.address + each.size):
+        if at in words:
+            made.symbol, made.offset, made.is_by_table = words[at]
     return made
 
 
+def starts_in(elf: ELFFile, number: int) -> dict[int, str]:
+    """Where functions of a section begin, by the names of its symbols but the labels of the compiler. Of several names
+    of one place that of a function counts, and then a global one."""
+    table, found = elf.get_section_by_name(".symtab"), dict[int, tuple[bool, bool, str]]()
+    for symbol in table.iter_symbols() if table is not None else ():
+        kind, binding = symbol["st_info"]["type"], symbol["st_info"]["bind"]
+        if symbol["st_shndx"] != number or kind in ("STT_SECTION", "STT_FILE") or symbol.name.startswith(".L"):
+            continue
+        at, rank = symbol["st_value"], (kind != "STT_FUNC", binding == "STB_LOCAL", symbol.name)
+        found[at] = min(rank, found.get(at, rank))
+    return {at: rank[2] for at, rank in sorted(found.items())}
+
+
 def functions(path: Path) -> Iterator[Function]:
-    """The functions of an object, whose jumps and calls lead nowhere yet."""
-    section, function = "", None
-    for line in printed(*DUMP, path).splitlines():
-        if found := SECTION.match(line):
-            section = found[1]
-        elif found := HEAD.match(line):
-            # labels of the compiler are no functions
-            if function is None or not found[2].startswith(".L") or section != function.begin.section:
-                if function is not None:
-                    yield function
-                function = Function(found[2], Place(section, int(found[1], 16)))
-        elif function is not None and (made := instruction(line)):
-            function.code.append(made)
-    if function is not None:
-        yield function
+    """The functions of an object, whose jumps and calls lead nowhere yet. One whose bytes are no instructions ends
+    there."""
+    with path.open("rb") as file:
+        elf = ELFFile(file)
+        for number, section in enumerate(elf.iter_sections()):
+            if not section["sh_flags"] & SH_FLAGS.SHF_EXECINSTR or not section.data_size:
+                continue
+            data, words, starts = section.data(), relocations(elf, section), starts_in(elf, number)
+            for begin, end in zip(starts, [*list(starts)[1:], len(data)]):
+                code = [instruction(each, words) for each in decoded(data[begin:end], begin)]
+                yield Function(starts[begin], Place(section.name, begin), code)
 
 
 def aim(function: Function, symbols: dict[str, Place], starts: dict[Place, str]) -> None:

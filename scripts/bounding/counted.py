@@ -1,5 +1,6 @@
 """What callgrind counts of a call in a program: how often each instruction of the library ran, and so how often its
 loops turned."""
+from __future__ import annotations
 
 import re
 import subprocess
@@ -8,10 +9,10 @@ from collections.abc import Iterator
 from dataclasses import dataclass
 from pathlib import Path
 
-from bounding.code import printed
-from bounding.flow import Loop
-from bounding.library import Known
-from bounding.work import Turns
+from scripts.bounding.code import printed
+from scripts.bounding.flow import Loop
+from scripts.bounding.library import Known
+from scripts.bounding.work import Turns
 
 OPTIONS = ["-q", "--tool=callgrind", "--dump-instr=yes", "--dump-line=no", "--compress-pos=no", "--compress-strings=no"]
 COST = re.compile(r"^0x([0-9a-f]+) (\d+)$")

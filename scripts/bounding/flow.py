@@ -1,13 +1,14 @@
 """Which instruction of a function may follow which, and its loops. A loop is a strongly connected part, with the
 instructions by which it is entered, and its inner loops are what is strongly connected in it where no way leads back
 to these. So a loop with several entries is one too."""
+from __future__ import annotations
 
 from collections.abc import Iterator, Mapping, Sequence
 from dataclasses import dataclass, field
 from hashlib import sha256
 from typing import TypeVar
 
-from bounding.code import ENDS, Function, Instruction, Refused
+from scripts.bounding.code import ENDS, Function, Instruction, Refused
 
 Ways = Mapping[int, frozenset[int]]
 

@@ -1,12 +1,13 @@
 """How deep a function uses the stack: what it pushes and takes off the stack pointer, what an alignment of it may take,
 and what is touched below it (the red zone). A depth is counted in bytes from the caller's frame down, with the return
 address of the call. What moves the stack pointer by anything but a constant is refused."""
+from __future__ import annotations
 
 import re
 from collections.abc import Sequence
 from dataclasses import dataclass, field
 
-from bounding.code import Function, Instruction, Refused
+from scripts.bounding.code import Function, Instruction, Refused
 
 WORD = 8
 ALL_BITS = 1 << 64

@@ -1,13 +1,14 @@
 """The functions of a library, each with its frame and its loops or why it is refused, and who calls whom."""
+from __future__ import annotations
 
 from collections.abc import Iterator
 from dataclasses import dataclass, field
 from pathlib import Path
 
-from bounding.code import Function, Refused
-from bounding.flow import Loop, Part, body, followers
-from bounding.frames import Frame, frame_of
-from bounding.objects import Object, objects_of
+from scripts.bounding.code import Function, Refused
+from scripts.bounding.flow import Loop, Part, body, followers
+from scripts.bounding.frames import Frame, frame_of
+from scripts.bounding.objects import Object, objects_of
 
 
 @dataclass

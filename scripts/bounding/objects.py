@@ -1,19 +1,20 @@
 """Objects, and the archives of them: their symbols, and the tables by which a function jumps."""
+from __future__ import annotations
 
-import re
 from collections.abc import Callable, Iterator
 from contextlib import contextmanager
 from dataclasses import dataclass
 from pathlib import Path
 from tempfile import TemporaryDirectory
 
-from bounding.code import AFTER_OPERAND, Function, Instruction, Place, Refused, aim, functions, printed
+from elftools.elf.elffile import ELFFile
+from elftools.elf.enums import ENUM_RELOC_TYPE_x64
+from elftools.elf.relocation import RelocationSection
+
+from scripts.bounding.code import AFTER_OPERAND, Function, Instruction, Place, Refused, aim, functions, printed
 
 ARCHIVE = b"!<arch>\n"
-HEADER = re.compile(r"^\s*\[\s*(\d+)\]\s+(\S+)\s+[A-Z]")
-SYMBOL = re.compile(r"^\s*\d+:\s+([0-9a-f]+)\s+\S+\s+(\w+)\s+\w+\s+\w+\s+(\w+)\s?(.*)$")
-RELOCATED = re.compile(r"^Relocation section '\.rela(\..*)' at")
-ENTRY = re.compile(r"^([0-9a-f]+)\s+[0-9a-f]+\s+R_X86_64_(\w+)\s+[0-9a-f]+\s+(\S.*?) ([+-]) ([0-9a-f]+)$")
+R_X86_64_64 = ENUM_RELOC_TYPE_x64["R_X86_64_64"]  # the whole address
 CONSTANTS = (".rodata", ".data.rel.ro")
 DISTANCE = 4  # the bytes of a word of a table that holds distances
 
@@ -32,7 +33,7 @@ class Object:
 
     def __init__(self, path: Path) -> None:
         self.symbols = symbols(path)
-        self.entries = {entry.word: entry for entry in entries(path, self.symbols)}
+        self.entries = {entry.word: entry for entry in entries(path)}
         self.functions = [each for each in functions(path) if each.code]
         starts = {each.begin: each.name for each in reversed(self.functions)}
         for each in self.functions:
@@ -102,32 +103,47 @@ def base_before(
     return None
 
 
-def symbols(path: Path) -> dict[str, Place]:
-    """The place of each symbol by its name, and of each section by its own; without a section for what is elsewhere.
-    Two sections of code with one name are refused."""
-    sections: dict[str, str] = {}
-    found: dict[str, Place] = {}
-    for line in printed("readelf", "--wide", "--section-headers", "--symbols", path).splitlines():
-        if header := HEADER.match(line):
-            if header[2].startswith(".text") and header[2] in sections.values():
-                raise Refused(f"two sections of {path.name} are named {header[2]}")
-            sections[header[1]] = header[2]
-        elif symbol := SYMBOL.match(line):
-            section = sections.get(symbol[3], "")
-            name = section if symbol[2] == "SECTION" else symbol[4].strip()
-            found[name] = Place(section, int(symbol[1], 16))
+def section_names(elf: ELFFile) -> list[str]:
+    """The names of an object's sections, by their numbers. Two sections of code with one name are refused."""
+    names = [section.name for section in elf.iter_sections()]
+    for name in names:
+        if name.startswith(".text") and names.count(name) > 1:
+            raise Refused(f"two sections of {Path(elf.stream.name).name} are named {name}")
+    return names
+
+
+def places_of(elf: ELFFile) -> list[tuple[str, Place]]:
+    """The name and the place of each symbol, by its number: a section's symbol by the name of the section; without a
+    section for what is elsewhere."""
+    sections, table, found = section_names(elf), elf.get_section_by_name(".symtab"), []
+    for symbol in table.iter_symbols() if table is not None else ():
+        number = symbol["st_shndx"]
+        section = sections[number] if isinstance(number, int) else ""
+        name = section if symbol["st_info"]["type"] == "STT_SECTION" else symbol.name
+        found.append((name, Place(section, symbol["st_value"])))
     return found
 
 
-def entries(path: Path, places: dict[str, Place]) -> Iterator[TableEntry]:
+def symbols(path: Path) -> dict[str, Place]:
+    """The place of each symbol by its name, and of each section by its own."""
+    with path.open("rb") as file:
+        return dict(places_of(ELFFile(file)))
+
+
+def entries(path: Path) -> Iterator[TableEntry]:
     """The words of the constants that hold places of the same object."""
-    section = ""
-    for line in printed("readelf", "--wide", "--relocs", path).splitlines():
-        if found := RELOCATED.match(line):
-            section = found[1]
-        elif section.startswith(CONSTANTS) and (found := ENTRY.match(line)) and found[3] in places:
-            to, more = places[found[3]], int(f"{found[4]}{found[5]}", 16)
-            yield TableEntry(Place(section, int(found[1], 16)), found[2] != "64", Place(to.section, to.at + more))
+    with path.open("rb") as file:
+        elf = ELFFile(file)
+        places = places_of(elf)
+        for section in elf.iter_sections():
+            name = section.name.removeprefix(".rela")
+            if not isinstance(section, RelocationSection) or not name.startswith(CONSTANTS):
+                continue
+            for each in section.iter_relocations():
+                to, is_word = places[each["r_info_sym"]][1], each["r_info_type"] == R_X86_64_64
+                if to.section:
+                    at = Place(to.section, to.at + each["r_addend"])
+                    yield TableEntry(Place(name, each["r_offset"]), not is_word, at)
 
 
 @contextmanager

@@ -1,23 +1,24 @@
 """What the pages have of the bounds: the table of calls, and the sentence on a reading."""
+from __future__ import annotations
 
-from bounding.calls import Bounds
-from bounding.table import Table
-from pages import Part
-from specs import ROOT
+from scripts.bounding.calls import Bounds
+from scripts.bounding.table import Table
+from scripts.pages.part import Part
+from scripts.pages.specs import ROOT
 
 TABLE = Part(
     "bounds",
     ROOT / "docs" / "FROM-C.md",
-    "<!-- The bounds from here on are written by scripts/bounds. -->",
+    "<!-- The bounds from here on are written by scripts/house write bounds. -->",
     "<!-- The bounds end here. -->",
-    "scripts/bounds write",
+    "scripts/house write bounds",
 )
 SENTENCE = Part(
     "bounds",
     ROOT / "docs" / "INTEGRATION.md",
-    "<!-- The bounds from here on are written by scripts/bounds. -->",
+    "<!-- The bounds from here on are written by scripts/house write bounds. -->",
     "<!-- The bounds end here. -->",
-    "scripts/bounds write",
+    "scripts/house write bounds",
 )
 MOVES = ("memcpy", "memmove", "memset")
 

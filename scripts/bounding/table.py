@@ -1,22 +1,24 @@
 """scripts/bounds.toml: what each loop of the machine code walks, how often that turns at most, and which clause says
 so. A loop is known by its function, its number there, and its shape."""
+from __future__ import annotations
 
 import ast
 import operator
 import re
-import tomllib
 from collections.abc import Callable, Iterable, Iterator
 from dataclasses import dataclass
 from pathlib import Path
 from typing import Any
 
-from bounding.code import Refused
-from bounding.flow import Loop
-from bounding.library import Known
-from bounding.work import Turns
-from citations import contracts, sources
-from edits import clauses_of, named
-from specs import definitions, spec_files
+import tomllib
+
+from scripts.bounding.code import Refused
+from scripts.bounding.flow import Loop
+from scripts.bounding.library import Known
+from scripts.bounding.work import Turns
+from scripts.editing.functions import clauses_of, named
+from scripts.pages.citations import contracts, sources
+from scripts.pages.specs import definitions, spec_files
 
 FIELD = re.compile(r"^\s+pub (\w+) :", re.M)
 CONSTANT = re.compile(r"^(?:pub(?:\(crate\))? )?const (\w+): \w+ = (\d+);", re.M)

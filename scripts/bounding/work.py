@@ -3,13 +3,14 @@ function. A loop that turns so often runs as many times its heaviest way from an
 heaviest way from an entry to where it is left and on from there. Where it calls less often than it turns, so many of
 its ways back may call, and the others are the heaviest ones without a call. Each call returns, and an inner loop stands
 for all its turns."""
+from __future__ import annotations
 
 from collections.abc import Callable, Mapping
 from dataclasses import dataclass, field, replace
 
-from bounding.code import Instruction, Refused
-from bounding.flow import Loop, Part
-from bounding.library import Known, Library
+from scripts.bounding.code import Instruction, Refused
+from scripts.bounding.flow import Loop, Part
+from scripts.bounding.library import Known, Library
 
 Count = Callable[[Instruction], int]
 COUNTS: dict[str, Count] = {

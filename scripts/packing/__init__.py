@@ -1,5 +1,5 @@
-"""What scripts/release packs: an archive and two Debian packages, of a program and a library that were built. Nothing
-here builds either of them, or knows whether it was proved: scripts/release sees to that.
+"""What `scripts/house release` packs: an archive and two Debian packages, of a program and a library that were built.
+Nothing here builds either of them, or knows whether it was proved, but `release`, which sees to that.
 
 facts       what is told of a release: version, commit, time, toolchain
 library     libsdm.a and libsdm.so, of the library that the crate sdm_c is built to

@@ -1,9 +1,10 @@
 """The tar file of a release."""
+from __future__ import annotations
 
 from pathlib import Path
 
-from . import bill, python, sums, tree
-from .facts import Contents, Release, filled, ran
+from scripts.packing import bill, python, sums, tree
+from scripts.packing.facts import Contents, Release, filled, ran
 
 
 def pack_folder(release: Release, top: Path, to: Path) -> None:

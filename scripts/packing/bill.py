@@ -1,4 +1,5 @@
 """The bill of materials, in SPDX 2.3: the files of a release, what was linked into them, and what built them."""
+from __future__ import annotations
 
 import hashlib
 import json
@@ -7,8 +8,8 @@ from datetime import datetime, timezone
 from pathlib import Path
 from typing import Any
 
-from . import sums
-from .facts import Contents, Release, ran
+from scripts.packing import sums
+from scripts.packing.facts import Contents, Release, ran
 
 PLACE = "share/doc/sdm/sdm.spdx.json"
 UNKNOWN = "NOASSERTION"  # what SPDX says where nothing is claimed

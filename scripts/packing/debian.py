@@ -1,13 +1,14 @@
 """The Debian packages of a release, by Debian's own tools: dpkg-shlibdeps tells what one depends on, dpkg-gensymbols
 and dpkg-gencontrol write what dpkg reads, dpkg-deb packs it. `sdm` has what the archive has, but for the wheel;
 `python3-sdm` has the Python package."""
+from __future__ import annotations
 
 import hashlib
 from email.utils import formatdate
 from pathlib import Path
 
-from . import bill, python, sums, tree
-from .facts import Contents, Release, filled, ran
+from scripts.packing import bill, python, sums, tree
+from scripts.packing.facts import Contents, Release, filled, ran
 
 LIBRARIES = "lib/x86_64-linux-gnu"
 DOCUMENTS = "share/doc/sdm"

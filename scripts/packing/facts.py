@@ -1,4 +1,5 @@
 """What is told of a release, and the commands that it is made by."""
+from __future__ import annotations
 
 import os
 import subprocess
@@ -32,7 +33,7 @@ class Release:
     epoch: int  # the commit's time, in s
     author: str  # of the commit, with an address
     kit: str  # what `rt version` prints
-    sources: str  # the checksum of the sources, as scripts/program has it
+    sources: str  # the checksum of the sources, as scripts/house program has it
     layout: int  # SDM_LAYOUT
     calls: tuple[str, ...]  # of c/sdm.h
 

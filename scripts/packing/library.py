@@ -1,10 +1,11 @@
 """libsdm.a and libsdm.so: the library that the crate sdm_c is built to, with the texts of statuses and a heap over
 malloc, which a program that defines a heap of its own leaves out. The shared library has the calls of c/sdm.h, each
 with the version of the layout, and shows nothing else."""
+from __future__ import annotations
 
 from pathlib import Path
 
-from .facts import Contents, Release, ran
+from scripts.packing.facts import Contents, Release, ran
 
 BESIDE = ["sdm_text", "heap_malloc"]  # of c/, in the libraries beside the crate's
 COMPILE = ["cc", "-std=c11", "-O2", "-fPIC"]

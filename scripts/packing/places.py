@@ -1,8 +1,9 @@
 """What stands where below a prefix: by the path in the repository."""
+from __future__ import annotations
 
 from pathlib import PurePosixPath
 
-from .facts import Fault
+from sdm.laboratory.program import Fault
 
 PAGES = "share/doc/sdm/html"
 WHOLE = {  # these files

@@ -1,5 +1,6 @@
 """The Python package of a release: a wheel for pip, which has the shared library in it, and the files of a Debian
 package, which takes the library of the package sdm."""
+from __future__ import annotations
 
 import re
 import shutil
@@ -7,8 +8,9 @@ import sys
 from pathlib import Path
 from zipfile import ZipFile
 
-from . import tree
-from .facts import Contents, Fault, Release, filled, ran
+from scripts.packing import tree
+from scripts.packing.facts import Contents, Release, filled, ran
+from sdm.laboratory.program import Fault
 
 SYSTEM = "manylinux_2_34_x86_64"  # what pip calls an x86-64 Linux with that C library or a later one
 MODULES = "lib/python3/dist-packages"

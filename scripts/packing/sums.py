@@ -1,4 +1,5 @@
 """Checksums, as sha256sum writes and checks them."""
+from __future__ import annotations
 
 from pathlib import Path
 

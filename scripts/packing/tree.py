@@ -1,4 +1,5 @@
 """All files of a release below a prefix, with their modes and times."""
+from __future__ import annotations
 
 import os
 import posixpath
@@ -6,11 +7,10 @@ import shutil
 from concurrent.futures import ThreadPoolExecutor
 from pathlib import Path
 
+from scripts.packing import library, web
+from scripts.packing.facts import Contents, Release, filled
+from scripts.packing.places import place_of, place_or_none
 from sdm.laboratory.program import sum_of
-
-from . import library, web
-from .facts import Contents, Release, filled
-from .places import place_of, place_or_none
 
 
 def packed_files(files: Path) -> list[str]:

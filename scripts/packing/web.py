@@ -1,5 +1,6 @@
 """The pages as HTML, by pandoc. A link leads where its target stands below the prefix; one to what isn't packed becomes
 plain text."""
+from __future__ import annotations
 
 import json
 import posixpath
@@ -9,8 +10,9 @@ from pathlib import Path
 from typing import Any
 from urllib.parse import quote, unquote
 
-from .facts import TEMPLATES, Fault, Release, ran
-from .places import place_of, place_or_none
+from scripts.packing.facts import TEMPLATES, Release, ran
+from scripts.packing.places import place_of, place_or_none
+from sdm.laboratory.program import Fault
 
 ELSEWHERE = re.compile(r"^[a-z][a-z0-9+.-]*:", re.I)
 

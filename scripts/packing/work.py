@@ -1,13 +1,15 @@
 """Packs a release: the archive, the Debian packages and their checksums, twice in two folders, and only where both are
 the same."""
+from __future__ import annotations
 
 import filecmp
 import shutil
 import tempfile
 from pathlib import Path
 
-from . import archive, debian, sums, tree
-from .facts import Contents, Fault, Release, ran
+from scripts.packing import archive, debian, sums, tree
+from scripts.packing.facts import Contents, Release, ran
+from sdm.laboratory.program import Fault
 
 
 def files_of(release: Release, into: Path) -> Path:

@@ -1,4 +1,5 @@
 """Copies of the repository, in which faults are planted, and a program that stands in for the built one there."""
+from __future__ import annotations
 
 import compileall
 import os
@@ -17,19 +18,19 @@ SECONDS = 300  # the longest that a script may take
 # The model, with what Python compiles of it beside it: else each of its starts, of which there are hundreds, would
 # compile it anew.
 SCRATCH = tempfile.TemporaryDirectory()
-shutil.copytree(TOP / "python" / "sdm", Path(SCRATCH.name) / "sdm")
+shutil.copytree(TOP / "python" / "sdm_evidence", Path(SCRATCH.name) / "sdm_evidence")
 compileall.compile_dir(SCRATCH.name, quiet=1)
-MODEL = f"PYTHONPATH={SCRATCH.name} {sys.executable} -S -B -m sdm.model"
+MODEL = f"PYTHONPATH={SCRATCH.name} {sys.executable} -S -B -m sdm_evidence.model"
 
-PACKAGE = "python/sdm"  # every script ends as the package's tools do
+PACKAGES = ["python/sdm", "python/sdm_evidence"]  # every script ends as the package's tools do
 
 
 @contextmanager
 def a_copy(parts: list[str]) -> Iterator[Path]:
     """A copy of the files that are kept of some parts of the repository, as a repository of its own. Parts are told as
-    to git; the whole takes seconds to copy, so a copy has what the script under test reads, and the package."""
+    to git; the whole takes seconds to copy, so a copy has what the script under test reads, and the packages."""
     if not all(part.startswith(":!") for part in parts):
-        parts = [*parts, PACKAGE]
+        parts = [*parts, *PACKAGES]
     words = ["git", "-C", str(TOP), "ls-files", "-z", "--cached", "--others", "--exclude-standard", "--", *parts]
     names = subprocess.run(words, check=True, capture_output=True, text=True).stdout.split("\0")
     with tempfile.TemporaryDirectory() as scratch:
@@ -42,7 +43,7 @@ def a_copy(parts: list[str]) -> Iterator[Path]:
         yield top
 
 
-def ended(top: Path, *words: str, path: str | None = None) -> tuple[int, str]:
+def ended(top: Path, *words: str, path: str | None = None, seconds: int = SECONDS) -> tuple[int, str]:
     """The exit status of a script of a copy, and all that it told. On the path that it has by itself, the Python of
     these tests comes first: there `python3` may be a script that looks for it."""
     path = path or f"{Path(sys.executable).parent}:{os.environ['PATH']}"
@@ -55,7 +56,7 @@ def ended(top: Path, *words: str, path: str | None = None) -> tuple[int, str]:
         stderr=subprocess.STDOUT,
         text=True,
         errors="replace",
-        timeout=SECONDS,
+        timeout=seconds,
         check=False,
     )
     return done.returncode, done.stdout
@@ -97,7 +98,7 @@ def stand_in(top: Path, filtered: str = "cat", status: str = "", name: str = "cr
 
 def mark(top: Path) -> tuple[int, str]:
     """Marks the program of a copy as of its sources."""
-    return ended(top, "scripts/program", "mark", ended(top, "scripts/program", "sources")[1].strip())
+    return ended(top, "scripts/house", "program", "mark", ended(top, "scripts/house", "program", "sources")[1].strip())
 
 
 def marked_as_it_is(top: Path, product: str = "PROGRAM") -> None:

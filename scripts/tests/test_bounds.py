@@ -1,5 +1,6 @@
 """scripts/bounds over small programs: it refuses what it can't bound, and what it bounds takes no more. Stacks are
 painted, frames are the compiler's, and instructions are counted by hand."""
+from __future__ import annotations
 
 import subprocess
 import tempfile
@@ -7,12 +8,12 @@ import unittest
 from dataclasses import replace
 from pathlib import Path
 
-from bounding.calls import Bounds, bounds_of, run_by
-from bounding.code import Refused
-from bounding.library import Library
-from bounding.table import Bad, Outside, Row, Size, Table, Walk, clause_faults, read, row_faults, rows_anew
-from bounding.work import COUNTS, Work
-from bounds import TABLE
+from scripts.bounding.bounds import TABLE
+from scripts.bounding.calls import Bounds, bounds_of, run_by
+from scripts.bounding.code import Refused
+from scripts.bounding.library import Library
+from scripts.bounding.table import Bad, Outside, Row, Size, Table, Walk, clause_faults, read, row_faults, rows_anew
+from scripts.bounding.work import COUNTS, Work
 
 SOURCES = Path(__file__).parent / "bounded"
 
@@ -127,8 +128,8 @@ class Counted(unittest.TestCase):
             "inner": Walk("here", "inner", "halvings(many) + 1", clause="sdm_num::Speed::new"),
             "entered": Walk("here", "two entries", "many", missing="a clause"),
         }
-        self.table = table_of(**self.walks)
-        self.names = {"nested": ["outer", "inner"], "entered_twice": ["entered"], "caller": []}
+        self.table = table_of(None, **self.walks)
+        self.names: dict[str, list[str]] = {"nested": ["outer", "inner"], "entered_twice": ["entered"], "caller": []}
         for name, walks in self.names.items():
             self.named(name, **{walk: self.walks[walk] for walk in walks})
 

@@ -1,60 +1,84 @@
-"""try-edits tells which refusals come from no clause, by what the prover said of them."""
+"""`scripts/house check edits` tells which edits aren't refused by the goal that their files name, over the crates of
+edited.txt and over what the prover told of others."""
 
-import shutil
+from __future__ import annotations
 
-from .test_program import OverACopy
+import unittest
+from pathlib import Path
 
-REFUSED = "refused, as it must be"
-NOTE = f"{REFUSED}: note: src/lib.rt:58:1: it is not proved that"
-TOLD = {
-    "by_a_clause": f"{NOTE} what the function ensures holds when it returns (`returns-then-held`); "
-    "the facts known there allow",
-    "by_a_requires": f"{NOTE} what `way_to` requires holds at this call (`way_to-requires`); "
-    "the facts known there allow values",
-    "by_a_sum": f"{NOTE} the sum fits its type (`overflow_add-x`)",
-    "by_what_is_reached": f"{NOTE} control never comes here (at a `prove!`, that its condition holds: the goal is `⊥`, "
-    "so show that",
-    "by_a_name": f"{REFUSED} (only because a proof file names what the edit took away, "
-    "so this says little of the contract: "
-    "change a value and keep the names): proofs/judge/Answers.antt:23:5: error: `c.early` is not in scope",
-    "proved": "NOT REFUSED: the crate is still proved with this edit",
-    "unread": "BAD EDIT: an 'old:' text is in src/lib.rt 0 times, and not once",
+from scripts.editing.heard import Kind, heard, kind_of
+from scripts.tests import copies
+
+PROVER_SECONDS = 1200  # a minute of processor time on one that nothing else uses
+
+# edit -> what refuses it by its file, its changes, and what must be told
+FAULTS = {
+    "other_order": ("low::more value", "    n + 1", "    1 + n", "low::more is proved with it"),
+    "five_is_less": ("low::at_least_5 least", "if n < 5 {", "if n < 6 {", "it is refused by a name alone: `returns`"),
+    "same_number": ("low::more small", "    n + 1", "    n", "another clause of low::more refuses it"),
+    "one_past_the_greatest": ("low::first", "more(0)", "more(100)", "it is refused by a `requires` alone"),
+    "another_function": ("low::more value", "    next + 1", "    next", "low::more is proved with it"),
+    "not_there": ("low::more value", "    n + 17", "    n", "`n + 17` is 0 times in src/lib.rt"),
+    "no_such_name": ("low::more value", "    n + 1", "    n + x", "it doesn't compile"),
+    "no_such_clause": ("low::more values", "    n + 1", "    n", "low::more has no clause values"),
+    "unmarked": ("", "    n + 1", "    n", "its file has no line `# refused-by:`"),
 }
-# fmt: off
-CAUSES = {"by_a_requires": "a requires", "by_a_sum": "safety", "by_what_is_reached": "safety", "by_a_name": "a name",
-          "proved": "not refused", "unread": "not tried", "unheard": "not tried"}
-# fmt: on
+GOALS = {
+    "returns-then-grains-clause-value": Kind.CLAUSE,
+    "loop-band-preserved": Kind.INVARIANT,
+    "invariant_of-self-in_err-insert": Kind.INVARIANT,
+    "loop-band-smaller": Kind.MEASURE,
+    "of_cm-requires-clause-range": Kind.REQUIRES,
+    "overflow_add-sum": Kind.SAFETY,
+    "bounds-cells-k": Kind.SAFETY,
+}
+# A proof that names what is gone, what rests on it, and a goal that isn't proved beside it.
+TOLD = """./proofs/judge/Answers.antt:23:5: error: `returns-clause-held`: `c.early` is not in scope
+./proofs/judge/Answers.antt:25:5: error: 1 declaration that depends on `returns-clause-held`, which was rejected, was \
+not checked: returns-clause-after
+fn low::judge: no proof: expected answers in ./proofs/judge/Answers.antt; `search` did not prove `returns-clause-status`
+fn low::row: no proof: it calls `low::judge`, which is not proved
+only=2 proved=0
+"""
 
 
-class Edits(OverACopy):
-    parts = ["crates.txt", "crates/sdm_state/must-fail", "crates/sdm_state/src", "scripts"]
+def repository(top: Path) -> None:
+    """Puts the files of edited.txt into a copy, each below its path there."""
+    for part in (top / "scripts" / "tests" / "edited.txt").read_text().split("\n== ")[1:]:
+        name, _, text = part.partition("\n")
+        (top / name).parent.mkdir(parents=True, exist_ok=True)
+        (top / name).write_text(f"{text.rstrip()}\n")
 
-    def test_each_cause_is_told(self):
-        folder = self.top / "crates/sdm_state/must-fail"
-        shutil.rmtree(folder)
-        folder.mkdir()
-        for name in [*TOLD, "unheard"]:
-            (folder / f"{name}.edit").write_text("")
-        log = self.top / "told"
-        log.write_text("".join(f"rt: must-fail sdm_state/{name}.edit: {said}\n" for name, said in TOLD.items()))
-        told = self.told("scripts/try-edits", "--read", str(log))
-        for name, cause in CAUSES.items():
-            self.assertIn(f"sdm_state/{name}.edit: {cause}: ", told)
-        self.assertNotIn("by_a_clause", told)
 
-    def test_no_edit_is_a_fault(self):
-        (self.top / "told").write_text("")
-        self.assertIn("there is no edit", self.told("scripts/try-edits", "--read", str(self.top / "told")))
+class Edits(unittest.TestCase):
+    def test_each_fault_is_told(self) -> None:
+        with copies.a_copy(["scripts"]) as top:
+            repository(top)
+            for name, (refuser, old, new, _) in FAULTS.items():
+                mark = f"# refused-by: {refuser}\n" if refuser else ""
+                text = f"{mark}file: src/lib.rt\nold: {old}\nnew: {new}\n"
+                (top / "crates" / "low" / "edits" / f"{name}.edit").write_text(text)
+            status, told = copies.ended(top, "scripts/house", "check", "edits", "--jobs", "1", seconds=PROVER_SECONDS)
+        for name, (*_, why) in FAULTS.items():
+            with self.subTest(name):
+                self.assertIn(f"low/{name}: FAILED: {why}", told)
+        self.assertEqual(status, 1, told)
+        # those that lie there pass: of functions, one of which calls another, and of a constant of a crate below
+        self.assertEqual(told.splitlines()[-1], f"edits: 5 passed, {len(FAULTS)} failed", told)
 
-    def test_a_mark_is_held_against_the_prover_and_written(self):
-        edit = self.top / "crates/sdm_state/must-fail/early_release_while_over.edit"
-        edit.write_text("# refused-by: sdm_state::judge\nfile: src/lib.rt\n")
-        line = (self.top / "crates/sdm_state/src/lib.rt").read_text().partition("pub fn next(")[0].count("\n") + 1
-        log = self.top / "told"
-        log.write_text(
-            f"must-fail sdm_state/{edit.name}: {REFUSED}: note: src/lib.rt:{line}:1: it is not proved (`returns`)\n"
-        )
-        wrong = f"sdm_state/{edit.name}: another clause: sdm_state::next, and not sdm_state::judge: "
-        self.assertIn(wrong, self.told("scripts/try-edits", "--read", str(log)))
-        self.assertNotIn(wrong, self.told("scripts/try-edits", "--mark", str(log)))
-        self.assertEqual(edit.read_text(), "# refused-by: sdm_state::next\nfile: src/lib.rt\n")
+    def test_no_edit_is_a_fault(self) -> None:
+        with copies.a_copy(["scripts"]) as top:
+            repository(top)
+            for path in top.glob("crates/*/*/*.edit"):
+                path.unlink()
+            self.assertEqual(copies.ended(top, "scripts/house", "check", "edits")[0], 1)
+
+    def test_only_what_a_function_promises_counts(self) -> None:
+        for goal, kind in GOALS.items():
+            self.assertEqual(kind_of(goal), kind, goal)
+
+    def test_what_a_name_keeps_from_being_checked_is_no_refusal(self) -> None:
+        told = heard("low", [], TOLD)
+        counted = [each.goal for each in told.of("judge") if each.counts()]
+        self.assertEqual(counted, ["returns-clause-status"])
+        self.assertEqual(told.of("row"), [])

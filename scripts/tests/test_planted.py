@@ -1,13 +1,16 @@
 """Each check of the gate fails over a copy of the repository in which a fault is planted, and tells it."""
+from __future__ import annotations
 
 import os
-import unittest
-from concurrent.futures import ThreadPoolExecutor
+from concurrent.futures import Future, ThreadPoolExecutor
 from contextlib import contextmanager
 from pathlib import Path
 from typing import Iterator, NamedTuple
 
-from . import copies
+import pytest
+
+from scripts.table import CHECKS
+from scripts.tests import copies
 
 
 class Fault(NamedTuple):
@@ -21,11 +24,12 @@ class Fault(NamedTuple):
 
 # What the copies for a check have of the repository: what it reads.
 SPECS = ["docs", "scripts", "crates.txt", "crates/*/src/*", "crates/*/specs/*"]
-PARTS = {
+PARTS: dict[str, list[str]] = {
     "believed": [*SPECS, "c/*.h"],
     "clauses": ["docs", "scripts"],
     "crates": ["docs", "scripts", "crates.txt"],
     "definitions": [*SPECS, "crates/*/proofs/*Cases.antt"],
+    "imports": ["scripts", "python"],
     "interface": ["c/sdm.h", "c/ada/sdm.ads", "crates/sdm_c/src/*", "scripts"],
     "laboratory": [
         "examples",
@@ -49,7 +53,7 @@ PARTS = {
     "plot": ["examples", "scripts", "tools", "python"],
     "python": [".ci", "bench", "python", "scripts", "tools", "vectors/maker"],
     "style": ["README.md", "docs", "scripts"],
-    "traces": [*SPECS, "README.md", "crates/*/proofs/*Cases.antt", "crates/*/must-fail/*"],
+    "traces": [*SPECS, "README.md", "crates/*/proofs/*Cases.antt", "crates/*/must-fail/*", "crates/*/edits/*"],
 }
 
 STALE = "stale, run scripts/"
@@ -74,20 +78,51 @@ PLANTED = [
     ),
     ("crates", [Fault("docs/ARCHITECTURE.md", r"^<!-- The table ends here. -->\n", "", "puts its part are gone")]),
     ("definitions", [Fault(DEFINITIONS, r"^(\| `\w+` .*\n)(\| `\w+` .*\n)", r"\2\1", STALE)]),
-    ("definitions", [Fault(DEFINITIONS, r"^Own because this is the program's interface\.\n", "", STALE)]),
+    ("definitions", [Fault(DEFINITIONS, r"^(\| `millimetre` \| own \| grains of a) milli", r"\1 centi", STALE)]),
     (
         "definitions",
         [
             Fault(DEFINITIONS, r"^\| `is_released` .*\n", "", "no line for is_released"),
             Fault(COMMANDS, r"^-- the last status was .*\n", "", "is_alarm has no comment"),
             Fault(COMMANDS, r"^(-- the traction cut-off: .*) \(SUBSET[^)]*\)$", r"\1", "cut_off_after has no source"),
-            Fault("scripts/own-reasons.txt", r"^\S+/Commands\.antt: .*\n", "", "no reason for what is own in"),
             Fault(
                 "scripts/shown-by.txt",
                 " train_fault: sdm_library_tests::",
                 " train_fault: sdm_run_tests::",
                 "is no test of a function",
             ),
+        ],
+    ),
+    (
+        "imports",
+        [
+            Fault(
+                "python/sdm/curves.py",
+                "^from sdm.exact import",
+                "from sdm_evidence.makers.line import a_run\nfrom sdm.exact import",
+                "sdm.curves may not import sdm_evidence.makers.line",
+            ),
+            Fault(
+                "python/sdm_evidence/model/flat.py",
+                r"\Z",
+                "import sdm.laboratory\n",
+                "sdm_evidence.model.flat may not import sdm.laboratory",
+            ),
+            Fault(
+                "python/sdm_evidence/model/units.py",
+                r"\Z",
+                "from sdm_evidence.makers import line\n",
+                "sdm_evidence.model.units may not import sdm_evidence.makers",
+            ),
+            Fault(
+                "python/sdm/sweeps.py",
+                r"\Z",
+                "from sdm.exact import Supervisor\n",
+                "sdm.sweeps may not import sdm.exact",
+            ),
+            Fault("python/sdm/why.py", r"\Z", "from .rows import Row\n", "a relative import: .rows"),
+            Fault("python/pyproject.toml", r'"sdm_evidence"', '"sdm_evidence.makers"', "all but the makers"),
+            Fault("python/sdm/runs.py", r"\Z", "class Limit:\n    pass\n", "Limit is defined in sdm.records and in"),
         ],
     ),
     (
@@ -118,12 +153,24 @@ PLANTED = [
                 "c/ada/sdm.ads: the call sdm_limit: ",
             ),
             Fault("c/ada/sdm.ads", "Tco, Sb, Eb", "Tco, Eb, Sb", "c/ada/sdm.ads: the fields of sdm_row: "),
+            Fault(
+                "crates/sdm_c/src/lib.rt",
+                r"ensures before \{ before\.new ≡ before\.old \}",
+                "",
+                "crates/sdm_c/src: the call sdm_take_over: ",
+            ),
+            Fault(
+                "c/sdm.h",
+                r"const struct sdm_reading \*reading, struct sdm_row",
+                "struct sdm_reading *reading, struct sdm_row",
+                "the call sdm_cycle: ",
+            ),
         ],
     ),
     (
         "laboratory",
         [
-            Fault("python/sdm/model/flat.py", "front > end", "front >= end", "made: flat 10 51 "),
+            Fault("python/sdm_evidence/model/flat.py", "front > end", "front >= end", "made: flat 10 51 "),
             Fault("vectors/maker/refusals.py", "comes before a missing", "comes first", "made: data 139 557 "),
             Fault("vectors/DIGESTS", r"\Z", "more 1 6 0\n", "vectors/DIGESTS has: more 1 6 0"),
         ],
@@ -292,7 +339,7 @@ PLANTED = [
                 'Argument 1 to "section" has',
             ),
             Fault("python/sdm/curves.py", "^import csv$", "import csv\nimport os", "F401 'os' imported but unused"),
-            Fault("scripts/unit-tests", r'^cd "\$1"', "cd $1", "SC2086"),
+            Fault("scripts/python", r'^exec "\$python"', "exec $python", "SC2086"),
             Fault("tools/why", r"^command\(", "command( ", "black lays it out otherwise"),
         ],
     ),
@@ -314,34 +361,33 @@ def tried(planted: tuple[str, list[Fault]]) -> tuple[int, str]:
     with copied(script) as top:
         for fault in faults:
             copies.alter(top, fault.file, fault.pattern, fault.new)
-        return copies.ended(top, f"scripts/check-{script}")
+        return copies.ended(top, "scripts/house", "check", script)
 
 
-class Checks(unittest.TestCase):
-    def test_each_fault_is_told(self):
-        with ThreadPoolExecutor(len(os.sched_getaffinity(0))) as threads:
-            for (script, faults), (status, told) in zip(PLANTED, threads.map(tried, PLANTED)):
-                for fault in faults:
-                    with self.subTest(script, file=fault.file, new=fault.new):
-                        self.assertEqual(status, 1, told)
-                        self.assertIn(fault.told, told)
+@pytest.fixture(scope="module")
+def ends() -> Iterator[list[Future[tuple[int, str]]]]:
+    """How the checks end over their copies, tried side by side."""
+    with ThreadPoolExecutor(len(os.sched_getaffinity(0))) as threads:
+        yield [threads.submit(tried, planted) for planted in PLANTED]
 
-    def test_each_check_has_two_faults(self):
-        elsewhere = {
-            "model",
-            "upgrade",
-            "certificates",
-            "compilers",
-            "bounds",
-            "worked",
-            "live",
-            "c",
-            "library",
-            "rides",
-            "refused",
-            "scripts",
-            "release",
-        }  # test_program.py, test_bounds.py; by hand
-        names = {path.name.removeprefix("check-") for path in (copies.TOP / "scripts").glob("check-*")} - elsewhere
-        few = {name for name in names if sum(len(faults) for script, faults in PLANTED if script == name) < 2}
-        self.assertEqual(few, set())
+
+EACH = [(number, script, fault) for number, (script, faults) in enumerate(PLANTED) for fault in faults]
+
+
+@pytest.mark.parametrize(("number", "script", "fault"), EACH, ids=[f"{each[1]}: {each[2].file}" for each in EACH])
+def test_a_fault_is_told(ends: list[Future[tuple[int, str]]], number: int, script: str, fault: Fault) -> None:
+    status, told = ends[number].result()
+    assert status == 1, told
+    assert fault.told in told
+
+
+# These are tried over a program or a library, by test_program.py and test_bounds.py, or by hand.
+ELSEWHERE = set(
+    "model upgrade certificates compilers edits bounds worked examples live c library rides refused".split()
+)
+
+
+def test_each_check_has_two_faults() -> None:
+    names = {part.name for parts in CHECKS.values() for part in parts} - ELSEWHERE - {"scripts", "release"}
+    few = {name for name in names if sum(len(faults) for script, faults in PLANTED if script == name) < 2}
+    assert few == set()

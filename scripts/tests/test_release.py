@@ -1,6 +1,7 @@
 """What is packed: the libraries show the calls of the header and nothing else, links lead where their targets stand, an
 archive has the same bytes wherever it is made, and only a marked program and a clean work tree are packed. Over
 stand-ins, with nothing that a gate lacks; scripts/check-release tries the whole."""
+from __future__ import annotations
 
 import subprocess
 import tempfile
@@ -8,14 +9,12 @@ import unittest
 from pathlib import Path
 from zipfile import ZipFile
 
-from . import copies
-
-
-import header
-import manual
-import release
-from packing import archive, bill, library, places, python, sums, tree, web
-from packing.facts import Contents, Fault, Release
+from scripts.c import header
+from scripts.packing import archive, bill, library, places, python, release, sums, tree, web
+from scripts.packing.facts import Contents, Release
+from scripts.pages import manual
+from scripts.tests import copies
+from sdm.laboratory.program import Fault
 
 TEXT = header.text()
 CALLS = tuple(call.name for call in header.calls(TEXT))
@@ -46,7 +45,7 @@ class Scratch(unittest.TestCase):
 
 
 class Header(unittest.TestCase):
-    def test_each_declaration_is_a_call(self):
+    def test_each_declaration_is_a_call(self) -> None:
         declared = [
             line
             for line in TEXT.splitlines()
@@ -54,18 +53,18 @@ class Header(unittest.TestCase):
         ]
         self.assertEqual(len(declared), len(CALLS))
 
-    def test_each_answer_that_is_a_status_must_be_checked(self):
+    def test_each_answer_that_is_a_status_must_be_checked(self) -> None:
         unchecked = {call.name for call in header.calls(TEXT) if not call.must_be_checked}
         self.assertEqual(unchecked, {"sdm_layout", "sdm_status_text", "sdm_close"})
 
-    def test_each_language_has_each_status_by_its_number(self):
+    def test_each_language_has_each_status_by_its_number(self) -> None:
         wrapper, binding = ((copies.TOP / "c" / name).read_text() for name in ("sdm.hpp", "ada/sdm.ads"))
         for name, number in header.statuses(TEXT).items():
             self.assertIn(f"    {name.lower()} = SDM_{name},\n", wrapper)
             self.assertRegex(binding, rf"(?i)\n   {name} +: constant Word := {number};")
         self.assertEqual(len(header.statuses(TEXT)), 17)
 
-    def test_the_binding_is_of_the_headers_layout(self):
+    def test_the_binding_is_of_the_headers_layout(self) -> None:
         self.assertIn(
             f"Layout_Of_Binding : constant Word := {header.layout(TEXT)};", (copies.TOP / "c/ada/sdm.ads").read_text()
         )
@@ -79,7 +78,7 @@ class Libraries(Scratch):
         printed("ar", "rcsD", self.top / "libcalls.a", self.top / "calls.o")
         self.contents = Contents(Path("/bin/true"), self.top / "libcalls.a", copies.TOP, self.top)
 
-    def test_the_shared_library_shows_the_calls_with_their_version(self):
+    def test_the_shared_library_shows_the_calls_with_their_version(self) -> None:
         library.make_shared(RELEASE, self.contents, self.folder("scratch"), self.folder("lib"))
         shown = printed(
             "nm", "--dynamic", "--defined-only", "--with-symbol-versions", self.top / "lib" / "libsdm.so"
@@ -93,7 +92,7 @@ class Libraries(Scratch):
         self.assertEqual(dynamic.count("(NEEDED)"), 1)
         self.assertIn("[libc.so.6]", dynamic)
 
-    def test_the_static_library_shows_the_calls_and_a_heap_of_its_own_file(self):
+    def test_the_static_library_shows_the_calls_and_a_heap_of_its_own_file(self) -> None:
         library.make_static(RELEASE, self.contents, self.folder("scratch"), self.folder("lib"))
         lines = printed(
             "nm", "--extern-only", "--defined-only", "--format=just-symbols", self.top / "lib" / "libsdm.a"
@@ -104,7 +103,7 @@ class Libraries(Scratch):
         )
         self.assertIn("heap_malloc.o", printed("ar", "t", self.top / "lib" / "libsdm.a").split())
 
-    def test_a_library_that_asks_for_more_than_libc_is_not_linked(self):
+    def test_a_library_that_asks_for_more_than_libc_is_not_linked(self) -> None:
         (self.top / "calls.c").write_text("unsigned helper(void);\n" + ANSWERS)
         printed("cc", "-fPIC", "-c", "-o", self.top / "calls.o", self.top / "calls.c")
         printed("ar", "rcsD", self.top / "libcalls.a", self.top / "calls.o")
@@ -113,7 +112,7 @@ class Libraries(Scratch):
 
 
 class Pages(Scratch):
-    def test_what_is_packed_has_a_place(self):
+    def test_what_is_packed_has_a_place(self) -> None:
         for path, place in {
             "README.md": "share/doc/sdm/html/index.html",
             "docs/FORMATS.md": "share/doc/sdm/html/docs/FORMATS.html",
@@ -128,7 +127,7 @@ class Pages(Scratch):
         }.items():
             self.assertEqual(places.place_or_none(path), place)
 
-    def test_a_link_leads_to_where_its_target_stands(self):
+    def test_a_link_leads_to_where_its_target_stands(self) -> None:
         for page, target, to in [
             ("README.md", "docs/PROFILE.md#targets", "docs/PROFILE.html#targets"),
             ("docs/INTEGRATION.md", "../README.md", "../index.html"),
@@ -140,12 +139,12 @@ class Pages(Scratch):
         ]:
             self.assertEqual(web.target_of(page, target), to)
 
-    def test_a_link_to_what_is_not_packed_becomes_text(self):
+    def test_a_link_to_what_is_not_packed_becomes_text(self) -> None:
         text = [{"t": "Str", "c": "code"}]
         link = {"t": "Link", "c": [["", [], []], text, ["crates/sdm/src/main.rt", ""]]}
         self.assertEqual(web.linked("README.md", [link]), [{"t": "Span", "c": [["", ["elsewhere"], []], text]}])
 
-    def test_a_link_that_leads_nowhere_is_told(self):
+    def test_a_link_that_leads_nowhere_is_told(self) -> None:
         (self.top / "index.html").write_text('<a href="other.html#part">a</a><a href="#here">b</a><h1 id="here">c</h1>')
         (self.top / "other.html").write_text('<h1 id="another">d</h1><img src="gone.svg">')
         self.assertEqual(
@@ -158,7 +157,7 @@ class Pages(Scratch):
 
 
 class Bills(Scratch):
-    def test_the_bill_names_each_file_and_what_was_linked(self):
+    def test_the_bill_names_each_file_and_what_was_linked(self) -> None:
         (self.folder("prefix/bin") / "sdm").write_text("program")
         (self.top / "prefix/bin/link").symlink_to("sdm")
         told = bill.bill(RELEASE, Contents(Path(), Path(), copies.TOP, Path()), self.top / "prefix")
@@ -191,7 +190,7 @@ class Bytes(Scratch):
         archive.pack_folder(RELEASE, top, self.top / f"{name}.tar.gz")
         return (self.top / f"{name}.tar.gz").read_bytes()
 
-    def test_an_archive_has_the_same_bytes_wherever_it_is_made(self):
+    def test_an_archive_has_the_same_bytes_wherever_it_is_made(self) -> None:
         self.assertEqual(self.packed("one"), self.packed("other"))
         listed = printed("tar", "--list", "--verbose", "--file", self.top / "one.tar.gz")
         self.assertRegex(listed, r"-rwxr-xr-x 0/0 +7 2023-11-14 \d\d:\d\d sdm-1.2.3-x86_64-linux/bin/sdm\n")
@@ -208,13 +207,13 @@ class Bytes(Scratch):
 
 
 class Named(Scratch):
-    def test_a_commit_with_changes_since_the_version_is_named_too(self):
+    def test_a_commit_with_changes_since_the_version_is_named_too(self) -> None:
         changelog = "# Changelog\n\n## [Unreleased]\n\n## [1.2.3] - 2026-01-02\n\n### Added\n\n- It.\n"
         self.assertEqual(release.version_of("c0ffee1234", changelog), manual.version())
         changed = changelog.replace("[Unreleased]\n", "[Unreleased]\n\n### Fixed\n\n- More.\n")
         self.assertEqual(release.version_of("c0ffee1234", changed), f"{manual.version()}+c0ffee12")
 
-    def test_debian_has_the_modules_of_the_wheel_without_its_library(self):
+    def test_debian_has_the_modules_of_the_wheel_without_its_library(self) -> None:
         wheel, usr = self.top / "sdm.whl", self.folder("usr")
         with ZipFile(wheel, "w") as packed:
             for name in ("sdm/__init__.py", "sdm/libsdm.so", "sdm-1.dist-info/METADATA", "sdm-1.dist-info/RECORD"):
@@ -246,32 +245,28 @@ class Refused(unittest.TestCase):
 
     def refusal(self) -> str:
         """What scripts/release tells that packs nothing."""
-        status, told = copies.ended(self.top, "scripts/release")
+        status, told = copies.ended(self.top, "scripts/house", "release")
         self.assertEqual(status, 1, told)
         self.assertFalse((self.top / "dist").exists())
         return told
 
-    def test_no_program_and_one_without_a_mark_are_refused(self):
+    def test_no_program_and_one_without_a_mark_are_refused(self) -> None:
         self.assertIn("There is no program", self.refusal())
         copies.stand_in(self.top)
         self.assertIn("has no mark of the sources", self.refusal())
 
-    def test_a_program_of_other_sources_is_refused(self):
+    def test_a_program_of_other_sources_is_refused(self) -> None:
         copies.stand_in(self.top)
         copies.marked_as_it_is(self.top)
         copies.alter(self.top, "crates/sdm/src/main.rt", r"\Z", "\n")
         self.commit()
         self.assertIn("is built from other sources than these", self.refusal())
 
-    def test_a_work_tree_that_is_not_clean_is_refused(self):
+    def test_a_work_tree_that_is_not_clean_is_refused(self) -> None:
         copies.stand_in(self.top)
         copies.marked_as_it_is(self.top)
         copies.alter(self.top, "c/sdm.h", r"\Z", "\n")
         self.assertIn("isn't clean", self.refusal())
 
-    def test_words_are_refused(self):
-        self.assertEqual(copies.ended(self.top, "scripts/release", "--program", "/bin/true")[0], 2)
-
-
-if __name__ == "__main__":
-    unittest.main()
+    def test_words_are_refused(self) -> None:
+        self.assertEqual(copies.ended(self.top, "scripts/house", "release", "--program", "/bin/true")[0], 2)

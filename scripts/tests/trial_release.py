@@ -3,16 +3,17 @@ takes it for a release: scripts/release packs nothing but a marked program and a
 
     python3 -B scripts/tests/trial_release.py PROGRAM LIBRARY FOLDER
 """
+from __future__ import annotations
 
 import sys
 from dataclasses import replace
 from pathlib import Path
 
-
-import manual
-import release
-from packing.facts import Fault, Release
-from packing.work import pack
+from scripts.packing import release
+from scripts.packing.facts import Release
+from scripts.packing.work import pack
+from scripts.pages import manual
+from sdm.laboratory.program import Fault
 
 
 def trial_facts() -> Release:

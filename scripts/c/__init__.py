@@ -1,0 +1,1 @@
+"""The header, the source and the static library for C."""

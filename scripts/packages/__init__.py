@@ -1,0 +1,1 @@
+"""The Python of this repository: its layout, types, imports and tests."""

@@ -1,0 +1,48 @@
+"""Writes the table of crates of docs/ARCHITECTURE.md: the crates in the order of crates.txt. What a crate does is
+written by hand in that table, and is kept.
+
+    scripts/house show crates     prints the table
+    scripts/house write crates    puts it between its marks in docs/ARCHITECTURE.md
+    scripts/house check crates    fails where the table is stale, or a crate in it has no word of what it does
+"""
+from __future__ import annotations
+
+import re
+
+from scripts.pages.part import Part
+from scripts.pages.specs import ROOT, crates
+
+PART = Part(
+    "crates",
+    ROOT / "docs" / "ARCHITECTURE.md",
+    "<!-- The table from here on is written by scripts/house write crates, but for its last column. -->",
+    "<!-- The table ends here. -->",
+    "scripts/house write crates",
+)
+
+
+def words_of_crates() -> dict[str, str]:
+    """crate -> what the page's table says that it does."""
+    text = PART.text()
+    if not PART.has_marks(text):
+        return {}
+    table = text[text.index(PART.begin) : text.index(PART.end)]
+    return dict(re.findall(r"^\| `(\w+)` \| (.*) \|$", table, re.M))
+
+
+def listed() -> str:
+    """The table in Markdown."""
+    does = words_of_crates()
+    lines = ["", "| Crate | What it does |", "|---|---|"]
+    lines += [f"| `{name}` | {does.get(name, '')} |" for name in crates()]
+    return "\n".join([*lines, ""]) + "\n"
+
+
+def wordless() -> list[str]:
+    """The crates of which the table says nothing."""
+    does = words_of_crates()
+    return [f"the table says nothing of what {name} does" for name in crates() if not does.get(name, "").strip()]
+
+
+def main(words: list[str]) -> int:
+    return PART.main(words, listed(), wordless())

@@ -1,0 +1,1 @@
+"""The built program over what is stored, worked by hand and made; which program and library are taken."""
