@@ -230,8 +230,7 @@ changes_on before h now is_open x =
     elim (comes_of n s (is_fresh n) (take_over_fault n.train_and_track.track.length_cm s.restrictions) refl) [
       | inl taken ↦ (
           let is : now.handle ≡ x.made.handle =
-          x.handle ∙ ap (λ k. if k == done then x.made.handle else before.handle) (status ∙ taken.0) in
-          (
+          x.handle ∙ ap (λ k. if k == done then x.made.handle else before.handle) (status ∙ taken.0) in (
             subst IsOpen (sym is) made.0,
             ap (λ (z : Handle). z.state) is ∙ made.1 ∙ ap (λ k. if k == done then taken_over n s else n) taken.0
                 ∙ sym taken.1,

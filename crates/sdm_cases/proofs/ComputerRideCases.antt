@@ -36,10 +36,10 @@ module _ (j : Judging) (given : IsGiven j before reading) where
   kept_at_the_svl what law =
       let P = KeepsPromise what 2 in
       let all = law delays 2 start (holds before true) up_to_the_svl computers (omega arith) is_start refl
-          (all_go_on j (by_orders delays 2) before reading (pos 20_776_607_999_999) 21_600 (gaining braking) given may_stop)
-          beside_it in
+      (all_go_on j (by_orders delays 2) before reading (pos 20_776_607_999_999) 21_600 (gaining braking) given may_stop)
+      beside_it in
       let same = moments_are j (by_orders delays 2) before reading (pos 20_776_607_999_999) 21_600 (Some 3)
-          (gaining braking) given may_stop in
+      (gaining braking) given may_stop in
       subst P (to_the_svl j given)
       (at_the_end j P start (Record (record_kinds.Read reading)) (gaining braking)
       (subst (λ (ms : List Moment). All P ms) same all)) (aged_by its_promise 22) refl
@@ -47,11 +47,11 @@ module _ (j : Judging) (given : IsGiven j before reading) where
   placed_at_the_svl : StaysBeforeBeside j → IsBy 2 (place_of_cell (pos 1000)) (point_of at_the_svl)
   placed_at_the_svl law =
       let all = law delays 2 1000 start (holds before true) up_to_the_svl computers (omega arith) is_start refl
-          (all_go_on j (by_orders delays 2) before reading (pos 20_776_607_999_999) 21_600 (gaining braking) given may_stop)
-          beside_it
-          (all_hold (λ s. EndsBy 1000 s.authority) before reading (gaining braking) (omega arith, refl) ends_by) in
+      (all_go_on j (by_orders delays 2) before reading (pos 20_776_607_999_999) 21_600 (gaining braking) given may_stop)
+      beside_it
+      (all_hold (λ s. EndsBy 1000 s.authority) before reading (gaining braking) (omega arith, refl) ends_by) in
       let same = moments_are j (by_orders delays 2) before reading (pos 20_776_607_999_999) 21_600 (Some 3)
-          (gaining braking) given may_stop in
+      (gaining braking) given may_stop in
       subst (λ (n : Moment). IsBy 2 (place_of_cell (pos 1000)) (point_of n)) (to_the_svl j given)
       (never_past j 2 1000 start (Record (record_kinds.Read reading)) (gaining braking) its_promise (first_promise j given)
       (subst (λ (ms : List Moment). IsNeverPast 2 1000 ms) same all))

@@ -59,8 +59,7 @@ goes_on j test c t (Overdue ∷ hs) p v silence age order b may =
     (overdue_goes_on j t b, goes_on j test c t hs p v 0 age (ordered order) true may)
 goes_on j test c t (Change next ∷ hs) p v silence age order b may = absurd (false≢true may)
 goes_on j test c t (Tick to length ∷ hs) p v silence age order b may =
-    let parts = and_parts (test (aged_by c age) p v silence order to length) _ may in
-    (
+    let parts = and_parts (test (aged_by c age) p v silence order to length) _ may in (
       tick_goes_on j t b to length,
       goes_on j test c t hs (p +ℤ pos length) to (suc silence) (suc age) (option_map (λ o. suc o) order) b parts.1,
     )
@@ -93,15 +92,13 @@ rides_so j rule s test c shows (Overdue ∷ hs) t p v silence age (Some o) may =
     (tt, rides_so j rule s test c shows hs t p v 0 age (Some o) may)
 rides_so j rule s test c shows (Change next ∷ hs) t p v silence age order may = absurd (false≢true may)
 rides_so j rule s test c shows (Tick to length ∷ hs) t p v silence age None may =
-    let parts = and_parts (test (aged_by c age) p v silence None to length) _ may in
-    (
+    let parts = and_parts (test (aged_by c age) p v silence None to length) _ may in (
       λ d e. subst (λ (d : Promise). rule d (stands c t p v silence age None) to length) (same_Some _ d e)
           (shows t p v silence age None to length parts.0),
       rides_so j rule s test c shows hs t (p +ℤ pos length) to (suc silence) (suc age) None parts.1,
     )
 rides_so j rule s test c shows (Tick to length ∷ hs) t p v silence age (Some o) may =
-    let parts = and_parts (test (aged_by c age) p v silence (Some o) to length) _ may in
-    (
+    let parts = and_parts (test (aged_by c age) p v silence (Some o) to length) _ may in (
       λ d e. subst (λ (d : Promise). rule d (stands c t p v silence age (Some o)) to length) (same_Some _ d e)
           (shows t p v silence age (Some o) to length parts.0),
       rides_so j rule s test c shows hs t (p +ℤ pos length) to (suc silence) (suc age) (Some (suc o)) parts.1,
@@ -154,11 +151,10 @@ unfolding step
 all_go_on j test under r p v hs given may =
     let next = after_reading under r in
     let to : supervision_after under (Record (record_kinds.Read r)) ≡ next =
-            ap (λ (last : Option ℕ). taken_or under (unless time_cause (time_fault last r.time) next)) given.is_first in
+    ap (λ (last : Option ℕ). taken_or under (unless time_cause (time_fault last r.time) next)) given.is_first in
     let reads : reading_if (record_kinds.Read r) (step under (record_kinds.Read r)) ≡ Some r =
-            ap (λ (last : Option ℕ). reading_if (record_kinds.Read r) (unless time_cause (time_fault last r.time) next))
-            given.is_first in
-    (
+    ap (λ (last : Option ℕ). reading_if (record_kinds.Read r) (unless time_cause (time_fault last r.time) next))
+    given.is_first in (
       record {
         supervision = sym to;
         judged = λ x is orders. absurd (false≢true (sym given.orders ∙ subst (λ x. j.orders under x ≡ true)
@@ -176,8 +172,7 @@ pub rides_beside : (j : Judging) (rule : TickRule) (s : ℕ) (test : TickTest) (
     may_go test (promised under r) p v 0 0 None hs ≡ true →
     IsRideBeside j rule s (begins under p v order) (Record (record_kinds.Read r) ∷ hs) (from_reading under r hs)
 rides_beside j rule s test under r p v order hs given told shows may =
-    let next = after_reading under r in
-    (
+    let next = after_reading under r in (
       λ promises. told,
       subst (λ (n : Moment). IsRideBeside j rule s (record n { order = None }) hs (beside next false hs))
           (sym (to_given j under r p v order given))

@@ -151,8 +151,7 @@ module _ (rows : AreItsRows) where
   unfolding after_reading reading_at ride_train plain_train_and_track plain_national reaction_times plain_slopes
   from_the_third =
       let c = promised at_500_m second in
-      let e = to_ordering by_rows c at_515_m third (pos 286_200_000_000_000) 1_620_000 5 5 None (third_ordering rows) in
-      (
+      let e = to_ordering by_rows c at_515_m third (pos 286_200_000_000_000) 1_620_000 5 5 None (third_ordering rows) in (
         λ promises. record { front = omega (arith, ints); speed = omega arith },
         subst (λ (m : Moment). IsRide by_rows rule 1 m from_third) (sym e)
             (rides by_rows rule 1 (by_orders delays 1) c
@@ -168,8 +167,7 @@ module _ (rows : AreItsRows) where
       let rest = Record (record_kinds.Read third) ∷ from_third in
       let m = stands c at_515_m (pos 278_100_000_000_000) 1_620_000 0 0 None in
       let e = to_renewed by_rows (promised before first) at_500_m second (pos 278_100_000_000_000) 1_620_000 5 5 None
-              (second_renewed rows) in
-      (
+      (second_renewed rows) in (
         λ promises. record { front = omega (arith, ints); speed = omega arith },
         subst (λ (m : Moment). IsRide by_rows rule 1 m (half_a_second ++ rest)) (sym e)
             (rides_then by_rows rule 1 half_a_second m rest
@@ -185,8 +183,7 @@ module _ (rows : AreItsRows) where
       let c = promised before first in
       let rest = Record (record_kinds.Read second) ∷ (half_a_second ++ Record (record_kinds.Read third) ∷ from_third) in
       let m = stands c at_500_m (pos 270_000_000_000_000) 1_620_000 0 0 None in
-      let e = to_given by_rows before first (pos 270_000_000_000_000) 1_620_000 None (first_given rows) in
-      (
+      let e = to_given by_rows before first (pos 270_000_000_000_000) 1_620_000 None (first_given rows) in (
         λ promises. record { front = omega (arith, ints); speed = omega arith },
         subst (λ (m : Moment). IsRide by_rows rule 1 m (half_a_second ++ rest)) (sym e)
             (rides_then by_rows rule 1 half_a_second m rest
@@ -215,10 +212,10 @@ module _ (rows : AreItsRows) where
   stops_by_law law =
       let P = KeepsPromise IsAsCovered 1 in
       let all = law.rows delays 1 start happenings (omega arith)
-              (record { is_open = train_open (pos 10_000) to_the_end (pos 0) (pos 10) (pos 0) authority; none = refl })
-              a_ride in
+      (record { is_open = train_open (pos 10_000) to_the_end (pos 0) (pos 10) (pos 0) authority; none = refl })
+      a_ride in
       let kept = subst P ends (at_the_end by_rows P start (Record (record_kinds.Read first)) (half_a_second
-              ++ Record (record_kinds.Read second) ∷ (half_a_second ++ Record (record_kinds.Read third) ∷ from_third)) all)
-              (aged_by (promised at_500_m second) 310) refl in
+      ++ Record (record_kinds.Read second) ∷ (half_a_second ++ Record (record_kinds.Read third) ∷ from_third)) all)
+      (aged_by (promised at_500_m second) 310) refl in
       let by = kept.stops 100_000 100_000 0 refl in
       omega (arith, ints, by)

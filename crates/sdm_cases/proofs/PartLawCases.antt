@@ -60,9 +60,9 @@ second_stops_by_law law =
     let all = law (λ n e. Ok e) (record_kinds.Read first ∷ []) (part ∷ []) 1 before false true ready all_open in
     let turn : Turn = record { before = before; event = record_kinds.Read first; after = between } in
     let safe = subst (λ (x : Result Supervision TakeOverFault).
-        AreTurnsSafe false true (turn ∷ (after_change 2 x
-        (λ t. records_then (λ n e. Ok e) (λ m u. parts_from (λ n e. Ok e) [] m u) 2 t (record_kinds.Read second ∷ []))).turns))
-        changes all in
+    AreTurnsSafe false true (turn ∷ (after_change 2 x
+    (λ t. records_then (λ n e. Ok e) (λ m u. parts_from (λ n e. Ok e) [] m u) 2 t (record_kinds.Read second ∷ []))).turns))
+    changes all in
     (safe.1.0.stop covered).stops 900 1000 0 refl
 
 -- ---- one change

@@ -104,8 +104,7 @@ module _ (rows : AreItsRows) where
   from_the_second =
       let c = promised between second in
       let e = to_renewed by_rows (promised before first) between second (pos 1_836_000_000_000_000) 2_160_000 25 25 None
-              (second_renewed rows) in
-      (
+      (second_renewed rows) in (
         λ promises. record { front = omega (arith, ints); speed = omega arith },
         subst (λ (m : Moment). IsRide by_rows rule 1 m from_second) (sym e)
             (rides by_rows rule 1 (unbraked delays 1) c (unbraked_shows delays 1 c (held between second refl refl)) from_second
@@ -119,8 +118,7 @@ module _ (rows : AreItsRows) where
       let c = promised before first in
       let rest = Record (record_kinds.Read second) ∷ from_second in
       let m = stands c between (pos 1_782_000_000_000_000) 2_160_000 0 0 None in
-      let e = to_given by_rows before first (pos 1_782_000_000_000_000) 2_160_000 None (first_given rows) in
-      (
+      let e = to_given by_rows before first (pos 1_782_000_000_000_000) 2_160_000 None (first_given rows) in (
         λ promises. record { front = omega (arith, ints); speed = omega arith },
         subst (λ (m : Moment). IsRide by_rows rule 1 m (runs 25 [] ++ rest)) (sym e)
             (rides_then by_rows rule 1 (runs 25 []) m rest
@@ -145,6 +143,6 @@ module _ (rows : AreItsRows) where
       let P = KeepsPromise IsAsCovered 1 in
       let all = law.rows delays 1 start happenings (omega arith) (record { is_open = realistic_open; none = refl }) a_ride in
       let kept = subst P ends (at_the_end by_rows P start (Record (record_kinds.Read first)) (runs 25 []
-              ++ Record (record_kinds.Read second) ∷ from_second) all) (aged_by (promised between second) 30) refl in
+      ++ Record (record_kinds.Read second) ∷ from_second) all) (aged_by (promised between second) 30) refl in
       let by = kept.stops 500_000 505_000 0 refl in
       omega (arith, ints, by)

@@ -156,32 +156,84 @@ rides : IsRide (by_release bounds) (IsByTimelyOrders (delays 1) 2) 2 (moment (po
     unread
 unfolding after plain_slopes
 rides = (
-  running (pos 20_887_200_000_000) 0 0 None (omega arith) not_yet, (
-  running (pos 20_947_200_000_000) 1 1 None (omega arith) not_yet, (
-  tt, (
-  running (pos 21_007_200_000_000) 0 2 (Some 0) (omega arith) (still 0 (omega arith)), (
-  running (pos 21_067_200_000_000) 1 3 (Some 1) (omega arith) (still 1 (omega arith)), (
-  tt, (
-  running (pos 21_127_200_000_000) 0 4 (Some 2) (omega arith) (still 2 (omega arith)), (
-  running (pos 21_187_200_000_000) 1 5 (Some 3) (omega arith) (still 3 (omega arith)), (
-  tt, (
-  braking (pos 21_247_200_000_000) 60_000 54_600 57_300_000_000 0 6 (Some 4) (omega arith) (omega arith) (omega arith) (record { forward = omega (arith, ints); slower = omega arith; enough = omega (arith, ints) }), (
-  braking (pos 21_304_500_000_000) 54_600 49_200 51_900_000_000 1 7 (Some 5) (omega arith) (omega arith) (omega arith) (record { forward = omega (arith, ints); slower = omega arith; enough = omega (arith, ints) }), (
-  tt, (
-  braking (pos 21_356_400_000_000) 49_200 43_800 46_500_000_000 0 8 (Some 6) (omega arith) (omega arith) (omega arith) (record { forward = omega (arith, ints); slower = omega arith; enough = omega (arith, ints) }), (
-  braking (pos 21_402_900_000_000) 43_800 38_400 41_100_000_000 1 9 (Some 7) (omega arith) (omega arith) (omega arith) (record { forward = omega (arith, ints); slower = omega arith; enough = omega (arith, ints) }), (
-  tt, (
-  braking (pos 21_444_000_000_000) 38_400 33_000 35_700_000_000 0 10 (Some 8) (omega arith) (omega arith) (omega arith) (record { forward = omega (arith, ints); slower = omega arith; enough = omega (arith, ints) }), (
-  braking (pos 21_479_700_000_000) 33_000 27_600 30_300_000_000 1 11 (Some 9) (omega arith) (omega arith) (omega arith) (record { forward = omega (arith, ints); slower = omega arith; enough = omega (arith, ints) }), (
-  tt, (
-  braking (pos 21_510_000_000_000) 27_600 22_200 24_900_000_000 0 12 (Some 10) (omega arith) (omega arith) (omega arith) (record { forward = omega (arith, ints); slower = omega arith; enough = omega (arith, ints) }), (
-  braking (pos 21_534_900_000_000) 22_200 16_800 19_500_000_000 1 13 (Some 11) (omega arith) (omega arith) (omega arith) (record { forward = omega (arith, ints); slower = omega arith; enough = omega (arith, ints) }), (
-  tt, (
-  braking (pos 21_554_400_000_000) 16_800 11_400 14_100_000_000 0 14 (Some 12) (omega arith) (omega arith) (omega arith) (record { forward = omega (arith, ints); slower = omega arith; enough = omega (arith, ints) }), (
-  braking (pos 21_568_500_000_000) 11_400 6_000 8_700_000_000 1 15 (Some 13) (omega arith) (omega arith) (omega arith) (record { forward = omega (arith, ints); slower = omega arith; enough = omega (arith, ints) }), (
-  tt, (
-  braking (pos 21_577_200_000_000) 6_000 600 3_300_000_000 0 16 (Some 14) (omega arith) (omega arith) (omega arith) (record { forward = omega (arith, ints); slower = omega arith; enough = omega (arith, ints) }), (
-  braking (pos 21_580_500_000_000) 600 0 33_333_333 1 17 (Some 15) (omega arith) (omega arith) (omega arith) (record { forward = omega (arith, ints); slower = omega arith; enough = omega (arith, ints) }), tt))))))))))))))))))))))))))
+  running (pos 20_887_200_000_000) 0 0 None (omega arith) not_yet,
+  (
+    running (pos 20_947_200_000_000) 1 1 None (omega arith) not_yet,
+    (
+      tt,
+      (
+        running (pos 21_007_200_000_000) 0 2 (Some 0) (omega arith) (still 0 (omega arith)),
+        (
+          running (pos 21_067_200_000_000) 1 3 (Some 1) (omega arith) (still 1 (omega arith)),
+          (
+            tt,
+            (
+              running (pos 21_127_200_000_000) 0 4 (Some 2) (omega arith) (still 2 (omega arith)),
+              (
+                running (pos 21_187_200_000_000) 1 5 (Some 3) (omega arith) (still 3 (omega arith)),
+                (
+                  tt,
+                  (
+                    braking (pos 21_247_200_000_000) 60_000 54_600 57_300_000_000 0 6 (Some 4) (omega arith) (omega arith) (omega arith) (record { forward = omega (arith, ints); slower = omega arith; enough = omega (arith, ints) }),
+                    (
+                      braking (pos 21_304_500_000_000) 54_600 49_200 51_900_000_000 1 7 (Some 5) (omega arith) (omega arith) (omega arith) (record { forward = omega (arith, ints); slower = omega arith; enough = omega (arith, ints) }),
+                      (
+                        tt,
+                        (
+                          braking (pos 21_356_400_000_000) 49_200 43_800 46_500_000_000 0 8 (Some 6) (omega arith) (omega arith) (omega arith) (record { forward = omega (arith, ints); slower = omega arith; enough = omega (arith, ints) }),
+                          (
+                            braking (pos 21_402_900_000_000) 43_800 38_400 41_100_000_000 1 9 (Some 7) (omega arith) (omega arith) (omega arith) (record { forward = omega (arith, ints); slower = omega arith; enough = omega (arith, ints) }),
+                            (
+                              tt,
+                              (
+                                braking (pos 21_444_000_000_000) 38_400 33_000 35_700_000_000 0 10 (Some 8) (omega arith) (omega arith) (omega arith) (record { forward = omega (arith, ints); slower = omega arith; enough = omega (arith, ints) }),
+                                (
+                                  braking (pos 21_479_700_000_000) 33_000 27_600 30_300_000_000 1 11 (Some 9) (omega arith) (omega arith) (omega arith) (record { forward = omega (arith, ints); slower = omega arith; enough = omega (arith, ints) }),
+                                  (
+                                    tt,
+                                    (
+                                      braking (pos 21_510_000_000_000) 27_600 22_200 24_900_000_000 0 12 (Some 10) (omega arith) (omega arith) (omega arith) (record { forward = omega (arith, ints); slower = omega arith; enough = omega (arith, ints) }),
+                                      (
+                                        braking (pos 21_534_900_000_000) 22_200 16_800 19_500_000_000 1 13 (Some 11) (omega arith) (omega arith) (omega arith) (record { forward = omega (arith, ints); slower = omega arith; enough = omega (arith, ints) }),
+                                        (
+                                          tt,
+                                          (
+                                            braking (pos 21_554_400_000_000) 16_800 11_400 14_100_000_000 0 14 (Some 12) (omega arith) (omega arith) (omega arith) (record { forward = omega (arith, ints); slower = omega arith; enough = omega (arith, ints) }),
+                                            (
+                                              braking (pos 21_568_500_000_000) 11_400 6_000 8_700_000_000 1 15 (Some 13) (omega arith) (omega arith) (omega arith) (record { forward = omega (arith, ints); slower = omega arith; enough = omega (arith, ints) }),
+                                              (
+                                                tt,
+                                                (
+                                                  braking (pos 21_577_200_000_000) 6_000 600 3_300_000_000 0 16 (Some 14) (omega arith) (omega arith) (omega arith) (record { forward = omega (arith, ints); slower = omega arith; enough = omega (arith, ints) }),
+                                                  (
+                                                    braking (pos 21_580_500_000_000) 600 0 33_333_333 1 17 (Some 15) (omega arith) (omega arith) (omega arith) (record { forward = omega (arith, ints); slower = omega arith; enough = omega (arith, ints) }),
+                                                    tt,
+                                                  ),
+                                                ),
+                                              ),
+                                            ),
+                                          ),
+                                        ),
+                                      ),
+                                    ),
+                                  ),
+                                ),
+                              ),
+                            ),
+                          ),
+                        ),
+                      ),
+                    ),
+                  ),
+                ),
+              ),
+            ),
+          ),
+        ),
+      ),
+    ),
+  ),
+)
 
 first_true : IsTrueReading 2 start first
 unfolding ride_line plain_train_and_track plain_national first

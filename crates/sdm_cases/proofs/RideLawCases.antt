@@ -207,7 +207,7 @@ module _ (j : Judging) (given : IsGiven j before reading) where
     ride = a_ride rest may;
     authorities =
         stays_from j (λ s. EndsBy 1000 s.authority) before reading (pos 20_776_607_999_999) 21_600 (Some 3) rest given quiet
-            (omega arith, refl) ends_by;
+        (omega arith, refl) ends_by;
   }
 
   to_the_brake : last_moment j start up_to_the_brake ≡ at_the_brake

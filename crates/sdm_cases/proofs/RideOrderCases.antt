@@ -138,5 +138,5 @@ comes_by_law : LawOfMotionRides →
     × (point_of (last_moment by_rows from hs) ≡ where_it_stands)
 comes_by_law law =
     let comes = law by_rows before reading motion
-        (train_open (pos 100) to_the_end (pos 3) (pos 5) (pos 0) (before.authority)) is_motion in
+    (train_open (pos 100) to_the_end (pos 3) (pos 5) (pos 0) (before.authority)) is_motion in
     (comes.happenings, comes.ticks, comes.ride, comes.ends)

@@ -46,8 +46,7 @@ rides j rule s test c shows (Overdue ∷ hs) t p v silence age order may =
     (tt, rides j rule s test c shows hs t p v 0 age (ordered order) may)
 rides j rule s test c shows (Change next ∷ hs) t p v silence age order may = absurd (false≢true may)
 rides j rule s test c shows (Tick to length ∷ hs) t p v silence age order may =
-    let parts = and_parts (test (aged_by c age) p v silence order to length) _ may in
-    (
+    let parts = and_parts (test (aged_by c age) p v silence order to length) _ may in (
       λ d e. subst (λ (d : Promise). rule d (stands c t p v silence age order) to length) (same_Some _ d e)
           (shows t p v silence age order to length parts.0),
       rides j rule s test c shows hs t (p +ℤ pos length) to (suc silence) (suc age) (option_map (λ o. suc o) order)

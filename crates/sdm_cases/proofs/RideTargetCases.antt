@@ -92,7 +92,7 @@ module _ (speeds : List SpeedStep) (a : Authority) where
     kept law =
         let P = KeepsPromise IsAsCovered 2 in
         let all = law.rows delays 2 start (Record (record_kinds.Read reading) ∷ running) (omega arith)
-            (record { is_open = given.is_open; none = refl }) a_ride in
+        (record { is_open = given.is_open; none = refl }) a_ride in
         subst P ends (at_the_end by_rows P start (Record (record_kinds.Read reading)) running all) (aged_by its_promise 14)
         refl
 

@@ -185,13 +185,12 @@ serves a test rule shows (Overdue ∷ hs) t p v silence age order may =
 serves a test rule shows (Change next ∷ hs) t p v silence age order may = absurd (false≢true may)
 serves a test rule shows (Tick to length ∷ hs) t p v silence age order may =
     let parts = and_parts (test (aged_by its_promise age) p v silence order to length) _ may in
-    let steady = shows.steady (aged_by its_promise age) p v silence order to length parts.0 in
-    (
+    let steady = shows.steady (aged_by its_promise age) p v silence order to length parts.0 in (
       λ d e. subst (λ (d : Promise). rule d (stands its_promise t p v silence age order) to length) (same_Some _ d e)
           (shows.kept t p v silence age order to length parts.0),
       subst (λ n. IsServiceRide rule a 2 n hs) (sym (tick_to a t p v silence age order to length steady))
           (serves a test rule shows hs t (p +ℤ pos length) to (suc silence) (suc age) (option_map (λ o. suc o) order)
-              parts.1),
+          parts.1),
     )
 
 -- ---- what happens
@@ -312,7 +311,7 @@ kept_at : (rest : List Happening) (n : Moment) (age : ℕ) → n.promise ≡ Som
 kept_at rest n age is e all =
     let P = KeepsPromise IsByItsEoa 2 in
     let by = subst P e (at_the_end no_allowance P start (Record (record_kinds.Read reading)) rest all)
-        (aged_by its_promise age) is 1000 1100 0 refl in
+    (aged_by its_promise age) is 1000 1100 0 refl in
     omega (arith, ints, by)
 
 -- by the law the train is at or before the EOA, where it stands and where it runs
@@ -347,8 +346,8 @@ clear_at : (rest : List Happening) (n : Moment) (age : ℕ) → n.promise ≡ So
     All (StaysClear allowed 2) (steady_moments allowed start (from_first rest)) → n.place ≤ℤ pos 22_118_400_000_000
 clear_at rest n age is e all =
     let by = subst (StaysClear allowed 2) e
-        (at_the_end allowed (StaysClear allowed 2) start (Record (record_kinds.Read reading)) rest all)
-        (aged_by its_promise age) is (place_of_cell (pos 1024)) clear_past_the_eoa in
+    (at_the_end allowed (StaysClear allowed 2) start (Record (record_kinds.Read reading)) rest all)
+    (aged_by its_promise age) is (place_of_cell (pos 1024)) clear_past_the_eoa in
     omega (arith, ints, by)
 
 -- and by the law the train doesn't pass that, where it stands and where it runs

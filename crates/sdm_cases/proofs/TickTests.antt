@@ -114,7 +114,7 @@ orders_show w s c plain times t p v silence age order to length may =
     let in_time = and_parts (nat_lt silence (s * w.period)) _ may in
     let traction = and_parts (is_tick (start_of c).accel1 v to length) _ in_time.1 in
     let others = and_parts
-            (not (is_old (s * (w.latency + w.cut_off)) order) || is_tick (start_of c).accel2 v to length) _ traction.1 in
+    (not (is_old (s * (w.latency + w.cut_off)) order) || is_tick (start_of c).accel2 v to length) _ traction.1 in
     record {
       times = record { traction = times.traction; emergency = times.emergency };
       orders = record {
@@ -146,7 +146,7 @@ unbraked_shows w s c times t p v silence age order to length may =
     let in_time = and_parts (nat_lt silence (s * w.period)) _ may in
     let traction = and_parts (is_tick (start_of c).accel1 v to length) _ in_time.1 in
     let others = and_parts
-            (not (is_old (s * (w.latency + w.cut_off)) order) || is_tick (start_of c).accel2 v to length) _ traction.1 in
+    (not (is_old (s * (w.latency + w.cut_off)) order) || is_tick (start_of c).accel2 v to length) _ traction.1 in
     record {
       times = record { traction = times.traction; emergency = times.emergency };
       orders = record {
@@ -177,7 +177,7 @@ clock_shows s c plain t p v silence age order to length may =
     let braked = s * ((start_of c).traction + (start_of c).berem) in
     let first = and_parts (not (nat_lt age cut) || is_tick (start_of c).accel1 v to length) _ may in
     let others = and_parts
-            (not (nat_le cut age && nat_lt age braked) || is_tick (start_of c).accel2 v to length) _ first.1 in
+    (not (nat_le cut age && nat_lt age braked) || is_tick (start_of c).accel2 v to length) _ first.1 in
     record {
       traction = λ early. tick_is _ _ _ _ (if_so _ _ first.0 (lt-ltb age cut early));
       build = λ late early. tick_is _ _ _ _

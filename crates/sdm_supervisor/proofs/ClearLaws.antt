@@ -92,13 +92,13 @@ module _ (a : Allowance) (d : TrainAndTrack) (r : OdometerReading) where
       record {
         on_track = omega (arith, ints, is, within);
         clear = λ place le. (
-          let clear = later on usable front way speed (place_of_mm (pos mm)) place le first.clear in
-          rw (run.front_is, run.way_is, run.speed_is) at clear
-        );
+            let clear = later on usable front way speed (place_of_mm (pos mm)) place le first.clear in
+            rw (run.front_is, run.way_is, run.speed_is) at clear
+            );
         first = λ lesser lt place le. (
-          let none = earlier on usable front way speed (place_of_mm (pos lesser)) place le (first.none lesser lt) in
-          rw (run.front_is, run.way_is, run.speed_is) at none
-        );
+            let none = earlier on usable front way speed (place_of_mm (pos lesser)) place le (first.none lesser lt) in
+            rw (run.front_is, run.way_is, run.speed_is) at none
+            );
       }
 
 -- and the service brake stops the train by it
