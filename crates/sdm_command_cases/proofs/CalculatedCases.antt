@@ -2,13 +2,18 @@
 -- SvL, and one more km/h would be too fast. The EOA and the trip are at 9.65 m, the SvL is at 10 m.
 use Rattle.std.proofs.Common.{◌≡◌, ℕ, pos, false, List, ◌∷◌, subst, arith}
 use Rattle.std.proofs.lemmas.Bool.{false≢true}
+use Rattle.std.specs.Prelude.{IsTrue}
 use Rattle.sdm_rules.specs.declared.records.Event.TheVariants as record_kinds
+use Rattle.sdm_num.specs.Units.{millimetre, notches}
+use Rattle.sdm_rules.specs.Cells.{place_of_cell}
 use Rattle.sdm_rules.specs.Curves.{exact, exact_at, place_at, corner, arc, arc_back, back}
 use Rattle.sdm_rules.specs.declared.data.SlopeKind.TheVariants.{Safe}
 use Rattle.sdm_rules.specs.Decelerations.{slope_at, slopes_of}
+use Rattle.sdm_rules.specs.Limits.{exact_places}
 use Rattle.sdm_rules.specs.Headline.{AreTurnsSafe, IsRecordSafe}
 use Rattle.sdm_rules.specs.Records.{Turn}
-use Rattle.sdm_rules.specs.Release.{IsReleaseSpeed, calculated, trip_start}
+use Rattle.sdm_rules.specs.Release.{IsReleaseSpeed, calculated, latest_trip, t_be, trip_start}
+use Rattle.sdm_rules.specs.Triggers.{is_past}
 use Rattle.sdm_rules.specs.Stop.{StopsBy}
 use Rattle.sdm_rules.specs.Supervision.{Supervision}
 use Rattle.sdm_formats.specs.Flat.{Output}
@@ -37,8 +42,9 @@ too_slow_at_100 : IsReleaseSpeed short_train 10_000 6_000 100 → ⊥
 unfolding short_train slopes_of slope_at exact exact_at place_at corner arc arc_back back
 too_slow_at_100 h = absurd (false≢true (h.greatest (omega arith)))
 
--- from 500 km/h, the top speed, it comes 964.51 m, so for a trip 980 m before the SvL not even 499 km/h are: the last speed
--- of which `greatest` speaks
-too_slow_at_499 : IsReleaseSpeed short_train 200_000 102_000 499 → ⊥
-unfolding short_train slopes_of slope_at exact exact_at place_at corner arc arc_back back
-too_slow_at_499 h = absurd (false≢true (h.greatest (omega arith)))
+-- at 499 km/h, the last speed that has a next one, too: a trip at 500 km/h is past the latest one less a millimetre
+at_499 : IsReleaseSpeed short_train 200_000 102_000 499 →
+    IsTrue (is_past millimetre (place_of_cell (pos 102_000))
+    (latest_trip exact_places (slopes_of Safe short_train) (t_be short_train) (place_of_cell (pos 200_000))
+    (notches 500)))
+at_499 h = h.greatest (omega arith)
