@@ -61,7 +61,6 @@ CHECKS: dict[Group, list[Part]] = {
         Part("traces", "pages.traces check", "docs/TRACES.md: what shows each sentence of README's promise", 0.01),
     ],
     "after": [
-        Part("edits", "editing.check", "each edit is refused by the goal that its file names"),
         Part("c", "c/check", "the static library, called from C, C++ and Ada"),
         Part("library", "c.shared", "the Python package over the shared library"),
         Part("bounds", "bounding.bounds check", "the bounds of each call from C, by the machine code"),
@@ -76,6 +75,7 @@ CHECKS: dict[Group, list[Part]] = {
         Part("examples", "product.examples", "the program over each folder of examples/"),
     ],
     "elsewhere": [
+        Part("edits", "editing.check", "each edit is refused by the goal that its file names"),
         Part("release", "packing/check-release", "a release in a clean Debian"),
     ],
 }
