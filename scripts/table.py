@@ -100,6 +100,7 @@ SHOWN = [
 ]
 TRIES = [
     Part("bounds", "tries.bounds", "the bounds against painted stacks and counted instructions"),
+    Part("diagnose", "tries/diagnose", "how often tools/diagnose names what was planted in recordings"),
     Part("faults", "tries.faults", "each call of the program to the system fails in turn"),
     Part("inputs", "tries.inputs", "a hundred thousand random inputs"),
     Part("report", "tries.report", "the pages of tools/report in a browser"),

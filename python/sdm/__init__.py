@@ -7,6 +7,8 @@ from typing import TYPE_CHECKING, Any
 
 if TYPE_CHECKING:  # for mypy and editors; _HOMES says the same where it runs
     from sdm.arrays import READING, ROW, frame, readings, text
+    from sdm.diagnosis import diagnose
+    from sdm.diagnosis.diagnosing import Diagnosis
     from sdm.findings import Explanation, Finding, explain, explanation
     from sdm.importing import ImportFault, Journey, import_recording
     from sdm.library import Supervisor
@@ -20,6 +22,8 @@ if TYPE_CHECKING:  # for mypy and editors; _HOMES says the same where it runs
 __version__ = "0.11.1"
 _HOMES = {
     "arrays": ["READING", "ROW", "frame", "readings", "text"],
+    "diagnosis": ["diagnose"],
+    "diagnosis.diagnosing": ["Diagnosis"],
     "findings": ["Explanation", "Finding", "explain", "explanation"],
     "importing": ["ImportFault", "Journey", "import_recording"],
     "library": ["Supervisor"],

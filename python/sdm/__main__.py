@@ -12,13 +12,16 @@ COMMANDS = {
     "why": "sdm.why",
     "curves": "sdm.curves",
     "compare": "sdm.compare",
+    "diagnose": "sdm.diagnosis.words",
     "import": "sdm.importing.words",
     "campaign": "sdm.campaign",
     "plot": "sdm.picture",
     "report": "sdm.reporting.words",
     "bench-live": "sdm.bench",
     "model": "sdm.exact",
+    "version": "sdm.laboratory.version",
 }
+REFUSED = (5, 6, 7)  # the codes of an input that the model refuses
 
 
 READER_GONE = 128 + signal.SIGPIPE  # the status that a shell tells of a program that the system ends for it
@@ -29,6 +32,8 @@ def run(command: str, words: list[str]) -> int:
     try:
         code: int = import_module(COMMANDS[command]).main(words)
         sys.stdout.flush()
+        if command == "model" and code in REFUSED and sys.stderr.isatty():
+            print("`tools/explain INPUT` names each fault with its line and what is expected.", file=sys.stderr)
     except BrokenPipeError:
         os.dup2(os.open(os.devnull, os.O_WRONLY), sys.stdout.fileno())
         return READER_GONE

@@ -2,106 +2,27 @@
 
 RECORDING is a CSV, and the mapping tells which of its columns is which of a row's (docs/LABORATORY.md shows one);
 without a mapping its columns are a row's own. Rows and lines are matched in order by their times. It tells the first
-difference, each row that differs, and a table by column with the greatest deviation; and it writes the rows as the
-recording has them, for tools/plot, where a file for them is given. It ends with 0 where nothing differs by more than
-the tolerances, with 1 where something does, with 2 where it can't compare.
+difference, a table by column with the greatest deviation, the runs of rows that differ in the same way, and each row
+that differs. With the input of the rows each run says what decided it. It writes the rows as the recording has them,
+for tools/plot, where a file for them is given. It ends with 0 where nothing differs by more than the tolerances, with 1
+where something does, with 2 where it can't compare.
 """
 
 import argparse
 import math
 import sys
-from dataclasses import dataclass
 from fractions import Fraction
 from pathlib import Path
-from typing import Any
 
+from sdm.diagnosis.beside import Beside
+from sdm.diagnosis.runs import Joints, Run, runs_of
+from sdm.diagnosis.runs import told as told_of_run
+from sdm.laboratory.comparison import Allowed, Difference, compared_columns, differences, is_beyond, matched, told
 from sdm.laboratory.program import Fault
-from sdm.laboratory.recording import RecordedLine, Value, recording_of
+from sdm.laboratory.recording import RecordedLine, recording_of
 from sdm.laboratory.rows import COLUMNS, UNITS, RowTexts, is_row, rows_of, text_of
 from sdm.laboratory.texts import number
 from sdm.laboratory.walk import read, write
-
-Allowed = dict[str, Any]  # how far values may be apart, by the unit
-
-
-@dataclass(frozen=True)
-class Difference:
-    """A value that differs: the row, its line in the recording, the column, both values, and by how much (None: not by
-    a number)."""
-
-    row: int
-    line: int
-    column: str
-    due: Value
-    got: Value
-    deviation: Fraction | None
-
-    @property
-    def apart(self) -> Fraction:
-        """How far the values are apart, 0 where that is no number."""
-        return self.deviation or Fraction(0)
-
-
-def due_of(name: str, text: str) -> Value:
-    """A row's value as a recording has it."""
-    if name not in UNITS:
-        return text
-    return None if text == "-" else int(text)
-
-
-def matched(rows: list[RowTexts], lines: list[RecordedLine], most: int) -> list[tuple[int, int]]:
-    """Pairs of a row's number and a line's number, in order: the nearest times, at most so many ds apart."""
-    pairs, next_line = [], 0
-    for i, row in enumerate(rows):
-        time = int(row["time"])
-        while next_line < len(lines) and lines[next_line][1]["time"] < time - most:
-            next_line += 1
-        at = next_line
-        while at + 1 < len(lines) and abs(lines[at + 1][1]["time"] - time) < abs(lines[at][1]["time"] - time):
-            at += 1
-        if at < len(lines) and abs(lines[at][1]["time"] - time) <= most:
-            pairs.append((i, at))
-            next_line = at + 1
-    return pairs
-
-
-def comes_near(lines: list[RecordedLine], at: int, name: str, due: Value, most: int) -> bool:
-    """Whether the recording has a value at most so many ds beside a line."""
-    time = lines[at][1]["time"]
-    for step in (-1, 1):
-        k = at + step
-        while 0 <= k < len(lines) and abs(lines[k][1]["time"] - time) <= most:
-            if lines[k][1][name] == due:
-                return True
-            k += step
-    return False
-
-
-def difference(
-    rows: list[RowTexts], lines: list[RecordedLine], pair: tuple[int, int], name: str, allowed: Allowed
-) -> Difference | None:
-    """How a column differs between a row and its line; None where it does so by no more than is allowed."""
-    i, at = pair
-    due, got = due_of(name, rows[i][name]), lines[at][1][name]
-    if due == got:
-        return None
-    deviation = Fraction(abs(got - due)) if name in UNITS and None not in (due, got) else None
-    if deviation is None and name not in UNITS and comes_near(lines, at, name, due, allowed["ds"]):
-        return None
-    return Difference(i + 1, lines[at][0], name, due, got, deviation)
-
-
-def shown(value: Value) -> str:
-    return "-" if value is None else number(value, 3) if isinstance(value, (int, Fraction)) else str(value)
-
-
-def told(each: Difference, rows: list[RowTexts]) -> str:
-    """A difference in a line."""
-    by = "" if each.deviation is None else f", {number(each.deviation, 3)} {UNITS[each.column]} apart"
-    return (
-        f"row {each.row} at {number(Fraction(rows[each.row - 1]['time']) / 10)} s, line {each.line}: {each.column} is "
-        f"{shown(each.due)}, in the recording {shown(each.got)}{by}"
-    )
 
 
 def table(columns: list[str], found: list[Difference], allowed: Allowed, count: int) -> list[str]:
@@ -120,11 +41,6 @@ def table(columns: list[str], found: list[Difference], allowed: Allowed, count: 
     return lines
 
 
-def is_beyond(each: Difference, allowed: Allowed) -> bool:
-    """Whether a difference is more than is allowed."""
-    return each.deviation is None or each.deviation > allowed[UNITS[each.column]]
-
-
 def put_in(rows: list[RowTexts], beyond: list[Difference]) -> str:
     """The rows as text, with the recording's values where they differ; a value that no row can have is left out."""
     rows = [dict(row) for row in rows]
@@ -137,35 +53,67 @@ def put_in(rows: list[RowTexts], beyond: list[Difference]) -> str:
     return "".join(text_of(row) + "\n" for row in rows)
 
 
-def compare(
-    rows: list[RowTexts], lines: list[RecordedLine], allowed: Allowed, most: int
-) -> tuple[list[str], list[Difference]]:
-    """The report in lines, and the differences of more than is allowed."""
-    pairs = matched(rows, lines, allowed["ds"])
-    if not pairs:
-        raise Fault("No row has the time of a line of the recording; look at the scale of `time` in the mapping.")
-    columns = [name for name in COLUMNS if name in lines[0][1]]
-    found = [each for pair in pairs for name in columns if (each := difference(rows, lines, pair, name, allowed))]
-    beyond = [each for each in found if is_beyond(each, allowed)]
-    report = [
-        f"{len(pairs)} rows compared; {len(rows) - len(pairs)} rows have no line of their time, "
-        f"{len(lines) - len(pairs)} lines no row"
-    ]
-    report += [f"first difference: {told(beyond[0], rows)}"] if beyond else ["no difference beyond the tolerances"]
-    report += ["", *table(columns, found, allowed, len(pairs))]
-    if len(columns) < len(COLUMNS):
-        report += ["not compared: " + ", ".join(name for name in COLUMNS if name not in columns)]
-    if beyond:
-        numbers = sorted({each.row for each in beyond})
-        report += [
-            "",
-            f"rows that differ ({len(numbers)}): "
-            + ", ".join(map(str, numbers[:most]))
-            + (", ..." if numbers[most:] else ""),
+class Compared:
+    """Rows beside a recording: what differs beyond the tolerances, and its runs. Raises Fault where nothing is to be
+    compared."""
+
+    def __init__(
+        self, rows: list[RowTexts], lines: list[RecordedLine], allowed: Allowed, source: bytes | None = None
+    ) -> None:
+        """`source` is the input of the rows, where it is known: it says what decided each run."""
+        if not rows or not lines:
+            raise Fault(f"There is nothing to compare: {len(rows)} rows, {len(lines)} lines.")
+        self.rows, self.lines, self.allowed = rows, lines, allowed
+        self.pairs = matched(rows, lines, allowed["ds"])
+        if not self.pairs:
+            raise Fault("No row has the time of a line of the recording; look at the scale of `time` in the mapping.")
+        self.columns = compared_columns(lines)
+        self.found = differences(rows, lines, self.pairs, allowed)
+        self.beyond = [each for each in self.found if is_beyond(each, allowed)]
+        self.runs = self.runs_by(source) if source is not None else self.runs_alone()
+
+    def runs_by(self, source: bytes) -> list[tuple[Run, str]]:
+        """The runs, each with what decided it."""
+        beside = Beside(source, self.rows, self.lines, self.pairs)
+        runs = beside.runs(self.beyond, self.allowed)
+        return [(run, "\n    ".join(lines)) for run, lines in zip(runs, beside.lines(runs))]
+
+    def runs_alone(self) -> list[tuple[Run, str]]:
+        """The runs by the rows and the recording alone."""
+        runs = runs_of(self.beyond, Joints([row + 1 for row, _ in self.pairs], self.allowed))
+        return [(run, told_of_run(run)) for run in runs]
+
+    def report(self, most: int) -> list[str]:
+        """All that is told, in lines; of runs and of single differences at most so many."""
+        lines = [
+            f"{len(self.pairs)} rows compared; {len(self.rows) - len(self.pairs)} rows have no line of their time, "
+            f"{len(self.lines) - len(self.pairs)} lines no row"
         ]
-        report += ["  " + told(each, rows) for each in beyond[:most]]
-        report += [f"  and {len(beyond) - most} more"] if beyond[most:] else []
-    return report, beyond
+        if self.beyond:
+            lines += [f"first difference: {told(self.beyond[0], self.rows)}"]
+        else:
+            lines += ["no difference beyond the tolerances"]
+        lines += ["", *table(self.columns, self.found, self.allowed, len(self.pairs))]
+        if len(self.columns) < len(COLUMNS):
+            lines += ["not compared: " + ", ".join(name for name in COLUMNS if name not in self.columns)]
+        return lines + (self.run_lines(most) + self.single_lines(most) if self.beyond else [])
+
+    def run_lines(self, most: int) -> list[str]:
+        """The runs in their order; where they are too many, one of each kind before the others."""
+        firsts = {run.kind: run for run, _ in reversed(self.runs)}
+        ranked = sorted(self.runs, key=lambda pair: firsts[pair[0].kind] is not pair[0])
+        chosen = {id(run) for run, _ in ranked[:most]}
+        lines = ["", f"runs of differences ({len(self.runs)}, of {len(firsts)} kinds):"]
+        lines += ["  " + text for run, text in self.runs if id(run) in chosen]
+        return lines + ([f"  and {len(self.runs) - most} more"] if self.runs[most:] else [])
+
+    def single_lines(self, most: int) -> list[str]:
+        """Which rows differ, and the first differences one by one."""
+        numbers = sorted({each.row for each in self.beyond})
+        rows = f"rows that differ ({len(numbers)}): {', '.join(map(str, numbers[:most]))}"
+        lines = ["", rows + (", ..." if numbers[most:] else "")]
+        lines += ["  " + told(each, self.rows) for each in self.beyond[:most]]
+        return lines + ([f"  and {len(self.beyond) - most} more"] if self.beyond[most:] else [])
 
 
 def words_of(args: list[str]) -> argparse.Namespace:
@@ -173,6 +121,9 @@ def words_of(args: list[str]) -> argparse.Namespace:
     parser.add_argument("rows", metavar="ROWS", help="the rows that sdm run wrote, - for standard input")
     parser.add_argument("recording", metavar="RECORDING", help="the other computer's recording, a CSV")
     parser.add_argument("--mapping", metavar="FILE", help="a TOML file that maps the recording's columns to a row's")
+    parser.add_argument(
+        "--input", metavar="FILE", help="the input of sdm run for ROWS: then each run says what decided it"
+    )
     parser.add_argument(
         "--mm", type=Fraction, default=Fraction(2), help="how far places may be apart, 2 where it isn't said"
     )
@@ -193,7 +144,11 @@ def words_of(args: list[str]) -> argparse.Namespace:
         help="writes ROWS there with the recording's values where they " "differ by more than that, for tools/plot",
     )
     parser.add_argument(
-        "--most", type=int, default=20, metavar="N", help="how many differences are listed, 20 where it isn't said"
+        "--most",
+        type=int,
+        default=20,
+        metavar="N",
+        help="how many runs and how many differences are listed, 20 where it isn't said",
     )
     return parser.parse_args(args)
 
@@ -204,13 +159,11 @@ def main(args: list[str]) -> int:
     try:
         rows = rows_of(read(words.rows).decode(errors="replace"))
         lines = recording_of(read(words.recording), read(words.mapping) if words.mapping else None)
-        if not rows or not lines:
-            raise Fault(f"There is nothing to compare: {len(rows)} rows, {len(lines)} lines.")
-        report, beyond = compare(rows, lines, allowed, words.most)
+        compared = Compared(rows, lines, allowed, read(words.input) if words.input else None)
         if words.altered:
-            write(words.altered, put_in(rows, beyond))
+            write(words.altered, put_in(rows, compared.beyond))
     except Fault as why:
         print(f"compare: {why}", file=sys.stderr)
         return 2
-    print("\n".join(report))
-    return int(bool(beyond))
+    print("\n".join(compared.report(words.most)))
+    return int(bool(compared.beyond))

@@ -4,10 +4,27 @@ The tools of a laboratory need exact limits, curves and causes, and why an input
 supervisor uses (`library`, `records`, `rows`, `arrays`, `runs`, `sweeps`) needs no model and doesn't pass this door;
 `scripts/house check imports` holds both. Names are the model's: a `Reading` from here is the model's reading, in its
 units.
+
+A diagnosis has rules of the model read otherwise, so it takes the modules too, in which these rules stand.
 """
+from sdm_evidence.model import (
+    curves,
+    data,
+    decelerations,
+    journey,
+    limits,
+    outcome,
+    records,
+    release,
+    rows,
+    speeds,
+    triggers,
+    units,
+    words,
+)
 from sdm_evidence.model.certificates import Claim, Mark, until_it_works
 from sdm_evidence.model.checker import Lines, hold, is_accepted, read_claim, read_map
-from sdm_evidence.model.curves import BrakeCurve
+from sdm_evidence.model.curves import BrakeCurve, Leg
 from sdm_evidence.model.data import (
     DIVIDING_LINE,
     KIND,
@@ -34,12 +51,12 @@ from sdm_evidence.model.data import (
     read_document,
     split,
 )
-from sdm_evidence.model.decelerations import Brake, brakes_of, under_the_train
+from sdm_evidence.model.decelerations import A_brake_safe, A_em, A_gradient, Brake, brakes_of, under_the_train
 from sdm_evidence.model.display import display_of
 from sdm_evidence.model.drive import STEP_TIME, Drive, TrueTrain, drive_lines
 from sdm_evidence.model.flat import numbers_of
 from sdm_evidence.model.journey import MOST_RECORDS, MOST_RESTRICTIONS, Cycle, Supervisor
-from sdm_evidence.model.limits import Situation, Target, TargetLimits
+from sdm_evidence.model.limits import A_EST2_MOST, Situation, T_driver, T_warning, Target, TargetLimits, Times
 from sdm_evidence.model.outcome import Outcome, Refused
 from sdm_evidence.model.records import (
     EST,
@@ -77,6 +94,7 @@ from sdm_evidence.model.units import (
     NOTCHES_PER_KM_H,
     NOTCHES_PER_MM_S,
     Number,
+    Steps,
     printed,
 )
 from sdm_evidence.model.words import MOST_BYTES, main, number_word, open_run, opened

@@ -1,8 +1,9 @@
 """Why rows of `sdm run` are as they are, by tools/model: tools/why INPUT N, or tools/why INPUT N..M
 
 N and M count the rows from 1, and INPUT is what `sdm run` reads, `-` for standard input. The answer has the targets in
-order with their curves and limits, exact and as they are printed, the triggers that hold with their causes, and for
-each command by which rule it was set, held or released. It says so where the row of the program is another.
+order with each step of their curves and limits, exact and as they are printed, the triggers that hold with their
+causes, and for each command by which rule it was set, held or released. It says so where the row of the program is
+another.
 """
 
 import argparse
@@ -12,6 +13,7 @@ from collections.abc import Iterator
 from fractions import Fraction
 from pathlib import Path
 
+from sdm.arithmetic import bec_lines, curve_lines, foot_line, limit_formula, release_lines, times_lines
 from sdm.laboratory.program import Fault, add_program, built, run
 from sdm.laboratory.texts import metres, number, seconds, short, speed, target
 from sdm.laboratory.walk import at_rows, read
@@ -22,7 +24,6 @@ from sdm.exact import (
     GRAINS_PER_CM,
     MOST_RECORDS,
     NOTCHES_PER_KM_H,
-    Number,
     Reading,
     Situation,
     Stop,
@@ -93,17 +94,23 @@ def situation_lines(situation: Situation) -> list[str]:
     return lines
 
 
-def target_lines(each: TargetLimits, exact: TargetLimits, V: Number) -> list[str]:
-    """A target: what its limits are made of, and each limit exact and as it is printed."""
+def target_lines(supervisor: Supervisor, reading: Reading, each: TargetLimits, exact: TargetLimits) -> list[str]:
+    """A target: what its limits are made of, step by step, and each limit exact and as it is printed."""
+    V, times = reading.V_est, supervisor.times
     compared = "estimated" if each.target.compared == "est" else "max safe"
     lines = [f"{target(each.target)}; compared: the {compared} front end, {metres(each.x)}"]
     if each.target.V_target * NOTCHES_PER_KM_H > V:
         lines.append("  faster than the train: nothing is passed, and it is in no column")
+    lines.append(foot_line(each.target))
     if each.V_bec is None:
+        lines += curve_lines(supervisor, "expected", each.target, V, each.target.foot_speed)
         lines.append(f"  d_SBD(V_est) {metres(exact.curve)}")
     else:
+        lines += bec_lines(supervisor.data, times, reading, each.target, each)
+        lines += curve_lines(supervisor, "safe", each.target, each.V_bec, each.target.foot_speed)
         lines.append(f"  V_bec {speed(each.V_bec)}, D_bec {metres(each.D_bec)}, d_EBD(V_bec) {metres(exact.curve)}")
     if each.guide is not None:
+        lines += curve_lines(supervisor, "normal", each.target, V, each.target.V_target * NOTCHES_PER_KM_H)
         lines.append(f"  d_guide(V_est) {metres(exact.guide)}: P is {'there' if each.guide == each.d_P else 'earlier'}")
     for name, field in LIMITS.items():
         stepped, true = getattr(each, field), getattr(exact, field)
@@ -111,6 +118,7 @@ def target_lines(each: TargetLimits, exact: TargetLimits, V: Number) -> list[str
             grains = number(true - stepped, 2)
             early = "" if stepped == true else f", computed {grains} grain{'s' if grains != '1' else ''} earlier"
             side = "past it" if each.x > stepped else "at it" if each.x == stepped else "before it"
+            lines.append(f"  {name:4}= {limit_formula(name, each.target, exact, times, V)}")
             lines.append(f"  {name:4}{metres(true)}, printed {printed(stepped)}{early}; the front end is {side}")
     return lines
 
@@ -214,7 +222,7 @@ def row_lines(cycle: Cycle, theirs: str) -> list[str]:
 class ProgramRows:
     """The rows of the program for an input, where there is a program."""
 
-    def __init__(self, program: Path, source: bytes) -> None:
+    def __init__(self, program: Path | None, source: bytes) -> None:
         self.rows: list[str] = []
         self.absent = ""
         try:
@@ -234,14 +242,16 @@ def row_answer(supervisor: Supervisor, cycle: Cycle, before: Commands, theirs: s
     exact = supervisor.situation(reading, exact=True).targets
     lines = section("reading", reading_lines(reading)) + section("in force", force_lines(supervisor))
     lines += section("decided on", situation_lines(cycle.situation))
+    lines += section("times", times_lines(supervisor.data, cycle.situation.times))
+    lines += section("release", release_lines(supervisor))
     pairs = sorted(zip(cycle.situation.targets, exact), key=lambda pair: pair[0].target.place)
     for i, (each, true) in enumerate(pairs, 1):
-        lines += section(f"target {i}", target_lines(each, true, reading.V_est))
+        lines += section(f"target {i}", target_lines(supervisor, reading, each, true))
     lines += section("triggers", trigger_lines(cycle)) + section("commands", command_lines(cycle, before))
     return lines + section("row", row_lines(cycle, theirs))
 
 
-def answers(source: bytes, numbers: range, program: Path) -> Iterator[str]:
+def answers(source: bytes, numbers: range, program: Path | None) -> Iterator[str]:
     """Why some rows are as they are, each with its number where they are several."""
     theirs = ProgramRows(program, source)
     for row, (supervisor, cycle, before) in zip(numbers, at_rows(source, numbers)):

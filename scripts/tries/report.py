@@ -32,7 +32,7 @@ RECORDS = 100_000
 PATIENCE = 60.0  # s, for a page to be drawn
 SPOTS = 15  # to which the mouse goes
 COMPARED = "10 rows differ"  # what docs/LABORATORY.md says of examples/interventions
-FIRSTS = 6  # columns that differ there
+RUNS = 10  # of differences there
 
 
 def long_input() -> str:
@@ -160,9 +160,9 @@ def try_comparison(page: Page) -> None:
     """The differences of examples/interventions."""
     if COMPARED not in page.text("compared"):
         raise Tried(f"the comparison says {page.text('compared')}")
-    figures = page.browser.find_elements(By.CSS_SELECTOR, "#firsts figure svg .ring")
-    if len(figures) != FIRSTS:
-        raise Tried(f"{len(figures)} pictures of first differences for {FIRSTS}")
+    figures = page.browser.find_elements(By.CSS_SELECTOR, "#runs figure svg .ring")
+    if len(figures) != RUNS:
+        raise Tried(f"{len(figures)} pictures of runs for {RUNS}")
     page.one("#number").send_keys(Keys.CONTROL, "a")
     page.one("#number").send_keys("1", Keys.ENTER)
     page.one("#difference-after").click()

@@ -3,9 +3,17 @@ from collections.abc import Iterator
 from fractions import Fraction
 from statistics import median
 
-from sdm.exact import Authority, Calculated, Data, Limit, Reading, Stop
+from sdm.exact import (
+    Authority,
+    Calculated,
+    Data,
+    Limit,
+    Reading,
+    Stop,
+)
 
-from sdm.findings.finding import Finding
+from sdm.findings.finding import Finding, doubt
+from sdm.findings.data_doubts import data_doubts
 from sdm.findings.motion import ACCEL_MOST, PlacedReading, by_speed, is_place_possible, is_speed_possible, reads, way
 from sdm.findings.records_part import Placed
 from sdm.findings.toml_places import Places
@@ -21,6 +29,9 @@ SLIPS = [
     (Fraction(1, 100), "times look like ms, and ds are due: divided by 100 they fit"),
     (Fraction(2500, 9), "speeds look like km/h, and mm/s are due: times 1000/3.6 they fit"),
     (Fraction(1000), "speeds look like m/s, and mm/s are due: times 1000 they fit"),
+    (Fraction(5, 18), "speeds are 3.6 times too fast, as where km/h were taken for m/s: divided by 3.6 they fit"),
+    (Fraction(18, 5), "speeds are 3.6 times too slow, as where m/s were taken for km/h: times 3.6 they fit"),
+    (Fraction(-1), "front ends fall as the train runs, and must rise: with the other sign they fit"),
 ]
 # Of one number of a reading: how many of its units one of another unit is.
 ONE_SLIPS: dict[str, list[tuple[int | Fraction, str]]] = {
@@ -28,6 +39,7 @@ ONE_SLIPS: dict[str, list[tuple[int | Fraction, str]]] = {
     "speed": [(Fraction(2500, 9), "km/h"), (1000, "m/s"), (10, "cm/s")],
 }
 NEAR_THE_END = 0.95  # a stop from this part of the way on
+LONG_STEPS = 40  # into which a journey is cut
 NEAR = 0.25  # how far a ratio may be from that of a slip
 
 
@@ -35,11 +47,8 @@ def doubts(data: Data, placed: list[Placed], places: Places | None) -> list[Find
     """All that looks wrong."""
     path = reads(placed)
     whole = standing(path) or slip(path)
-    return whole or [*steps(path), *gaps(path), *authorities(data, placed, places)]
-
-
-def doubt(line: int | None, where: str, found: str, expected: str, hint: str) -> Finding:
-    return Finding(line, None, where, found, expected, hint, is_refusal=False)
+    found = whole or [*steps(path), *gaps(path), *authorities(data, placed, places)]
+    return data_doubts(data, places) + found
 
 
 def named(read: PlacedReading, column: str) -> str:
@@ -67,19 +76,33 @@ def standing(path: list[PlacedReading]) -> list[Finding]:
 
 
 def slip(path: list[PlacedReading]) -> list[Finding]:
-    """A whole journey in another unit: most steps have its ratio, and the whole way isn't possible."""
-    if len(path) < 3:
+    """A whole journey in another unit, or along places that fall: most of its steps have the ratio of a slip, and the
+    whole way isn't possible. Where steps are too short for it, those that the noise of front ends doesn't hide."""
+    if len(path) < 3 or way(path).is_possible():
         return []
-    whole = way(path)
-    pairs = [(b.reading.est - a.reading.est, by_speed([a, b])) for a, b in zip(path, path[1:])]
-    ratios = [gone / told for gone, told in pairs if told > 0]
-    if whole.is_possible():
-        return []
-    for factor, hint in SLIPS:
-        fitting = [ratio for ratio in ratios if abs(ratio / float(factor) - 1) <= NEAR]
-        if fitting and 4 * len(fitting) >= 3 * len(ratios):
-            return [way_doubt(path, f"{hint}; so it is in {len(fitting)} of {len(ratios)} steps")]
+    for pairs in (list(zip(path, path[1:])), long_steps(path)):
+        ways = [(b.reading.est - a.reading.est, told) for a, b, told in told_ways(path, pairs) if told > 0]
+        for factor, hint in SLIPS:
+            fitting = [gone for gone, told in ways if abs(gone / told / float(factor) - 1) <= NEAR]
+            if fitting and 4 * len(fitting) >= 3 * len(ways):
+                return [way_doubt(path, f"{hint}; so it is in {len(fitting)} of {len(ways)} steps")]
     return []
+
+
+def told_ways(
+    path: list[PlacedReading], pairs: list[tuple[PlacedReading, PlacedReading]]
+) -> Iterator[tuple[PlacedReading, PlacedReading, float]]:
+    """Steps with the way by the speeds between."""
+    numbers = {read.number: i for i, read in enumerate(path)}
+    for a, b in pairs:
+        yield a, b, by_speed(path[numbers[a.number] : numbers[b.number] + 1])
+
+
+def long_steps(path: list[PlacedReading]) -> list[tuple[PlacedReading, PlacedReading]]:
+    """At most LONG_STEPS steps over the whole journey, of about as many readings each."""
+    size = max(len(path) // LONG_STEPS, 1)
+    chosen = path[::size]
+    return list(zip(chosen, chosen[1:]))
 
 
 def way_doubt(path: list[PlacedReading], hint: str) -> Finding:

@@ -1,7 +1,13 @@
 """What refuses the opening over data that hold: slopes, and then the authority (PROFILE "Slopes that are refused")."""
 from fractions import Fraction
 
-from sdm.exact import Brake, Data, GRAINS_PER_CM, brakes_of, under_the_train
+from sdm.exact import (
+    Brake,
+    Data,
+    GRAINS_PER_CM,
+    brakes_of,
+    under_the_train,
+)
 
 from sdm.findings.authority import refusals
 from sdm.findings.data_part import path_text
@@ -29,7 +35,8 @@ def weak(data: Data, places: Places, brake: Brake, band: int) -> list[Finding]:
     causes = [f"a gradient of {grad / 10:g} per mille under the train"]
     causes += ["reduced adhesion"] * (reduced and brake.kind == "safe")
     causes += ["no special brake"] * (unaided and brake.kind == "safe")
-    found = f"a {brake.kind} deceleration of {value:.3f} m/s² from {start} cm on, with {', '.join(causes)}"
+    article = "an" if brake.kind == "expected" else "a"
+    found = f"{article} {brake.kind} deceleration of {value:.3f} m/s² from {start} cm on, with {', '.join(causes)}"
     return [tell(places, ("train", "band", band, KEYS[brake.kind]), found, "at least 0.05 m/s²")]
 
 

@@ -28,6 +28,7 @@ from sdm.exact import (
     read_int,
 )
 
+from sdm.findings.alike import AlikeFindings
 from sdm.findings.authority import Refusal, refusals
 from sdm.findings.expected import nearest, span, with_unit
 from sdm.findings.finding import Finding
@@ -59,8 +60,8 @@ def columns_of(kind: str) -> tuple[Key, ...]:
 
 
 def text_of(field: bytes) -> str:
-    """A field as a message shows it: whole where it is short."""
-    text = field.decode("utf-8", "backslashreplace")
+    """A field as a message shows it: whole where it is short, a byte order mark by its name."""
+    text = field.decode("utf-8", "backslashreplace").replace("\ufeff", "<byte order mark>")
     return f'"{text}"' if len(text) <= 40 else f'"{text[:40]}…"'
 
 
@@ -68,7 +69,7 @@ class RecordsPart:
     """The faults of the records behind a line of the input, on a track of a length in cm, where that is known."""
 
     def __init__(self, data: bytes, first_line: int, length: int | None) -> None:
-        self.length, self.findings, self.accepted = length, list[Finding](), list[Placed]()
+        self.length, self.found, self.accepted = length, AlikeFindings(), list[Placed]()
         self.fault = ""  # the first refused record, as the program tells it
         self.last: Placed | None = None  # the last reading
         self.held: dict[int, int] = {}  # the identities of the restrictions that are held, with their lines
@@ -80,12 +81,20 @@ class RecordsPart:
                 break
             self.record(line, number, fields)
 
+    @property
+    def findings(self) -> list[Finding]:
+        """The faults; of many that are alike one."""
+        return self.found.told()
+
     def readings(self) -> list[Placed]:
         """The accepted readings."""
         return [each for each in self.accepted if isinstance(each.event, Reading)]
 
     def tell(self, line: int, column: int | None, where: str, found: str, expected: str, hint: str = "") -> None:
-        self.findings.append(Finding(line, column, where, found, expected, hint))
+        """A fault. Those of one form are alike wherever they stand, and else those with one place in a record."""
+        name = where.partition(", ")[2]
+        kind = hint if hint in FORMS else (name, hint, "" if column else found)
+        self.found.add(kind, Finding(line, column, where, found, expected, hint))
 
     def note(self, number: int, text: str) -> None:
         """The first fault is the one that the program tells."""
@@ -149,7 +158,9 @@ class RecordsPart:
         first = fields[0].decode("utf-8", "backslashreplace")
         near = nearest(first.strip(), list(KINDS))
         hint = f"{near} is the nearest kind" if near else ""
-        if first.strip() in KINDS and first != first.strip():
+        if first.startswith("\ufeff"):
+            hint = "a byte order mark is skipped at the start of the records alone"
+        elif first.strip() in KINDS and first != first.strip():
             hint = "a kind has no spaces around it"
         elif len(fields) == 1 and re.match(r"\w+\s*[;\t ]", first):
             hint = "commas separate the fields"
@@ -200,12 +211,21 @@ class RecordsPart:
         return [Refusal("identity unknown", "identity", str(event.identity), f"a restriction that is held: {held}")]
 
 
+SPACE, POINT, PLUS = (
+    "a space is part of its field",
+    "a number has no point: give it in the smaller unit",
+    "a number has no +",
+)
+EMPTY = "the field is empty"
+FORMS = {SPACE, POINT, PLUS, EMPTY}  # what is wrong with a field, whichever it is
+
+
 def field_hint(field: bytes) -> str:
     """Why a field may be no number."""
     if field.strip() != field:
-        return "a space is part of its field"
+        return SPACE
     if re.fullmatch(rb"-?[0-9]+\.[0-9]*", field):
-        return "a number has no point: give it in the smaller unit"
+        return POINT
     if field.startswith(b"+"):
-        return "a number has no +"
-    return "the field is empty" if not field else ""
+        return PLUS
+    return EMPTY if not field else ""

@@ -22,11 +22,13 @@ from sdm.findings.data_part import DataPart
 from sdm.findings.doubts import doubts
 from sdm.findings.finding import Finding
 from sdm.findings.opening import opening_faults
-from sdm.findings.records_part import RecordsPart
+from sdm.findings.records_part import RecordsPart, text_of
 from sdm.findings.syntax import read_text
 from sdm.findings.toml_places import Places
 
-MEANT = re.compile(rb"^[ \t]*%+[ \t]*\r?$\n?", re.MULTILINE)  # what is likely meant as the dividing line
+MEANT = re.compile(
+    rb"^(?:\xef\xbb\xbf)?[ \t]*%+[ \t]*\r?$\n?", re.MULTILINE
+)  # what is likely meant as the dividing line
 RECORD = re.compile(rb"^(?:" + b"|".join(EVENTS) + rb"),", re.MULTILINE)
 
 
@@ -84,8 +86,8 @@ def parted(data: bytes) -> tuple[bytes, bytes, list[Finding]]:
     meant, record = MEANT.search(data), RECORD.search(data)
     expected = "a line that is exactly %% between the data part and the records"
     if meant is not None:
-        found = meant[0].rstrip(b"\r\n").decode()
-        finding = Finding(data.count(b"\n", 0, meant.start()) + 1, 1, "dividing line", f'"{found}"', expected)
+        found = text_of(meant[0].rstrip(b"\r\n"))
+        finding = Finding(data.count(b"\n", 0, meant.start()) + 1, 1, "dividing line", found, expected)
         return data[: meant.start()], data[meant.end() :], [finding]
     if record is not None:
         begin = record.start()

@@ -97,25 +97,26 @@ def add_program(parser: argparse.ArgumentParser) -> None:
     parser.add_argument(
         "--program",
         type=Path,
-        default=BUILT,
         metavar="PATH",
-        help="the program to run, where it isn't " + ("crates/sdm/out/sdm" if IS_REPOSITORY else "the path's sdm"),
+        help="the program to run, as it is, where it isn't "
+        + ("crates/sdm/out/sdm" if IS_REPOSITORY else "the path's sdm"),
     )
 
 
-def built(program: Path) -> Path:
-    """The program to take, as a whole path: the built one where it is of these sources, or the one that was named."""
-    program = program.resolve()
-    if program == PROGRAM.path and IS_REPOSITORY:
+def built(program: Path | None) -> Path:
+    """The program to take, as a whole path: the one that was named, as it is, or the built one where it is of these
+    sources."""
+    if program is None and IS_REPOSITORY:
         fault = PROGRAM.fault()
     else:
-        fault = None if program.is_file() else f"There is no program at {program}"
+        fault = None if (program or BUILT).is_file() else f"There is no program at {program or BUILT}"
     if fault:
         makers = ".ci/run or `scripts/house program build` builds it, and --program" if IS_REPOSITORY else "--program"
         raise Fault(f"{fault}: {makers} names another one.")
-    if not os.access(program, os.X_OK):
-        raise Fault(f"{program} is no program.")
-    return program
+    path = (program or BUILT).resolve()
+    if not os.access(path, os.X_OK):
+        raise Fault(f"{path} is no program.")
+    return path
 
 
 def run(program: str | os.PathLike[str], words: Sequence[str], data: bytes) -> Result:

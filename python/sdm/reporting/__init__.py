@@ -35,10 +35,12 @@ def report(
     kmh: float = 0.5,
     ds: int = 0,
     title: str = "sdm run",
+    diagnose: bool = False,
 ) -> Report:
     """The report of a journey; of its comparison, where a recording is given, a CSV, with its mapping.
 
     Places may be `mm` apart, ceilings `kmh`, times of rows and lines `ds`. Where no rows are given, the journey is run.
+    With `diagnose` the page says which misreading or number explains the differences.
     Raises SdmError where a journey to be run is refused, and sdm.laboratory.program.Fault where the rows are not those
     of the records, a recording can't be compared, a file can't be read or d3 is missing."""
     from sdm.arrays import records_in, text
@@ -56,4 +58,6 @@ def report(
     if recording is not None:
         allowed = {"mm": Fraction(mm), "km/h": Fraction(kmh), "ds": ds}
         recorded = Recorded(file(recording), None if mapping is None else file(mapping), allowed)
-    return report_of(title, Source("input", input_of(data, held)), Result(text(rows), "", 0), ran, recorded)
+    return report_of(
+        title, Source("input", input_of(data, held)), Result(text(rows), "", 0), ran, recorded, "", diagnose
+    )

@@ -7,8 +7,12 @@ row.
 from collections.abc import Sequence
 from fractions import Fraction
 
-from sdm.compare import Allowed, Difference, difference, is_beyond, matched, shown
-from sdm.compare import told as told_of
+from sdm.diagnosis.beside import Beside
+from sdm.diagnosis.diagnosing import Diagnosis
+from sdm.diagnosis.runs import Run, signed
+from sdm.diagnosis.telling import run_text
+from sdm.laboratory.comparison import Allowed, Difference, compared_columns, difference, is_beyond, matched, shown
+from sdm.laboratory.comparison import told as told_of
 from sdm.laboratory.program import Fault
 from sdm.laboratory.recording import RecordedLine
 from sdm.laboratory.rows import COLUMNS, UNITS, RowTexts
@@ -17,13 +21,14 @@ from sdm.laboratory.texts import number
 from sdm.reporting.journey import Json, steps_of
 from sdm.reporting.page import TextTable
 
+MOST_PICTURES = 40
 MILLI = 1000  # of a deviation's unit
 
 
 class Comparison:
     """Rows beside a recording: what was compared, and all that differs, by column."""
 
-    def __init__(self, rows: Sequence[RowTexts], lines: list[RecordedLine], allowed: Allowed) -> None:
+    def __init__(self, source: bytes, rows: Sequence[RowTexts], lines: list[RecordedLine], allowed: Allowed) -> None:
         """Raises Fault where no row has the time of a line."""
         self.rows, self.allowed, held = list(rows), allowed, list(rows)
         self.pairs = matched(held, lines, allowed["ds"]) if lines else []
@@ -31,14 +36,22 @@ class Comparison:
             raise Fault("No row has the time of a line of the recording; look at the scale of `time` in the mapping.")
         self.lines = {row: lines[at][0] for row, at in self.pairs}
         self.unmatched = len(lines) - len(self.pairs)
-        self.columns = [name for name in COLUMNS if name in lines[0][1]]
+        self.columns = compared_columns(lines)
         self.found: dict[str, list[Difference]] = {name: [] for name in self.columns}
         for pair in self.pairs:
             for name in self.columns:
                 each = difference(held, lines, pair, name, allowed)
                 if each is not None:
                     self.found[name].append(each)
+        self.beside = Beside(source, self.rows, lines, self.pairs)
         self.beyond = {name: [each for each in found if is_beyond(each, allowed)] for name, found in self.found.items()}
+        self.explained: dict[tuple[str, int, int], str] = {}  # what explains a run, where it was asked for
+        self.runs = self.beside.runs((each for found in self.beyond.values() for each in found), allowed)
+
+    def explain_by(self, found: Diagnosis) -> None:
+        """Takes over what a diagnosis says of each run."""
+        for run, of in zip(found.runs, found.of_runs):
+            self.explained[run.column, run.first, run.last] = run_text(found.explanations[0], of)
 
     def outcome(self) -> str:
         """In a sentence, how the rows and the recording agree."""
@@ -85,17 +98,29 @@ class Comparison:
         shown_values = [f"{number(value, 3)} {UNITS[name]}" for value in (min(values), mean, max(values))]
         return [*counts, *shown_values, f"row {farthest}"]
 
-    def firsts(self) -> list[Difference]:
-        """The first difference beyond tolerance of each column, in the order of the rows."""
-        return sorted((found[0] for found in self.beyond.values() if found), key=lambda each: each.row)
+    def pictured(self) -> list[tuple[Run, tuple[str, str]]]:
+        """The runs that have a picture, one of each kind before the others, in the order of their rows."""
+        firsts = {run.kind: run for run in reversed(self.runs)}
+        ranked = sorted(self.runs, key=lambda run: firsts[run.kind] is not run)[:MOST_PICTURES]
+        chosen = sorted(ranked, key=lambda run: (run.first, run.last))
+        return list(zip(chosen, self.beside.lines(chosen), strict=True))
 
     def json(self) -> Json:
         """What the page draws and its cursor shows."""
         return {
             "line": steps_of(self.lines.get(row) for row in range(len(self.rows))),
             "columns": [self.column(name) for name in self.columns],
-            "firsts": [
-                {"column": each.column, "row": each.row - 1, "text": told_of(each, self.rows)} for each in self.firsts()
+            "runs": [
+                {
+                    "column": run.column,
+                    "first": run.first - 1,
+                    "last": run.last - 1,
+                    "row": run.farthest.row - 1,
+                    "text": text,
+                    "facts": facts,
+                    "explained": self.explained.get((run.column, run.first, run.last), ""),
+                }
+                for run, (text, facts) in self.pictured()
             ],
         }
 
@@ -112,8 +137,3 @@ class Comparison:
             "got": [shown(each.got) if deviation is None else None for each, deviation in zip(found, by)],
             "beyond": "".join("01"[is_beyond(each, self.allowed)] for each in found),
         }
-
-
-def signed(each: Difference) -> Fraction | None:
-    """The recording's value less the row's, where both are numbers."""
-    return None if each.deviation is None else Fraction(each.got - each.due)

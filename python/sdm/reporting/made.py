@@ -8,21 +8,22 @@ from fractions import Fraction
 from html import escape
 from pathlib import Path
 
-import sdm
-from sdm.compare import Allowed
+from sdm.diagnosis.diagnosing import Diagnosis, diagnosis_of
+from sdm.diagnosis.telling import explanation_lines
 from sdm.findings import explanation
+from sdm.laboratory.comparison import Allowed
 from sdm.laboratory.program import PROGRAM, Fault, Result
 from sdm.laboratory.recording import recording_of
 from sdm.laboratory.rows import rows_of
+from sdm.laboratory.version import version
 
-from sdm.reporting.differences import Comparison
+from sdm.reporting.differences import MOST_PICTURES, Comparison
 from sdm.reporting.journey import Json, Told, journey_json
 from sdm.reporting.page import TextTable, page, plot_section, section, shades, table
 from sdm.reporting.statistics import journey_table
 
 ALLOWED: Allowed = {"mm": Fraction(2), "km/h": Fraction(1, 2), "ds": 0}  # where nothing else is said
 MOST_FINDINGS = 40
-ABOUT = f'<p>Made by sdm {sdm.__version__}; <a href="#facts">what was run</a>, with digests.</p>\n'
 
 
 @dataclass(frozen=True)
@@ -69,7 +70,7 @@ def program_fact(program: Path) -> str:
 def run_facts(source: Source, result: Result, ran: str, recorded: Recorded | None) -> TextTable:
     """What was run."""
     lines = [
-        ["package", f"sdm {sdm.__version__}, which made this page; the causes and the curves are its model's"],
+        ["package", f"sdm {version()}, which made this page; the causes and the curves are its model's"],
         ["rows", ran],
         ["input", source.fact()],
         ["output", Source(f"{result.rows.count(chr(10)):,} rows", result.rows.encode()).fact()],
@@ -109,28 +110,47 @@ def findings_section(source: Source, result: Result) -> str:
 
 
 def comparison_sections(comparison: Comparison) -> list[str]:
-    """The differences: the first one of each column, and the table."""
-    firsts = '<div id="firsts"></div>\n' if comparison.firsts() else "<p>None beyond the tolerances.</p>\n"
+    """The differences: their runs, and the table by column."""
+    count = len(comparison.runs)
+    runs = '<div id="runs"></div>\n' if count else "<p>None beyond the tolerances.</p>\n"
+    if count > MOST_PICTURES:
+        runs = f"<p>{count} runs, of which {MOST_PICTURES} are shown, each kind at least once.</p>\n{runs}"
     note = (
         "<p>A deviation is the recording's value less that of sdm, over the rows compared. A difference in a word has "
         "none, nor has a place on one side alone.</p>\n"
     )
     return [
-        section("The first difference of each column", firsts),
+        section("Runs of differences", runs),
         section("Differences by column", note + table(comparison.table(), "differences-table", head=True)),
     ]
 
 
+def diagnosis_section(found: Diagnosis) -> str:
+    """What explains the differences, as tools/diagnose prints it; what explains each run stands with its picture."""
+    rules, numbers = found.tried
+    note = f"<p>{rules} misreadings of the profile and {numbers} numbers were tried, alone and together.</p>\n"
+    text = "\n".join(explanation_lines(found)) if found.runs else "nothing differs by more than the tolerances"
+    return section("What explains the differences", f'{note}<pre id="diagnosis">{escape(text)}</pre>\n')
+
+
 def report_of(
-    title: str, source: Source, result: Result, ran: str, recorded: Recorded | None = None, link: str = ""
+    title: str,
+    source: Source,
+    result: Result,
+    ran: str,
+    recorded: Recorded | None = None,
+    link: str = "",
+    diagnose: bool = False,
 ) -> Report:
     """The report of a run of an input, and of its comparison with a recording.
 
-    `ran` says what wrote the rows, and `link` is HTML that leads back to an overview. Raises Fault where the rows are
+    `ran` says what wrote the rows, `link` is HTML that leads back to an overview, and `diagnose` says whether what
+    explains the differences is looked for. Raises Fault where the rows are
     not those of the input, the recording can't be compared, or d3 is missing."""
     rows = rows_of(result.rows)
     facts = table(run_facts(source, result, ran, recorded), "facts") + mapping_text(recorded)
-    head = [link, ABOUT, f'<p class="outcome" id="outcome">{escape(outcome_of(result))}</p>\n']
+    about_it = f'<p>Made by sdm {version()}; <a href="#facts">what was run</a>, with digests.</p>\n'
+    head = [link, about_it, f'<p class="outcome" id="outcome">{escape(outcome_of(result))}</p>\n']
     about = [section("What was run", facts), findings_section(source, result)]
     if not rows:
         if recorded is not None:
@@ -141,13 +161,18 @@ def report_of(
     statistics = section("The journey in numbers", table(journey_table(told.readings, rows), "statistics"))
     if len(data["journey"]["differs"]) > 0:
         head.append(f'<p class="bad">{others(data["journey"]["differs"])}</p>\n')
-    between = []
+    between: list[str] = []
     if recorded is not None:
         mapping = recorded.mapping.data if recorded.mapping else None
-        comparison = Comparison(rows, recording_of(recorded.recording.data, mapping), recorded.allowed)
+        lines = recording_of(recorded.recording.data, mapping)
+        comparison = Comparison(source.data, rows, lines, recorded.allowed)
+        if diagnose:
+            found = diagnosis_of(source.data, rows, lines, recorded.allowed)
+            comparison.explain_by(found)
+            between = [diagnosis_section(found)]
         data["comparison"] = comparison.json()
         head.append(f'<p class="outcome" id="compared">{escape(comparison.outcome())}</p>\n')
-        between = comparison_sections(comparison)
+        between += comparison_sections(comparison)
     plot = plot_section(len(rows), recorded is not None)
     return Report(page(title, [*head, plot, *between, statistics, *about], data))
 

@@ -7,10 +7,10 @@ from html import escape
 from pathlib import Path
 from urllib.parse import quote
 
-import sdm
 from sdm.campaign import OUTCOMES, differences, got, statistics
 from sdm.laboratory.cases import case_of
 from sdm.laboratory.statistics import COMMANDS, MARGINS, Figures, Statistics, milliseconds
+from sdm.laboratory.version import version
 from sdm.laboratory.walk import write
 
 from sdm.reporting.made import Source, report_of
@@ -84,10 +84,12 @@ def statistics_section(found: Statistics, pages: Pages) -> str:
     return section("In numbers", f'<p>{found.total()}</p>\n{counts}<ul id="extremes">\n{"".join(lines)}</ul>\n')
 
 
-def write_pages(journeys: Sequence[Figures], top: Path, out: Path, most: int) -> Pages:
-    """Writes the pages of at most so many journeys, the first ones that can have one."""
+def write_pages(journeys: Sequence[Figures], nearest: Sequence[Figures], top: Path, out: Path, most: int) -> Pages:
+    """Writes the pages of at most so many journeys, the first ones that can have one, and of those with the least
+    ways."""
     pages = {}
-    for each in [each for each in journeys if has_page(each)][:most]:
+    first = [each for each in journeys if has_page(each)][:most]
+    for each in first + [each for each in nearest if has_page(each) and each not in first]:
         folder = top / each.name
         write_page(folder, each.name, os.path.relpath(out, folder))
         pages[each.name] = os.path.relpath(folder / PAGE, out.parent)
@@ -100,12 +102,12 @@ def write_overview(top: Path, out: Path, title: str | None, most: int) -> None:
     top = top.resolve()
     found = statistics(top)
     journeys = sorted(found.journeys, key=lambda each: each.verdict != "differs")
-    pages = write_pages(journeys, top, out.resolve(), most)
+    pages = write_pages(journeys, [figures for _, figures in found.nearest()], top, out.resolve(), most)
     head = "".join(f"<th>{name}</th>" for name in ["journey", "words", "end", "due", "rows", *COMMANDS])
     note = f"<p>The columns tco, sb and eb count rows. {len(pages):,} of {len(journeys):,} journeys have a page.</p>\n"
     lines = "".join(line_of(each, pages) for each in journeys)
     sections = [
-        f"<p>Made by sdm {sdm.__version__} of what tools/campaign wrote in {escape(top.name)}.</p>\n",
+        f"<p>Made by sdm {version()} of what tools/campaign wrote in {escape(top.name)}.</p>\n",
         section("Ends", table(ends_table(journeys), "ends")),
         statistics_section(found, pages),
         section("Journeys", f'{note}<table id="journeys"><tr>{head}</tr>\n{lines}</table>\n'),

@@ -6,6 +6,7 @@ const MARGIN = {left: 78, right: 14, top: 40, bottom: 34};
 const LEVELS = [3, 14, 25]; // how far above the plot names stand
 const SPOT = 3; // half the height of a difference that is a number alone
 const MOST_MARKS = 500; // readings in view, above which no reading has a mark of its own
+const INSET_BELOW = 14; // pixels between two marks, below which an inset shows them apart
 const GRADES = {"-1": "#F3C9B1", 0: "#EEEEEE", 1: "#CFE6D2"}; // downhill, level, uphill
 const LINES = { // how a curve or a limit is drawn: its name, colour and dash
     ebi: ["EBI", "#D55E00", ""],
@@ -324,5 +325,44 @@ function drawDifferences(panel) {
     }
     spans.forEach(([least, greatest, isBeyond], here) => {
         straight(panel.fields, isBeyond ? "beyond" : "within", here, y(greatest) - SPOT, here, y(least) + SPOT);
+    });
+}
+
+// From where to where the readings of a run go, at the foot of its picture.
+function drawExtent(plot, run) {
+    const {journey, x, y} = plot;
+    const [from, to] = [x(journey.est[run.first]), x(journey.est[run.last])];
+    straight(plot.cursor, "extent", Math.min(from, to) - 2, y.range()[0] - 3, Math.max(from, to) + 2);
+}
+
+// A limit in m as the row and as the recording have it, at its speed, each named at its own place; and an inset of the
+// two where they lie too near to one another to be told apart.
+function drawRecorded(plot, own, recorded, kmh, name) {
+    const {x, y, svg, height} = plot;
+    const level = y(kmh);
+    straight(plot.cursor, "recorded", x(recorded), level - 14, x(recorded), level + 14);
+    const isBefore = recorded < own;
+    const [low, high] = x.range();
+    const named = (place, text, classes, side) => {
+        const at = Math.min(Math.max(x(place), low + 60), high - 60);
+        element(svg, "text", classes).attr("x", at).attr("y", level + side * 22 + 4).attr("text-anchor", "middle")
+            .text(text);
+    };
+    named(recorded, `recorded ${number(recorded, 3)} m`, "got", isBefore ? -1 : 1);
+    named(own, `sdm ${number(own, 3)} m`, "own", isBefore ? 1 : -1);
+    if (Math.abs(x(recorded) - x(own)) >= INSET_BELOW) return;
+    const [left, wide, top] = [low + 8, 190, height - MARGIN.bottom - 66];
+    const inner = d3.scaleLinear().domain([Math.min(own, recorded), Math.max(own, recorded)])
+        .range([left + 50, left + wide - 50]);
+    const box = element(svg, "g", "inset");
+    box.append("rect").attr("x", left).attr("y", top).attr("width", wide).attr("height", 52);
+    straight(box, "zero", left + 6, top + 26, left + wide - 6);
+    straight(box, "limit", inner(own), top + 18, inner(own), top + 34).attr("stroke", LINES[name][1]);
+    straight(box, "recorded", inner(recorded), top + 14, inner(recorded), top + 38);
+    const by = 1000 * (recorded - own);
+    element(box, "text", "title").attr("x", left + wide / 2).attr("y", top + 12).attr("text-anchor", "middle")
+        .text(`${LINES[name][0]}: ${by > 0 ? "+" : ""}${number(by, 0)} mm`);
+    [[own, "sdm", "own"], [recorded, "recorded", "got"]].forEach(([place, text, classes]) => {
+        element(box, "text", classes).attr("x", inner(place)).attr("y", top + 48).attr("text-anchor", "middle").text(text);
     });
 }

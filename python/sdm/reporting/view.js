@@ -1,8 +1,9 @@
 // The view of a report: the plot of speed over place with what lies below it, the zoom, and the cursor over readings.
 "use strict";
 
-const WIDTH = 980, HEIGHT = 430;
-const BESIDE_FIRST = 6; // readings on each side, in the picture of a first difference
+const IS_NARROW = innerWidth < 700; // a drawing has fewer pixels there, so that its texts can be read
+const WIDTH = IS_NARROW ? 460 : 980, HEIGHT = 430, WIDTH_OF_RUN = IS_NARROW ? 400 : 560;
+const BESIDE_RUN = 6; // readings on each side, in the picture of a run
 const STEP = 1.6; // of a button's zoom
 const NEAR = 0.02; // how much a distance in speed counts beside one in place, for the reading nearest to the mouse
 
@@ -171,40 +172,48 @@ function followButtons(view) {
     if (named()) holdAt(view, Number(named()[1]) - 1);
 }
 
-// The places that the picture of a first difference has: some readings, and the limit that differs on both sides.
-function firstReach(journey, first, recorded) {
-    const n = first.row;
-    const places = [n - BESIDE_FIRST, n, n + BESIDE_FIRST].filter(at => at in journey.est).map(at => journey.est[at]);
-    if (recorded !== null) places.push(journey.row[first.column][n] / 1000, recorded);
+// The places that the picture of a run has: its readings with some beside them, and a limit on both sides.
+function runReach(journey, run, recorded) {
+    const rows = [run.first - BESIDE_RUN, run.first, run.row, run.last, run.last + BESIDE_RUN];
+    const places = rows.filter(at => at in journey.est).map(at => journey.est[at]);
+    if (recorded !== null) places.push(journey.row[run.column][run.row] / 1000, recorded);
     const [low, high] = d3.extent(places);
-    const beside = Math.max(0.2 * (high - low), 20);
+    const beside = Math.max(0.1 * (high - low), 20);
     return [low - beside, high + beside];
 }
 
-// A picture of the first difference of a column: the reading with its curves, and the recording's place of a limit.
-function drawFirst(view, first) {
+// The recording's place of the limit that a run is named by, in m, at the row that is farthest off; null for none.
+function recordedPlace(view, run) {
     const {journey, comparison} = view;
-    const [n, column] = [first.row, comparison.named.get(first.column)];
-    const off = column.by[column.places.get(n)];
-    const isPlace = journey.limits.includes(first.column) && off !== null;
-    const recorded = isPlace ? (journey.row[first.column][n] + off) / 1000 : null;
-    const figure = d3.select("#firsts").append("figure");
-    const plot = speedPlot(figure.append("div").attr("id", `first-${first.column}`).node(), 560, 300, journey);
-    plot.x.domain(firstReach(journey, first, recorded));
-    plot.y.domain([0.5 * journey.kmh[n], 1.3 * journey.kmh[n] + 5]);
+    const column = comparison.named.get(run.column);
+    const off = column.by[column.places.get(run.row)];
+    return journey.limits.includes(run.column) && off !== null ? (journey.row[run.column][run.row] + off) / 1000 : null;
+}
+
+// A picture of a run: its readings with the curves of the row that is farthest off, and the recording's limit there.
+function drawRun(view, run, i) {
+    const {journey} = view;
+    const n = run.row;
+    const recorded = recordedPlace(view, run);
+    const figure = d3.select("#runs").append("figure");
+    const plot = speedPlot(figure.append("div").attr("id", `run-${i}`).node(), WIDTH_OF_RUN, 300, journey);
+    const speeds = d3.extent(journey.kmh.slice(run.first, run.last + 1));
+    plot.x.domain(runReach(journey, run, recorded));
+    plot.y.domain([0.5 * speeds[0], 1.3 * speeds[1] + 5]);
     drawJourney(plot);
     for (const part of [drawForce, drawCurves, drawCursor]) part(plot, n);
-    if (isPlace) {
-        const level = plot.y(journey.kmh[n]);
-        straight(plot.cursor, "recorded", plot.x(recorded), level - 14, plot.x(recorded), level + 14);
-    }
+    drawExtent(plot, run);
+    if (recorded !== null) drawRecorded(plot, journey.row[run.column][n] / 1000, recorded, journey.kmh[n], run.column);
     const show = () => {
         holdAt(view, n);
         showPlaces(view, ...plot.x.domain());
         by("plot").scrollIntoView();
     };
-    figure.append("figcaption").text(first.text).append("button").attr("type", "button").text("show in the plot")
-        .on("click", show);
+    const caption = figure.append("figcaption");
+    caption.append("strong").text(run.text);
+    caption.append("button").attr("type", "button").text("show in the plot").on("click", show);
+    caption.append("div").text(run.facts);
+    if (run.explained) caption.append("div").classed("explained", true).text(run.explained);
 }
 
 async function main() {
@@ -212,14 +221,14 @@ async function main() {
     const journey = journeyOf(packed.journey);
     const comparison = packed.comparison ? comparisonOf(packed.comparison) : null;
     const view = viewOf(journey, comparison);
-    const first = comparison && comparison.firsts.length ? comparison.firsts[0].row : journey.row.status.search(/[WX]/);
+    const first = comparison && comparison.runs.length ? comparison.runs[0].first : journey.row.status.search(/[WX]/);
     view.n = Math.max(first, 0);
     view.isShown = true;
     followMouse(view);
     showPlaces(view, ...view.whole.domain());
     draw(view);
     followButtons(view);
-    if (comparison) comparison.firsts.forEach(each => drawFirst(view, each));
+    if (comparison) comparison.runs.forEach((run, i) => drawRun(view, run, i));
     document.body.dataset.drawn = "1";
 }
 

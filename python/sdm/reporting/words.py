@@ -47,7 +47,8 @@ def journey_report(words: argparse.Namespace) -> Report:
     result, ran = result_of(words, source)
     recorded = recorded_of(words)
     beside = f", beside {recorded.recording.name}" if recorded else ""
-    return report_of(words.title or f"sdm run: {source.name}{beside}", source, result, ran, recorded)
+    title = words.title or f"sdm run: {source.name}{beside}"
+    return report_of(title, source, result, ran, recorded, diagnose=words.diagnose)
 
 
 def words_of(args: list[str]) -> argparse.Namespace:
@@ -60,6 +61,9 @@ def words_of(args: list[str]) -> argparse.Namespace:
     parser.add_argument("--mm", type=Fraction, default=ALLOWED["mm"], help="how far places may be apart; 2")
     parser.add_argument("--kmh", type=Fraction, default=ALLOWED["km/h"], help="how far ceilings may be apart; 0.5")
     parser.add_argument("--ds", type=int, default=ALLOWED["ds"], help="how far times may be apart; 0")
+    parser.add_argument(
+        "--diagnose", action="store_true", help="looks for what explains the differences, as tools/diagnose does"
+    )
     parser.add_argument("--title", metavar="TEXT", help="the title of the page")
     parser.add_argument(
         "--most", type=int, default=100, metavar="N", help="how many journeys of a folder have a page of their own; 100"
@@ -68,6 +72,8 @@ def words_of(args: list[str]) -> argparse.Namespace:
     words = parser.parse_args(args)
     if not words.out.endswith(".html"):
         parser.error(f"OUT is {words.out}, and must end with .html")
+    if words.diagnose and not words.recording:
+        parser.error("--diagnose is of a recording, which --recording names")
     if words.mapping and not words.recording:
         parser.error("--mapping is of a recording, which --recording names")
     return words

@@ -13,6 +13,7 @@ from sdm_evidence.model.words import collect
 
 from tests.folders import EXAMPLES, TOP
 from tests.tool import tool
+from tests.laboratory import planted
 
 TABLE = (Path(__file__).parent / "mistakes.txt").read_text()
 WHOLE = (EXAMPLES / "every-key" / "input").read_text()
@@ -78,6 +79,39 @@ class Faults(unittest.TestCase):
                 self.assertEqual(FAULT + told.fault + "\n" if told.fault else "", due)
                 self.assertEqual(any(each.is_refusal for each in told.findings), bool(due))
 
+    def test_a_space_after_each_comma_is_one_finding(self):
+        """Of 39 readings of seven numbers: 273 fields. The first lines are those of the first records."""
+        data, _, records = JOURNEY.partition("%%\n")
+        first = data.count("\n") + 2
+        told = sdm.explanation((data + "%%\n" + records.replace(",", ", ")).encode())
+        self.assertEqual(told.fault, "bad event 1: field 2: not a number")
+        (finding,) = told.findings
+        self.assertEqual((finding.count, finding.lines), (273, tuple(range(first, first + 8))))
+        self.assertEqual((finding.line, finding.column, finding.hint), (first, 2, "a space is part of its field"))
+        self.assertIn(f"; 273 times, first on the lines {first}, {first + 1}, ", str(finding))
+
+    def test_a_few_that_are_alike_are_told_one_by_one(self):
+        lines = JOURNEY.splitlines(keepends=True)
+        begin = lines.index("%%\n") + 1
+        for i in range(8):
+            lines[begin + i] = lines[begin + i].replace(",0,500", ",0,20000")
+        self.assertEqual([each.count for each in sdm.explain("".join(lines))], [1] * 8)
+        lines[begin + 8] = lines[begin + 8].replace(",0,500", ",0,20000")
+        (finding,) = sdm.explain("".join(lines))
+        self.assertEqual((finding.count, finding.where), (9, "record 1, read under"))
+
+    def test_a_byte_order_mark_is_named(self):
+        data, _, records = JOURNEY.partition("%%\n")
+        (finding,) = sdm.explain(data + "\ufeff%%\n" + records)
+        self.assertEqual((finding.where, finding.found), ("dividing line", '"<byte order mark>%%"'))
+        (finding,) = sdm.explain(data + "%%\n" + records.replace("read,", "\ufeffread,", 2).replace("\ufeff", "", 1))
+        self.assertEqual(finding.found, '"<byte order mark>read"')
+        self.assertIn("skipped at the start of the records alone", finding.hint)
+
+    def test_an_expected_deceleration_has_its_article(self):
+        weak = JOURNEY.replace("grad = -5", "grad = -78")
+        self.assertTrue(any("an expected deceleration of" in str(each) for each in sdm.explain(weak)))
+
 
 class Doubts(unittest.TestCase):
     def hints(self, text):
@@ -97,6 +131,52 @@ class Doubts(unittest.TestCase):
         self.has(self.hints(scaled(speed=0.001)), "speeds look like m/s", first)
         self.has(self.hints(scaled(time=0.1)), "times look like s", first)
         self.has(self.hints(scaled(time=100)), "times look like ms", first)
+
+    def test_speeds_by_the_factor_between_km_h_and_m_s(self):
+        self.has(self.hints(scaled(place=0.5, speed=1.8)), "speeds are 3.6 times too fast")
+        self.has(self.hints(scaled(speed=1 / 3.6)), "speeds are 3.6 times too slow")
+
+    def test_a_chainage_that_falls(self):
+        falling = readings(
+            lambda number, ds, est, low, high, *rest: (ds, *(5_500_000 - end for end in (est, high, low)), *rest)
+        )
+        self.has(self.hints(falling), "front ends fall as the train runs")
+
+    def test_steps_whose_ways_the_odometer_hides(self):
+        """Readings each 0.5 s, up to 0.4 m off and with safe front ends up to 36 m apart."""
+        data, _, records = planted.journey(0).decode().partition("%%\n")
+        self.assertEqual(self.hints(data + "%%\n" + records), [])
+        for change, hint in (
+            (lambda ends, speed: (ends, round(3.6 * speed)), "speeds are 3.6 times too fast"),
+            (lambda ends, speed: ([9_000_000 - ends[i] for i in (0, 2, 1)], speed), "front ends fall"),
+        ):
+            lines = []
+            for line in records.splitlines():
+                kind, *fields = line.split(",")
+                if kind == "read":
+                    ends, speed = change(list(map(int, fields[1:4])), int(fields[4]))
+                    fields[1:5] = map(str, [*ends, speed])
+                lines.append(",".join([kind, *fields]) + "\n")
+            hints = self.hints(data + "%%\n" + "".join(lines))
+            self.assertEqual(len(hints), 1, hints)
+            self.has(hints, hint)
+
+    def test_numbers_that_hardly_any_train_has(self):
+        for old, new, line, hint in (
+            ("length = 20000", "length = 200", 4, "as m it would be 20,000 cm"),
+            ("emergency_time = 30", "emergency_time = 3", 7, "as s it would be 30 ds"),
+            ("service_time = 40", "service_time = 5", 8, "as s it would be 50 ds"),
+            ("version = 1", "version = 2", None, "as per mille the first would be -50"),
+            ("grad = -5", "grad = -41", None, "as tenths the first would be -4.1 ‰"),
+        ):
+            with self.subTest(new):
+                text = JOURNEY.replace(old, new, 1)
+                self.assertNotEqual(text, JOURNEY)
+                at = text[: text.index(new)].count("\n") + 1
+                (finding,) = [each for each in sdm.explain(text) if not each.is_refusal and "record" not in each.where]
+                self.assertIn(hint, finding.hint)
+                if line is not None:
+                    self.assertEqual(finding.line, at)
 
     def test_one_reading_in_another_unit(self):
         line = JOURNEY[: JOURNEY.index("%%\n")].count("\n") + 2 + 7

@@ -16,6 +16,7 @@ from sdm.reporting.journey import READING, steps_of
 
 from tests.folders import EXAMPLES
 from tests.tool import program, tool
+from tests.laboratory import kinds, planted
 
 VOID = {"meta", "input", "br", "link", "img"}
 LEADS = {"src", "srcset", "data", "action", "poster", "background", "cite", "longdesc", "manifest", "ping"}
@@ -220,7 +221,7 @@ class Pages(InAFolder):
             own = Page(text).scripts[-1]
             ids = set(Page(text).ids)
             asked = set(re.findall(r'\bby\("([\w-]+)"\)', own)) | set(re.findall(r'select\("#([\w-]+)', own))
-            self.assertLessEqual(asked - (set() if there else {"firsts"}), ids)
+            self.assertLessEqual(asked - (set() if there else {"runs"}), ids)
             buttons = set(re.findall(r"<button type=\"button\" id=\"([\w-]+)\"", text))
             does = own.split("const does = {")[1].split("};")[0]
             self.assertLessEqual(buttons, set(re.findall(r'([\w-]+)"?: \(\) =>', does)))
@@ -279,13 +280,21 @@ class Comparisons(InAFolder):
         self.assertNotIn("covered", columns)
         self.holds(text, "10 rows differ by more than the tolerances, first row 5 at 8 s, line 6: tco is 0")
 
-    def test_the_first_difference_of_each_column(self):
-        firsts = data_of(self.compared("interventions", "--ds", "5"))["comparison"]["firsts"]
+    def test_the_runs_of_differences(self):
+        """Ten values are altered, each in a row of its own, as the page of docs/LABORATORY.md lists them."""
+        runs = data_of(self.compared("interventions", "--ds", "5"))["comparison"]["runs"]
         self.assertEqual(
-            [(each["column"], each["row"] + 1) for each in firsts],
-            [("tco", 5), ("status", 8), ("ebi", 9), ("sbi", 17), ("indication", 21), ("eb", 29)],
+            [(each["column"], each["first"] + 1, each["last"] + 1, each["row"] + 1) for each in runs],
+            [
+                (column, row, row, row)
+                for column, row in zip(
+                    ("tco", "status", "ebi", "ebi", "sbi", "indication", "eb", "indication", "sbi", "eb"),
+                    (5, 8, 9, 13, 17, 21, 29, 31, 32, 37),
+                )
+            ],
         )
-        self.assertIn("5 mm apart", firsts[4]["text"])
+        self.assertEqual(runs[3]["text"], "row 13: ebi 5 mm late")
+        self.assertIn("decided by SvL, max safe front end; foot speed 0", runs[3]["facts"])
 
     def test_the_table_of_statistics(self):
         """Of 39 rows two EBIs are off, by -3 and by 5 mm: the mean is 2/39 mm."""
@@ -308,6 +317,25 @@ class Comparisons(InAFolder):
         ebi = next(each for each in compared["columns"] if each["name"] == "ebi")
         self.assertEqual((ebi["row"], ebi["by"], ebi["got"], ebi["beyond"]), ([3], [None], ["-"], "1"))
         self.holds(text, "37 rows compared; 2 rows have no line of their time, 0 lines no row")
+
+    def test_what_explains_the_differences(self):
+        """A recording by the greatest gradient under the train: the page says so, and so of each run."""
+        kind = next(each for each in kinds.OTHERS if each.name == "greatest gradient")
+        _, plant = planted.shown_by([kind], 100)
+        files = {name: self.room / name for name in ("input", "rows", "recording.csv")}
+        for name, data in zip(files, (plant.source, plant.rows.encode(), plant.recording)):
+            files[name].write_bytes(data)
+        words = ["--rows", files["rows"], "--recording", files["recording.csv"]]
+        text = self.made(files["input"], *words, "--diagnose")
+        self.holds(
+            text, '<pre id="diagnosis">', "1. (a) the greatest gradient under the train counts, not the least one"
+        )
+        runs = data_of(text)["comparison"]["runs"]
+        self.assertTrue(all("explained by: (a) the greatest gradient" in run["explained"] for run in runs))
+        text = self.made(files["input"], *words)
+        self.assertFalse("What explains the differences" in text)
+        self.assertEqual({run["explained"] for run in data_of(text)["comparison"]["runs"]}, {""})
+        self.assertEqual(tool("report", files["input"], "out.html", "--diagnose")[0], 2)
 
     def test_nothing_differs(self):
         text = self.of("interventions", "--recording", EXAMPLES / "interventions/rows")
@@ -372,6 +400,14 @@ class Campaigns(InAFolder):
         )
 
     def test_at_most_so_many_pages(self):
+        """One that differs; and those with the least ways, which are linked to their rows (approach, row 2)."""
+        links = Page(self.overview("--most", "1")).links
+        self.assertEqual(
+            set(links), {"guidance/report.html", "approach/report.html", "approach/report.html#row-2"} & set(links)
+        )
+        self.assertIn("approach/report.html#row-2", links)
+        (self.folder / "approach" / "got.code").unlink()
+        (self.folder / "approach" / "report.html").unlink()
         links = Page(self.overview("--most", "1")).links
         self.assertEqual({link.split("#row-")[0] for link in links}, {"guidance/report.html"})
         self.assertFalse((self.folder / "approach/report.html").exists())

@@ -1,0 +1,44 @@
+"""Misreadings of PROFILE, each as a hypothesis: a rule of the model with another one in its place.
+
+The sentence of a misreading says what another computer would do. Those of one chapter of PROFILE stand in one module.
+"""
+
+from collections.abc import Callable
+from dataclasses import dataclass
+from typing import Any
+
+from sdm.diagnosis.model import Reread
+
+Make = Callable[[Any], Any]  # makes the other rule of the one that stands there
+
+
+@dataclass(frozen=True)
+class Misreading:
+    """A rule that is read otherwise: its name, what the other computer does, and the rules of the model that change."""
+
+    name: str
+    told: str
+    rules: tuple[Reread, ...]
+
+
+class Misreadings(dict[str, Misreading]):
+    """Misreadings by their names."""
+
+    def add(self, told: str, *places: tuple[Any, str]) -> Callable[[Make], Make]:
+        """Has what a function makes stand at some places of the model; the function's name is the misreading's."""
+
+        def taken(make: Make) -> Make:
+            self.put(make.__name__, told, make, *places)
+            return make
+
+        return taken
+
+    def put(self, name: str, told: str, make: Make, *places: tuple[Any, str]) -> None:
+        """The same with a name."""
+        assert name not in self, f"two misreadings are called {name}"
+        self[name] = Misreading(name, told, tuple(Reread(owner, at, make) for owner, at in places))
+
+
+def always(rule: Any) -> Make:
+    """Has a rule stand there, whatever stood there."""
+    return lambda _: rule

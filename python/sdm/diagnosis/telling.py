@@ -1,0 +1,65 @@
+"""A diagnosis as lines of text."""
+
+from sdm.laboratory.texts import number
+
+from sdm.diagnosis.diagnosing import Diagnosis, OfRun, ToldExplanation
+from sdm.diagnosis.search import simplicity
+
+
+def lines_of(found: Diagnosis, most: int) -> list[str]:
+    """All that is told of a diagnosis; of runs at most so many."""
+    if not found.runs:
+        return [f"{found.compared} rows compared; nothing differs by more than the tolerances"]
+    rules, numbers = found.tried
+    head = f"{found.compared} rows compared, {len(found.runs)} runs of differences; "
+    head += f"{rules} misreadings and {numbers} numbers were tried"
+    lines = [head, "", *explanation_lines(found), "", "runs:"]
+    for i, (text, facts) in enumerate(found.lines[:most]):
+        lines += [f"  {text}", f"    {facts}"]
+        lines += [f"    {run_text(found.explanations[0], found.of_runs[i])}"] if found.of_runs else []
+    return lines + ([f"  and {len(found.lines) - most} more"] if found.lines[most:] else [])
+
+
+def explanation_lines(found: Diagnosis) -> list[str]:
+    """The explanations, the best first."""
+    if not found.explanations:
+        return ["nothing fits: no misreading and no number explains what differs"]
+    lines = [f"what explains them, the best first, by {found.checked} rows of which {found.differing} differ:"]
+    for n, told in enumerate(found.explanations, 1):
+        lines += [f"{f'  {n}.' if i == 0 else '    '} {letter(i)} {text}" for i, text in enumerate(told.sentences)]
+        lines.append(f"     {worth_text(told, found.differing)}")
+    same = equals(found)
+    if same > 1:
+        lines.append(f"  The first {same} explain the same rows: this recording doesn't tell them apart.")
+    return lines
+
+
+def worth_text(told: ToldExplanation, differing: int) -> str:
+    """What an explanation is worth, in words."""
+    broken = f"breaks {told.broken} that agree" if told.broken else "breaks none"
+    left = f", leaves {number(told.left_mm, 1)} mm" if told.rows else ""
+    return f"explains {told.rows} of {differing} rows wholly, {broken}{left}"
+
+
+def equals(found: Diagnosis) -> int:
+    """How many explanations, from the first on, are worth the same and are as simple."""
+    first = found.explanations[0]
+
+    def key(told: ToldExplanation) -> tuple[int, ...]:
+        return told.rows, told.broken, len(told.cases), simplicity(told.case) // 2
+
+    return sum(key(each) == key(first) for each in found.explanations)
+
+
+def letter(i: int) -> str:
+    """What a hypothesis of an explanation is called."""
+    return f"({'abcdefgh'[i]})"
+
+
+def run_text(told: ToldExplanation, of: OfRun) -> str:
+    """What explains a run."""
+    if of.rows == 0:
+        return "nothing that was found explains it"
+    which = " and ".join(f"{letter(i)} {told.sentences[i]}" for i in of.hypotheses)
+    rows = "" if of.rows == of.judged else f" in {of.rows} of {of.judged} rows that were looked at"
+    return f"explained{rows} by: {which} ({number(of.left_mm, 1)} mm left)"
