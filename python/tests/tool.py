@@ -15,8 +15,8 @@ def program(folder, script):
     return str(path)
 
 
-def tool(name, *words, data=b""):
-    """The code, the output and the errors of a tool."""
+def tool(name, *words, data=b"", run=run):
+    """The code, the output and the errors of a tool, which is one of the laboratory's by itself."""
     out, err = io.StringIO(), io.StringIO()
     given = io.TextIOWrapper(io.BytesIO(data))
     with mock.patch.object(sys, "stdin", given), contextlib.redirect_stdout(out), contextlib.redirect_stderr(err):

@@ -64,7 +64,7 @@ class Edits(unittest.TestCase):
                 self.assertIn(f"low/{name}: FAILED: {why}", told)
         self.assertEqual(status, 1, told)
         # those that lie there pass: of functions, one of which calls another, and of a constant of a crate below
-        self.assertEqual(told.splitlines()[-1], f"edits: 5 passed, {len(FAULTS)} failed", told)
+        self.assertIn(f"edits: 5 passed, {len(FAULTS)} failed", told.splitlines())
 
     def test_no_edit_is_a_fault(self) -> None:
         with copies.a_copy(["scripts"]) as top:

@@ -49,7 +49,7 @@ PARTS: dict[str, list[str]] = {
         "crates/sdm_words/src",
         "scripts",
     ],
-    "pictures": ["examples/approach", "examples/flat", "scripts", "tools", "python"],
+    "pictures": ["README.md", "docs", "examples/approach", "examples/flat", "scripts", "tools", "python"],
     "plot": ["examples", "scripts", "tools", "python"],
     "python": [".ci", "bench", "python", "scripts", "tools", "vectors/maker"],
     "style": ["README.md", "docs", "scripts"],
@@ -177,7 +177,7 @@ PLANTED = [
     ),
     (
         "laboratory",
-        [Fault("python/sdm/why.py", "The program's row is the same", "It is the same", "FAIL: test_the_program_s_row")],
+        [Fault("python/sdm/why.py", "The program's row is the same", "It is the same", "::test_the_program_s_row")],
     ),
     (
         "links",
@@ -256,7 +256,7 @@ PLANTED = [
                 "examples/approach/rows",
                 "^10,T,X,0,0,1,1,160,887500",
                 "10,T,X,0,0,1,1,160,880000",
-                "FAIL: test_its_marks_lie_in_their_places",
+                "::test_its_marks_lie_in_their_places",
             ),
             Fault(
                 "python/sdm/drawing/places.py",
@@ -268,19 +268,19 @@ PLANTED = [
                 "examples/display/rows",
                 "^760,72,",
                 "760,73,",
-                "FAIL: test_the_speeds_that_are_shown_lie_in_their_places",
+                "::test_the_speeds_that_are_shown_lie_in_their_places",
             ),
             Fault(
                 "examples/drive/input",
                 "^emergency_time = 20$",
                 "emergency_time = 21",
-                "FAIL: test_the_true_train_lies_in_its_places",
+                "::test_the_true_train_lies_in_its_places",
             ),
             Fault(
                 "examples/certificate-checked/input",
                 "^mark,378",
                 "mark,379",
-                "FAIL: test_marks_and_ways_lie_in_their_places",
+                "::test_marks_and_ways_lie_in_their_places",
             ),
         ],
     ),
@@ -300,7 +300,7 @@ PLANTED = [
     (
         "traces",
         [
-            Fault("README.md", r" <!-- trace: ride -->", "", "no sentence has the mark ride"),
+            Fault("README.md", r" <!-- trace: ride, release-ride -->", "", "no sentence has the mark ride"),
             Fault("README.md", r"TRACES\.md#5-readme", "TRACES.md#6-readme", "doesn't link to trace 5 alone"),
             Fault(
                 "scripts/traces.toml",
@@ -339,7 +339,7 @@ PLANTED = [
                 'Argument 1 to "section" has',
             ),
             Fault("python/sdm/curves.py", "^import csv$", "import csv\nimport os", "F401 'os' imported but unused"),
-            Fault("scripts/python", r'^exec "\$python"', "exec $python", "SC2086"),
+            Fault("scripts/python", r'dirname "(\$\{BASH_SOURCE\[0\]\})"', r"dirname \1", "SC2086"),
             Fault("tools/why", r"^command\(", "command( ", "black lays it out otherwise"),
         ],
     ),

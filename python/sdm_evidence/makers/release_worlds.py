@@ -209,6 +209,8 @@ def a_release_world(rng: Random, broken: Broken) -> ReleaseWorld:
         )
         if supervisor is None or supervisor.times.T_traction == 0:
             continue
+        if broken is not Broken.TRACTION and supervisor.times.T_traction > supervisor.data.train.emergency_time:
+            continue
         eoa = rng.randrange(100_000, supervisor.data.track.length - 50_000)
         stop = a_stop(rng, supervisor, odometer, eoa, 10 if broken is Broken.TRIP else 0)
         if stop is None:
