@@ -60,10 +60,17 @@ enum sdm_status {
     SDM_NOT_FRESH = 16      /* sdm_take_over: the next supervisor has had a reading or a restriction */
 };
 
+/* What a handle holds, in 64 bits on each processor. */
+#if UINTPTR_MAX == UINT64_MAX
+typedef void *sdm_at;
+#else
+typedef uint64_t sdm_at;
+#endif
+
 /* A supervisor, or none. It begins as SDM_INIT; after that the calls alone read and write it. It may be moved, never
  * copied. */
 struct sdm {
-    void *at;
+    sdm_at at;
     uint32_t is_open;
 };
 #define SDM_INIT                                                                                                       \

@@ -76,6 +76,7 @@ CHECKS: dict[Group, list[Part]] = {
     ],
     "elsewhere": [
         Part("edits", "editing.check", "each edit is refused by the goal that its file names"),
+        Part("processors", "processors.check", "the library on other processors, as WebAssembly and as C"),
         Part("release", "packing/check-release", "a release in a clean Debian"),
     ],
 }
@@ -96,6 +97,7 @@ SHOWN = [
     Part("crates", "pages.crates", "the table of crates"),
     Part("lines", "pages.lines", "the lines of each crate, and how many more than in a commit"),
     Part("manual", "pages.manual", "`help`: the text of `sdm help`"),
+    Part("processors", "processors.times", "what a reading takes on other processors, and their stacks"),
     Part("traces", "pages.traces", "what shows each sentence of README's promise"),
 ]
 TRIES = [
@@ -109,7 +111,7 @@ TRIES = [
 # fmt: on
 OTHERS = [
     Part("program", "product.marks program", "the program that is taken: its path; tell, sources, mark, build"),
-    Part("library", "product.marks library", "the library for C that is taken: its path; tell, build"),
+    Part("library", "product.marks library", "the library for C that is taken: its path; tell, build, build --for"),
     Part("release", "packing.release", "packs a release into dist/"),
 ]
 MODULES = Path(__file__).resolve().parent

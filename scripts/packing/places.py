@@ -16,6 +16,7 @@ WHOLE = {  # these files
 # These folders, with what is in them, but what is left out.
 FOLDERS = {"c": "share/sdm/c", "examples": "share/sdm/examples", "vectors": "share/sdm/vectors"}
 LEFT_OUT = ["tools", "c/.clang-format", "vectors/make", "vectors/maker", "vectors/mutants", "examples/recording/make"]
+LEFT_OUT += ["c/module", "c/portable", "javascript"]  # parts of what is built for other processors
 
 
 def is_below(path: str, folder: str) -> bool:

@@ -1,4 +1,5 @@
-"""Packs a release of the commit that lies here into dist/: an archive, two Debian packages and their checksums.
+"""Packs a release of the commit that lies here into dist/: an archive, two Debian packages, what there is for other
+processors, and their checksums.
 
     scripts/house release
 
@@ -16,6 +17,7 @@ from scripts.c import header
 from scripts.packing.facts import Release, ran
 from scripts.packing.work import pack
 from scripts.pages import manual
+from scripts.processors import released
 from scripts.product import marks
 from sdm.laboratory.program import LIBRARY, PROGRAM, TOP, Fault
 
@@ -48,7 +50,7 @@ def release() -> None:
     if PROGRAM.marked()["kit"] != LIBRARY.marked()["kit"]:
         raise Fault("The program and the library were built by two toolchains.")
     begun = time.monotonic()
-    for path in pack(facts(PROGRAM.marked()), PROGRAM.path, LIBRARY.path, DIST):
+    for path in pack(facts(PROGRAM.marked()), PROGRAM.path, LIBRARY.path, DIST, released.write):
         print(f"{path.relative_to(TOP)}: {path.stat().st_size:,} bytes")
     print(f"packed twice, with the same bytes, in {time.monotonic() - begun:.0f} s")
     print((DIST / "SHA256SUMS").read_text(), end="")

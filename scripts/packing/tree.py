@@ -42,20 +42,27 @@ def place_files(release: Release, contents: Contents) -> None:
 
 
 def write_libraries(
-    release: Release, contents: Contents, prefix: Path, root: str, libraries: str, scratch: Path
+    release: Release,
+    contents: Contents,
+    prefix: Path,
+    root: str,
+    libraries: str,
+    scratch: Path,
+    tools: library.Tools = library.OWN,
+    headers: str = "include",
 ) -> None:
     """Writes the libraries, with what pkg-config and CMake read of them. The root is pkg-config's name of the
-    prefix."""
+    prefix, below which the headers are in a folder."""
     into = prefix / libraries
     for folder in (into / "pkgconfig", into / "cmake" / "sdm"):
         folder.mkdir(parents=True)
-    library.make_static(release, contents, scratch, into)
-    library.make_shared(release, contents, scratch, into)
+    library.make_static(release, contents, scratch, into, tools)
+    library.make_shared(release, contents, scratch, into, tools)
     (into / "pkgconfig" / "sdm.pc").write_text(
-        filled("sdm.pc", prefix=root, libraries=libraries, version=release.version)
+        filled("sdm.pc", prefix=root, headers=headers, libraries=libraries, version=release.version)
     )
     (into / "cmake" / "sdm" / "sdm-config.cmake").write_text(
-        filled("sdm-config.cmake", to_headers=posixpath.relpath("include", libraries), shared_name=release.shared_name)
+        filled("sdm-config.cmake", to_headers=posixpath.relpath(headers, libraries), shared_name=release.shared_name)
     )
     (into / "cmake" / "sdm" / "sdm-config-version.cmake").write_text(
         filled("sdm-config-version.cmake", version=release.version)

@@ -5,6 +5,7 @@ from __future__ import annotations
 import filecmp
 import shutil
 import tempfile
+from collections.abc import Callable
 from pathlib import Path
 
 from scripts.packing import archive, debian, sums, tree
@@ -20,7 +21,10 @@ def files_of(release: Release, into: Path) -> Path:
     return into
 
 
-def pack_once(release: Release, program: Path, library: Path, into: Path) -> list[Path]:
+More = Callable[[Release, Path], list[Path]]  # writes more files of a release into a folder
+
+
+def pack_once(release: Release, program: Path, library: Path, into: Path, more: More) -> list[Path]:
     """Writes what is packed into a folder that is empty; the paths."""
     packed: list[Path] = []
     with tempfile.TemporaryDirectory(prefix="sdm-packing-") as name:
@@ -31,16 +35,22 @@ def pack_once(release: Release, program: Path, library: Path, into: Path) -> lis
             place = scratch / write.__module__
             place.mkdir()
             packed += write(release, contents, place, into)
+    packed += more(release, into)
     checksums = into / sums.NAME
     checksums.write_text(sums.of_files_below(into))
     return [*packed, checksums]
 
 
-def pack(release: Release, program: Path, library: Path, into: Path) -> list[Path]:
+def nothing(release: Release, into: Path) -> list[Path]:
+    """No more files."""
+    return []
+
+
+def pack(release: Release, program: Path, library: Path, into: Path, more: More = nothing) -> list[Path]:
     """Packs into a folder, in the place of what it has; a fault, where a second time gives other bytes."""
     with tempfile.TemporaryDirectory() as one, tempfile.TemporaryDirectory() as other:
-        packed = pack_once(release, program, library, Path(one))
-        again = pack_once(release, program, library, Path(other))
+        packed = pack_once(release, program, library, Path(one), more)
+        again = pack_once(release, program, library, Path(other), more)
         for first, second in zip(packed, again, strict=True):
             if not filecmp.cmp(first, second, shallow=False):
                 raise Fault(f"{first.name} has other bytes when it is packed again.")

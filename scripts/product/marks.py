@@ -13,6 +13,7 @@ sources they were built.
     scripts/house library tell     prints its mark too
     scripts/house library build    proves and builds it, and marks it: by `rt lib`, or, where PROVED_BY_RT_CI is set,
                                    over the libraries below it that `rt ci` proved
+    scripts/house library build --for NAME..    builds it for other processors; without a name it tells the names
 
 A mark shows that the program or library, byte for byte, is the one that a proved build left, and that the sources
 were the same before the build, after it, and are now. It doesn't show that nobody changed them in between and put
@@ -160,6 +161,10 @@ FORMS: dict[str, tuple[list[list[str]], list[str], Callable[[list[str]], None]]]
 def main(args: list[str]) -> int:
     """The exit status of `scripts/house program` or `scripts/house library`, by the first word, for the others."""
     kind, *words = args
+    if args[:3] == ["library", "build", "--for"]:
+        from scripts.processors import build  # which takes the library that is built here
+
+        return build.main(args[3:])
     whole, with_one_more, does = FORMS[kind]
     if words not in whole and not (len(words) == 2 and words[0] in with_one_more):
         print(__doc__.strip(), file=sys.stderr)

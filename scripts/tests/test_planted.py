@@ -383,7 +383,7 @@ def test_a_fault_is_told(ends: list[Future[tuple[int, str]]], number: int, scrip
 
 # These are tried over a program or a library, by test_program.py and test_bounds.py, or by hand.
 ELSEWHERE = set(
-    "model upgrade certificates compilers edits bounds worked examples live c library rides refused".split()
+    "model upgrade certificates compilers edits bounds worked examples live c library rides refused processors".split()
 )
 
 

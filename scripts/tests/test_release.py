@@ -1,6 +1,6 @@
 """What is packed: the libraries show the calls of the header and nothing else, links lead where their targets stand, an
 archive has the same bytes wherever it is made, and only a marked program and a clean work tree are packed. Over
-stand-ins, with nothing that a gate lacks; scripts/check-release tries the whole."""
+stand-ins, with nothing that a gate lacks; `scripts/house check release` tries the whole."""
 from __future__ import annotations
 
 import subprocess
