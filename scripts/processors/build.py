@@ -110,7 +110,7 @@ def build(names: list[str]) -> None:
         print((into / sums.NAME).read_text(), end="")
 
 
-def main(words: list[str]) -> int:
+def build_for(words: list[str]) -> int:
     if not words or not set(words) <= {*WAYS, "all"}:
         print((__doc__ or "").strip(), file=sys.stderr)
         return 2

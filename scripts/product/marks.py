@@ -164,7 +164,7 @@ def main(args: list[str]) -> int:
     if args[:3] == ["library", "build", "--for"]:
         from scripts.processors import build  # which takes the library that is built here
 
-        return build.main(args[3:])
+        return build.build_for(args[3:])
     whole, with_one_more, does = FORMS[kind]
     if words not in whole and not (len(words) == 2 and words[0] in with_one_more):
         print(__doc__.strip(), file=sys.stderr)

@@ -384,11 +384,11 @@ class Gate(OverACopy):
             if not module.startswith("tests.") and re.search(r"^def main\(", path.read_text(), re.M):
                 self.assertIn(module, named | of_bash)
 
-    def test_the_gate_runs_each_check_but_those_of_edits_and_a_release(self) -> None:
+    def test_the_gate_runs_each_check_but_three(self) -> None:
         gate = (copies.TOP / ".ci" / "run").read_text()
         self.assertRegex(gate, r"(?m)^scripts/house check before$")
         self.assertRegex(gate, r"(?m)^scripts/house check after$")
-        self.assertEqual([part.name for part in CHECKS["elsewhere"]], ["edits", "release"])
+        self.assertEqual([part.name for part in CHECKS["elsewhere"]], ["edits", "processors", "release"])
 
     def test_a_check_that_fails_fails_the_command(self) -> None:
         copies.alter(self.top, "python/sdm/curves.py", "^import csv$", "import csv\nfrom .rows import Row")
