@@ -2,7 +2,7 @@
 tests.
 
 A name in a file stands for the definition that the file imports under it, or defines itself. The tables of
-docs/DEFINITIONS.md (scripts/pages/definitions.py) and the list of scripts/house show believed stand on this.
+docs/definitions.csv (scripts/pages/matrix.py) and the list of scripts/house show believed stand on this.
 """
 from __future__ import annotations
 

@@ -1,5 +1,5 @@
-"""Writes the index by clause of docs/SAFETY.md: for each clause that docs/DEFINITIONS.md names as a source, the
-definitions that the top call reaches and that stand on it.
+"""Writes the index by clause of docs/SAFETY.md: for each clause that docs/definitions.csv names as a source, the
+definitions that a command of the program reaches and that stand on it.
 
     scripts/house show clauses     prints the index
     scripts/house write clauses    puts it between its marks in docs/SAFETY.md
@@ -10,10 +10,11 @@ from __future__ import annotations
 import re
 from pathlib import Path
 
+from scripts.pages.believed import COMMANDS
+from scripts.pages.definitions import DATA, rows_of
 from scripts.pages.part import Part
 from scripts.pages.specs import ROOT
 
-SOURCES = ROOT / "docs" / "DEFINITIONS.md"
 PART = Part(
     "clauses",
     ROOT / "docs" / "SAFETY.md",
@@ -53,20 +54,13 @@ def order_of(clause: str) -> list[float | int]:
 
 
 def by_clause() -> dict[tuple[str, str], dict[str, list[str]]]:
-    """clause -> the definitions of the first part of the matrix, by file."""
+    """clause -> the definitions that the commands of the program reach, by file."""
     index: dict[tuple[str, str], dict[str, list[str]]] = {}
-    file = ""
-    text = SOURCES.read_text()
-    part = text[text.index("### What the top call reaches") : text.index("### What inner contracts and laws cite")]
-    for line in part.splitlines():
-        if line.startswith("#### "):
-            file = Path(line[5:]).stem
-        elif line.startswith("| `"):
-            name, source = [cell.strip() for cell in line.split("|")[1:3]]
-            if source.startswith(("as ", "simplified ")):
-                kind = "" if source.startswith("as ") else " (s)"
-                for clause, star in clauses_of(source):
-                    index.setdefault((clause, star), {}).setdefault(file, []).append(name + kind)
+    for row in rows_of(DATA.read_text()):
+        if row.has_clause() and row.is_of(*COMMANDS):
+            shown = f"`{row.name}`" + ("" if row.source.startswith("as ") else " (s)")
+            for clause, star in clauses_of(row.source):
+                index.setdefault((clause, star), {}).setdefault(Path(row.file).stem, []).append(shown)
     return index
 
 

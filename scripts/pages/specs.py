@@ -1,6 +1,6 @@
 """Reads the definitions of all specs/ folders: name, line, comment and text.
 
-scripts/pages/citations.py finds what cites them, scripts/pages/definitions.py writes them into docs/DEFINITIONS.md.
+scripts/pages/citations.py finds what cites them, scripts/pages/matrix.py makes them the rows of docs/definitions.csv.
 """
 from __future__ import annotations
 

@@ -58,12 +58,13 @@ PARTS: dict[str, list[str]] = {
 
 STALE = "stale, run scripts/"
 DEFINITIONS, COMMANDS = "docs/DEFINITIONS.md", "crates/sdm_rules/specs/Commands.antt"
+DATA, BROWSED = "docs/definitions.csv", "docs/definitions.html"
 PLANTED = [
     # the check, and the faults that are planted at once
     ("believed", [Fault("docs/BELIEVED.md", r"^(\| `\S+/specs/\S+` \| )\d+", r"\g<1>7", STALE)]),
     ("believed", [Fault(COMMANDS, r"\Z", "-- one line more\n", STALE)]),
     ("clauses", [Fault("docs/SAFETY.md", r"^\| 3\.13\.10 .*\n", "", STALE)]),
-    ("clauses", [Fault(DEFINITIONS, r"\| as 3\.13\.10 \|", "| as 3.13.11 |", STALE)]),
+    ("clauses", [Fault(DATA, r",as 3\.13\.10,", ",as 3.13.11,", STALE)]),
     ("crates", [Fault("crates.txt", "^sdm_limits: .*\n", "", STALE)]),
     (
         "crates",
@@ -78,11 +79,12 @@ PLANTED = [
     ),
     ("crates", [Fault("docs/ARCHITECTURE.md", r"^<!-- The table ends here. -->\n", "", "puts its part are gone")]),
     ("definitions", [Fault(DEFINITIONS, r"^(\| `\w+` .*\n)(\| `\w+` .*\n)", r"\2\1", STALE)]),
-    ("definitions", [Fault(DEFINITIONS, r"^(\| `millimetre` \| own \| grains of a) milli", r"\1 centi", STALE)]),
+    ("definitions", [Fault(DATA, r"^(millimetre,.*,grains of a) milli", r"\1 centi", STALE)]),
+    ("definitions", [Fault(BROWSED, r'"grains of a millimetre"', '"grains of a centimetre"', STALE)]),
     (
         "definitions",
         [
-            Fault(DEFINITIONS, r"^\| `is_released` .*\n", "", "no line for is_released"),
+            Fault(DATA, r"^is_released,.*\n", "", "no row for is_released"),
             Fault(COMMANDS, r"^-- the last status was .*\n", "", "is_alarm has no comment"),
             Fault(COMMANDS, r"^(-- the traction cut-off: .*) \(SUBSET[^)]*\)$", r"\1", "cut_off_after has no source"),
             Fault(
