@@ -29,7 +29,7 @@ def draw() -> Sheet:
     """The picture."""
     sheet = Sheet(
         660,
-        380,
+        400,
         "Speed over place. From the box of where the train may be at a covered reading, motions that gain speed until"
         " their brake works and then brake with A_safe or more all stop at or before the SvL.",
     )
@@ -44,12 +44,13 @@ def draw() -> Sheet:
     sheet.line(motion(88, 21.5, 0.3, 4, SAFE), "red", 3)
     sheet.line(motion(70, 20, 0.1, 4, 0.9), "green")
     sheet.line(motion(40, 19.5, -0.1, 3, 1.1), "green")
-    sheet.text((at(330, 14)[0] + 16, at(330, 17)[1]), "gains all, then A_safe", "red", kind="small")
+    sheet.text((at(330, 14)[0], at(330, 17)[1]), "gains all, then A_safe", "red", kind="small")
     sheet.text((at(40, 7)[0], at(40, 7)[1]), "other motions", "green", kind="small")
     sheet.lines(
         (40, 346),
         [
-            "until the brake works, T_traction + T_berem, a motion may gain A_est1 and A_est2;",
+            "until the brake works (T_traction + T_berem)",
+            "a motion may gain A_est1, then A_est2;",
             "from then on it brakes with at least A_safe",
         ],
         kind="small",

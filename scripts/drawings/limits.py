@@ -11,14 +11,14 @@ from scripts.drawings.sheet import Point, Sheet
 TOP = Path(__file__).resolve().parents[2]
 INPUT = Path(__file__).with_name("limits.input")
 
-# what is drawn of the target, its colour, and its words
+# what is drawn of the target, its colour, its words, and how far right of the curve's start they stand
 CURVES = [
-    ("EBD", "red", "EBD"),
-    ("EBI", "red", "EBI"),
-    ("SBI2", "orange", "SBI"),
-    ("W", "yellow", "W"),
-    ("P", "green", "P"),
-    ("I", "blue", "I"),
+    ("EBD", "red", "EBD", 0),
+    ("EBI", "red", "EBI", 6),
+    ("SBI2", "orange", "SBI", 8),
+    ("W", "yellow", "W", -3),
+    ("P", "green", "P", -6),
+    ("I", "blue", "I", 14),
 ]
 FIRST_M, LAST_M, TOP_KMH = 560, 2080, 125
 
@@ -83,11 +83,11 @@ def draw() -> Sheet:
         " works, gains up to V_bec, and meets the EBD.",
     )
     draw_axes(sheet, metres(rows[0]["EBD"]))
-    for name, colour, words in CURVES:
+    for name, colour, words, right in CURVES:
         points = [at(metres(row[name]), float(row["speed"])) for row in rows]
         inside = [point for point in points if 50 <= point[0]]
         sheet.line(inside, colour, 2 if name != "EBD" else 3, dashed=name == "EBD")
-        sheet.text((inside[-1][0], inside[-1][1] - 8), words, colour, "middle", "strong")
+        sheet.text((inside[-1][0] + right, inside[-1][1] - 8), words, colour, "middle", "strong")
     here = min(rows, key=lambda row: abs(float(row["speed"]) - reading[4] * 3.6 / 1000))
     draw_train(sheet, here, reading)
     return sheet

@@ -11,14 +11,21 @@ import tempfile
 from collections.abc import Iterator
 from pathlib import Path
 
-from scripts.drawings import covered, limits, links, recording, ride
+from scripts.drawings import covered, interventions, limits, links, recording, ride
 from scripts.pages.part import told
 from scripts.pages.specs import ROOT
 from sdm.picture import main as plot
 
 EXAMPLES = sorted(path for path in (ROOT / "examples").iterdir() if path.is_dir())
 DRAWINGS = ROOT / "docs" / "pictures"
-DRAWN = {"covered": covered, "limits": limits, "links": links, "recording": recording, "ride": ride}
+DRAWN = {
+    "covered": covered,
+    "interventions": interventions,
+    "limits": limits,
+    "links": links,
+    "recording": recording,
+    "ride": ride,
+}
 
 
 def shows_one(example: Path) -> bool:
