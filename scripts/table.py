@@ -70,6 +70,7 @@ CHECKS: dict[Group, list[Part]] = {
         Part("live", "product.live", "the command `live`"),
         Part("model", "product.model", "the program writes what the model does"),
         Part("refused", "product.refused", "an early bound isn't taken for a late one"),
+        Part("tour", "product.tour", "the commands of docs/TOUR.md write what the page shows"),
         Part("upgrade", "product.upgrade", "`upgrade` keeps data and rows"),
         Part("worked", "product.worked", "runs that were worked by hand"),
         Part("examples", "product.examples", "the program over each folder of examples/"),

@@ -195,9 +195,9 @@ PLANTED = [
             Fault("README.md", "^5,T,X,1,1,1", "5,T,X,1,1,0", "has not the rows of examples/approach"),
             Fault(
                 "examples/approach/input",
-                "^length = 10000$",
-                "length = 10001",
-                "has not the input of examples/approach",
+                "^read,50,900000,",
+                "read,50,900001,",
+                "has not the records of examples/approach",
             ),
             Fault(
                 "examples/every-key/input",
@@ -384,9 +384,8 @@ def test_a_fault_is_told(ends: list[Future[tuple[int, str]]], number: int, scrip
 
 
 # These are tried over a program or a library, by test_program.py and test_bounds.py, or by hand.
-ELSEWHERE = set(
-    "model upgrade certificates compilers edits bounds worked examples live c library rides refused processors".split()
-)
+ELSEWHERE = set("model upgrade tour certificates compilers edits bounds worked examples live c library".split())
+ELSEWHERE |= {"rides", "refused", "processors"}
 
 
 def test_each_check_has_two_faults() -> None:
