@@ -66,6 +66,7 @@ PLANTED = [
     ("clauses", [Fault("docs/SAFETY.md", r"^\| 3\.13\.10 .*\n", "", STALE)]),
     ("clauses", [Fault(DATA, r",as 3\.13\.10,", ",as 3.13.11,", STALE)]),
     ("crates", [Fault("crates.txt", "^sdm_limits: .*\n", "", STALE)]),
+    ("crates", [Fault("docs/SAFETY.md", "`memchr`, ", "", "docs/SAFETY.md doesn't name memchr")]),
     (
         "crates",
         [
