@@ -56,8 +56,9 @@ CHECKS: dict[Group, list[Part]] = {
         Part("pictures", "pages.pictures check", "the pictures of examples/ are as drawn now", 0.04),
         Part("plot", "packages.tests pictures", "tools/plot", 0.07),
         Part("python", "packages.lint", "black, flake8, mypy and shellcheck find nothing", 0.6),
+        Part("questions", "pages.questions", "the pages answer what each kind of reader asks"),
         Part("scripts", "packages.tests scripts", "the checks find the faults that are planted for them"),
-        Part("style", "pages.style", "words, sentences, versions and dates of pages", 0.01),
+        Part("style", "pages.style", "words, sentences, lengths, versions and dates of pages; marks of conflicts", 0.01),
         Part("traces", "pages.traces check", "docs/TRACES.md: what shows each sentence of README's promise", 0.01),
     ],
     "after": [
@@ -100,6 +101,7 @@ SHOWN = [
     Part("manual", "pages.manual", "`help`: the text of `sdm help`"),
     Part("processors", "processors.times", "what a reading takes on other processors, and their stacks"),
     Part("traces", "pages.traces", "what shows each sentence of README's promise"),
+    Part("words", "pages.style words", "the words by hand of each page, and of all"),
 ]
 TRIES = [
     Part("bounds", "tries.bounds", "the bounds against painted stacks and counted instructions"),

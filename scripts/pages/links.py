@@ -51,13 +51,18 @@ def pages() -> list[Path]:
     return [ROOT / name for name in sorted(names) if (ROOT / name).exists()]
 
 
+def slug_of(heading: str) -> str:
+    """The anchor of a heading, as the forge makes it."""
+    text = re.sub(r"!?\[([^\]]*)\]\([^)]*\)", r"\1", heading).replace("`", "").replace("*", "").lower()
+    return re.sub(r"[^\w\- ]", "", text).replace(" ", "-")
+
+
 @cache
 def anchors(page: Path) -> set[str]:
-    """The anchors of a page's headings, as the forge makes them."""
+    """The anchors of a page's headings."""
     found: dict[str, int] = {}
     for heading in HEADING.findall(FENCE.sub("", page.read_text())):
-        text = re.sub(r"!?\[([^\]]*)\]\([^)]*\)", r"\1", heading).replace("`", "").replace("*", "").lower()
-        slug = re.sub(r"[^\w\- ]", "", text).replace(" ", "-")
+        slug = slug_of(heading)
         count = found.get(slug, 0)
         found[slug] = count + 1
         if count:

@@ -1,12 +1,15 @@
-"""Checks the style of the pages: words that have a plainer one, sentences that are too long, and versions and dates
-on a page that says what is. The words of code and of headings aren't read, sentences of tables and captions aren't
-counted, and what scripts write isn't read at all.
+"""Checks the style of the pages: words that have a plainer one, sentences and paragraphs that are too long, and
+versions and dates on a page that says what is. The words of code and of headings aren't read, sentences of tables and
+captions aren't counted, and what scripts write isn't read at all. The pages by hand have at most so many words in all,
+and README so many. No file has a mark of a conflict.
 
     scripts/house check style
+    scripts/house show words     the words by hand of each page, and of all
 """
 from __future__ import annotations
 
 import re
+import subprocess
 from pathlib import Path
 
 from scripts.pages.links import CODE, FENCE, pages
@@ -14,7 +17,14 @@ from scripts.pages.part import told
 from scripts.pages.specs import ROOT
 
 MOST_WORDS = 40  # in a sentence, or in a part of it up to a semicolon
+MOST_IN_PARAGRAPH = 90
+MOST_IN_README = 700
+MOST_BY_HAND = 52_000  # as `wc -w` counts, in all pages by hand
 SKIPPED = {"vectors/MUTANTS.md"}  # written by a script
+# Pages that aren't counted: runs and vectors, the log of changes, and what scripts write.
+UNCOUNTED_PAGES = re.compile(
+    r"(?:examples|vectors)/|CHANGELOG\.md$|docs/(?:DEFINITIONS|BELIEVED|TRACES|WRONG-DEFINITIONS)\.md$"
+)
 WRITTEN = re.compile(
     r"^<!-- The \w+ from here on .*?(?=^<!-- The \w+ ends? here|\Z)", re.M | re.S
 )  # a part that a script writes
@@ -37,6 +47,17 @@ PLAINER = {  # a pattern, and what to write in its place
     r"he|his|him": "the driver, the builder, they",
     r"who(?:ever)? (?:calls|runs|relies|looks|links|changes|works|asks|hands)": "a caller, a user",
 }
+PLAINER_HERE = {  # the same, of the pages that are settled
+    r"but for": "except, unless",
+    r"made (?:data|journeys?|trains?|runs?|readings?|drives?|rides?|figures|up)": "generated",
+}
+# Where these words stand for a place, a page has them; at the beginning of a sentence they stand for a condition.
+CONDITION = re.compile(r"(?:^|(?<=[.;:] )|(?<=\| ))(?:- |\d\. )?Where (?!(?:to|it is|they are)\b)[^|.;]*,")
+# Pages that are read again by those who write them; their paragraphs and conditions aren't counted yet.
+UNREAD_YET = re.compile(
+    r"(?:examples|vectors|tools|python|javascript|c)/"
+    r"|docs/(?:EDITS|LABORATORY|LIBRARY|PROCESSORS|PYTHON|RELEASES|TRACES|WRONG-DEFINITIONS)\.md$|CHANGELOG\.md$"
+)
 DATED = {"CHANGELOG.md", "README.md", "bench/README.md", "docs/RELEASES.md"}  # may name a version or a date
 DATE = re.compile(r"\b0\.\d+\.\d+\b|\b20\d\d-\d\d-\d\d\b")
 SENTENCE = re.compile(r"(?<=[.!?;])\s+")
@@ -58,16 +79,61 @@ def lines_of(page: Path) -> list[tuple[int, str]]:
     ]
 
 
-def faults_of(line: str) -> list[str]:
-    """What is wrong with a line."""
-    words = [
+def words_of(line: str, plainer: dict[str, str]) -> list[str]:
+    """The words of a line that have a plainer one."""
+    return [
         f"{found.group()!r}: write {plain}"
-        for word, plain in PLAINER.items()
+        for word, plain in plainer.items()
         for found in re.finditer(rf"\b(?:{word})\b", line, re.I)
     ]
+
+
+def faults_of(line: str) -> list[str]:
+    """What is wrong with a line."""
+    words = words_of(line, PLAINER)
     sentences = [] if UNCOUNTED.match(line) else SENTENCE.split(line)
     counts = [(len(sentence.split()), sentence) for sentence in sentences]
     return words + [f"{count} words in a sentence: {sentence[:60]}" for count, sentence in counts if count > MOST_WORDS]
+
+
+def settled_faults(line: str) -> list[str]:
+    """What is wrong with a line as a paragraph, and by its words."""
+    count = 0 if UNCOUNTED.match(line) else len(line.split())
+    long = [f"{count} words in a paragraph: {line[:60]}"] if count > MOST_IN_PARAGRAPH else []
+    return (
+        words_of(line, PLAINER_HERE)
+        + long
+        + [f"{found.group()[:40]!r}: write if" for found in CONDITION.finditer(line)]
+    )
+
+
+def by_hand(page: Path) -> int:
+    """The words of a page that a script doesn't write, as `wc -w` counts them."""
+    return len(WRITTEN.sub("", page.read_text()).split())
+
+
+def counts() -> dict[str, int]:
+    """The words by hand of each page that is counted."""
+    names = {str(page.relative_to(ROOT)): page for page in pages()}
+    return {name: by_hand(page) for name, page in names.items() if not UNCOUNTED_PAGES.match(name)}
+
+
+def count_faults() -> list[str]:
+    """Whether the pages have more words by hand than they may."""
+    found = counts()
+    faults = []
+    if found.get("README.md", 0) > MOST_IN_README:
+        faults.append(f"README.md: {found['README.md']} words, and not at most {MOST_IN_README}")
+    if sum(found.values()) > MOST_BY_HAND:
+        faults.append(f"{sum(found.values())} words by hand in all pages, and not at most {MOST_BY_HAND}")
+    return faults
+
+
+def conflicts() -> list[str]:
+    """The marks of conflicts in files of the repository."""
+    words = ["git", "-C", str(ROOT), "grep", "--untracked", "-nIE", "^(<{7}|>{7})( |$)"]
+    found = subprocess.run(words, capture_output=True, text=True, check=False).stdout
+    return [f"{line}: a mark of a conflict" for line in found.splitlines()]
 
 
 def dates_of(page: Path) -> list[tuple[int, str]]:
@@ -80,9 +146,19 @@ def dates_of(page: Path) -> list[tuple[int, str]]:
     ]
 
 
-def main(_: list[str]) -> int:
-    read = [page for page in pages() if str(page.relative_to(ROOT)) not in SKIPPED]
+def main(words: list[str]) -> int:
+    if words == ["words"]:
+        found = counts()
+        for name, count in found.items():
+            print(f"{count:7,}  {name}")
+        print(f"{sum(found.values()):7,}  in all")
+        return 0
+    names = {page: str(page.relative_to(ROOT)) for page in pages()}
+    read = [page for page in names if names[page] not in SKIPPED]
     lines = [(page, number, line) for page in read for number, line in lines_of(page)]
-    found = [(page, number, fault) for page, number, line in lines for fault in faults_of(line)]
-    found += [(page, *dated) for page in read if str(page.relative_to(ROOT)) not in DATED for dated in dates_of(page)]
-    return told("style", len(lines), [f"{page.relative_to(ROOT)}:{number}: {fault}" for page, number, fault in found])
+    found_in = [(page, number, fault) for page, number, line in lines for fault in faults_of(line)]
+    settled = [(page, number, line) for page, number, line in lines if not UNREAD_YET.match(names[page])]
+    found_in += [(page, number, fault) for page, number, line in settled for fault in settled_faults(line)]
+    found_in += [(page, *dated) for page in read if names[page] not in DATED for dated in dates_of(page)]
+    faults = [f"{names[page]}:{number}: {fault}" for page, number, fault in found_in]
+    return told("style", len(lines), [*faults, *count_faults(), *conflicts()])
