@@ -1,7 +1,7 @@
 """Checks the pages of the repository: every relative link and picture leads to a file or folder in it, every anchor
-to a heading or to a line; the inputs and records that README and docs/FORMATS.md show are those of examples/, with
-their rows; and the code that docs/INTEGRATION.md and docs/FROM-C.md show stands in crates/sdm_onboard or in c/;
-docs/LABORATORY.md shows what tools/compare prints. Links to other hosts are not followed.
+to a heading or to a line; the records that README shows are those of examples/, with their rows; and the code that
+docs/INTEGRATION.md and docs/FROM-C.md show stands in crates/sdm_onboard or in c/; docs/LABORATORY.md shows what
+tools/compare prints. Links to other hosts are not followed.
 
     scripts/house check links
 """
@@ -27,10 +27,7 @@ SHOWN_CODE = [  # a page, the language of code that it shows, and where that is 
     ("docs/FROM-C.md", "c", "c/*.c"),
     ("docs/FROM-C.md", "ada", "c/ada/*.adb"),
 ]
-SHOWN_EXAMPLES = [  # a page, the folder of examples/ that it shows, what of the input it shows, and how
-    ("README.md", "approach", "records", "```\n{}```\n"),
-    ("docs/FORMATS.md", "every-key", "input", "```toml\n{}```\n"),
-]
+SHOWN_EXAMPLES = [("README.md", "approach")]  # a page, and the folder of examples/ whose records and rows it shows
 COMPARED = [
     "tools/compare",
     *(f"examples/interventions/{name}" for name in ("rows", "recording.csv")),
@@ -98,16 +95,15 @@ def links_of(page: Path) -> Iterator[tuple[int, str]]:
 
 def example_faults() -> Iterator[str]:
     """Where a page's example isn't the folder's."""
-    for page, name, part, form in SHOWN_EXAMPLES:
+    for page, name in SHOWN_EXAMPLES:
         text = (ROOT / page).read_text()
         example = ROOT / "examples" / name
-        given = (example / "input").read_text()
         shown = {
-            part: form.format(given if part == "input" else given.partition("%%\n")[2]),
-            "rows": f"```\n{(example / 'rows').read_text()}```\n",
+            "records": (example / "input").read_text().partition("%%\n")[2],
+            "rows": (example / "rows").read_text(),
         }
         for what, lines in shown.items():
-            if lines not in text:
+            if f"```\n{lines}```\n" not in text:
                 yield f"{page}: its example has not the {what} of examples/{name}"
 
 

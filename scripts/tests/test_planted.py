@@ -201,12 +201,6 @@ PLANTED = [
                 "has not the records of examples/approach",
             ),
             Fault(
-                "examples/every-key/input",
-                "^length = 10000 ",
-                "length = 10001 ",
-                "has not the input of examples/every-key",
-            ),
-            Fault(
                 "examples/interventions/recording.csv",
                 "^13000;",
                 "13100;",
