@@ -91,21 +91,38 @@ static void move(struct rider *r) {
 
 /* ---- the driver and the odometer */
 
+static int64_t widest(const struct scenario *given) { return given->ahead_mm + given->behind_mm; }
+
 static int64_t careful(const struct rider *r, int64_t power, int64_t service) {
     return r->row.status >= SDM_OVERSPEED ? service : r->row.status == SDM_INDICATION ? 0 : power;
 }
 
-/* What brings V_est to the release speed by the next reading, if there is one. */
+/* The least estimated speed that a reading has now. */
+static int64_t estimated_mm_s(const struct rider *r) {
+    const struct scenario *given = r->given;
+    int64_t under_mm_s = r->under->is_under_reading_inhibited ? 0 : given->under_mm_s;
+    return divided_up(r->speed, given->ticks_per_ds * NOTCHES_PER_MM_S) - under_mm_s - given->breach.slow_mm_s;
+}
+
+/* What brings the estimated speed to the release speed by the next reading, if there is one. */
 static int64_t crept(const struct rider *r, int64_t power, int64_t service) {
     int64_t release_kmh = r->authority->event.kind == EVENT_END ? r->authority->event.numbers[2] : 0;
-    int64_t lacking = NOTCHES_PER_KMH * release_kmh - NOTCHES_PER_MM_S * (int64_t)r->last.speed_mm_s;
-    return between(divided_down(lacking, r->given->period_ds), service, power);
+    int64_t lacking_mm_s = NOTCHES_PER_KMH * release_kmh / NOTCHES_PER_MM_S - estimated_mm_s(r);
+    return between(divided_down(NOTCHES_PER_MM_S * lacking_mm_s, r->given->period_ds), service, power);
+}
+
+/* Whether the next reading finds the train tripped, however far its safe front ends lie apart. */
+static bool is_tripped_next(const struct rider *r) {
+    int64_t s = r->given->ticks_per_ds, mm = s * s * GRAINS_PER_MM;
+    int64_t next = r->place + 2 * HALF_NOTCH_TICK * r->speed * s * r->given->period_ds;
+    return divided_up(next, mm) - widest(r->given) > 10 * (int64_t)r->authority->event.numbers[0];
 }
 
 /* What the driver asks for until the next reading, in notches a ds; the driver sees the last row. */
 static int64_t driven(struct rider *r) {
-    int64_t power = NOTCHES_PER_MM_S * r->given->power_cm_s2, service = -NOTCHES_PER_MM_S * r->given->service_cm_s2;
-    switch (r->given->driver) {
+    const struct scenario *given = r->given;
+    int64_t power = NOTCHES_PER_MM_S * given->power_cm_s2, service = -NOTCHES_PER_MM_S * given->service_cm_s2;
+    switch (given->driver) {
     case DRIVER_AT_RANDOM:
         switch (up_to(r, 5)) {
         case 0:
@@ -122,9 +139,9 @@ static int64_t driven(struct rider *r) {
     case DRIVER_LATE:
         return r->row.status >= SDM_WARNING ? service : power;
     case DRIVER_CREEPING:
-        if (r->row.state == SDM_RELEASE)
-            return crept(r, power, service);
-        return careful(r, power, service);
+        return r->row.state == SDM_RELEASE ? crept(r, power, service) : careful(r, power, service);
+    case DRIVER_SURGING:
+        return r->row.state == SDM_RELEASE && is_tripped_next(r) ? power : crept(r, power, service);
     case DRIVER_CAREFUL:
         return careful(r, power, service);
     default:
@@ -132,21 +149,35 @@ static int64_t driven(struct rider *r) {
     }
 }
 
+/* The safe front ends in mm: the true one lies between them, unless that premise is broken. */
+static void read_front_ends(struct rider *r, int64_t *min_mm, int64_t *max_mm) {
+    const struct scenario *given = r->given;
+    int64_t mm = given->ticks_per_ds * given->ticks_per_ds * GRAINS_PER_MM;
+    int64_t true_down = divided_down(r->place, mm), true_up = divided_up(r->place, mm);
+    if (given->is_widest) {
+        int64_t eoa = 10 * (int64_t)r->authority->event.numbers[0];
+        *max_mm = true_up - given->breach.short_mm;
+        *min_mm = *max_mm - widest(given);
+        if (between(eoa, *min_mm, *max_mm) == eoa)
+            *min_mm = eoa;
+    } else {
+        int64_t min = true_down - up_to(r, given->behind_mm);
+        *max_mm = true_up + up_to(r, given->ahead_mm) - given->breach.short_mm;
+        *min_mm = least_of(min, *max_mm);
+    }
+}
+
 /* What the odometer tells: the truth lies within its bounds, and the train gains at most what it says until the next
  * reading. */
 static struct sdm_reading read_odometer(struct rider *r) {
     const struct scenario *given = r->given;
-    int64_t s = given->ticks_per_ds, mm = s * s * GRAINS_PER_MM;
-    int64_t min = divided_down(r->place, mm) - up_to(r, given->behind_mm);
-    int64_t max = divided_up(r->place, mm) + up_to(r, given->ahead_mm) - given->breach.short_mm;
-    int64_t speed = divided_up(r->speed, s * NOTCHES_PER_MM_S), fast = up_to(r, given->fast_mm_s);
-    if (speed > 0) {
-        int64_t under = r->under->is_under_reading_inhibited ? 0 : given->under_mm_s;
-        speed = between(speed - under + fast - given->breach.slow_mm_s, 1, MOST_SPEED_MM_S);
-    }
+    int64_t min, max;
+    read_front_ends(r, &min, &max);
+    int64_t speed = 0, fast = up_to(r, given->fast_mm_s);
+    if (r->speed > 0)
+        speed = between(estimated_mm_s(r) + fast, 1, MOST_SPEED_MM_S);
     int64_t accel = divided_up(r->gain, NOTCHES_PER_MM_S) + up_to(r, given->gain_cm_s2);
-    min = least_of(min, max);
-    struct sdm_reading reading = {(uint32_t)(r->tick / s),
+    struct sdm_reading reading = {(uint32_t)(r->tick / given->ticks_per_ds),
                                   (int32_t)(min + up_to(r, max - min)),
                                   (int32_t)min,
                                   (int32_t)max,

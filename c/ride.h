@@ -57,9 +57,10 @@ struct world {
 enum driver {
     DRIVER_AT_FULL_POWER,
     DRIVER_AT_RANDOM,
-    DRIVER_LATE,    /* brakes once it is warned */
-    DRIVER_CAREFUL, /* brakes once it is above what is permitted */
-    DRIVER_CREEPING /* the same, and keeps V_est at the release speed in release speed monitoring */
+    DRIVER_LATE,     /* brakes once it is warned */
+    DRIVER_CAREFUL,  /* brakes once it is above what is permitted */
+    DRIVER_CREEPING, /* the same, and keeps V_est at the release speed in release speed monitoring */
+    DRIVER_SURGING /* keeps V_est at the release speed; full power after the last reading before the train is tripped */
 };
 
 /* How readings are judged (sdm_ride, sdm_release_ride): what gives a promise, and what orders the emergency brake. */
@@ -76,23 +77,24 @@ struct scenario {
     int64_t place_mm, speed_mm_s;
     int64_t driver; /* enum driver */
     int64_t power_cm_s2, service_cm_s2;
-    int64_t obeys_service;        /* the service brake and the traction cut-off do what is commanded */
-    int64_t stronger_per_mille;   /* by how much more than A_safe the emergency brake may brake */
-    int64_t ahead_mm, behind_mm;  /* how far the safe front ends may lie from the true one */
-    int64_t under_mm_s;           /* the under-reading amount */
-    int64_t fast_mm_s;            /* how far estimated speed and under-reading amount may lie above the true speed */
-    int64_t gain_cm_s2;           /* how far the reading's acceleration may lie above the true one */
-    int64_t judging;              /* enum judging */
-    int64_t width_mm, excess;     /* the bounds W and U of readings in release speed monitoring, U in notches */
-    int64_t is_judged_late;       /* a reading is judged up to c after its moment, what comes meanwhile before it */
-    int64_t repeats_per_mille;    /* how often the odometer begins to send its last reading again, for some periods */
-    struct breach {               /* how premises are broken; all 0 within them */
-        int64_t ignored;          /* so many orders of the emergency brake aren't handed on */
-        int64_t judges_repeated;  /* a reading that repeats the time of the last one is judged */
-        int64_t short_mm;         /* the max safe front end lies so far behind the true one */
-        int64_t slow_mm_s;        /* the true speed is so far above what the reading allows */
-        int64_t gains_cm_s2;      /* the train gains so much more than the last reading that promised says */
-        int64_t is_uncut;         /* the traction works until the brake does */
+    int64_t obeys_service;       /* the service brake and the traction cut-off do what is commanded */
+    int64_t stronger_per_mille;  /* by how much more than A_safe the emergency brake may brake */
+    int64_t ahead_mm, behind_mm; /* how far the safe front ends may lie from the true one */
+    int64_t under_mm_s;          /* the under-reading amount */
+    int64_t fast_mm_s;           /* how far estimated speed and under-reading amount may lie above the true speed */
+    int64_t gain_cm_s2;          /* how far the reading's acceleration may lie above the true one */
+    int64_t judging;             /* enum judging */
+    int64_t width_mm, excess;    /* the bounds W and U of readings in release speed monitoring, U in notches */
+    int64_t is_judged_late;      /* a reading is judged up to c after its moment, what comes meanwhile before it */
+    int64_t repeats_per_mille;   /* how often the odometer begins to send its last reading again, for some periods */
+    int64_t is_widest;           /* safe front ends lie as far apart as they may, the min one at the EOA while it can */
+    struct breach {              /* how premises are broken; all 0 within them */
+        int64_t ignored;         /* so many orders of the emergency brake aren't handed on */
+        int64_t judges_repeated; /* a reading that repeats the time of the last one is judged */
+        int64_t short_mm;        /* the max safe front end lies so far behind the true one */
+        int64_t slow_mm_s;       /* the true speed is so far above what the reading allows */
+        int64_t gains_cm_s2;     /* the train gains so much more than the last reading that promised says */
+        int64_t is_uncut;        /* the traction works until the brake does */
         int64_t weaker_per_mille; /* the brake gives so much less than A_safe */
     } breach;
 };

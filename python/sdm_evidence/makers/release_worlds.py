@@ -6,6 +6,7 @@ each release speed has a trip place by them: the place W past the EOA. Each prem
 from __future__ import annotations
 
 import copy
+from bisect import bisect_left
 from enum import Enum
 from random import Random
 from typing import NamedTuple
@@ -33,9 +34,10 @@ from sdm_evidence.model.release import calculated
 from sdm_evidence.model.speeds import falls
 from sdm_evidence.model.units import NOTCHES_PER_KM_H, NOTCHES_PER_MM_S
 
-CREEPING = 4  # enum driver of c/ride.h
-DURATION_DS = (600, 2_400)
+CREEPING, SURGING = 4, 5  # enum driver of c/ride.h
+DURATION_DS = (1_200, 2_400)
 MOST_ACCEL = 300
+FURTHEST_CM = 50_000  # of an SvL behind its EOA
 
 
 class Broken(Enum):
@@ -93,6 +95,13 @@ def excess_over(odometer: Odometer, supervisor: Supervisor) -> int:
     return odometer.excess(supervisor.times, supervisor.data.national.inhibit_under_reading)
 
 
+def whole(odometer: Odometer, supervisor: Supervisor) -> Odometer:
+    """The same with as much more under-reading as brings U just up to a whole number of km/h, if it counts."""
+    excess = excess_over(odometer, supervisor)
+    most = -(-excess // NOTCHES_PER_KM_H) * NOTCHES_PER_KM_H
+    return odometer._replace(under_mm_s=odometer.under_mm_s + (most - excess) // NOTCHES_PER_MM_S)
+
+
 def greatest_release(supervisor: Supervisor, odometer: Odometer, excess: int, eoa: int, svl: int) -> int:
     """The greatest release speed in km/h that has its trip place W past the EOA; below 0 where none has."""
     trip = eoa + -(-odometer.width_mm() // 10)
@@ -102,17 +111,27 @@ def greatest_release(supervisor: Supervisor, odometer: Odometer, excess: int, eo
     return calculated(supervisor.curves, T_be, svl, trip) - -(-excess // NOTCHES_PER_KM_H)
 
 
+def least_svl(supervisor: Supervisor, odometer: Odometer, excess: int, eoa: int, release: int) -> int | None:
+    """The nearest SvL in cm behind which a release speed in km/h has its trip place; none on the track where none is."""
+    first = eoa + -(-odometer.width_mm() // 10)
+
+    def has_trip(svl: int) -> bool:
+        return greatest_release(supervisor, odometer, excess, eoa, svl) >= release
+
+    svls = range(first, min(first + FURTHEST_CM, supervisor.data.track.length))
+    svl = first + bisect_left(svls, True, key=has_trip)
+    return svl if svl in svls else None
+
+
 def a_stop(rng: Random, supervisor: Supervisor, odometer: Odometer, eoa: int, more_kmh: int) -> Stop | None:
-    """A stop at an EOA whose release speed has a trip place, or is so much above it; mostly the greatest one."""
-    length, excess = supervisor.data.track.length, excess_over(odometer, supervisor)
-    for overlap in rng.sample([500, 1_000, 2_000, 4_000, 8_000, 16_000, 32_000], 7):
-        svl = eoa + -(-odometer.width_mm() // 10) + overlap
-        if svl > length:
-            continue
-        greatest = greatest_release(supervisor, odometer, excess, eoa, svl) + more_kmh
-        if 5 + more_kmh <= greatest <= 60:
-            return Stop(eoa, svl, greatest if rng.random() < 0.7 else rng.randint(5, greatest))
-    return None
+    """A stop at an EOA whose release speed has a trip place, or is so much above one that has: mostly its SvL is the
+    nearest for that speed."""
+    excess, release = excess_over(odometer, supervisor), rng.randint(5, 60 - more_kmh)
+    svl = least_svl(supervisor, odometer, excess, eoa, release)
+    if svl is None:
+        return None
+    further = 0 if rng.random() < 0.7 else rng.randint(0, 2_000)
+    return Stop(eoa, min(svl + further, supervisor.data.track.length), release + more_kmh)
 
 
 # ---- data parts
@@ -157,10 +176,12 @@ def a_next_document(rng: Random, document: Table, broken: Broken) -> Table:
 # ---- worlds
 
 
-def a_start(rng: Random, supervisor: Supervisor, eoa: int) -> tuple[int, int]:
-    """Where a ride begins, in cm, and its greatest speed in mm/s: it can brake before the EOA."""
-    speed = rng.randint(0, 12_000)
-    return eoa - a_braking_cm(supervisor, speed) - rng.randint(1_000, 20_000), speed
+def a_start(rng: Random, supervisor: Supervisor, odometer: Odometer, stop: Stop) -> tuple[int, int]:
+    """Where a ride begins, in cm, and its greatest speed in mm/s, from where it can brake before the EOA: its estimate is
+    the release speed."""
+    under = 0 if supervisor.data.national.inhibit_under_reading else odometer.under_mm_s
+    speed = stop.release * NOTCHES_PER_KM_H // NOTCHES_PER_MM_S + under
+    return stop.eoa - a_braking_cm(supervisor, speed) - rng.randint(1_000, 20_000), speed
 
 
 def changed(
@@ -204,13 +225,14 @@ def a_release_world(rng: Random, broken: Broken) -> ReleaseWorld:
             rng.choice([0, 500, 3_000]),
             rng.choice([0, 500, 3_000]),
             rng.choice([0, 200, 500]),
-            rng.choice([10, 30, 80]),
+            200 if broken is Broken.UNCUT else rng.choice([1, 10, 30, 80]),
             0,
         )
         if supervisor is None or supervisor.times.T_traction == 0:
             continue
         if broken is not Broken.TRACTION and supervisor.times.T_traction > supervisor.data.train.emergency_time:
             continue
+        odometer = whole(odometer, supervisor)
         eoa = rng.randrange(100_000, supervisor.data.track.length - 50_000)
         stop = a_stop(rng, supervisor, odometer, eoa, 10 if broken is Broken.TRIP else 0)
         if stop is None:
@@ -226,7 +248,7 @@ def a_world_at(
 ) -> ReleaseWorld:
     """The world of a stop."""
     document, supervisor = first
-    place, speed = a_start(rng, supervisor, stop.eoa)
+    place, speed = a_start(rng, supervisor, odometer, stop)
     grounds = [ground_of(document, supervisor)]
     happenings = [Happening(0, stop, falls(supervisor.profile), 0, True)]
     excess = excess_over(odometer, supervisor)
@@ -245,7 +267,9 @@ def a_world_at(
 
 
 def a_release_scenario(rng: Random, made: ReleaseWorld, broken: Broken) -> Scenario:
-    """A ride whose driver creeps at the release speed, mostly with nothing to spare."""
+    """A ride whose driver creeps at the release speed. Most have nothing to spare: times, brake and odometer are as bad as
+    they may be, and the driver takes full power after the last reading before the train is
+    tripped."""
     world, odometer = made.world, made.odometer
     is_guarded = broken is Broken.NONE and rng.random() < 0.2
     late = 1 if broken is Broken.LATE else 0
@@ -260,8 +284,8 @@ def a_release_scenario(rng: Random, made: ReleaseWorld, broken: Broken) -> Scena
         is_regular=is_tight or rng.random() < 0.5,
         missing_per_mille=0 if is_tight else rng.choice([0, 5]),
         place_mm=world.place_mm + rng.randint(0, 2_000),
-        speed_mm_s=world.speed_mm_s * rng.randint(20, 100) // 100,
-        driver=CREEPING,
+        speed_mm_s=world.speed_mm_s if is_tight else world.speed_mm_s * rng.randint(20, 100) // 100,
+        driver=SURGING if is_tight else CREEPING,
         power_cm_s2=odometer.power_cm_s2,
         service_cm_s2=rng.randint(20, 120),
         obeys_service=True,
@@ -275,6 +299,7 @@ def a_release_scenario(rng: Random, made: ReleaseWorld, broken: Broken) -> Scena
         width_mm=odometer.width_mm(),
         excess=made.excess,
         is_judged_late=rng.random() < 0.5,
+        is_widest=is_tight,
         repeats_per_mille=30 if broken is Broken.REPEATED else rng.choice([0, 0, 5]),
         ignored=1 if broken is Broken.IGNORED else 0,
         judges_repeated=broken is Broken.REPEATED,

@@ -22,7 +22,7 @@ from sdm_evidence.makers.toml_text import toml
 from sdm_evidence.model.units import NOTCHES_PER_MM_S
 
 DURATION_DS = (300, 1_200)
-AT_FULL_POWER, DRIVERS = 0, 4  # enum driver of c/ride.h, but for the creeping one
+AT_FULL_POWER, DRIVERS = 0, 4  # enum driver of c/ride.h, without those for a release speed
 BY_ROWS, BY_RELEASE, GUARDED = 0, 1, 2  # enum judging
 
 
@@ -102,6 +102,7 @@ class Scenario(NamedTuple):
     excess: int = 0
     is_judged_late: bool = False
     repeats_per_mille: int = 0
+    is_widest: bool = False
     ignored: int = 0
     judges_repeated: bool = False
     short_mm: int = 0
