@@ -52,6 +52,7 @@ PARTS: dict[str, list[str]] = {
     "pictures": ["README.md", "docs", "examples/approach", "examples/flat", "scripts", "tools", "python"],
     "plot": ["examples", "scripts", "tools", "python"],
     "python": [".ci", "bench", "python", "scripts", "tools", "vectors/maker"],
+    "questions": ["README.md", "*/README.md", "docs/*.md", "scripts"],
     "style": ["README.md", "docs", "scripts"],
     "traces": [*SPECS, "README.md", "crates/*/proofs/*Cases.antt", "crates/*/must-fail/*", "crates/*/edits/*"],
 }
@@ -292,6 +293,47 @@ PLANTED = [
                 "48 words in a sentence: A word",
             ),
             Fault("docs/FORMATS.md", "^## Commands$", "## Commands of 0.12.1", "'0.12.1': only CHANGELOG.md"),
+        ],
+    ),
+    (
+        "style",
+        [
+            Fault(
+                "docs/PROFILE.md", "^## Units$", "## Units\n\n" + "Some words. " * 46, "92 words in a paragraph: Some"
+            ),
+            Fault(
+                "docs/CERTIFICATES.md",
+                "^## Marks$",
+                "## Marks\n\nWhere it holds, it stands.",
+                "'Where it holds,': write if",
+            ),
+            Fault("docs/FROM-C.md", "^## Bounds$", "## Bounds\n\nAll but for one.", "'but for': write except, unless"),
+            Fault("README.md", r"\Z", "\n" + "word " * 100, "README.md: "),
+            Fault("docs/SAFETY.md", r"^(## What is claimed)$", "<" * 7 + r" HEAD\n\1", "a mark of a conflict"),
+            Fault("docs/TOUR.md", "^For newcomers: after", "After", "docs/TOUR.md: its first line names no reader"),
+        ],
+    ),
+    (
+        "questions",
+        [
+            Fault(
+                "docs/FORMATS.md",
+                "^## How a run ends$",
+                "## The end of a run",
+                "docs/FORMATS.md#how-a-run-ends is nowhere",
+            ),
+            Fault("docs/TOUR.md", "is past P of the SvL", "is past it", "docs/TOUR.md#a-warning doesn't have"),
+        ],
+    ),
+    (
+        "questions",
+        [
+            Fault(
+                "README.md",
+                r"\[bench\]\(bench/README\.md\)",
+                "bench",
+                "README doesn't lead to bench/README.md by 2 links",
+            )
         ],
     ),
     (
