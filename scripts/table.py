@@ -58,7 +58,7 @@ CHECKS: dict[Group, list[Part]] = {
         Part("python", "packages.lint", "black, flake8, mypy and shellcheck find nothing", 0.6),
         Part("questions", "pages.questions", "the pages answer what each kind of reader asks"),
         Part("scripts", "packages.tests scripts", "the checks find the faults that are planted for them"),
-        Part("style", "pages.style", "words, sentences, lengths, versions and dates of pages; marks of conflicts", 0.01),
+        Part("style", "pages.style", "words, lengths, versions and dates of pages; marks of conflicts", 0.01),
         Part("traces", "pages.traces check", "docs/TRACES.md: what shows each sentence of README's promise", 0.01),
     ],
     "after": [

@@ -49,7 +49,16 @@ PARTS: dict[str, list[str]] = {
         "crates/sdm_words/src",
         "scripts",
     ],
-    "pictures": ["README.md", "docs", "examples/approach", "examples/flat", "scripts", "tools", "python"],
+    "pictures": [
+        "README.md",
+        "docs",
+        "examples/approach",
+        "examples/flat",
+        "examples/interventions",
+        "scripts",
+        "tools",
+        "python",
+    ],
     "plot": ["examples", "scripts", "tools", "python"],
     "python": [".ci", "bench", "python", "scripts", "tools", "vectors/maker"],
     "questions": ["README.md", "*/README.md", "docs/*.md", "scripts"],
@@ -329,10 +338,10 @@ PLANTED = [
         "questions",
         [
             Fault(
-                "README.md",
-                r"\[bench\]\(bench/README\.md\)",
-                "bench",
-                "README doesn't lead to bench/README.md by 2 links",
+                "scripts/pages/questions.toml",
+                '"bench/README.md#last-table", "smooth"',
+                '"javascript/README.md#the-supervisor-of-sdm-for-javascript", "JavaScript"',
+                "README doesn't lead to javascript/README.md by 2 links",
             )
         ],
     ),
