@@ -185,7 +185,7 @@ static void close_all(struct sdm *h, const char *what) {
     check(heap_test_counts().held == 0, "closing gives all memory back", what);
 }
 
-/* Opens with some allocations failed: want of memory is answered, no memory is held, and handle and line stay. An
+/* Opens with some allocations failed: SDM_NO_MEMORY is answered, no memory is held, and handle and line stay. An
  * allocation that is failed alone may have been asked for once more; then all is as with ample memory. */
 static void fail_some(const struct opening *opening, unsigned long first, unsigned long last) {
     struct sdm h = SDM_INIT;

@@ -83,6 +83,6 @@ int main(void) {
     if (wrong != NULL)
         printf("heap_try: %s\n", wrong);
     else
-        printf("heap_try: %lu blocks were given, %lu weren't for want of memory\n", given, refused);
+        printf("heap_try: %lu blocks were given, %lu weren't, since memory ran out\n", given, refused);
     return wrong != NULL;
 }

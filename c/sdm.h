@@ -165,7 +165,7 @@ enum sdm_rule {
 /* The first cause of a trigger, in the order of enum sdm_rule and of the targets; none where it doesn't hold. */
 struct sdm_cause {
     uint32_t rule;       /* enum sdm_rule */
-    uint32_t target;     /* enum sdm_target; SDM_NO_TARGET but for SDM_PAST_TARGET, and then all below is 0 */
+    uint32_t target;     /* enum sdm_target; SDM_NO_TARGET unless SDM_PAST_TARGET, and then all below is 0 */
     uint32_t target_kmh; /* its speed */
     int64_t target_mm;   /* its place */
     int64_t limit_mm;    /* its limit that is passed, rounded down */

@@ -110,7 +110,7 @@ static void change(std::string_view data) {
     check(next->take_over(*before) == Status::closed, "one that was moved from is closed", of);
 }
 
-/* Data that are refused, and want of memory. */
+/* Data that are refused, and refused memory. */
 static void fail(std::string_view data) {
     auto none = Supervisor::open({});
     check(none.error().status == Status::bad_data && none.error().line() == "sdm: bad data: missing version\n",
@@ -118,7 +118,7 @@ static void fail(std::string_view data) {
     heap_test_begin(1, ULONG_MAX);
     auto wanting = Supervisor::open(data);
     check(wanting.error().status == Status::no_memory && wanting.error().line().empty(), "it has no line",
-          "want of memory");
+          "refused memory");
     heap_test_begin(0, 0);
 }
 

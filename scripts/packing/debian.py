@@ -1,5 +1,5 @@
 """The Debian packages of a release, by Debian's own tools: dpkg-shlibdeps tells what one depends on, dpkg-gensymbols
-and dpkg-gencontrol write what dpkg reads, dpkg-deb packs it. `sdm` has what the archive has, but for the wheel;
+and dpkg-gencontrol write what dpkg reads, dpkg-deb packs it. `sdm` has what the archive has, except the wheel;
 `python3-sdm` has the Python package."""
 from __future__ import annotations
 

@@ -49,7 +49,7 @@ def write_wheel(release: Release, contents: Contents, library: Path, scratch: Pa
 
 
 def write_for_debian(wheel: Path, usr: Path) -> None:
-    """Writes what the wheel has, but for the library, to where Debian has it."""
+    """Writes what the wheel has, except the library, to where Debian has it."""
     with ZipFile(wheel) as packed:
         packed.extractall(usr / MODULES, [name for name in packed.namelist() if not NOT_DEBIANS.fullmatch(name)])
     (usr / "bin").mkdir()

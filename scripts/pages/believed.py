@@ -297,7 +297,7 @@ class Believed:
         return [each.name for each in specs.definitions(path) if each.name in self.reached[claim.name].get(path, ())]
 
     def type_files(self, claim: Claim) -> list[Path]:
-        """The source files that declare types and constants of the definitions, but for those of the edge."""
+        """The source files that declare types and constants of the definitions, except those of the edge."""
         edge = {CRATES / path for path, _ in claim.edge}
         return [
             path

@@ -16,7 +16,7 @@ from scripts.pages.specs import ROOT, crates, crates_with_libraries
 PART = Part(
     "crates",
     ROOT / "docs" / "ARCHITECTURE.md",
-    "<!-- The table from here on is written by scripts/house write crates, but for its last column. -->",
+    "<!-- The table from here on is written by scripts/house write crates, except its last column. -->",
     "<!-- The table ends here. -->",
     "scripts/house write crates",
 )

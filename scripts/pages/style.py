@@ -58,6 +58,8 @@ UNREAD_YET = re.compile(
     r"(?:examples|vectors|tools|python|javascript|c)/"
     r"|docs/(?:EDITS|LABORATORY|LIBRARY|PROCESSORS|PYTHON|RELEASES|TRACES|WRONG-DEFINITIONS)\.md$|CHANGELOG\.md$"
 )
+WORDS_OF_CODE = "want of|but for"
+FOLDERS_OF_CODE = ["scripts", "python", "tools", "bench", "c", "javascript"]
 DATED = {"CHANGELOG.md", "README.md", "bench/README.md", "docs/RELEASES.md"}  # may name a version or a date
 DATE = re.compile(r"\b0\.\d+\.\d+\b|\b20\d\d-\d\d-\d\d\b")
 SENTENCE = re.compile(r"(?<=[.!?;])\s+")
@@ -135,11 +137,22 @@ def readerless(page: Path) -> bool:
     return not first.startswith("For ")
 
 
+def lines_with(pattern: str, *paths: str) -> list[str]:
+    """The lines of files of the repository that a pattern matches, as git prints them."""
+    words = ["git", "-C", str(ROOT), "grep", "--untracked", "-nIwE", pattern, "--", *paths]
+    return subprocess.run(words, capture_output=True, text=True, check=False).stdout.splitlines()
+
+
 def conflicts() -> list[str]:
     """The marks of conflicts in files of the repository."""
-    words = ["git", "-C", str(ROOT), "grep", "--untracked", "-nIE", "^(<{7}|>{7})( |$)"]
-    found = subprocess.run(words, capture_output=True, text=True, check=False).stdout
-    return [f"{line}: a mark of a conflict" for line in found.splitlines()]
+    return [f"{line}: a mark of a conflict" for line in lines_with("^(<{7}|>{7})( .*|$)")]
+
+
+def code_faults() -> list[str]:
+    """Words of code and its comments that have a plainer one. Those of crates aren't read: a source that changes is
+    proved again."""
+    found = lines_with(WORDS_OF_CODE, *FOLDERS_OF_CODE, ":!*.md", ":!scripts/pages/style.py", ":!scripts/tests/")
+    return [f"{line[:100]}: write except, unless, refused memory" for line in found]
 
 
 def dates_of(page: Path) -> list[tuple[int, str]]:
@@ -172,4 +185,4 @@ def main(words: list[str]) -> int:
         for page in read
         if names[page] != "README.md" and not UNREAD_YET.match(names[page]) and readerless(page)
     ]
-    return told("style", len(lines), [*faults, *count_faults(), *conflicts()])
+    return told("style", len(lines), [*faults, *count_faults(), *conflicts(), *code_faults()])

@@ -61,7 +61,7 @@ def row(fields: list[str]) -> Iterator[int]:
 
 
 def display(fields: list[str]) -> Iterator[int]:
-    """The numbers of what a driver is shown, but for the target's speed, which the program doesn't write."""
+    """The numbers of what a driver is shown, except the target's speed, which the program doesn't write."""
     yield from map(int, fields[:5])
     yield TARGETS.index(fields[5])
     yield 0 if fields[6] == "-" else int(fields[6])

@@ -319,6 +319,12 @@ PLANTED = [
             Fault("docs/FROM-C.md", "^## Bounds$", "## Bounds\n\nAll but for one.", "'but for': write except, unless"),
             Fault("README.md", r"\Z", "\n" + "word " * 100, "README.md: "),
             Fault("docs/SAFETY.md", r"^(## What is claimed)$", "<" * 7 + r" HEAD\n\1", "a mark of a conflict"),
+            Fault(
+                "scripts/pages/part.py",
+                "^import os$",
+                "import os  # all but for one",
+                "write except, unless, refused memory",
+            ),
             Fault("docs/TOUR.md", "^For newcomers: after", "After", "docs/TOUR.md: its first line names no reader"),
         ],
     ),

@@ -280,7 +280,7 @@ def given_of(kinds):
 
 
 def differing(rows, others):
-    """In how many rows, but for what they say of covered."""
+    """In how many rows, whatever they say of covered."""
     pairs = zip(rows.splitlines(), others.splitlines(), strict=True)
     return sum(without_covered(one) != without_covered(other) for one, other in pairs)
 

@@ -17,7 +17,7 @@ NOTHING = range(10**6, 10**6 + 1)
 
 
 def left(data, judged):
-    """What each record leaves: commands, status but for N and I, and time; and how the journey ends."""
+    """What each record leaves: commands, status except N and I, and time; and how the journey ends."""
     walk = Walk(data, judged)
     found = []
     for _ in walk:
