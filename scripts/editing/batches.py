@@ -13,7 +13,7 @@ from functools import cached_property
 from scripts.pages.citations import blanked
 from scripts.editing.edits import Edit, Unfit
 from scripts.editing.functions import Function, below, by_mark, functions
-from scripts.editing.planting import edited, is_plantable
+from scripts.editing.planting import edited, is_plantable, whole
 from scripts.pages.specs import CRATES
 
 
@@ -80,9 +80,9 @@ def has(function: Function, old: str) -> bool:
 
 
 def trial_of(edit: Edit) -> Trial:
-    """An edit with what its file says that refuses it."""
-    edit.applied(CRATES / edit.crate)
+    """An edit with what its file says that refuses it. `rt ci` takes no `old:` text that stands twice in its file."""
     refuser = by_mark(edit.refuser.function)
+    edit.applied(CRATES / edit.crate, whole(refuser) if refuser and not edit.is_for_rt() else "")
     if not refuser:
         raise Unfit(f"there is no function {edit.refuser.function}")
     if edit.refuser.clause and edit.refuser.clause not in refuser.clauses:
@@ -92,11 +92,11 @@ def trial_of(edit: Edit) -> Trial:
 
 def unmarked_trial_of(edit: Edit) -> Trial:
     """An edit with the function that it changes, or else that its file names, whatever refuses it there."""
-    edit.applied(CRATES / edit.crate)
+    refuser = by_mark(edit.marked().partition(" ")[0]) if edit.marked() else None
+    edit.applied(CRATES / edit.crate, whole(refuser) if refuser and not edit.is_for_rt() else "")
     changed = sorted(changed_by(edit) or ())
     if len(changed) == 1:
         return Trial(edit, functions(edit.crate)[changed[0]], "", True)
-    refuser = by_mark(edit.refuser.function)
     if not refuser:
         raise Unfit("it doesn't change one function: write into its file which one is to refuse it")
     return Trial(edit, refuser, "", True)

@@ -6,7 +6,8 @@ refusals count.
     scripts/house check edits --mark EDIT..    tries these, and writes into each file what refuses it
     scripts/house check edits --clauses        lists the clauses of public calls that no edit's file names
 
-    --jobs N    so many crates at a time; without it, by processors and memory
+    --jobs N         so many crates at a time; without it, by processors and memory
+    --told FOLDER    puts what the prover says of each check into a file there
 
 Where `rt ci` has just left the libraries of the crates (PROVED_BY_RT_CI), it takes these; else those of `rt lib`. A
 line tells each check with its time, the last one how many edits passed."""
@@ -34,15 +35,15 @@ MOST_MEMORY = 3 << 20  # KiB that a check holds
 class Crate:
     """The trials of the edits that one crate is to refuse."""
 
-    def __init__(self, name: str, trials: list[Trial]) -> None:
-        self.name, self.trials = name, trials
+    def __init__(self, name: str, trials: list[Trial], told: Path | None) -> None:
+        self.name, self.trials, self.told = name, trials, told
         self.verdicts: list[Verdict] = []
         self.processor = 0.0
 
     def run(self) -> "Crate":
         """Tries all edits: in batches, and alone those that weren't seen there."""
         with tempfile.TemporaryDirectory(prefix=f"edits-{self.name}-") as scratch:
-            prover = Prover(self.name, Path(scratch))
+            prover = Prover(self.name, Path(scratch), self.told)
             unseen = [trial for batch in batches(self.trials) for trial in self.tried(prover, batch)]
             for trial in unseen:
                 self.tried(prover, [trial])
@@ -74,7 +75,7 @@ class Crate:
         return self.tried(prover, unseen) if culprits and unseen else unseen
 
 
-def sorted_out(edits: list[Edit], is_marking: bool) -> tuple[list[Crate], list[Verdict]]:
+def sorted_out(edits: list[Edit], is_marking: bool, told: Path | None) -> tuple[list[Crate], list[Verdict]]:
     """The edits by the crates that are to refuse them, highest first, and those that can't be tried."""
     found: dict[str, list[Trial]] = {name: [] for name in reversed(crates())}
     unfit = []
@@ -85,7 +86,7 @@ def sorted_out(edits: list[Edit], is_marking: bool) -> tuple[list[Crate], list[V
         except Unfit as why:
             unfit.append(Verdict(edit, False, str(why)))
             print(f"{edit.name}: FAILED: {why}", flush=True)
-    return [Crate(name, trials) for name, trials in found.items() if trials], unfit
+    return [Crate(name, trials, told) for name, trials in found.items() if trials], unfit
 
 
 def build_libraries(tried: list[Crate]) -> None:
@@ -134,6 +135,7 @@ def main(arguments: list[str]) -> int:
     parser.add_argument("--mark", nargs="+", metavar="EDIT", default=[])
     parser.add_argument("--clauses", action="store_true")
     parser.add_argument("--jobs", type=int, default=lanes(), metavar="N")
+    parser.add_argument("--told", type=Path, metavar="FOLDER")
     words = parser.parse_args(arguments)
     if words.clauses:
         every, without = public_clauses(), without_edit()
@@ -141,7 +143,7 @@ def main(arguments: list[str]) -> int:
         print(f"clauses: {len(every)} of public calls, {len(without)} that no edit names")
         return 0
     edits = chosen(words)
-    tried, verdicts = sorted_out(edits, bool(words.mark))
+    tried, verdicts = sorted_out(edits, bool(words.mark), words.told)
     build_libraries(tried)
     with ThreadPoolExecutor(max(1, words.jobs)) as threads:
         for crate in threads.map(Crate.run, tried):

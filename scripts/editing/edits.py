@@ -52,9 +52,13 @@ class Edit:
     def name(self) -> str:
         return f"{self.crate}/{self.path.stem}"
 
+    def is_for_rt(self) -> bool:
+        """Whether `rt ci` tries it, too."""
+        return self.path.parent.name == "must-fail"
+
     def is_for_rt_alone(self) -> bool:
         """Whether it is tried by `rt ci` alone, since no clause refuses it and its file names none."""
-        return self.path.parent.name == "must-fail" and not self.marked()
+        return self.is_for_rt() and not self.marked()
 
     def marked(self) -> str:
         """What its file says that refuses it; nothing where it doesn't say."""
@@ -91,18 +95,23 @@ class Edit:
             raise Unfit("it is no list of `file:`, `old:` and `new:` lines")
         return found
 
-    def applied(self, folder: Path) -> dict[str, str]:
-        """The texts of the files of a crate that it changes, as they are then."""
+    def applied(self, folder: Path, inside: str = "") -> dict[str, str]:
+        """The texts of the files of a crate that it changes, as they are then. An `old:` text that stands more than
+        once in its file is that of a function, whose text is `inside`."""
         texts: dict[str, str] = {}
         for change in self.changes:
             if change.file not in texts:
                 if not (folder / change.file).is_file():
                     raise Unfit(f"there is no file {change.file}")
                 texts[change.file] = (folder / change.file).read_text()
-            count = texts[change.file].count(change.old)
-            if count != 1:
+            text, count = texts[change.file], texts[change.file].count(change.old)
+            if count > 1 and text.count(inside) == inside.count(change.old) == 1:
+                within = inside.replace(change.old, change.new)
+                texts[change.file], inside = text.replace(inside, within), within
+            elif count == 1:
+                texts[change.file] = text.replace(change.old, change.new)
+            else:
                 raise Unfit(f"`{change.old.strip()}` is {count} times in {change.file}, and not once")
-            texts[change.file] = texts[change.file].replace(change.old, change.new)
         if all(text == (folder / file).read_text() for file, text in texts.items()):
             raise Unfit("it changes nothing")
         return texts

@@ -53,6 +53,17 @@ class Function:
         start, end = (line_at(self.contract, place) for place in self.contract.span)
         return range(start, end + 1)
 
+    def has_body(self) -> bool:
+        """Whether it isn't a method that a trait only declares."""
+        return self.contract.text[self.body_start :][:1] == "{"
+
+    @cached_property
+    def body_start(self) -> int:
+        """Where its clauses end."""
+        text, start = self.contract.text, self.contract.span[0]
+        head = FUNCTION.match(text, start)
+        return int(contract_at(text, head.end() if head else start)[1])
+
     @cached_property
     def clauses(self) -> list[str]:
         """The names of the clauses that it ensures; one without a name is empty."""
@@ -61,9 +72,7 @@ class Function:
     @cached_property
     def words(self) -> set[tuple[str, str]]:
         """The words of its body, each with the type or module before it, or with a dot where it follows one."""
-        text, (start, end) = self.contract.text, self.contract.span
-        head = FUNCTION.match(text, start)
-        _, body = contract_at(text, head.end() if head else start)
+        text, body, end = self.contract.text, self.body_start, self.contract.span[1]
         found = set()
         for word in WORD.finditer(text, body, end):
             before = text[max(body, word.start() - 120) : word.start()]

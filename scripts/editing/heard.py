@@ -4,19 +4,25 @@ from __future__ import annotations
 import re
 from dataclasses import dataclass, field
 from enum import Enum
+from pathlib import Path
 
 from scripts.editing.functions import Function
 
-FUNCTION = re.compile(r"^fn (?P<name>\S+): (?P<state>proved|not proved|no proof|could not tell)(?P<more>.*)$", re.M)
+FUNCTION = re.compile(
+    r"^fn (?P<name>\S+): (?P<state>proved|no holes|depends on a hole|not proved|no proof|could not tell)(?P<more>.*)$",
+    re.M,
+)
+PROVED = ("proved", "no holes", "depends on a hole")
 LEFT = re.compile(r"`search` did not prove ((?:(?:, | and )?`[^`]+`)+)")
 NOTE = re.compile(r"^note: (src/\S+?):(\d+):\d+: (.*?) \(`([^`]+)`\)", re.M)
-PROOF = re.compile(r"^(?:\./)?proofs/(\S+)/\w+\.antt:\d+:\d+: error: `([^`]+)`: (.*)$", re.M)
+PROOF = re.compile(r"^(?:\./)?proofs/(\S+)/(\w+)\.antt:\d+:\d+: error: `([^`]+)`: (.*)$", re.M)
 WAITED = re.compile(
     r"^(?:\./)?proofs/(\S+)/\w+\.antt:\d+:\d+: error: \d+ declarations? that depends? on `([^`]+)`, which was rejected,"
     r" (?:was|were) not checked: (.*)$",
     re.M,
 )
 NAMES = re.compile(r"has no field|is not in scope|has no `|was not admitted|is no name|has no name|unknown name")
+DECLARED = re.compile(r"^(pub )?(\S+) :(?=\s)", re.M)  # in a proof file
 FRONT = re.compile(r"^.*\berror\[[\w-]+\].*$", re.M)
 VERDICT = re.compile(r"^(?:logic=|only=\d+ )", re.M)
 
@@ -69,7 +75,7 @@ class Heard:
     """What the prover told of a check."""
 
     said: str
-    states: dict[str, str] = field(default_factory=dict)  # function -> proved, not proved, ..
+    states: dict[str, str] = field(default_factory=dict)  # function -> no holes, not proved, ..
     refusals: list[Refusal] = field(default_factory=list)
 
     def is_judged(self) -> bool:
@@ -84,13 +90,33 @@ class Heard:
         """What was told of a function; nothing where it wasn't."""
         return self.states.get(path, "")
 
+    def is_proved(self, path: str) -> bool:
+        """Whether a function is proved, but for the holes in place of the proofs of what it calls."""
+        return self.state(path).startswith(PROVED)
+
     def front(self) -> list[str]:
         """The errors of the front end, which come before any proof."""
         return [] if self.is_judged() else FRONT.findall(self.said)
 
 
-def heard(crate: str, functions: list[Function], said: str) -> Heard:
-    """Reads what the prover told of a check of a crate with these functions."""
+def goals_by(proof: Path, lemma: str) -> list[str]:
+    """The goals of a proof file whose answers cite a lemma of the file, by way of its other lemmas, too."""
+    text = proof.read_text() if proof.is_file() else ""
+    starts = [*DECLARED.finditer(text)]
+    ends = [*(each.start() for each in starts[1:]), len(text)]
+    parts = {each[2]: text[each.start() : end] for each, end in zip(starts, ends)}
+    public = {each[2] for each in starts if each[1]}
+    citing, open_ = {lemma}, [lemma]
+    while open_:
+        word = re.compile(rf"(?<![\w'.-]){re.escape(open_.pop())}(?![\w'-])")
+        fresh = [name for name, part in parts.items() if name not in citing and word.search(part)]
+        citing |= {*fresh}
+        open_ += fresh
+    return [name for name in parts if name in citing & public - {lemma}]
+
+
+def heard(crate: str, functions: list[Function], said: str, folder: Path = Path()) -> Heard:
+    """Reads what the prover told of a check of a crate with these functions, in a folder with its proofs."""
     found = Heard(said)
     for each in FUNCTION.finditer(said):
         name = each["name"].removeprefix(f"{crate}::")
@@ -103,12 +129,15 @@ def heard(crate: str, functions: list[Function], said: str) -> Heard:
             if function.file == file and int(line) in function.lines:
                 found.refusals.append(Refusal(function.path, goal, kind_of(goal), text))
     named = set()  # what was rejected for a name alone
-    for folder, goal, text in PROOF.findall(said):
-        kind = Kind.NAME if NAMES.search(text) else kind_of(goal)
-        named |= {(folder, goal)} if kind is Kind.NAME else set()
-        found.refusals.append(Refusal(folder.replace("/", "::"), goal, kind, text))
-    for folder, goal, others in WAITED.findall(said):
+    for of, file, goal, text in PROOF.findall(said):
+        is_name = bool(NAMES.search(text))
+        named |= {(of, goal)} if is_name else set()
+        path = of.replace("/", "::")
+        found.refusals.append(Refusal(path, goal, Kind.NAME if is_name else kind_of(goal), text))
+        for other in goals_by(folder / "proofs" / of / f"{file}.antt", goal):
+            found.refusals.append(Refusal(path, other, Kind.NAME if is_name else kind_of(other), f"`{goal}`: {text}"))
+    for of, goal, others in WAITED.findall(said):
         for other in re.split(r", ", others):
-            kind = Kind.NAME if (folder, goal) in named else kind_of(other)
-            found.refusals.append(Refusal(folder.replace("/", "::"), other, kind, f"it depends on `{goal}`"))
+            kind = Kind.NAME if (of, goal) in named else kind_of(other)
+            found.refusals.append(Refusal(of.replace("/", "::"), other, kind, f"it depends on `{goal}`"))
     return found

@@ -1,9 +1,13 @@
 """Plants edits into a copy of a crate.
 
-An edit of a function is planted in a copy of that function, which stands right below it under a name of its own, with
-the same contract, attributes and proof files. So one check tries any number of edits, of one function too, and no
-function that others call is changed. Where the function has proof files, which name it, a copy as it is stands beside
-them, and must be proved. An edit of a trait's method, or of what isn't a function, changes the text where it stands."""
+An edit changes its function where that stands, if no other edit of the batch is of that function or of one that calls
+it. Else it is planted in a copy of the function, which stands right below it under a name of its own, with the same
+contract, attributes and proof files. So one check tries any number of edits, of one function too, and no function that
+another calls is changed. Where a copied function has proof files, which name it, a copy as it is stands beside them,
+and must be proved. An edit of a trait's method, or of what isn't a function, always changes the text where it stands.
+
+No edit needs the proofs of the functions that it calls, whose contracts alone its function sees. `rt ci` proves these;
+here a hole stands in place of the proof of each function that isn't asked for."""
 from __future__ import annotations
 
 import re
@@ -13,6 +17,12 @@ from pathlib import Path
 
 from scripts.editing.edits import Edit
 from scripts.editing.functions import Function, functions_in
+
+HOLE = """use {module} as stated
+
+pub {name}_spec : {{M : Type 1}} → stated.statement M
+{name}_spec = ?
+"""
 
 
 @dataclass(frozen=True)
@@ -75,6 +85,25 @@ def plant(folder: Path, plants: list[Plant]) -> None:
         text = path.read_text()
         path.write_text(f"{text[:end]}\n\n{each.text()}{text[end:]}")
         plant_proof(folder, each)
+
+
+def change(folder: Path, function: Function, edit: Edit) -> None:
+    """Puts an edit into a function of a copy of its crate, where the function stands."""
+    path = folder / function.file
+    path.write_text(path.read_text().replace(whole(function), edited(edit, function)))
+
+
+def leave_out_proofs(folder: Path, crate: str, asked: set[str]) -> None:
+    """Puts a hole in place of the proof of each function of a copy of a crate that isn't asked for."""
+    for each in functions_in(folder):
+        if each.path in asked or not each.has_body():
+            continue
+        place = proof_of(folder, each.path)
+        for file in place.glob("*.antt"):
+            file.unlink()
+        place.mkdir(parents=True, exist_ok=True)
+        module = ".".join(["Rattle", crate, "proofs", *each.path.split("::"), "Statement"])
+        (place / "Proof.antt").write_text(HOLE.format(module=module, name=each.name))
 
 
 def proof_of(folder: Path, path: str) -> Path:

@@ -1,8 +1,9 @@
 """Runs the prover over a copy of a crate with the edits of a batch.
 
-A check asks for the functions that are to refuse the edits, and for no others, over the libraries of the crates below
-that lie in their `out/`, by the command with which `rt check` ends: `rt check` itself would prove these once more where
-`rt ci` left them. What a check proved serves the next one of the crate."""
+A check asks for the functions that are to refuse the edits, and for no others: a hole stands in place of the proof of
+each other function. It runs over the libraries of the crates below that lie in their `out/`, by the command with which
+`rt check` ends: `rt check` itself would prove these once more where `rt ci` left them. What a check proved serves the
+next one of the crate."""
 from __future__ import annotations
 
 import os
@@ -19,9 +20,9 @@ from pathlib import Path
 
 from scripts.editing.batches import Trial
 from scripts.editing.edits import Unfit
-from scripts.editing.functions import Function, functions_in
+from scripts.editing.functions import Function, functions, functions_in
 from scripts.editing.heard import Heard, heard
-from scripts.editing.planting import Plant, plant, proof_of
+from scripts.editing.planting import Plant, change, leave_out_proofs, plant, proof_of
 from scripts.pages.specs import CRATES, ROOT, crates_with_libraries
 
 PARTS = ("src", "specs", "proofs")
@@ -111,8 +112,9 @@ class Answer:
 class Prover:
     """Checks of one crate, each over what those before it proved."""
 
-    def __init__(self, crate: str, scratch: Path) -> None:
+    def __init__(self, crate: str, scratch: Path, told: Path | None) -> None:
         self.crate, self.scratch = crate, scratch
+        self.told, self.checks = told, 0
         self.kept = scratch / "kept"
         old = CRATES / crate / KEPT
         if old.is_dir():
@@ -128,7 +130,9 @@ class Prover:
                 sources |= {name: copied(name, Path(room)) for name in between}
             places = planted(trials, Path(room))
             asked = dict.fromkeys(path for place in places.values() for path in (place.path, place.control) if path)
-            command = [*words(self.crate, sources), "--incremental", str(self.kept)]
+            for name, place in {self.crate: folder, **sources}.items():
+                leave_out_proofs(place, name, {*asked} if name == self.crate else set())
+            command = [*words(self.crate, sources), "--incremental", str(self.kept), "--allow-holes"]
             return self.run([*command, *(word for path in asked for word in ("--only", path))], folder, places)
 
     def run(self, command: list[str], folder: Path, places: dict[Trial, Place]) -> Answer:
@@ -140,7 +144,12 @@ class Prover:
             )
             usage = waited(process, begun + MOST_SECONDS)
             out.seek(0)
-            told = heard(self.crate, inside, out.read())
+            said = out.read()
+            if self.told:
+                self.told.mkdir(parents=True, exist_ok=True)
+                (self.told / f"{self.crate}-{self.checks}").write_text(said)
+            self.checks += 1
+            told = heard(self.crate, inside, said, folder)
         processor = usage.ru_utime + usage.ru_stime
         return Answer(told, places, inside, time.monotonic() - begun, processor, usage.ru_maxrss)
 
@@ -151,6 +160,10 @@ def planted(trials: list[Trial], room: Path) -> dict[Trial, Place]:
     plants: dict[str, Plant] = {}
     for number, each in enumerate(trials):
         name = each.function.name
+        if each.is_planted and stands_alone(each, trials):
+            change(room / each.crate, each.function, each.edit)
+            places[each] = Place(each.function.path)
+            continue
         if each.is_planted:
             copy = Plant(each.function, f"{name}_edit{number}", each.edit)
             control = Plant(each.function, f"{name}_as_it_is")
@@ -166,6 +179,13 @@ def planted(trials: list[Trial], room: Path) -> dict[Trial, Place]:
     if plants:
         plant(room / trials[0].crate, list(plants.values()))
     return places
+
+
+def stands_alone(trial: Trial, trials: list[Trial]) -> bool:
+    """Whether no other trial is of the function of this one, or of one that calls it."""
+    others = [each for each in trials if each is not trial]
+    own = functions(trial.crate).index(trial.function)
+    return not any(each.function == trial.function or own in each.stands_on for each in others)
 
 
 def waited(process: subprocess.Popen[bytes], until: float) -> resource.struct_rusage:

@@ -32,14 +32,14 @@ def fitting(trial: Trial, path: str, told: Heard) -> list[Refusal]:
 def judged(trial: Trial, place: Place, told: Heard, is_alone: bool) -> Verdict | None:
     """The verdict on an edit, or none where it wasn't seen and is to be tried alone."""
     found = fitting(trial, place.path, told)
-    if place.control and told.is_judged() and told.state(place.control) != "proved":
+    if place.control and told.is_judged() and not told.is_proved(place.control):
         return Verdict(
             trial.edit, False, f"a copy of {trial.function.marked} as it is isn't proved, so nothing is known"
         )
     if found:
         return Verdict(trial.edit, True, f"`{found[0].goal}`: {found[0].said}")
     state = told.state(place.path)
-    is_seen = told.is_judged() and state and (state == "proved" or told.of(place.path))
+    is_seen = told.is_judged() and state and (told.is_proved(place.path) or told.of(place.path))
     return Verdict(trial.edit, False, why_not(trial, place.path, told)) if is_alone or is_seen else None
 
 
@@ -56,8 +56,8 @@ def why_not(trial: Trial, path: str, told: Heard) -> str:
         return f"another clause of {trial.function.marked} refuses it: {goals}"
     if found:
         return f"it is refused by {found[0].kind.value} alone: `{found[0].goal}`: {found[0].said[:160]}"
-    state = told.state(path)
-    return f"{trial.function.marked} is proved with it" if state == "proved" else f"{trial.function.marked}: {state}"
+    is_proved, state = told.is_proved(path), told.state(path)
+    return f"{trial.function.marked} is proved with it" if is_proved else f"{trial.function.marked}: {state}"
 
 
 def best(trial: Trial, place: Place, told: Heard) -> Refuser:

@@ -369,13 +369,13 @@ PLANTED = [
                 "gaps: sdm_supervisor::Supervisor::cycle has no clause gap",
             ),
             Fault(
-                "crates/sdm_ceiling/must-fail/ebi_margin_not_capped.edit",
+                "crates/sdm_ceiling/edits/ebi_margin_not_capped.edit",
                 r"\A#.*\n",
                 "",
                 "ebi_margin_not_capped has no line",
             ),
             Fault(
-                "crates/sdm_num/must-fail/passed_where_it_stands.edit",
+                "crates/sdm_num/edits/passed_where_it_stands.edit",
                 r"is_passed_by",
                 "is_passed",
                 "refused-by: no function sdm_num::Early::is_passed",
