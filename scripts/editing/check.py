@@ -71,7 +71,8 @@ class Crate:
         passed = f"{len(batch) - len(unseen) - len(failed)} passed, {len(failed)} failed"
         again = f", {len(unseen)} to be tried again" if unseen else ""
         cost = f"{answer.seconds:.0f} s, {answer.processor:.0f} of the processor, {answer.memory >> 10} MiB"
-        print("\n".join([f"{self.name}: of {len(batch)}: {passed}{again}; {cost}", *failed]), flush=True)
+        longest = [f"{name}: {seconds:.0f} s of it" for seconds, name in answer.longest]
+        print("\n".join([f"{self.name}: of {len(batch)}: {passed}{again}; {cost}", *longest, *failed]), flush=True)
         return self.tried(prover, unseen) if culprits and unseen else unseen
 
 

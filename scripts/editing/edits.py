@@ -116,9 +116,9 @@ class Edit:
             raise Unfit("it changes nothing")
         return texts
 
-    def apply(self, folder: Path) -> None:
+    def apply(self, folder: Path, inside: str) -> None:
         """Applies it to a copy of its crate."""
-        for file, text in self.applied(folder).items():
+        for file, text in self.applied(folder, inside).items():
             (folder / file).write_text(text)
 
 

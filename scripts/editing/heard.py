@@ -4,6 +4,7 @@ from __future__ import annotations
 import re
 from dataclasses import dataclass, field
 from enum import Enum
+from functools import cached_property
 from pathlib import Path
 
 from scripts.editing.functions import Function
@@ -15,14 +16,15 @@ FUNCTION = re.compile(
 PROVED = ("proved", "no holes", "depends on a hole")
 LEFT = re.compile(r"`search` did not prove ((?:(?:, | and )?`[^`]+`)+)")
 NOTE = re.compile(r"^note: (src/\S+?):(\d+):\d+: (.*?) \(`([^`]+)`\)", re.M)
-PROOF = re.compile(r"^(?:\./)?proofs/(\S+)/(\w+)\.antt:\d+:\d+: error: `([^`]+)`: (.*)$", re.M)
+PROOF = re.compile(r"^(?:\./)?proofs/(\S+)/(\w+)\.antt:(\d+):\d+: error: `([^`]+)`: (.*)$", re.M)
 WAITED = re.compile(
     r"^(?:\./)?proofs/(\S+)/\w+\.antt:\d+:\d+: error: \d+ declarations? that depends? on `([^`]+)`, which was rejected,"
     r" (?:was|were) not checked: (.*)$",
     re.M,
 )
 NAMES = re.compile(r"has no field|is not in scope|has no `|was not admitted|is no name|has no name|unknown name")
-DECLARED = re.compile(r"^(pub )?(\S+) :(?=\s)", re.M)  # in a proof file
+DECLARED = re.compile(r"^(?:  )?(pub )?(\S+) :(?=\s)", re.M)  # in a proof file, or in a module of it
+FIELD = re.compile(r"\s+(\w+) = ")
 FRONT = re.compile(r"^.*\berror\[[\w-]+\].*$", re.M)
 VERDICT = re.compile(r"^(?:logic=|only=\d+ )", re.M)
 
@@ -99,20 +101,64 @@ class Heard:
         return [] if self.is_judged() else FRONT.findall(self.said)
 
 
-def goals_by(proof: Path, lemma: str) -> list[str]:
-    """The goals of a proof file whose answers cite a lemma of the file, by way of its other lemmas, too."""
-    text = proof.read_text() if proof.is_file() else ""
-    starts = [*DECLARED.finditer(text)]
-    ends = [*(each.start() for each in starts[1:]), len(text)]
-    parts = {each[2]: text[each.start() : end] for each, end in zip(starts, ends)}
-    public = {each[2] for each in starts if each[1]}
-    citing, open_ = {lemma}, [lemma]
-    while open_:
-        word = re.compile(rf"(?<![\w'.-]){re.escape(open_.pop())}(?![\w'-])")
-        fresh = [name for name, part in parts.items() if name not in citing and word.search(part)]
-        citing |= {*fresh}
-        open_ += fresh
-    return [name for name in parts if name in citing & public - {lemma}]
+@dataclass
+class Proof:
+    """A proof file of a function: its answers, each named as the goal that it is of, and its lemmas."""
+
+    path: Path
+
+    @cached_property
+    def text(self) -> str:
+        return self.path.read_text() if self.path.is_file() else ""
+
+    @cached_property
+    def declared(self) -> dict[str, tuple[int, int]]:
+        """The places where each answer and lemma begins and ends in the text."""
+        starts = [*DECLARED.finditer(self.text)]
+        ends = [*(each.start() for each in starts[1:]), len(self.text)]
+        return {each[2]: (each.start(), end) for each, end in zip(starts, ends)}
+
+    @cached_property
+    def answers(self) -> set[str]:
+        return {each[2] for each in DECLARED.finditer(self.text) if each[1]}
+
+    def at(self, line: int) -> str:
+        """What a line belongs to; a lemma of an answer's own is part of it."""
+        place = sum(len(each) for each in self.text.splitlines(keepends=True)[: line - 1])
+        return next((name for name, (start, end) in self.declared.items() if start <= place < end), "")
+
+    def clause_at(self, line: int) -> str:
+        """The clause of a field that a line belongs to, where an answer is a record of clauses."""
+        start, _ = self.declared[self.at(line)]
+        lines = self.text[start:].splitlines()[: line - self.text.count("\n", 0, start)]
+        return next((found[1] for text in reversed(lines) if (found := FIELD.match(text))), "")
+
+    def resting_on(self, name: str) -> list[str]:
+        """The answers that cite an answer or a lemma, by way of others, too."""
+        citing, open_ = {name}, [name]
+        while open_:
+            word = re.compile(rf"(?<![\w'.-]){re.escape(open_.pop())}(?![\w'-])")
+            found = {other for other, (start, end) in self.declared.items() if word.search(self.text, start, end)}
+            open_ += found - citing
+            citing |= found
+        return [other for other in self.declared if other in citing & self.answers - {name}]
+
+
+def proof_refusals(folder: Path, of: str, file: str, line: int, said: tuple[str, str]) -> list[Refusal]:
+    """What isn't proved by an error in a line of a proof file: what the line answers, and what rests on that."""
+    goal, text = said
+    proof, path = Proof(folder / "proofs" / of / f"{file}.antt"), of.replace("/", "::")
+    is_name = bool(NAMES.search(text))
+
+    def refusal(name: str, why: str) -> Refusal:
+        return Refusal(path, name, Kind.NAME if is_name else kind_of(name), why)
+
+    inside = proof.at(line)
+    clause = proof.clause_at(line) if goal in proof.answers and goal == inside else ""
+    found = [refusal(f"{goal}-clause-{clause}" if clause else goal, text)]
+    if inside in proof.answers - {goal}:
+        found.append(refusal(inside, f"`{goal}`: {text}"))
+    return found + [refusal(other, f"`{goal}`: {text}") for other in proof.resting_on(inside or goal)]
 
 
 def heard(crate: str, functions: list[Function], said: str, folder: Path = Path()) -> Heard:
@@ -129,13 +175,9 @@ def heard(crate: str, functions: list[Function], said: str, folder: Path = Path(
             if function.file == file and int(line) in function.lines:
                 found.refusals.append(Refusal(function.path, goal, kind_of(goal), text))
     named = set()  # what was rejected for a name alone
-    for of, file, goal, text in PROOF.findall(said):
-        is_name = bool(NAMES.search(text))
-        named |= {(of, goal)} if is_name else set()
-        path = of.replace("/", "::")
-        found.refusals.append(Refusal(path, goal, Kind.NAME if is_name else kind_of(goal), text))
-        for other in goals_by(folder / "proofs" / of / f"{file}.antt", goal):
-            found.refusals.append(Refusal(path, other, Kind.NAME if is_name else kind_of(other), f"`{goal}`: {text}"))
+    for of, file, line, goal, text in PROOF.findall(said):
+        found.refusals += proof_refusals(folder, of, file, int(line), (goal, text))
+        named |= {(of, goal)} if NAMES.search(text) else set()
     for of, goal, others in WAITED.findall(said):
         for other in re.split(r", ", others):
             kind = Kind.NAME if (of, goal) in named else kind_of(other)

@@ -17,17 +17,20 @@ import time
 from dataclasses import dataclass
 from functools import cache
 from pathlib import Path
+from typing import TextIO
 
 from scripts.editing.batches import Trial
 from scripts.editing.edits import Unfit
 from scripts.editing.functions import Function, functions, functions_in
 from scripts.editing.heard import Heard, heard
-from scripts.editing.planting import Plant, change, leave_out_proofs, plant, proof_of
+from scripts.editing.planting import Plant, change, leave_out_proofs, plant, proof_of, whole
 from scripts.pages.specs import CRATES, ROOT, crates_with_libraries
 
 PARTS = ("src", "specs", "proofs")
 KEPT = Path("out") / "incremental"
 MOST_SECONDS = 1800  # that a check may take
+LONG = 10  # seconds from which on an edit is told to take long
+ENDED = re.compile(r"checked (\S+), \d+ of \d+$")
 LACKING = re.compile(r"^rattle: error: `\w+` has no function `([^`]+)`", re.M)
 LINE = re.compile(r"\b(src/[\w/]+\.rt):(\d+):\d+")
 
@@ -100,6 +103,7 @@ class Answer:
     seconds: float
     processor: float
     memory: int
+    longest: list[tuple[float, str]]  # the seconds of the edits that took longest, with their names
 
     def culprits(self) -> list[Trial]:
         """The edits that the front end can't take, by the places or the functions that it names."""
@@ -137,21 +141,51 @@ class Prover:
 
     def run(self, command: list[str], folder: Path, places: dict[Trial, Place]) -> Answer:
         """Runs a check to its end."""
-        begun, inside = time.monotonic(), functions_in(folder)
-        with tempfile.TemporaryFile("w+", errors="replace") as out:
+        begun, inside, written = time.monotonic(), functions_in(folder), self.scratch / "written"
+        with written.open("w") as out, written.open(errors="replace") as back:
             process = subprocess.Popen(
-                command, cwd=folder, stdin=subprocess.DEVNULL, stdout=out, stderr=out, start_new_session=True
+                [*command, "--progress"],
+                cwd=folder,
+                stdin=subprocess.DEVNULL,
+                stdout=out,
+                stderr=out,
+                start_new_session=True,
             )
-            usage = waited(process, begun + MOST_SECONDS)
-            out.seek(0)
-            said = out.read()
-            if self.told:
-                self.told.mkdir(parents=True, exist_ok=True)
-                (self.told / f"{self.crate}-{self.checks}").write_text(said)
-            self.checks += 1
-            told = heard(self.crate, inside, said, folder)
+            ends = Ends(back)
+            usage = waited(process, begun + MOST_SECONDS, ends)
+        said = written.read_text(errors="replace")
+        if self.told:
+            self.told.mkdir(parents=True, exist_ok=True)
+            (self.told / f"{self.crate}-{self.checks}").write_text(said)
+        self.checks += 1
+        told = heard(self.crate, inside, said, folder)
         processor = usage.ru_utime + usage.ru_stime
-        return Answer(told, places, inside, time.monotonic() - begun, processor, usage.ru_maxrss)
+        return Answer(
+            told, places, inside, time.monotonic() - begun, processor, usage.ru_maxrss, ends.longest(self.crate, places)
+        )
+
+
+class Ends:
+    """When the prover ended with each function, by what it writes meanwhile."""
+
+    def __init__(self, written: TextIO) -> None:
+        self.written, self.last, self.seconds = written, time.monotonic(), dict[str, float]()
+
+    def look(self) -> None:
+        """Reads what came since the last look."""
+        now = time.monotonic()
+        found = [each[1] for line in self.written if (each := ENDED.match(line))]
+        if found:
+            self.seconds |= dict.fromkeys(found, (now - self.last) / len(found))
+            self.last = now
+
+    def longest(self, crate: str, places: dict[Trial, Place]) -> list[tuple[float, str]]:
+        """The edits that took longest, each with its seconds."""
+        edits = {f"{crate}::{place.path}": trial.edit.name for trial, place in places.items()}
+        found = sorted(
+            ((seconds, edits[name]) for name, seconds in self.seconds.items() if name in edits), reverse=True
+        )
+        return [each for each in found if each[0] >= LONG][:3]
 
 
 def planted(trials: list[Trial], room: Path) -> dict[Trial, Place]:
@@ -172,7 +206,7 @@ def planted(trials: list[Trial], room: Path) -> dict[Trial, Place]:
             places[each] = Place(copy.path, control.path if has_proof else "")
             continue
         try:
-            each.edit.apply(room / each.edit.crate)
+            each.edit.apply(room / each.edit.crate, "" if each.edit.is_for_rt() else whole(each.function))
         except Unfit:
             continue
         places[each] = Place(each.function.path)
@@ -188,9 +222,10 @@ def stands_alone(trial: Trial, trials: list[Trial]) -> bool:
     return not any(each.function == trial.function or own in each.stands_on for each in others)
 
 
-def waited(process: subprocess.Popen[bytes], until: float) -> resource.struct_rusage:
+def waited(process: subprocess.Popen[bytes], until: float, ends: Ends) -> resource.struct_rusage:
     """What a check took that has ended; one that lasts too long is ended."""
     while True:
+        ends.look()
         pid, status, found = os.wait4(process.pid, os.WNOHANG)
         usage: resource.struct_rusage = found
         if pid:
