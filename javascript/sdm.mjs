@@ -146,18 +146,18 @@ class Instance {
     return this.#desk + CALLS[call][index].at;
   }
 
-  /** Makes a call on a handle that takes a struct and gives one: the struct that it gives. */
-  ask(call, handle, given) {
-    const [, input, output] = CALLS[call];
-    const from = this.place(call, 1), to = this.place(call, 2);
-    write[input.kind](this.view, from, given);
-    this.check(this.run(call, handle, BigInt(from), BigInt(to)));
-    return read[output.kind](this.view, to);
-  }
-
-  /** Makes a call on a handle that takes numbers. */
-  tell(call, handle, numbers) {
-    this.check(this.run(call, handle, ...CALLS[call].slice(1).map(({ name }) => numbers[name])));
+  /** Makes a call on a handle, with numbers by their names: what it gives, a struct or a number, or undefined. */
+  make(call, handle, numbers) {
+    let result = () => undefined;
+    const words = CALLS[call].slice(1).map(({ name, kind, at, isGiven }) => {
+      if (at === undefined) return numbers[name];
+      const place = this.#desk + at;
+      if (isGiven) write[kind](this.view, place, numbers);
+      else result = () => read[kind](this.view, place);
+      return BigInt(place);
+    });
+    this.check(this.run(call, handle, ...words));
+    return result();
   }
 
   check(status) {
@@ -186,54 +186,50 @@ export class Supervisor {
     return BigInt(this.#handle);
   }
 
+  /** Makes a call with the numbers of a record of a kind: what it gives. */
+  #make(call, kind, record) {
+    const numbers = taken(record, kind);
+    return this.#instance.make(call, this.#at, numbers);
+  }
+
   /** Judges a reading: its row. */
   cycle(reading) {
-    const given = taken(reading, "read");
-    return rowOf(this.#instance.ask("sdm_cycle", this.#at, given));
+    return rowOf(this.#make("sdm_cycle", "read", reading));
   }
 
   /** What the driver can be shown of a reading that was judged. */
   display(reading) {
-    const given = taken(reading, "read");
-    return this.#instance.ask("sdm_display", this.#at, given);
+    return this.#make("sdm_display", "read", reading);
   }
 
   /** Why a reading that was judged triggers, and how each command stands after it. */
   causes(reading) {
-    const given = taken(reading, "read");
-    return causesOf(this.#instance.ask("sdm_causes", this.#at, given));
+    return causesOf(this.#make("sdm_causes", "read", reading));
   }
 
   /** Takes an authority to an end. */
   end(authority) {
-    const given = taken(authority, "end");
-    this.#instance.tell("sdm_end", this.#at, given);
+    this.#make("sdm_end", "end", authority);
   }
 
   /** Takes one with a calculated release speed. */
   endCalculated(authority) {
-    const given = taken(authority, "endcalc");
-    this.#instance.tell("sdm_end_calculated", this.#at, given);
+    this.#make("sdm_end_calculated", "endcalc", authority);
   }
 
   /** Takes an authority to a limit. */
   limit(authority) {
-    const given = taken(authority, "limit");
-    this.#instance.tell("sdm_limit", this.#at, given);
+    this.#make("sdm_limit", "limit", authority);
   }
 
   /** Puts a restriction into force. */
   restrict(restriction) {
-    const given = taken(restriction, "restrict");
-    const instance = this.#instance, at = this.#at, to = instance.place("sdm_restrict", 1);
-    write.sdm_restriction(instance.view, to, given);
-    instance.check(instance.run("sdm_restrict", at, BigInt(to)));
+    this.#make("sdm_restrict", "restrict", restriction);
   }
 
   /** Lifts a restriction. */
   revoke(revocation) {
-    const given = taken(revocation, "revoke");
-    this.#instance.tell("sdm_revoke", this.#at, given);
+    this.#make("sdm_revoke", "revoke", revocation);
   }
 
   /** Takes over restrictions, time and commands from the supervisor that ran before. */

@@ -66,6 +66,7 @@ CHECKS: dict[Group, list[Part]] = {
         Part("library", "c.shared", "the Python package over the shared library"),
         Part("bounds", "bounding.bounds check", "the bounds of each call from C, by the machine code"),
         Part("rides", "c.rides", "random rides keep the promises, and find planted faults"),
+        Part("processors", "processors.check", "the library on 64-bit ARM, as WebAssembly and as C"),
         Part("certificates", "product.certificates", "`check` says yes to what `certify` writes"),
         Part("compilers", "product.compilers", "the builds by both compilers write the same"),
         Part("live", "product.live", "the command `live`"),
@@ -78,7 +79,7 @@ CHECKS: dict[Group, list[Part]] = {
     ],
     "elsewhere": [
         Part("edits", "editing.check", "each edit is refused by the goal that its file names"),
-        Part("processors", "processors.check", "the library on other processors, as WebAssembly and as C"),
+        Part("processors-all", "processors.check --all", "the library on each processor, in browsers, by npm"),
         Part("release", "packing/check-release", "a release in a clean Debian"),
     ],
 }

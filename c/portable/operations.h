@@ -37,14 +37,44 @@ extern uint32_t sdm_module_depth;
 #define FUNC_EPILOGUE --sdm_module_depth
 #endif
 
+/* Numbers in the module's memory have their lowest byte first. Where the compiler tells the host's order, a number is
+ * copied whole, and turned round where the host has its highest byte first; else it is put together byte by byte. The
+ * bytes of each number are written out, since a loop or a sum of shifts is too long for compilers to put in line. */
 static inline u32 get8(const u8 *at) { return at[0]; }
+static inline void put8(u8 *at, u32 value) { at[0] = (u8)value; }
+
+#if defined(__BYTE_ORDER__) && !defined(SDM_BYTE_BY_BYTE)
+#if __BYTE_ORDER__ == __ORDER_LITTLE_ENDIAN__
+#define TURNED(bits, value) (value)
+#elif __BYTE_ORDER__ == __ORDER_BIG_ENDIAN__
+#define TURNED(bits, value) __builtin_bswap##bits(value)
+#else
+#error "the order of bytes is neither of the two that are known"
+#endif
+#define DEFINE_GET(bits, result)                                                                                       \
+    static inline result get##bits(const u8 *at) {                                                                     \
+        u##bits value;                                                                                                 \
+        memcpy(&value, at, sizeof value);                                                                              \
+        return TURNED(bits, value);                                                                                    \
+    }
+#define DEFINE_PUT(bits, given)                                                                                        \
+    static inline void put##bits(u8 *at, given value) {                                                                \
+        u##bits turned = TURNED(bits, (u##bits)value);                                                                 \
+        memcpy(at, &turned, sizeof turned);                                                                            \
+    }
+DEFINE_GET(16, u32)
+DEFINE_GET(32, u32)
+DEFINE_GET(64, u64)
+DEFINE_PUT(16, u32)
+DEFINE_PUT(32, u32)
+DEFINE_PUT(64, u64)
+#else
 static inline u32 get16(const u8 *at) { return (u32)at[0] | (u32)at[1] << 8; }
 static inline u32 get32(const u8 *at) { return (u32)at[0] | (u32)at[1] << 8 | (u32)at[2] << 16 | (u32)at[3] << 24; }
 static inline u64 get64(const u8 *at) {
     return (u64)at[0] | (u64)at[1] << 8 | (u64)at[2] << 16 | (u64)at[3] << 24 | (u64)at[4] << 32 | (u64)at[5] << 40 |
            (u64)at[6] << 48 | (u64)at[7] << 56;
 }
-static inline void put8(u8 *at, u32 value) { at[0] = (u8)value; }
 static inline void put16(u8 *at, u32 value) {
     at[0] = (u8)value;
     at[1] = (u8)(value >> 8);
@@ -65,6 +95,7 @@ static inline void put64(u8 *at, u64 value) {
     at[6] = (u8)(value >> 48);
     at[7] = (u8)(value >> 56);
 }
+#endif
 
 /* `name` reads `bits` at a place, as a number of the type `of`, and makes a `result` of it. */
 #define DEFINE_LOAD(name, bits, of, result)                                                                            \

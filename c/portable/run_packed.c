@@ -9,19 +9,9 @@ int putchar(int character);
 
 enum { RUN, DISPLAY, WHY };
 enum { READ, END, END_CALCULATED, LIMIT, RESTRICT, REVOKE, CHANGE, LAST };
-enum { MOST_NUMBERS = 7, MOST_ANSWERS = 24 };
+enum { MOST_NUMBERS = 7 };
 
 static const unsigned counts[] = {7, 3, 3, 2, 5, 1}; /* of the numbers of each kind of record */
-
-static const char *const row_names[] = {
-    "time",           "state",     "status",  "tco", "sb",          "eb",      "covered",       "ceiling",
-    "has ebi",        "ebi",       "has sbi", "sbi", "has warning", "warning", "has permitted", "permitted",
-    "has indication", "indication"};
-static const char *const display_names[] = {"time", "permitted", "sbi", "ebi", "release", "kind", "distance"};
-static const char *const causes_names[] = {
-    "time",       "tco",        "sb",          "eb",         "over rule",   "over target", "over place", "over speed",
-    "over limit", "warn rule",  "warn target", "warn place", "warn speed",  "warn limit",  "serv rule",  "serv target",
-    "serv place", "serv speed", "serv limit",  "emer rule",  "emer target", "emer place",  "emer speed", "emer limit"};
 
 /* What is played: the bytes that are left, and where it is. */
 struct play {
@@ -38,17 +28,18 @@ static void put_text(const char *text) {
         putchar(*text++);
 }
 
-static void put_number(int64_t value) {
-    char digits[20];
-    unsigned count = 0;
-    uint64_t left = value < 0 ? 0 - (uint64_t)value : (uint64_t)value;
+static void put_digits(uint64_t value) {
+    if (value >= 10)
+        put_digits(value / 10);
+    putchar((int)('0' + value % 10));
+}
+
+/* A text and a number behind it. */
+static void put(const char *before, int64_t value) {
+    put_text(before);
     if (value < 0)
         putchar('-');
-    do
-        digits[count++] = (char)('0' + left % 10);
-    while ((left /= 10) != 0);
-    while (count > 0)
-        putchar(digits[--count]);
+    put_digits(value < 0 ? 0 - (uint64_t)value : (uint64_t)value);
 }
 
 /* The next number. */
@@ -78,16 +69,18 @@ static bool is_due(const struct play *play, const char *what, int64_t found, int
     put_text("differs: ");
     for (size_t i = 0; i < play->name_bytes; i++)
         putchar(play->name[i]);
-    put_text(", step ");
-    put_number(play->step);
+    put(", step ", play->step);
     put_text(", ");
     put_text(what);
-    put_text(": ");
-    put_number(found);
-    put_text(", due ");
-    put_number(due);
+    put(": ", found);
+    put(", due ", due);
     putchar('\n');
     return false;
+}
+
+/* Whether something is the next number. */
+static bool is_next(struct play *play, const char *what, int64_t found) {
+    return is_due(play, what, found, number(play));
 }
 
 /* Opens a handle over the next data part, and looks at the status and the line. */
@@ -106,80 +99,59 @@ static bool open_next(struct play *play, struct sdm *h, bool *is_open) {
     return is_due(play, "line", memcmp(line.bytes, due_line, due_bytes) != 0, 0);
 }
 
-static unsigned put_place(int64_t *into, struct sdm_place place) {
-    into[0] = place.is_some;
-    into[1] = place.mm;
-    return 2;
+static bool is_place(struct play *p, const char *what, struct sdm_place place) {
+    return is_next(p, what, place.is_some) && is_next(p, what, place.mm);
 }
 
-static unsigned row_numbers(const struct sdm_row *row, int64_t *into) {
-    const uint32_t words[] = {row->time_ds, row->state, row->status,  row->tco,
-                              row->sb,      row->eb,    row->covered, row->ceiling_kmh};
-    const struct sdm_place places[] = {row->ebi, row->sbi, row->warning, row->permitted, row->indication};
-    unsigned count = 0;
-    for (; count < 8; count++)
-        into[count] = words[count];
-    for (unsigned i = 0; i < 5; i++)
-        count += put_place(into + count, places[i]);
-    return count;
+static bool is_row(struct play *p, const struct sdm_row *row) {
+    return is_next(p, "time", row->time_ds) && is_next(p, "state", row->state) && is_next(p, "status", row->status) &&
+           is_next(p, "tco", row->tco) && is_next(p, "sb", row->sb) && is_next(p, "eb", row->eb) &&
+           is_next(p, "covered", row->covered) && is_next(p, "ceiling", row->ceiling_kmh) &&
+           is_place(p, "ebi", row->ebi) && is_place(p, "sbi", row->sbi) && is_place(p, "warning", row->warning) &&
+           is_place(p, "permitted", row->permitted) && is_place(p, "indication", row->indication);
 }
 
-static unsigned causes_numbers(const struct sdm_causes *causes, int64_t *into) {
-    const struct sdm_cause *const all[] = {&causes->over, &causes->warn, &causes->serv, &causes->emer};
-    const uint32_t words[] = {causes->time_ds, causes->tco, causes->sb, causes->eb};
-    unsigned count = 0;
-    for (; count < 4; count++)
-        into[count] = words[count];
-    for (unsigned i = 0; i < 4; i++) {
-        into[count++] = all[i]->rule;
-        into[count++] = all[i]->target;
-        into[count++] = all[i]->target_mm;
-        into[count++] = all[i]->target_kmh;
-        into[count++] = all[i]->limit_mm;
-    }
-    return count;
+static bool is_display(struct play *p, const struct sdm_display *shown) {
+    return is_next(p, "time", shown->time_ds) && is_next(p, "permitted", shown->permitted_kmh) &&
+           is_next(p, "sbi", shown->sbi_kmh) && is_next(p, "ebi", shown->ebi_kmh) &&
+           is_next(p, "release", shown->release_kmh) && is_next(p, "kind", shown->target) &&
+           is_next(p, "distance", shown->distance_mm);
 }
 
-/* What is told of a reading once its row is there, as numbers with their names. */
-static uint32_t told(struct play *play, const struct sdm_reading *reading, const struct sdm_row *row, int64_t *into,
-                     unsigned *count, const char *const **names) {
+static bool is_cause(struct play *p, const char *what, const struct sdm_cause *cause) {
+    return is_next(p, what, cause->rule) && is_next(p, what, cause->target) && is_next(p, what, cause->target_mm) &&
+           is_next(p, what, cause->target_kmh) && is_next(p, what, cause->limit_mm);
+}
+
+static bool is_causes(struct play *p, const struct sdm_causes *causes) {
+    return is_next(p, "time", causes->time_ds) && is_next(p, "tco", causes->tco) && is_next(p, "sb", causes->sb) &&
+           is_next(p, "eb", causes->eb) && is_cause(p, "over", &causes->over) && is_cause(p, "warn", &causes->warn) &&
+           is_cause(p, "serv", &causes->serv) && is_cause(p, "emer", &causes->emer);
+}
+
+/* Whether what is told of a reading, once its row is there, is what comes next. */
+static bool is_told(struct play *play, const struct sdm_reading *reading, const struct sdm_row *row) {
     static struct sdm_display display;
     static struct sdm_causes causes;
-    uint32_t status = SDM_DONE;
-    *names = row_names;
-    if (play->told == RUN) {
-        *count = row_numbers(row, into);
-    } else if (play->told == DISPLAY) {
-        status = sdm_display(&play->h, reading, &display);
-        const int64_t found[] = {display.time_ds,     display.permitted_kmh, display.sbi_kmh,    display.ebi_kmh,
-                                 display.release_kmh, display.target,        display.distance_mm};
-        *names = display_names;
-        *count = 7;
-        memcpy(into, found, sizeof found);
-    } else {
-        status = sdm_causes(&play->h, reading, &causes);
-        *names = causes_names;
-        *count = causes_numbers(&causes, into);
-    }
-    return status;
+    const char *what = "status of what is told";
+    if (play->told == RUN)
+        return is_row(play, row);
+    if (play->told == DISPLAY)
+        return is_due(play, what, sdm_display(&play->h, reading, &display), SDM_DONE) && is_display(play, &display);
+    return is_due(play, what, sdm_causes(&play->h, reading, &causes), SDM_DONE) && is_causes(play, &causes);
 }
 
 static bool play_reading(struct play *play, const int64_t *n) {
     static struct sdm_row row;
     const struct sdm_reading reading = {(uint32_t)n[0], (int32_t)n[1], (int32_t)n[2], (int32_t)n[3],
                                         (uint32_t)n[4], (int32_t)n[5], (uint32_t)n[6]};
-    int64_t due = number(play), found[MOST_ANSWERS];
-    const char *const *names;
-    unsigned count = 0;
-    if (!is_due(play, "status", sdm_cycle(&play->h, &reading, &row), due) || due != SDM_DONE)
-        return due != SDM_DONE;
-    play->readings++;
-    if (!is_due(play, "status of what is told", told(play, &reading, &row, found, &count, &names), SDM_DONE))
+    int64_t due = number(play);
+    if (!is_due(play, "status", sdm_cycle(&play->h, &reading, &row), due))
         return false;
-    for (unsigned i = 0; i < count; i++)
-        if (!is_due(play, names[i], found[i], number(play)))
-            return false;
-    return true;
+    if (due != SDM_DONE)
+        return true;
+    play->readings++;
+    return is_told(play, &reading, &row);
 }
 
 /* Hands over a record that is no reading. */
@@ -253,10 +225,8 @@ bool run_packed(const uint8_t *bytes, size_t count) {
     for (int64_t i = 0; i < journeys; i++)
         if (!play_journey(&play))
             return false;
-    put_text(play.at == end ? "pass: " : "differs: bytes are left after ");
-    put_number(journeys);
-    put_text(" journeys, ");
-    put_number((int64_t)play.readings);
+    put(play.at == end ? "pass: " : "differs: bytes are left after ", journeys);
+    put(" journeys, ", (int64_t)play.readings);
     put_text(" readings\n");
     return play.at == end;
 }

@@ -1,11 +1,11 @@
-// sdm.d.ts says what there is: the members of each enum with their numbers, and the calls of a supervisor.
+// sdm.d.mts says what there is: the members of each enum with their numbers, and the calls of a supervisor.
 
 import assert from "node:assert/strict";
 import { readFile } from "node:fs/promises";
 import test from "node:test";
 import * as sdm from "../sdm.mjs";
 
-const declared = await readFile(new URL("../sdm.d.ts", import.meta.url), "utf8");
+const declared = await readFile(new URL("../sdm.d.mts", import.meta.url), "utf8");
 
 for (const name of ["Status", "State", "Supervision", "Target", "Rule", "Standing"]) {
   test(`the types have the numbers of ${name}`, () => {

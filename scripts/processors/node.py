@@ -1,6 +1,7 @@
 """The package for JavaScript in node: its own tests, whole journeys by both modules, and its types."""
 from __future__ import annotations
 
+import json
 import shutil
 import subprocess
 from pathlib import Path
@@ -10,13 +11,16 @@ from scripts.processors.tools import ran
 from sdm.laboratory.program import TOP
 
 MODULES = ["sdm.wasm", "sdm-64.wasm"]
+EXAMPLE = TOP / "examples" / "approach"
 WIDE_FLAG = "--experimental-wasm-memory64"  # which node up to 23 asks for
-TYPED = """import {{ load, Status, type Reading, type Row }} from "{folder}/sdm";
-const reading: Reading = {{ time_ds: 0, est_mm: 0, min_mm: 0, max_mm: 0, {field}: 0 }};
-export async function first(data: string): Promise<Row | Status> {{
-  const supervisor = (await load()).open(data);
-  return supervisor.take({{ kind: "read", ...reading }}) ?? supervisor.cycle(reading);
-}}
+USER = Path("test") / "user.ts"  # of the package: a user's file, which its types must take
+STRICT = ["--strict", "--target", "es2022", "--lib", "es2022,dom", "--module", "node16", "--moduleResolution", "node16"]
+RUN_BY_USER = """import {{ readFileSync }} from "node:fs";
+import {{ load }} from "sdm";
+import {{ everyCall, rowsOf }} from "./user.js";
+const [data, records] = readFileSync({input}, "utf8").split("%%\\n");
+everyCall(await load(), data);
+process.stdout.write(await rowsOf(data, records));
 """
 
 
@@ -55,18 +59,25 @@ def live_in_node(folder: Path) -> list[Played]:
     return [Played("node, live", "pass: the answers of examples/live" if is_same else done.stderr.decode(), is_same)]
 
 
+def project(folder: Path, scratch: Path) -> None:
+    """Writes a project of a user who has installed the package: his file in TypeScript, and what runs it."""
+    shutil.copytree(folder, scratch / "node_modules" / "sdm")
+    shutil.copyfile(folder / USER, scratch / USER.name)
+    (scratch / "package.json").write_text(json.dumps({"name": "user", "private": True, "type": "module"}))
+    given = json.dumps(str(EXAMPLE / "input"))
+    (scratch / "run.mjs").write_text(RUN_BY_USER.format(input=given))
+
+
 def typed(folder: Path, scratch: Path) -> list[Played]:
-    """A program in TypeScript over the package's types, and one that they must refuse."""
-    scratch.mkdir(parents=True)
-    words = ["tsc", "--noEmit", "--strict", "--target", "es2022", "--module", "es2022", "--moduleResolution", "node"]
-    found = []
-    for name, is_right in (("right", True), ("wrong", False)):
-        file = scratch / f"{name}.ts"
-        file.write_text(TYPED.format(folder=folder, field="speed_mm_s" if is_right else "speed"))
-        done = subprocess.run([*words, "--lib", "es2022,dom", file], capture_output=True, check=False)
-        is_due = (done.returncode == 0) == is_right
-        found.append(Played(f"TypeScript, {name}", "as it should" if is_due else done.stdout.decode()[-500:], is_due))
-    return found
+    """A user's file in TypeScript over the package's types, compiled, and run over README's example."""
+    project(folder, scratch)
+    done = subprocess.run(["tsc", *STRICT, USER.name], cwd=scratch, capture_output=True, check=False)
+    told = done.stdout.decode(errors="replace").strip()
+    if done.returncode:
+        return [Played("TypeScript, a user's file", told.partition("\n")[0], False)]
+    ran_it = subprocess.run(["node", "run.mjs"], cwd=scratch, capture_output=True, timeout=PATIENCE, check=False)
+    is_same = ran_it.stdout == (EXAMPLE / "rows").read_bytes()
+    return [Played("TypeScript, a user's file", "README's rows" if is_same else ran_it.stderr.decode()[-500:], is_same)]
 
 
 def packs(folder: Path) -> list[Played]:
@@ -77,3 +88,16 @@ def packs(folder: Path) -> list[Played]:
     listed = sum(1 for line in told.splitlines() if '"path":' in line)
     there = sum(1 for path in folder.rglob("*") if path.is_file())
     return [Played("npm pack", f"{listed} files of {there}", listed == there)]
+
+
+def by_npm(packed: Path, scratch: Path) -> list[Played]:
+    """The package as npm installs it from its file, without a network, and the command that it brings."""
+    if shutil.which("npm") is None:
+        return []
+    scratch.mkdir(parents=True)
+    (scratch / "package.json").write_text(json.dumps({"name": "user", "private": True}))
+    ran("npm", "install", "--offline", "--no-audit", "--no-fund", "--ignore-scripts", packed.resolve(), into=scratch)
+    given = (EXAMPLE / "input").read_bytes()
+    rows = ran(scratch / "node_modules" / ".bin" / "sdm-replay", "run", given=given)
+    is_same = rows == (EXAMPLE / "rows").read_bytes()
+    return [Played("npm install", "README's rows" if is_same else "other rows", is_same)]

@@ -1,6 +1,6 @@
 """Mistakes that are planted in copies of what was built, one at a time: the journeys or the tests must find each.
 
-    scripts/house check processors --planted    plants all of them"""
+    scripts/house check processors-all --planted    plants all of them"""
 from __future__ import annotations
 
 import re
@@ -11,12 +11,13 @@ from functools import partial
 from pathlib import Path
 
 from scripts.processors import proved, wasm
-from scripts.processors.node import in_node, own_tests
+from scripts.processors.node import in_node, own_tests, typed
 from scripts.processors.played import Job, Played, over_c, sanitized
 from scripts.processors.targets import PROCESSORS
 from scripts.processors.tools import must, ran
 
-JAVASCRIPT, C, SANITIZED, HEAP = "JavaScript", "C", "C with sanitizers", "heap"
+JAVASCRIPT, TYPES, C, SANITIZED, HEAP = "JavaScript", "types", "C", "C with sanitizers", "heap"
+MODULE = "module"  # the LLVM module's text, before it is compiled for WebAssembly
 QUICK = "-O1"
 
 
@@ -124,6 +125,12 @@ def in_javascript(mistake: Mistake, package: Path, made: Path, scratch: Path) ->
     return in_package(folder, made)
 
 
+def in_types(mistake: Mistake, package: Path, scratch: Path) -> list[Played]:
+    """How the package comes out whose types have a mistake: by a user's file, and by its own tests."""
+    folder = a_copy(package, mistake, scratch / "package")
+    return [*typed(folder, scratch / "project"), *own_tests(folder)]
+
+
 def in_c(mistake: Mistake, source: Path, journeys: Path, scratch: Path) -> list[Played]:
     """How the C source with a mistake comes out."""
     folder = a_copy(source, mistake, scratch / "source")
@@ -140,11 +147,23 @@ def in_heap(mistake: Mistake, package: Path, made: Path, scratch: Path) -> list[
     return in_package(scratch, made)
 
 
+def in_module(mistake: Mistake, package: Path, made: Path, scratch: Path) -> list[Played]:
+    """How the package comes out over a module that was compiled with a mistake."""
+    shutil.copytree(package, scratch)
+    modules = scratch / "sdm-64.wasm", scratch / "sdm.wasm"
+    wasm.write(proved.MODULE.path, *modules, changed=lambda text: planted(text, mistake))
+    return in_package(scratch, made)
+
+
 def sought(mistake: Mistake, folders: dict[str, Path], packed: Path, made: Path, scratch: Path) -> list[Played]:
     """How a mistake came out: it is found where one of the ways differs, and what tells it then."""
     package = folders["wasm"] / "sdm"
     if mistake.kind == JAVASCRIPT:
         ways = in_javascript(mistake, package, made, scratch)
+    elif mistake.kind == TYPES:
+        ways = in_types(mistake, package, scratch)
+    elif mistake.kind == MODULE:
+        ways = in_module(mistake, package, made, scratch)
     elif mistake.kind == HEAP:
         ways = in_heap(mistake, package, made, scratch)
     else:

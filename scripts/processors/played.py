@@ -3,11 +3,12 @@ from __future__ import annotations
 
 import shutil
 import subprocess
-from collections.abc import Callable, Sequence
+from collections.abc import Sequence
 from dataclasses import dataclass
+from functools import partial
 from pathlib import Path
 
-from scripts.processors.targets import Processor
+from scripts.processors.targets import X86_64, Processor
 from scripts.processors.tools import ran
 from sdm.laboratory.program import TOP
 
@@ -30,7 +31,7 @@ class Played:
     is_same: bool
 
 
-Job = Callable[[], list[Played]]
+Job = partial[list[Played]]
 
 
 def emulated(processor: Processor) -> list[str]:
@@ -48,19 +49,35 @@ def outcome(way: str, words: Sequence[str | Path]) -> Played:
     return Played(way, told or f"ended with {done.returncode}", done.returncode == 0)
 
 
+def run_over(
+    processor: Processor, way: str, journeys: Path, scratch: Path, kind: str, given: dict[str, str], rpath: Path
+) -> Played:
+    """The runner over a library, static or shared, by what pkg-config tells of it."""
+    flags = ran("pkg-config", f"--{kind}", "--cflags", "--libs", "sdm", more=given).decode().split()
+    linked = ["-static"] if kind == "static" else [f"-Wl,-rpath,{rpath}"]
+    program = scratch / f"run-{kind}"
+    sources = [str(PORTABLE / name) for name in RUNNER]
+    ran(processor.compiler, *WARNED, f"-I{PORTABLE}", "-o", program, *sources, *flags, *linked)
+    return outcome(f"{way}, {processor.name}, {kind}", [*emulated(processor), program, journeys])
+
+
 def over_archive(processor: Processor, prefix: Path, journeys: Path, scratch: Path) -> list[Played]:
-    """The runner over the libraries below a prefix, static and shared, by what pkg-config tells of them."""
+    """The runner over the libraries below a prefix, static and shared."""
     scratch.mkdir(parents=True)
-    given = {"PKG_CONFIG_LIBDIR": str(prefix / "lib" / "pkgconfig")}
-    found = []
-    for kind in ("static", "shared"):
-        flags = ran("pkg-config", f"--{kind}", "--cflags", "--libs", "sdm", more=given).decode().split()
-        linked = ["-static"] if kind == "static" else [f"-Wl,-rpath,{prefix / 'lib'}"]
-        program = scratch / f"run-{kind}"
-        sources = [str(PORTABLE / name) for name in RUNNER]
-        ran(processor.compiler, *WARNED, f"-I{PORTABLE}", "-o", program, *sources, *flags, *linked)
-        found.append(outcome(f"archive, {processor.name}, {kind}", [*emulated(processor), program, journeys]))
-    return found
+    given, rpath = {"PKG_CONFIG_LIBDIR": str(prefix / "lib" / "pkgconfig")}, prefix / "lib"
+    return [run_over(processor, "archive", journeys, scratch, kind, given, rpath) for kind in ("static", "shared")]
+
+
+def of_package(processor: Processor, package: Path, journeys: Path, scratch: Path) -> list[Played]:
+    """The runner over the libraries of a Debian package, unpacked below a folder that stands for the root."""
+    root, libraries = scratch / "root", Path("usr/lib") / processor.prefix
+    scratch.mkdir(parents=True)
+    ran("dpkg-deb", "--extract", package, root)
+    given = {"PKG_CONFIG_LIBDIR": str(root / libraries / "pkgconfig"), "PKG_CONFIG_SYSROOT_DIR": str(root)}
+    return [
+        run_over(processor, "Debian package", journeys, scratch, kind, given, root / libraries)
+        for kind in ("static", "shared")
+    ]
 
 
 def over_c(
@@ -75,6 +92,33 @@ def over_c(
     way += "bounds tested" if is_tested else "bounds untested"
     ran("make", "--silent", "-C", folder, f"CC={processor.compiler}", f"CFLAGS={flags}", "LDFLAGS=-static", program)
     return [outcome(way, [*emulated(processor), folder / program, journeys])]
+
+
+def tells_differences(program: Path, altered: list[bytes], scratch: Path) -> Played:
+    """Whether the runner tells of each journey that is due otherwise than it should be."""
+    passed = []
+    for count, packed in enumerate(altered):
+        file = scratch / f"altered-{count}"
+        file.write_bytes(packed)
+        found = outcome("", [program, file])
+        if found.is_same or not found.told.startswith("differs: "):
+            passed.append(str(count))
+    told = f"passes {', '.join(passed)}" if passed else "told of each"
+    return Played(f"the runner over {len(altered)} journeys that are due otherwise", told, not passed and bool(altered))
+
+
+def over_own_c(source: Path, journeys: Path, altered: list[bytes], scratch: Path, level: str = "-O2") -> list[Played]:
+    """The runner over the C source on this machine, also over journeys of each of which it must tell a difference."""
+    found = over_c(X86_64, source, journeys, scratch, True, level)
+    return [*found, tells_differences(scratch / "tested" / "run_file", altered, scratch)]
+
+
+def byte_by_byte(source: Path, journeys: Path, scratch: Path) -> list[Played]:
+    """The C source as a compiler takes it that doesn't tell the host's order of bytes."""
+    folder = scratch / "byte-by-byte"
+    shutil.copytree(source, folder, ignore=shutil.ignore_patterns("journeys.packed"))
+    ran("make", "--silent", "-C", folder, "CC=gcc", "CPPFLAGS=-DSDM_BYTE_BY_BYTE", "run_file")
+    return [outcome("C, x86_64, byte by byte, bounds tested", [folder / "run_file", journeys])]
 
 
 def sanitized(source: Path, journeys: Path, scratch: Path) -> list[Played]:

@@ -91,6 +91,7 @@ def arguments(call: Call) -> str:
     for each in call.arguments:
         kind = each.kind if each.is_pointer or each.kind not in NUMBERS else "number"
         at = f", at: {places[each.name]}" if each.name in places else ""
+        at += ", isGiven: true" if at and each.is_const else ""
         told.append(f'{{ name: "{each.name}", kind: "{kind}"{at} }}')
     return f"  {call.name}: [{', '.join(told)}],\n"
 
@@ -131,7 +132,9 @@ def module() -> str:
     parts += [enum(name, members) for name, members in enums()]
     parts += ["// How the program writes them.\n"]
     parts += [f"export const {name} = {json.dumps(value, ensure_ascii=False)};\n" for name, value in words.items()]
-    parts += ["\n", WHOLE, "/** Reads a struct at a place. */\nexport const read = {\n", *map(reader, known), "};\n\n"]
+    parts += ["\n", WHOLE, "/** Reads a struct or a number at a place. */\nexport const read = {\n"]
+    parts += [f"  {kind}: (view, at) => {form.format('at')},\n" for kind, form in READS.items()]
+    parts += [*map(reader, known), "};\n\n"]
     parts += ["/** Writes a struct to a place. */\nexport const write = {\n"]
     parts += [*map(writer, filter(is_written, known)), "};\n\n"]
     parts += ["/** What each call takes. What a pointer leads to stands at a place of the desk. */\n"]

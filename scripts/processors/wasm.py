@@ -3,6 +3,7 @@ that is made of it. They take nothing from outside, and have their own heap."""
 from __future__ import annotations
 
 import tempfile
+from collections.abc import Callable
 from pathlib import Path
 
 from scripts.processors import binary, layout
@@ -47,12 +48,15 @@ def compiled_c(source: Path, exported: list[str], into: Path) -> Path:
     return compiled(exporting(text, exported), into)
 
 
-def objects(bitcode: Path, heap: Path, scratch: Path) -> list[Path]:
+Change = Callable[[str], str]  # of the module's text, where a mistake is planted
+
+
+def objects(bitcode: Path, heap: Path, scratch: Path, changed: Change) -> list[Path]:
     """The retargeted module, compiled, and what stands beside it."""
     names = layout.names()
     text = exporting(retargeted(text_of(bitcode), *WASM64, names), names)
     return [
-        compiled(text, scratch / "module.o"),
+        compiled(changed(text), scratch / "module.o"),
         compiled_c(heap, BLOCKS, scratch / "heap.o"),
         compiled_c(TEXTS, [layout.IN_C_ALONE], scratch / "texts.o"),
     ]
@@ -66,12 +70,12 @@ def must_be_whole(module: bytes, name: str) -> None:
     must(found == due, f"{name} exports {' '.join(sorted(found))}, and not {' '.join(sorted(due))}")
 
 
-def write(bitcode: Path, wide: Path, narrow: Path, heap: Path = HEAP) -> None:
+def write(bitcode: Path, wide: Path, narrow: Path, heap: Path = HEAP, changed: Change = str) -> None:
     """Writes the module of 64 bits and that of 32 bits, with a heap."""
     linker, toolchain = kit() / "bin" / "rattle-link", kit() / "toolchain"
     with tempfile.TemporaryDirectory() as name:
         scratch = Path(name)
-        archived(objects(bitcode, heap, scratch), scratch / "whole.a")
+        archived(objects(bitcode, heap, scratch, changed), scratch / "whole.a")
         words = ["--target", WASM64[0], "--toolchain", str(toolchain), "--stack", str(STACK_BYTES)]
         ran(linker, *words, "-o", wide, scratch / "whole.a")
         ran("wasm-opt", *NARROW, wide, "-o", narrow)

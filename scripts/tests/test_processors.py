@@ -3,11 +3,13 @@ module, an import of a WebAssembly module, a field without a place in the header
 toolchain."""
 from __future__ import annotations
 
+import tempfile
 import unittest
+from pathlib import Path
 from unittest import mock
 
 from scripts.c import header
-from scripts.processors import binary, calls, layout, packed, retarget, script
+from scripts.processors import binary, calls, journeys, layout, packed, released, retarget, script
 from scripts.processors.targets import MACHINES, PROVED, WASM64
 from scripts.tests import copies
 from sdm.laboratory.cases import Case, case_of
@@ -156,6 +158,41 @@ class Packed(unittest.TestCase):
         assert journey is not None
         step = [packed.KINDS.index("revoke"), 7, Status.UNKNOWN_ID, packed.LAST]
         self.assertTrue(journey.endswith(packed.text(b"") + b"".join(map(packed.number, step))))
+
+
+class Altered(unittest.TestCase):
+    def test_each_field_of_the_first_and_the_last_row_is_altered_alone(self) -> None:
+        case = case_of(copies.TOP / "examples" / "approach", "approach")
+        assert case.due is not None
+        found, right = list(journeys.altered(case)), case.due.rows.replace("\n", ",").split(",")
+        self.assertEqual(len(found), 2 * 13)
+        for each in found:
+            assert each.due is not None
+            fields = each.due.rows.replace("\n", ",").split(",")
+            self.assertEqual(sum(one != other for one, other in zip(fields, right, strict=True)), 1, each.name)
+
+    def test_a_refusal_a_line_and_a_status_are_altered(self) -> None:
+        names = [case.name for case in journeys.altered(journeys.going_back())]
+        self.assertIn("a time that goes back, another refusal", names)
+        refused = [case.name for case in journeys.altered(case_of(copies.TOP / "examples" / "refused-data", "data"))]
+        self.assertEqual(refused, ["data, another line", "data, another status"])
+
+    def test_no_two_are_packed_alike(self) -> None:
+        found = journeys.packed_altered()
+        self.assertEqual(len(set(found)), len(found))
+
+
+class Released(unittest.TestCase):
+    def test_a_release_without_a_part_is_refused(self) -> None:
+        with tempfile.TemporaryDirectory() as name:
+            dist = Path(name) / "dist"
+            dist.mkdir()
+            for kinds in released.OF_WAYS.values():
+                for kind in kinds:
+                    (dist / kind.replace("*", "1.0.0")).touch()
+            (dist / "sdm-1.0.0-c.tar.gz").unlink()
+            with mock.patch.object(released, "ran"), self.assertRaisesRegex(Fault, "hasn't one each of sdm-.*-c.tar"):
+                released.unpacked(dist, Path(name) / "into")
 
 
 if __name__ == "__main__":

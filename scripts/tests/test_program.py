@@ -388,7 +388,7 @@ class Gate(OverACopy):
         gate = (copies.TOP / ".ci" / "run").read_text()
         self.assertRegex(gate, r"(?m)^scripts/house check before$")
         self.assertRegex(gate, r"(?m)^scripts/house check after$")
-        self.assertEqual([part.name for part in CHECKS["elsewhere"]], ["edits", "processors", "release"])
+        self.assertEqual([part.name for part in CHECKS["elsewhere"]], ["edits", "processors-all", "release"])
 
     def test_a_check_that_fails_fails_the_command(self) -> None:
         copies.alter(self.top, "python/sdm/curves.py", "^import csv$", "import csv\nfrom .rows import Row")
