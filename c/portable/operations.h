@@ -1,5 +1,5 @@
-/* The operations of which the generated module.c is made, under the names that wasm2c gives, for any C11 compiler: bytes
- * are put together one by one, so that neither the order nor the alignment of the host's numbers matters.
+/* The operations of which the generated module.c is made, under the names that wasm2c gives, for any C11 compiler and
+ * any order and alignment of the host's numbers.
  *
  * Each access to memory is tested, unless SDM_NO_BOUNDS_TESTS is defined. Right shifts of negative numbers must keep the
  * sign, as each known compiler has it. */
@@ -37,9 +37,9 @@ extern uint32_t sdm_module_depth;
 #define FUNC_EPILOGUE --sdm_module_depth
 #endif
 
-/* Numbers in the module's memory have their lowest byte first. Where the compiler tells the host's order, a number is
- * copied whole, and turned round where the host has its highest byte first; else it is put together byte by byte. The
- * bytes of each number are written out, since a loop or a sum of shifts is too long for compilers to put in line. */
+/* Numbers in the module's memory have their lowest byte first. Where the compiler tells the host's order of bytes a
+ * number is copied whole, and turned round on a host that has its highest byte first. Else, and with SDM_BYTE_BY_BYTE,
+ * it is put together byte by byte, which gcc doesn't put in line: a reading then takes a third more instructions. */
 static inline u32 get8(const u8 *at) { return at[0]; }
 static inline void put8(u8 *at, u32 value) { at[0] = (u8)value; }
 

@@ -2,6 +2,7 @@
 from seeds, with what a program writes."""
 from __future__ import annotations
 
+import itertools
 from collections.abc import Iterator, Sequence
 from concurrent.futures import ThreadPoolExecutor
 from functools import partial
@@ -37,13 +38,17 @@ def told(program: Path, case: Case) -> Case:
     return Case(case.name, case.words, case.data, run(program, case.words, case.data))
 
 
-def by(program: Path, first: int, count: int) -> Iterator[Case]:
-    """Journeys of some seeds by each word in turn, with what a program writes for them."""
-    seeds: Iterator[Case] = made(first, count)
-    cases = [case._replace(words=[packed.TOLD[at % 3]]) for at, case in enumerate(seeds)]
-    with ThreadPoolExecutor(THREADS) as threads:
-        found = threads.map(partial(told, program), cases)
-        yield from (case for case in found if packed.journey(case) is not None)
+def by(program: Path, count: int) -> list[Case]:
+    """So many journeys, of the first seeds that make one that the library can play, by each word in turn, with what a
+    program writes for them."""
+    found: list[Case] = []
+    for first in itertools.count(0, count):
+        cases = [case._replace(words=[packed.TOLD[at % 3]]) for at, case in enumerate(made(first, count))]
+        with ThreadPoolExecutor(THREADS) as threads:
+            found += [case for case in threads.map(partial(told, program), cases) if packed.journey(case) is not None]
+        if len(found) >= count:
+            break
+    return found[:count]
 
 
 def all_packed(cases: list[Case]) -> list[bytes]:

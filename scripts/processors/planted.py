@@ -20,6 +20,22 @@ JAVASCRIPT, TYPES, C, SANITIZED, HEAP = "JavaScript", "types", "C", "C with sani
 MODULE = "module"  # the LLVM module's text, before it is compiled for WebAssembly
 QUICK = "-O1"
 
+# A sum of two numbers of 128 bits, in LLVM's words, by its halves of 64 bits, and without what the lower halves carry.
+LOST_CARRY = r"""\1  %low.a = and i128 \3, 18446744073709551615
+  %low.b = and i128 \4, 18446744073709551615
+  %low.sum = add i128 %low.a, %low.b
+  %low = and i128 %low.sum, 18446744073709551615
+  %high.a = sub i128 \3, %low.a
+  %high.b = sub i128 \4, %low.b
+  %high = add i128 %high.a, %high.b
+  \2 = or i128 %high, %low
+"""
+
+
+def sum_in(function: str) -> str:
+    """The pattern of the first sum of 128 bits in a function of the LLVM module."""
+    return rf'(?m)(^define [^\n]*@"{function}"\((?:.*\n)*?)  (%r\d+) = add i128 (%r\d+), (%r\d+)\n'
+
 
 @dataclass(frozen=True)
 class Mistake:
@@ -82,6 +98,23 @@ MISTAKES = [
     Mistake(
         "a sign that is lost", C, "operations.h", r"\(i64_load32_s, 32, s32, u64\)", "(i64_load32_s, 32, u32, u64)"
     ),
+    Mistake("a lost carry of 128 bits", MODULE, "module.ll", sum_in("sdm_curve::knots::Knot::at"), LOST_CARRY),
+    Mistake(
+        "a lost carry of 128 bits in another sum",
+        MODULE,
+        "module.ll",
+        sum_in("sdm_curve::levels::integral_at"),
+        LOST_CARRY,
+    ),
+    Mistake(
+        "an instruction of the old processor that is written wrongly",
+        MODULE,
+        "module.ll",
+        r"%sum = add <16 x i8> %even, %odd",
+        "%sum = add <16 x i8> %even, %even",
+    ),
+    Mistake("a place that may be none, typed as one", TYPES, "sdm.d.mts", r"ebi_mm: number \| null", "ebi_mm: number"),
+    Mistake("a call without its type", TYPES, "sdm.d.mts", r"  takeOver\(before: Supervisor\): void;\n", ""),
     Mistake(
         "more memory than the host's",
         SANITIZED,

@@ -1,7 +1,7 @@
-"""Measures what a reading takes on each way, on this machine and in one run, and what memory and stack the library as C
-takes on each processor. It asserts nothing.
+"""Measures what a reading takes on each way, on this machine and in one run: processor time, and instructions, which
+don't depend on what else runs; and what memory and stack the library as C takes on each processor. It asserts nothing.
 
-    scripts/house show processors [ROUNDS]    prints two tables in Markdown"""
+    scripts/house show processors [ROUNDS]    prints three tables in Markdown"""
 from __future__ import annotations
 
 import re
@@ -25,6 +25,7 @@ PARTS = ["module", "calls", "instance", "sdm_text", "host_array"]
 OPTIONS = ["-std=c11", "-O2", "-Wno-unused-parameter", f"-I{TOP / 'c'}"]
 STACK = re.compile(r"^(sdm_\w+) .* (\d+)$", re.M)
 OWN_STACK = re.compile(r"used by (\d+) bytes")
+COLLECTED = re.compile(r"Collected : (\d+)")
 MEMORY = re.compile(r"up to its byte (\d+)")
 
 
@@ -59,14 +60,19 @@ def told(words: list[str], given: bytes) -> tuple[int, int]:
     return int(reading), int(opening)
 
 
-def times(source: Path, package: Path, scratch: Path, rounds: int) -> list[str]:
-    """The table of times: each input in turn by each way, so that all have the same neighbours."""
-    own = PROCESSORS["x86_64"]
-    ways = {
+def programs(source: Path, scratch: Path) -> dict[str, list[str]]:
+    """The programs that play the readings, on this machine without an engine."""
+    own, untested = PROCESSORS["x86_64"], "-DSDM_NO_BOUNDS_TESTS"
+    return {
         "archive": [str(program_over_archive(scratch))],
-        "C, bounds untested": [str(program_over_c("time_readings", source, scratch, own, "-DSDM_NO_BOUNDS_TESTS"))],
+        "C, bounds untested": [str(program_over_c("time_readings", source, scratch, own, untested))],
         "C, bounds tested": [str(program_over_c("time_readings", source, scratch, own))],
     }
+
+
+def times(ways: dict[str, list[str]], package: Path, rounds: int) -> list[str]:
+    """The table of times: each input in turn by each way, so that all have the same neighbours."""
+    ways = dict(ways)
     for module in MODULES:
         ways[f"node, `{module}`"] = ["node", *node_options(module), str(package / "measure.mjs"), str(package / module)]
     lines = ["| Way | " + " | ".join(f"{name}: reading, ns | opening, µs" for name in INPUTS) + " |"]
@@ -79,6 +85,23 @@ def times(source: Path, package: Path, scratch: Path, rounds: int) -> list[str]:
     return lines + [
         f"| {way} | " + " | ".join(f"{number:,}" for number in numbers) + " |" for way, numbers in found.items()
     ]
+
+
+def instructions_of(words: list[str], given: bytes, readings: int) -> int:
+    """The instructions of `sdm_cycle` in the mean, by callgrind."""
+    counting = ["valgrind", "--tool=callgrind", "--callgrind-out-file=/dev/null", "--toggle-collect=sdm_cycle"]
+    done = subprocess.run([*counting, *words, "1"], input=given, capture_output=True, check=True)
+    return round(int(COLLECTED.findall(done.stderr.decode())[0]) / readings)
+
+
+def instructions(ways: dict[str, list[str]]) -> list[str]:
+    """The table of instructions."""
+    lines = ["| Way | " + " | ".join(INPUTS) + " |", "|---|" + "---:|" * len(INPUTS)]
+    made = [MAKERS[name](SEED) for name in INPUTS]
+    for way, words in ways.items():
+        counts = [instructions_of(words, each.whole(), each.counted) for each in made]
+        lines.append(f"| {way} | " + " | ".join(f"{count:,}" for count in counts) + " |")
+    return lines
 
 
 def stacks(source: Path, scratch: Path) -> list[str]:
@@ -109,8 +132,9 @@ def main(words: list[str]) -> int:
         proved.must_hold()
         with tempfile.TemporaryDirectory() as name:
             source, package = build.c_source(), build.web_assembly() / "sdm"
-            print("\n".join(times(source, package, Path(name), rounds)), flush=True)
-            print()
+            ways = programs(source, Path(name))
+            print("\n".join([*times(ways, package, rounds), ""]), flush=True)
+            print("\n".join([*instructions(ways), ""]), flush=True)
             print("\n".join(stacks(source, Path(name))))
     except Fault as why:
         print(f"times: {why}", file=sys.stderr)
