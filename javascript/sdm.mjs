@@ -146,13 +146,14 @@ class Instance {
     return this.#desk + CALLS[call][index].at;
   }
 
-  /** Makes a call on a handle, with numbers by their names: what it gives, a struct or a number, or undefined. */
+  /** Makes a call on a handle, with numbers by their names, or by the names of the structs that have them: what it gives,
+   * a struct or a number, or undefined. */
   make(call, handle, numbers) {
     let result = () => undefined;
     const words = CALLS[call].slice(1).map(({ name, kind, at, isGiven }) => {
       if (at === undefined) return numbers[name];
       const place = this.#desk + at;
-      if (isGiven) write[kind](this.view, place, numbers);
+      if (isGiven) write[kind](this.view, place, numbers[name] ?? numbers);
       else result = () => read[kind](this.view, place);
       return BigInt(place);
     });

@@ -14,7 +14,6 @@ HEAD = """/* Generated from c/sdm.h by scripts/processors/calls.py: the calls ov
 
 """
 OF_BITS = {4: "32", 8: "64"}
-FAILED = {"sdm_open": "SDM_NO_MEMORY", "sdm_layout": "0"}  # what calls answer without an instance; the others: closed
 
 
 def place(at: int) -> str:
@@ -99,14 +98,21 @@ def word(each: Argument, places: dict[str, int]) -> str:
     return f"({'u64' if each.kind == 'size_t' else 'u32'}){each.name}"
 
 
+def failed(call: Call) -> str:
+    """What a call answers where there is no instance, for want of memory."""
+    if call.result == "void":
+        return ""
+    is_of_handle = bool(call.arguments) and call.arguments[0].kind == HANDLE
+    return " SDM_NO_MEMORY" if call.name == "sdm_open" else " SDM_CLOSED" if is_of_handle else " 0"
+
+
 def body(call: Call) -> str:
     """What a call does."""
     places, is_void = desk(call), call.result == "void"
     on_desk = [each for each in call.arguments if each.name in places]
     data = [each for each in call.arguments if each.is_pointer and each.kind == "uint8_t"]
     must(len(data) <= 1 and all(each.is_const for each in data), f"{call.name} takes bytes in a way that isn't known")
-    failed = "" if is_void else f" {FAILED.get(call.name, 'SDM_CLOSED')}"
-    lines = [f"    if (!sdm_module_begin({desk_bytes()}))\n        return{failed};\n"]
+    lines = [f"    if (!sdm_module_begin({desk_bytes()}))\n        return{failed(call)};\n"]
     for each in data:
         count = f"{each.name}_bytes"
         lines.append(f"    u64 {each.name}_at = Z_sdmZ_block_take(&sdm_module, {count} != 0 ? {count} : 1);\n")
