@@ -436,14 +436,8 @@ def test_a_fault_is_told(ends: list[Future[tuple[int, str]]], number: int, scrip
 
 
 # These are tried over a program or a library, by test_program.py and test_bounds.py, or by hand.
-<<<<<<< HEAD
 ELSEWHERE = set("model upgrade tour certificates compilers edits bounds worked examples live c library".split())
-ELSEWHERE |= {"rides", "refused", "processors"}
-=======
-ELSEWHERE = set(
-    "model upgrade certificates compilers edits bounds worked examples live c library rides refused processors processors-all".split()
-)
->>>>>>> 8306bfa3 (The runner tells of each difference, types are tried by a user's file, a sample of other processors stands in the gate)
+ELSEWHERE |= {"rides", "refused", "processors", "processors-all"}
 
 
 def test_each_check_has_two_faults() -> None:
