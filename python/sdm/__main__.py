@@ -11,7 +11,7 @@ COMMANDS = {
     "explain": "sdm.explain_input",
     "why": "sdm.why",
     "curves": "sdm.curves",
-    "compare": "sdm.compare",
+    "compare": "sdm.comparing",
     "diagnose": "sdm.diagnosis.words",
     "import": "sdm.importing.words",
     "campaign": "sdm.campaign",

@@ -1,29 +1,33 @@
 """Runs the program over all journeys of a folder, on all processors or on several hosts: tools/campaign FOLDER
 
 A journey is a folder with `input`, as in examples/ and vectors/, at any depth. What the program makes of it is written
-beside it: got.rows, got.err, got.code. Started again, it runs those alone that have no got.code yet. At the end it
-tells how the journeys ended, and where they differ from the `rows`, `err` and `code` that lie beside their inputs. It
-ends with 0 where all ran and nothing differs, with 1 where something does, with 2 where it can't run. With --statistics
-it tells how often each command and status came, the least margins and the slowest journeys; --csv writes a line for
-each journey. GNU parallel does the work; `parallel --version` must tell that it is installed (scripts/setup installs
-it).
+beside it: got.rows, got.err, got.time and, last, got.code. Started again, it runs those alone that have no got.code
+yet. At the end it tells how the journeys ended, and where they differ from the `rows`, `err` and `code` that lie beside
+their inputs. It ends with 0 where all ran and nothing differs, with 1 where something does, with 2 where it can't run.
+With --statistics it tells how often each command and status came, the least margins and the slowest journeys; --csv
+writes a line for each journey. Other hosts work by --dask or --mpi; they see FOLDER and the program under the same
+paths.
 """
+from __future__ import annotations
 
 import argparse
 import collections
+import os
 import subprocess
 import sys
-import tempfile
 import time
+from collections.abc import Iterable, Iterator
+from contextlib import closing, contextmanager
+from functools import partial
+from importlib import import_module
 from pathlib import Path
+from typing import Any
 
+from sdm.engine import Progress, outcomes
 from sdm.laboratory.cases import Case, case_of, difference, text_of
 from sdm.laboratory.program import Fault, Result, add_program, built
 from sdm.laboratory.statistics import Figures, Statistics, figures_of, microseconds_of, statistics_of
 
-WORKER = Path(__file__).resolve().parent / "laboratory" / "run-journeys"
-A_JOB = 20  # journeys, since to start a job costs more than a journey
-PROGRESS = 5  # s
 OUTCOMES = dict(
     enumerate(
         [
@@ -60,33 +64,57 @@ def code_of(folder: Path) -> str:
     return text_of(folder / "got.code", "").strip()
 
 
-def command(words: argparse.Namespace) -> list[str]:
-    """The words of GNU parallel."""
-    line = ["parallel", "--will-cite", "--null", "--max-args", str(A_JOB), "--line-buffer"]
-    line += ["--jobs", words.jobs] if words.jobs else []
-    for login in words.sshlogin:
-        line += ["--sshlogin", login]
-    return line + [str(WORKER), str(built(words.program))]
+def judge(program: Path, folder: Path) -> str:
+    """Runs a journey, and writes what comes beside its input: why it can't be run, or nothing."""
+    try:
+        words = text_of(folder / "args", "run\n").splitlines()
+        begun = time.perf_counter_ns()
+        with (
+            (folder / "input").open("rb") as given,
+            (folder / "got.rows").open("wb") as rows,
+            (folder / "got.err").open("wb") as err,
+        ):
+            code = subprocess.run([program, *words], stdin=given, stdout=rows, stderr=err).returncode
+        (folder / "got.time").write_text(f"{(time.perf_counter_ns() - begun) // 1000}\n")
+        (folder / "got.code").write_text(f"{code if code >= 0 else 128 - code}\n")  # as a shell tells it
+    except OSError as why:
+        return f"{folder}: {why}"
+    return ""
 
 
-def run(words: argparse.Namespace, folders: list[Path]) -> None:
-    """Runs the journeys that are left, and tells now and then how many are done."""
-    done, begun = 0, time.monotonic()
-    told = begun
-    with tempfile.TemporaryFile() as names:  # a pipe would wait for parallel, and nothing be told meanwhile
-        names.write(b"".join(bytes(folder) + b"\0" for folder in folders))
-        names.seek(0)
-        try:
-            parallel = subprocess.Popen(command(words), stdin=names, stdout=subprocess.PIPE)
-        except FileNotFoundError:
-            raise Fault("GNU parallel is not installed; scripts/setup installs it.") from None
-        for line in parallel.stdout or []:
-            done += int(line)
-            if time.monotonic() - told > PROGRESS:
-                told = time.monotonic()
-                print(f"  {done} of {len(folders)} journeys, {told - begun:.0f} s", file=sys.stderr, flush=True)
-        parallel.wait()
-    print(f"{done} journeys were run in {time.monotonic() - begun:.1f} s")
+def run(
+    program: Path, folders: Iterable[Path], *, executor: Any = None, processes: int | None = None, progress: bool = True
+) -> int:
+    """Runs journeys by an executor, or by so many processes: how many were run. Raises Fault where one can't be."""
+    held = list(folders)
+    told = Progress("journeys", len(held), progress)
+    try:
+        with closing(outcomes(partial(judge, program), held, executor=executor, processes=processes)) as made:
+            for folder, fault, why in made:
+                if fault or why is not None:
+                    raise Fault(f"{folder} can't be run: {fault or why}")
+                told.count()
+    finally:
+        told.end()
+    return told.done
+
+
+@contextmanager
+def executor_of(words: argparse.Namespace) -> Iterator[Any]:
+    """What runs a campaign: Dask's or MPI's executor; nothing, where processes of this host do."""
+    try:
+        if words.dask:
+            with import_module("distributed").Client(words.dask) as client:
+                yield client
+        elif words.mpi:
+            with import_module("mpi4py.futures").MPIPoolExecutor() as executor:
+                yield executor
+        else:
+            yield None
+    except ImportError as why:
+        raise Fault(f"{why}: Debian has it as python3-distributed or python3-mpi4py.") from None
+    except OSError as why:
+        raise Fault(f"The scheduler at {words.dask} can't be reached: {why}.") from None
 
 
 def got(folder: Path) -> Result | None:
@@ -100,9 +128,33 @@ def differences(case: Case, made: Result) -> list[str]:
     return difference(("due", "made"), case.due, made, case.words) if case.due else []
 
 
-def statistics(folder: Path) -> Statistics:
+def statistics(folder: str | os.PathLike[str]) -> Statistics:
     """What a campaign's journeys have in numbers. Raises Fault where there is no journey, or one can't be read."""
-    return statistics_of(figures_in(each, folder.resolve()) for each in journeys_in(folder))
+    top = Path(folder).resolve()
+    return counted(journeys_in(top), top, False)
+
+
+def counted(folders: list[Path], top: Path, progress: bool, processes: int | None = None) -> Statistics:
+    """Some journeys in numbers, counted by processes of this host."""
+    told, found = Progress("journeys counted", len(folders), progress), dict[Path, Figures]()
+    try:
+        with closing(outcomes(partial(figures_or_fault, top), folders, processes=processes)) as made:
+            for folder, figures, why in made:
+                if not isinstance(figures, Figures):
+                    raise Fault(str(figures or why))
+                found[folder] = figures
+                told.count()
+    finally:
+        told.end()
+    return statistics_of(found[folder] for folder in folders)
+
+
+def figures_or_fault(top: Path, folder: Path) -> Figures | str:
+    """A journey in numbers, or why it can't be read."""
+    try:
+        return figures_in(folder, top)
+    except Fault as why:
+        return str(why)
 
 
 def figures_in(folder: Path, top: Path) -> Figures:
@@ -116,7 +168,7 @@ def figures_in(folder: Path, top: Path) -> Figures:
 
 def tell_statistics(words: argparse.Namespace, folders: list[Path]) -> None:
     """Prints the statistics, or writes them, as the words ask for."""
-    found = statistics_of(figures_in(each, words.folder.resolve()) for each in folders)
+    found = counted(folders, words.folder.resolve(), True, words.jobs)
     if words.statistics:
         print("\n".join(["", *found.lines()]))
     if words.csv:
@@ -162,17 +214,13 @@ def words_of(args: list[str]) -> argparse.Namespace:
     parser.add_argument("folder", metavar="FOLDER", type=Path, help="the folder of the journeys")
     parser.add_argument("--again", action="store_true", help="run those that were run, too")
     parser.add_argument(
-        "--jobs",
-        metavar="N",
-        help="how many processes a host runs, as parallel's --jobs; all processors where it isn't said",
+        "--jobs", metavar="N", type=int, help="how many processes run; one for each processor where it isn't said"
     )
+    parser.add_argument("--dask", metavar="ADDRESS", help="runs on the workers of Dask's scheduler at ADDRESS")
     parser.add_argument(
-        "--sshlogin",
-        metavar="HOSTS",
-        action="append",
-        default=[],
-        help="hosts to run on, as parallel's --sshlogin (`:` is this one); "
-        "they see FOLDER and the program under the same paths",
+        "--mpi",
+        action="store_true",
+        help="runs on MPI: mpiexec -n N python3 -m mpi4py.futures -m sdm campaign .. --mpi",
     )
     parser.add_argument(
         "--part",
@@ -202,7 +250,10 @@ def main(args: list[str]) -> int:
                 (folder / "got.code").unlink(missing_ok=True)
         print(f"{len(folders)} journeys, {len(left)} to run")
         if left:
-            run(words, left)
+            begun = time.monotonic()
+            with executor_of(words) as executor:
+                done = run(built(words.program), left, executor=executor, processes=words.jobs)
+            print(f"{done} journeys were run in {time.monotonic() - begun:.1f} s")
         well = summary(words, folders)
         if words.statistics or words.csv:
             tell_statistics(words, folders)

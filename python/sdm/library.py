@@ -10,14 +10,14 @@ import os
 import threading
 from ctypes import c_int32, c_int64, c_size_t, c_uint8, c_uint32, c_void_p
 from collections.abc import Iterable
-from dataclasses import asdict
 from functools import cache
 from itertools import repeat
-from operator import index, length_hint
+from operator import length_hint
 from pathlib import Path
 from types import TracebackType
 from typing import TYPE_CHECKING, Any
 
+from sdm.errors import KindError
 from sdm.records import Data, End, EndCalculated, Limit, Reading, Record, Restriction, Revocation, toml_of
 from sdm.rows import (
     TEXTS,
@@ -39,6 +39,7 @@ if TYPE_CHECKING:
 
 LAYOUT = 2  # SDM_LAYOUT
 HERE = Path(__file__).resolve().parent
+IS_REPOSITORY = (HERE.parents[1] / "crates.txt").is_file()
 # Where the library is looked for, after SDM_LIBRARY: where an installed package has it, where sdm.build_library puts it
 # in the repository, and what the system's loader finds.
 PLACES = (HERE / "libsdm.so", HERE.parents[1] / "crates" / "sdm_c" / "out" / "libsdm.so")
@@ -157,32 +158,38 @@ def loaded(there: str) -> ctypes.CDLL:
             getattr(library, call).restype, getattr(library, call).argtypes = c_uint32, takes
         library.sdm_close.restype, library.sdm_close.argtypes = None, [c_void_p]
     except (OSError, AttributeError) as why:
-        raise OSError(f"The shared library can't be loaded: {why}. `python3 -m sdm.build_library` makes it.") from None
+        makes = "`python3 -m sdm.build_library` makes it" if IS_REPOSITORY else "SDM_LIBRARY names it; a release has it"
+        raise OSError(f"The shared library can't be loaded: {why}. {makes}.") from None
     if library.sdm_layout() != LAYOUT:
         raise OSError(f"{there} has the layout {library.sdm_layout()}, and this package {LAYOUT}.")
     return library
 
 
-RANGES: dict[type, tuple[int, int]] = {c_uint32: (0, 2**32 - 1), c_int32: (-(2**31), 2**31 - 1)}
-
-
-def number(name: str, value: object, kind: type) -> int:
-    """A number that a type of C holds; others would be cut off. TypeError where it is no whole number."""
-    whole = index(value)  # type: ignore[arg-type]  # it tells what isn't one
-    least, most = RANGES[kind]
-    if not least <= whole <= most:
-        raise SdmError(Status.OUT_OF_RANGE, f"out of range: {name} is {whole}")
-    return whole
-
-
 def filled(kind: type[ctypes.Structure], record: Record) -> ctypes.Structure:
-    """A struct with the numbers of a record."""
-    return kind(*(number(name, getattr(record, name), of) for name, of in kind._fields_))  # type: ignore[misc]
+    """A struct with the numbers of a record. SdmError, OUT_OF_RANGE, where one doesn't fit into its field."""
+    numbers = record.numbers()
+    for of, value in zip(kind._fields_, numbers.values()):
+        fits(of[1], value, record)
+    return kind(*numbers.values())
+
+
+def fits(of: Any, value: int, record: Record) -> None:
+    """Refuses a number of a record that a type of C would cut."""
+    if of(value).value != value:
+        raise refusal(Status.OUT_OF_RANGE, record)
+
+
+def refusal(status: Status, record: Record, count: str = "", rows: Array | None = None) -> SdmError:
+    """Why a record is refused: which number is out of its range, else all of them."""
+    return SdmError(status, f"{count}{TEXTS[status]}: {record.fault() or record.told()}", rows)
+
+
+WORDS: dict[Any, list[Any]] = {each: list(each) for each in (State, Supervision, Target, Rule, Standing)}
 
 
 def row_of(struct: RowStruct) -> Row:
     """A row as a value."""
-    state, status = State(struct.state), Supervision(struct.status)
+    state, status = WORDS[State][struct.state], WORDS[Supervision][struct.status]
     flags = {name: bool(getattr(struct, name)) for name in FLAGS}
     places = {f"{name}_mm": place.mm if place.is_some else None for name in LIMITS for place in [getattr(struct, name)]}
     return Row(struct.time_ds, state, status, ceiling_kmh=struct.ceiling_kmh, **flags, **places)
@@ -190,17 +197,19 @@ def row_of(struct: RowStruct) -> Row:
 
 def cause_of(struct: CauseStruct) -> Cause | None:
     """The first cause of a trigger, None where it doesn't hold."""
-    if struct.rule == Rule.NONE:
+    if struct.rule == Rule.NONE.number:
         return None
-    target = Target(struct.target)
-    return Cause(Rule(struct.rule), target, struct.target_kmh, struct.target_mm, struct.limit_mm)
+    target = WORDS[Target][struct.target]
+    numbers = (struct.target_kmh, struct.target_mm, struct.limit_mm)
+    return Cause(WORDS[Rule][struct.rule], target, *(numbers if target != Target.NONE else (None, None, None)))
 
 
 class Supervisor:
     """A supervisor of a journey: open it over a data part, and hand it what comes in the order in which it comes.
 
-    Each call either does what it says, or raises SdmError with its status, or TypeError, and changes nothing. It may be
-    used by several threads, one call after the other; copies of it there are none."""
+    Each call for one record either does what it says, or raises SdmError with its status, or KindError, and changes
+    nothing. One for many records ends at the first that is refused, and those before it stand. It may be used by several
+    threads, one call after the other; copies of it there are none."""
 
     def __init__(self, data: Data, library: ctypes.CDLL | None = None) -> None:
         """Opens it over a data part (docs/FORMATS.md), a TOML text or a table. BAD_DATA and REFUSED carry the program's
@@ -214,46 +223,54 @@ class Supervisor:
             told = bytes(line.bytes[: line.count]).decode(errors="replace").rstrip("\n")
             raise SdmError(Status(status), told)
 
-    def _call(self, name: str, *words: object) -> None:
-        """Makes a call and raises what it answers, where that isn't done."""
+    def _call(self, name: str, record: Record, *words: object) -> None:
+        """Makes a call for a record and raises what it answers, where that isn't done."""
         with self._lock:
             status = getattr(self._library, name)(self._at, *words)
+        if status == Status.CLOSED:
+            raise SdmError(Status.CLOSED)
         if status != Status.DONE:
-            raise SdmError(Status(status))
+            raise refusal(Status(status), record)
+
+    def _ask(self, name: str, reading: Reading, answer: int) -> None:
+        """Makes a call for a reading, which writes its answer at an address."""
+        given = filled(ReadingStruct, checked(reading, Reading))
+        self._call(name, reading, ctypes.addressof(given), answer)
 
     def cycle(self, reading: Reading) -> Row:
         """Judges a reading. CLOSED, OUT_OF_RANGE, TIME_BACK."""
         row = RowStruct()
-        self._judge(reading, ctypes.addressof(row))
+        self._ask("sdm_cycle", reading, ctypes.addressof(row))
         return row_of(row)
 
-    def _judge(self, reading: Reading, row: int) -> None:
-        """Judges a reading and writes its row at an address."""
-        given = filled(ReadingStruct, checked(reading, Reading))
-        self._call("sdm_cycle", ctypes.addressof(given), row)
+    def cycles(self, readings: Any) -> Array:
+        """Judges many readings, an array of the type sdm.READING, a frame or a list of them, and answers an array of as
+        many rows, of the type sdm.ROW.
 
-    def cycles(self, readings: Array) -> Array:
-        """Judges an array of readings, of the type sdm.arrays.READING, and answers as many rows, of the type
-        sdm.arrays.ROW.
-
-        TypeError where it has another type. Where a reading is refused, those before it were judged: SdmError has their
+        KindError where it is something else. Where a reading is refused, those before it were judged: SdmError has their
         rows as `rows`, and so many are there."""
-        from sdm.arrays import READING, rows_for, taken
+        from sdm.arrays import READING, array_of, misfits, of_structs
+        import numpy as np
 
-        given = taken(readings, READING)
-        rows = rows_for(len(given))
-        before, after = READING.itemsize, rows.dtype.itemsize
-        first, into = given.ctypes.data, rows.ctypes.data
-        left = iter(range(first, first + before * len(given), before))
+        given = array_of(readings, Reading)
+        bad = misfits(given)
+        structs = given[: bad[0] if bad else None].astype(np.dtype(ReadingStruct))
+        rows: Array = np.zeros(len(structs), np.dtype(RowStruct))
+        before, after = structs.dtype.itemsize, rows.dtype.itemsize
+        first, into = structs.ctypes.data, rows.ctypes.data
+        left = iter(range(first, first + before * len(structs), before))
         with self._lock:
             statuses = map(
-                self._library.sdm_cycle, repeat(self._at), left, range(into, into + after * len(given), after)
+                self._library.sdm_cycle, repeat(self._at), left, range(into, into + after * len(structs), after)
             )
             status = next(filter(None, statuses), Status.DONE)
+        done = len(structs) - length_hint(left) - (status != Status.DONE)
+        if status == Status.DONE and bad:
+            status = Status.CLOSED if self._handle.is_open == 0 else Status.OUT_OF_RANGE
+        judged = of_structs(rows[:done], Row)
         if status != Status.DONE:
-            done = len(given) - length_hint(left) - 1
-            raise SdmError(Status(status), f"reading {done + 1}: {TEXTS[Status(status)]}", rows[:done])
-        return rows
+            raise refusal(Status(status), Reading(*given[done].tolist()), f"reading {done + 1}: ", judged)
+        return judged
 
     def end(self, authority: End) -> None:
         """Takes an authority to an end. CLOSED, SVL_BEFORE_EOA, BEYOND_TRACK, BAD_SPEED."""
@@ -270,7 +287,7 @@ class Supervisor:
     def restrict(self, restriction: Restriction) -> None:
         """Puts a restriction into force. CLOSED, OUT_OF_RANGE, FULL, ID_IN_USE, BAD_PLACES."""
         given = filled(RestrictionStruct, checked(restriction, Restriction))
-        self._call("sdm_restrict", ctypes.addressof(given))
+        self._call("sdm_restrict", restriction, ctypes.addressof(given))
 
     def revoke(self, revocation: Revocation) -> None:
         """Lifts a restriction. CLOSED, OUT_OF_RANGE, UNKNOWN_ID."""
@@ -280,7 +297,7 @@ class Supervisor:
         """Takes over restrictions, time and commands from the supervisor that ran before, where this one was opened
         over new data. CLOSED, NOT_FRESH, BAD_PLACES."""
         if checked(before, Supervisor) is self:
-            raise TypeError("a supervisor can't take over from itself")
+            raise KindError("a supervisor can't take over from itself")
         one, other = sorted((self, before), key=id)  # so that no two threads wait for each other
         with one._lock, other._lock:
             status = self._library.sdm_take_over(self._at, before._at)
@@ -288,7 +305,10 @@ class Supervisor:
             raise SdmError(Status(status))
 
     def _numbers(self, call: str, record: Record) -> None:
-        self._call(call, *(number(name, value, c_uint32) for name, value in asdict(record).items()))
+        numbers = record.numbers().values()
+        for value in numbers:
+            fits(c_uint32, value, record)
+        self._call(call, record, *numbers)
 
     def take(self, record: Record) -> Row | None:
         """Takes any record: the row of a reading, else nothing."""
@@ -306,40 +326,54 @@ class Supervisor:
             case Revocation():
                 self.revoke(record)
             case _:
-                raise TypeError(f"{record!r} is no record")
+                raise KindError(f"{record!r} is no record")
         return None
 
-    def take_all(self, records: Iterable[Record]) -> Array:
-        """Takes records one after the other: the rows of the readings. SdmError of one that is refused has the rows
-        before it."""
-        from sdm.arrays import rows_for
+    def take_all(self, records: Iterable[Record], kind: type = Row) -> Array:
+        """Takes records one after the other: an array of the readings' rows, or of another kind, sdm.Display or
+        sdm.Causes. SdmError of one that is refused has those before it."""
+        from sdm.arrays import of_structs
+        import numpy as np
 
-        held = list(records)
-        rows, done = rows_for(sum(isinstance(record, Reading) for record in held)), 0
-        for count, record in enumerate(held, 1):
-            try:
+        def made() -> Array:
+            return of_structs(np.frombuffer(b"".join(map(bytes, answers)), np.dtype(struct)), kind)
+
+        struct, call = ANSWERS[kind]
+        answers: list[ctypes.Structure] = []
+        count = 0
+        try:
+            for count, record in enumerate(records, 1):
                 if isinstance(record, Reading):
-                    self._judge(record, rows.ctypes.data + done * rows.dtype.itemsize)
-                    done += 1
+                    answers.append(self._answer(record, struct, call))
                 else:
                     self.take(record)
-            except SdmError as why:
-                raise SdmError(why.status, f"record {count}: {why}", rows[:done]) from None
-        return rows
+        except SdmError as why:
+            line = str(why) if str(why).startswith("record ") else f"record {count}: {why}"
+            raise SdmError(why.status, line, made()) from None
+        return made()
+
+    def _answer(self, reading: Reading, struct: type[ctypes.Structure], call: str) -> ctypes.Structure:
+        """Judges a reading: its row, or what another call says of it."""
+        row, answer = RowStruct(), struct()
+        self._ask("sdm_cycle", reading, ctypes.addressof(row))
+        if call == "sdm_cycle":
+            return row
+        self._ask(call, reading, ctypes.addressof(answer))
+        return answer
 
     def display(self, reading: Reading) -> Display:
         """What the driver can be shown of a reading that was judged. CLOSED, OUT_OF_RANGE."""
-        given, shown = filled(ReadingStruct, checked(reading, Reading)), DisplayStruct()
-        self._call("sdm_display", ctypes.addressof(given), ctypes.addressof(shown))
-        speeds = {name: getattr(shown, name) for name in SPEEDS}
-        target = {"target": Target(shown.target), "target_kmh": shown.target_kmh, "distance_mm": shown.distance_mm}
-        return Display(shown.time_ds, **speeds, **target)
+        shown = DisplayStruct()
+        self._ask("sdm_display", reading, ctypes.addressof(shown))
+        speeds, target = {name: getattr(shown, name) for name in SPEEDS}, WORDS[Target][shown.target]
+        distance = None if target == Target.NONE else shown.distance_mm
+        return Display(shown.time_ds, **speeds, target=target, target_kmh=shown.target_kmh, distance_mm=distance)
 
     def causes(self, reading: Reading) -> Causes:
         """Why a reading that was judged triggers, and how each command stands after it. CLOSED, OUT_OF_RANGE."""
-        given, told = filled(ReadingStruct, checked(reading, Reading)), CausesStruct()
-        self._call("sdm_causes", ctypes.addressof(given), ctypes.addressof(told))
-        tco, sb, eb = (Standing(getattr(told, name)) for name in COMMANDS)
+        told = CausesStruct()
+        self._ask("sdm_causes", reading, ctypes.addressof(told))
+        tco, sb, eb = (WORDS[Standing][getattr(told, name)] for name in COMMANDS)
         over, warn, serv, emer = (cause_of(getattr(told, name)) for name in TRIGGERS)
         return Causes(told.time_ds, tco, sb, eb, over, warn, serv, emer)
 
@@ -361,11 +395,18 @@ class Supervisor:
             self.close()
 
     def __reduce__(self) -> str:
-        raise TypeError("a supervisor can't be copied")
+        raise KindError("a supervisor can't be copied")
+
+
+ANSWERS: dict[type, tuple[type[ctypes.Structure], str]] = {
+    Row: (RowStruct, "sdm_cycle"),
+    Display: (DisplayStruct, "sdm_display"),
+    Causes: (CausesStruct, "sdm_causes"),
+}
 
 
 def checked(record: Any, kind: type) -> Any:
     """A record, if it is of a kind."""
     if not isinstance(record, kind):
-        raise TypeError(f"{record!r} is no {kind.__name__}")
+        raise KindError(f"{record!r} is no {kind.__name__}")
     return record

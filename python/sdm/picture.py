@@ -10,6 +10,7 @@ tools/README.md.
 from __future__ import annotations
 
 import argparse
+import base64
 import hashlib
 import os
 import subprocess
@@ -27,13 +28,14 @@ from sdm.drawing.places import place_panel
 from sdm.drawing.sheet import BETWEEN, HEIGHT, NOTE, WIDTH, Sheet
 from sdm.drawing.strips import height_of, strip_panel
 from sdm.drawing.values import DrawnJourney, Span, Window
+from sdm.errors import FormError
 from sdm.laboratory.program import Fault
 from sdm.laboratory.walk import read
 from sdm.exact import Outcome, number_word
 from sdm.records import Data, input_of
 
 if TYPE_CHECKING:
-    from sdm.arrays import Array
+    from sdm.arrays import Values
     from sdm.runs import Records
 
 TERMINALS = {".svg": "svg", ".png": "pngcairo fontscale 0.75"}
@@ -113,22 +115,28 @@ def journey_of(words: argparse.Namespace, source: bytes, rows: str) -> DrawnJour
 
 @dataclass(frozen=True)
 class Picture:
-    """A picture as SVG, which a notebook shows."""
+    """A picture as SVG, which a notebook shows, and keeps where it is exported as HTML."""
 
     svg: bytes = field(repr=False)
+    script: str = field(default="", repr=False)  # for gnuplot
 
-    def _repr_svg_(self) -> str:
-        return self.svg.decode()
+    def _repr_html_(self) -> str:
+        return f'<img alt="a journey" src="data:image/svg+xml;base64,{base64.b64encode(self.svg).decode()}">'
 
     def save(self, path: str | os.PathLike[str]) -> None:
-        """Writes it to a file."""
-        Path(path).write_bytes(self.svg)
+        """Writes it to a file, an SVG or a PNG by its ending. FormError where it has another one."""
+        ending = Path(path).suffix
+        if ending not in TERMINALS:
+            raise FormError(f"{os.fspath(path)} ends with {ending!r}, expected {' or '.join(TERMINALS)}")
+        is_png = ending == ".png"
+        script = self.script.replace(f"set terminal {TERMINALS['.svg']}", f"set terminal {TERMINALS['.png']}", 1)
+        Path(path).write_bytes(drawn(script, "") if is_png else self.svg)
 
 
 def plot(
     data: Data,
     records: Records,
-    rows: Array | None = None,
+    rows: Values | None = None,
     *,
     times: tuple[float, float] = ALL,
     places: tuple[float, float] | None = None,
@@ -137,8 +145,8 @@ def plot(
     title: str = "",
 ) -> Picture:
     """The picture of a journey: times in s, places in m and speeds in km/h draw a part of it. Its size is in pixels; a
-    title stands above it. Where no rows are given, the journey is run. Raises sdm.laboratory.program.Fault where the
-    rows are not those of the records, and where gnuplot is missing."""
+    title stands above it. Where no rows are given, the journey is run. Raises Fault where the rows are not as many as
+    the readings or have other times, and where gnuplot is missing."""
     from sdm.arrays import records_in, text
     from sdm.runs import run
 
@@ -146,7 +154,7 @@ def plot(
     shown = run(data, held) if rows is None else rows
     journey = run_journey(input_of(data, held), text(shown), Window(times, places))
     script = script_of(journey, ".svg", places, speeds, size, title)
-    return Picture(drawn(script, f"sdm run: {len(journey.readings)} readings"))
+    return Picture(drawn(script, f"sdm run: {len(journey.readings)} readings"), script)
 
 
 def words_of(args: list[str]) -> argparse.Namespace:

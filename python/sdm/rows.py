@@ -2,8 +2,10 @@
 from __future__ import annotations
 
 from dataclasses import dataclass
-from enum import IntEnum
+from enum import IntEnum, StrEnum
 from typing import TYPE_CHECKING
+
+from sdm.errors import Error
 
 if TYPE_CHECKING:
     from sdm.arrays import Array
@@ -53,9 +55,9 @@ TEXTS = {
 }
 
 
-class SdmError(Exception):
+class SdmError(Error):
     """Why a call did nothing: its status, and what more is known of it; of data that are refused the program's line.
-    Where it ended a call for many records, `rows` are those of the readings before it."""
+    Where it ended a call for many records, `rows` are what it made of the readings before it."""
 
     def __init__(self, status: Status, line: str = "", rows: Array | None = None) -> None:
         super().__init__(status, line)
@@ -65,64 +67,79 @@ class SdmError(Exception):
         return self.line or TEXTS[self.status]
 
 
-class State(IntEnum):
+class Word(StrEnum):
+    """A word as the program writes it. Its number in c/sdm.h is its place."""
+
+    @property
+    def number(self) -> int:
+        """Its number in c/sdm.h."""
+        return list(type(self)).index(self)
+
+
+class State(Word):
     """The type of speed and distance monitoring."""
 
-    CEILING = 0
-    TARGET = 1
-    RELEASE = 2
+    CEILING = "C"
+    TARGET = "T"
+    RELEASE = "R"
 
 
-class Supervision(IntEnum):
-    """The supervision status."""
+class Supervision(Word):
+    """The supervision status; they are ordered as they stand here."""
 
-    NORMAL = 0
-    INDICATION = 1
-    OVERSPEED = 2
-    WARNING = 3
-    INTERVENTION = 4
+    NORMAL = "N"
+    INDICATION = "I"
+    OVERSPEED = "O"
+    WARNING = "W"
+    INTERVENTION = "X"
+
+    def __lt__(self, other: str) -> bool:
+        return self.number < Supervision(other).number
+
+    def __le__(self, other: str) -> bool:
+        return self.number <= Supervision(other).number
+
+    def __gt__(self, other: str) -> bool:
+        return self.number > Supervision(other).number
+
+    def __ge__(self, other: str) -> bool:
+        return self.number >= Supervision(other).number
 
 
-class Target(IntEnum):
+class Target(Word):
     """The kind of the target that counts: a fall of the speed profile, EOA, SvL, LOA."""
 
-    NONE = 0
-    FALL = 1
-    EOA = 2
-    SVL = 3
-    LOA = 4
+    NONE = "-"
+    FALL = "M"
+    EOA = "E"
+    SVL = "S"
+    LOA = "L"
 
 
-class Rule(IntEnum):
+class Rule(Word):
     """Why a trigger holds."""
 
-    NONE = 0
-    CEILING = 1
-    TARGET = 2
-    END = 3
-    RELEASE_SPEED = 4
-    NO_SERVICE_BRAKE = 5
+    NONE = "none"
+    CEILING = "ceiling"
+    TARGET = "target"
+    END = "end of authority"
+    RELEASE_SPEED = "release speed"
+    NO_SERVICE_BRAKE = "no service brake"
 
 
-class Standing(IntEnum):
+class Standing(Word):
     """How a command stands after a reading: a cause of it stands where it is SET, none where it is held."""
 
-    OFF = 0
-    SET = 1
-    HELD_TO_PERMITTED_SPEED = 2
-    HELD_TO_STANDSTILL = 3
-    HELD_TO_EITHER = 4
+    OFF = "off"
+    SET = "set"
+    HELD_TO_PERMITTED_SPEED = "held until permitted speed"
+    HELD_TO_STANDSTILL = "held until standstill"
+    HELD_TO_EITHER = "held until standstill or permitted speed"
 
 
-STATES, SUPERVISIONS, TARGETS = "CTR", "NIOWX", "-MESL"  # how the program writes them
-RULES = ("-", "ceiling", "target", "end of authority", "release speed", "no service brake")
-STANDINGS = (
-    "off",
-    "set",
-    "held until permitted speed",
-    "held until standstill",
-    "held until standstill or permitted speed",
-)
+STATES, SUPERVISIONS, TARGETS = ("".join(words) for words in (State, Supervision, Target))  # by their numbers
+RULES = ("-", *list(Rule)[1:])
+STANDINGS = tuple(Standing)
 
 
 @dataclass(frozen=True)
@@ -148,13 +165,13 @@ class Row:
         flags = ",".join(str(int(flag)) for flag in (self.tco, self.sb, self.eb, self.covered))
         places = (self.ebi_mm, self.sbi_mm, self.warning_mm, self.permitted_mm, self.indication_mm)
         shown = ",".join("-" if mm is None else str(mm) for mm in places)
-        return f"{self.time_ds},{STATES[self.state]},{SUPERVISIONS[self.status]},{flags},{self.ceiling_kmh},{shown}\n"
+        return f"{self.time_ds},{self.state},{self.status},{flags},{self.ceiling_kmh},{shown}\n"
 
 
 @dataclass(frozen=True)
 class Display:
     """What the driver can be shown of a reading: the greatest whole speeds at which a limit isn't passed, and the
-    target that counts."""
+    target that counts; the distance is None where there is no target."""
 
     time_ds: int
     permitted_kmh: int
@@ -163,31 +180,31 @@ class Display:
     release_kmh: int
     target: Target
     target_kmh: int
-    distance_mm: int
+    distance_mm: int | None
 
     def text(self) -> str:
         """Its line, as the program writes it."""
-        distance = "-" if self.target == Target.NONE else str(self.distance_mm)
+        distance = "-" if self.distance_mm is None else str(self.distance_mm)
         speeds = f"{self.permitted_kmh},{self.sbi_kmh},{self.ebi_kmh},{self.release_kmh}"
-        return f"{self.time_ds},{speeds},{TARGETS[self.target]},{distance}\n"
+        return f"{self.time_ds},{speeds},{self.target},{distance}\n"
 
 
 @dataclass(frozen=True)
 class Cause:
     """The first cause of a trigger. The target with its speed, its place and the limit that is passed is there where
-    the rule is TARGET; else it is NONE, and the numbers are 0."""
+    the rule is TARGET; else it is NONE, and the numbers are None."""
 
     rule: Rule
     target: Target
-    target_kmh: int
-    target_mm: int
-    limit_mm: int
+    target_kmh: int | None
+    target_mm: int | None
+    limit_mm: int | None
 
     def text(self) -> str:
         """Its words, as the program writes them."""
         if self.rule != Rule.TARGET:
-            return RULES[self.rule]
-        return f"target {TARGETS[self.target]} {self.target_mm} {self.target_kmh} {self.limit_mm}"
+            return self.rule
+        return f"target {self.target} {self.target_mm} {self.target_kmh} {self.limit_mm}"
 
 
 @dataclass(frozen=True)
@@ -206,5 +223,4 @@ class Causes:
     def text(self) -> str:
         """Its line, as the program writes it."""
         triggers = ("-" if cause is None else cause.text() for cause in (self.over, self.warn, self.serv, self.emer))
-        commands = (STANDINGS[standing] for standing in (self.tco, self.sb, self.eb))
-        return ",".join([str(self.time_ds), *triggers, *commands]) + "\n"
+        return ",".join([str(self.time_ds), *triggers, self.tco, self.sb, self.eb]) + "\n"

@@ -4,9 +4,13 @@ import json
 from collections.abc import Iterator, Mapping
 from typing import Any
 
+from sdm.errors import KindError
 
-def value_text(value: Any) -> str:
-    """A value on one line. Raises TypeError for one that no data part has."""
+
+def value_text(value: Any, path: str) -> str:
+    """A value on one line, also one of NumPy. Raises KindError for one that no data part has, with its path."""
+    if hasattr(value, "tolist"):
+        value = value.tolist()
     if isinstance(value, bool):
         return "true" if value else "false"
     if isinstance(value, int):
@@ -14,15 +18,16 @@ def value_text(value: Any) -> str:
     if isinstance(value, str):
         return json.dumps(value, ensure_ascii=False)
     if isinstance(value, list):
-        return f"[ {', '.join(map(value_text, value))} ]"
+        return f"[ {', '.join(value_text(each, f'{path}[{i}]') for i, each in enumerate(value, 1))} ]"
     if not isinstance(value, dict):
-        raise TypeError(f"{value!r} has no form in a data part")
-    return f"{{ {', '.join(pair_lines(value))} }}"
+        told = f"{path} is {value!r}, of the type {type(value).__name__}"
+        raise KindError(f"{told}; a data part has whole numbers, texts and flags alone")
+    return f"{{ {', '.join(pair_lines(value, path))} }}"
 
 
-def pair_lines(table: Mapping[str, Any]) -> Iterator[str]:
+def pair_lines(table: Mapping[str, Any], path: str = "") -> Iterator[str]:
     """Each key with its value."""
-    return (f"{key} = {value_text(value)}" for key, value in table.items())
+    return (f"{key} = {value_text(value, f'{path}.{key}'.removeprefix('.'))}" for key, value in table.items())
 
 
 def is_tables(value: Any) -> bool:
@@ -33,11 +38,11 @@ def is_tables(value: Any) -> bool:
 def section_lines(name: str, table: Mapping[str, Any]) -> Iterator[str]:
     """A table with its header, its own values first, and then its lists of tables."""
     yield f"[{name}]"
-    yield from pair_lines({key: value for key, value in table.items() if not is_tables(value)})
+    yield from pair_lines({key: value for key, value in table.items() if not is_tables(value)}, name)
     for key, tables in table.items():
-        for each in tables if is_tables(tables) else ():
+        for i, each in enumerate(tables if is_tables(tables) else (), 1):
             yield f"\n[[{name}.{key}]]"
-            yield from pair_lines(each)
+            yield from pair_lines(each, f"{name}.{key}[{i}]")
     yield ""
 
 

@@ -73,7 +73,7 @@ def cause(field: str) -> Iterator[int]:
         yield from (RULES.index(field), 0, 0, 0, 0)
         return
     _, letter, *numbers = field.split(" ")
-    yield from (int(Rule.TARGET), TARGETS.index(letter), *map(int, numbers))
+    yield from (Rule.TARGET.number, TARGETS.index(letter), *map(int, numbers))
 
 
 def causes(fields: list[str]) -> Iterator[int]:

@@ -5,7 +5,7 @@ from __future__ import annotations
 import json
 from collections.abc import Mapping
 from dataclasses import MISSING, fields
-from enum import IntEnum
+from enum import Enum
 
 from scripts.c import header
 from scripts.processors.layout import HANDLE, NUMBERS, Call, Field, Struct, calls, desk, desk_bytes, enums, structs
@@ -28,7 +28,7 @@ function whole(view, at) {
 READS = {"uint32_t": "view.getUint32({}, true)", "int32_t": "view.getInt32({}, true)", "int64_t": "whole(view, {})"}
 WRITES = {"uint32_t": "view.setUint32({}, {}, true)", "int32_t": "view.setInt32({}, {}, true)"}
 # The enums of the header, as the Python package names them.
-ENUMS: dict[str, type[IntEnum]] = {
+ENUMS: dict[str, type[Enum]] = {
     "sdm_status": rows.Status,
     "sdm_state": rows.State,
     "sdm_supervision": rows.Supervision,
@@ -80,8 +80,10 @@ def is_written(struct: Struct) -> bool:
 def enum(name: str, members: Mapping[str, int]) -> str:
     """The numbers of an enum."""
     kind = ENUMS[name]
-    must(sorted(members.values()) == sorted(kind), f"python/sdm/rows.py has other numbers than {name} of c/sdm.h")
-    told = "".join(f"  {member.name}: {member.value},\n" for member in kind)
+    numbers = {member.name: number for number, member in enumerate(kind)}
+    same = sorted(members.values()) == list(numbers.values())
+    must(same, f"python/sdm/rows.py has other numbers than {name} of c/sdm.h")
+    told = "".join(f"  {each}: {number},\n" for each, number in numbers.items())
     return f"export const {kind.__name__} = Object.freeze({{\n{told}}});\n\n"
 
 

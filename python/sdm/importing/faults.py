@@ -2,6 +2,8 @@
 from dataclasses import dataclass, field
 from typing import NoReturn
 
+from sdm.errors import FormError
+
 MOST_SHOWN = 40  # faults in a message
 
 
@@ -32,7 +34,7 @@ class ImportFinding:
         return f"{self.at}: {self.text}"
 
 
-class ImportFault(ValueError):
+class ImportFault(FormError):
     """A recording that can't be imported: all that was found wrong with it."""
 
     def __init__(self, faults: list[ImportFinding]) -> None:

@@ -1,15 +1,25 @@
 """How another computer's recording differs from rows: lines matched by their times, and values column by column."""
 
+import math
 from dataclasses import dataclass
 from fractions import Fraction
 from typing import Any
 
+from sdm.errors import FormError
 from sdm.laboratory.recording import RecordedLine, Value
 from sdm.laboratory.rows import COLUMNS, UNITS, RowTexts
 from sdm.laboratory.texts import number
 
 Allowed = dict[str, Any]  # how far values may be apart, by the unit
 Pairs = list[tuple[int, int]]  # of a row's number and a line's, from 0
+
+
+def tolerances(mm: float, kmh: float, ds: int) -> Allowed:
+    """How far values may be apart. Raises FormError where that is below 0 or no number."""
+    for name, value in (("mm", mm), ("kmh", kmh), ("ds", ds)):
+        if not 0 <= value < math.inf:
+            raise FormError(f"{name} is {value}, expected a number from 0 on")
+    return {"mm": Fraction(mm), "km/h": Fraction(kmh), "ds": ds}
 
 
 @dataclass(frozen=True)

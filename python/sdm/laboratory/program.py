@@ -15,6 +15,8 @@ from dataclasses import dataclass
 from pathlib import Path
 from typing import NamedTuple
 
+from sdm.errors import Fault as Fault
+
 TOP = Path(__file__).resolve().parents[3]
 IS_REPOSITORY = (TOP / "crates.txt").is_file()
 CRATE = TOP / "crates" / "sdm"
@@ -28,10 +30,6 @@ class Result(NamedTuple):
     rows: str
     err: str
     code: int
-
-
-class Fault(Exception):
-    """Why a tool of the laboratory can't go on, in a sentence."""
 
 
 def sources() -> list[Path]:

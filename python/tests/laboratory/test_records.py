@@ -1,4 +1,5 @@
 """The package's own reader of records takes what the model takes, and refuses the rest by the same text."""
+import re
 import unittest
 
 import sdm
@@ -26,6 +27,9 @@ ODD = [
 ]
 
 
+OWN = re.compile(r"record \d+: (unknown kind|field count|field \d+: (not a number|out of range))")
+
+
 def by_the_model(text):
     """The numbers of the records of a text, up to the first that is refused, and why it is."""
     found = []
@@ -43,8 +47,8 @@ def by_the_package(text):
     try:
         for record in sdm.records_of(text):
             found.append(tuple(int(field) for field in record.text().rstrip().split(",")[1:]))
-    except ValueError as why:
-        return found, str(why)
+    except sdm.Error as why:
+        return found, OWN.match(str(why))[0]  # behind it stands what was found and expected
     return found, None
 
 

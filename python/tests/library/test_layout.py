@@ -28,6 +28,9 @@ ENUMS = {
     "sdm_standing": rows.Standing,
 }
 
+OWN_NAMES = {"NO_TARGET": "NONE", "NO_RULE": "NONE", "ABOVE_CEILING": "CEILING", "PAST_TARGET": "TARGET"}
+OWN_NAMES |= {"PAST_END": "END", "ABOVE_RELEASE": "RELEASE_SPEED"}
+
 
 class Layout(unittest.TestCase):
     def test_sizes_and_offsets(self):
@@ -65,12 +68,19 @@ class Layout(unittest.TestCase):
         for name, enum in ENUMS.items():
             body = re.search(rf"^enum {name} {{(.*?)}};", HEADER, re.M | re.S)[1]
             due = {int(number) for number in re.findall(r"SDM_\w+ = (\d+)", body)}
-            self.assertEqual({each.value for each in enum}, due)
+            self.assertEqual(set(range(len(enum))), due)
         status = re.search(r"^enum sdm_status {(.*?)};", HEADER, re.M | re.S)[1]
         self.assertEqual(
             {each.name: each.value for each in rows.Status},
             {word: int(n) for word, n in re.findall(r"SDM_(\w+) = (\d+)", status)},
         )
+
+    def test_words_stand_in_the_order_of_their_numbers(self):
+        for name, kind in ENUMS.items():
+            body = re.search(rf"^enum {name} {{(.*?)}};", HEADER, re.M | re.S)[1]
+            words = {int(number): word for word, number in re.findall(r"SDM_(\w+) = (\d+)", body)}
+            due = [OWN_NAMES.get(words[number], words[number]) for number in range(len(words))]
+            self.assertEqual([word.name for word in kind], due)
 
     def test_the_number_of_the_layout(self):
         self.assertEqual(library.LAYOUT, int(re.search(r"^#define SDM_LAYOUT (\d+)u", HEADER, re.M)[1]))

@@ -1,5 +1,6 @@
 """Each journey of examples/ and vectors/ by the binding: rows, lines of a fault and codes are those that lie beside its
 input, and causes those of the model."""
+import re
 import unittest
 
 from sdm import Reading, SdmError, Status, Supervisor
@@ -9,6 +10,7 @@ from sdm_evidence.model.data import split
 from sdm_evidence.model.outcome import Outcome
 from sdm_evidence.model.words import collect
 from sdm.records import fields_of, record_of
+from sdm.rows import TEXTS
 
 from tests.folders import TOP
 
@@ -39,10 +41,19 @@ def played(word, source):
                 record = record_of(fields)
                 row = supervisor.take(record)
             except (ValueError, SdmError) as why:
-                return Result("".join(lines), f"sdm: bad event {number}: {why}\n", 7)
+                return Result("".join(lines), f"sdm: bad event {number}: {program_text(why)}\n", 7)
             if isinstance(record, Reading):
                 lines.append(TOLD[word](supervisor, record, row).text())
     return Result("".join(lines), "", 0)
+
+
+def program_text(why):
+    """The program's own text of a fault, of which a message says more."""
+    text = str(why)
+    if isinstance(why, SdmError) and not text.startswith("field"):
+        return TEXTS[why.status]
+    known = re.match(r"unknown kind|field count|too many events|field \d+: (not a number|out of range)", text)
+    return known[0] if known else text
 
 
 class Rows(unittest.TestCase):

@@ -5,24 +5,85 @@ without a mapping its columns are a row's own. Rows and lines are matched in ord
 difference, a table by column with the greatest deviation, the runs of rows that differ in the same way, and each row
 that differs. With the input of the rows each run says what decided it. It writes the rows as the recording has them,
 for tools/plot, where a file for them is given. It ends with 0 where nothing differs by more than the tolerances, with 1
-where something does, with 2 where it can't compare.
+where something does, with 2 where it can't compare. In Python `sdm.compare` gives the differences as a DataFrame.
 """
+from __future__ import annotations
 
 import argparse
 import math
+import os
 import sys
 from fractions import Fraction
 from pathlib import Path
+from typing import TYPE_CHECKING, Any
 
 from sdm.diagnosis.beside import Beside
 from sdm.diagnosis.runs import Joints, Run, runs_of
 from sdm.diagnosis.runs import told as told_of_run
-from sdm.laboratory.comparison import Allowed, Difference, compared_columns, differences, is_beyond, matched, told
+from sdm.laboratory.comparison import (
+    Allowed,
+    Difference,
+    compared_columns,
+    differences,
+    is_beyond,
+    matched,
+    told,
+    tolerances,
+)
 from sdm.laboratory.program import Fault
-from sdm.laboratory.recording import RecordedLine, recording_of
+from sdm.laboratory.recording import RecordedLine, Value, recording_of
 from sdm.laboratory.rows import COLUMNS, UNITS, RowTexts, is_row, rows_of, text_of
 from sdm.laboratory.texts import number
 from sdm.laboratory.walk import read, write
+
+if TYPE_CHECKING:
+    import pandas
+    from sdm.arrays import Values
+
+NAMES = {name: f"{name}_{unit.replace('/', '')}" for name, unit in UNITS.items()}  # of columns as sdm.Row has them
+
+
+def compare(
+    rows: Values,
+    recording: str | os.PathLike[str],
+    mapping: str | os.PathLike[str] | None = None,
+    *,
+    mm: float = 2,
+    kmh: float = 0.5,
+    ds: int = 0,
+) -> pandas.DataFrame:
+    """Where another computer's recording, a CSV with its mapping, differs from rows by more than is allowed: a line for
+    each value, with the number of the row and its time, the line of the recording, the column, both values, and how far
+    they are apart, <NA> where that is no number.
+
+    Places may be `mm` apart, ceilings `kmh`, times of rows and lines `ds`. FormError where one of these is below 0,
+    Fault where nothing can be compared."""
+    import pandas
+
+    from sdm.arrays import text
+
+    lines = recording_of(read(recording), None if mapping is None else read(mapping))
+    held = rows_of(text(rows))
+    found = Compared(held, lines, tolerances(mm, kmh, ds)).beyond
+    table = {
+        "row": [each.row for each in found],
+        "line": [each.line for each in found],
+        "time_ds": [int(held[each.row - 1]["time"]) for each in found],
+        "column": [NAMES.get(each.column, each.column) for each in found],
+        "sdm": pandas.array([plain(each.due) for each in found], object),
+        "recording": pandas.array([plain(each.got) for each in found], object),
+        "apart": pandas.array([plain(each.deviation) for each in found], "Float64"),
+    }
+    return pandas.DataFrame(table)
+
+
+def plain(value: Value) -> Any:
+    """A value as a table has it: a number that isn't whole as a float, <NA> for none."""
+    import pandas
+
+    if value is None:
+        return pandas.NA
+    return value if isinstance(value, str) else int(value) if value == int(value) else float(value)
 
 
 def table(columns: list[str], found: list[Difference], allowed: Allowed, count: int) -> list[str]:
